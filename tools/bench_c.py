@@ -119,7 +119,8 @@ int main(int words, char **word)
     int status = run_all(workers, threads);
     for (unsigned t = 0; t < threads; t++) {
         uint64_t won, lost;
-        if (balloc_close(&passes[t], true, &won, &lost) != BALLOC_DONE)
+        balloc_census census;
+        if (balloc_close(&passes[t], true, &won, &lost, &census) != BALLOC_DONE)
             status = 1;
     }
     return status;

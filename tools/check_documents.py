@@ -3,18 +3,25 @@
 
 usage: python3 tools/check_documents.py
 
-A link of README.md or docs/ has to lead to a file of the repository. A name between backticks that could be one of
-the code (`word_behind`, `HasStepped`, `live_heap/specs/Calls`, `run_lanes.rt`) has to be a word of the crates or of
-the tools, one of the kit's that KIT lists, or the path of a file. Prints each that isn't, with its document and line, and ends with 1 where there is
-one. It takes a second, and the gate doesn't run it.
+A link of README.md or docs/ has to lead to a file of the repository, and to a heading of it where it names one. A
+name between backticks that could be one of the code (`word_behind`, `HasStepped`, `live_heap/specs/Calls`,
+`run_lanes.rt`) has to be a word of the crates or of the tools, one of the kit's that KIT lists, or the path of a file.
+A block of code that names a file behind its language (```rust crates/heap_tests/src/relay.rt) quotes it: its lines
+stand in that file, in this order, comments apart. The table of crates in docs/ARCHITECTURE.md has each crate of
+crates.txt once, in its order; README's lines on what isn't proved begin with the headings of docs/OPEN.md; and
+docs/PROOFS.md has each table over the points (tools/point_tables.py). Prints what isn't so, a name or a link with its
+document and line, and ends with 1 where there is something. It takes a second, and the gate doesn't run it.
 """
 
 import re
 import sys
 from pathlib import Path
 
+import point_tables
+
 ROOT = Path(__file__).resolve().parent.parent
-LINK = re.compile(r"\]\(([^)#]+)(#[^)]*)?\)")
+LINK = re.compile(r"\]\(([^)#]*)(#[^)]*)?\)")
+ROW = re.compile(r"^\| `(\w+)` \|")
 CODE = re.compile(r"`([^`]+)`")
 NAME = re.compile(r"[A-Za-z][A-Za-z0-9]*(?:[_-][A-Za-z0-9]+)+|[A-Z][a-z0-9]+(?:[A-Z][a-z0-9]*)+")
 KIT = {"wake_one", "wake_all"}
@@ -50,12 +57,68 @@ def files_end():
     return ends
 
 
-def complaints(document, words, ends):
+def unquoted(document):
+    """The lines of quotes that the quoted file doesn't have, or not in this order."""
+    left = None
     for number, line in enumerate(document.read_text().splitlines(), 1):
-        for link in LINK.findall(line):
-            target = link[0]
-            if "://" not in target and not (document.parent / target).exists():
+        if line.startswith("```"):
+            named = line[3:].split()[1:]
+            left = None
+            if named and not (ROOT / named[0]).is_file():
+                yield number, f"no file {named[0]}"
+            elif named:
+                left = [bare(row) for row in (ROOT / named[0]).read_text().splitlines()]
+        elif left is not None and bare(line):
+            if bare(line) in left:
+                left = left[left.index(bare(line)) + 1:]
+            else:
+                yield number, f"the file doesn't go on with {bare(line)}"
+
+
+def bare(line):
+    """A line without a comment behind it."""
+    return line.split("//")[0].strip()
+
+
+def headings(document):
+    """The headings of a document, as links name them."""
+    lines = [line.lstrip("#").strip() for line in document.read_text().splitlines() if line.startswith("#")]
+    return {"#" + re.sub(r"[^\w -]", "", line.lower()).replace(" ", "-") for line in lines}
+
+
+def crates_in_order():
+    """What the map says of the crates and crates.txt doesn't, or the other way."""
+    lines = [line.split("#")[0].strip() for line in (ROOT / "crates.txt").read_text().splitlines()]
+    listed = [line.split(":")[0].split()[0] for line in lines if line]
+    text = (ROOT / "docs" / "ARCHITECTURE.md").read_text().split("## What a crate must not know")[0]
+    told = [row.group(1) for row in map(ROW.match, text.splitlines()) if row]
+    if sorted(told) != sorted(listed):
+        yield f"crates of the map and of crates.txt differ: {sorted(set(told) ^ set(listed))}"
+    elif told != listed:
+        yield "the map has not the order of crates.txt"
+
+
+def open_lines():
+    """The headings of docs/OPEN.md that no line of README begins with, and the other way."""
+    begins = (ROOT / "README.md").read_text().split("**Not proved**")[1].split("**Trusted:**")[0]
+    said = {line[2:].split(":")[0].lower() for line in begins.splitlines() if line.startswith("- ")}
+    told = (ROOT / "docs" / "OPEN.md").read_text().splitlines()
+    heads = {line[3:].lower() for line in told if line.startswith("## ") and line != "## Trusted"}
+    for line in sorted(said ^ heads):
+        yield f"a line on what isn't proved, or a heading of docs/OPEN.md, stands alone: {line}"
+
+
+def complaints(document, words, ends):
+    yield from unquoted(document)
+    for number, line in enumerate(document.read_text().splitlines(), 1):
+        for target, heading in LINK.findall(line):
+            if "://" in target:
+                continue
+            file = document.parent / target if target else document
+            if not file.exists():
                 yield number, f"no file {target}"
+            elif heading and heading not in headings(file):
+                yield number, f"no heading {target}{heading}"
         for code in CODE.findall(line):
             if PATH.fullmatch(code):
                 if code not in ends and code.rstrip("/") not in ends and not set(code.split("/")) <= words:
@@ -71,7 +134,10 @@ def main():
         for number, what in complaints(document, words, ends):
             print(f"{document.relative_to(ROOT)}:{number}: {what}")
             found += 1
-    print(f"{found} names or links lead nowhere")
+    for what in [*crates_in_order(), *open_lines(), *point_tables.complaints()]:
+        print(what)
+        found += 1
+    print(f"{found} names, links or quotes lead nowhere")
     return 1 if found else 0
 
 

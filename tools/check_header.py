@@ -11,7 +11,8 @@ import sys
 CRATE = "crates/balloc_c"
 LIMITS = {"BALLOC_MOST_FRAMES": "MAX_FRAMES", "BALLOC_MOST_HEAPS": "MAX_HEAPS", "BALLOC_MOST_UNITS": "MAX_UNITS",
           "BALLOC_MOST_PASSES": "MAX_CALLERS", "BALLOC_MOST_TURNS": "MAX_TURNS", "BALLOC_MOST_WORDS": "LARGE_MOST",
-          "BALLOC_MOST_DEPTH": "DEEPEST", "BALLOC_SHELVES": "SHELVES"}
+          "BALLOC_MOST_DEPTH": "DEEPEST", "BALLOC_SHELVES": "SHELVES", "BALLOC_CLASSES": "CLASSES"}
+STRUCTS = {"PassHandle": "balloc_pass", "Counted": "balloc_census"}
 TYPES = {"bool": "bool", "u8": "uint8_t", "u32": "uint32_t", "u64": "uint64_t", "i32": "int32_t"}
 
 
@@ -28,7 +29,7 @@ def c_parameters(name, kind):
     if reference is None:
         return [f"{TYPES[kind]} {name}"]
     changes, is_slice, inner = reference.groups()
-    pointed = "balloc_pass" if inner == "PassHandle" else TYPES[inner]
+    pointed = STRUCTS.get(inner) or TYPES[inner]
     pointer = f"{'' if changes else 'const '}{pointed} *{name}"
     return [pointer, "size_t count"] if is_slice else [pointer]
 
@@ -52,6 +53,36 @@ def declared(header):
     for result, name, inside in re.findall(r"^(\w+) (balloc_\w+)\((.*?)\);", header, flags=re.S | re.M):
         found[name] = (result, [" ".join(part.split()) for part in inside.split(",")])
     return found
+
+
+def rust_fields(path, name):
+    """The fields of a struct of Rattle with their types, in their order."""
+    inside = re.search(rf"pub struct {name} \{{(.*?)\n\}}", text_of(path), flags=re.S).group(1)
+    return re.findall(r"^    pub (\w+): ([^{}\n]+),$", inside, flags=re.M)
+
+
+def class_fields():
+    return [(name, TYPES[kind]) for name, kind in rust_fields("crates/heap_census/src/census.rt", "ClassCount")]
+
+
+def census_fields():
+    """Those of a census, which lie in it one behind the other."""
+    fields = []
+    for name, kind in rust_fields(f"{CRATE}/src/counted.rt", "Counted"):
+        if kind == "Census":
+            for inner, its in rust_fields("crates/heap_census/src/census.rt", "Census"):
+                is_row = its == "[ClassCount; CLASS_COUNT]"
+                fields.append((f"{inner}[BALLOC_CLASSES]", "balloc_class_count") if is_row else (inner, TYPES[its]))
+        else:
+            fields.append((name, TYPES[kind]))
+    return fields
+
+
+def struct_fields(header, name):
+    """The fields of a struct of C with their types, in their order."""
+    inside = re.search(rf"typedef struct {name} \{{(.*?)\}} {name};", header, flags=re.S).group(1)
+    return [(field.strip(), kind) for kind, names in re.findall(r"^    (\w+) ([^;]+);$", inside, flags=re.M)
+            for field in names.split(",")]
 
 
 def camel_as_constant(name):
@@ -96,6 +127,10 @@ def main():
     fields = re.findall(r"^    (?:pub )?(\w+): ([^{}\n]+),$", handle, flags=re.M)
     if fields != [("live", "bool"), ("held", "Held"), ("rest", "[u64; 6]")]:
         problems.append(f"a pass has other fields than the header's: {fields}")
+
+    for name, wanted in {"balloc_class_count": class_fields(), "balloc_census": census_fields()}.items():
+        if struct_fields(header, name) != wanted:
+            problems.append(f"{name}: {struct_fields(header, name)} in the header, {wanted} in the crates")
 
     for problem in problems:
         print(problem)

@@ -58,10 +58,10 @@ class Picture:
         dash = ' stroke-dasharray="5 4"' if dashed else ""
         self.add(f'<path d="{points}" fill="none" stroke="{colour}" stroke-width="1.4"{dash}{head}/>')
 
-    def save(self, name):
-        PICTURES.mkdir(parents=True, exist_ok=True)
+    def drawn(self):
+        """The text of the picture."""
         body = "\n".join(self.parts)
-        (PICTURES / name).write_text(
+        return (
             f'<svg xmlns="http://www.w3.org/2000/svg" viewBox="0 0 {self.width} {self.height}" '
             f'width="{self.width}" height="{self.height}" role="img">\n'
             f"<title>{self.title}</title>\n"
@@ -70,6 +70,10 @@ class Picture:
             f'<rect width="{self.width}" height="{self.height}" rx="8" fill="{GROUND}"/>\n'
             f"{body}\n</svg>\n"
         )
+
+    def save(self, name):
+        PICTURES.mkdir(parents=True, exist_ok=True)
+        (PICTURES / name).write_text(self.drawn())
 
 
 def read_crates():

@@ -209,11 +209,12 @@ int main(int argc, char **argv) {
     static struct caller callers[MOST];
     pthread_t ids[MOST];
     uint64_t id, word, turns, won, lost, cleared;
+    balloc_census census = {0}, none;
     struct caller all = {0};
     if (threads < 1 || threads > MOST) return 2;
     /* what is empty, twice open or out of range is refused */
     all.wrong += balloc_alloc(&passes[0], 1, &id) != BALLOC_CLOSED;
-    all.wrong += balloc_close(&passes[0], true, &won, &lost) != BALLOC_CLOSED;
+    all.wrong += balloc_close(&passes[0], true, &won, &lost, &census) != BALLOC_CLOSED;
     all.wrong += balloc_open(0, 1, 1, 1000, depth, passes, (size_t)threads) != BALLOC_BAD_NUMBERS;
     all.wrong += balloc_open(1, 1, 1, 1000, depth, passes, 0) != BALLOC_BAD_NUMBERS;
     all.wrong += balloc_open(1, 1, 1, 1000, BALLOC_MOST_DEPTH + 1, passes, (size_t)threads) != BALLOC_BAD_NUMBERS;
@@ -239,11 +240,15 @@ int main(int argc, char **argv) {
         all.given += c->given, all.freed += c->freed, all.put += c->put, all.taken += c->taken;
         all.interrupted += c->interrupted, all.wrong += c->wrong;
         all.wrong += balloc_counts(&passes[i], &turns, &won, &lost, &cleared) != BALLOC_DONE;
-        all.wrong += balloc_close(&passes[i], true, &won, &lost) != BALLOC_DONE;
-        all.wrong += balloc_close(&passes[i], true, &won, &lost) != BALLOC_CLOSED;
+        all.wrong += balloc_close(&passes[i], true, &won, &lost, &census) != BALLOC_DONE;
+        all.wrong += census.counted != (i == threads - 1);
+        all.wrong += balloc_close(&passes[i], true, &won, &lost, &none) != BALLOC_CLOSED || none.counted;
         all.wrong += balloc_read(&passes[i], 0, 0, &word) != BALLOC_CLOSED;
     }
     all.wrong += all.put != all.taken;
+    /* all blocks were freed, so none is live, and all units are free */
+    for (int class = 0; class < BALLOC_CLASSES; class++) all.wrong += census.per_class[class].live != 0;
+    all.wrong += census.free_units != 32;
     printf("given %" PRIu64 " freed %" PRIu64 " put %" PRIu64 " taken %" PRIu64 " interrupted %" PRIu64 " wrong %" PRIu64 "\n",
            all.given, all.freed, all.put, all.taken, all.interrupted, all.wrong);
     return all.wrong != 0;

@@ -67,6 +67,7 @@ int main(int argc, char **argv) {
     pthread_t threads[MAKERS + WORKERS];
     uint64_t rounds = argc > 1 ? strtoull(argv[1], NULL, 10) : 100000;
     uint64_t sent = 0, got = 0, failed = 0, won, lost;
+    balloc_census census;
     if (balloc_open(16, 2, 0, BALLOC_MOST_TURNS, 8, passes, MAKERS + WORKERS) != BALLOC_DONE) return 2;
     for (int i = 0; i < MAKERS + WORKERS; i++) {
         lanes[i].pass = &passes[i], lanes[i].rounds = rounds;
@@ -77,7 +78,7 @@ int main(int argc, char **argv) {
         *(i < MAKERS ? &sent : &got) += lanes[i].sum;
         failed += lanes[i].failed;
     }
-    for (int i = 0; i < MAKERS + WORKERS; i++) failed += balloc_close(&passes[i], true, &won, &lost) != BALLOC_DONE;
+    for (int i = 0; i < MAKERS + WORKERS; i++) failed += balloc_close(&passes[i], true, &won, &lost, &census) != BALLOC_DONE;
     printf("sent %" PRIu64 " got %" PRIu64 " failed %" PRIu64 "\n", sent, got, failed);
     return sent != got || failed;
 }

@@ -14,12 +14,24 @@ struct Pass {
     rest: [u64; 6],
 }
 
+/// What a heap held when its last pass closed, as balloc.h has it.
+#[repr(C)]
+#[derive(Default)]
+struct Census {
+    counted: bool,
+    won: u64,
+    lost: u64,
+    per_class: [[u64; 4]; 11],
+    free_frames: u32,
+    free_units: u32,
+}
+
 // A pass may go from thread to thread.
 unsafe impl Send for Pass {}
 
 extern "C" {
     fn balloc_open(frames: u32, heaps: u32, units: u32, turns: u64, depth: u32, passes: *mut Pass, count: usize) -> i32;
-    fn balloc_close(pass: *mut Pass, frees: bool, won: *mut u64, lost: *mut u64) -> i32;
+    fn balloc_close(pass: *mut Pass, frees: bool, won: *mut u64, lost: *mut u64, census: *mut Census) -> i32;
     fn balloc_alloc(pass: *mut Pass, words: u32, id: *mut u64) -> i32;
     fn balloc_free(pass: *mut Pass, id: u64) -> i32;
     fn balloc_resume(pass: *mut Pass, id: *mut u64) -> i32;
@@ -70,10 +82,12 @@ fn main() {
         let lanes: Vec<_> = passes.iter_mut().map(|pass| scope.spawn(move || lane(pass, rounds))).collect();
         lanes.into_iter().map(|it| it.join().expect("a lane")).sum()
     });
+    let mut census = Census::default();
     for pass in &mut passes {
         let (mut won, mut lost) = (0, 0);
-        assert_eq!(unsafe { balloc_close(pass, true, &mut won, &mut lost) }, DONE);
+        assert_eq!(unsafe { balloc_close(pass, true, &mut won, &mut lost, &mut census) }, DONE);
     }
+    assert!(census.counted && census.per_class.iter().all(|class| class[3] == 0));
     println!("wrong {wrong}");
     assert_eq!(wrong, 0);
 }

@@ -36,6 +36,25 @@ typedef struct balloc_pass {
 
 #define BALLOC_EMPTY {0}
 
+#define BALLOC_CLASSES 11
+
+/* The blocks of one class of small blocks: all of its superblocks, and of them those that are free and that no
+ * processor heap offers, those that are free and offered, and those that are live. */
+typedef struct balloc_class_count {
+    uint64_t blocks, free, reserved, live;
+} balloc_class_count;
+
+/* What a heap held when its last pass closed, where `counted` is true; else the other fields tell nothing. `won` and
+ * `lost` are the exchanges of all its passes, each at most 2^64 - 1. */
+typedef struct balloc_census {
+    bool counted;
+    uint64_t won;
+    uint64_t lost;
+    balloc_class_count per_class[BALLOC_CLASSES];
+    uint32_t free_frames;
+    uint32_t free_units;
+} balloc_census;
+
 /* The most of each number of a heap; and there are shelves 0 to BALLOC_SHELVES - 1. */
 #define BALLOC_MOST_FRAMES 4096
 #define BALLOC_MOST_HEAPS 16
@@ -82,9 +101,10 @@ int32_t balloc_open(uint32_t frames, uint32_t heaps, uint32_t units, uint64_t tu
 /* Closes a pass, and tells how many exchanges it won and lost: it is empty again. Its blocks are freed first where
  * `frees` says so, those in its magazines too; where that is interrupted the pass stays open, and balloc_resume and then another close go on with
  * it. Else they stay allocated, those in magazines too, as does the block of a call that is under way. The last pass of a heap takes the heap
- * with it.
+ * with it, and `census` tells what that held. It tells nothing (`counted` is false) while other passes are open, where one
+ * of them was closed in the middle of a call, or where there is no memory for a list of them.
  * BALLOC_DONE, BALLOC_CLOSED; where it frees, BALLOC_IN_CALL, BALLOC_INTERRUPTED */
-int32_t balloc_close(balloc_pass *pass, bool frees, uint64_t *won, uint64_t *lost);
+int32_t balloc_close(balloc_pass *pass, bool frees, uint64_t *won, uint64_t *lost, balloc_census *census);
 
 /* Tells what a pass has counted: its turns, the exchanges that it won and lost, and the empty superblocks that it took
  * for partial ones.

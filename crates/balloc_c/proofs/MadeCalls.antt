@@ -22,7 +22,7 @@ use Rattle.block_cache.specs.Caches.{Holds, IsCache, KeepsMagazines}
 use Rattle.balloc_c.specs.declared.refusal.Refusal.TheVariants as refusal
 use Rattle.balloc_c.specs.declared.table.Slot.{Slot}
 use Rattle.balloc_c.specs.declared.table.Table.{Table}
-use Rattle.balloc_c.specs.Numbers.{Gains, IsReady, Keeps, Loses, named}
+use Rattle.balloc_c.specs.Numbers.{NamesOneMore, HasSlotReady, KeepsNumbers, NamesOneLess, named}
 use Rattle.balloc_c.specs.Outcomes.{Allocs, Frees, GoesOnTo, HasAllocated, HasFreed, HasPut, HasRead, HasResumed, HasTaken, HasWritten, Puts, Reads, Resumes, Takes, Writes, alloc_bar, free_bar, put_bar, resume_bar, take_bar, word_bar}
 use Rattle.balloc_c.specs.Ranges.{Adds, Fills, HasFilled, HasReadRange, HasSummed, HasWrittenRange, ReadsRange, WritesRange, range_bar, wrote_from}
 use Rattle.balloc_c.specs.Slots.{HasAged, IsVacant, block_at, blocks_of, set_block}
@@ -122,20 +122,20 @@ sum-answers h c t number total block d idle names of sums =
 -- a block leaves its slot for good
 pub loses-at :
     (t u : Table) (middle : List Slot) (i number : ℕ) → i ≡ number % 2 ^ 32 → named t number ≢ None → i < length t.slots.items
-    → middle ≡ set_block t.slots.items i None → HasAged middle i u.slots.items → Loses t number u
+    → middle ≡ set_block t.slots.items i None → HasAged middle i u.slots.items → NamesOneLess t number u
 loses-at t u middle i number is names within set aged =
     loses-set t u middle number names (subst (λ (k : ℕ). k < length t.slots.items) is within)
     (subst (λ (k : ℕ). middle ≡ set_block t.slots.items k None) is set) (subst (λ (k : ℕ). HasAged middle k u.slots.items) is aged)
 
 pub free-answers :
     (c : Cache) (t : Table) (number : ℕ) (block : Block) (d : Cache) (u : Table) → is_idle c.pass.errand.point ≡ true → named t number ≡ Some block
-    → IsFree c block free_answer.Freed d → Loses t number u → HasFreed c t number (Ok tt) d u
+    → IsFree c block free_answer.Freed d → NamesOneLess t number u → HasFreed c t number (Ok tt) d u
 free-answers c t number block d u idle names free loses =
     makes (free_bar c.pass t number) (Frees c t number) c t (Ok tt) d u (free-made c.pass t number block idle names) ((block, names, free), loses)
 
 pub free-stops :
     (c : Cache) (t : Table) (number : ℕ) (block : Block) (d : Cache) (u : Table) → is_idle c.pass.errand.point ≡ true → named t number ≡ Some block
-    → IsFree c block free_answer.Busy d → Loses t number u → HasFreed c t number (Err refusal.Interrupted) d u
+    → IsFree c block free_answer.Busy d → NamesOneLess t number u → HasFreed c t number (Err refusal.Interrupted) d u
 free-stops c t number block d u idle names free loses =
     makes (free_bar c.pass t number) (Frees c t number) c t (Err refusal.Interrupted) d u (free-made c.pass t number block idle names)
     ((block, names, free), loses)
@@ -143,7 +143,7 @@ free-stops c t number block d u idle names free loses =
 -- a put
 pub put-answers :
     (c : Cache) (t : Table) (number shelf : ℕ) (block : Block) (d : Cache) (u : Table) → is_idle c.pass.errand.point ≡ true → named t number ≡ Some block
-    → shelf < SHELVES → HasCalled c.pass (put block.place block.need shelf) 0 reply.Put d.pass → KeepsMagazines c d → Loses t number u
+    → shelf < SHELVES → HasCalled c.pass (put block.place block.need shelf) 0 reply.Put d.pass → KeepsMagazines c d → NamesOneLess t number u
     → HasPut c t number shelf (Ok tt) d u
 put-answers c t number shelf block d u idle names has called keeps loses =
     makes (put_bar c.pass t number shelf) (Puts c t number shelf) c t (Ok tt) d u (put-made c.pass t number shelf block idle names has)
@@ -152,7 +152,7 @@ put-answers c t number shelf block d u idle names has called keeps loses =
 put-full :
     (c : Cache) (t : Table) (number shelf found : ℕ) (block : Block) (d : Cache) (u : Table) → is_idle c.pass.errand.point ≡ true
     → named t number ≡ Some block → shelf < SHELVES → PutTellsFull c.pass block shelf (record { block = block; found = found }) d.pass
-    → KeepsMagazines c d → Keeps t u → HasPut c t number shelf (Err refusal.ShelfFull) d u
+    → KeepsMagazines c d → KeepsNumbers t u → HasPut c t number shelf (Err refusal.ShelfFull) d u
 put-full c t number shelf found block d u idle names has tells keeps same =
     makes (put_bar c.pass t number shelf) (Puts c t number shelf) c t (Err refusal.ShelfFull) d u (put-made c.pass t number shelf block idle names has)
     ((block, names, (found, (tells, keeps))), same)
@@ -172,37 +172,37 @@ full-answers c t number shelf block back full d u middle i idle names has tells 
 -- an allocation
 pub given-answers :
     (c : Cache) (t : Table) (words number : ℕ) (block : Block) (d : Cache) (u : Table) → is_idle c.pass.errand.point ≡ true → words ≤ LARGE_MOST
-    → Gains t number block u → IsAllocation c words (alloc_answer.Given block) d → HasAllocated c t words (Ok number) d u
+    → NamesOneMore t number block u → IsAllocation c words (alloc_answer.Given block) d → HasAllocated c t words (Ok number) d u
 given-answers c t words number block d u idle has gains told =
     makes (alloc_bar c.pass words) (Allocs c t words) c t (Ok number) d u (alloc-made c.pass words idle has) (block, gains, told)
 
 pub refused-answers :
-    (c : Cache) (t : Table) (words : ℕ) (d : Cache) (u : Table) → is_idle c.pass.errand.point ≡ true → words ≤ LARGE_MOST → IsReady t u
+    (c : Cache) (t : Table) (words : ℕ) (d : Cache) (u : Table) → is_idle c.pass.errand.point ≡ true → words ≤ LARGE_MOST → HasSlotReady t u
     → IsAllocation c words alloc_answer.Refused d → HasAllocated c t words (Err refusal.Exhausted) d u
 refused-answers c t words d u idle has ready told =
     makes (alloc_bar c.pass words) (Allocs c t words) c t (Err refusal.Exhausted) d u (alloc-made c.pass words idle has) (ready, told)
 
 pub spent-answers :
-    (c : Cache) (t : Table) (words : ℕ) (d : Cache) (u : Table) → is_idle c.pass.errand.point ≡ true → words ≤ LARGE_MOST → IsReady t u
+    (c : Cache) (t : Table) (words : ℕ) (d : Cache) (u : Table) → is_idle c.pass.errand.point ≡ true → words ≤ LARGE_MOST → HasSlotReady t u
     → IsAllocation c words alloc_answer.Spent d → HasAllocated c t words (Err refusal.Spent) d u
 spent-answers c t words d u idle has ready told =
     makes (alloc_bar c.pass words) (Allocs c t words) c t (Err refusal.Spent) d u (alloc-made c.pass words idle has) (ready, told)
 
 pub busy-answers :
-    (c : Cache) (t : Table) (words : ℕ) (d : Cache) (u : Table) → is_idle c.pass.errand.point ≡ true → words ≤ LARGE_MOST → IsReady t u
+    (c : Cache) (t : Table) (words : ℕ) (d : Cache) (u : Table) → is_idle c.pass.errand.point ≡ true → words ≤ LARGE_MOST → HasSlotReady t u
     → IsAllocation c words alloc_answer.Busy d → HasAllocated c t words (Err refusal.Interrupted) d u
 busy-answers c t words d u idle has ready told =
     makes (alloc_bar c.pass words) (Allocs c t words) c t (Err refusal.Interrupted) d u (alloc-made c.pass words idle has) (ready, told)
 
 -- what is gone on with, and a take
 pub resumed-answers :
-    (c : Cache) (t : Table) (number : ℕ) (block : Block) (d : Cache) (u : Table) → is_idle c.pass.errand.point ≡ false → Gains t number block u
+    (c : Cache) (t : Table) (number : ℕ) (block : Block) (d : Cache) (u : Table) → is_idle c.pass.errand.point ≡ false → NamesOneMore t number block u
     → GoesOnTo c (resumed.Given block) d → HasResumed c t (Ok (Some number)) d u
 resumed-answers c t number block d u busy gains goes =
     makes (resume_bar c.pass) (Resumes c t) c t (Ok (Some number)) d u (resume-made c.pass busy) (block, gains, goes)
 
 pub taken-answers :
     (c : Cache) (t : Table) (shelf number : ℕ) (block : Block) (d : Cache) (u : Table) → is_idle c.pass.errand.point ≡ true → shelf < SHELVES
-    → Gains t number block u → TakeTells c.pass shelf (taken.Got block) d.pass → KeepsMagazines c d → HasTaken c t shelf (Ok number) d u
+    → NamesOneMore t number block u → TakeTells c.pass shelf (taken.Got block) d.pass → KeepsMagazines c d → HasTaken c t shelf (Ok number) d u
 taken-answers c t shelf number block d u idle has gains tells keeps =
     makes (take_bar c.pass shelf) (Takes c t shelf) c t (Ok number) d u (take-made c.pass shelf idle has) (block, gains, (tells, keeps))

@@ -8,7 +8,7 @@ use Rattle.std.proofs.lemmas.List.Sums.{sum_by-append, sum_by_push}
 use Rattle.std.proofs.Math.Nat.{add_assoc, mod-add-mod, mod-eq_of_lt, mod-lt}
 use Rattle.live_heap.specs.declared.block.Block.{Block}
 use Rattle.balloc_c.specs.declared.table.Table.{Table}
-use Rattle.balloc_c.specs.Numbers.{Gains, GaveAway, Keeps, Loses, named, number_at}
+use Rattle.balloc_c.specs.Numbers.{NamesOneMore, GaveAway, KeepsNumbers, NamesOneLess, named, number_at}
 use Rattle.balloc_c.specs.declared.table.Slot.{Slot}
 use Rattle.balloc_c.specs.Slots.{HasAged, IsVacant, age_at, block_at, no_slot, set_block}
 use Rattle.balloc_c.proofs.Slots.{age-set, block-set_other, block-set_same, by_case}
@@ -50,7 +50,7 @@ gave-none t u ages j =
 -- all slots are as they were
 pub keeps :
     (t u : Table) → ((j : ℕ) → block_at u.slots.items j ≡ block_at t.slots.items j)
-    → ((j : ℕ) → age_at u.slots.items j ≡ age_at t.slots.items j) → Keeps t u
+    → ((j : ℕ) → age_at u.slots.items j ≡ age_at t.slots.items j) → KeepsNumbers t u
 keeps t u blocks ages = record {
   all = λ n. named-same t u n (blocks (n % 2 ^ 32)) (ages (n % 2 ^ 32));
   gave = gave-none t u ages;
@@ -64,7 +64,7 @@ slot-of t i small =
 pub gains :
     (t u : Table) (i : ℕ) (block : Block) → i < 2 ^ 32 → block_at t.slots.items i ≡ None → block_at u.slots.items i ≡ Some block
     → ((j : ℕ) → j ≢ i → block_at u.slots.items j ≡ block_at t.slots.items j)
-    → ((j : ℕ) → age_at u.slots.items j ≡ age_at t.slots.items j) → Gains t (number_at u i) block u
+    → ((j : ℕ) → age_at u.slots.items j ≡ age_at t.slots.items j) → NamesOneMore t (number_at u i) block u
 gains t u i block small vacant full others ages =
     let number = number_at u i in
     let slot : number % 2 ^ 32 ≡ i = slot-of u i small in
@@ -88,7 +88,7 @@ pub loses :
     (t u : Table) (n : ℕ) → named t n ≢ None → block_at u.slots.items (n % 2 ^ 32) ≡ None
     → ((j : ℕ) → j ≢ n % 2 ^ 32 → block_at u.slots.items j ≡ block_at t.slots.items j)
     → age_at u.slots.items (n % 2 ^ 32) ≡ (age_at t.slots.items (n % 2 ^ 32) + 1) % 2 ^ 32
-    → ((j : ℕ) → j ≢ n % 2 ^ 32 → age_at u.slots.items j ≡ age_at t.slots.items j) → Loses t n u
+    → ((j : ℕ) → j ≢ n % 2 ^ 32 → age_at u.slots.items j ≡ age_at t.slots.items j) → NamesOneLess t n u
 loses t u n names gone others older ages =
     let i = n % 2 ^ 32 in
     record {
@@ -143,13 +143,13 @@ gave-more t u v slots more gave later i =
     ∙ ap (λ (k : ℕ). k % 2 ^ 32) (add_assoc a m n ∙ ap (λ (k : ℕ). a + k) (sym both))
 
 -- nothing has happened
-pub keeps-itself : (t : Table) → Keeps t t
+pub keeps-itself : (t : Table) → KeepsNumbers t t
 keeps-itself t = keeps t t (λ j. refl) (λ j. refl)
 
 -- a block was put into a vacant slot
 pub gains-set :
     (t u : Table) (i : ℕ) (block : Block) → i < 2 ^ 32 → IsVacant t.slots.items i → u.slots.items ≡ set_block t.slots.items i (Some block)
-    → Gains t (number_at u i) block u
+    → NamesOneMore t (number_at u i) block u
 gains-set t u i block small vacant set =
     let slot : Slot = record (slice_index_or t.slots.items i no_slot) { block = Some block } in
     gains t u i block small vacant.1
@@ -160,7 +160,7 @@ gains-set t u i block small vacant set =
 -- a block was taken out of its slot for good
 pub loses-set :
     (t u : Table) (l : List Slot) (n : ℕ) → named t n ≢ None → n % 2 ^ 32 < length t.slots.items → l ≡ set_block t.slots.items (n % 2 ^ 32) None
-    → HasAged l (n % 2 ^ 32) u.slots.items → Loses t n u
+    → HasAged l (n % 2 ^ 32) u.slots.items → NamesOneLess t n u
 loses-set t u l n names within set aged =
     let i = n % 2 ^ 32 in
     let slot : Slot = record (slice_index_or t.slots.items i no_slot) { block = None } in
@@ -175,7 +175,7 @@ loses-set t u l n names within set aged =
 -- a block was taken out of its slot and put back
 pub keeps-set :
     (t u : Table) (l : List Slot) (i : ℕ) (block : Block) → i < length t.slots.items → i < length l → block_at t.slots.items i ≡ Some block
-    → l ≡ set_block t.slots.items i None → u.slots.items ≡ set_block l i (Some block) → Keeps t u
+    → l ≡ set_block t.slots.items i None → u.slots.items ≡ set_block l i (Some block) → KeepsNumbers t u
 keeps-set t u l i block within still was out back =
     let none : Slot = record (slice_index_or t.slots.items i no_slot) { block = None } in
     let some_block : Slot = record (slice_index_or l i no_slot) { block = Some block } in
@@ -193,7 +193,7 @@ keeps-set t u l i block within still was out back =
     ∙ age-set t.slots.items i None j within)
 
 -- a block comes behind a change in which none came or went
-pub gains-behind : (t m : Table) (number : ℕ) (block : Block) (u : Table) → Keeps t m → Gains m number block u → Gains t number block u
+pub gains-behind : (t m : Table) (number : ℕ) (block : Block) (u : Table) → KeepsNumbers t m → NamesOneMore m number block u → NamesOneMore t number block u
 gains-behind t m number block u kept gained = record {
   new = sym (kept.all number) ∙ gained.new;
   here = gained.here;

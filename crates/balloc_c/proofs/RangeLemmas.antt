@@ -14,7 +14,7 @@ use Rattle.live_heap.specs.declared.pass.Pass.{Pass}
 use Rattle.live_heap.specs.Words.{CallsOnWord}
 use Rattle.live_heap.proofs.MadeLemmas.{word-whole}
 use Rattle.live_heap.proofs.WholeLaws.{pass-keeps}
-use Rattle.step_core.specs.Keeping.{Leaves}
+use Rattle.step_machine.specs.Keeping.{LeavesPlace}
 use Rattle.block_cache.specs.declared.cache.Cache.{Cache}
 use Rattle.block_cache.specs.declared.magazines.Magazines.{Magazines}
 use Rattle.block_cache.specs.Caches.{HoldsBlock, KeepsMagazines}
@@ -27,7 +27,7 @@ keeps-on c d e one other = record { magazines = other.magazines ∙ one.magazine
 
 -- a block that is held still is behind a call on a word
 pub held-on :
-    (h : Heap) (c d : Cache) (block : Block) (call : Call) (answer : Reply) → CallsOnWord h c.pass call answer d.pass → Leaves call block.place
+    (h : Heap) (c d : Cache) (block : Block) (call : Call) (answer : Reply) → CallsOnWord h c.pass call answer d.pass → LeavesPlace call block.place
     → KeepsMagazines c d → HoldsBlock c block → HoldsBlock d block
 held-on h c d block call answer one leaves keeps held = (
   pass-keeps h h c.pass d.pass call answer block.place block.need (word-whole h c.pass d.pass call answer one) leaves held.0,

@@ -1,10 +1,16 @@
 -- A call by a handle.
-use Rattle.std.proofs.Common.{w32, to_z, of_z, ℕ, ◌≡◌, Bool, Option, Some, None, Result, Ok, Err, refl, sym, ap, ◌∙◌, subst}
-use Rattle.std.specs.Prelude.{ℤ, pos}
+use Rattle.std.proofs.Common.{inl, inr, ⊎_elim, w32, to_z, of_z, ℕ, ◌≡◌, Bool, Option, Some, None, Result, Ok, Err, refl, sym, ap, ◌∙◌, subst}
+use Rattle.std.specs.Prelude.{ℤ, pos, Bool, true, false}
+use Rattle.std.specs.Arc.{arc_value}
+use Rattle.live_heap.specs.declared.heap.Heap.{Heap}
+use Rattle.shared_heap.specs.declared.shared.SharedHeap.{SharedHeap}
+use Rattle.shared_heap.specs.Places.{IsClosedWhole}
+use Rattle.balloc_c.specs.declared.counted.Counted.{Counted}
 use Rattle.balloc_c.specs.declared.hand.Hand.{Hand}
 use Rattle.balloc_c.specs.declared.refusal.Refusal.{Refusal}
 use Rattle.balloc_c.specs.declared.refusal.Refusal.TheVariants as refusal
-use Rattle.balloc_c.specs.Closed.{Closes, Leaves, Shuts}
+use Rattle.balloc_c.specs.Closed.{Closes, ClosesHeap, LeavesBlocks, Shuts, TellsCensus}
+use Rattle.balloc_c.specs.Tended.{heap_of}
 use Rattle.balloc_c.specs.Codes.{code_in, code_of, resumed_code}
 use Rattle.balloc_c.specs.Outcomes.{Told}
 
@@ -56,7 +62,7 @@ told Call Shows was now before next result held holds shows called =
 -- a close, and one that stays open
 pub closes :
     (frees : Bool) (was now : Option Hand) (before next : Hand) (outcome : Result (Unit {0}) Refusal) (done : Unit {0}) (won lost won_told lost_told : ℕ)
-    → was ≡ Some before → Leaves frees before outcome next → outcome ≡ Ok done → won_told ≡ next.cache.pass.errand.won
+    → was ≡ Some before → LeavesBlocks frees before outcome next → outcome ≡ Ok done → won_told ≡ next.cache.pass.errand.won
     → lost_told ≡ next.cache.pass.errand.lost → now ≡ None → Closes frees was (pos 0) won lost won_told lost_told now
 closes frees was now before next outcome done won lost won_told lost_told held leaves is won_is lost_is empty =
     subst (λ (o : Option Hand). Closes frees o (pos 0) won lost won_told lost_told now) (sym held) (
@@ -69,7 +75,7 @@ closes frees was now before next outcome done won lost won_told lost_told held l
 
 pub stays_open :
     (frees : Bool) (was now : Option Hand) (before next : Hand) (outcome : Result (Unit {0}) Refusal) (cause : Refusal) (code : ℤ) (won lost : ℕ)
-    → was ≡ Some before → Leaves frees before outcome next → outcome ≡ Err cause → code ≡ code_of cause → now ≡ Some next
+    → was ≡ Some before → LeavesBlocks frees before outcome next → outcome ≡ Err cause → code ≡ code_of cause → now ≡ Some next
     → Closes frees was code won lost won lost now
 stays_open frees was now before next outcome cause code won lost held leaves is told holds =
     subst (λ (o : Option Hand). Closes frees o code won lost won lost now) (sym held) (
@@ -79,3 +85,23 @@ stays_open frees was now before next outcome cause code won lost held leaves is 
       told ∙ sym (ap code_in is),
       subst (λ (r : Result (Unit {0}) Refusal). Shuts r next won lost won lost now) (sym is) (refl, refl, holds),
     )
+
+-- what a close that was made tells of the heap, and that one that was not made tells nothing
+same-heap : (frees : Bool) (before next : Hand) (outcome : Result (Unit {0}) Refusal) → LeavesBlocks frees before outcome next → heap_of next ≡ heap_of before
+same-heap true before next outcome leaves = ap (λ (shared : SharedHeap). shared.heap) (ap (arc_value {X = SharedHeap}) leaves.1)
+same-heap false before next outcome leaves = ap heap_of leaves.1
+
+pub tells_heap :
+    (frees : Bool) (was : Option Hand) (before next : Hand) (outcome : Result (Unit {0}) Refusal) (old now : Counted) → was ≡ Some before
+    → LeavesBlocks frees before outcome next → TellsCensus next (record old { counted = false }) now → ClosesHeap was (pos 0) old now
+tells_heap frees was before next outcome old now held leaves tells =
+    subst (λ (o : Option Hand). ClosesHeap o (pos 0) old now) (sym held) (
+      (λ made. absurd (made refl)),
+      ⊎_elim inl (λ it. inr (it.0, subst (λ (h : Heap). IsClosedWhole h it.0) (same-heap frees before next outcome leaves) it.1, it.2, it.3)) tells,
+    )
+
+pub tells_nothing :
+    (was : Option Hand) (before : Hand) (code : ℤ) (old now : Counted) → was ≡ Some before → now ≡ record old { counted = false }
+    → ClosesHeap was code old now
+tells_nothing was before code old now held same =
+    subst (λ (o : Option Hand). ClosesHeap o code old now) (sym held) ((λ _. same), inl same)

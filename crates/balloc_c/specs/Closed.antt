@@ -1,16 +1,21 @@
 -- How a pass closes for C.
-use Rattle.std.specs.Prelude.{ℕ, ◌≡◌, Bool, true, false, ℤ, pos, negsuc, Option, Some, None, Result, Ok, Err, List, [], ◌∷◌, ◌++◌, ◌⊎◌}
+use Rattle.std.specs.Prelude.{ℕ, ◌≡◌, ◌≢◌, Bool, true, false, ℤ, pos, negsuc, Option, Some, None, Result, Ok, Err, List, [], ◌∷◌, ◌++◌, ◌⊎◌}
 use Rattle.live_heap.specs.declared.answers.FreeAnswer.{FreeAnswer}
 use Rattle.live_heap.specs.declared.answers.FreeAnswer.TheVariants as free_answer
 use Rattle.live_heap.specs.declared.block.Block.{Block}
+use Rattle.live_heap.specs.Endings.{ClosedFields}
+use Rattle.shared_heap.specs.Places.{IsClosedWhole}
 use Rattle.block_cache.specs.declared.cache.Cache.{Cache}
+use Rattle.balloc_c.specs.declared.counted.Counted.{Counted}
 use Rattle.balloc_c.specs.declared.hand.Hand.{Hand}
 use Rattle.balloc_c.specs.declared.refusal.Refusal.{Refusal}
 use Rattle.balloc_c.specs.declared.refusal.Refusal.TheVariants as refusal
 use Rattle.balloc_c.specs.declared.table.Table.{Table}
+use Rattle.balloc_c.specs.Census.{IsCountOf}
 use Rattle.balloc_c.specs.Codes.{code_in}
 use Rattle.balloc_c.specs.Outcomes.{Answers, Makes, barred, counts_of, is_busy}
 use Rattle.balloc_c.specs.Slots.{blocks_of}
+use Rattle.balloc_c.specs.Tended.{heap_of}
 use Rattle.balloc_c.specs.Through.{IsFlush, IsFree}
 
 -- the block of a slot was freed, or that is under way; where there is none nothing has happened
@@ -51,9 +56,9 @@ abbrev pub HasFreedAll : Cache → Table → Result (Unit {0}) Refusal → Cache
 HasFreedAll c t = Answers (barred (is_busy c.pass) refusal.InCall None) (Empties c t) c t
 
 -- before a pass closes its blocks are freed, those in magazines too, or they stay as they are
-abbrev pub Leaves : Bool → Hand → Result (Unit {0}) Refusal → Hand → Type 0
-Leaves true hand outcome next = Makes HasFreedAll hand outcome next
-Leaves false hand outcome next = (outcome ≡ Ok tt) × (next ≡ hand)
+abbrev pub LeavesBlocks : Bool → Hand → Result (Unit {0}) Refusal → Hand → Type 0
+LeavesBlocks true hand outcome next = Makes HasFreedAll hand outcome next
+LeavesBlocks false hand outcome next = (outcome ≡ Ok tt) × (next ≡ hand)
 
 -- it is closed, and what it won and lost is told; or it stays open
 abbrev pub Shuts : Result (Unit {0}) Refusal → Hand → ℕ → ℕ → ℕ → ℕ → Option Hand → Type 0
@@ -65,8 +70,20 @@ abbrev pub Closes : Bool → Option Hand → ℤ → ℕ → ℕ → ℕ → ℕ
 Closes frees None code won lost won_told lost_told after =
     (code ≡ negsuc 0) × (won_told ≡ won) × (lost_told ≡ lost) × (after ≡ None)
 Closes frees (Some hand) code won lost won_told lost_told after =
-    (outcome : Result (Unit {0}) Refusal) × (next : Hand) × Leaves frees hand outcome next × (code ≡ code_in outcome)
+    (outcome : Result (Unit {0}) Refusal) × (next : Hand) × LeavesBlocks frees hand outcome next × (code ≡ code_in outcome)
     × Shuts outcome next won lost won_told lost_told after
+
+-- what is told of the heap: nothing; or it was closed with all its passes, and this is what it held
+abbrev pub TellsCensus : Hand → Counted → Counted → Type 0
+TellsCensus hand before after =
+    (after ≡ before)
+    ⊎ ((c : ClosedFields) × IsClosedWhole (heap_of hand) c × (after.counted ≡ true) × IsCountOf c after)
+
+-- of a close: it is told at most by one that was made
+abbrev pub ClosesHeap : Option Hand → ℤ → Counted → Counted → Type 0
+ClosesHeap None code before after = after ≡ record before { counted = false }
+ClosesHeap (Some hand) code before after =
+    (code ≢ pos 0 → after ≡ record before { counted = false }) × TellsCensus hand (record before { counted = false }) after
 
 -- what a pass has counted is told, or that there is none
 abbrev pub TellsCounts : Option Hand → ℤ → ℕ × ℕ × ℕ × ℕ → ℕ × ℕ × ℕ × ℕ → Type 0

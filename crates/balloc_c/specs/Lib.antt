@@ -1,3 +1,4 @@
+pub mod Census
 pub mod Closed
 pub mod Codes
 pub mod Numbers

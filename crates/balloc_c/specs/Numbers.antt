@@ -20,19 +20,19 @@ GaveAway before slots after =
     → age_at after.slots.items index % 2 ^ 32 ≡ (age_at before.slots.items index + count_by (λ slot. slot == index) slots) % 2 ^ 32
 
 -- the same blocks have the same numbers
-pub record Keeps (before after : Table) : Type 0 where
+pub record KeepsNumbers (before after : Table) : Type 0 where
   pub all : (number : ℕ) → named after number ≡ named before number
   pub gave : GaveAway before [] after
 
 -- one block more, under a number that named none
-pub record Gains (before : Table) (number : ℕ) (block : Block) (after : Table) : Type 0 where
+pub record NamesOneMore (before : Table) (number : ℕ) (block : Block) (after : Table) : Type 0 where
   pub new : named before number ≡ None
   pub here : named after number ≡ Some block
   pub others : (other : ℕ) → other ≢ number → named after other ≡ named before other
   pub gave : GaveAway before [] after
 
 -- one block less: its number names none, and its slot has given a block away once more
-pub record Loses (before : Table) (number : ℕ) (after : Table) : Type 0 where
+pub record NamesOneLess (before : Table) (number : ℕ) (after : Table) : Type 0 where
   pub gone : named after number ≡ None
   pub others : (other : ℕ) → other ≢ number → named after other ≡ named before other
   pub gave : GaveAway before (number % 2 ^ 32 ∷ []) after
@@ -42,7 +42,7 @@ abbrev pub HasSpare : Table → Type 0
 HasSpare table = IsVacant table.slots.items table.spare
 
 -- a slot stands ready, and no block came or went: where one stood ready before, the table is the very same
-pub record IsReady (before after : Table) : Type 0 where
-  pub keeps : Keeps before after
+pub record HasSlotReady (before after : Table) : Type 0 where
+  pub keeps : KeepsNumbers before after
   pub spare : HasSpare after
   pub same : HasSpare before → after ≡ before

@@ -1,6 +1,5 @@
 -- How a heap opens for C.
 use Rattle.std.specs.Prelude.{ℕ, zero, suc, ◌≡◌, ◌<◌, ◌≤◌, Option, None, IsSomeAnd, Result, Ok, Err, List, [], ◌∷◌, min}
-use Rattle.std.specs.Arc.{arc_value}
 use Rattle.heap_geometry.specs.declared.geometry.Geometry.{Geometry}
 use Rattle.heap_geometry.specs.Geometry.{IsChecked}
 use Rattle.live_heap.specs.declared.heap.Heap.{Heap}
@@ -11,6 +10,7 @@ use Rattle.balloc_c.specs.declared.handle.PassHandle.{PassHandle}
 use Rattle.balloc_c.specs.declared.refusal.Refusal.{Refusal}
 use Rattle.balloc_c.specs.declared.refusal.Refusal.TheVariants as refusal
 use Rattle.balloc_c.specs.Slots.{blocks_of}
+use Rattle.balloc_c.specs.Tended.{heap_of}
 
 -- the numbers of a heap with one caller for each handle; more than there may be stand for all that are more
 abbrev pub numbers : ℕ → ℕ → ℕ → ℕ → ℕ → Geometry
@@ -33,7 +33,7 @@ Fit g depth = IsChecked g × (depth ≤ 64)
 
 -- the pass of this caller of the heap, which has made no step and has no block; its magazines are empty, and have room for so many each
 pub record IsNew (h : Heap) (number depth : ℕ) (hand : Hand) : Type 0 where
-  pub heap : arc_value hand.heap ≡ h
+  pub heap : heap_of hand ≡ h
   pub fresh : IsFresh h hand.cache.pass
   pub caller : hand.cache.pass.errand.caller ≡ number
   pub blocks : blocks_of hand.table.slots.items ≡ []

@@ -20,7 +20,7 @@ use Rattle.balloc_c.specs.declared.hand.Hand.{Hand}
 use Rattle.balloc_c.specs.declared.refusal.Refusal.{Refusal}
 use Rattle.balloc_c.specs.declared.refusal.Refusal.TheVariants as refusal
 use Rattle.balloc_c.specs.declared.table.Table.{Table}
-use Rattle.balloc_c.specs.Numbers.{Gains, IsReady, Keeps, Loses, named}
+use Rattle.balloc_c.specs.Numbers.{NamesOneMore, HasSlotReady, KeepsNumbers, NamesOneLess, named}
 use Rattle.balloc_c.specs.Through.{Asked, IsAllocation, IsFree}
 
 -- the first cause that stands bars a call
@@ -71,7 +71,7 @@ Answers None Makes c t result d u = Makes result d u
 
 -- no block came or went, and the pass and its magazines stand as they stood
 abbrev pub Stays : Cache → Table → Cache → Table → Type 0
-Stays c t d u = (d ≡ c) × Keeps t u
+Stays c t d u = (d ≡ c) × KeepsNumbers t u
 
 -- the number names a block, of which this is so
 abbrev pub Of : Table → ℕ → (Block → Type 0) → Type 0
@@ -79,17 +79,17 @@ Of t number P = (block : Block) × (named t number ≡ Some block) × P block
 
 -- an allocation of so many words, and a block that it gives has the number that is told. Where it gives none a slot stands ready for the next
 abbrev pub Allocs : Cache → Table → ℕ → Result ℕ Refusal → Cache → Table → Type 0
-Allocs c t words (Ok number) d u = (block : Block) × Gains t number block u × IsAllocation c words (alloc_answer.Given block) d
-Allocs c t words (Err refusal.Exhausted) d u = IsReady t u × IsAllocation c words alloc_answer.Refused d
-Allocs c t words (Err refusal.Spent) d u = IsReady t u × IsAllocation c words alloc_answer.Spent d
-Allocs c t words (Err refusal.Interrupted) d u = IsReady t u × IsAllocation c words alloc_answer.Busy d
+Allocs c t words (Ok number) d u = (block : Block) × NamesOneMore t number block u × IsAllocation c words (alloc_answer.Given block) d
+Allocs c t words (Err refusal.Exhausted) d u = HasSlotReady t u × IsAllocation c words alloc_answer.Refused d
+Allocs c t words (Err refusal.Spent) d u = HasSlotReady t u × IsAllocation c words alloc_answer.Spent d
+Allocs c t words (Err refusal.Interrupted) d u = HasSlotReady t u × IsAllocation c words alloc_answer.Busy d
 Allocs c t words (Err refusal.NoMemory) d u = Stays c t d u
 Allocs c t words (Err cause) d u = ⊥
 
 -- a free of the block of this number, which names none from then on
 abbrev pub Frees : Cache → Table → ℕ → Result (Unit {0}) Refusal → Cache → Table → Type 0
-Frees c t number (Ok done) d u = Of t number (λ block. IsFree c block free_answer.Freed d) × Loses t number u
-Frees c t number (Err refusal.Interrupted) d u = Of t number (λ block. IsFree c block free_answer.Busy d) × Loses t number u
+Frees c t number (Ok done) d u = Of t number (λ block. IsFree c block free_answer.Freed d) × NamesOneLess t number u
+Frees c t number (Err refusal.Interrupted) d u = Of t number (λ block. IsFree c block free_answer.Busy d) × NamesOneLess t number u
 Frees c t number (Err cause) d u = ⊥
 
 -- a read of a word of the block of this number: it is what the block's owners last wrote there
@@ -104,16 +104,16 @@ Writes c t number i value (Err cause) d u = ⊥
 
 -- a put of the block of this number on a shelf. From a full one it is back, under its number
 abbrev pub Puts : Cache → Table → ℕ → ℕ → Result (Unit {0}) Refusal → Cache → Table → Type 0
-Puts c t number shelf (Ok done) d u = Of t number (λ block. Asked (λ p q. HasCalled p (put block.place block.need shelf) 0 reply.Put q) c d) × Loses t number u
+Puts c t number shelf (Ok done) d u = Of t number (λ block. Asked (λ p q. HasCalled p (put block.place block.need shelf) 0 reply.Put q) c d) × NamesOneLess t number u
 Puts c t number shelf (Err refusal.ShelfFull) d u =
-    Of t number (λ block. (found : ℕ) × Asked (λ p q. PutTellsFull p block shelf (record { block = block; found = found }) q) c d) × Keeps t u
+    Of t number (λ block. (found : ℕ) × Asked (λ p q. PutTellsFull p block shelf (record { block = block; found = found }) q) c d) × KeepsNumbers t u
 Puts c t number shelf (Err cause) d u = ⊥
 
 -- a take from a shelf: a block that it gets has the number that is told
 abbrev pub Takes : Cache → Table → ℕ → Result ℕ Refusal → Cache → Table → Type 0
-Takes c t shelf (Ok number) d u = (block : Block) × Gains t number block u × Asked (λ p q. TakeTells p shelf (taken.Got block) q) c d
-Takes c t shelf (Err refusal.ShelfEmpty) d u = IsReady t u × Asked (λ p q. TakeTells p shelf taken.Empty q) c d
-Takes c t shelf (Err refusal.ShelfMissed) d u = IsReady t u × (expected : ℕ) × (found : ℕ) × Asked (λ p q. TakeTells p shelf (taken.Missed expected found) q) c d
+Takes c t shelf (Ok number) d u = (block : Block) × NamesOneMore t number block u × Asked (λ p q. TakeTells p shelf (taken.Got block) q) c d
+Takes c t shelf (Err refusal.ShelfEmpty) d u = HasSlotReady t u × Asked (λ p q. TakeTells p shelf taken.Empty q) c d
+Takes c t shelf (Err refusal.ShelfMissed) d u = HasSlotReady t u × (expected : ℕ) × (found : ℕ) × Asked (λ p q. TakeTells p shelf (taken.Missed expected found) q) c d
 Takes c t shelf (Err refusal.NoMemory) d u = Stays c t d u
 Takes c t shelf (Err cause) d u = ⊥
 
@@ -123,11 +123,11 @@ GoesOnTo c answer d = Asked (λ p q. (first : Pass) (call : Call) (made : ℕ) �
 
 -- a call is gone on with: a block that it gets has the number that is told
 abbrev pub Resumes : Cache → Table → Result (Option ℕ) Refusal → Cache → Table → Type 0
-Resumes c t (Ok (Some number)) d u = (block : Block) × Gains t number block u × GoesOnTo c (resumed.Given block) d
-Resumes c t (Ok None) d u = IsReady t u × GoesOnTo c resumed.Freed d
-Resumes c t (Err refusal.Exhausted) d u = IsReady t u × GoesOnTo c resumed.Refused d
-Resumes c t (Err refusal.Spent) d u = IsReady t u × GoesOnTo c resumed.Spent d
-Resumes c t (Err refusal.Interrupted) d u = IsReady t u × GoesOnTo c resumed.Busy d
+Resumes c t (Ok (Some number)) d u = (block : Block) × NamesOneMore t number block u × GoesOnTo c (resumed.Given block) d
+Resumes c t (Ok None) d u = HasSlotReady t u × GoesOnTo c resumed.Freed d
+Resumes c t (Err refusal.Exhausted) d u = HasSlotReady t u × GoesOnTo c resumed.Refused d
+Resumes c t (Err refusal.Spent) d u = HasSlotReady t u × GoesOnTo c resumed.Spent d
+Resumes c t (Err refusal.Interrupted) d u = HasSlotReady t u × GoesOnTo c resumed.Busy d
 Resumes c t (Err refusal.NoMemory) d u = Stays c t d u
 Resumes c t (Err cause) d u = ⊥
 
@@ -154,12 +154,12 @@ abbrev pub HasResumed : Cache → Table → Result (Option ℕ) Refusal → Cach
 HasResumed c t = Answers (resume_bar c.pass) (Resumes c t) c t
 
 -- the usable words of the block of this number are told; nothing has happened, and a call may be under way
-abbrev pub Counts : Table → ℕ → Result ℕ Refusal → Type 0
-Counts t number (Ok words) = Of t number (λ block. words ≡ usable_words block.need)
-Counts t number (Err cause) = (cause ≡ refusal.NoBlock) × (named t number ≡ None)
+abbrev pub TellsWords : Table → ℕ → Result ℕ Refusal → Type 0
+TellsWords t number (Ok words) = Of t number (λ block. words ≡ usable_words block.need)
+TellsWords t number (Err cause) = (cause ≡ refusal.NoBlock) × (named t number ≡ None)
 
 abbrev pub HasCounted : Cache → Table → ℕ → Result ℕ Refusal → Cache → Table → Type 0
-HasCounted c t number result d u = Counts t number result × (d ≡ c) × (u ≡ t)
+HasCounted c t number result d u = TellsWords t number result × (d ≡ c) × (u ≡ t)
 
 -- a call on the cache and the table of a hand, whose heap stays
 abbrev pub Makes : {A : Type 0} → (Cache → Table → Result A Refusal → Cache → Table → Type 0) → Hand → Result A Refusal → Hand → Type 0

@@ -35,23 +35,23 @@ range_bar pass table number from count =
     (barred (lacks_range (named table number) from count) refusal.NoWord None))
 
 -- a pass made these calls on words, one after the other, each of one step
-abbrev pub Leads : Cache → List Made → Cache → Type 0
-Leads c made d = (h : Heap) × IsOf h c.pass × Asked (λ p q. LeadsBy (CallsOnWord h) p made q) c d
+abbrev pub MadeLead : Cache → List Made → Cache → Type 0
+MadeLead c made d = (h : Heap) × IsOf h c.pass × Asked (λ p q. LeadsBy (CallsOnWord h) p made q) c d
 
 -- each word of the range was written, in their order
 abbrev pub WritesRange : Cache → Table → ℕ → ℕ → List ℕ → Result (Unit {0}) Refusal → Cache → Table → Type 0
-WritesRange c t number from words (Ok done) d u = Of t number (λ block. Leads c (wrote_from block.place block.need from words) d) × (u ≡ t)
+WritesRange c t number from words (Ok done) d u = Of t number (λ block. MadeLead c (wrote_from block.place block.need from words) d) × (u ≡ t)
 WritesRange c t number from words (Err cause) d u = ⊥
 
 -- each word of the range was read, and these were found
 abbrev pub ReadsRange : Cache → Table → ℕ → ℕ → List ℕ → Result (Unit {0}) Refusal → Cache → Table → Type 0
-ReadsRange c t number from found (Ok done) d u = Of t number (λ block. Leads c (found_from block.place block.need from found) d) × (u ≡ t)
+ReadsRange c t number from found (Ok done) d u = Of t number (λ block. MadeLead c (found_from block.place block.need from found) d) × (u ≡ t)
 ReadsRange c t number from found (Err cause) d u = ⊥
 
 -- each usable word was written: word i with from + i, modulo 2^64
 abbrev pub Fills : Cache → Table → ℕ → ℕ → Result (Unit {0}) Refusal → Cache → Table → Type 0
 Fills c t number from (Ok done) d u =
-    Of t number (λ block. Leads c (wrote block.place block.need from (usable_words block.need)) d) × (u ≡ t)
+    Of t number (λ block. MadeLead c (wrote block.place block.need from (usable_words block.need)) d) × (u ≡ t)
 Fills c t number from (Err cause) d u = ⊥
 
 -- each usable word was read, and they add up to this, modulo 2^64

@@ -13,6 +13,10 @@ pub record Tends (h : Heap) (c : Cache) (blocks : List Block) : Type 0 where
   pub cache : IsCache h c
   pub holds : Holds c blocks
 
+-- the heap that the hand has a share in
+abbrev pub heap_of : Hand → Heap
+heap_of hand = (arc_value hand.heap).heap
+
 -- the cache is one in front of the heap that the hand has a share in, and its caller holds the blocks of the table
 abbrev pub IsTended : Hand → Type 0
-IsTended hand = Tends (arc_value hand.heap) hand.cache (blocks_of hand.table.slots.items)
+IsTended hand = Tends (heap_of hand) hand.cache (blocks_of hand.table.slots.items)

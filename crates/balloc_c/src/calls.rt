@@ -2,7 +2,7 @@
 
 ghost use Rattle.std.specs.Prelude.{ℕ, ◌≡◌, ◌<◌, None, length};
 ghost use Rattle.errand_steps.specs.Begins.{IsIdle};
-ghost use Rattle.balloc_c.specs.Outcomes.{Counts, HasAllocated, HasFreed, HasPut, HasRead, HasResumed, HasTaken, HasWritten};
+ghost use Rattle.balloc_c.specs.Outcomes.{TellsWords, HasAllocated, HasFreed, HasPut, HasRead, HasResumed, HasTaken, HasWritten};
 ghost use Rattle.balloc_c.specs.Closed.{FreesSlot, FreesTable, HasFreedAll};
 ghost use Rattle.balloc_c.specs.Slots.{block_at, blocks_of, set_block};
 ghost use Rattle.balloc_c.specs.Tended.{Tends};
@@ -142,7 +142,7 @@ pub fn resume(heap: &Heap, cache: &mut Cache, table: &mut Table) -> Result<Optio
 
 /// How many usable words the block of this number has.
 pub fn words(table: &Table, number: u64) -> Result<u64, Refusal>
-    ensures { Counts table.now number result }
+    ensures { TellsWords table.now number result }
 {
     let Some(index) = table.find(number) else {
         return Err(Refusal::NoBlock);

@@ -4,11 +4,12 @@ ghost use Rattle.std.specs.Prelude.{◌≡◌, []};
 ghost use Rattle.std.specs.Arc.{arc_value};
 ghost use Rattle.block_cache.specs.Caches.{Holds, IsCache};
 
+use crate::counted::Counted;
 use crate::refusal::Refusal;
 use crate::table::Table;
 use crate::{calls, ranges};
 use block_cache::cache::Cache;
-use live_heap::heap::Heap;
+use shared_heap::shared::SharedHeap;
 use std::alloc::Global;
 use std::sync::Arc;
 
@@ -16,21 +17,21 @@ use std::sync::Arc;
 /// the heap's.
 #[derive(Drop)]
 pub struct Hand {
-    heap: Arc<Heap, Global>,
+    heap: Arc<SharedHeap, Global>,
     cache: Cache,
     table: Table,
 }
 
 impl Hand {
-    ghost use Rattle.balloc_c.specs.Outcomes.{Counts, HasAllocated, HasFreed, HasPut, HasRead, HasResumed, HasTaken, HasWritten, Makes, counts_of};
-    ghost use Rattle.balloc_c.specs.Closed.{Leaves};
+    ghost use Rattle.balloc_c.specs.Outcomes.{TellsWords, HasAllocated, HasFreed, HasPut, HasRead, HasResumed, HasTaken, HasWritten, Makes, counts_of};
+    ghost use Rattle.balloc_c.specs.Closed.{LeavesBlocks, TellsCensus};
     ghost use Rattle.balloc_c.specs.Slots.{blocks_of};
     ghost use Rattle.balloc_c.specs.Ranges.{HasFilled, HasReadRange, HasSummed, HasWrittenRange, IsFound};
     ghost use Rattle.balloc_c.specs.Tended.{IsTended};
 
     /// A pass with no block.
-    pub fn new(alloc: Global, heap: Arc<Heap, Global>, cache: Cache) -> Hand
-        requires cache { IsCache (arc_value heap) cache }
+    pub fn new(alloc: Global, heap: Arc<SharedHeap, Global>, cache: Cache) -> Hand
+        requires cache { IsCache (arc_value heap).heap cache }
         requires holds { Holds cache [] }
         ensures tended { IsTended result }
         ensures parts { (arc_value result.heap ≡ arc_value heap) × (result.cache ≡ cache) × (blocks_of result.table.slots.items ≡ []) }
@@ -48,7 +49,7 @@ impl Hand {
         ensures tended { IsTended self.new }
         ensures made { Makes (λ c t. HasAllocated c t words) self.old result self.new }
     {
-        calls::alloc(&self.heap, &mut self.cache, &mut self.table, words)
+        calls::alloc(self.heap.heap(), &mut self.cache, &mut self.table, words)
     }
 
     /// Frees the block of this number.
@@ -57,19 +58,37 @@ impl Hand {
         ensures tended { IsTended self.new }
         ensures made { Makes (λ c t. HasFreed c t number) self.old result self.new }
     {
-        calls::free(&self.heap, &mut self.cache, &mut self.table, number)
+        calls::free(self.heap.heap(), &mut self.cache, &mut self.table, number)
     }
 
     /// Frees all its blocks, those in magazines too, where they are to be freed.
     pub fn leave(&mut self, frees: bool) -> Result<(), Refusal>
         requires { IsTended self.old }
         ensures tended { IsTended self.new }
-        ensures left { Leaves frees self.old result self.new }
+        ensures left { LeavesBlocks frees self.old result self.new }
     {
         if frees {
-            calls::free_all(&self.heap, &mut self.cache, &mut self.table)
+            calls::free_all(self.heap.heap(), &mut self.cache, &mut self.table)
         } else {
             Ok(())
+        }
+    }
+
+    /// Gives its pass back. Where it was the last one of the heap, the heap closes, and what it holds is told.
+    pub fn end(self, alloc: Global, counted: &mut Counted)
+        requires { IsTended self }
+        ensures { TellsCensus self counted.old counted.new }
+    {
+        let Hand {
+            heap,
+            cache,
+            table: _,
+        } = self;
+        heap.give_back(cache.leave());
+        if let Some(last) = Arc::into_inner(heap) {
+            if let Some(closed) = last.close(alloc) {
+                counted.tell(&closed);
+            }
         }
     }
 
@@ -79,12 +98,12 @@ impl Hand {
         ensures tended { IsTended self.new }
         ensures made { Makes (λ c t. HasResumed c t) self.old result self.new }
     {
-        calls::resume(&self.heap, &mut self.cache, &mut self.table)
+        calls::resume(self.heap.heap(), &mut self.cache, &mut self.table)
     }
 
     /// How many usable words the block of this number has.
     pub fn words(&self, number: u64) -> Result<u64, Refusal>
-        ensures { Counts self.now.table number result }
+        ensures { TellsWords self.now.table number result }
     {
         calls::words(&self.table, number)
     }
@@ -95,7 +114,14 @@ impl Hand {
         ensures tended { IsTended self.new }
         ensures made { Makes (λ c t. HasWritten c t number i value) self.old result self.new }
     {
-        calls::write(&self.heap, &mut self.cache, &self.table, number, i, value)
+        calls::write(
+            self.heap.heap(),
+            &mut self.cache,
+            &self.table,
+            number,
+            i,
+            value,
+        )
     }
 
     /// Reads a word of the block of this number.
@@ -104,7 +130,7 @@ impl Hand {
         ensures tended { IsTended self.new }
         ensures made { Makes (λ c t. HasRead c t number i) self.old result self.new }
     {
-        calls::read(&self.heap, &mut self.cache, &self.table, number, i)
+        calls::read(self.heap.heap(), &mut self.cache, &self.table, number, i)
     }
 
     /// Writes words of the block of this number in a row, from one on.
@@ -114,7 +140,7 @@ impl Hand {
         ensures made { Makes (λ c t. HasWrittenRange c t number from words.now) self.old result self.new }
     {
         ranges::write_range(
-            &self.heap,
+            self.heap.heap(),
             &mut self.cache,
             &self.table,
             number,
@@ -131,7 +157,7 @@ impl Hand {
         ensures found { IsFound result words.old words.new }
     {
         ranges::read_range(
-            &self.heap,
+            self.heap.heap(),
             &mut self.cache,
             &self.table,
             number,
@@ -146,7 +172,7 @@ impl Hand {
         ensures tended { IsTended self.new }
         ensures made { Makes (λ c t. HasFilled c t number from) self.old result self.new }
     {
-        ranges::fill(&self.heap, &mut self.cache, &self.table, number, from)
+        ranges::fill(self.heap.heap(), &mut self.cache, &self.table, number, from)
     }
 
     /// The sum of the words of the block of this number, modulo 2^64.
@@ -155,7 +181,7 @@ impl Hand {
         ensures tended { IsTended self.new }
         ensures made { Makes (λ c t. HasSummed c t number) self.old result self.new }
     {
-        ranges::sum(&self.heap, &mut self.cache, &self.table, number)
+        ranges::sum(self.heap.heap(), &mut self.cache, &self.table, number)
     }
 
     /// Puts the block of this number on a shelf.
@@ -164,7 +190,13 @@ impl Hand {
         ensures tended { IsTended self.new }
         ensures made { Makes (λ c t. HasPut c t number shelf) self.old result self.new }
     {
-        calls::put(&self.heap, &mut self.cache, &mut self.table, number, shelf)
+        calls::put(
+            self.heap.heap(),
+            &mut self.cache,
+            &mut self.table,
+            number,
+            shelf,
+        )
     }
 
     /// Takes the block that lies on a shelf. Answers its number.
@@ -173,7 +205,7 @@ impl Hand {
         ensures tended { IsTended self.new }
         ensures made { Makes (λ c t. HasTaken c t shelf) self.old result self.new }
     {
-        calls::take(&self.heap, &mut self.cache, &mut self.table, shelf)
+        calls::take(self.heap.heap(), &mut self.cache, &mut self.table, shelf)
     }
 
     /// What the pass has counted.

@@ -21,17 +21,6 @@ pub struct PassHandle {
 impl PassHandle {
     ghost use Rattle.balloc_c.specs.Tended.{IsTended};
 
-    /// Nothing.
-    fn empty(alloc: Global) -> PassHandle
-        ensures { result.held.hand ≡ None }
-    {
-        PassHandle {
-            live: false,
-            held: Held::none(alloc),
-            rest: [0; 6],
-        }
-    }
-
     /// Whether it holds a pass.
     pub fn live(&self) -> bool
         ensures { result ≡ is_some self.now.held.hand }
@@ -46,12 +35,8 @@ impl PassHandle {
         ensures value { self.old.held.hand ≡ option_map (λ hand. hand.value) result }
     {
         if self.live {
-            let full = std::mem::replace(self, PassHandle::empty(alloc));
-            let PassHandle {
-                live: _,
-                held,
-                rest: _,
-            } = full;
+            self.live = false;
+            let held = std::mem::replace(&mut self.held, Held::none(alloc));
             Some(held.into_parts().into_box())
         } else {
             None
@@ -64,16 +49,8 @@ impl PassHandle {
         requires tended { IsTended hand.value }
         ensures { self.new.held.hand ≡ Some hand.value }
     {
-        let full = PassHandle {
-            live: true,
-            held: Held::of_parts(Parts::of(hand)),
-            rest: [0; 6],
-        };
-        let PassHandle {
-            live: _,
-            held,
-            rest: _,
-        } = std::mem::replace(self, full);
+        self.live = true;
+        let held = std::mem::replace(&mut self.held, Held::of_parts(Parts::of(hand)));
         held.forget();
     }
 }

@@ -7,6 +7,7 @@
 #![tactic(auto)]
 
 mod calls;
+mod counted;
 mod hand;
 mod handle;
 mod held;
@@ -21,11 +22,12 @@ ghost use Rattle.std.specs.Prelude.{ℕ, ◌≡◌, Result, length};
 ghost use Rattle.balloc_c.specs.declared.hand.Hand.{Hand};
 ghost use Rattle.balloc_c.specs.declared.refusal.Refusal.{Refusal};
 ghost use Rattle.balloc_c.specs.Codes.{code_in, resumed_code, resumed_number, value_in};
-ghost use Rattle.balloc_c.specs.Closed.{Closes, TellsCounts};
+ghost use Rattle.balloc_c.specs.Closed.{Closes, ClosesHeap, TellsCounts};
 ghost use Rattle.balloc_c.specs.Opened.{Opens, numbers};
 ghost use Rattle.balloc_c.specs.Ranges.{HasFilled, HasReadRange, HasSummed, HasWrittenRange, IsFound};
 ghost use Rattle.balloc_c.specs.Outcomes.{HasAllocated, HasCounted, HasFreed, HasPut, HasRead, HasResumed, HasTaken, HasWritten, Makes, Told};
 
+use counted::Counted;
 use handle::PassHandle;
 use heap_geometry::geometry::Geometry;
 use opening::open_all;
@@ -77,6 +79,20 @@ fn code_resumed(outcome: Result<Option<u64>, Refusal>, out: &mut u64) -> i32
     }
 }
 
+/// The code of a call by the pass that a handle holds, or that it holds none.
+macro_rules! answered {
+    ($alloc:ident, $pass:ident, $hand:ident => $call:expr, $outcome:ident => $code:expr) => {
+        match $pass.take($alloc) {
+            Some(mut $hand) => {
+                let $outcome = $call;
+                $pass.give($hand);
+                $code
+            }
+            None => Refusal::Closed.code(),
+        }
+    };
+}
+
 /// Opens a heap with one caller for each handle, and puts a pass of it into each, with magazines of this depth.
 #[unsafe(no_mangle)]
 pub extern "C" fn balloc_open(
@@ -103,7 +119,7 @@ pub extern "C" fn balloc_open(
 
 /// Closes a pass, and tells how many exchanges it won and lost. Its blocks are freed first, those in
 /// magazines too, or stay allocated.
-/// The last pass of a heap takes the heap with it.
+/// The last pass of a heap takes the heap with it, and tells what that holds, where all passes were closed in no call.
 #[unsafe(no_mangle)]
 pub extern "C" fn balloc_close(
     alloc: Global,
@@ -111,15 +127,19 @@ pub extern "C" fn balloc_close(
     frees: bool,
     won: &mut u64,
     lost: &mut u64,
+    census: &mut Counted,
 ) -> i32
     ensures told { Closes frees pass.old.held.hand result won.old lost.old won.new lost.new pass.new.held.hand }
+    ensures census { ClosesHeap pass.old.held.hand result census.old census.new }
 {
+    census.counted = false;
     match pass.take(alloc) {
         Some(mut hand) => match hand.leave(frees) {
             Ok(()) => {
                 let (_, hand_won, hand_lost, _) = hand.counts();
                 *won = hand_won;
                 *lost = hand_lost;
+                Box::into_inner(hand).end(alloc, census);
                 DONE
             }
             Err(refusal) => {
@@ -170,14 +190,7 @@ pub extern "C" fn balloc_alloc(
     ensures told { Told (Makes (λ c t. HasAllocated c t words)) pass.old.held.hand
         (λ outcome. (result ≡ code_in outcome) × (id.new ≡ value_in outcome id.old)) pass.new.held.hand }
 {
-    match pass.take(alloc) {
-        Some(mut hand) => {
-            let outcome = hand.alloc(words);
-            pass.give(hand);
-            code_with(outcome, id)
-        }
-        None => Refusal::Closed.code(),
-    }
+    answered!(alloc, pass, hand => hand.alloc(words), outcome => code_with(outcome, id))
 }
 
 /// Frees a block.
@@ -186,14 +199,7 @@ pub extern "C" fn balloc_free(alloc: Global, pass: &mut PassHandle, id: u64) -> 
     ensures told { Told (Makes (λ c t. HasFreed c t id)) pass.old.held.hand
         (λ outcome. result ≡ code_in outcome) pass.new.held.hand }
 {
-    match pass.take(alloc) {
-        Some(mut hand) => {
-            let outcome = hand.free(id);
-            pass.give(hand);
-            code_of(outcome)
-        }
-        None => Refusal::Closed.code(),
-    }
+    answered!(alloc, pass, hand => hand.free(id), outcome => code_of(outcome))
 }
 
 /// Goes on with a call that was interrupted, and tells the number of the block that it got.
@@ -202,14 +208,7 @@ pub extern "C" fn balloc_resume(alloc: Global, pass: &mut PassHandle, id: &mut u
     ensures told { Told (Makes (λ c t. HasResumed c t)) pass.old.held.hand
         (λ outcome. (result ≡ resumed_code outcome) × (id.new ≡ resumed_number outcome id.old)) pass.new.held.hand }
 {
-    match pass.take(alloc) {
-        Some(mut hand) => {
-            let outcome = hand.resume();
-            pass.give(hand);
-            code_resumed(outcome, id)
-        }
-        None => Refusal::Closed.code(),
-    }
+    answered!(alloc, pass, hand => hand.resume(), outcome => code_resumed(outcome, id))
 }
 
 /// Tells how many usable words a block has, which may be more than were asked for.
@@ -223,14 +222,7 @@ pub extern "C" fn balloc_words(
     ensures told { Told (Makes (λ c t. HasCounted c t id)) pass.old.held.hand
         (λ outcome. (result ≡ code_in outcome) × (words.new ≡ value_in outcome words.old)) pass.new.held.hand }
 {
-    match pass.take(alloc) {
-        Some(mut hand) => {
-            let outcome = hand.words(id);
-            pass.give(hand);
-            code_with(outcome, words)
-        }
-        None => Refusal::Closed.code(),
-    }
+    answered!(alloc, pass, hand => hand.words(id), outcome => code_with(outcome, words))
 }
 
 /// Writes a word of a block.
@@ -245,14 +237,7 @@ pub extern "C" fn balloc_write(
     ensures told { Told (Makes (λ c t. HasWritten c t id i value)) pass.old.held.hand
         (λ outcome. result ≡ code_in outcome) pass.new.held.hand }
 {
-    match pass.take(alloc) {
-        Some(mut hand) => {
-            let outcome = hand.write(id, i, value);
-            pass.give(hand);
-            code_of(outcome)
-        }
-        None => Refusal::Closed.code(),
-    }
+    answered!(alloc, pass, hand => hand.write(id, i, value), outcome => code_of(outcome))
 }
 
 /// Reads a word of a block.
@@ -267,14 +252,7 @@ pub extern "C" fn balloc_read(
     ensures told { Told (Makes (λ c t. HasRead c t id i)) pass.old.held.hand
         (λ outcome. (result ≡ code_in outcome) × (value.new ≡ value_in outcome value.old)) pass.new.held.hand }
 {
-    match pass.take(alloc) {
-        Some(mut hand) => {
-            let outcome = hand.read(id, i);
-            pass.give(hand);
-            code_with(outcome, value)
-        }
-        None => Refusal::Closed.code(),
-    }
+    answered!(alloc, pass, hand => hand.read(id, i), outcome => code_with(outcome, value))
 }
 
 /// Writes words of a block in a row, from one on: all of them, or none.
@@ -289,14 +267,7 @@ pub extern "C" fn balloc_write_range(
     ensures told { Told (Makes (λ c t. HasWrittenRange c t id from words.now)) pass.old.held.hand
         (λ outcome. result ≡ code_in outcome) pass.new.held.hand }
 {
-    match pass.take(alloc) {
-        Some(mut hand) => {
-            let outcome = hand.write_range(id, from, words);
-            pass.give(hand);
-            code_of(outcome)
-        }
-        None => Refusal::Closed.code(),
-    }
+    answered!(alloc, pass, hand => hand.write_range(id, from, words), outcome => code_of(outcome))
 }
 
 /// Reads words of a block in a row, from one on: all of them, or none.
@@ -311,14 +282,7 @@ pub extern "C" fn balloc_read_range(
     ensures told { Told (Makes (λ c t. HasReadRange c t id from words.old words.new)) pass.old.held.hand
         (λ outcome. (result ≡ code_in outcome) × IsFound outcome words.old words.new) pass.new.held.hand }
 {
-    match pass.take(alloc) {
-        Some(mut hand) => {
-            let outcome = hand.read_range(id, from, words);
-            pass.give(hand);
-            code_of(outcome)
-        }
-        None => Refusal::Closed.code(),
-    }
+    answered!(alloc, pass, hand => hand.read_range(id, from, words), outcome => code_of(outcome))
 }
 
 /// Fills a block: word i with from + i, modulo 2^64.
@@ -327,14 +291,7 @@ pub extern "C" fn balloc_fill(alloc: Global, pass: &mut PassHandle, id: u64, fro
     ensures told { Told (Makes (λ c t. HasFilled c t id from)) pass.old.held.hand
         (λ outcome. result ≡ code_in outcome) pass.new.held.hand }
 {
-    match pass.take(alloc) {
-        Some(mut hand) => {
-            let outcome = hand.fill(id, from);
-            pass.give(hand);
-            code_of(outcome)
-        }
-        None => Refusal::Closed.code(),
-    }
+    answered!(alloc, pass, hand => hand.fill(id, from), outcome => code_of(outcome))
 }
 
 /// Tells the sum of the words of a block, modulo 2^64.
@@ -343,14 +300,7 @@ pub extern "C" fn balloc_sum(alloc: Global, pass: &mut PassHandle, id: u64, sum:
     ensures told { Told (Makes (λ c t. HasSummed c t id)) pass.old.held.hand
         (λ outcome. (result ≡ code_in outcome) × (sum.new ≡ value_in outcome sum.old)) pass.new.held.hand }
 {
-    match pass.take(alloc) {
-        Some(mut hand) => {
-            let outcome = hand.sum(id);
-            pass.give(hand);
-            code_with(outcome, sum)
-        }
-        None => Refusal::Closed.code(),
-    }
+    answered!(alloc, pass, hand => hand.sum(id), outcome => code_with(outcome, sum))
 }
 
 /// Puts a block on a shelf.
@@ -359,14 +309,7 @@ pub extern "C" fn balloc_put(alloc: Global, pass: &mut PassHandle, id: u64, shel
     ensures told { Told (Makes (λ c t. HasPut c t id shelf)) pass.old.held.hand
         (λ outcome. result ≡ code_in outcome) pass.new.held.hand }
 {
-    match pass.take(alloc) {
-        Some(mut hand) => {
-            let outcome = hand.put(id, shelf);
-            pass.give(hand);
-            code_of(outcome)
-        }
-        None => Refusal::Closed.code(),
-    }
+    answered!(alloc, pass, hand => hand.put(id, shelf), outcome => code_of(outcome))
 }
 
 /// Takes the block that lies on a shelf, and tells its number.
@@ -375,12 +318,5 @@ pub extern "C" fn balloc_take(alloc: Global, pass: &mut PassHandle, shelf: u8, i
     ensures told { Told (Makes (λ c t. HasTaken c t shelf)) pass.old.held.hand
         (λ outcome. (result ≡ code_in outcome) × (id.new ≡ value_in outcome id.old)) pass.new.held.hand }
 {
-    match pass.take(alloc) {
-        Some(mut hand) => {
-            let outcome = hand.take(shelf);
-            pass.give(hand);
-            code_with(outcome, id)
-        }
-        None => Refusal::Closed.code(),
-    }
+    answered!(alloc, pass, hand => hand.take(shelf), outcome => code_with(outcome, id))
 }

@@ -16,6 +16,7 @@ use heap_geometry::geometry::Geometry;
 use live_heap::heap::Heap;
 use live_heap::laws::blocks::passes_hold_exactly;
 use live_heap::pass::Pass;
+use shared_heap::shared::SharedHeap;
 use std::alloc::{AllocError, Global};
 use std::sync::Arc;
 
@@ -95,11 +96,13 @@ fn give_all(
     ensures { IfOk result (λ _. (h : Heap) × (h.layout ≡ geometry) × HoldNew h depth geometry.callers passes.new) }
 {
     let (heap, made) = Heap::open(alloc, geometry)?;
-    let heap = Arc::new(alloc, heap)?;
+    let shared = SharedHeap::new(alloc, heap)?;
+    let heap = Arc::new(alloc, shared)?;
     let mut number = 0;
     for pass in made {
         let share = Arc::try_clone(&heap)?;
-        let cache = cached(alloc, &heap, pass, depth)?;
+        let own = heap.heap();
+        let cache = cached(alloc, own, pass, depth)?;
         let hand = Box::new(alloc, Hand::new(alloc, share, cache))?;
         drop(passes[number].take(alloc));
         passes[number].give(hand);

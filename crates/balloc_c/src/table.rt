@@ -30,7 +30,7 @@ pub struct Table {
 }
 
 impl Table {
-    ghost use Rattle.balloc_c.specs.Numbers.{Gains, HasSpare, IsReady, Keeps, named, number_at};
+    ghost use Rattle.balloc_c.specs.Numbers.{NamesOneMore, HasSpare, HasSlotReady, KeepsNumbers, named, number_at};
     ghost use Rattle.balloc_c.specs.Slots.{IsVacant, HasAged, block_at, blocks_of, set_block};
 
     /// No block.
@@ -54,9 +54,9 @@ impl Table {
     /// or a new one.
     pub fn vacant(&mut self) -> Result<usize, Refusal>
         ensures blocks { blocks_of self.new.slots.items ≡ blocks_of self.old.slots.items }
-        ensures keeps { Keeps self.old self.new }
+        ensures keeps { KeepsNumbers self.old self.new }
         ensures vacant { IfOk result (λ index. IsVacant self.new.slots.items index × (index < 2 ^ 32)) }
-        ensures ready { IfOk result (λ index. IsReady self.old self.new) }
+        ensures ready { IfOk result (λ index. HasSlotReady self.old self.new) }
         ensures refused { IfErr result (λ cause. cause ≡ refusal.NoMemory) }
     {
         let index = self.spare as usize;
@@ -69,7 +69,7 @@ impl Table {
     /// One slot more, which is the spare one.
     fn grow(&mut self) -> Result<usize, Refusal>
         ensures blocks { blocks_of self.new.slots.items ≡ blocks_of self.old.slots.items }
-        ensures keeps { Keeps self.old self.new }
+        ensures keeps { KeepsNumbers self.old self.new }
         ensures vacant { IfOk result (λ index. IsVacant self.new.slots.items index × (index < 2 ^ 32)) }
         ensures spare { IfOk result (λ index. HasSpare self.new) }
         ensures refused { IfErr result (λ cause. cause ≡ refusal.NoMemory) }
@@ -139,7 +139,7 @@ impl Table {
         requires vacant { IsVacant self.old.slots.items index }
         requires small { index < 2 ^ 32 }
         ensures slots { self.new.slots.items ≡ set_block self.old.slots.items index (Some block) }
-        ensures gains { Gains self.old result block self.new }
+        ensures gains { NamesOneMore self.old result block self.new }
     {
         self.unspare(index);
         let _ = self.set(index, Some(block));

@@ -10,9 +10,9 @@ use Rattle.errand_steps.specs.Calls.{Call, free, put}
 use Rattle.errand_steps.specs.Errands.{settle_of}
 use Rattle.errand_steps.specs.Points.{is_idle}
 use Rattle.errand_steps.proofs.AnswerLemmas.{done-told}
-use Rattle.step_core.specs.Keeping.{Leaves}
-use Rattle.step_core.specs.Moments.{IsMoment}
-use Rattle.step_core.proofs.MomentAnswers.{found, moment-given, moment-settles}
+use Rattle.step_machine.specs.Keeping.{LeavesPlace}
+use Rattle.step_machine.specs.Moments.{IsMoment}
+use Rattle.step_machine.proofs.MomentAnswers.{found, moment-given, moment-settles}
 use Rattle.live_heap.specs.declared.answers.Ending.TheVariants as ending
 use Rattle.live_heap.specs.declared.answers.Full.{Full}
 use Rattle.live_heap.specs.declared.answers.Step.{Step}
@@ -29,7 +29,7 @@ use Rattle.benches.specs.Hands.{HasMade, Rests}
 abbrev pub KeepsOthers : Type 0
 KeepsOthers =
     (h : Heap) (p q : Pass) (call : Call) (steps : ℕ) (answer : Reply) (block : Block) → IsOf h p → IsOf h q → HasCalled p call steps answer q
-    → Leaves call block.place → Owns p block → Owns q block
+    → LeavesPlace call block.place → Owns p block → Owns q block
 
 abbrev pub GivesAnother : Type 0
 GivesAnother =

@@ -2,7 +2,7 @@
 use Rattle.std.specs.Prelude.{◌≡◌, ◌≢◌, ◌∷◌, Option, Some, None, IfSome, List, [], map}
 use Rattle.errand_steps.specs.Begins.{IsIdle}
 use Rattle.errand_steps.specs.Calls.{Call}
-use Rattle.step_core.specs.Keeping.{Leaves}
+use Rattle.step_machine.specs.Keeping.{LeavesPlace}
 use Rattle.live_heap.specs.declared.block.Block.{Block}
 use Rattle.live_heap.specs.declared.heap.Heap.{Heap}
 use Rattle.live_heap.specs.declared.pass.Pass.{Pass}
@@ -17,7 +17,7 @@ Rests h p = IsOf h p × IsIdle p.errand
 -- the pass has made this call: it rests again, and owns each block that it owned but the one that the call gave away; and the block that the call got is its own, and none of those that it had
 pub record HasMade (h : Heap) (p : Pass) (call : Call) (got : Option Block) (q : Pass) : Type 0 where
   pub rests : Rests h q
-  pub keeps : (block : Block) → Leaves call block.place → Owns p block → Owns q block
+  pub keeps : (block : Block) → LeavesPlace call block.place → Owns p block → Owns q block
   pub new : IfSome got (λ block. Owns q block × ((other : Block) → Owns p other → other.place ≢ block.place))
 
 -- the block that a call has got, if any

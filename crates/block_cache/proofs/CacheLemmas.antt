@@ -3,7 +3,7 @@ use Rattle.std.proofs.Common.{ℕ, ◌≡◌, ◌≢◌, ◌≤◌, ◌++◌, Li
 use Rattle.std.specs.Prelude.{All}
 use Rattle.std.proofs.lemmas.List.Elements.{All-nil, All-cons, All-head, All-tail}
 use Rattle.errand_steps.specs.Begins.{IsBusy, IsIdle}
-use Rattle.step_core.specs.Keeping.{Leaves}
+use Rattle.step_machine.specs.Keeping.{LeavesPlace}
 use Rattle.live_heap.specs.declared.block.Block.{Block}
 use Rattle.live_heap.specs.declared.heap.Heap.{Heap}
 use Rattle.live_heap.specs.declared.pass.Pass.{Pass}
@@ -47,7 +47,7 @@ hand-front h p xs ys hand =
             steps = w.steps;
             calling = w.calling;
             tried = w.tried;
-            leaves = all-front (λ block. Leaves w.call block.place) xs ys w.leaves;
+            leaves = all-front (λ block. LeavesPlace w.call block.place) xs ys w.leaves;
           };
     }
 

@@ -28,7 +28,7 @@ use Rattle.live_heap.proofs.WholeLaws.{pass-apart}
 use Rattle.block_cache.specs.declared.cache.Cache.{Cache}
 use Rattle.block_cache.specs.Caches.{HasKept, HasServed, IsCache, KeepsMagazines, cached_in, stacks_in}
 use Rattle.block_cache.specs.Flushes.{FlushTells, Frees, HasStopped}
-use Rattle.block_cache.specs.Hidden.{Gains, Loses, Shows, ShowsSame, hidden_at, hidden_pool_of}
+use Rattle.block_cache.specs.Hidden.{OwnsOneMore, OwnsOneLess, Shows, ShowsSame, hidden_at, hidden_pool_of}
 use Rattle.block_cache.specs.Magazines.{leaving, stacks_of}
 use Rattle.block_cache.specs.declared.magazines.Magazines.{Magazines}
 use Rattle.block_cache.specs.Whole.{IsWholeCall, RestsAt, asked, kept, served}
@@ -46,7 +46,7 @@ apart-from h d place block of is at other found ne =
     (separate-found h.layout pool (sound-of h.layout (seen d.pass) legal) place at block other own.0 (hidden-found d at other found) (λ same. ne (sym same))).apart
 
 -- a magazine gave a block
-served-gains : (h : Heap) (c d : Cache) (words : ℕ) (block : Block) → RestsAt h c → IsCache h d → HasServed c words block d → Gains c words block.place d
+served-gains : (h : Heap) (c d : Cache) (words : ℕ) (block : Block) → RestsAt h c → IsCache h d → HasServed c words block d → OwnsOneMore c words block.place d
 served-gains h c d words block rests is has =
     let p = c.pass in
     let split = top-splits has.class block (stacks_in c) (stacks_in d) has.top in
@@ -74,7 +74,7 @@ served-gains h c d words block rests is has =
     }
 
 -- a magazine kept one
-kept-loses : (c d : Cache) (block : Block) → HasKept c block d → Loses c block.place d
+kept-loses : (c d : Cache) (block : Block) → HasKept c block d → OwnsOneLess c block.place d
 kept-loses c d block has =
     let p = c.pass in
     let split = top-splits has.class block (stacks_in d) (stacks_in c) has.top in

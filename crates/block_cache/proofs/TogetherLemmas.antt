@@ -16,7 +16,7 @@ use Rattle.errand_steps.specs.declared.point.Point.TheVariants as point
 use Rattle.errand_steps.specs.Begins.{IsIdle}
 use Rattle.errand_steps.specs.Points.{is_idle}
 use Rattle.errand_steps.specs.Calls.{Call, alloc, free}
-use Rattle.call_events.specs.Stages.{Stage, asking, asking_run, refused, given, freeing, freed, none, stage_of}
+use Rattle.call_events.specs.Stages.{StageOfCall, asking, asking_run, refused, given, freeing, freed, none, stage_of}
 use Rattle.call_events.specs.UnderWay.{SoFar}
 use Rattle.live_heap.specs.declared.block.Block.{Block}
 use Rattle.live_heap.specs.declared.heap.Heap.{Heap}
@@ -29,7 +29,7 @@ use Rattle.live_heap.proofs.CallsOne.{block-same}
 use Rattle.live_heap.proofs.Exact.{calling-exact, order-exact}
 use Rattle.live_heap.proofs.Holding.{holds-out}
 use Rattle.block_cache.specs.declared.cache.Cache.{Cache}
-use Rattle.block_cache.specs.Accounts.{Began, HasAllInCall, IsAmong, IsKept}
+use Rattle.block_cache.specs.Accounts.{Began, HasAllInCall, IsAmong, KeepsUnderWay}
 use Rattle.block_cache.specs.Caches.{Holds, HoldsBlock, IsCache, cached_in}
 use Rattle.block_cache.proofs.AccountLemmas.{rests}
 use Rattle.block_cache.proofs.CacheLemmas.{all-back}
@@ -44,14 +44,14 @@ idle-stage (point.Partial p o) idle = absurd (cc)
 idle-stage (point.Large p o) idle = absurd (cc)
 
 -- what a call under way keeps, and what its caller has then
-abbrev Together : Call → Stage → List Block → List Block → Type 0
-Together call at blocks had = (kept : List Block) × IsKept at kept × ChangesHandSoFar call at had (kept ++ blocks)
+abbrev Together : Call → StageOfCall → List Block → List Block → Type 0
+Together call at blocks had = (kept : List Block) × KeepsUnderWay at kept × ChangesHandSoFar call at had (kept ++ blocks)
 
 abbrev token : (place : ℕ) (need : Need) → IsNeed need → Block
 token place need is = record { place = place; need = need; is_need = is }
 
 so-far-together :
-    (caller : ℕ) (call : Call) (at : Stage) (events : List Event) (blocks had : List Block) → IsTried call → SoFar caller call at events
+    (caller : ℕ) (call : Call) (at : StageOfCall) (events : List Event) (blocks had : List Block) → IsTried call → SoFar caller call at events
     → Began call blocks had → Together call at blocks had
 so-far-together caller (alloc words) (asking n class looked) events blocks had tried so began = ([], refl, sym began)
 so-far-together caller (alloc words) (asking_run n units) events blocks had tried so began = ([], refl, sym began)
@@ -74,11 +74,11 @@ so-far-together caller call at events blocks had tried so began = absurd tried
 
 pub together :
     (h : Heap) (c : Cache) (held : List Block) → IsCache h c → Holds c held
-    → (kept : List Block) × IsKept (stage_of c.pass.errand.point) kept × HoldsExactly c.pass (kept ++ (held ++ cached_in c))
+    → (kept : List Block) × KeepsUnderWay (stage_of c.pass.errand.point) kept × HoldsExactly c.pass (kept ++ (held ++ cached_in c))
 together h c held is all =
     let e = c.pass.errand in
     elim (cases_Bool (is_idle e.point)) [
-      | inl idle ↦ ([], subst (λ at. IsKept at []) (sym (idle-stage e.point idle)) refl, all.at_rest idle)
+      | inl idle ↦ ([], subst (λ at. KeepsUnderWay at []) (sym (idle-stage e.point idle)) refl, all.at_rest idle)
       | inr busy ↦
           let w = all.in_call busy in
           let t =

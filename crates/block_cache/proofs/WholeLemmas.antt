@@ -10,8 +10,8 @@ use Rattle.errand_steps.specs.declared.reply.Reply.{Reply}
 use Rattle.errand_steps.specs.declared.reply.Reply.TheVariants as reply
 use Rattle.errand_steps.specs.Begins.{IsIdle}
 use Rattle.errand_steps.specs.Calls.{Call, alloc, free, put, read, take, write}
-use Rattle.step_core.specs.Cores.{OwnsAfter}
-use Rattle.step_core.specs.Keeping.{Leaves}
+use Rattle.step_machine.specs.Cores.{OwnsAfter}
+use Rattle.step_machine.specs.Keeping.{LeavesPlace}
 use Rattle.live_heap.specs.declared.answers.AllocAnswer.{AllocAnswer}
 use Rattle.live_heap.specs.declared.answers.AllocAnswer.TheVariants as answer
 use Rattle.live_heap.specs.declared.answers.FreeAnswer.TheVariants as free_answer
@@ -157,7 +157,7 @@ pub same-cached : (c d : Cache) → KeepsMagazines c d → cached_in d ≡ cache
 same-cached c d keeps = ap (λ (m : Magazines). all_in (stacks_of m.stacks.items)) keeps.magazines
 
 pub whole-keeps : (h : Heap) (c d : Cache) (call : Call) (ended : Reply) (place : ℕ) (need : Need) → IsWholeCall h c call ended d
-    → Leaves call place → HoldsAt c place need → HoldsAt d place need
+    → LeavesPlace call place → HoldsAt c place need → HoldsAt d place need
 whole-keeps h c d call ended place need w leaves holds =
     elim w.made [
       | served words block is_alloc is_given has ↦
@@ -169,7 +169,7 @@ whole-keeps h c d call ended place need w leaves holds =
           )
       | kept block is_free is_freed held room has ↦
           let split = top-splits has.class block (stacks_in d) (stacks_in c) has.top in
-          let ne : place ≢ block.place = subst (λ (x : Call). Leaves x place) is_free leaves in (
+          let ne : place ≢ block.place = subst (λ (x : Call). LeavesPlace x place) is_free leaves in (
             subst (λ (p : Pass). OwnsAt p place need) (sym has.pass) holds.0,
             subst (All (λ (other : Block). other.place ≢ place)) (sym split.with_it)
                 (all-in (λ other. other.place ≢ place) split.front split.back block (λ same. ne (sym same))

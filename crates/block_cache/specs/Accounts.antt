@@ -3,7 +3,7 @@ use Rattle.std.specs.Prelude.{ℕ, ◌≡◌, ◌++◌, List, [], ◌∷◌}
 use Rattle.heap_geometry.specs.declared.need.Need.{Need}
 use Rattle.errand_steps.specs.Begins.{IsBusy, IsIdle}
 use Rattle.errand_steps.specs.Calls.{Call, free}
-use Rattle.call_events.specs.Stages.{Stage, freeing, given}
+use Rattle.call_events.specs.Stages.{StageOfCall, freeing, given}
 use Rattle.live_heap.specs.declared.block.Block.{Block}
 use Rattle.live_heap.specs.declared.pass.Pass.{Pass}
 use Rattle.live_heap.specs.Answers.{IsTried}
@@ -39,10 +39,10 @@ pub record HasAll (p : Pass) (blocks : List Block) : Type 0 where
   pub in_call : IsBusy p.errand → HasAllInCall p blocks
 
 -- the block that a call under way keeps: a free its own until its event, an allocation its own behind its event
-abbrev pub IsKept : Stage → List Block → Type 0
-IsKept (given place need) kept = IsOneMore place need [] kept
-IsKept (freeing place need) kept = IsOneMore place need [] kept
-IsKept stage kept = kept ≡ []
+abbrev pub KeepsUnderWay : StageOfCall → List Block → Type 0
+KeepsUnderWay (given place need) kept = IsOneMore place need [] kept
+KeepsUnderWay (freeing place need) kept = IsOneMore place need [] kept
+KeepsUnderWay stage kept = kept ≡ []
 
 -- the block is one of these
 abbrev pub IsAmong : Block → List Block → Type 0

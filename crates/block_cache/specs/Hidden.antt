@@ -30,7 +30,7 @@ abbrev pub ShowsSame : Cache → Cache → Type 0
 ShowsSame c d = (place : ℕ) → hidden_at d place ≡ hidden_at c place
 
 -- at a place where it had none the caller has one more, for this need, and no word of it is one of another block of the pool, whoever owns that
-pub record Gains (c : Cache) (words place : ℕ) (d : Cache) : Type 0 where
+pub record OwnsOneMore (c : Cache) (words place : ℕ) (d : Cache) : Type 0 where
   pub nothing : hidden_at c place ≡ None
   pub block : PoolBlock
   pub here : hidden_at d place ≡ Some block
@@ -39,13 +39,13 @@ pub record Gains (c : Cache) (words place : ℕ) (d : Cache) : Type 0 where
   pub others : (other : ℕ) → other ≢ place → hidden_at d other ≡ hidden_at c other
 
 -- the one at this place goes
-pub record Loses (c : Cache) (place : ℕ) (d : Cache) : Type 0 where
+pub record OwnsOneLess (c : Cache) (place : ℕ) (d : Cache) : Type 0 where
   pub here : hidden_at d place ≡ None
   pub others : (other : ℕ) → other ≢ place → hidden_at d other ≡ hidden_at c other
 
 -- what an allocation or a free makes of it; each other call is the heap's
 abbrev pub Shows : Cache → Call → Reply → Cache → Type 0
-Shows c (alloc words) (reply.Given place need) d = Gains c words place d
+Shows c (alloc words) (reply.Given place need) d = OwnsOneMore c words place d
 Shows c (alloc words) answer d = ShowsSame c d
-Shows c (free place need) answer d = Loses c place d
+Shows c (free place need) answer d = OwnsOneLess c place d
 Shows c call answer d = Unit {0}

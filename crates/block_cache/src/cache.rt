@@ -254,4 +254,11 @@ impl Cache {
     {
         self.pass
     }
+
+    /// The pass. What its caller held and what lay in magazines stays allocated.
+    pub fn leave(self) -> Pass
+        ensures { result ≡ self.pass }
+    {
+        self.pass
+    }
 }

@@ -8,7 +8,7 @@ ghost use Rattle.errand_steps.specs.declared.reply.Reply.TheVariants as reply;
 ghost use Rattle.errand_steps.specs.Begins.{IsIdle};
 ghost use Rattle.errand_steps.specs.Calls.{Call, alloc, free};
 ghost use Rattle.call_events.specs.Stages.{stage_of};
-ghost use Rattle.step_core.specs.Keeping.{Leaves};
+ghost use Rattle.step_machine.specs.Keeping.{LeavesPlace};
 ghost use Rattle.live_heap.specs.declared.answers.AllocAnswer.{AllocAnswer};
 ghost use Rattle.live_heap.specs.declared.answers.AllocAnswer.TheVariants as answer;
 ghost use Rattle.live_heap.specs.declared.answers.FreeAnswer.{FreeAnswer};
@@ -21,7 +21,7 @@ ghost use Rattle.live_heap.specs.Holdings.{HoldsExactly};
 ghost use Rattle.live_heap.specs.Passes.{IsOf};
 ghost use Rattle.live_heap.specs.Whole.{HasEndedCall, Hands};
 ghost use Rattle.block_cache.specs.declared.cache.Cache.{Cache};
-ghost use Rattle.block_cache.specs.Accounts.{IsAmong, IsKept};
+ghost use Rattle.block_cache.specs.Accounts.{IsAmong, KeepsUnderWay};
 ghost use Rattle.block_cache.specs.Caches.{HasFor, HasKept, HasRoom, HasServed, Holds, HoldsBlock, IsCache, KeepsMagazines, cached_in, stacks_in};
 ghost use Rattle.block_cache.specs.Flushes.{FlushTells, HasStopped};
 ghost use Rattle.block_cache.specs.Hidden.{Shows, ShowsSame};
@@ -34,7 +34,7 @@ ghost use Rattle.block_cache.specs.Whole.{Asks, EndsAs, HoldsAt, IsWholeCall, Re
 pub fn caches_account_for_all_blocks()
     ensures opened { (c : Cache) (blocks : List Block) → IsIdle c.pass.errand → cached_in c ≡ [] → HoldsExactly c.pass blocks ↔ Holds c blocks }
     ensures together { (h : Heap) (c : Cache) (held : List Block) → IsCache h c → Holds c held
-        → (kept : List Block) × IsKept (stage_of c.pass.errand.point) kept × HoldsExactly c.pass (kept ++ (held ++ cached_in c)) }
+        → (kept : List Block) × KeepsUnderWay (stage_of c.pass.errand.point) kept × HoldsExactly c.pass (kept ++ (held ++ cached_in c)) }
     ensures held { (h : Heap) (c : Cache) (held : List Block) (block : Block) → IsCache h c → IsIdle c.pass.errand → Holds c held
         → HoldsBlock c block ↔ IsAmong block held }
     ensures order { (c : Cache) (before after : List Block) (block : Block)
@@ -61,7 +61,7 @@ pub fn ended_calls_are_whole()
 /// one that it is given serves what was asked for.
 pub fn whole_calls_keep_blocks()
     ensures keeps { (h : Heap) (c d : Cache) (call : Call) (ended : Reply) (place : ℕ) (need : Need) → IsWholeCall h c call ended d
-        → Leaves call place → HoldsAt c place need → HoldsAt d place need }
+        → LeavesPlace call place → HoldsAt c place need → HoldsAt d place need }
     ensures hands { (h : Heap) (c d : Cache) (call : Call) (ended : Reply) (place : ℕ) (need : Need) → IsWholeCall h c call ended d
         → Hands ended place need → HoldsAt d place need }
     ensures apart { (h : Heap) (c d : Cache) (call : Call) (ended : Reply) (place other : ℕ) (need had : Need) → IsWholeCall h c call ended d

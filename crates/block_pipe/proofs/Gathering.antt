@@ -4,13 +4,13 @@ use Rattle.block_pipe.specs.declared.note.Note.{Note}
 use Rattle.block_pipe.specs.declared.pipe.Pipe.{Pipe}
 use Rattle.block_pipe.specs.declared.receiver.Receiver.{Receiver}
 use Rattle.block_pipe.specs.declared.sender.Sender.{Sender}
-use Rattle.block_pipe.specs.declared.tally.Tally.{Tally}
+use Rattle.block_pipe.specs.declared.tally.PerSender.{PerSender}
 use Rattle.block_pipe.specs.Ends.{AreAllEnds, AreDistinct, IsReceiver, IsSender, popped_by, pushed_by}
 use Rattle.block_pipe.specs.Logs.{HasLogged, HasSender}
 use Rattle.block_pipe.specs.Notes.{Begins, of_sender}
 
 -- what is told of a sender
-abbrev pub Told : List Note → Tally → Sender → Type 0
+abbrev pub Told : List Note → PerSender → Sender → Type 0
 Told popped sent s = (slice_index sent.counts s.number ≡ length (pushed_by s)) × Begins (of_sender s.number popped) (pushed_by s)
 
 -- the last ones of distinct senders are distinct
@@ -29,7 +29,7 @@ one-of P (x ∷ front) back s all = one-of P front back s (λ k d below. all (su
 
 -- where another sender's number is written, what was told stays
 pub told-stays :
-    (popped : List Note) (old new : Tally) (n : ℕ) (done : List Sender) → ((k : ℕ) → k ≢ n → slice_index new.counts k ≡ slice_index old.counts k)
+    (popped : List Note) (old new : PerSender) (n : ℕ) (done : List Sender) → ((k : ℕ) → k ≢ n → slice_index new.counts k ≡ slice_index old.counts k)
     → All (λ (s : Sender). s.number ≢ n) done → All (Told popped old) done → All (Told popped new) done
 told-stays popped old new n done same apart told k d below =
     (same (get_or done k d).number (apart k d below) ∙ (told k d below).0, (told k d below).1)
@@ -43,13 +43,13 @@ numbers-below pipe k senders past each i d below same =
 
 -- with the counts of the receiver that is what the log says
 pub told-logged :
-    (pipe : Pipe) (r : Receiver) (sent : Tally) (senders : List Sender) → IsReceiver pipe r → All (Told (popped_by r) sent) senders
+    (pipe : Pipe) (r : Receiver) (sent : PerSender) (senders : List Sender) → IsReceiver pipe r → All (Told (popped_by r) sent) senders
     → All (HasSender r (record { sent = sent; taken = r.popped })) senders
 told-logged pipe r sent senders is told k d below =
     record { sent = (told k d below).0; taken = is.counts (get_or senders k d).number; first_part = (told k d below).1 }
 
 pub logged :
-    (pipe : Pipe) (r : Receiver) (sent : Tally) (senders : List Sender) → AreAllEnds pipe senders r → All (Told (popped_by r) sent) senders
+    (pipe : Pipe) (r : Receiver) (sent : PerSender) (senders : List Sender) → AreAllEnds pipe senders r → All (Told (popped_by r) sent) senders
     → ((k : ℕ) → All (λ (s : Sender). s.number ≢ k) senders → slice_index sent.counts k ≡ 0)
     → HasLogged pipe senders r (record { sent = sent; taken = r.popped })
 logged pipe r sent senders ends told none =

@@ -7,15 +7,15 @@ use Rattle.block_pipe.specs.declared.receiver.Receiver.{Receiver}
 use Rattle.block_pipe.specs.declared.rule.Known.{Known}
 use Rattle.block_pipe.specs.declared.sender.Sender.{Sender}
 use Rattle.block_pipe.specs.Ends.{HasHeld, IsReceiver, IsSender, popped_by, pushed_by}
-use Rattle.block_pipe.specs.Notes.{AreNumbered, EndsIn, Runs, Stands, of_sender}
+use Rattle.block_pipe.specs.Notes.{AreNumbered, EndsIn, Runs, RuleStands, of_sender}
 use Rattle.block_pipe.proofs.NoteMoves.{not-first, of-append}
 
 -- the queue goes where an end is set
-runs-of : (v : Known) (items : List Note) → v.set ≡ true → (s : Stands v items) → Runs items s.1
+runs-of : (v : Known) (items : List Note) → v.set ≡ true → (s : RuleStands v items) → Runs items s.1
 runs-of v items is_set s = elim (s.2) [ inl first ↦ not-first s.1 s.0 v is_set first.1 s.3 | inr r ↦ r ]
 
 pub pushed-last :
-    (pipe : Pipe) (s : Sender) (items : List Note) → IsSender pipe s → Stands (view s.end) items
+    (pipe : Pipe) (s : Sender) (items : List Note) → IsSender pipe s → RuleStands (view s.end) items
     → EndsIn (of_sender s.number items) (pushed_by s)
 pushed-last pipe s items is stands =
     let r = runs-of (view s.end) items is.set stands in
@@ -23,7 +23,7 @@ pushed-last pipe s items is stands =
     (of_sender s.number r.got, m.2 ∙ ap (of_sender s.number) r.line ∙ of-append s.number r.got items)
 
 pub popped-on :
-    (pipe : Pipe) (r : Receiver) (items : List Note) → IsReceiver pipe r → Stands (view r.end) items
+    (pipe : Pipe) (r : Receiver) (items : List Note) → IsReceiver pipe r → RuleStands (view r.end) items
     → AreNumbered pipe.senders pipe.shelves (popped_by r ++ items)
 popped-on pipe r items is stands =
     let v = view r.end in

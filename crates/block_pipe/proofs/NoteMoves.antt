@@ -9,7 +9,7 @@ use Rattle.crossbeam_queue.specs.Fifo.{Pushes, Pops, Forks, Merges, Learns}
 use Rattle.crossbeam_queue.proofs.Lists.{at_set}
 use Rattle.block_pipe.specs.declared.note.Note.{Note}
 use Rattle.block_pipe.specs.declared.rule.Known.{Known}
-use Rattle.block_pipe.specs.Notes.{AreNumbered, Fits, HasFirstPart, IsNext, Piped, Stands, StandsFor, first_out, first_sender, nobody, of_sender, unset, shelf_for, whole, with_senders, with_sent, with_taken}
+use Rattle.block_pipe.specs.Notes.{AreNumbered, FitsHeap, HasFirstPart, MayComeNext, Piped, RuleStands, StandsFor, first_out, first_sender, nobody, of_sender, unset, shelf_for, whole, with_senders, with_sent, with_taken}
 
 -- the notes of a sender in lists that are joined
 pub of-append : (k : ℕ) (xs ys : List Note) → of_sender k (xs ++ ys) ≡ of_sender k xs ++ of_sender k ys
@@ -38,14 +38,14 @@ last_cases (first ∷ notes) =
 
 -- one note more that is the next one
 numbered-push :
-    (senders shelves : ℕ) (notes : List Note) (x : Note) → AreNumbered senders shelves notes → IsNext senders shelves notes x
+    (senders shelves : ℕ) (notes : List Note) (x : Note) → AreNumbered senders shelves notes → MayComeNext senders shelves notes x
     → AreNumbered senders shelves (notes ++ x ∷ [])
 numbered-push senders shelves notes x each last before rest next e =
     elim (last_cases rest) [
       | inl none ↦
           let whole_is : notes ++ x ∷ [] ≡ before ++ next ∷ [] = e ∙ ap (λ (xs : List Note). before ++ next ∷ xs) none in
           let same = same_from_push notes before x next whole_is in
-          subst₂ (IsNext senders shelves) same.0 same.1 last
+          subst₂ (MayComeNext senders shelves) same.0 same.1 last
       | inr last_is ↦
           let whole_is : notes ++ x ∷ [] ≡ (before ++ next ∷ last_is.0) ++ last_is.1 ∷ [] =
           e ∙ ap (λ (xs : List Note). before ++ next ∷ xs) last_is.2 ∙ sym (append_assoc before (next ∷ last_is.0) (last_is.1 ∷ [])) in
@@ -93,7 +93,7 @@ not-first views port v is_set first at =
     true≢false (sym is_set ∙ ap (λ (x : Known). x.set) (sym is.1)))
 
 -- an end that does nothing fits everywhere
-nobody-fits : (keeper : ℕ → ℕ) (reader senders shelves : ℕ) (all got : List Note) (port : ℕ) → Fits keeper reader senders shelves all got port nobody
+nobody-fits : (keeper : ℕ → ℕ) (reader senders shelves : ℕ) (all got : List Note) (port : ℕ) → FitsHeap keeper reader senders shelves all got port nobody
 nobody-fits keeper reader senders shelves all got port =
     record {
       sizes = λ e. absurd (true≢false (sym e));
@@ -112,7 +112,7 @@ sets port senders shelves v is items views h at =
           let w : Known = whole senders shelves in
           let at_unset : get_elem? (unset ∷ []) port ≡ some v = ap (λ l. get_elem? l port) (sym first.1) ∙ at in
           let zero_is = (only port v at_unset).0 in
-          let F : ℕ → Known → Type 0 = Fits (λ k. port) port senders shelves [] [] in
+          let F : ℕ → Known → Type 0 = FitsHeap (λ k. port) port senders shelves [] [] in
           let mine : F port w = record { sizes = λ e. (refl, refl); sends = λ k st. (refl, refl, refl); receives = λ e. (refl, refl, refl) } in
           inr (record {
             senders = senders;
@@ -144,7 +144,7 @@ peels port v is_set below items views h at =
           let l : Known = first_out v in
           let vs : List Known = set views port l in
           let keeper : ℕ → ℕ = λ k. if k == v.from then length vs else r.keeper k in
-          let F : ℕ → Known → Type 0 = Fits keeper r.reader r.senders r.shelves r.all r.got in
+          let F : ℕ → Known → Type 0 = FitsHeap keeper r.reader r.senders r.shelves r.all r.got in
           let same : (k : ℕ) → k ≢ v.from → r.keeper k ≡ keeper k = λ k ne. rw (ne_eqb k v.from ne) refl in
           let left : F port l =
           record {
@@ -186,7 +186,7 @@ peels port v is_set below items views h at =
 
 -- a note is sent
 pub sends :
-    (n port : ℕ) (v : Known) (x : Note) → v.set ≡ true → StandsFor v x.sender → IsNext v.senders v.shelves v.sent x
+    (n port : ℕ) (v : Known) (x : Note) → v.set ≡ true → StandsFor v x.sender → MayComeNext v.senders v.shelves v.sent x
     → Pushes Piped n port v x (λ w. w ≡ with_sent v x)
 sends n port v x is_set stands next items views room h at =
     elim h [
@@ -197,14 +197,14 @@ sends n port v x is_set stands next items views room h at =
           let w : Known = with_sent v x in
           let all : List Note = r.all ++ x ∷ [] in
           let sizes = mine.sizes is_set in
-          let next_all : IsNext r.senders r.shelves r.all x =
+          let next_all : MayComeNext r.senders r.shelves r.all x =
           record {
             sender = subst (λ (n : ℕ). x.sender < n) sizes.0 next.sender;
             seq = next.seq ∙ ap length my.2;
             few = next.few;
             shelf = next.shelf ∙ ap (λ (n : ℕ). shelf_for n x.sender x.seq) sizes.1;
           } in
-          let F : ℕ → Known → Type 0 = Fits r.keeper r.reader r.senders r.shelves all r.got in
+          let F : ℕ → Known → Type 0 = FitsHeap r.keeper r.reader r.senders r.shelves all r.got in
           let new : F port w =
           record {
             sizes = mine.sizes;
@@ -241,7 +241,7 @@ sends n port v x is_set stands next items views room h at =
 -- a note is taken: it is the next one
 pub takes :
     (port : ℕ) (v : Known) → v.set ≡ true → v.receives ≡ true
-    → Pops Piped port v (λ x w. IsNext v.senders v.shelves v.taken x × (w ≡ with_taken v x))
+    → Pops Piped port v (λ x w. MayComeNext v.senders v.shelves v.taken x × (w ≡ with_taken v x))
 takes port v is_set may x items views h at =
     elim h [
       | inl first ↦ not-first views port v is_set first.1 at
@@ -251,11 +251,11 @@ takes port v is_set may x items views h at =
           let w : Known = with_taken v x in
           let got : List Note = r.got ++ x ∷ [] in
           let sizes = mine.sizes is_set in
-          let is_next : IsNext r.senders r.shelves r.got x = r.numbered r.got items x r.line in
-          let of_mine : IsNext r.senders r.shelves v.taken x = subst (λ (l : List Note). IsNext r.senders r.shelves l x) (sym my.2) is_next in
-          let next : IsNext v.senders v.shelves v.taken x =
-          subst₂ (λ (m n : ℕ). IsNext m n v.taken x) (sym sizes.0) (sym sizes.1) of_mine in
-          let F : ℕ → Known → Type 0 = Fits r.keeper r.reader r.senders r.shelves r.all got in
+          let is_next : MayComeNext r.senders r.shelves r.got x = r.numbered r.got items x r.line in
+          let of_mine : MayComeNext r.senders r.shelves v.taken x = subst (λ (l : List Note). MayComeNext r.senders r.shelves l x) (sym my.2) is_next in
+          let next : MayComeNext v.senders v.shelves v.taken x =
+          subst₂ (λ (m n : ℕ). MayComeNext m n v.taken x) (sym sizes.0) (sym sizes.1) of_mine in
+          let F : ℕ → Known → Type 0 = FitsHeap r.keeper r.reader r.senders r.shelves r.all got in
           let new : F port w =
           record {
             sizes = mine.sizes;
@@ -299,7 +299,7 @@ takes_over port v other w is_set items views h at two at_w =
           ⊎_elim (λ (x : (other ≡ port) × (both ≡ w)). absurd (two x.0)) (λ x. x.1) (at_set views port other both w at_w) in
           let theirs = r.each other w was in
           let keeper : ℕ → ℕ = λ k. if r.keeper k == other then port else r.keeper k in
-          let F : ℕ → Known → Type 0 = Fits keeper r.reader r.senders r.shelves r.all r.got in
+          let F : ℕ → Known → Type 0 = FitsHeap keeper r.reader r.senders r.shelves r.all r.got in
           let Now : ℕ → Known → Type 0 = λ j y. j ≢ other → F j y in
           let here : F port both =
           record {
@@ -334,7 +334,7 @@ takes_over port v other w is_set items views h at two at_w =
     ]
 
 -- what the ends learn: the rule stands
-pub stands-learn : (port : ℕ) (v : Known) → Learns Piped port v (Stands v)
+pub stands-learn : (port : ℕ) (v : Known) → Learns Piped port v (RuleStands v)
 stands-learn port v items views h at = (port, views, h, at)
 
 pub first_part-learn : (port : ℕ) (v : Known) → v.set ≡ true → v.receives ≡ true → Learns Piped port v (λ items. HasFirstPart v)

@@ -46,7 +46,7 @@ SendTells pipe s p block sent.QueueFull t q =
     × HasHeld (pipe.senders * pipe.shelves) (view s.end)
 
 -- the receiver has come to this note: it is the last one that it has popped, so its number is that of its sender's notes popped before
-pub record Serves (pipe : Pipe) (r : Receiver) (note : Note) (t : Receiver) : Type 0 where
+pub record HasComeTo (pipe : Pipe) (r : Receiver) (note : Note) (t : Receiver) : Type 0 where
   pub comes : ComesTo pipe r note t
   pub before : List Note
   pub last : popped_by t ≡ before ++ note ∷ []
@@ -57,12 +57,12 @@ pub record Serves (pipe : Pipe) (r : Receiver) (note : Note) (t : Receiver) : Ty
 -- Missed: the take missed, and the note is kept
 abbrev pub ReceiveTells : Pipe → Receiver → Pass → Received → Receiver → Pass → Type 0
 ReceiveTells pipe r p (received.Got block sender seq) t q =
-    Serves pipe r (note_of pipe sender seq block.place) t × (t.kept ≡ None) × TakeTells p (shelf_for pipe.shelves sender seq) (taken.Got block) q
+    HasComeTo pipe r (note_of pipe sender seq block.place) t × (t.kept ≡ None) × TakeTells p (shelf_for pipe.shelves sender seq) (taken.Got block) q
 ReceiveTells pipe r p received.Nothing t q =
     (r.kept ≡ None) × (t.kept ≡ None) × (popped_by t ≡ popped_by r) × HasHeld 0 (view r.end) × (q ≡ p)
 ReceiveTells pipe r p (received.Gone note) t q =
-    Serves pipe r note t × (t.kept ≡ None) × TakeTells p note.shelf taken.Empty q × EndsWith (seen q) (TakeNone p.errand.caller note.shelf)
+    HasComeTo pipe r note t × (t.kept ≡ None) × TakeTells p note.shelf taken.Empty q × EndsWith (seen q) (TakeNone p.errand.caller note.shelf)
 ReceiveTells pipe r p (received.Other block note) t q =
-    Serves pipe r note t × (t.kept ≡ None) × TakeTells p note.shelf (taken.Got block) q × (block.place ≢ note.place)
+    HasComeTo pipe r note t × (t.kept ≡ None) × TakeTells p note.shelf (taken.Got block) q × (block.place ≢ note.place)
 ReceiveTells pipe r p (received.Missed expected found) t q =
-    (note : Note) × Serves pipe r note t × (t.kept ≡ Some note) × TakeTells p note.shelf (taken.Missed expected found) q
+    (note : Note) × HasComeTo pipe r note t × (t.kept ≡ Some note) × TakeTells p note.shelf (taken.Missed expected found) q

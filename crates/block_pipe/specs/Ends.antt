@@ -7,7 +7,7 @@ use Rattle.block_pipe.specs.declared.pipe.Pipe.{Pipe}
 use Rattle.block_pipe.specs.declared.receiver.Receiver.{Receiver}
 use Rattle.block_pipe.specs.declared.rule.Known.{Known}
 use Rattle.block_pipe.specs.declared.sender.Sender.{Sender}
-use Rattle.block_pipe.specs.Notes.{IsNext, Stands, of_sender}
+use Rattle.block_pipe.specs.Notes.{MayComeNext, RuleStands, of_sender}
 
 -- the notes that a sender has pushed, the first one first
 abbrev pub pushed_by : Sender → List Note
@@ -23,7 +23,7 @@ popped_by r = (view r.end).taken
 
 -- the note may come next behind these in this pipe
 abbrev pub IsNextIn : Pipe → List Note → Note → Type 0
-IsNextIn pipe before note = IsNext pipe.senders pipe.shelves before note
+IsNextIn pipe before note = MayComeNext pipe.senders pipe.shelves before note
 
 -- the sender is one of this pipe's; its pending note may come next behind those that it has pushed
 pub record IsSender (pipe : Pipe) (s : Sender) : Type 0 where
@@ -75,7 +75,7 @@ pub record AreAllEnds (pipe : Pipe) (senders : List Sender) (r : Receiver) : Typ
 
 -- at one moment of the call the queue held so many notes: the rule stood with them and with what the end knows
 abbrev pub HasHeld : ℕ → Known → Type 0
-HasHeld count v = Held count (Stands v)
+HasHeld count v = Held count (RuleStands v)
 
 -- the receiver has come to this note: it had kept it, or it has popped it, the next one behind those that it had popped
 abbrev pub ComesTo : Pipe → Receiver → Note → Receiver → Type 0

@@ -14,7 +14,7 @@ abbrev pub shelf_for : ℕ → ℕ → ℕ → ℕ
 shelf_for shelves sender seq = sender * shelves + seq % shelves
 
 -- a note may come next behind these: it is of one of the senders, has the number of that one's notes among them, and names the shelf whose turn it is
-pub record IsNext (senders shelves : ℕ) (before : List Note) (note : Note) : Type 0 where
+pub record MayComeNext (senders shelves : ℕ) (before : List Note) (note : Note) : Type 0 where
   pub sender : note.sender < senders
   pub seq : note.seq ≡ length (of_sender note.sender before)
   pub few : note.seq < 2 ^ 60
@@ -23,7 +23,7 @@ pub record IsNext (senders shelves : ℕ) (before : List Note) (note : Note) : T
 -- so it is with each note of a list
 abbrev pub AreNumbered : ℕ → ℕ → List Note → Type 0
 AreNumbered senders shelves notes =
-    (before rest : List Note) (note : Note) → notes ≡ before ++ note ∷ rest → IsNext senders shelves before note
+    (before rest : List Note) (note : Note) → notes ≡ before ++ note ∷ rest → MayComeNext senders shelves before note
 
 -- the longer list begins with the shorter one
 abbrev pub Begins : List Note → List Note → Type 0
@@ -38,7 +38,7 @@ abbrev pub StandsFor : Known → ℕ → Type 0
 StandsFor v k = (v.from ≤ k) × (k < v.until)
 
 -- an end: one end at most stands for a sender, and it knows all that the sender sent; one at most receives, and knows all that was taken
-pub record Fits (keeper : ℕ → ℕ) (reader senders shelves : ℕ) (all got : List Note) (port : ℕ) (v : Known) : Type 0 where
+pub record FitsHeap (keeper : ℕ → ℕ) (reader senders shelves : ℕ) (all got : List Note) (port : ℕ) (v : Known) : Type 0 where
   pub sizes : v.set ≡ true → (v.senders ≡ senders) × (v.shelves ≡ shelves)
   pub sends : (k : ℕ) → StandsFor v k → (v.set ≡ true) × (port ≡ keeper k) × (of_sender k v.sent ≡ of_sender k all)
   pub receives : v.receives ≡ true → (v.set ≡ true) × (port ≡ reader) × (v.taken ≡ got)
@@ -53,7 +53,7 @@ pub record Runs (items : List Note) (views : List Known) : Type 0 where
   pub numbered : AreNumbered senders shelves all
   pub keeper : ℕ → ℕ
   pub reader : ℕ
-  pub each : (port : ℕ) (v : Known) → get_elem? views port ≡ some v → Fits keeper reader senders shelves all got port v
+  pub each : (port : ℕ) (v : Known) → get_elem? views port ≡ some v → FitsHeap keeper reader senders shelves all got port v
 
 -- before the numbers of senders and shelves are set; for all senders and the receiver; for nobody
 abbrev pub unset : Known
@@ -89,8 +89,8 @@ abbrev pub Piped : List Note → List Known → Type 0
 Piped items views = ((items ≡ []) × (views ≡ unset ∷ [])) ⊎ Runs items views
 
 -- the rule stands with these notes in the queue, and with what this end knows
-abbrev pub Stands : Known → List Note → Type 0
-Stands v items = (port : ℕ) × (views : List Known) × Piped items views × (get_elem? views port ≡ some v)
+abbrev pub RuleStands : Known → List Note → Type 0
+RuleStands v items = (port : ℕ) × (views : List Known) × Piped items views × (get_elem? views port ≡ some v)
 
 -- what was taken of a sender that the end stands for is the first part of what that sent
 abbrev pub HasFirstPart : Known → Type 0

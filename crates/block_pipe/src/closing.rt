@@ -8,9 +8,9 @@ ghost use Rattle.block_pipe.specs.Logs.{HasLogged};
 use crate::log::PipeLog;
 use crate::pipe::Pipe;
 use crate::receiver::Receiver;
-use crate::rule::{TakesOver, Tells};
+use crate::rule::{TakesOver, TellsNote};
 use crate::sender::Sender;
-use crate::tally::Tally;
+use crate::tally::PerSender;
 use std::alloc::Global;
 use std::sync::Wait;
 
@@ -49,11 +49,11 @@ impl Pipe {
             kept: _,
             popped,
         } = receiver;
-        let mut sent = Tally::new();
+        let mut sent = PerSender::new();
         while let Some(sender) = senders.pop() {
             sent.set(sender.number, sender.sent);
             self.queue.absorb::<TakesOver>(&mut end, sender.end);
-            self.queue.learn_as::<Tells>(&mut end);
+            self.queue.learn_as::<TellsNote>(&mut end);
         }
         PipeLog {
             sent,

@@ -2,14 +2,14 @@
 
 ghost use Rattle.std.specs.Prelude.{◌≡◌, ◌<◌, slice_index};
 
-use crate::tally::Tally;
+use crate::tally::PerSender;
 
 /// How many notes each sender of a closed pipe pushed, and how many of them the receiver popped. It can't
 /// be made but by `Pipe::close`.
 #[derive(Drop)]
 pub struct PipeLog {
-    pub(crate) sent: Tally,
-    pub(crate) taken: Tally,
+    pub(crate) sent: PerSender,
+    pub(crate) taken: PerSender,
 }
 
 impl PipeLog {

@@ -7,9 +7,9 @@ ghost use Rattle.block_pipe.specs.Notes.{unset, whole};
 
 use crate::pipe::Pipe;
 use crate::receiver::Receiver;
-use crate::rule::{Begins, End, Peels, Queue, Sizes};
+use crate::rule::{End, FirstEnd, PeelsEnd, Queue, Sizes};
 use crate::sender::Sender;
-use crate::tally::Tally;
+use crate::tally::PerSender;
 use std::alloc::{AllocError, Global};
 use std::marker::Brand;
 
@@ -32,7 +32,7 @@ impl Pipe {
         let (queue, mut end) = Queue::ruled(alloc, senders as usize * shelves as usize)?;
         begin::<Brand>(&queue, &mut end, senders, shelves);
         for number in 0..senders {
-            let theirs = queue.another::<Peels>(&mut end);
+            let theirs = queue.another::<PeelsEnd>(&mut end);
             ends.push_reserved(Sender {
                 end: theirs,
                 number,
@@ -48,7 +48,7 @@ impl Pipe {
         let receiver = Receiver {
             end,
             kept: None,
-            popped: Tally::new(),
+            popped: PerSender::new(),
         };
         Ok((pipe, ends, receiver))
     }
@@ -62,5 +62,5 @@ fn begin<E: Sizes>(queue: &Queue, end: &mut End, senders: u8, shelves: u8)
     ensures of { IsPassOf queue.now end.new }
     ensures whole { view end.new ≡ whole senders shelves }
 {
-    let _ = queue.another::<Begins<E>>(end);
+    let _ = queue.another::<FirstEnd<E>>(end);
 }

@@ -2,8 +2,8 @@
 
 use crate::note::Note;
 use crate::pipe::Pipe;
-use crate::rule::{End, Takes};
-use crate::tally::Tally;
+use crate::rule::{End, TakesNote};
+use crate::tally::PerSender;
 use std::sync::Wait;
 
 /// The receiver's end of a pipe. It can't be copied, cloned or made; `Pipe::open` gives it.
@@ -11,7 +11,7 @@ use std::sync::Wait;
 pub struct Receiver {
     pub(crate) end: End,
     pub(crate) kept: Option<Note>,
-    pub(crate) popped: Tally,
+    pub(crate) popped: PerSender,
 }
 
 impl Receiver {
@@ -50,7 +50,7 @@ impl Receiver {
             × (popped_by self.new ≡ popped_by self.old ++ note ∷ [])) }
         ensures empty { result ≡ None → (view self.new.end ≡ view self.old.end) × HasHeld 0 (view self.old.end) }
     {
-        let note = pipe.queue.pop_as::<Takes, R>(rt, &mut self.end)?;
+        let note = pipe.queue.pop_as::<TakesNote, R>(rt, &mut self.end)?;
         self.popped.set(note.sender, note.seq + 1);
         Some(note)
     }

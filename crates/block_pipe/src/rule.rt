@@ -52,11 +52,11 @@ impl Sizes for Brand {
 }
 
 /// The first end comes to stand for all senders and the receiver.
-pub struct Begins<E> {
+pub struct FirstEnd<E> {
     sizes: PhantomData<E>,
 }
 
-impl<E: Sizes> Split<Known> for Begins<E> {
+impl<E: Sizes> Split<Known> for FirstEnd<E> {
     ghost use Rattle.block_pipe.specs.Notes.{nobody, whole};
 
     ghost left = { λ v. whole E.senders E.shelves };
@@ -65,9 +65,9 @@ impl<E: Sizes> Split<Known> for Begins<E> {
 }
 
 /// Its first sender goes to an end of its own.
-pub struct Peels;
+pub struct PeelsEnd;
 
-impl Split<Known> for Peels {
+impl Split<Known> for PeelsEnd {
     ghost use Rattle.block_pipe.specs.Notes.{first_out, first_sender};
 
     ghost left = { first_out };
@@ -97,31 +97,31 @@ impl Outcome<Note, Known> for Sends {
 }
 
 impl Lesson<Note, Known> for Sends {
-    ghost use Rattle.block_pipe.specs.Notes.{Stands};
+    ghost use Rattle.block_pipe.specs.Notes.{RuleStands};
 
-    ghost fact = { Stands };
+    ghost fact = { RuleStands };
 }
 
 /// A note was taken, or the queue was empty.
-pub struct Takes;
+pub struct TakesNote;
 
-impl Outcome<Note, Known> for Takes {
+impl Outcome<Note, Known> for TakesNote {
     ghost use Rattle.std.specs.Prelude.{◌≡◌};
-    ghost use Rattle.block_pipe.specs.Notes.{IsNext, with_taken};
+    ghost use Rattle.block_pipe.specs.Notes.{MayComeNext, with_taken};
 
-    ghost then = { λ v x w. IsNext v.senders v.shelves v.taken x × (w ≡ with_taken v x) };
+    ghost then = { λ v x w. MayComeNext v.senders v.shelves v.taken x × (w ≡ with_taken v x) };
 }
 
-impl Lesson<Note, Known> for Takes {
-    ghost use Rattle.block_pipe.specs.Notes.{Stands};
+impl Lesson<Note, Known> for TakesNote {
+    ghost use Rattle.block_pipe.specs.Notes.{RuleStands};
 
-    ghost fact = { Stands };
+    ghost fact = { RuleStands };
 }
 
 /// At the end: what was taken of a sender is the first part of what that sent.
-pub struct Tells;
+pub struct TellsNote;
 
-impl Lesson<Note, Known> for Tells {
+impl Lesson<Note, Known> for TellsNote {
     ghost use Rattle.block_pipe.specs.Notes.{HasFirstPart};
 
     ghost fact = { λ v items. HasFirstPart v };

@@ -4,17 +4,17 @@ ghost use Rattle.std.specs.Prelude.{ℕ, ◌≡◌, ◌≢◌, ◌<◌, length, 
 
 /// A number for each of four senders.
 #[derive(Drop)]
-pub struct Tally {
+pub struct PerSender {
     pub(crate) counts: [u64; 4],
     ghost four: { length counts ≡ 4 },
 }
 
-impl Tally {
+impl PerSender {
     /// Nothing is counted.
-    pub(crate) fn new() -> Tally
+    pub(crate) fn new() -> PerSender
         ensures { (k : ℕ) → slice_index result.counts k ≡ 0 }
     {
-        Tally { counts: [0; 4] }
+        PerSender { counts: [0; 4] }
     }
 
     /// The sender's number.

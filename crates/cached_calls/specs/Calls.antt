@@ -11,11 +11,24 @@ use Rattle.live_heap.specs.Whole.{HasEndedCall, IsAtRest}
 use Rattle.block_cache.specs.declared.cache.Cache.{Cache}
 use Rattle.block_cache.specs.Caches.{cached_in, stacks_in}
 use Rattle.block_cache.specs.Magazines.{leaving}
-use Rattle.block_cache.specs.Whole.{IsWholeCall}
+use Rattle.block_cache.specs.Whole.{HoldsAt, IsWholeCall, RestsAt}
+use Rattle.lane_engine.specs.Whole.{Maker}
+use Rattle.cached_calls.specs.declared.over_cache.CachedCalls.{CachedCalls}
 
 -- a whole call through a cache of this heap, whose magazines stay as deep
 abbrev pub IsCachedCall : Heap → Cache → Call → Reply → Cache → Type 0
 IsCachedCall h c call answer d = IsWholeCall h c call answer d × (d.magazines.depth ≡ c.magazines.depth)
+
+-- a cache in front of a pass of a heap, by its whole calls
+abbrev pub cache_maker : Maker CachedCalls
+cache_maker =
+    record {
+      stands = λ e. RestsAt e.heap.now e.cache.now;
+      owns = λ e place need. HoldsAt e.cache.now place need;
+      Base = ℕ × Heap;
+      runs_on = λ e. (e.cache.ghost_name, e.heap.now);
+      called = λ e call answer f. IsCachedCall e.heap.now e.cache.now call answer f.cache.now × (f.heap.now ≡ e.heap.now);
+    }
 
 -- a call of a pass of this heap has ended, with what resumed it
 abbrev pub HasEndedAt : Heap → Pass → Call → Reply → Pass → Type 0

@@ -238,24 +238,12 @@ impl<'a> CachedCalls<'a> {
 }
 
 impl<'a> Calls for CachedCalls<'a> {
-    ghost use Rattle.std.specs.Prelude.{◌≡◌, ℕ};
-    ghost use Rattle.cached_calls.specs.declared.over_cache.CachedCalls.{CachedCalls};
-    ghost use Rattle.live_heap.specs.declared.heap.Heap.{Heap};
-    ghost use Rattle.block_cache.specs.Whole.{HoldsAt, RestsAt};
     ghost use Rattle.lane_engine.specs.Whole.{KeepBlocks};
-    ghost use Rattle.cached_calls.specs.Calls.{IsCachedCall};
+    ghost use Rattle.cached_calls.specs.Calls.{cache_maker};
 
     type Held = Block;
 
-    ghost stands = { λ e. RestsAt e.heap.now e.cache.now };
-
-    ghost owns = { λ e place need. HoldsAt e.cache.now place need };
-
-    ghost Base = { ℕ × Heap };
-
-    ghost runs_on = { λ e. (e.cache.ghost_name, e.heap.now) };
-
-    ghost called = { λ e call answer f. IsCachedCall e.heap.now e.cache.now call answer f.cache.now × (f.heap.now ≡ e.heap.now) };
+    ghost maker = { cache_maker };
 
     fn allocate<R: Wait>(&mut self, rt: &R, need: u32) -> Allocated<Block> {
         allocate(rt, self.heap, self.cache, &mut self.last, need)
@@ -297,9 +285,7 @@ impl<'a> Calls for CachedCalls<'a> {
     }
 
     fn calls_keep_blocks()
-        ensures { KeepBlocks {S = CachedCalls}
-            (λ e call answer f. IsCachedCall e.heap.now e.cache.now call answer f.cache.now × (f.heap.now ≡ e.heap.now))
-            (λ e place need. HoldsAt e.cache.now place need) }
+        ensures { KeepBlocks cache_maker }
     {
         whole_calls_keep_blocks();
     }

@@ -24,7 +24,7 @@ use Rattle.call_events.specs.Ends.{end_of}
 use Rattle.call_events.specs.Made.{LeadsBy, Made, answered, found_from}
 use Rattle.call_events.specs.UnderWay.{IsUnderWay}
 use Rattle.call_events.proofs.OfferLemmas.{put-offers}
-use Rattle.step_core.specs.Cores.{OwnsAfter}
+use Rattle.step_machine.specs.Cores.{OwnsAfter}
 use Rattle.live_heap.specs.declared.block.Block.{Block}
 use Rattle.live_heap.specs.declared.heap.Heap.{Heap}
 use Rattle.live_heap.specs.declared.pass.Pass.{Pass}
@@ -38,8 +38,8 @@ use Rattle.live_heap.proofs.WholeLaws.{pass-hands}
 use Rattle.lane_engine.specs.declared.stepped.Stepped.TheVariants as stepped
 use Rattle.lane_engine.specs.Told.{HasStepped}
 use Rattle.lane_outcomes.specs.Rows.{IsFullShelf, IsWord}
-use Rattle.lane_steps.specs.Made.{AreMisses}
-use Rattle.lane_steps.proofs.AnswerLemmas.{EndsFull, told-of_put}
+use Rattle.trace_lane.specs.Made.{AreMisses}
+use Rattle.trace_lane.proofs.AnswerLemmas.{EndsFull, told-of_put}
 use Rattle.lane_runner.specs.Threads.{WholeAt}
 use Rattle.lane_runner.proofs.WholeResize.{HasKept, IsOnward, call-onward, ended-as, kept-read, onward-none, onward-step, onward-steps, onward-then}
 use Rattle.lane_runner.proofs.WholeSteps.{called-begun, need_in, place_in, steps-under}

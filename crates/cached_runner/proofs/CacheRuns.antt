@@ -3,8 +3,6 @@ use Rattle.std.proofs.Common.{ℕ, zero, suc, ◌≡◌, ◌∷◌, ◌++◌, Li
 use Rattle.std.proofs.Math.ListN.{length-replicate}
 use Rattle.std.specs.List.{slice_index_or}
 use Rattle.heap_geometry.specs.declared.need.Need.{Need}
-use Rattle.errand_steps.specs.Calls.{Call}
-use Rattle.errand_steps.specs.declared.reply.Reply.{Reply}
 use Rattle.call_events.specs.Made.{LeadsBy, Made}
 use Rattle.trace_text.specs.declared.limits.TheConstants.{REGISTERS}
 use Rattle.trace_text.specs.declared.trace.Op.{Op}
@@ -13,23 +11,20 @@ use Rattle.lane_outcomes.specs.declared.outcome.Outcome.{Outcome}
 use Rattle.lane_outcomes.specs.Lane.{registers_after}
 use Rattle.live_heap.specs.declared.block.Block.{Block}
 use Rattle.live_heap.specs.declared.heap.Heap.{Heap}
-use Rattle.lane_steps.specs.declared.lane.LaneState.{LaneState}
-use Rattle.lane_steps.specs.Made.{AllMade, HasRun, HoldsBlocks}
-use Rattle.lane_steps.specs.Paths.{FirstPassed, held_blocks}
-use Rattle.lane_steps.specs.States.{IsNew}
-use Rattle.lane_steps.proofs.EndedLemmas.{blocks-none}
+use Rattle.trace_lane.specs.declared.lane.LaneState.{LaneState}
+use Rattle.trace_lane.specs.Made.{AllMade, HasRun, HoldsBlocks}
+use Rattle.trace_lane.specs.Paths.{FirstPassed, held_blocks}
+use Rattle.trace_lane.specs.States.{IsNew}
+use Rattle.trace_lane.proofs.EndedLemmas.{blocks-none}
 use Rattle.block_cache.specs.declared.cache.Cache.{Cache}
 use Rattle.block_cache.specs.Whole.{RestsAt}
 use Rattle.cached_calls.specs.declared.over_cache.CachedCalls.{CachedCalls}
-use Rattle.cached_calls.specs.Calls.{IsCachedCall}
+use Rattle.cached_calls.specs.Calls.{IsCachedCall, cache_maker}
 use Rattle.cached_runner.specs.Runs.{HasMadeAll}
 
 -- calls over what holds a cache are calls of the cache
-abbrev pub by_cache : CachedCalls → Call → Reply → CachedCalls → Type 0
-by_cache e call answer f = IsCachedCall e.heap.now e.cache.now call answer f.cache.now × (f.heap.now ≡ e.heap.now)
-
 leads-cache :
-    (h : Heap) (e f : CachedCalls) (made : List Made) → e.heap.now ≡ h → LeadsBy by_cache e made f
+    (h : Heap) (e f : CachedCalls) (made : List Made) → e.heap.now ≡ h → LeadsBy cache_maker.called e made f
     → (f.heap.now ≡ h) × LeadsBy (IsCachedCall h) e.cache.now made f.cache.now
 leads-cache h e f [] here leads = (ap (λ (x : CachedCalls). x.heap.now) leads ∙ here, ap (λ (x : CachedCalls). x.cache.now) leads)
 leads-cache h e f (m ∷ made) here (g, (one, same), leads) =
@@ -39,7 +34,7 @@ leads-cache h e f (m ∷ made) here (g, (one, same), leads) =
 
 all-cache :
     (h : Heap) (registers : List (Option Held)) (left : List Op) (outs : List Outcome) (e f : CachedCalls) → e.heap.now ≡ h
-    → AllMade by_cache registers left outs e f → (f.heap.now ≡ h) × AllMade (IsCachedCall h) registers left outs e.cache.now f.cache.now
+    → AllMade cache_maker.called registers left outs e f → (f.heap.now ≡ h) × AllMade (IsCachedCall h) registers left outs e.cache.now f.cache.now
 all-cache h registers left [] e f here same = (ap (λ (x : CachedCalls). x.heap.now) same ∙ here, ap (λ (x : CachedCalls). x.cache.now) same)
 all-cache h registers [] (r ∷ outs) e f here all = absurd all
 all-cache h registers (o ∷ left) (r ∷ outs) e f here (g, (made, for, leads), all) =
@@ -70,7 +65,7 @@ new-holds owns caller count lane new = record {
 pub made-all :
     (passed : ℕ → ℕ → Type 0) (h : Heap) (operations : List Op) (e f : CachedCalls) (c : Cache) (old new : LaneState Block)
     → IsNew old.caller (length operations) old → e.cache.now ≡ c → e.heap.now ≡ h → RestsAt f.heap.now f.cache.now
-    → HasRun (λ (block : Block). block.place) (λ (block : Block). block.need) by_cache operations e f old new
+    → HasRun (λ (block : Block). block.place) (λ (block : Block). block.need) cache_maker.called operations e f old new
     → length new.outcomes.items ≡ length operations
     → (FirstPassed passed old.caller (length old.outcomes.items) → FirstPassed passed old.caller (length operations))
     → HasMadeAll passed h operations c f.cache.now old new
@@ -82,8 +77,8 @@ made-all passed h operations e f c old new is same_cache same_heap rests ran all
     let left : drop (length old.outcomes.items) operations ≡ operations = ap (λ (os : List Outcome). drop (length os) operations) is.none in
     let outcomes : new.outcomes.items ≡ ran.results = ran.outcomes ∙ ap (λ (os : List Outcome). os ++ ran.results) is.none in
     let one =
-    subst (λ ops. AllMade by_cache (replicate REGISTERS None) ops ran.results e f) left
-    (subst (λ rs. AllMade by_cache rs (drop (length old.outcomes.items) operations) ran.results e f) regs ran.made) in
+    subst (λ ops. AllMade cache_maker.called (replicate REGISTERS None) ops ran.results e f) left
+    (subst (λ rs. AllMade cache_maker.called rs (drop (length old.outcomes.items) operations) ran.results e f) regs ran.made) in
     let made = all-cache h (replicate REGISTERS None) operations ran.results e f same_heap one in
     record {
       rests = subst (λ k. RestsAt k f.cache.now) made.0 rests;

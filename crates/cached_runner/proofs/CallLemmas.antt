@@ -14,7 +14,7 @@ use Rattle.live_heap.specs.declared.heap.Heap.{Heap}
 use Rattle.live_heap.specs.Answers.{IsTried}
 use Rattle.lane_engine.specs.Whole.{copied_word}
 use Rattle.lane_engine.proofs.CopyLemmas.{copied-past, copied-read}
-use Rattle.lane_steps.specs.Made.{AreMisses}
+use Rattle.trace_lane.specs.Made.{AreMisses}
 use Rattle.lane_runner.specs.Threads.{WholeAt}
 use Rattle.block_cache.specs.declared.cache.Cache.{Cache}
 use Rattle.block_cache.specs.Caches.{HasFor, HasKept, HasRoom, HasServed, KeepsMagazines}

@@ -8,12 +8,12 @@ use Rattle.heap_geometry.specs.declared.geometry.Geometry.{Geometry}
 use Rattle.pool_model.specs.declared.event.Event.{Event}
 use Rattle.pool_model.specs.Histories.{own}
 use Rattle.pool_model.specs.Legal.{IsLegal}
-use Rattle.sound_state.specs.Contention.{lost_of}
+use Rattle.lost_exchanges.specs.Contention.{lost_of}
 use Rattle.sound_state.specs.Sums.{callers_sum}
 use Rattle.sound_state.proofs.shared.SumLemmas.{term-sum}
 use Rattle.errand_steps.specs.Errands.{ErrandFields}
-use Rattle.step_core.specs.Cores.{errand_at}
-use Rattle.step_core.proofs.CoreLemmas.{core-sound}
+use Rattle.step_machine.specs.Cores.{errand_at}
+use Rattle.step_machine.proofs.CoreLemmas.{core-sound}
 use Rattle.live_heap.specs.declared.heap.Heap.{Heap}
 use Rattle.live_heap.specs.declared.pass.Pass.{Pass}
 use Rattle.live_heap.specs.Endings.{ClosedFields, HasClosed, HasTakenIn, IsResting, machine_of}

@@ -26,7 +26,7 @@ use Rattle.lane_outcomes.specs.declared.outcome.Outcome.TheVariants as outcome
 use Rattle.lane_outcomes.specs.Lane.{Position, filling, held_in, writing}
 use Rattle.lane_outcomes.specs.Rows.{IsCopy, Setting}
 use Rattle.lane_outcomes.specs.Standing.{setting_in}
-use Rattle.lane_steps.proofs.TurnLemmas.{answered_in, piece-none, writes-none}
+use Rattle.trace_lane.proofs.TurnLemmas.{answered_in, piece-none, writes-none}
 use Rattle.lane_runner.specs.Threads.{WholeAt}
 use Rattle.lane_runner.proofs.WholeLaws.{given-steps}
 use Rattle.lane_runner.proofs.WholeResize.{HasKept, copy-of, copy-walk, ended-as, leads-split, value_of}

@@ -10,8 +10,8 @@ use Rattle.errand_steps.specs.declared.reply.Reply.{Reply}
 use Rattle.errand_steps.specs.declared.reply.Reply.TheVariants as reply
 use Rattle.errand_steps.specs.Calls.{Call, alloc, free, put, take}
 use Rattle.call_events.specs.Made.{LeadsBy, Made, answered, wrote}
-use Rattle.step_core.specs.Cores.{OwnsAfter}
-use Rattle.step_core.specs.Keeping.{Leaves}
+use Rattle.step_machine.specs.Cores.{OwnsAfter}
+use Rattle.step_machine.specs.Keeping.{LeavesPlace}
 use Rattle.live_heap.specs.declared.block.Block.{Block}
 use Rattle.live_heap.specs.declared.heap.Heap.{Heap}
 use Rattle.live_heap.specs.declared.pass.Pass.{Pass}
@@ -25,8 +25,8 @@ use Rattle.lane_outcomes.specs.declared.registers.Held.{Held}
 use Rattle.lane_outcomes.specs.declared.outcome.Outcome.{Outcome}
 use Rattle.lane_outcomes.specs.declared.outcome.Outcome.TheVariants as outcome
 use Rattle.lane_outcomes.specs.Lane.{held_in, registers_after}
-use Rattle.lane_steps.specs.Made.{AreMisses, HoldsBlocks, MadeFor, register_of}
-use Rattle.lane_steps.proofs.MadeLemmas.{AllLeave, holds-emptied, holds-filled, holds-still, leads-keep, leave-copied, leave-found, leave-misses, leave-takes, leave-wrote, skip-leaves}
+use Rattle.trace_lane.specs.Made.{AreMisses, HoldsBlocks, MadeFor, register_of}
+use Rattle.trace_lane.proofs.MadeLemmas.{AllLeave, holds-emptied, holds-filled, holds-still, leads-keep, leave-copied, leave-found, leave-misses, leave-takes, leave-wrote, skip-leaves}
 use Rattle.lane_runner.proofs.WholeResize.{leads-split}
 use Rattle.lane_runner.proofs.WholeWalks.{steps-of}
 use Rattle.block_cache.specs.declared.cache.Cache.{Cache}
@@ -58,7 +58,7 @@ module _ (h : Heap) where
   abbrev Called : Cache → Call → Reply → Cache → Type 0
   Called = IsCachedCall h
 
-  keeps : (c d : Cache) (call : Call) (answer : Reply) (place : ℕ) (need : Need) → Called c call answer d → Leaves call place → HoldsAt c place need → HoldsAt d place need
+  keeps : (c d : Cache) (call : Call) (answer : Reply) (place : ℕ) (need : Need) → Called c call answer d → LeavesPlace call place → HoldsAt c place need → HoldsAt d place need
   keeps c d call answer place need one leaves held = whole-keeps h c d call answer place need one.0 leaves held
 
   lead-keep :
@@ -86,7 +86,7 @@ module _ (h : Heap) where
 
     emptied :
         (r : ℕ) (held : Held) (call : Call) (answer : Reply) → held_in registers r ≡ Some held → LeadsBy Called c (answered call answer ∷ []) d
-        → ((place : ℕ) → place ≢ held.place → Leaves call place) → HoldsAll d (slice_set registers r None)
+        → ((place : ℕ) → place ≢ held.place → LeavesPlace call place) → HoldsAll d (slice_set registers r None)
     emptied r held call answer full leads leave =
         holds-emptied held_place held_need (HoldsAt c) (HoldsAt d) registers r held full holds
         (λ place need differ. lead-keep c d (answered call answer ∷ []) place need leads (leave place differ, tt))

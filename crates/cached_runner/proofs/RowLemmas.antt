@@ -16,7 +16,7 @@ use Rattle.errand_steps.specs.declared.reply.Progress.TheVariants as progress
 use Rattle.errand_steps.specs.declared.reply.Reply.{Reply}
 use Rattle.errand_steps.specs.declared.reply.Reply.TheVariants as reply
 use Rattle.errand_steps.specs.Calls.{Call, alloc, begun_by, put, take}
-use Rattle.step_core.specs.Moments.{IsServed}
+use Rattle.step_machine.specs.Moments.{IsServed}
 use Rattle.call_events.specs.Made.{LeadsBy, Made, answered, found_from, wrote}
 use Rattle.call_events.specs.UnderWay.{IsUnderWay}
 use Rattle.live_heap.specs.declared.block.Block.{Block}
@@ -37,11 +37,11 @@ use Rattle.lane_outcomes.specs.declared.outcome.Outcome.TheVariants as outcome
 use Rattle.lane_outcomes.specs.Lane.{Position, filling, held_in, is_small}
 use Rattle.lane_outcomes.specs.Rows.{AllocRow, CheckRow, FillRow, FitsRow, IsSpent, IsWord, MayAsk, Moment, PutRow, ResizeRow, Setting, TakeRow}
 use Rattle.lane_outcomes.specs.Standing.{setting_in}
-use Rattle.lane_steps.specs.Made.{AreMisses, Skips, register_of}
-use Rattle.lane_steps.proofs.AnswerLemmas.{EndsSpent, told-of_alloc}
-use Rattle.lane_steps.proofs.BeginLemmas.{skip-row}
-use Rattle.lane_steps.proofs.CheckLemmas.{zip-of}
-use Rattle.lane_steps.proofs.TurnLemmas.{answered_in, answered-append, answered-row, asked-unspent, counted, giving-count, is-spent, may-ask, piece-count, small-need}
+use Rattle.trace_lane.specs.Made.{AreMisses, Skips, register_of}
+use Rattle.trace_lane.proofs.AnswerLemmas.{EndsSpent, told-of_alloc}
+use Rattle.trace_lane.proofs.BeginLemmas.{skip-row}
+use Rattle.trace_lane.proofs.CheckLemmas.{zip-of}
+use Rattle.trace_lane.proofs.TurnLemmas.{answered_in, answered-append, answered-row, asked-unspent, counted, giving-count, is-spent, may-ask, piece-count, small-need}
 use Rattle.lane_runner.specs.Threads.{WholeAt}
 use Rattle.lane_runner.proofs.WholeLaws.{skipped-so}
 use Rattle.lane_runner.proofs.WholeResize.{HasKept, contents-long, ended-as}

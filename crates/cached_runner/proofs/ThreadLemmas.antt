@@ -13,7 +13,7 @@ use Rattle.lane_outcomes.specs.Passed.{AllPassed}
 use Rattle.live_heap.specs.declared.heap.Heap.{Heap}
 use Rattle.live_heap.specs.declared.pass.Pass.{Pass}
 use Rattle.live_heap.specs.Passes.{AreFrom, IsOf}
-use Rattle.lane_steps.specs.Paths.{FirstPassed}
+use Rattle.trace_lane.specs.Paths.{FirstPassed}
 use Rattle.lane_runner.specs.Running.{operations_in}
 use Rattle.lane_runner.proofs.ThreadLemmas.{all-gone, down-done, down-find, from-at}
 use Rattle.cached_runner.specs.declared.run_cached.CacheThread.{CacheThread}

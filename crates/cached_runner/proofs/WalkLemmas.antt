@@ -14,9 +14,9 @@ use Rattle.lane_outcomes.specs.declared.outcome.Outcome.TheVariants as outcome
 use Rattle.lane_outcomes.specs.Lane.{Position, held_in, registers_after, spent_after}
 use Rattle.lane_outcomes.specs.Rows.{Setting}
 use Rattle.lane_outcomes.specs.Standing.{setting_in}
-use Rattle.lane_steps.specs.Made.{AllMade, MadeFor, register_of}
-use Rattle.lane_steps.proofs.OutcomeLemmas.{spent-still}
-use Rattle.lane_steps.proofs.TurnLemmas.{answered_in}
+use Rattle.trace_lane.specs.Made.{AllMade, MadeFor, register_of}
+use Rattle.trace_lane.proofs.OutcomeLemmas.{spent-still}
+use Rattle.trace_lane.proofs.TurnLemmas.{answered_in}
 use Rattle.lane_runner.proofs.ClosedFits.{spent-on}
 use Rattle.lane_runner.proofs.WholeResize.{IsOnward, onward-none, onward-then}
 use Rattle.block_cache.specs.declared.cache.Cache.{Cache}

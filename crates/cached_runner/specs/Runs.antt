@@ -4,9 +4,9 @@ use Rattle.trace_text.specs.declared.limits.TheConstants.{REGISTERS}
 use Rattle.trace_text.specs.declared.trace.Op.{Op}
 use Rattle.live_heap.specs.declared.block.Block.{Block}
 use Rattle.live_heap.specs.declared.heap.Heap.{Heap}
-use Rattle.lane_steps.specs.declared.lane.LaneState.{LaneState}
-use Rattle.lane_steps.specs.Made.{AllMade}
-use Rattle.lane_steps.specs.Paths.{FirstPassed}
+use Rattle.trace_lane.specs.declared.lane.LaneState.{LaneState}
+use Rattle.trace_lane.specs.Made.{AllMade}
+use Rattle.trace_lane.specs.Paths.{FirstPassed}
 use Rattle.block_cache.specs.declared.cache.Cache.{Cache}
 use Rattle.block_cache.specs.Whole.{RestsAt}
 use Rattle.cached_calls.specs.Calls.{IsCachedCall}

@@ -11,9 +11,9 @@ use Rattle.lane_outcomes.specs.declared.outcome.Outcome.{Outcome}
 use Rattle.live_heap.specs.declared.heap.Heap.{Heap}
 use Rattle.live_heap.specs.declared.pass.Pass.{Pass}
 use Rattle.live_heap.specs.Passes.{IsFresh}
-use Rattle.lane_steps.specs.Made.{AllMade}
-use Rattle.lane_steps.specs.Paths.{FirstPassed}
-use Rattle.lane_steps.specs.States.{IsNew}
+use Rattle.trace_lane.specs.Made.{AllMade}
+use Rattle.trace_lane.specs.Paths.{FirstPassed}
+use Rattle.trace_lane.specs.States.{IsNew}
 use Rattle.lane_runner.specs.Running.{operations_in}
 use Rattle.lane_runner.specs.Threads.{AreDown}
 use Rattle.block_cache.specs.declared.cache.Cache.{Cache}

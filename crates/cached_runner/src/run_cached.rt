@@ -7,7 +7,7 @@ ghost use Rattle.lane_outcomes.specs.Passed.{AllPassed};
 ghost use Rattle.errand_steps.specs.Begins.{IsIdle};
 ghost use Rattle.live_heap.specs.Endings.{AreAllIdle};
 ghost use Rattle.live_heap.specs.Passes.{AreFrom, IsFresh};
-ghost use Rattle.lane_steps.specs.States.{IsNew};
+ghost use Rattle.trace_lane.specs.States.{IsNew};
 ghost use Rattle.lane_runner.specs.Running.{operations_in};
 ghost use Rattle.block_cache.specs.Caches.{cached_in};
 ghost use Rattle.block_cache.specs.Whole.{RestsAt};
@@ -20,7 +20,6 @@ use cached_calls::over_cache::{CachedCalls, empty};
 use crossbeam_utils::CachePadded;
 use edge_io::gate::Gate;
 use lane_outcomes::outcome::Outcome;
-use lane_steps::lane::LaneState;
 use live_heap::block::Block;
 use live_heap::heap::Heap;
 use live_heap::pass::Pass;
@@ -28,6 +27,7 @@ use std::alloc::{AllocError, Global};
 use std::sync::Wait;
 use std::thread;
 use std::thread::Threads;
+use trace_lane::lane::LaneState;
 use trace_text::trace::{Op, Trace};
 
 /// The operations of a lane.

@@ -1,8 +1,8 @@
 -- What is under way after a step, and what has ended.
 use Rattle.std.proofs.Common.{ℕ, Bool, false, ◌≡◌, List, ◌<◌, ◌^◌, subst, arith}
 use Rattle.std.proofs.lemmas.Bool.{true≢false}
-use Rattle.word_plan.specs.Actions.{is_won}
-use Rattle.word_plan.specs.declared.action.Found.{Found}
+use Rattle.word_table.specs.Actions.{is_won}
+use Rattle.word_table.specs.declared.action.Found.{Found}
 use Rattle.pool_model.specs.declared.event.Event.{Event}
 use Rattle.errand_steps.specs.Begins.{IsBusy}
 use Rattle.errand_steps.specs.Calls.{Call}

@@ -3,9 +3,9 @@ use Rattle.std.proofs.Common.{ℕ, true, false, ◌≡◌, List, Option, Some, N
 use Rattle.std.specs.Prelude.{IsTrue}
 use Rattle.std.proofs.lemmas.Bool.{cases_Bool}
 use Rattle.heap_geometry.specs.declared.geometry.Geometry.{Geometry}
-use Rattle.word_plan.specs.Actions.{is_won}
-use Rattle.word_plan.specs.Seats.{SeatFields}
-use Rattle.word_plan.specs.declared.action.Found.{Found}
+use Rattle.word_table.specs.Actions.{is_won}
+use Rattle.word_table.specs.Seats.{SeatFields}
+use Rattle.word_table.specs.declared.action.Found.{Found}
 use Rattle.hazard_parts.specs.Retired.{first_unheld}
 use Rattle.pool_model.specs.declared.event.Event.{Event}
 use Rattle.errand_steps.specs.declared.next.Next.{Next}
@@ -38,11 +38,11 @@ point-leads :
     → Leads caller (stage_of p) (event_of caller p x) (outcome_of (next_of p x))
 unfolding plan_point_of event_of
 point-leads g caller point.Idle x fits won = grind (arith)
-point-leads g caller (point.Block p o) x fits won = block-leads caller p o x fits.goes fits.inside
-point-leads g caller (point.Stack p o) x fits won = stack-leads caller p o x fits.goes fits.inside
-point-leads g caller (point.Desc p o) x fits won = desc-leads caller p o x fits.goes fits.inside
-point-leads g caller (point.Partial p o) x fits won = partial-leads caller p o x fits.goes fits.inside
-point-leads g caller (point.Large p o) x fits won = large-leads caller p o x fits.goes fits.inside won
+point-leads g caller (point.Block p o) x fits won = block-leads caller p o x fits.goes
+point-leads g caller (point.Stack p o) x fits won = stack-leads caller p o x fits.goes
+point-leads g caller (point.Desc p o) x fits won = desc-leads caller p o x fits.goes
+point-leads g caller (point.Partial p o) x fits won = partial-leads caller p o x fits.goes
+point-leads g caller (point.Large p o) x fits won = large-leads caller p o x fits.goes won
 
 -- a retirement leads to a scan, and to what is resumed
 scan-leads : (caller : ℕ) (s : SeatFields) (o : Continuation) → IsTrue (resumes o) → Leads caller (continuation_stage false s o) None (still (continuation_stage true s o))

@@ -10,7 +10,7 @@ use Rattle.errand_steps.specs.declared.point.Point.{Point}
 use Rattle.errand_steps.specs.declared.reply.Reply.{Reply}
 use Rattle.errand_steps.specs.declared.reply.Reply.TheVariants as reply
 use Rattle.call_events.specs.Ends.{end_of}
-use Rattle.call_events.specs.Stages.{Stage, asking, asking_run, refused, given, freeing, freed, writing, reading, putting, taking}
+use Rattle.call_events.specs.Stages.{StageOfCall, asking, asking_run, refused, given, freeing, freed, writing, reading, putting, taking}
 use Rattle.call_events.specs.UnderWay.{SoFar, IsUnderWay}
 use Rattle.call_events.proofs.EventLists.{spending, refusing-run}
 use Rattle.call_events.proofs.SoFarLemmas.{one-event}
@@ -23,7 +23,7 @@ one-comes : (caller : ℕ) (end : Ended) (es : List Event) (e : Event) → Event
 one-comes caller end es e of = (es ++ e ∷ [], of, (e ∷ [], refl))
 
 pub can-end :
-    (caller : ℕ) (call : Call) (stage : Stage) (es : List Event) → SoFar caller call stage es
+    (caller : ℕ) (call : Call) (stage : StageOfCall) (es : List Event) → SoFar caller call stage es
     → (r : Reply) × (end : Ended) × (end_of call r ≡ Some end) × EventsSoFar caller end es
 can-end caller (alloc n) (asking w c looked) es so =
     (reply.Spent, alloc_spent n, refl, all-there caller (alloc_spent n) es (spending caller n c looked es so.1 so.2))

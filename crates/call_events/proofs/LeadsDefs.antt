@@ -9,12 +9,12 @@ use Rattle.errand_steps.specs.declared.reply.Reply.{Reply}
 use Rattle.errand_steps.specs.declared.reply.Reply.TheVariants as reply
 use Rattle.errand_steps.specs.Calls.{Call}
 use Rattle.call_events.specs.Ends.{HasEnded}
-use Rattle.call_events.specs.Stages.{Stage, asking, asking_run, refused, given, freeing, freed, writing, reading, putting, taking, none, stage_of, continuation_stage}
+use Rattle.call_events.specs.Stages.{StageOfCall, asking, asking_run, refused, given, freeing, freed, writing, reading, putting, taking, none, stage_of, continuation_stage}
 use Rattle.call_events.specs.UnderWay.{SoFar}
 
 -- after a step a call is at a stage, or has ended
 pub data Outcome : Type 0 where
-  still : Stage → Outcome
+  still : StageOfCall → Outcome
   over : Reply → Outcome
 
 abbrev pub outcome_of : Next → Outcome
@@ -31,7 +31,7 @@ SoFarAt caller call (still stage) es = SoFar caller call stage es
 SoFarAt caller call (over r) es = HasEnded caller call r es
 
 -- the stage leads on by this event, if any, to the outcome
-abbrev pub Leads : ℕ → Stage → Option Event → Outcome → Type 0
+abbrev pub Leads : ℕ → StageOfCall → Option Event → Outcome → Type 0
 Leads caller (asking w c looked) None (still (asking w' c' looked')) = (w' ≡ w) × (c' ≡ c) × (looked' ≡ true → looked ≡ true)
 Leads caller (asking w c looked) None (over reply.Spent) = Unit {0}
 Leads caller (asking w c looked) (Some e) (still (asking w' c' looked')) = (w' ≡ w) × (c' ≡ c) × (e ≡ event.Looked caller c)

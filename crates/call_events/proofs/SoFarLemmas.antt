@@ -9,7 +9,7 @@ use Rattle.pool_model.specs.Calls as ended
 use Rattle.errand_steps.specs.declared.reply.Reply.TheVariants as reply
 use Rattle.errand_steps.specs.Calls.{Call, alloc, free, write, read, put, take}
 use Rattle.errand_steps.specs.Steps.{with_event}
-use Rattle.call_events.specs.Stages.{Stage, asking, asking_run, refused, given, freeing, freed, writing, reading, putting, taking}
+use Rattle.call_events.specs.Stages.{StageOfCall, asking, asking_run, refused, given, freeing, freed, writing, reading, putting, taking}
 use Rattle.call_events.specs.UnderWay.{SoFar, HasLooked}
 use Rattle.call_events.proofs.EventLists.{looked-less, looked-more, refusing, giving, spending, refusing-run, giving-run}
 use Rattle.call_events.proofs.LeadsDefs.{Outcome, still, over, SoFarAt, Leads}
@@ -19,7 +19,7 @@ pub one-event : (es : List Event) (e f : Event) → es ≡ [] → e ≡ f → es
 one-event es e f empty is = ap (λ (k : List Event). k ++ e ∷ []) empty ∙ ap (λ (y : Event). y ∷ []) is
 
 pub so-leads :
-    (caller : ℕ) (call : Call) (stage : Stage) (event : Option Event) (outcome : Outcome) (es : List Event) → SoFar caller call stage es
+    (caller : ℕ) (call : Call) (stage : StageOfCall) (event : Option Event) (outcome : Outcome) (es : List Event) → SoFar caller call stage es
     → Leads caller stage event outcome → SoFarAt caller call outcome (with_event es event)
 so-leads caller (alloc n) (asking w c looked) None (still (asking w' c' looked')) es so f =
     (f.0 ∙ so.0, so.1 ∙ ap Small (sym f.1), subst (λ k. HasLooked caller k looked' es) (sym f.1) (looked-less caller c looked looked' es f.2 so.2))

@@ -3,8 +3,8 @@ use Rattle.std.specs.Prelude.{ℕ, Bool, true, false}
 use Rattle.heap_geometry.specs.Place.{block_place}
 use Rattle.heap_geometry.specs.declared.need.Need.{Need}
 use Rattle.heap_geometry.specs.declared.need.Need.TheVariants.{Small, Large}
-use Rattle.word_plan.specs.Seats.{SeatFields}
-use Rattle.word_plan.specs.declared.seat.Site.{Site}
+use Rattle.word_table.specs.Seats.{SeatFields}
+use Rattle.word_table.specs.declared.seat.Site.{Site}
 use Rattle.superblock_parts.specs.declared.point.BlockPoint.{BlockPoint}
 use Rattle.superblock_parts.specs.declared.point.BlockPoint.TheVariants as block
 use Rattle.superblock_parts.specs.Points.{seat_of_block}
@@ -20,28 +20,28 @@ use Rattle.errand_steps.specs.declared.point.Point.TheVariants as point
 use Rattle.errand_steps.specs.Points.{asked, site_of}
 
 -- how far a call is: it asks for words of a class (and has looked, where it found no partial superblock in this turn), or for words of a run; it is refused, or given a block; it frees a block, or has freed it; it writes a usable word, or reads one; it puts a block on a shelf, or takes one from there; or there is no call
-pub data Stage : Type 0 where
-  asking : (words class : ℕ) (looked : Bool) → Stage
-  asking_run : (words units : ℕ) → Stage
-  refused : Stage
-  given : (place : ℕ) (need : Need) → Stage
-  freeing : (place : ℕ) (need : Need) → Stage
-  freed : Stage
-  writing : (place i value : ℕ) → Stage
-  reading : (place i : ℕ) → Stage
-  putting : (place : ℕ) (need : Need) (shelf : ℕ) → Stage
-  taking : (shelf : ℕ) → Stage
-  none : Stage
+pub data StageOfCall : Type 0 where
+  asking : (words class : ℕ) (looked : Bool) → StageOfCall
+  asking_run : (words units : ℕ) → StageOfCall
+  refused : StageOfCall
+  given : (place : ℕ) (need : Need) → StageOfCall
+  freeing : (place : ℕ) (need : Need) → StageOfCall
+  freed : StageOfCall
+  writing : (place i value : ℕ) → StageOfCall
+  reading : (place i : ℕ) → StageOfCall
+  putting : (place : ℕ) (need : Need) (shelf : ℕ) → StageOfCall
+  taking : (shelf : ℕ) → StageOfCall
+  none : StageOfCall
 
 -- a block of a superblock is handed out; it is freed
-abbrev pub block_given : Site → ℕ → Stage
+abbrev pub block_given : Site → ℕ → StageOfCall
 block_given at i = given (block_place at.frame at.seat.class i) (Small at.seat.class)
 
-abbrev pub block_freeing : Site → ℕ → Stage
+abbrev pub block_freeing : Site → ℕ → StageOfCall
 block_freeing at i = freeing (block_place at.frame at.seat.class i) (Small at.seat.class)
 
 -- in a superblock
-abbrev pub block_stage : BlockPoint → Continuation → Stage
+abbrev pub block_stage : BlockPoint → Continuation → StageOfCall
 block_stage (block.StorePrefix at i) o = block_given at i
 block_stage (block.InstallCredits at i more) o = block_given at i
 block_stage (block.LoadReturn at i more) o = block_given at i
@@ -55,7 +55,7 @@ block_stage (block.PushBlock at i a stored heap) o = block_freeing at i
 block_stage p o = asking (asked o) (seat_of_block p).class false
 
 -- at a stack, at the descriptors and at a partial superblock it is what the caller goes on with; an allocation has looked where its part says so, or where it takes a frame
-abbrev pub continuation_stage : Bool → SeatFields → Continuation → Stage
+abbrev pub continuation_stage : Bool → SeatFields → Continuation → StageOfCall
 continuation_stage looked s (continuation.Alloc words) = asking words s.class looked
 continuation_stage looked s (continuation.TakeFrame words d) = asking words s.class true
 continuation_stage looked s (continuation.GiveBlock words d frame i) = block_given (site_of s d frame) i
@@ -67,7 +67,7 @@ continuation_stage looked s continuation.Nothing = none
 continuation_stage looked s o = freed
 
 -- at a large block, a usable word or a shelf
-abbrev pub large_stage : LargePoint → Continuation → Stage
+abbrev pub large_stage : LargePoint → Continuation → StageOfCall
 large_stage (large.LoadUnits w) o = asking_run (asked o) w.units
 large_stage (large.TakeRun w bits) o = asking_run (asked o) w.units
 large_stage (large.StoreRunPrefix place run) o = given place (Large run.units)
@@ -79,10 +79,9 @@ large_stage (large.PutBlock shelf place need) o = putting place need shelf
 large_stage (large.LoadShelf shelf) o = taking shelf
 large_stage (large.TakeBlock shelf place need) o = taking shelf
 large_stage (large.ConfirmNothing shelf) o = taking shelf
-large_stage p o = none
 
 -- at any point
-abbrev pub stage_of : Point → Stage
+abbrev pub stage_of : Point → StageOfCall
 stage_of point.Idle = none
 stage_of (point.Block p o) = block_stage p o
 stage_of (point.Stack p o) = continuation_stage false (seat_of_stack p) o

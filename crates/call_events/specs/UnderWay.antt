@@ -9,7 +9,7 @@ use Rattle.pool_model.specs.Calls.{looks, IsGiving, IsRefusing}
 use Rattle.errand_steps.specs.declared.point.Point.{Point}
 use Rattle.errand_steps.specs.Begins.{IsHeapBlock}
 use Rattle.errand_steps.specs.Calls.{Call, alloc, free, write, read, put, take}
-use Rattle.call_events.specs.Stages.{Stage, asking, asking_run, refused, given, freeing, freed, writing, reading, putting, taking, stage_of}
+use Rattle.call_events.specs.Stages.{StageOfCall, asking, asking_run, refused, given, freeing, freed, writing, reading, putting, taking, stage_of}
 
 -- these are looks for a class: any number of them; at least one
 abbrev pub HasLooked : ℕ → ℕ → Bool → List Event → Type 0
@@ -17,7 +17,7 @@ HasLooked caller class false events = (count : ℕ) × (events ≡ looks caller 
 HasLooked caller class true events = (count : ℕ) × (events ≡ looks caller class (suc count))
 
 -- the call is at this stage, and these are its caller's events since it began; no other stage is one of the call
-abbrev pub SoFar : ℕ → Call → Stage → List Event → Type 0
+abbrev pub SoFar : ℕ → Call → StageOfCall → List Event → Type 0
 SoFar caller (alloc n) (asking words class looked) events = (words ≡ n) × (need_of n ≡ Small class) × HasLooked caller class looked events
 SoFar caller (alloc n) (asking_run words units) events = (words ≡ n) × (need_of n ≡ Large units) × (events ≡ [])
 SoFar caller (alloc n) refused events = IsRefusing caller n (need_of n) events

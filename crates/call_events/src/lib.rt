@@ -4,8 +4,8 @@
 
 ghost use Rattle.std.specs.Prelude.{ℕ, ◌≡◌, ◌≢◌, ◌<◌, ◌^◌, List, [], Some, false};
 ghost use Rattle.heap_geometry.specs.declared.need.Need.{Need};
-ghost use Rattle.word_plan.specs.Actions.{is_won};
-ghost use Rattle.word_plan.specs.declared.action.Found.{Found};
+ghost use Rattle.word_table.specs.Actions.{is_won};
+ghost use Rattle.word_table.specs.declared.action.Found.{Found};
 ghost use Rattle.pool_model.specs.Calls.{Ended, EventsOf, EventsSoFar, alloc_too_large, alloc_spent};
 ghost use Rattle.pool_model.specs.declared.event.Event.{Event};
 ghost use Rattle.errand_steps.specs.Begins.{IsIdle, IsBusy, alloc_answer};

@@ -12,7 +12,7 @@ use Rattle.heap_geometry.specs.Place.{unit_place, unit_of}
 use Rattle.heap_geometry.proofs.PlaceLemmas.{block-within, unit_of-unit_place}
 use Rattle.packed_words.specs.declared.shelf.ShelfWord.TheVariants as shelf
 use Rattle.packed_words.specs.Shelf.{IsShelfWord}
-use Rattle.word_plan.specs.Counts.{arena_words}
+use Rattle.word_table.specs.Counts.{arena_words}
 use Rattle.pool_model.proofs.NeedOfLemmas.{need_of-within}
 use Rattle.errand_steps.specs.declared.point.Point.{Point}
 use Rattle.errand_steps.specs.declared.point.Point.TheVariants.{Idle}
@@ -51,13 +51,12 @@ begun-alloc-errand e words (Small class) is h idle =
       point = record { geometry = refl; number = refl; class = needs };
       continuation = is;
       goes = refl;
-      inside = refl;
     })
     refl refl (let most = h.turns in grind (arith, left, most)))
 begun-alloc-errand e words (Large units) is h idle =
     let needs : IsNeed (Large units) = subst IsNeed is (need_of-within words) in
     with-point e _ _ h idle
-    (record { point = record { geometry = refl; units = (omega (arith, needs.0), needs.1) }; goes = is; inside = refl }) refl refl h.turns
+    (record { point = record { geometry = refl; units = (omega (arith, needs.0), needs.1) }; goes = is }) refl refl h.turns
 begun-alloc-errand e words TooLarge is h idle = h
 
 -- an errand that begins an allocation keeps its rule
@@ -76,7 +75,6 @@ free-errand e place (Small class) (needs, (frame, index, has, within, is)) h idl
       point = (record { geometry = refl; number = refl; class = needs }, omega (arith, f, has), omega (arith, i, within));
       continuation = tt;
       goes = refl;
-      inside = refl;
     })
     refl refl h.turns
 free-errand e place (Large units) (needs, (unit, within, is)) h idle =
@@ -89,7 +87,6 @@ free-errand e place (Large units) (needs, (unit, within, is)) h idle =
         place = is ∙ ap (unit_place e.geometry.frames) (sym first);
       };
       goes = refl;
-      inside = refl;
     })
     refl refl h.turns
 free-errand e place TooLarge (needs, nowhere) h idle = absurd nowhere
@@ -106,14 +103,14 @@ pub write-errand :
     → IsIdle e → IsErrand (write_begun e place i v)
 unfolding write_begun
 write-errand e place n i v block below word h idle =
-    with-point e _ _ h idle (record { point = (payload-within e.geometry place n i block below, word); goes = refl; inside = refl }) refl refl h.turns
+    with-point e _ _ h idle (record { point = (payload-within e.geometry place n i block below, word); goes = refl }) refl refl h.turns
 
 pub read-errand :
     (e : ErrandFields) (place : ℕ) (n : Need) (i : ℕ) → IsHeapBlock e.geometry place n → i < usable_words n → IsErrand e → IsIdle e
     → IsErrand (read_begun e place i)
 unfolding read_begun
 read-errand e place n i block below h idle =
-    with-point e _ _ h idle (record { point = payload-within e.geometry place n i block below; goes = refl; inside = refl }) refl refl h.turns
+    with-point e _ _ h idle (record { point = payload-within e.geometry place n i block below; goes = refl }) refl refl h.turns
 
 -- a block of a heap can be said by a shelf's word
 heap-block-shelved : (g : Geometry) (place : ℕ) (n : Need) → IsChecked g → IsHeapBlock g place n → IsShelfWord (shelf.Block place n)
@@ -129,8 +126,8 @@ pub put-errand :
 unfolding put_begun
 put-errand e place n k block has h idle =
     with-point e _ _ h idle
-    (record { point = record { shelf = has; block = heap-block-shelved e.geometry place n h.geometry block }; goes = refl; inside = refl }) refl refl h.turns
+    (record { point = record { shelf = has; block = heap-block-shelved e.geometry place n h.geometry block }; goes = refl }) refl refl h.turns
 
 pub take-errand : (e : ErrandFields) (k : ℕ) → k < SHELVES → IsErrand e → IsIdle e → IsErrand (take_begun e k)
 unfolding take_begun
-take-errand e k has h idle = with-point e _ _ h idle (record { point = has; goes = refl; inside = refl }) refl refl h.turns
+take-errand e k has h idle = with-point e _ _ h idle (record { point = has; goes = refl }) refl refl h.turns

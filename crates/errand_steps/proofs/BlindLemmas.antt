@@ -1,8 +1,8 @@
 -- A store tells nothing of the word that it finds.
 use Rattle.std.proofs.Common.{ℕ, ◌≡◌, false, refl, arith}
-use Rattle.word_plan.specs.declared.action.Action.TheVariants.{Store}
-use Rattle.word_plan.specs.declared.action.Found.{Found}
-use Rattle.word_plan.specs.declared.name.WordName.{WordName}
+use Rattle.word_table.specs.declared.action.Action.TheVariants.{Store}
+use Rattle.word_table.specs.declared.action.Found.{Found}
+use Rattle.word_table.specs.declared.name.WordName.{WordName}
 use Rattle.errand_steps.specs.declared.point.Point.{Point}
 use Rattle.errand_steps.specs.Errands.{ErrandFields, plan_of, settle_of, answer_of, course_of, counts_lost, counts_cleared}
 use Rattle.errand_steps.specs.Nexts.{next_of}

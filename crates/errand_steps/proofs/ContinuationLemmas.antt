@@ -4,7 +4,7 @@ use Rattle.std.specs.Prelude.{IsTrue}
 use Rattle.heap_geometry.specs.declared.geometry.Geometry.{Geometry}
 use Rattle.heap_geometry.specs.declared.need.Need.TheVariants as need
 use Rattle.heap_geometry.specs.Need.{need_of}
-use Rattle.word_plan.specs.Seats.{SeatFields}
+use Rattle.word_table.specs.Seats.{SeatFields}
 use Rattle.errand_steps.specs.declared.continuation.Continuation.{Continuation}
 use Rattle.errand_steps.specs.declared.continuation.Continuation.TheVariants.{Alloc}
 use Rattle.errand_steps.specs.Fits.{FitsContinuation, IsSmallFor}

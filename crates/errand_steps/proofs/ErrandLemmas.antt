@@ -5,9 +5,9 @@ use Rattle.std.proofs.lemmas.Bool.{cond_both, leb-false}
 use Rattle.std.proofs.lemmas.List.{length-append}
 use Rattle.std.proofs.lemmas.List.Elements.{All-append, All-cons, All-nil, All-contains}
 use Rattle.heap_geometry.specs.declared.geometry.Geometry.{Geometry}
-use Rattle.word_plan.specs.declared.action.Found.{Found}
-use Rattle.word_plan.specs.Counts.{descriptor_count}
-use Rattle.word_plan.specs.Seats.{SeatFields}
+use Rattle.word_table.specs.declared.action.Found.{Found}
+use Rattle.word_table.specs.Counts.{descriptor_count}
+use Rattle.word_table.specs.Seats.{SeatFields}
 use Rattle.hazard_parts.specs.declared.point.DescPoint.TheVariants as desc
 use Rattle.hazard_parts.specs.Retired.{first_unheld, without}
 use Rattle.hazard_parts.proofs.PickLemmas.{some-listed}
@@ -16,7 +16,7 @@ use Rattle.errand_steps.specs.declared.point.Point.{Point}
 use Rattle.errand_steps.specs.declared.point.Point.TheVariants.{Desc}
 use Rattle.errand_steps.specs.declared.next.Next.{Next}
 use Rattle.errand_steps.specs.declared.next.Next.TheVariants.{At, End, Turn, Retire, Pick, Unlist}
-use Rattle.errand_steps.specs.Errands.{ErrandFields, IsErrand, IsListable, after_list, after_turn, picked, point_after, list_after, begins_turn, raised, is_full, no_words, settle_of, course_of}
+use Rattle.errand_steps.specs.Errands.{ErrandFields, IsErrand, IsListable, after_list, after_turn, picked, point_after, list_after, begins_turn, raised, is_full, no_words, led_by, settle_of, course_of}
 use Rattle.errand_steps.specs.Fits.{FitsPoint, spare_of, pushed_by}
 use Rattle.errand_steps.specs.Nexts.{next_of, resumed}
 use Rattle.errand_steps.proofs.NextLemmas.{FitsNext, IsResuming, Follows, follows-resumed}
@@ -72,7 +72,6 @@ stands-added e s d o h f =
         point = (record { seat = f.fits.1.seat; words = refl }, omega (arith, h.geometry.callers.0));
         continuation = f.fits.1.continuation;
         goes = f.fits.1.goes;
-        inside = refl;
       };
       room = omega (arith, longer, h.room, f.lists);
       pushed = tt;
@@ -93,7 +92,6 @@ stands-picked e s held o (Some d) h w is =
         point = record { seat = w.seat; desc = All-contains (λ k. k < descriptor_count e.geometry) e.retired d h.listed has };
         continuation = w.continuation;
         goes = w.goes;
-        inside = refl;
       };
       room = omega (arith, h.room, spare-most e.point);
       pushed = has;
@@ -143,10 +141,9 @@ pub listable :
 listable e x h word =
     listable-at e (next_of e.point x) h (follows-next e.geometry e.caller e.point x h.geometry word h.point)
 
--- an errand's rule holds after a step
-pub settle_errand : (e : ErrandFields) (x : Found) → IsErrand e → x.value < 2 ^ 64 → IsErrand (settle_of e x)
-unfolding settle_of course_of
-settle_errand e x h word =
+-- an errand's rule holds where a step leads
+pub led_errand : (e : ErrandFields) (x : Found) → IsErrand e → x.value < 2 ^ 64 → IsErrand (led_by e (next_of e.point x))
+led_errand e x h word =
     let next = next_of e.point x in
     let listed = after_list e next in
     let stands = stands-after_turn e (list_after e.retired next) listed
@@ -160,6 +157,17 @@ settle_errand e x h word =
       pushed = stands.pushed;
       turns = turns-within e listed h.turns;
     }
+
+-- it holds whatever the counts are
+pub counted_errand :
+    (e : ErrandFields) (won lost cleared : ℕ) → IsErrand e → IsErrand (record e { won = won; lost = lost; cleared = cleared })
+counted_errand e won lost cleared h =
+    record { geometry = h.geometry; caller = h.caller; point = h.point; listed = h.listed; room = h.room; pushed = h.pushed; turns = h.turns }
+
+-- it holds after a step
+pub settle_errand : (e : ErrandFields) (x : Found) → IsErrand e → x.value < 2 ^ 64 → IsErrand (settle_of e x)
+unfolding settle_of course_of
+settle_errand e x h word = counted_errand (led_by e (next_of e.point x)) _ _ _ (led_errand e x h word)
 
 -- what equals the errand after a step keeps the rule
 pub settled_errand :

@@ -5,17 +5,16 @@ use Rattle.heap_geometry.specs.declared.geometry.Geometry.{Geometry}
 use Rattle.heap_geometry.specs.declared.need.Need.TheVariants as need
 use Rattle.heap_geometry.specs.Need.{IsNeed, need_of, block_count_of}
 use Rattle.heap_geometry.specs.Place.{block_place, unit_place}
-use Rattle.word_plan.specs.declared.action.Found.{Found}
-use Rattle.word_plan.specs.declared.seat.Site.{Site}
-use Rattle.word_plan.specs.Sites.{IsSiteOf}
-use Rattle.word_plan.proofs.SeatLemmas.{block_count_of-least}
+use Rattle.word_table.specs.declared.action.Found.{Found}
+use Rattle.word_table.specs.declared.seat.Site.{Site}
+use Rattle.word_table.specs.Sites.{IsSiteOf}
+use Rattle.word_table.proofs.SeatLemmas.{block_count_of-least}
 use Rattle.superblock_parts.specs.declared.point.BlockPoint.{BlockPoint}
 use Rattle.superblock_parts.specs.declared.point.BlockPoint.TheVariants as block
 use Rattle.stack_parts.specs.declared.point.StackPoint.{StackPoint}
 use Rattle.large_parts.specs.declared.point.LargePoint.{LargePoint}
 use Rattle.large_parts.specs.declared.point.LargePoint.TheVariants as large
-use Rattle.large_parts.specs.Fits.{IsWantOf}
-use Rattle.large_parts.specs.Points.{first_wanted}
+use Rattle.large_parts.specs.Points.{IsWantOf, first_wanted}
 use Rattle.large_parts.specs.Runs.{WantFields}
 use Rattle.large_parts.specs.Units.{IsFirstRun}
 use Rattle.large_parts.proofs.LowestLemmas.{first_run-exact}
@@ -92,13 +91,6 @@ gives-in_block g caller (block.PushBlock at i a stored heap) o h = tt
 gives-in_block g caller (block.LinkBlock at i) o h = tt
 gives-in_block g caller (block.StoreInfo at) o h = tt
 gives-in_block g caller (block.StoreAnchor at) o h = tt
-gives-in_block g caller (block.WantsPartial s) o h = tt
-gives-in_block g caller (block.Returned at i) o h = tt
-gives-in_block g caller (block.Discarded at) o h = tt
-gives-in_block g caller (block.Given at i) o h = tt
-gives-in_block g caller (block.BecameEmpty at heap) o h = tt
-gives-in_block g caller (block.BecamePartial at stored) o h = tt
-gives-in_block g caller (block.Pushed s stored) o h = tt
 
 gives-in_stack : (g : Geometry) (caller words : ℕ) (p : StackPoint) → Gives g (stack_event caller words p)
 gives-in_stack g caller words p = grind (arith)
@@ -116,16 +108,6 @@ gives-in_large g caller (large.PutBlock shelf place block) o h = tt
 gives-in_large g caller (large.LoadShelf shelf) o h = tt
 gives-in_large g caller (large.TakeBlock shelf place block) o h = tt
 gives-in_large g caller (large.ConfirmNothing shelf) o h = tt
-gives-in_large g caller (large.GivenRun place run) o h = tt
-gives-in_large g caller large.NoRun o h = tt
-gives-in_large g caller large.FreedRun o h = tt
-gives-in_large g caller large.Wrote o h = tt
-gives-in_large g caller (large.Word value) o h = tt
-gives-in_large g caller large.PutDone o h = tt
-gives-in_large g caller (large.ShelfFull found) o h = tt
-gives-in_large g caller (large.Got place block) o h = tt
-gives-in_large g caller large.NothingThere o h = tt
-gives-in_large g caller (large.Missed expected found) o h = tt
 
 gives-won : (g : Geometry) (caller : ℕ) (p : Point) → FitsPoint g caller p → Gives g (won_event caller p)
 gives-won g caller Idle h = tt

@@ -5,6 +5,7 @@ pub mod BlindLemmas
 pub mod EnterLemmas
 pub mod ErrandLemmas
 pub mod EventLemmas
+pub mod LedLemmas
 pub mod NextLemmas
 pub mod ContinuationLemmas
 pub mod PlanLemmas

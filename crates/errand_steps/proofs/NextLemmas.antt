@@ -4,12 +4,12 @@ use Rattle.std.specs.Prelude.{IsTrue}
 use Rattle.heap_geometry.specs.declared.geometry.Geometry.{Geometry}
 use Rattle.packed_words.specs.Head.{HeadFields}
 use Rattle.heap_geometry.specs.Need.{block_count_of}
-use Rattle.word_plan.specs.Counts.{descriptor_count}
-use Rattle.word_plan.specs.Seats.{SeatFields}
-use Rattle.word_plan.specs.Sites.{IsSeatOf}
-use Rattle.word_plan.proofs.SeatLemmas.{block_count_of-least}
+use Rattle.word_table.specs.Counts.{descriptor_count}
+use Rattle.word_table.specs.Seats.{SeatFields}
+use Rattle.word_table.specs.Sites.{IsSeatOf}
+use Rattle.word_table.proofs.SeatLemmas.{block_count_of-least}
 use Rattle.stack_parts.specs.declared.point.Pile.{Pile}
-use Rattle.stack_parts.specs.Fits.{IsBare, IsIndexOf}
+use Rattle.stack_parts.specs.Points.{IsBare, IsIndexOf}
 use Rattle.errand_steps.specs.declared.continuation.Continuation.{Continuation}
 use Rattle.errand_steps.specs.declared.next.Next.{Next}
 use Rattle.errand_steps.specs.declared.next.Next.TheVariants.{At, End, Turn, Retire, Pick, Unlist}

@@ -2,13 +2,13 @@
 use Rattle.std.proofs.Common.{ℕ, ◌<◌}
 use Rattle.heap_geometry.specs.declared.geometry.Geometry.{Geometry}
 use Rattle.heap_geometry.specs.Geometry.{IsChecked}
-use Rattle.word_plan.specs.Actions.{name_of}
-use Rattle.word_plan.specs.Table.{Exists}
-use Rattle.superblock_parts.proofs.FitLemmas as block
-use Rattle.stack_parts.proofs.FitLemmas as stack
-use Rattle.hazard_parts.proofs.FitLemmas as desc
-use Rattle.partial_parts.proofs.FitLemmas as partial
-use Rattle.large_parts.proofs.FitLemmas as large
+use Rattle.word_table.specs.Actions.{name_of}
+use Rattle.word_table.specs.Table.{Exists}
+use Rattle.superblock_parts.proofs.PointLemmas as block
+use Rattle.stack_parts.proofs.PointLemmas as stack
+use Rattle.hazard_parts.proofs.PointLemmas as desc
+use Rattle.partial_parts.proofs.PointLemmas as partial
+use Rattle.large_parts.proofs.PointLemmas as large
 use Rattle.errand_steps.specs.declared.point.Point.{Point}
 use Rattle.errand_steps.specs.declared.point.Point.TheVariants.{Idle, Block, Stack, Desc, Partial, Large}
 use Rattle.errand_steps.specs.Fits.{FitsPoint}

@@ -2,7 +2,7 @@
 use Rattle.std.proofs.Common.{ℕ, Bool, true, false, ◌≡◌, arith, ap, ◌∙◌}
 use Rattle.heap_geometry.specs.declared.need.Need.{Need}
 use Rattle.heap_geometry.specs.Need.{need_of}
-use Rattle.word_plan.specs.declared.action.Found.{Found}
+use Rattle.word_table.specs.declared.action.Found.{Found}
 use Rattle.errand_steps.specs.declared.next.Next.{Next}
 use Rattle.errand_steps.specs.declared.next.Next.TheVariants.{End}
 use Rattle.errand_steps.specs.declared.point.Point.{Point}

@@ -1,32 +1,25 @@
--- Where a caller stays in its part, the point that follows is the part's own, and the list and the turns stay.
-use Rattle.std.proofs.Common.{ℕ, ◌≡◌, false, ap, arith, refl, sym}
-use Rattle.word_plan.specs.declared.action.Action.{Action}
-use Rattle.word_plan.specs.declared.action.Found.{Found}
-use Rattle.superblock_parts.specs.declared.point.BlockPoint.{BlockPoint}
+-- The errand after a step, by where it leads.
+use Rattle.std.proofs.Common.{ℕ, Option, Some, true, ◌≡◌, ap, refl, sym, arith}
+use Rattle.word_table.specs.declared.action.Action.{Action}
+use Rattle.word_table.specs.declared.action.Found.{Found}
+use Rattle.word_table.specs.declared.onward.Onward.{Onward}
+use Rattle.word_table.specs.Onwards.{exit_by, point_by}
+use Rattle.stack_parts.specs.declared.exit.StackExit.{StackExit}
 use Rattle.stack_parts.specs.declared.point.StackPoint.{StackPoint}
-use Rattle.hazard_parts.specs.declared.point.DescPoint.{DescPoint}
+use Rattle.large_parts.specs.declared.exit.LargeExit.{LargeExit}
+use Rattle.large_parts.specs.declared.point.LargePoint.{LargePoint}
+use Rattle.large_parts.specs.Points.{settle_large_of}
+use Rattle.partial_parts.specs.declared.exit.PartialExit.{PartialExit}
 use Rattle.partial_parts.specs.declared.point.PartialPoint.{PartialPoint}
-use Rattle.errand_steps.specs.declared.next.Next.TheVariants.{At, End}
 use Rattle.errand_steps.specs.declared.continuation.Continuation.{Continuation}
+use Rattle.errand_steps.specs.declared.next.Next.TheVariants.{At, End}
 use Rattle.errand_steps.specs.declared.point.Point.{Point}
-use Rattle.errand_steps.specs.declared.point.Point.TheVariants.{Idle, Block, Stack, Desc, Partial}
+use Rattle.errand_steps.specs.declared.point.Point.TheVariants.{Idle, Large}
 use Rattle.errand_steps.specs.declared.reply.Progress.TheVariants.{Done}
 use Rattle.errand_steps.specs.declared.reply.Reply.{Reply}
-use Rattle.errand_steps.specs.Errands.{ErrandFields, plan_of, settle_of, course_of, answer_of, counts_won, counts_lost, counts_cleared, raised, going_on, EndsUncounted}
-use Rattle.errand_steps.specs.Nexts.{next_of, enter_block, enter_stack, enter_desc, enter_partial}
-use Rattle.errand_steps.specs.Continuations.{has_left_block, has_left_stack, has_left_desc, has_left_partial}
-
-pub stay_block : (p : BlockPoint) (o : Continuation) → has_left_block p ≡ false → enter_block p o ≡ At (Block p o)
-stay_block p o inside = grind (arith)
-
-pub stay_stack : (p : StackPoint) (o : Continuation) → has_left_stack p ≡ false → enter_stack p o ≡ At (Stack p o)
-stay_stack p o inside = grind (arith)
-
-pub stay_desc : (p : DescPoint) (o : Continuation) → has_left_desc p ≡ false → enter_desc p o ≡ At (Desc p o)
-stay_desc p o inside = grind (arith)
-
-pub stay_partial : (p : PartialPoint) (o : Continuation) → has_left_partial p ≡ false → enter_partial p o ≡ At (Partial p o)
-stay_partial p o inside = grind (arith)
+use Rattle.errand_steps.specs.Errands.{ErrandFields, plan_of, settle_of, course_of, answer_of, counts_won, counts_lost, counts_cleared, raised, going_on, is_on_word, EndsUncounted}
+use Rattle.errand_steps.specs.Points.{plan_point_of}
+use Rattle.errand_steps.specs.Nexts.{next_of, enter_partial, enter_stack, leave_large, leave_partial, leave_stack}
 
 -- the errand after a step after which the caller stands at this point of its part, with its counts
 pub stayed_errand :
@@ -60,6 +53,13 @@ pub ended_answer : (e : ErrandFields) (x : Found) (r : Reply) → next_of e.poin
 unfolding answer_of course_of
 ended_answer e x r ends = rw (ends) refl
 
+-- a step on a usable word ends its call, and no count rises
+pub word_ends :
+    (p : LargePoint) (o : Continuation) (x : Found) (q : Option LargeExit) (e : LargeExit) (r : Reply) → is_on_word p ≡ true
+    → q ≡ exit_by (settle_large_of p x) → q ≡ Some e → leave_large e o ≡ End r → EndsUncounted (Large p o) x r
+unfolding plan_point_of next_of
+word_ends p o x q e r on exit some ends = grind (arith)
+
 -- the errand after a step that ends its call on a usable word: no count rises
 pub uncounted_errand :
     (e : ErrandFields) (x : Found) (r : Reply) → EndsUncounted e.point x r → record e { point = Idle } ≡ settle_of e x
@@ -67,3 +67,15 @@ uncounted_errand e x r uncounted =
     ended_errand e x r (plan_of e) e.won e.lost e.cleared uncounted.ends refl
     (ap (λ b. raised b e.won) (sym uncounted.won)) (ap (λ b. raised b e.lost) (sym uncounted.lost))
     (ap (λ b. raised b e.cleared) (sym uncounted.cleared))
+
+-- a stack that is left: what follows, and the point stays as it was
+pub left_stack :
+    (t : Onward StackPoint StackExit) (p q : StackPoint) (r : Option StackExit) (e : StackExit) (o : Continuation) → r ≡ exit_by t
+    → q ≡ point_by p t → r ≡ Some e → (leave_stack e o ≡ enter_stack t o) × (q ≡ p)
+left_stack t p q r e o exit point some = grind (arith)
+
+-- a partial superblock that is left
+pub left_partial :
+    (t : Onward PartialPoint PartialExit) (p q : PartialPoint) (r : Option PartialExit) (e : PartialExit) (o : Continuation) → r ≡ exit_by t
+    → q ≡ point_by p t → r ≡ Some e → (leave_partial e o ≡ enter_partial t o) × (q ≡ p)
+left_partial t p q r e o exit point some = grind (arith)

@@ -3,55 +3,52 @@ use Rattle.std.proofs.Common.{ℕ, ◌≡◌, ◌<◌, ◌^◌, arith, subst, sy
 use Rattle.std.specs.Prelude.{IsTrue}
 use Rattle.heap_geometry.specs.declared.geometry.Geometry.{Geometry}
 use Rattle.heap_geometry.specs.Geometry.{IsChecked}
-use Rattle.word_plan.specs.declared.action.Found.{Found}
+use Rattle.word_table.specs.declared.action.Found.{Found}
+use Rattle.word_table.specs.Onwards.{told_onward}
 use Rattle.superblock_parts.specs.declared.point.BlockPoint.{BlockPoint}
 use Rattle.superblock_parts.specs.Points.{settle_block_of}
-use Rattle.superblock_parts.proofs.FitLemmas as block
-use Rattle.superblock_parts.proofs.SeatLemmas as block_seat
+use Rattle.superblock_parts.proofs.PointLemmas as block
 use Rattle.stack_parts.specs.declared.point.StackPoint.{StackPoint}
 use Rattle.stack_parts.specs.Points.{settle_stack_of}
-use Rattle.stack_parts.proofs.FitLemmas as stack
-use Rattle.stack_parts.proofs.SeatLemmas as stack_seat
+use Rattle.stack_parts.proofs.PointLemmas as stack
 use Rattle.hazard_parts.specs.declared.point.DescPoint.{DescPoint}
 use Rattle.hazard_parts.specs.Points.{settle_desc_of}
-use Rattle.hazard_parts.proofs.FitLemmas as desc
-use Rattle.hazard_parts.proofs.SeatLemmas as desc_seat
+use Rattle.hazard_parts.proofs.PointLemmas as desc
 use Rattle.partial_parts.specs.declared.point.PartialPoint.{PartialPoint}
 use Rattle.partial_parts.specs.Points.{settle_partial_of}
-use Rattle.partial_parts.proofs.FitLemmas as partial
-use Rattle.partial_parts.proofs.SeatLemmas as partial_seat
+use Rattle.partial_parts.proofs.PointLemmas as partial
 use Rattle.large_parts.specs.declared.point.LargePoint.{LargePoint}
 use Rattle.large_parts.specs.Points.{settle_large_of}
-use Rattle.large_parts.proofs.FitLemmas as large
+use Rattle.large_parts.proofs.PointLemmas as large
 use Rattle.errand_steps.specs.declared.continuation.Continuation.{Continuation}
 use Rattle.errand_steps.specs.declared.point.Point.{Point}
 use Rattle.errand_steps.specs.declared.point.Point.TheVariants.{Idle, Block, Stack, Desc, Partial, Large}
 use Rattle.errand_steps.specs.Fits.{FitsContinuation, FitsPoint, spare_of, spare_of_desc, pushed_by, pushed_by_desc}
 use Rattle.errand_steps.specs.Nexts.{next_of, enter_desc}
 use Rattle.errand_steps.specs.Continuations.{goes_block, goes_stack, goes_desc, goes_partial, GoesLarge}
-use Rattle.errand_steps.proofs.EnterLemmas.{enters-block, enters-stack, enters-desc, enters-partial, enters-large}
+use Rattle.errand_steps.proofs.EnterLemmas.{GoesOnBlock, GoesOnStack, GoesOnDesc, GoesOnPartial, GoesOnLarge, spare_of_desc_exit, pushed_by_desc_exit, enters-block, enters-stack, enters-desc, enters-partial, enters-large}
 use Rattle.errand_steps.proofs.NextLemmas.{Follows}
 
-goes-block : (p : BlockPoint) (o : Continuation) (x : Found) → IsTrue (goes_block p o) → IsTrue (goes_block (settle_block_of p x) o)
+goes-block : (p : BlockPoint) (o : Continuation) (x : Found) → IsTrue (goes_block p o) → GoesOnBlock o (settle_block_of p x)
 goes-block p o x goes = grind (arith)
 
-goes-stack : (p : StackPoint) (o : Continuation) (x : Found) → IsTrue (goes_stack p o) → IsTrue (goes_stack (settle_stack_of p x) o)
+goes-stack : (p : StackPoint) (o : Continuation) (x : Found) → IsTrue (goes_stack p o) → GoesOnStack o (settle_stack_of p x)
 goes-stack p o x goes = grind (arith)
 
-goes-desc : (p : DescPoint) (o : Continuation) (x : Found) → IsTrue (goes_desc p o) → IsTrue (goes_desc (settle_desc_of p x) o)
+goes-desc : (p : DescPoint) (o : Continuation) (x : Found) → IsTrue (goes_desc p o) → GoesOnDesc o (settle_desc_of p x)
 goes-desc p o x goes = grind (arith)
 
-goes-partial : (p : PartialPoint) (o : Continuation) (x : Found) → IsTrue (goes_partial p o) → IsTrue (goes_partial (settle_partial_of p x) o)
+goes-partial : (p : PartialPoint) (o : Continuation) (x : Found) → IsTrue (goes_partial p o) → GoesOnPartial o (settle_partial_of p x)
 goes-partial p o x goes = grind (arith)
 
-goes-large : (p : LargePoint) (o : Continuation) (x : Found) → GoesLarge p o → GoesLarge (settle_large_of p x) o
+goes-large : (p : LargePoint) (o : Continuation) (x : Found) → GoesLarge p o → GoesOnLarge o (settle_large_of p x)
 goes-large p o x goes = grind (arith)
 
 -- a step leaves how many spare entries the list may have, and which one is pushed
-spare-settle : (p : DescPoint) (x : Found) → spare_of_desc (settle_desc_of p x) ≡ spare_of_desc p
+spare-settle : (p : DescPoint) (x : Found) → told_onward spare_of_desc spare_of_desc_exit (settle_desc_of p x) ≡ spare_of_desc p
 spare-settle p x = grind (arith)
 
-pushed-settle : (p : DescPoint) (x : Found) → pushed_by_desc (settle_desc_of p x) ≡ pushed_by_desc p
+pushed-settle : (p : DescPoint) (x : Found) → told_onward pushed_by_desc pushed_by_desc_exit (settle_desc_of p x) ≡ pushed_by_desc p
 pushed-settle p x = grind (arith)
 
 -- what follows a step of a caller fits
@@ -62,17 +59,18 @@ unfolding next_of
 follows-next g caller Idle x checked word h = grind (arith)
 follows-next g caller (Block p o) x checked word h =
     enters-block g caller (settle_block_of p x) o checked (block.settle-fits g caller p x checked word h.point)
-    (subst (λ s. FitsContinuation g caller s o) (sym (block_seat.settle-seat p x)) h.continuation) (goes-block p o x h.goes)
+    (subst (λ s. FitsContinuation g caller s o) (sym (block.settle-seat p x)) h.continuation) (goes-block p o x h.goes)
 follows-next g caller (Stack p o) x checked word h =
     enters-stack g caller (settle_stack_of p x) o (stack.settle-fits g caller p x checked word h.point)
-    (subst (λ s. FitsContinuation g caller s o) (sym (stack_seat.settle-seat p x)) h.continuation) (goes-stack p o x h.goes)
+    (subst (λ s. FitsContinuation g caller s o) (sym (stack.settle-seat p x)) h.continuation) (goes-stack p o x h.goes)
 follows-next g caller (Desc p o) x checked word h =
     let follows = enters-desc g caller (settle_desc_of p x) o (desc.settle-fits g caller p x checked word h.point)
-    (subst (λ s. FitsContinuation g caller s o) (sym (desc_seat.settle-seat p x)) h.continuation) (goes-desc p o x h.goes) in
+    (subst (λ s. FitsContinuation g caller s o) (sym (desc.settle-seat p x)) h.continuation) (goes-desc p o x h.goes) in
     subst (λ n. Follows g caller n (pushed_by_desc p) (enter_desc (settle_desc_of p x) o)) (spare-settle p x)
-    (subst (λ d. Follows g caller (spare_of_desc (settle_desc_of p x)) d (enter_desc (settle_desc_of p x) o)) (pushed-settle p x) follows)
+    (subst
+    (λ d. Follows g caller (told_onward spare_of_desc spare_of_desc_exit (settle_desc_of p x)) d (enter_desc (settle_desc_of p x) o)) (pushed-settle p x) follows)
 follows-next g caller (Partial p o) x checked word h =
     enters-partial g caller (settle_partial_of p x) o (partial.settle-fits g caller p x checked word h.point)
-    (subst (λ s. FitsContinuation g caller s o) (sym (partial_seat.settle-seat p x)) h.continuation) (goes-partial p o x h.goes)
+    (subst (λ s. FitsContinuation g caller s o) (sym (partial.settle-seat p x)) h.continuation) (goes-partial p o x h.goes)
 follows-next g caller (Large p o) x checked word h =
     enters-large g caller (settle_large_of p x) o (large.settle-fits g p x checked word h.point) (goes-large p o x h.goes)

@@ -6,7 +6,7 @@ use Rattle.heap_geometry.specs.declared.need.Need.TheVariants.{Small, Large, Too
 use Rattle.heap_geometry.specs.Need.{IsNeed, need_of}
 use Rattle.heap_geometry.specs.Place.{frame_of, index_of, unit_of}
 use Rattle.pool_model.specs.WellFormed.{IsPlaceFor}
-use Rattle.word_plan.specs.Seats.{SeatFields}
+use Rattle.word_table.specs.Seats.{SeatFields}
 use Rattle.superblock_parts.specs.declared.point.BlockPoint.TheVariants.{LoadActive, LoadPrefix}
 use Rattle.large_parts.specs.declared.point.LargePoint.TheVariants.{LoadUnits, LoadRunPrefix, StoreWord, LoadWord, PutBlock, LoadShelf}
 use Rattle.errand_steps.specs.declared.continuation.Continuation.TheVariants.{Alloc, Free, Nothing}

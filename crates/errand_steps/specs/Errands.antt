@@ -3,17 +3,18 @@ use Rattle.std.specs.Prelude.{ℕ, ◌≡◌, Bool, true, false, ◌<◌, ◌≤
 use Rattle.heap_geometry.specs.declared.geometry.Geometry.{Geometry}
 use Rattle.heap_geometry.specs.Geometry.{IsChecked}
 use Rattle.packed_words.specs.Anchor.{anchor_of}
-use Rattle.word_plan.specs.declared.action.Action.{Action}
-use Rattle.word_plan.specs.declared.action.Action.TheVariants.{Load, Store, Cas, Swap, And}
-use Rattle.word_plan.specs.declared.action.Found.{Found}
-use Rattle.word_plan.specs.Counts.{descriptor_count}
-use Rattle.word_plan.specs.Seats.{SeatFields}
+use Rattle.word_table.specs.declared.action.Action.{Action}
+use Rattle.word_table.specs.declared.action.Action.TheVariants.{Load, Store, Cas, Swap, And}
+use Rattle.word_table.specs.declared.action.Found.{Found}
+use Rattle.word_table.specs.Counts.{descriptor_count}
+use Rattle.word_table.specs.Seats.{SeatFields}
 use Rattle.superblock_parts.specs.declared.point.BlockPoint.TheVariants as block
 use Rattle.hazard_parts.specs.declared.limits.TheConstants.{HELD_MOST, RETIRED_MOST}
 use Rattle.hazard_parts.specs.declared.point.DescPoint.TheVariants as desc
 use Rattle.hazard_parts.specs.Retired.{first_unheld, without}
 use Rattle.partial_parts.specs.declared.point.PartialPoint.TheVariants as partial
 use Rattle.partial_parts.specs.Grants.{is_empty}
+use Rattle.large_parts.specs.declared.point.LargePoint.{LargePoint}
 use Rattle.large_parts.specs.declared.point.LargePoint.TheVariants as large
 use Rattle.errand_steps.specs.declared.continuation.Continuation.{Continuation}
 use Rattle.errand_steps.specs.declared.continuation.Continuation.TheVariants as continuation
@@ -131,6 +132,24 @@ one_more n = min (n + 1) 18446744073709551615
 abbrev pub raised : Bool → ℕ → ℕ
 raised rises n = if rises then one_more n else n
 
+-- where what follows leads, by the retired list and the turn limit
+abbrev pub led_to : ErrandFields → Next → Next
+led_to e n = after_turn e (after_list e n)
+
+-- the errand there, with the counts that it had
+abbrev pub led_by : ErrandFields → Next → ErrandFields
+led_by e n =
+    record e {
+      point = point_after (led_to e n);
+      retired = list_after e.retired n;
+      turns = raised (begins_turn e (after_list e n)) e.turns;
+    }
+
+-- the reply with which the call ends there
+abbrev pub ended_by : Next → Option Reply
+ended_by (End r) = Some r
+ended_by n = None
+
 -- an exchange that is won counts where its two numbers differ; so do a swap and an and
 abbrev pub counts_won : Action → Found → Bool
 counts_won (Load name) x = false
@@ -154,6 +173,12 @@ counts_lost p x = is_lost_exchange (plan_point_of p) x
 abbrev pub counts_cleared : Point → Found → Bool
 counts_cleared (Partial (partial.LoadGrantAnchor at) o) x = is_empty (anchor_of x.value).state
 counts_cleared p x = false
+
+-- the step is on a usable word
+abbrev pub is_on_word : LargePoint → Bool
+is_on_word (large.StoreWord place i value) = true
+is_on_word (large.LoadWord place i) = true
+is_on_word p = false
 
 -- the step ends the call with this reply, and raises no count
 pub record EndsUncounted (p : Point) (x : Found) (r : Reply) : Type 0 where

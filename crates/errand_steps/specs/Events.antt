@@ -1,7 +1,7 @@
 -- The event that each step adds to the history.
 use Rattle.std.specs.Prelude.{ℕ, Option, Some, None, if◌then◌else◌}
 use Rattle.heap_geometry.specs.Place.{block_place, unit_place}
-use Rattle.word_plan.specs.declared.action.Found.{Found}
+use Rattle.word_table.specs.declared.action.Found.{Found}
 use Rattle.superblock_parts.specs.declared.point.BlockPoint.{BlockPoint}
 use Rattle.superblock_parts.specs.declared.point.BlockPoint.TheVariants.{PopBlock, InstallSuperblock, PushBlock}
 use Rattle.stack_parts.specs.declared.point.Pile.{Pile}

@@ -1,32 +1,28 @@
 -- Everything that a caller remembers exists in its heap.
-use Rattle.std.specs.Prelude.{ℕ, false, Option, Some, None, ◌≡◌, ◌<◌, IsTrue}
+use Rattle.std.specs.Prelude.{ℕ, Option, Some, None, ◌≡◌, ◌<◌, IsTrue}
 use Rattle.heap_geometry.specs.declared.geometry.Geometry.{Geometry}
 use Rattle.heap_geometry.specs.declared.need.Need.TheVariants as need
 use Rattle.heap_geometry.specs.Need.{need_of}
-use Rattle.word_plan.specs.Counts.{descriptor_count}
-use Rattle.word_plan.specs.Seats.{SeatFields}
-use Rattle.word_plan.specs.declared.seat.Site.{Site}
+use Rattle.word_table.specs.Counts.{descriptor_count}
+use Rattle.word_table.specs.Seats.{SeatFields}
+use Rattle.word_table.specs.declared.seat.Site.{Site}
 use Rattle.superblock_parts.specs.declared.point.BlockPoint.{BlockPoint}
-use Rattle.superblock_parts.specs.Fits.{IsBlockOf, FitsBlock}
-use Rattle.superblock_parts.specs.Points.{seat_of_block}
+use Rattle.superblock_parts.specs.Points.{IsBlockOf, FitsBlock, seat_of_block}
 use Rattle.stack_parts.specs.declared.point.StackPoint.{StackPoint}
-use Rattle.stack_parts.specs.Fits.{FitsStack}
-use Rattle.stack_parts.specs.Points.{seat_of_stack}
+use Rattle.stack_parts.specs.Points.{FitsStack, seat_of_stack}
 use Rattle.hazard_parts.specs.declared.point.DescPoint.{DescPoint}
 use Rattle.hazard_parts.specs.declared.point.DescPoint.TheVariants as desc
-use Rattle.hazard_parts.specs.Fits.{FitsDesc}
-use Rattle.hazard_parts.specs.Points.{seat_of_desc}
+use Rattle.hazard_parts.specs.Points.{FitsDesc, seat_of_desc}
 use Rattle.partial_parts.specs.declared.point.PartialPoint.{PartialPoint}
-use Rattle.partial_parts.specs.Fits.{FitsPartial}
-use Rattle.partial_parts.specs.Points.{seat_of_partial}
+use Rattle.partial_parts.specs.Points.{FitsPartial, seat_of_partial}
 use Rattle.large_parts.specs.declared.point.LargePoint.{LargePoint}
-use Rattle.large_parts.specs.Fits.{FitsLarge}
+use Rattle.large_parts.specs.Points.{FitsLarge}
 use Rattle.errand_steps.specs.declared.continuation.Continuation.{Continuation}
 use Rattle.errand_steps.specs.declared.continuation.Continuation.TheVariants.{Alloc, TakeFrame, GiveBlock, Discard, Turn, Look, Refuse, Free, Remove, Clear, ClearSecond, Retire, PushFirst, Finish, EndFree, Nothing}
 use Rattle.errand_steps.specs.declared.point.Point.{Point}
 use Rattle.errand_steps.specs.declared.point.Point.TheVariants as point
 use Rattle.errand_steps.specs.Points.{site_of}
-use Rattle.errand_steps.specs.Continuations.{goes_block, goes_stack, goes_desc, goes_partial, GoesLarge, has_left_block, has_left_stack, has_left_desc, has_left_partial, has_left_large}
+use Rattle.errand_steps.specs.Continuations.{goes_block, goes_stack, goes_desc, goes_partial, GoesLarge}
 
 -- blocks of the class serve so many words
 abbrev pub IsSmallFor : SeatFields → ℕ → Type 0
@@ -65,34 +61,29 @@ pub record FitsInBlock (g : Geometry) (caller : ℕ) (p : BlockPoint) (o : Conti
   pub point : FitsBlock g caller p
   pub continuation : FitsContinuation g caller (seat_of_block p) o
   pub goes : IsTrue (goes_block p o)
-  pub inside : has_left_block p ≡ false
 
 -- of a stack
 pub record FitsInStack (g : Geometry) (caller : ℕ) (p : StackPoint) (o : Continuation) : Type 0 where
   pub point : FitsStack g caller p
   pub continuation : FitsContinuation g caller (seat_of_stack p) o
   pub goes : IsTrue (goes_stack p o)
-  pub inside : has_left_stack p ≡ false
 
 -- of the descriptors or the hazard words
 pub record FitsInDesc (g : Geometry) (caller : ℕ) (p : DescPoint) (o : Continuation) : Type 0 where
   pub point : FitsDesc g caller p
   pub continuation : FitsContinuation g caller (seat_of_desc p) o
   pub goes : IsTrue (goes_desc p o)
-  pub inside : has_left_desc p ≡ false
 
 -- of a partial superblock
 pub record FitsInPartial (g : Geometry) (caller : ℕ) (p : PartialPoint) (o : Continuation) : Type 0 where
   pub point : FitsPartial g caller p
   pub continuation : FitsContinuation g caller (seat_of_partial p) o
   pub goes : IsTrue (goes_partial p o)
-  pub inside : has_left_partial p ≡ false
 
 -- of a large block, a usable word or a shelf
 pub record FitsInLarge (g : Geometry) (p : LargePoint) (o : Continuation) : Type 0 where
   pub point : FitsLarge g p
   pub goes : GoesLarge p o
-  pub inside : has_left_large p ≡ false
 
 -- a point at which this caller of this heap may stand
 abbrev pub FitsPoint : Geometry → ℕ → Point → Type 0
@@ -109,8 +100,6 @@ spare_of_desc (desc.ReadHazard s held at) = 1
 spare_of_desc (desc.LoadHeadToPush s d) = 1
 spare_of_desc (desc.StoreNextDesc s d top) = 1
 spare_of_desc (desc.PushDesc s d top) = 1
-spare_of_desc (desc.Scanned s held) = 1
-spare_of_desc (desc.Pushed s d) = 1
 spare_of_desc p = 0
 
 abbrev pub spare_of : Point → ℕ
@@ -122,7 +111,6 @@ abbrev pub pushed_by_desc : DescPoint → Option ℕ
 pushed_by_desc (desc.LoadHeadToPush s d) = Some d
 pushed_by_desc (desc.StoreNextDesc s d top) = Some d
 pushed_by_desc (desc.PushDesc s d top) = Some d
-pushed_by_desc (desc.Pushed s d) = Some d
 pushed_by_desc p = None
 
 abbrev pub pushed_by : Point → Option ℕ

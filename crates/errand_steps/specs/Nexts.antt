@@ -3,25 +3,36 @@ use Rattle.std.specs.Prelude.{ℕ, Bool, if◌then◌else◌}
 use Rattle.heap_geometry.specs.declared.need.Need.TheVariants as need
 use Rattle.heap_geometry.specs.Place.{block_place}
 use Rattle.packed_words.specs.Head.{HeadFields}
-use Rattle.word_plan.specs.declared.action.Found.{Found}
-use Rattle.word_plan.specs.Seats.{SeatFields, heap_of}
+use Rattle.word_table.specs.declared.action.Found.{Found}
+use Rattle.word_table.specs.declared.onward.Onward.{Onward}
+use Rattle.word_table.specs.declared.onward.Onward.TheVariants.{Stays, Leaves}
+use Rattle.word_table.specs.Seats.{SeatFields, heap_of}
 use Rattle.superblock_parts.specs.declared.point.Share.TheVariants.{Grant}
 use Rattle.superblock_parts.specs.declared.point.BlockPoint.{BlockPoint}
 use Rattle.superblock_parts.specs.declared.point.BlockPoint.TheVariants as block
+use Rattle.superblock_parts.specs.declared.exit.BlockExit.{BlockExit}
+use Rattle.superblock_parts.specs.declared.exit.BlockExit.TheVariants as block_exit
 use Rattle.superblock_parts.specs.Points.{settle_block_of}
 use Rattle.stack_parts.specs.declared.point.Pile.{Pile}
 use Rattle.stack_parts.specs.declared.point.Pile.TheVariants.{Frames, Partials}
 use Rattle.stack_parts.specs.declared.point.StackPoint.{StackPoint}
 use Rattle.stack_parts.specs.declared.point.StackPoint.TheVariants as stack
+use Rattle.stack_parts.specs.declared.exit.StackExit.{StackExit}
+use Rattle.stack_parts.specs.declared.exit.StackExit.TheVariants as stack_exit
 use Rattle.stack_parts.specs.Points.{settle_stack_of}
 use Rattle.hazard_parts.specs.declared.point.DescPoint.{DescPoint}
 use Rattle.hazard_parts.specs.declared.point.DescPoint.TheVariants as desc
+use Rattle.hazard_parts.specs.declared.exit.DescExit.{DescExit}
+use Rattle.hazard_parts.specs.declared.exit.DescExit.TheVariants as desc_exit
 use Rattle.hazard_parts.specs.Points.{settle_desc_of}
 use Rattle.partial_parts.specs.declared.point.PartialPoint.{PartialPoint}
 use Rattle.partial_parts.specs.declared.point.PartialPoint.TheVariants as partial
+use Rattle.partial_parts.specs.declared.exit.PartialExit.{PartialExit}
+use Rattle.partial_parts.specs.declared.exit.PartialExit.TheVariants as partial_exit
 use Rattle.partial_parts.specs.Points.{settle_partial_of}
 use Rattle.large_parts.specs.declared.point.LargePoint.{LargePoint}
-use Rattle.large_parts.specs.declared.point.LargePoint.TheVariants as large
+use Rattle.large_parts.specs.declared.exit.LargeExit.{LargeExit}
+use Rattle.large_parts.specs.declared.exit.LargeExit.TheVariants as large_exit
 use Rattle.large_parts.specs.Points.{settle_large_of}
 use Rattle.errand_steps.specs.declared.continuation.Continuation.{Continuation}
 use Rattle.errand_steps.specs.declared.continuation.Continuation.TheVariants as continuation
@@ -80,63 +91,78 @@ abbrev pub listed_partial : SeatFields → ℕ → Continuation → Next
 listed_partial s d (continuation.ClearSecond first) = At (Stack (stack.LoadTopToPush s Partials d) (continuation.PushFirst first))
 listed_partial s d o = At (Stack (stack.LoadTop s Partials) (continuation.ClearSecond d))
 
--- from a superblock
-abbrev pub enter_block : BlockPoint → Continuation → Next
-enter_block (block.WantsPartial s) o = At (Partial (partial.LoadSlot s) o)
-enter_block (block.Returned at i) o =
+-- a superblock is left by an exit; where the caller stays there it stands at the next point
+abbrev pub leave_block : BlockExit → Continuation → Next
+leave_block (block_exit.WantsPartial s) o = At (Partial (partial.LoadSlot s) o)
+leave_block (block_exit.Returned at i) o =
     At (Partial (partial.PutSlot at.seat at.desc (heap_of at.seat)) (continuation.GiveBlock (asked o) at.desc at.frame i))
-enter_block (block.Discarded at) o =
+leave_block (block_exit.Discarded at) o =
     At (Stack (stack.LoadTopToPush at.seat Frames at.frame) (continuation.Discard (asked o) at.desc))
-enter_block (block.Given at i) o =
+leave_block (block_exit.Given at i) o =
     End (reply.Given (block_place at.frame at.seat.class i) (need.Small at.seat.class))
-enter_block (block.BecameEmpty at heap) o =
+leave_block (block_exit.BecameEmpty at heap) o =
     At (Stack (stack.LoadTopToPush at.seat Frames at.frame) (continuation.Remove at.desc heap))
-enter_block (block.BecamePartial at stored) o = At (Partial (partial.LoadOwner at.seat at.desc) (continuation.Finish stored))
-enter_block (block.Pushed s stored) o = finish s stored
-enter_block p o = At (Block p o)
+leave_block (block_exit.BecamePartial at stored) o = At (Partial (partial.LoadOwner at.seat at.desc) (continuation.Finish stored))
+leave_block (block_exit.Pushed s stored) o = finish s stored
 
--- from a stack
-abbrev pub enter_stack : StackPoint → Continuation → Next
-enter_stack (stack.Popped s pile i) o = popped s i o
-enter_stack (stack.FoundEmpty s pile h) o = found_empty s pile h o
-enter_stack (stack.ConfirmedEmpty s pile) o = confirmed_empty s o
-enter_stack (stack.Pushed s pile) o = put_away s o
-enter_stack p o = At (Stack p o)
+abbrev pub enter_block : Onward BlockPoint BlockExit → Continuation → Next
+enter_block (Stays p) o = At (Block p o)
+enter_block (Leaves e) o = leave_block e o
 
--- from the descriptors or the hazard words
-abbrev pub enter_desc : DescPoint → Continuation → Next
-enter_desc (desc.Got s d) o = At (Stack (stack.LoadTop s Frames) (continuation.TakeFrame (asked o) d))
-enter_desc (desc.Cleared s) o = cleared s o
-enter_desc (desc.Scanned s held) o = Pick s held o
-enter_desc (desc.Pushed s d) o = Unlist s d o
-enter_desc p o = At (Desc p o)
+-- a stack is left
+abbrev pub leave_stack : StackExit → Continuation → Next
+leave_stack (stack_exit.Popped s pile i) o = popped s i o
+leave_stack (stack_exit.FoundEmpty s pile h) o = found_empty s pile h o
+leave_stack (stack_exit.ConfirmedEmpty s pile) o = confirmed_empty s o
+leave_stack (stack_exit.Pushed s pile) o = put_away s o
 
--- from a partial superblock
-abbrev pub enter_partial : PartialPoint → Continuation → Next
-enter_partial (partial.SlotEmpty s) o = At (Stack (stack.LoadTop s Partials) o)
-enter_partial (partial.Granted at more) o = At (Block (block.LoadAnchor at (Grant more)) o)
-enter_partial (partial.TookEmpty at) o = Retire at.seat at.desc (continuation.Look (asked o))
-enter_partial (partial.SlotFilled s) o = put_away s o
-enter_partial (partial.Displaced s d) o = At (Stack (stack.LoadTopToPush s Partials d) o)
-enter_partial (partial.NotInSlot s) o = At (Desc (desc.ClearHazard s) continuation.Clear)
-enter_partial (partial.Removed s d) o = At (Desc (desc.ClearHazard s) (continuation.Retire d))
-enter_partial (partial.ListedEmpty s d) o = listed_empty s d o
-enter_partial (partial.ListedPartial s d) o = listed_partial s d o
-enter_partial p o = At (Partial p o)
+abbrev pub enter_stack : Onward StackPoint StackExit → Continuation → Next
+enter_stack (Stays p) o = At (Stack p o)
+enter_stack (Leaves e) o = leave_stack e o
 
--- from a large block, a usable word or a shelf
-abbrev pub enter_large : LargePoint → Continuation → Next
-enter_large (large.GivenRun place run) o = End (reply.Given place (need.Large run.units))
-enter_large large.NoRun o = End reply.Refused
-enter_large large.FreedRun o = End reply.Freed
-enter_large large.Wrote o = End reply.Wrote
-enter_large (large.Word value) o = End (reply.Word value)
-enter_large large.PutDone o = End reply.Put
-enter_large (large.ShelfFull found) o = End (reply.Full found)
-enter_large (large.Got place need) o = End (reply.Got place need)
-enter_large large.NothingThere o = End reply.Empty
-enter_large (large.Missed expected found) o = End (reply.Missed expected found)
-enter_large p o = At (Large p o)
+-- the descriptors or the hazard words are left
+abbrev pub leave_desc : DescExit → Continuation → Next
+leave_desc (desc_exit.Got s d) o = At (Stack (stack.LoadTop s Frames) (continuation.TakeFrame (asked o) d))
+leave_desc (desc_exit.Cleared s) o = cleared s o
+leave_desc (desc_exit.Scanned s held) o = Pick s held o
+leave_desc (desc_exit.Pushed s d) o = Unlist s d o
+
+abbrev pub enter_desc : Onward DescPoint DescExit → Continuation → Next
+enter_desc (Stays p) o = At (Desc p o)
+enter_desc (Leaves e) o = leave_desc e o
+
+-- a partial superblock is left
+abbrev pub leave_partial : PartialExit → Continuation → Next
+leave_partial (partial_exit.SlotEmpty s) o = At (Stack (stack.LoadTop s Partials) o)
+leave_partial (partial_exit.Granted at more) o = At (Block (block.LoadAnchor at (Grant more)) o)
+leave_partial (partial_exit.TookEmpty at) o = Retire at.seat at.desc (continuation.Look (asked o))
+leave_partial (partial_exit.SlotFilled s) o = put_away s o
+leave_partial (partial_exit.Displaced s d) o = At (Stack (stack.LoadTopToPush s Partials d) o)
+leave_partial (partial_exit.NotInSlot s) o = At (Desc (desc.ClearHazard s) continuation.Clear)
+leave_partial (partial_exit.Removed s d) o = At (Desc (desc.ClearHazard s) (continuation.Retire d))
+leave_partial (partial_exit.ListedEmpty s d) o = listed_empty s d o
+leave_partial (partial_exit.ListedPartial s d) o = listed_partial s d o
+
+abbrev pub enter_partial : Onward PartialPoint PartialExit → Continuation → Next
+enter_partial (Stays p) o = At (Partial p o)
+enter_partial (Leaves e) o = leave_partial e o
+
+-- a large block, a usable word or a shelf is left
+abbrev pub leave_large : LargeExit → Continuation → Next
+leave_large (large_exit.GivenRun place run) o = End (reply.Given place (need.Large run.units))
+leave_large large_exit.NoRun o = End reply.Refused
+leave_large large_exit.FreedRun o = End reply.Freed
+leave_large large_exit.Wrote o = End reply.Wrote
+leave_large (large_exit.Word value) o = End (reply.Word value)
+leave_large large_exit.PutDone o = End reply.Put
+leave_large (large_exit.ShelfFull found) o = End (reply.Full found)
+leave_large (large_exit.Got place need) o = End (reply.Got place need)
+leave_large large_exit.NothingThere o = End reply.Empty
+leave_large (large_exit.Missed expected found) o = End (reply.Missed expected found)
+
+abbrev pub enter_large : Onward LargePoint LargeExit → Continuation → Next
+enter_large (Stays p) o = At (Large p o)
+enter_large (Leaves e) o = leave_large e o
 
 -- what follows the step in which a point's action found something
 unfoldable pub next_of : Point → Found → Next

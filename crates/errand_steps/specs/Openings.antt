@@ -4,15 +4,15 @@ use Rattle.heap_geometry.specs.declared.geometry.Geometry.{Geometry}
 use Rattle.heap_geometry.specs.Need.{block_count_of}
 use Rattle.heap_geometry.specs.Place.{block_place, index_of}
 use Rattle.packed_words.specs.declared.active.ActiveWord.TheVariants.{Held}
-use Rattle.packed_words.specs.declared.anchor.State.TheVariants as state
+use Rattle.packed_words.specs.declared.anchor.AnchorState.TheVariants as state
 use Rattle.packed_words.specs.Active.{active_word}
 use Rattle.packed_words.specs.Anchor.{AnchorFields, anchor_word}
 use Rattle.packed_words.specs.Info.{info_word}
-use Rattle.word_plan.specs.declared.limits.TheConstants.{MOST_CREDITS}
-use Rattle.word_plan.specs.declared.name.WordName.{WordName}
-use Rattle.word_plan.specs.declared.name.WordName.TheVariants.{Arena, Anchor, Next, Info, Active, Slot, ListHead, FrameNext, FrameHead, DescHead, Hazard, Units, Shelf}
-use Rattle.word_plan.specs.Counts.{descriptor_count}
-use Rattle.word_plan.specs.Table.{exists}
+use Rattle.word_table.specs.declared.limits.TheConstants.{MOST_CREDITS}
+use Rattle.word_table.specs.declared.name.WordName.{WordName}
+use Rattle.word_table.specs.declared.name.WordName.TheVariants.{Arena, Anchor, Next, Info, Active, Slot, ListHead, FrameNext, FrameHead, DescHead, Hazard, Units, Shelf}
+use Rattle.word_table.specs.Counts.{descriptor_count}
+use Rattle.word_table.specs.Table.{exists}
 use Rattle.errand_steps.specs.Errands.{open_errand}
 use Rattle.errand_steps.specs.Steps.{State}
 

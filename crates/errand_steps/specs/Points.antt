@@ -1,10 +1,10 @@
 -- What each point of a caller does.
 use Rattle.std.specs.Prelude.{ℕ, Bool, true, false}
-use Rattle.word_plan.specs.declared.action.Action.{Action}
-use Rattle.word_plan.specs.declared.action.Action.TheVariants as action
-use Rattle.word_plan.specs.declared.name.WordName.TheVariants as name
-use Rattle.word_plan.specs.declared.seat.Site.{Site}
-use Rattle.word_plan.specs.Seats.{SeatFields}
+use Rattle.word_table.specs.declared.action.Action.{Action}
+use Rattle.word_table.specs.declared.action.Action.TheVariants as action
+use Rattle.word_table.specs.declared.name.WordName.TheVariants as name
+use Rattle.word_table.specs.declared.seat.Site.{Site}
+use Rattle.word_table.specs.Seats.{SeatFields}
 use Rattle.superblock_parts.specs.Points.{plan_block_of}
 use Rattle.stack_parts.specs.Points.{plan_stack_of}
 use Rattle.hazard_parts.specs.Points.{plan_desc_of}

@@ -1,10 +1,10 @@
 -- Steps of several callers, with the words as a function of their names, and runs of them.
 use Rattle.std.specs.Prelude.{ℕ, ◌≡◌, ◌≢◌, ◌+◌, ◌⊎◌, List, [], ◌∷◌, ◌++◌, Option, Some, None}
-use Rattle.word_plan.specs.declared.action.Action.{Action}
-use Rattle.word_plan.specs.declared.action.Found.{Found}
-use Rattle.word_plan.specs.declared.name.WordName.{WordName}
-use Rattle.word_plan.specs.Actions.{name_of, after_action, found_by}
-use Rattle.word_plan.specs.Words.{Writes}
+use Rattle.word_table.specs.declared.action.Action.{Action}
+use Rattle.word_table.specs.declared.action.Found.{Found}
+use Rattle.word_table.specs.declared.name.WordName.{WordName}
+use Rattle.word_table.specs.Actions.{name_of, after_action, found_by}
+use Rattle.word_table.specs.Words.{Writes}
 use Rattle.pool_model.specs.declared.event.Event.{Event}
 use Rattle.errand_steps.specs.Begins.{IsIdle, IsBusy}
 use Rattle.errand_steps.specs.Errands.{ErrandFields, plan_of, settle_of}
@@ -51,14 +51,14 @@ pub record Step (s : State) (caller : ℕ) (s' : State) : Type 0 where
   pub history : s'.history ≡ with_event s.history (event_at s caller)
 
 -- a slot of a schedule for a caller, which makes so many steps: one where the caller is in a call; else none, and nothing changes
-abbrev pub Slot : State → ℕ → ℕ → State → Type 0
-Slot s caller n s' = (IsIdle (s.errand caller) × (n ≡ 0) × (s' ≡ s)) ⊎ (Step s caller s' × (n ≡ 1))
+abbrev pub ScheduleSlot : State → ℕ → ℕ → State → Type 0
+ScheduleSlot s caller n s' = (IsIdle (s.errand caller) × (n ≡ 0) × (s' ≡ s)) ⊎ (Step s caller s' × (n ≡ 1))
 
 -- slots for these callers, one after the other, which make so many steps
 abbrev pub Run : State → List ℕ → ℕ → State → Type 0
 Run s [] n s' = (n ≡ 0) × (s' ≡ s)
 Run s (caller ∷ rest) n s' =
-    (next : State) × (first : ℕ) × (others : ℕ) × Slot s caller first next × Run next rest others s' × (n ≡ first + others)
+    (next : State) × (first : ℕ) × (others : ℕ) × ScheduleSlot s caller first next × Run next rest others s' × (n ≡ first + others)
 
 -- two states have the same words, errands and events
 pub record IsSame (a b : State) : Type 0 where

@@ -18,10 +18,10 @@ use crate::reply::Begun;
 use heap_geometry::need::{Need, class_of};
 use heap_geometry::place::{split_place, unit_of};
 use large_parts::point::LargePoint;
-use large_parts::run::Run;
+use large_parts::run::UnitRun;
 use large_parts::want::Want;
 use superblock_parts::point::BlockPoint;
-use word_plan::seat::Seat;
+use word_table::seat::Seat;
 
 impl Errand {
     /// Begins an allocation of so many usable words. A small one takes a turn; where the caller has
@@ -116,7 +116,7 @@ impl Errand {
                 let first = unit_of(self.seat.geometry().frames, place);
                 self.point = last(LargePoint::LoadRunPrefix {
                     place,
-                    run: Run::new(first as u8, units),
+                    run: UnitRun::new(first as u8, units),
                 });
             }
             Need::TooLarge => {}

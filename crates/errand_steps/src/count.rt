@@ -7,9 +7,9 @@ ghost use Rattle.errand_steps.specs.Points.{plan_point_of};
 use crate::point::Point;
 use hazard_parts::point::DescPoint;
 use large_parts::point::LargePoint;
-use packed_words::anchor::{Anchor, State};
+use packed_words::anchor::{Anchor, AnchorState};
 use partial_parts::point::PartialPoint;
-use word_plan::action::{Action, Found};
+use word_table::action::{Action, Found};
 
 /// Whether a step with this action is a won exchange that counts: its two numbers differ, or it is a
 /// swap or an and.
@@ -62,7 +62,7 @@ pub fn counts_cleared(point: &Point, found: Found) -> bool
         Point::Partial {
             at: PartialPoint::LoadGrantAnchor { .. },
             ..
-        } => matches!(Anchor::unpack(found.value).state(), State::Empty),
+        } => matches!(Anchor::unpack(found.value).state(), AnchorState::Empty),
         _ => false,
     }
 }

@@ -2,25 +2,25 @@
 
 ghost use Rattle.std.specs.Prelude.{ℕ, ◌≡◌, ◌<◌, ◌≤◌, Some};
 ghost use Rattle.heap_geometry.specs.Geometry.{IsChecked};
-ghost use Rattle.hazard_parts.specs.Retired.{first_unheld};
 ghost use Rattle.heap_geometry.specs.Need.{need_of};
 ghost use Rattle.pool_model.specs.Histories.{caller_of};
 ghost use Rattle.pool_model.specs.declared.event.Event.{Event};
 ghost use Rattle.pool_model.specs.declared.event.Event.TheVariants.{Alloc};
-ghost use Rattle.word_plan.specs.Actions.{name_of};
-ghost use Rattle.word_plan.specs.Table.{Exists};
+ghost use Rattle.word_table.specs.Actions.{name_of};
+ghost use Rattle.word_table.specs.Table.{Exists};
 ghost use Rattle.errand_steps.specs.Begins.{IsBusy, IsHeapBlock};
-ghost use Rattle.errand_steps.specs.Errands.{IsErrand, counts_won, raised, open_errand, plan_of, course_of, settle_of, answer_of, after_list, after_turn, picked, turned, begins_turn, point_after, list_after, IsListable, is_full, is_spent, told, going_on};
+ghost use Rattle.errand_steps.specs.Errands.{IsErrand, IsListable, counts_won, raised, open_errand, plan_of, settle_of, answer_of, led_to, led_by, ended_by, is_full, is_spent, going_on};
 ghost use Rattle.errand_steps.specs.Events.{event_of};
 ghost use Rattle.errand_steps.specs.Offers.{offered_at};
-ghost use Rattle.errand_steps.specs.declared.next.Next.TheVariants.{At, End};
+ghost use Rattle.errand_steps.specs.declared.next.Next.TheVariants.{Turn, Retire};
 ghost use Rattle.errand_steps.specs.declared.point.Point.TheVariants.{Block};
-ghost use Rattle.errand_steps.specs.Nexts.{next_of};
+ghost use Rattle.errand_steps.specs.Nexts.{resumed};
 ghost use Rattle.errand_steps.specs.Points.{is_idle};
 
 use crate::continuation::Continuation;
 use crate::count::{counts_cleared, counts_lost, counts_won, raised};
-use crate::enter::{ending, ending_on_word, next_of, plan_point, resumed, stays};
+use crate::enter::large::ending_on_word;
+use crate::enter::{plan_point, settle_point};
 use crate::next::Next;
 use crate::point::Point;
 use crate::reply::{Offer, Progress, Reply};
@@ -29,11 +29,12 @@ use hazard_parts::point::DescPoint;
 use hazard_parts::retired::Retired;
 use heap_geometry::geometry::Geometry;
 use large_parts::point::LargePoint;
+use partial_parts::point::PartialPoint;
 use pool_model::event::Event;
 use std::marker::Model;
 use superblock_parts::point::BlockPoint;
-use word_plan::action::{Action, Found};
-use word_plan::seat::Seat;
+use word_table::action::{Action, Found};
+use word_table::seat::Seat;
 
 /// One caller's state between two steps: who it is, where it stands, the descriptors that it retired, and
 /// its counts.
@@ -155,51 +156,25 @@ impl Errand {
 
     /// Goes on to the errand that follows what its action found, and answers what the step came to.
     /// The action is the one that was planned.
-    #[tactic(auto, using(crate::proofs::StayLemmas::stayed_errand, crate::proofs::StayLemmas::stayed_answer))]
     pub fn go_on(&mut self, action: Action, found: Found) -> Progress
         requires busy { IsBusy self.old }
         requires planned { action ≡ plan_of self.old }
         ensures errand { self.new ≡ settle_of self.old found }
         ensures answer { result ≡ answer_of self.old found }
     {
-        if let Some(reply) = ending_on_word(&self.point, found) {
-            self.point = Point::Idle;
-            return Progress::Done(reply);
-        }
-        let lost = counts_lost(&self.point, action, found);
-        let cleared = counts_cleared(&self.point, found);
-        if stays(&mut self.point, found) {
-            self.won = raised(counts_won(action, found), self.won);
-            self.lost = raised(lost, self.lost);
-            self.cleared = raised(cleared, self.cleared);
-            going_on(lost, cleared)
-        } else {
-            self.leave(action, found)
+        match ending_on_word(&self.point, found) {
+            Some(reply) => {
+                self.point = Point::Idle;
+                Progress::Done(reply)
+            }
+            None => self.move_on(action, found),
         }
     }
 
-    /// The same, from any point.
-    fn leave(&mut self, action: Action, found: Found) -> Progress
+    /// The same, from any point. What the step counts is counted first, wherever it leads.
+    fn move_on(&mut self, action: Action, found: Found) -> Progress
         requires busy { IsBusy self.old }
         requires planned { action ≡ plan_of self.old }
-        ensures errand { self.new ≡ settle_of self.old found }
-        ensures answer { result ≡ answer_of self.old found }
-    {
-        if let Some(reply) = ending(&self.point, found) {
-            return self.end(action, found, reply);
-        }
-        match next_of(&self.point, found) {
-            Next::At { point } => self.stand(action, found, point),
-            Next::End { reply } => self.end(action, found, reply),
-            next => self.lead_on(action, found, next),
-        }
-    }
-
-    /// The same, where the caller stands at this point then.
-    fn stand(&mut self, action: Action, found: Found, point: Point) -> Progress
-        requires busy { IsBusy self.old }
-        requires planned { action ≡ plan_of self.old }
-        requires stands { next_of self.old.point found ≡ At point }
         ensures errand { self.new ≡ settle_of self.old found }
         ensures answer { result ≡ answer_of self.old found }
     {
@@ -208,94 +183,132 @@ impl Errand {
         self.won = raised(counts_won(action, found), self.won);
         self.lost = raised(lost, self.lost);
         self.cleared = raised(cleared, self.cleared);
-        self.point = point;
-        going_on(lost, cleared)
+        match settle_point(&mut self.point, found) {
+            None => going_on(lost, cleared),
+            Some(next) => match self.lead_on(next) {
+                Some(reply) => Progress::Done(reply),
+                None => going_on(lost, cleared),
+            },
+        }
     }
 
-    /// The same, where the call ends with this reply.
-    fn end(&mut self, action: Action, found: Found, reply: Reply) -> Progress
-        requires busy { IsBusy self.old }
-        requires planned { action ≡ plan_of self.old }
-        requires ends { next_of self.old.point found ≡ End reply }
-        ensures errand { self.new ≡ settle_of self.old found }
-        ensures answer { result ≡ answer_of self.old found }
+    /// Goes on to what follows where a part is left, and answers the reply with which the call ends, where
+    /// it does.
+    #[inline(always)]
+    fn lead_on(&mut self, next: Next) -> Option<Reply>
+        requires listable { IsListable self.old.retired next }
+        requires rule { IsErrand (led_by self.old next) }
+        ensures errand { self.new ≡ led_by self.old next }
+        ensures reply { result ≡ ended_by (led_to self.old next) }
     {
-        let lost = counts_lost(&self.point, action, found);
-        let cleared = counts_cleared(&self.point, found);
-        self.won = raised(counts_won(action, found), self.won);
-        self.lost = raised(lost, self.lost);
-        self.cleared = raised(cleared, self.cleared);
-        self.point = Point::Idle;
-        Progress::Done(reply)
-    }
-
-    /// The same, wherever it leads.
-    #[tactic(auto, using(crate::proofs::ErrandLemmas::listable), unfolding(crate::specs::Errands::settle_of, crate::specs::Errands::course_of, crate::specs::Errands::answer_of))]
-    fn lead_on(&mut self, action: Action, found: Found, next: Next) -> Progress
-        requires busy { IsBusy self.old }
-        requires planned { action ≡ plan_of self.old }
-        requires leads { next ≡ next_of self.old.point found }
-        ensures errand { self.new ≡ settle_of self.old found }
-        ensures answer { result ≡ answer_of self.old found }
-    {
-        let lost = counts_lost(&self.point, action, found);
-        let cleared = counts_cleared(&self.point, found);
-        let listed = self.after_list(&next);
-        let begins = self.begins_turn(&listed);
-        let course = self.after_turn(listed);
-        self.won = raised(counts_won(action, found), self.won);
-        self.lost = raised(lost, self.lost);
-        self.cleared = raised(cleared, self.cleared);
-        self.turns = raised(begins, self.turns);
-        change_list(&mut self.retired, next);
-        let progress = told(&course, lost, cleared);
-        self.point = point_after(course);
-        progress
-    }
-
-    /// What follows a step: a point, or the end of the call.
-    #[tactic(auto, unfolding(crate::specs::Errands::course_of))]
-    fn course(&self, found: Found) -> Next
-        ensures { result ≡ course_of self.now found }
-    {
-        let next = next_of(&self.point, found);
-        self.after_turn(self.after_list(&next))
-    }
-
-    /// What follows, as far as it depends on the retired list too.
-    fn after_list(&self, next: &Next) -> Next
-        ensures { result ≡ after_list self.now next.now }
-    {
-        match *next {
-            Next::At { .. } | Next::End { .. } | Next::Turn { .. } => *next,
+        match next {
+            Next::At { point } => {
+                self.point = point;
+                None
+            }
+            Next::End { reply } => {
+                self.point = Point::Idle;
+                Some(reply)
+            }
+            Next::Turn { seat, need } => self.turn(seat, need),
             Next::Retire {
                 seat,
+                desc,
                 continuation,
-                ..
-            } => {
-                if self.is_full() {
-                    Next::desc(
-                        DescPoint::ReadHazard {
-                            seat,
-                            held: Held::nothing(),
-                            at: 0,
-                        },
-                        continuation,
-                    )
-                } else {
-                    resumed(seat, continuation)
-                }
-            }
+            } => self.retire(seat, desc, continuation),
             Next::Pick {
                 seat,
                 held,
                 continuation,
-            } => self.picked(seat, continuation, self.retired.pick(&held)),
+            } => {
+                if let Some(desc) = self.retired.pick(&held) {
+                    self.point = Point::Desc {
+                        at: DescPoint::LoadHeadToPush { seat, desc },
+                        continuation,
+                    };
+                }
+                None
+            }
             Next::Unlist {
                 seat,
+                desc,
                 continuation,
-                ..
-            } => resumed(seat, continuation),
+            } => {
+                self.point = Point::Idle;
+                self.retired.remove(desc);
+                self.resume(seat, continuation)
+            }
+        }
+    }
+
+    /// Retires a descriptor. Where that makes more than the heap has callers, the hazard words are read;
+    /// else the call resumes.
+    fn retire(&mut self, seat: Seat, desc: u16, continuation: Continuation) -> Option<Reply>
+        requires listable { IsListable self.old.retired (Retire seat desc continuation) }
+        requires rule { IsErrand (led_by self.old (Retire seat desc continuation)) }
+        ensures errand { self.new ≡ led_by self.old (Retire seat desc continuation) }
+        ensures reply { result ≡ ended_by (led_to self.old (Retire seat desc continuation)) }
+    {
+        if self.is_full() {
+            self.point = Point::Desc {
+                at: DescPoint::ReadHazard {
+                    seat,
+                    held: Held::nothing(),
+                    at: 0,
+                },
+                continuation,
+            };
+            self.retired.add(desc);
+            None
+        } else {
+            self.point = Point::Idle;
+            self.retired.add(desc);
+            self.resume(seat, continuation)
+        }
+    }
+
+    /// Resumes the call after a retirement.
+    fn resume(&mut self, seat: Seat, continuation: Continuation) -> Option<Reply>
+        requires rule { IsErrand (led_by self.old (resumed seat continuation)) }
+        ensures errand { self.new ≡ led_by self.old (resumed seat continuation) }
+        ensures reply { result ≡ ended_by (led_to self.old (resumed seat continuation)) }
+    {
+        match continuation {
+            Continuation::Turn { need } => self.turn(seat, need),
+            Continuation::Look { need } => {
+                self.point = Point::Partial {
+                    at: PartialPoint::LoadSlot { seat },
+                    continuation: Continuation::Alloc { need },
+                };
+                None
+            }
+            Continuation::Refuse => {
+                self.point = Point::Idle;
+                Some(Reply::Refused)
+            }
+            _ => {
+                self.point = Point::Idle;
+                Some(Reply::Freed)
+            }
+        }
+    }
+
+    /// A turn begins where the caller has one left; where it has none the call ends.
+    fn turn(&mut self, seat: Seat, need: u32) -> Option<Reply>
+        requires rule { IsErrand (led_by self.old (Turn seat need)) }
+        ensures errand { self.new ≡ led_by self.old (Turn seat need) }
+        ensures reply { result ≡ ended_by (led_to self.old (Turn seat need)) }
+    {
+        if self.is_spent() {
+            self.point = Point::Idle;
+            Some(Reply::Spent)
+        } else {
+            self.point = Point::Block {
+                at: BlockPoint::LoadActive { seat },
+                continuation: Continuation::Alloc { need },
+            };
+            self.turns += 1;
+            None
         }
     }
 
@@ -306,77 +319,11 @@ impl Errand {
         self.seat.geometry().callers <= self.retired.len()
     }
 
-    /// The picked descriptor is pushed; where there is none the point stays.
-    fn picked(&self, seat: Seat, continuation: Continuation, desc: Option<u16>) -> Next
-        ensures { result ≡ picked self.now seat continuation desc }
-    {
-        match desc {
-            Some(desc) => Next::desc(DescPoint::LoadHeadToPush { seat, desc }, continuation),
-            None => Next::At { point: self.point },
-        }
-    }
-
-    /// What follows, as far as it depends on the turn limit too.
-    fn after_turn(&self, next: Next) -> Next
-        ensures { result ≡ after_turn self.now next }
-    {
-        match next {
-            Next::Turn { seat, need } => self.turned(seat, need),
-            _ => next,
-        }
-    }
-
-    /// A turn begins where the caller has one left; where it has none the call ends.
-    fn turned(&self, seat: Seat, need: u32) -> Next
-        ensures { result ≡ turned self.now seat need }
-    {
-        if self.is_spent() {
-            Next::end(Reply::Spent)
-        } else {
-            Next::block(
-                BlockPoint::LoadActive { seat },
-                Continuation::Alloc { need },
-            )
-        }
-    }
-
     /// Whether the caller has no turn left.
     pub fn is_spent(&self) -> bool
         ensures { result ≡ is_spent self.now }
     {
         self.turns == self.seat.geometry().turn_limit
-    }
-
-    /// Whether a turn begins.
-    fn begins_turn(&self, next: &Next) -> bool
-        ensures { result ≡ begins_turn self.now next.now }
-    {
-        match *next {
-            Next::Turn { .. } => !self.is_spent(),
-            _ => false,
-        }
-    }
-}
-
-/// The retired list after a step.
-fn change_list(retired: &mut Retired, next: Next)
-    requires { IsListable retired.old next }
-    ensures { retired.new ≡ list_after retired.old next }
-{
-    match next {
-        Next::Retire { desc, .. } => retired.add(desc),
-        Next::Unlist { desc, .. } => retired.remove(desc),
-        _ => {}
-    }
-}
-
-/// The point after a step: a caller whose call has ended is idle.
-fn point_after(next: Next) -> Point
-    ensures { result ≡ point_after next }
-{
-    match next {
-        Next::At { point } => point,
-        _ => Point::Idle,
     }
 }
 
@@ -387,40 +334,6 @@ pub fn plan(errand: &Errand) -> Action
     ensures exists { Exists errand.now.geometry (name_of result) }
 {
     plan_point(&errand.point)
-}
-
-/// The errand after the step in which its action found this.
-pub fn settle(errand: Errand, found: Found) -> Errand
-    requires { IsBusy errand }
-    ensures { result ≡ settle_of errand found }
-{
-    let mut errand = errand;
-    let _ = errand.go_on(plan(&errand), found);
-    errand
-}
-
-/// What that step came to.
-#[tactic(auto, unfolding(crate::specs::Errands::answer_of))]
-pub fn answer(errand: &Errand, found: Found) -> Progress
-    requires { IsBusy errand.now }
-    ensures { result ≡ answer_of errand.now found }
-{
-    let lost = counts_lost(&errand.point, plan(errand), found);
-    told(
-        &errand.course(found),
-        lost,
-        counts_cleared(&errand.point, found),
-    )
-}
-
-/// What a step answers, by what follows it.
-fn told(next: &Next, lost: bool, cleared: bool) -> Progress
-    ensures { result ≡ told next.now lost cleared }
-{
-    match *next {
-        Next::End { reply } => Progress::Done(reply),
-        _ => going_on(lost, cleared),
-    }
 }
 
 /// What a step that goes on answers.

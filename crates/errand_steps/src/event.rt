@@ -12,7 +12,7 @@ use large_parts::want::Want;
 use pool_model::event::Event;
 use stack_parts::point::{Pile, StackPoint};
 use superblock_parts::point::BlockPoint;
-use word_plan::action::Found;
+use word_table::action::Found;
 
 /// The event of the step in which this caller's action found this; `None` where the step makes none.
 #[tactic(auto, unfolding(crate::specs::Events::event_of))]

@@ -2,18 +2,17 @@
 
 ghost use Rattle.std.specs.Prelude.{◌≡◌};
 ghost use Rattle.errand_steps.specs.declared.next.Next.TheVariants.{At, End};
-ghost use Rattle.errand_steps.specs.declared.point.Point.TheVariants.{Block, Stack, Desc, Partial, Large};
+ghost use Rattle.errand_steps.specs.declared.point.Point.TheVariants.{Block, Stack, Desc, Partial};
 
 use crate::continuation::Continuation;
 use crate::point::Point;
 use crate::reply::Reply;
 use hazard_parts::held::Held;
 use hazard_parts::point::DescPoint;
-use large_parts::point::LargePoint;
 use partial_parts::point::PartialPoint;
 use stack_parts::point::StackPoint;
 use superblock_parts::point::BlockPoint;
-use word_plan::seat::Seat;
+use word_table::seat::Seat;
 
 /// What follows a step, as far as it depends on the point alone.
 #[derive(Clone, Copy)]
@@ -85,15 +84,6 @@ impl Next {
     {
         Next::At {
             point: Point::Partial { at, continuation },
-        }
-    }
-
-    /// The caller stands at a large block, a usable word or a shelf.
-    pub fn large(at: LargePoint, continuation: Continuation) -> Next
-        ensures { result ≡ At (Large at continuation) }
-    {
-        Next::At {
-            point: Point::Large { at, continuation },
         }
     }
 

@@ -1,4 +1,3 @@
-pub mod FitLemmas
+pub mod PointLemmas
 pub mod PickLemmas
 pub mod RemoveLemmas
-pub mod SeatLemmas

@@ -8,7 +8,7 @@ use Rattle.std.proofs.lemmas.List.Elements.{All-nil, All-cons, All-head, All-tai
 use Rattle.std.proofs.lemmas.List.Folds.{Any-from_list_any, list_any_at}
 use Rattle.std.proofs.lemmas.List.Sums.{sum_by-set}
 use Rattle.heap_geometry.specs.declared.geometry.Geometry.{Geometry}
-use Rattle.word_plan.specs.Counts.{descriptor_count}
+use Rattle.word_table.specs.Counts.{descriptor_count}
 use Rattle.hazard_parts.proofs.RemoveLemmas.{later}
 use Rattle.hazard_parts.specs.Points.{named_in}
 use Rattle.hazard_parts.specs.Retired.{is_held, first_unheld}

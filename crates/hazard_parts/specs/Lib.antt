@@ -1,3 +1,2 @@
-pub mod Fits
 pub mod Points
 pub mod Retired

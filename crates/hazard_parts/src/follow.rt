@@ -1,13 +1,12 @@
 //! Where a found word leads.
 
 ghost use Rattle.std.specs.Prelude.{◌≡◌};
-ghost use Rattle.word_plan.specs.Seats.{desc_named};
-ghost use Rattle.hazard_parts.specs.Points.{link_in, named_in, after_head, after_reload, after_next, after_hazard, after_top};
+ghost use Rattle.word_table.specs.Seats.{desc_named};
+ghost use Rattle.hazard_parts.specs.Points.{link_in, named_in, after_head, after_reload, after_next, after_top};
 
-use crate::held::Held;
 use crate::point::DescPoint;
-use word_plan::name::name_of_desc;
-use word_plan::seat::Seat;
+use word_table::name::name_of_desc;
+use word_table::seat::Seat;
 
 /// A word that is 0 or names a descriptor that the heap has; `None` where it does neither.
 fn link_in(seat: Seat, word: u64) -> Option<u16>
@@ -59,23 +58,6 @@ pub fn after_next(seat: Seat, desc: u16, word: u64) -> DescPoint
     match link_in(seat, word) {
         Some(next) => DescPoint::PopDesc { seat, desc, next },
         None => DescPoint::LoadNextDesc { seat, desc },
-    }
-}
-
-/// From the hazard word of caller `at`.
-pub fn after_hazard(seat: Seat, held: Held, at: u8, word: u64) -> DescPoint
-    ensures { result ≡ after_hazard seat held at word }
-{
-    let mut held = held;
-    held.note(at, named_in(seat, word));
-    if u32::from(at) + 1 < seat.geometry().callers {
-        DescPoint::ReadHazard {
-            seat,
-            held,
-            at: at + 1,
-        }
-    } else {
-        DescPoint::Scanned { seat, held }
     }
 }
 

@@ -6,7 +6,7 @@ ghost use Rattle.hazard_parts.specs.declared.limits.TheConstants.{HELD_MOST};
 
 use crate::limits::HELD_MOST;
 use std::marker::Model;
-use word_plan::name::name_of_desc;
+use word_table::name::name_of_desc;
 
 /// For each caller, that of caller 0 first, the descriptor that its hazard word named when a scan
 /// read it.

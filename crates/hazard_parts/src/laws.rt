@@ -4,24 +4,25 @@
 ghost use Rattle.std.specs.Prelude.{ℕ, List, ◌≡◌, ◌≢◌, ◌<◌, ◌+◌, ◌++◌, ◌∷◌, ◌^◌, ◌↔◌, Some, None, length, All, AllPairs, Contains, IsSome, count_by, map, nat_lt};
 ghost use Rattle.heap_geometry.specs.declared.geometry.Geometry.{Geometry};
 ghost use Rattle.heap_geometry.specs.Geometry.{IsChecked};
-ghost use Rattle.word_plan.specs.declared.action.Found.{Found};
-ghost use Rattle.word_plan.specs.Actions.{name_of};
-ghost use Rattle.word_plan.specs.Counts.{descriptor_count};
-ghost use Rattle.word_plan.specs.Table.{Exists};
-ghost use Rattle.hazard_parts.specs.Fits.{FitsDesc};
-ghost use Rattle.hazard_parts.specs.Points.{named_in, plan_desc_of, seat_of_desc, settle_desc_of};
+ghost use Rattle.word_table.specs.declared.action.Found.{Found};
+ghost use Rattle.word_table.specs.Actions.{name_of};
+ghost use Rattle.word_table.specs.Counts.{descriptor_count};
+ghost use Rattle.word_table.specs.Onwards.{IsOnward, told_onward};
+ghost use Rattle.word_table.specs.Table.{Exists};
+ghost use Rattle.hazard_parts.specs.Points.{FitsDesc, FitsDescExit, named_in, plan_desc_of, seat_of_desc, seat_of_desc_exit, settle_desc_of};
 ghost use Rattle.hazard_parts.specs.Retired.{first_unheld, without};
 ghost use Rattle.hazard_parts.specs.declared.point.DescPoint.{DescPoint};
 
 /// A point whose memory exists in a heap acts on a word that exists there, and leads to such a
-/// point of the same seat, whatever it finds.
+/// point, or such an exit, of the same seat, whatever it finds.
 pub fn points_fit()
     ensures names { (g : Geometry) (caller : ℕ) (p : DescPoint) → IsChecked g → caller < g.callers
         → FitsDesc g caller p → Exists g (name_of (plan_desc_of p)) }
     ensures keeps { (g : Geometry) (caller : ℕ) (p : DescPoint) (x : Found) → IsChecked g
-        → x.value < 2 ^ 64 → FitsDesc g caller p → FitsDesc g caller (settle_desc_of p x) }
+        → x.value < 2 ^ 64 → FitsDesc g caller p
+        → IsOnward (FitsDesc g caller) (FitsDescExit g caller) (settle_desc_of p x) }
     ensures seat { (p : DescPoint) (x : Found)
-        → seat_of_desc (settle_desc_of p x) ≡ seat_of_desc p }
+        → told_onward seat_of_desc seat_of_desc_exit (settle_desc_of p x) ≡ seat_of_desc p }
 {}
 
 /// What is picked is listed, and no hazard word names it. Nothing is picked exactly where each

@@ -9,12 +9,10 @@
 //! Dynamic Memory Allocation" (PLDI 2004) keeps its descriptors.
 #![tactic(auto)]
 
+pub mod exit;
 mod follow;
 pub mod held;
 pub mod laws;
 pub mod limits;
-pub mod plan;
 pub mod point;
 pub mod retired;
-pub mod settle;
-pub mod stay;

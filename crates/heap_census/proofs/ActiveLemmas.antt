@@ -6,11 +6,11 @@ use Rattle.heap_geometry.specs.declared.geometry.Geometry.{Geometry}
 use Rattle.heap_geometry.specs.declared.limits.TheConstants.{CLASSES}
 use Rattle.packed_words.specs.declared.active.ActiveWord.{ActiveWord}
 use Rattle.packed_words.specs.declared.active.ActiveWord.TheVariants.{Null, Held}
-use Rattle.word_plan.specs.declared.name.WordName.{WordName}
-use Rattle.word_plan.specs.declared.name.WordName.TheVariants as name
-use Rattle.word_plan.specs.Counts.{descriptor_count, word_count}
-use Rattle.word_plan.specs.Table.{Exists, word_index, word_name}
-use Rattle.word_plan.proofs.TableLemmas.{word_index-within, word_name-word_index, word_index-word_name, word_name-Exists}
+use Rattle.word_table.specs.declared.name.WordName.{WordName}
+use Rattle.word_table.specs.declared.name.WordName.TheVariants as name
+use Rattle.word_table.specs.Counts.{descriptor_count, word_count}
+use Rattle.word_table.specs.Table.{Exists, word_index, word_name}
+use Rattle.word_table.proofs.TableLemmas.{word_index-within, word_name-word_index, word_index-word_name, word_name-Exists}
 use Rattle.errand_steps.specs.Steps.{State}
 use Rattle.sound_state.specs.Keepers.{active_keeps, word_keeps}
 use Rattle.sound_state.specs.Lists.{Lists}

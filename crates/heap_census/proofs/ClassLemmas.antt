@@ -8,7 +8,7 @@ use Rattle.heap_geometry.specs.declared.limits.TheConstants.{CLASSES}
 use Rattle.heap_geometry.specs.Need.{block_count_of}
 use Rattle.packed_words.specs.declared.active.ActiveWord.{ActiveWord}
 use Rattle.packed_words.specs.declared.active.ActiveWord.TheVariants.{Null, Held}
-use Rattle.word_plan.specs.Counts.{descriptor_count}
+use Rattle.word_table.specs.Counts.{descriptor_count}
 use Rattle.pool_model.specs.Pool.{pool_of}
 use Rattle.errand_steps.specs.Steps.{State}
 use Rattle.sound_state.specs.Lists.{Lists, IsListed}
@@ -17,7 +17,7 @@ use Rattle.sound_state.specs.Superblocks.{anchor_for}
 use Rattle.sound_state.proofs.shared.SumLemmas.{sum-same}
 use Rattle.live_heap.specs.Endings.{ClosedFields, IsResting}
 use Rattle.heap_census.specs.declared.census.ClassCount.{ClassCount}
-use Rattle.heap_census.specs.declared.tallies.Tally.{Tally}
+use Rattle.heap_census.specs.declared.tallies.SuperblockTally.{SuperblockTally}
 use Rattle.heap_census.specs.Census.{IsClassCount, active_in, closed_state, counted_of, has_class, is_class, no_blocks, offered_of, superblocks_of}
 use Rattle.heap_census.specs.Tallies.{IsSameTally, counted_by, named_by, anchored_tally, with_actives}
 use Rattle.heap_census.proofs.IdleLemmas.{Rests}
@@ -37,13 +37,13 @@ counted-weighed s (Some Null) = refl
 counted-weighed s (Some (Held d credits)) = refl
 
 -- what the words say of a class
-pub record IsTallied (g : Geometry) (s : State) (class : ℕ) (t : Tally) : Type 0 where
-  pub anchored : Tally
+pub record IsTallied (g : Geometry) (s : State) (class : ℕ) (t : SuperblockTally) : Type 0 where
+  pub anchored : SuperblockTally
   pub counts : IsSameTally anchored (anchored_tally s (descriptor_count g) class)
   pub all : IsSameTally t (with_actives s anchored class g.heaps)
 
 tally-superblocks :
-    (g : Geometry) (s : State) (l : Lists) (class : ℕ) (t : Tally) → Rests g s l → class < CLASSES → IsTallied g s class t
+    (g : Geometry) (s : State) (l : Lists) (class : ℕ) (t : SuperblockTally) → Rests g s l → class < CLASSES → IsTallied g s class t
     → t.superblocks ≡ superblocks_of g s l class
 tally-superblocks g s l class t rests of x =
     let words : sum_below g.heaps (λ heap. named_by (active_in s heap class)) ≡ sum_below g.heaps (λ heap. weighed (λ d. 1) (active_in s heap class)) =
@@ -52,7 +52,7 @@ tally-superblocks g s l class t rests of x =
     omega (arith, words, x.counts.superblocks, x.all.superblocks, exchange g s l class (λ d. 1) rests of)
 
 tally-free :
-    (g : Geometry) (s : State) (l : Lists) (class : ℕ) (t : Tally) → Rests g s l → class < CLASSES → IsTallied g s class t
+    (g : Geometry) (s : State) (l : Lists) (class : ℕ) (t : SuperblockTally) → Rests g s l → class < CLASSES → IsTallied g s class t
     → t.free ≡ counted_of g s l class
 tally-free g s l class t rests of x =
     let count = λ (d : ℕ). (anchor_for s d).count in
@@ -62,12 +62,12 @@ tally-free g s l class t rests of x =
     omega (arith, words, x.counts.free, x.all.free, exchange g s l class count rests of)
 
 tally-reserved :
-    (g : Geometry) (s : State) (class : ℕ) (t : Tally) → IsTallied g s class t → t.reserved ≡ offered_of g s class
+    (g : Geometry) (s : State) (class : ℕ) (t : SuperblockTally) → IsTallied g s class t → t.reserved ≡ offered_of g s class
 tally-reserved g s class t x = omega (arith, x.counts.reserved, x.all.reserved)
 
 -- so they add up
 pub tally-adds :
-    (g : Geometry) (s : State) (l : Lists) (class : ℕ) (t : Tally) → Rests g s l → class < CLASSES → IsTallied g s class t
+    (g : Geometry) (s : State) (l : Lists) (class : ℕ) (t : SuperblockTally) → Rests g s l → class < CLASSES → IsTallied g s class t
     → t.free + t.reserved + count_by (λ block. is_class class block.need) (pool_of s.history) ≡ block_count_of class * t.superblocks
 tally-adds g s l class t rests of x =
     joins (counted_of g s l class) (offered_of g s class) (count_by (λ block. is_class class block.need) (pool_of s.history)) t.free t.reserved
@@ -85,7 +85,7 @@ left-over : (free reserved live all left : ℕ) → free + reserved + live ≡ a
 left-over free reserved live all left sum is = omega (arith, sum, is)
 
 pub class-count :
-    (c : ClosedFields) (class : ℕ) (t : Tally) (n : ClassCount) → IsResting c → class < CLASSES → IsTallied c.geometry (closed_state c) class t
+    (c : ClosedFields) (class : ℕ) (t : SuperblockTally) (n : ClassCount) → IsResting c → class < CLASSES → IsTallied c.geometry (closed_state c) class t
     → n.blocks ≡ block_count_of class * t.superblocks → n.free ≡ t.free → n.reserved ≡ t.reserved → n.live ≡ n.blocks - n.free - n.reserved
     → (l : Lists) → IsListed c.geometry (closed_state c).word l → IsClassCount c l class n
 class-count c class t n resting of x blocks free reserved live l listed =
@@ -119,7 +119,7 @@ class-count c class t n resting of x blocks free reserved live l listed =
 
 -- and no difference is below 0
 pub class-within :
-    (c : ClosedFields) (class : ℕ) (t : Tally) → IsResting c → class < CLASSES → IsTallied c.geometry (closed_state c) class t
+    (c : ClosedFields) (class : ℕ) (t : SuperblockTally) → IsResting c → class < CLASSES → IsTallied c.geometry (closed_state c) class t
     → t.free + t.reserved ≤ block_count_of class * t.superblocks
 class-within c class t resting of x =
     let (l, rests) = closed-rests c resting in

@@ -7,7 +7,7 @@ use Rattle.heap_geometry.specs.declared.limits.TheConstants.{CLASSES}
 use Rattle.heap_geometry.specs.Need.{block_count_of}
 use Rattle.packed_words.specs.declared.active.ActiveWord.{ActiveWord}
 use Rattle.packed_words.specs.declared.active.ActiveWord.TheVariants.{Null, Held}
-use Rattle.word_plan.specs.Counts.{descriptor_count}
+use Rattle.word_table.specs.Counts.{descriptor_count}
 use Rattle.errand_steps.specs.Steps.{State}
 use Rattle.sound_state.specs.Consequences.{live_in}
 use Rattle.sound_state.specs.Keepers.{active_keeps}

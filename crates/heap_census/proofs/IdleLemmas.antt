@@ -1,7 +1,7 @@
 -- Idle callers hold nothing but the descriptors that they retired.
 use Rattle.std.proofs.Common.{ℕ, ◌≡◌, ◌<◌, ap, arith}
 use Rattle.heap_geometry.specs.declared.geometry.Geometry.{Geometry}
-use Rattle.word_plan.specs.Occurs.{occurs}
+use Rattle.word_table.specs.Occurs.{occurs}
 use Rattle.errand_steps.specs.Begins.{IsIdle}
 use Rattle.errand_steps.specs.Errands.{ErrandFields}
 use Rattle.errand_steps.specs.Steps.{State}

@@ -8,7 +8,7 @@ use Rattle.heap_geometry.specs.declared.need.Need.TheVariants.{Small, Large, Too
 use Rattle.heap_geometry.specs.Need.{block_count_of}
 use Rattle.heap_geometry.specs.Place.{block_place, frame_of, index_of, unit_place}
 use Rattle.heap_geometry.proofs.PlaceLemmas.{frame_of-block_place, index_of-block_place}
-use Rattle.word_plan.specs.Counts.{descriptor_count}
+use Rattle.word_table.specs.Counts.{descriptor_count}
 use Rattle.pool_model.specs.Pool.{Block, block_at, pool_of}
 use Rattle.pool_model.specs.WellFormed.{IsPlaceFor, IsWellFormed}
 use Rattle.pool_model.proofs.PoolLemmas.{Every, every-map}

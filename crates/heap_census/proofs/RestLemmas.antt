@@ -13,12 +13,12 @@ use Rattle.packed_words.specs.declared.active.ActiveWord.TheVariants.{Null, Held
 use Rattle.packed_words.specs.Active.{IsActiveWord, active_word, active_of}
 use Rattle.packed_words.proofs.ActiveLemmas.{active-exact}
 use Rattle.packed_words.proofs.AnchorLemmas.{IsAnchor-anchor_of}
-use Rattle.word_plan.specs.declared.name.WordName.TheVariants as name
-use Rattle.word_plan.specs.Counts.{descriptor_count}
-use Rattle.word_plan.specs.Occurs.{occurs}
-use Rattle.word_plan.specs.declared.limits.TheConstants.{MAX_DESCRIPTORS, MOST_CREDITS}
-use Rattle.word_plan.specs.Seats.{info_within}
-use Rattle.word_plan.proofs.CountLemmas.{descriptor_count_within}
+use Rattle.word_table.specs.declared.name.WordName.TheVariants as name
+use Rattle.word_table.specs.Counts.{descriptor_count}
+use Rattle.word_table.specs.Occurs.{occurs}
+use Rattle.word_table.specs.declared.limits.TheConstants.{MAX_DESCRIPTORS, MOST_CREDITS}
+use Rattle.word_table.specs.Seats.{info_within}
+use Rattle.word_table.proofs.CountLemmas.{descriptor_count_within}
 use Rattle.stack_parts.specs.declared.point.Pile.TheVariants.{Frames, Partials}
 use Rattle.stack_parts.specs.Stacks.{next_in}
 use Rattle.partial_parts.specs.Grants.{is_empty}
@@ -28,7 +28,7 @@ use Rattle.sound_state.specs.Superblocks.{info_for, info_or_zero, anchor_for, er
 use Rattle.sound_state.proofs.CountedLemmas.{without-counts}
 use Rattle.sound_state.specs.Sums.{callers_sum}
 use Rattle.sound_state.proofs.shared.StackedLemmas.{stacked-same}
-use Rattle.step_core.proofs.CoreLemmas.{core-sound}
+use Rattle.step_machine.proofs.CoreLemmas.{core-sound}
 use Rattle.live_heap.specs.Endings.{ClosedFields, IsResting, machine_of}
 use Rattle.heap_census.specs.Census.{closed_state, has_class, active_in, offers}
 use Rattle.heap_census.proofs.IdleLemmas.{Rests}

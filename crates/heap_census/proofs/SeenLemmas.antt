@@ -6,14 +6,14 @@ use Rattle.heap_geometry.specs.declared.geometry.Geometry.{Geometry}
 use Rattle.heap_geometry.specs.declared.limits.TheConstants.{CLASSES}
 use Rattle.packed_words.specs.declared.active.ActiveWord.{ActiveWord}
 use Rattle.packed_words.specs.declared.active.ActiveWord.TheVariants.{Null, Held}
-use Rattle.packed_words.specs.declared.anchor.State.{State as Phase}
-use Rattle.packed_words.specs.declared.anchor.State.TheVariants as phase
-use Rattle.word_plan.specs.declared.name.WordName.{WordName}
-use Rattle.word_plan.specs.declared.name.WordName.TheVariants as name
-use Rattle.word_plan.specs.Counts.{descriptor_count, word_count}
-use Rattle.word_plan.specs.Table.{Exists, word_name}
-use Rattle.word_plan.proofs.TableLemmas.{word_name-Exists}
-use Rattle.word_plan.specs.Occurs.{occurs}
+use Rattle.packed_words.specs.declared.anchor.AnchorState.{AnchorState as Phase}
+use Rattle.packed_words.specs.declared.anchor.AnchorState.TheVariants as phase
+use Rattle.word_table.specs.declared.name.WordName.{WordName}
+use Rattle.word_table.specs.declared.name.WordName.TheVariants as name
+use Rattle.word_table.specs.Counts.{descriptor_count, word_count}
+use Rattle.word_table.specs.Table.{Exists, word_name}
+use Rattle.word_table.proofs.TableLemmas.{word_name-Exists}
+use Rattle.word_table.specs.Occurs.{occurs}
 use Rattle.partial_parts.specs.Grants.{is_empty}
 use Rattle.errand_steps.specs.Steps.{State}
 use Rattle.sound_state.specs.Keepers.{active_keeps, word_keeps, full_keeps, in_words, in_lists, IsWithout, IsActive, IsPartlyUsed}

@@ -4,11 +4,11 @@ use Rattle.std.specs.Prelude.{if◌then◌else◌}
 use Rattle.heap_geometry.specs.declared.limits.TheConstants.{MAX_COUNT}
 use Rattle.packed_words.specs.declared.active.ActiveWord.{ActiveWord}
 use Rattle.packed_words.specs.declared.active.ActiveWord.TheVariants.{Null, Held}
-use Rattle.word_plan.specs.declared.limits.TheConstants.{MOST_CREDITS}
+use Rattle.word_table.specs.declared.limits.TheConstants.{MOST_CREDITS}
 use Rattle.errand_steps.specs.Steps.{State}
 use Rattle.sound_state.specs.Superblocks.{anchor_for}
 use Rattle.sound_state.proofs.shared.SumLemmas.{sum-most}
-use Rattle.heap_census.specs.declared.tallies.Tally.{Tally}
+use Rattle.heap_census.specs.declared.tallies.SuperblockTally.{SuperblockTally}
 use Rattle.heap_census.specs.Census.{active_in, offers}
 use Rattle.heap_census.specs.Tallies.{AreTallies, AreWithin, IsSameTally, counted_by, named_by, anchored_in, anchored_tally, with_actives}
 
@@ -31,7 +31,7 @@ anchored-most s n class most = (
 
 -- so few are counted
 pub tallies-within :
-    (s : State) (tallies : List Tally) (d : ℕ) → ((k : ℕ) → (anchor_for s k).count ≤ MAX_COUNT) → AreTallies tallies (anchored_tally s d)
+    (s : State) (tallies : List SuperblockTally) (d : ℕ) → ((k : ℕ) → (anchor_for s k).count ≤ MAX_COUNT) → AreTallies tallies (anchored_tally s d)
     → AreWithin tallies d
 tallies-within s tallies d most are = record {
   classes = are.classes;
@@ -51,7 +51,7 @@ counted-most s (Some Null) most = omega arith
 counted-most s (Some (Held d credits)) most = most d
 
 pub actives-room :
-    (s : State) (t u : Tally) (class descs heap : ℕ) → ((d : ℕ) → (anchor_for s d).count ≤ MAX_COUNT)
+    (s : State) (t u : SuperblockTally) (class descs heap : ℕ) → ((d : ℕ) → (anchor_for s d).count ≤ MAX_COUNT)
     → ((k : ℕ) → offers (active_in s k class) ≤ MOST_CREDITS) → IsSameTally t (anchored_tally s descs class) → IsSameTally u (with_actives s t class heap)
     → (u.superblocks ≤ descs + heap) × (u.free ≤ MAX_COUNT * (descs + heap)) × (u.reserved ≤ MOST_CREDITS * heap)
 actives-room s t u class descs heap count offer anchored all =

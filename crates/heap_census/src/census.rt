@@ -6,6 +6,7 @@ use heap_geometry::limits::CLASSES;
 pub const CLASS_COUNT: usize = CLASSES as usize;
 
 /// The blocks of one class.
+#[repr(C)]
 #[derive(Clone, Copy, Debug, PartialEq, Eq)]
 pub struct ClassCount {
     /// The blocks of all superblocks of the class.
@@ -19,6 +20,7 @@ pub struct ClassCount {
 }
 
 /// What a closed heap holds.
+#[repr(C)]
 #[derive(Clone, Copy, Debug, PartialEq, Eq)]
 pub struct Census {
     /// The blocks of each class.

@@ -3,7 +3,7 @@
 ghost use Rattle.std.specs.Prelude.{ℕ, ◌≡◌, ◌<◌, ◌≤◌, ◌==◌, length, slice_index_or, if◌then◌else◌};
 ghost use Rattle.std.specs.Int.{bit_at};
 ghost use Rattle.heap_geometry.specs.declared.limits.TheConstants.{CLASSES, MAX_UNITS};
-ghost use Rattle.word_plan.specs.Counts.{descriptor_count};
+ghost use Rattle.word_table.specs.Counts.{descriptor_count};
 ghost use Rattle.sound_state.specs.Lists.{Lists, IsListed};
 ghost use Rattle.sound_state.specs.Sums.{sum_below};
 ghost use Rattle.live_heap.specs.Endings.{IsResting};
@@ -11,12 +11,12 @@ ghost use Rattle.heap_census.specs.Census.{IsCensus, IsClassCount, closed_state,
 ghost use Rattle.heap_census.specs.Tallies.{IsSameTally, anchored_tally};
 
 use crate::census::{CLASS_COUNT, Census, ClassCount};
-use crate::tallies::{Tally, add_actives, tally_anchored};
+use crate::tallies::{SuperblockTally, add_actives, tally_anchored};
 use heap_geometry::limits::CLASSES;
 use heap_geometry::need::block_count;
 use live_heap::closed::Closed;
 use packed_words::head::Head;
-use word_plan::name::WordName;
+use word_table::name::WordName;
 
 /// No blocks.
 const NO_BLOCKS: ClassCount = ClassCount {
@@ -54,7 +54,7 @@ fn count_classes(closed: &Closed) -> [ClassCount; CLASS_COUNT]
 }
 
 /// The blocks of a class, of whose superblocks those that stand in no active word are counted already.
-fn count_class(closed: &Closed, class: u8, anchored: Tally) -> ClassCount
+fn count_class(closed: &Closed, class: u8, anchored: SuperblockTally) -> ClassCount
     requires rests { IsResting closed.now }
     requires class { class < CLASSES }
     requires anchored { IsSameTally anchored (anchored_tally (closed_state closed.now) (descriptor_count closed.now.geometry) class) }

@@ -3,8 +3,8 @@
 ghost use Rattle.std.specs.Prelude.{ℕ, ◌≡◌, ◌<◌, ◌+◌, ◌↔◌, IsTrue, length};
 ghost use Rattle.std.specs.Int.{bit_at};
 ghost use Rattle.heap_geometry.specs.declared.limits.TheConstants.{CLASSES};
-ghost use Rattle.word_plan.specs.declared.name.WordName.TheVariants as name;
-ghost use Rattle.word_plan.specs.Counts.{descriptor_count};
+ghost use Rattle.word_table.specs.declared.name.WordName.TheVariants as name;
+ghost use Rattle.word_table.specs.Counts.{descriptor_count};
 ghost use Rattle.sound_state.specs.Lists.{Lists, IsListed};
 ghost use Rattle.sound_state.specs.Sums.{sum_below};
 ghost use Rattle.sound_state.specs.Superblocks.{info_for, is_bound};

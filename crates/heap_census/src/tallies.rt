@@ -2,9 +2,9 @@
 
 ghost use Rattle.std.specs.Prelude.{◌≡◌, ◌<◌, ◌≤◌, ◌*◌, ◌^◌, slice_index_or};
 ghost use Rattle.heap_geometry.specs.declared.limits.TheConstants.{CLASSES, MAX_COUNT};
-ghost use Rattle.packed_words.specs.declared.anchor.State.{State as Phase};
-ghost use Rattle.word_plan.specs.Counts.{descriptor_count};
-ghost use Rattle.word_plan.specs.declared.limits.TheConstants.{MAX_DESCRIPTORS};
+ghost use Rattle.packed_words.specs.declared.anchor.AnchorState.{AnchorState as Phase};
+ghost use Rattle.word_table.specs.Counts.{descriptor_count};
+ghost use Rattle.word_table.specs.declared.limits.TheConstants.{MAX_DESCRIPTORS};
 ghost use Rattle.sound_state.specs.Superblocks.{anchor_for, info_for};
 ghost use Rattle.live_heap.specs.Endings.{IsResting};
 ghost use Rattle.heap_census.specs.Census.{active_in, closed_state};
@@ -13,14 +13,14 @@ ghost use Rattle.heap_census.specs.Tallies.{AreTallies, AreWithin, IsSameTally, 
 use crate::census::CLASS_COUNT;
 use live_heap::closed::Closed;
 use packed_words::active::ActiveWord;
-use packed_words::anchor::{Anchor, State};
+use packed_words::anchor::{Anchor, AnchorState};
 use packed_words::info::Info;
-use word_plan::layout::Layout;
-use word_plan::name::WordName;
+use word_table::layout::Layout;
+use word_table::name::WordName;
 
 /// Some superblocks of one class.
 #[derive(Clone, Copy, Debug, PartialEq, Eq)]
-pub struct Tally {
+pub struct SuperblockTally {
     /// How many there are.
     pub superblocks: u64,
     /// How many free blocks their anchors count.
@@ -30,14 +30,14 @@ pub struct Tally {
 }
 
 /// No superblocks yet.
-const NOTHING_YET: Tally = Tally {
+const NOTHING_YET: SuperblockTally = SuperblockTally {
     superblocks: 0,
     free: 0,
     reserved: 0,
 };
 
 /// The superblocks of each class whose anchors say FULL or PARTIAL.
-pub fn tally_anchored(closed: &Closed) -> [Tally; CLASS_COUNT]
+pub fn tally_anchored(closed: &Closed) -> [SuperblockTally; CLASS_COUNT]
     requires { IsResting closed.now }
     ensures { AreTallies result (anchored_tally (closed_state closed.now) (descriptor_count closed.now.geometry)) }
 {
@@ -50,7 +50,7 @@ pub fn tally_anchored(closed: &Closed) -> [Tally; CLASS_COUNT]
 }
 
 /// Adds the superblock of a descriptor whose anchor says FULL or PARTIAL.
-fn add_anchored(closed: &Closed, tallies: &mut [Tally; CLASS_COUNT], desc: u16)
+fn add_anchored(closed: &Closed, tallies: &mut [SuperblockTally; CLASS_COUNT], desc: u16)
     requires rests { IsResting closed.now }
     requires desc { desc < descriptor_count closed.now.geometry }
     requires room { AreWithin tallies.old desc }
@@ -63,12 +63,12 @@ fn add_anchored(closed: &Closed, tallies: &mut [Tally; CLASS_COUNT], desc: u16)
 }
 
 /// Whether an anchor in this state has a superblock, whatever else the words say.
-fn is_anchored(state: State) -> bool
+fn is_anchored(state: AnchorState) -> bool
     ensures { result ≡ is_anchored state }
 {
     match state {
-        State::Full | State::Partial => true,
-        State::Active | State::Empty => false,
+        AnchorState::Full | AnchorState::Partial => true,
+        AnchorState::Active | AnchorState::Empty => false,
     }
 }
 
@@ -86,7 +86,7 @@ fn class_of(closed: &Closed, desc: u16) -> u8
 }
 
 /// Counts a superblock of the class, of which so many blocks are free.
-fn add_superblock(tallies: &mut [Tally; CLASS_COUNT], class: u8, free: u16)
+fn add_superblock(tallies: &mut [SuperblockTally; CLASS_COUNT], class: u8, free: u16)
     requires class { class < CLASSES }
     requires free { free ≤ MAX_COUNT }
     requires superblocks { (slice_index_or tallies.old class nothing_yet).superblocks ≤ MAX_DESCRIPTORS }
@@ -94,7 +94,7 @@ fn add_superblock(tallies: &mut [Tally; CLASS_COUNT], class: u8, free: u16)
     ensures { tallies.new ≡ with_superblock tallies.old class free }
 {
     let tally = tallies[usize::from(class)];
-    tallies[usize::from(class)] = Tally {
+    tallies[usize::from(class)] = SuperblockTally {
         superblocks: tally.superblocks + 1,
         free: tally.free + u64::from(free),
         reserved: tally.reserved,
@@ -102,7 +102,7 @@ fn add_superblock(tallies: &mut [Tally; CLASS_COUNT], class: u8, free: u16)
 }
 
 /// Adds the superblocks that the active words of the class name, and what these words offer.
-pub fn add_actives(closed: &Closed, class: u8, anchored: Tally) -> Tally
+pub fn add_actives(closed: &Closed, class: u8, anchored: SuperblockTally) -> SuperblockTally
     requires rests { IsResting closed.now }
     requires class { class < CLASSES }
     requires anchored { IsSameTally anchored (anchored_tally (closed_state closed.now) (descriptor_count closed.now.geometry) class) }
@@ -116,7 +116,7 @@ pub fn add_actives(closed: &Closed, class: u8, anchored: Tally) -> Tally
 }
 
 /// Adds the superblock that an active word names, and what it offers.
-fn add_active(closed: &Closed, tally: Tally, heap: u8, class: u8) -> Tally
+fn add_active(closed: &Closed, tally: SuperblockTally, heap: u8, class: u8) -> SuperblockTally
     requires rests { IsResting closed.now }
     requires heap { heap < closed.now.geometry.heaps }
     requires class { class < CLASSES }
@@ -126,7 +126,7 @@ fn add_active(closed: &Closed, tally: Tally, heap: u8, class: u8) -> Tally
     match ActiveWord::unpack(closed.word(WordName::Active(heap, class))) {
         Some(ActiveWord::Held { desc, credits }) => {
             let anchor = Anchor::unpack(closed.word(WordName::Anchor(desc)));
-            Tally {
+            SuperblockTally {
                 superblocks: tally.superblocks + 1,
                 free: tally.free + u64::from(anchor.count()),
                 reserved: tally.reserved + u64::from(credits) + 1,

@@ -11,7 +11,7 @@ use crate::sums::{Sums, add, differing, sum};
 use heap_geometry::geometry::Geometry;
 use live_heap::closed::Closed;
 use std::alloc::{AllocError, Global};
-use word_plan::layout::Layout;
+use word_table::layout::Layout;
 
 /// More tries and steps than any call takes.
 const ENOUGH: Pace = Pace {

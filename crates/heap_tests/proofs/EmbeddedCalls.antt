@@ -8,8 +8,8 @@ use Rattle.errand_steps.specs.Begins.{IsIdle}
 use Rattle.errand_steps.specs.Calls.{Call, alloc, read, take, write}
 use Rattle.errand_steps.specs.Errands.{ErrandFields}
 use Rattle.call_events.specs.Made.{LeadsBy, Made, answered}
-use Rattle.step_core.specs.Cores.{OwnsAfter}
-use Rattle.step_core.specs.Keeping.{Leaves}
+use Rattle.step_machine.specs.Cores.{OwnsAfter}
+use Rattle.step_machine.specs.Keeping.{LeavesPlace}
 use Rattle.live_heap.specs.declared.heap.Heap.{Heap}
 use Rattle.live_heap.specs.declared.pass.Pass.{Pass}
 use Rattle.live_heap.specs.Answers.{IsContents}
@@ -29,7 +29,7 @@ OwnsAt p place need = OwnsAfter (seen p) p.errand.caller place need
 -- the laws of whole calls that this stands on
 abbrev pub KeepsBlocks : Type 0
 KeepsBlocks =
-    (h k : Heap) (p q : Pass) (call : Call) (answer : Reply) (place : ℕ) (need : Need) → IsWhole h p call answer k q → Leaves call place
+    (h k : Heap) (p q : Pass) (call : Call) (answer : Reply) (place : ℕ) (need : Need) → IsWhole h p call answer k q → LeavesPlace call place
     → OwnsAt p place need → OwnsAt q place need
 
 abbrev pub HandsBlocks : Type 0
@@ -79,7 +79,7 @@ pub record Has (h : Heap) (from : Pass) (calls : List Made) (p : Pass) (place : 
 -- a call more, which leaves the block
 pub has-more :
     (h : Heap) (from p q : Pass) (calls : List Made) (place : ℕ) (need : Need) (call : Call) (answer : Reply) → KeepsBlocks
-    → Has h from calls p place need → Leaves call place → Makes h p call answer q → Has h from (calls ++ answered call answer ∷ []) q place need
+    → Has h from calls p place need → LeavesPlace call place → Makes h p call answer q → Has h from (calls ++ answered call answer ∷ []) q place need
 has-more h from p q calls place need call answer keeps has leaves made = record {
   made = push h from p q calls call answer has.made made;
   rest = rest-of h p q call answer made;

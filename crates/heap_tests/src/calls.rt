@@ -19,7 +19,7 @@ use live_heap::heap::Heap;
 use live_heap::pass::Pass;
 use std::alloc::{AllocError, Global};
 use std::test::Fail;
-use word_plan::name::WordName;
+use word_table::name::WordName;
 
 /// The anchor of a descriptor, where the heap has it.
 fn anchor(closed: &Closed, desc: u16) -> Option<u64> {

@@ -3,7 +3,7 @@
 
 ghost use Rattle.std.specs.Prelude.{◌<◌, IsTrue};
 ghost use Rattle.errand_steps.specs.Begins.{IsIdle};
-ghost use Rattle.step_core.specs.Cores.{errand_at, OwnsBlock};
+ghost use Rattle.step_machine.specs.Cores.{errand_at, OwnsBlock};
 
 use crate::alone::geometry;
 use errand_steps::reply::Begun;
@@ -17,7 +17,7 @@ use pool_model::owner::Owner;
 use std::alloc::AllocError;
 use std::process::Abort;
 use std::test::Fail;
-use step_core::machine::Core;
+use step_machine::machine::Core;
 
 /// What is asked of a block.
 #[derive(Clone, Copy, Debug)]

@@ -22,7 +22,8 @@ pieces-more f a zero = let here : a + 0 ≡ a = omega arith in append-nil (f a) 
 pieces-more f a (suc n) =
     let there : a + 1 + n ≡ a + suc n = omega arith in
     let more : suc n + 1 ≡ suc (n + 1) = omega arith in
-    ap (λ k. flat_map f (range_with_len a k)) more ∙ ap (λ xs. f a ++ xs) (pieces-more f (a + 1) n) ∙ sym (append_assoc (f a) (flat_map f (range_with_len (a + 1) n)) (f (a + 1 + n)))
+    ap (λ k. flat_map f (range_with_len a k)) more ∙ ap (λ xs. f a ++ xs) (pieces-more f (a + 1) n) ∙ sym
+    (append_assoc (f a) (flat_map f (range_with_len (a + 1) n)) (f (a + 1 + n)))
     ∙ ap (λ k. (f a ++ flat_map f (range_with_len (a + 1) n)) ++ f k) there
 
 -- the same pieces

@@ -19,14 +19,14 @@ use Rattle.sound_state.specs.Recalls.{IsOwned}
 use Rattle.sound_state.specs.Runs.{MayBegin, begins, steps}
 use Rattle.sound_state.proofs.CountedLemmas.{without-counts}
 use Rattle.sound_state.proofs.beginnings.BegunLemmas.{owned-block}
-use Rattle.step_core.specs.Cores.{CoreFields, IsCore, errand_at, state_of, with_errand}
-use Rattle.step_core.specs.Moments.{HasSeenMore}
-use Rattle.step_core.specs.Steps.{AnswersSo, IsStepped, stepped}
-use Rattle.step_core.proofs.CoreLemmas.{core-sound, moves-set}
-use Rattle.step_core.proofs.MomentLemmas.{core-moment, core-beside, same-seen}
+use Rattle.step_machine.specs.Cores.{CoreFields, IsCore, errand_at, state_of, with_errand}
+use Rattle.step_machine.specs.Moments.{HasSeenMore}
+use Rattle.step_machine.specs.Steps.{AnswersSo, IsStepped, stepped}
+use Rattle.step_machine.proofs.CoreLemmas.{core-sound, moves-set}
+use Rattle.step_machine.proofs.MomentLemmas.{core-moment, core-beside, same-seen}
 use Rattle.lane_engine.specs.declared.stepped.Stepped.{Stepped}
 use Rattle.lane_engine.specs.Told.{HasStepped, IsTellable, Tells}
-use Rattle.lane_engine.specs.Machines.{MovesCore, Serves}
+use Rattle.lane_engine.specs.Machines.{MovesCore, ServesCaller}
 
 -- a block that a caller owns serves some need
 owned-need : (c : CoreFields) (caller place : ℕ) (need : Need) → IsCore c → IsOwned (state_of c) caller place need → IsNeed need
@@ -109,7 +109,7 @@ core-others c after caller other answer idle busy differ =
 
 -- a call that begins leads on, too
 pub core-begins :
-    (c after : CoreFields) (caller : ℕ) (call : Call) → Serves c caller → IsIdle (errand_at c.errands caller) → MayBegin (state_of c) caller call
+    (c after : CoreFields) (caller : ℕ) (call : Call) → ServesCaller c caller → IsIdle (errand_at c.errands caller) → MayBegin (state_of c) caller call
     → after ≡ with_errand c caller (begun_by (errand_at c.errands caller) call) → MovesCore c (begins caller call) after
 core-begins c after caller call serves idle may is =
     let e = begun_by (errand_at c.errands caller) call in

@@ -9,7 +9,7 @@ use Rattle.errand_steps.specs.declared.reply.Progress.TheVariants as progress
 use Rattle.errand_steps.specs.declared.reply.Reply.TheVariants as reply
 use Rattle.errand_steps.specs.Errands.{ErrandFields}
 use Rattle.errand_steps.specs.Offers.{offered_at}
-use Rattle.step_core.specs.Moments.{IsMoment}
+use Rattle.step_machine.specs.Moments.{IsMoment}
 use Rattle.lane_engine.specs.declared.stepped.Stepped.{Stepped}
 use Rattle.lane_engine.specs.declared.stepped.Stepped.TheVariants as stepped
 

@@ -7,12 +7,16 @@ use Rattle.errand_steps.specs.declared.reply.Reply.{Reply}
 use Rattle.errand_steps.specs.declared.reply.Reply.TheVariants as reply
 use Rattle.errand_steps.specs.Calls.{Call, alloc, read, write}
 use Rattle.call_events.specs.Made.{LeadsBy, Made, answered}
-use Rattle.step_core.specs.Keeping.{Leaves}
-use Rattle.live_heap.specs.Whole.{Hands}
+use Rattle.step_machine.specs.Cores.{OwnsAfter}
+use Rattle.step_machine.specs.Keeping.{LeavesPlace}
+use Rattle.live_heap.specs.declared.heap.Heap.{Heap}
+use Rattle.live_heap.specs.Passes.{seen}
+use Rattle.live_heap.specs.Whole.{Hands, IsAtRest, IsWhole}
 use Rattle.lane_engine.specs.declared.calls.Allocated.{Allocated}
 use Rattle.lane_engine.specs.declared.calls.Allocated.TheVariants as allocated
 use Rattle.lane_engine.specs.declared.calls.Taken.{Taken}
 use Rattle.lane_engine.specs.declared.calls.Taken.TheVariants as taken
+use Rattle.lane_engine.specs.declared.over_pass.PassCalls.{PassCalls}
 
 module _ {B : Type 0} (place_of : B → ℕ) (need_of : B → Need) where
   -- the answer of an allocation
@@ -33,14 +37,38 @@ module _ {B : Type 0} (place_of : B → ℕ) (need_of : B → Need) where
   TakeTells ended taken.Empty = ended reply.Empty
   TakeTells ended taken.Missed = (expected : ℕ) × (found : ℕ) × ended (reply.Missed expected found)
 
+-- what makes whole calls, to a lane: where it is in no call, which blocks are its caller's, what it runs on, which no call changes, and which calls, ended with which answer, led from one state to another
+pub record Maker (S : Type 0) : Type 1 where
+  pub stands : S → Type 0
+  pub owns : S → ℕ → Need → Type 0
+  pub Base : Type 0
+  pub runs_on : S → Base
+  pub called : S → Call → Reply → S → Type 0
+
+-- a pass of a heap, by its whole calls
+abbrev pub pass_maker : Maker PassCalls
+pass_maker =
+    record {
+      stands = λ e. IsAtRest e.heap.now e.pass.now;
+      owns = λ e place need. OwnsAfter (seen e.pass.now) e.pass.now.errand.caller place need;
+      Base = ℕ × Heap;
+      runs_on = λ e. (e.pass.ghost_name, e.heap.now);
+      called = λ e call answer f. IsWhole e.heap.now e.pass.now call answer f.heap.now f.pass.now;
+    }
+
 -- whole calls leave their caller its blocks, but for the one that each gives away; a block that one hands out is the caller's, and none of those that it had; and one that is given serves what was asked for
-pub record KeepBlocks {S : Type 0} (called : S → Call → Reply → S → Type 0) (owns : S → ℕ → Need → Type 0) : Type 0 where
-  pub keeps : (s t : S) (call : Call) (answer : Reply) (place : ℕ) (need : Need) → called s call answer t → Leaves call place → owns s place need → owns t place need
-  pub hands : (s t : S) (call : Call) (answer : Reply) (place : ℕ) (need : Need) → called s call answer t → Hands answer place need → owns t place need
+pub record KeepBlocks {S : Type 0} (maker : Maker S) : Type 0 where
+  pub keeps :
+      (s t : S) (call : Call) (answer : Reply) (place : ℕ) (need : Need) → maker.called s call answer t → LeavesPlace call place
+      → maker.owns s place need → maker.owns t place need
+  pub hands :
+      (s t : S) (call : Call) (answer : Reply) (place : ℕ) (need : Need) → maker.called s call answer t → Hands answer place need
+      → maker.owns t place need
   pub apart :
-      (s t : S) (call : Call) (answer : Reply) (place other : ℕ) (need had : Need) → called s call answer t → Hands answer place need
-      → owns s other had → other ≢ place
-  pub serves : (s t : S) (words place : ℕ) (need : Need) → called s (alloc words) (reply.Given place need) t → need ≡ need_of words
+      (s t : S) (call : Call) (answer : Reply) (place other : ℕ) (need had : Need) → maker.called s call answer t → Hands answer place need
+      → maker.owns s other had → other ≢ place
+  pub serves :
+      (s t : S) (words place : ℕ) (need : Need) → maker.called s (alloc words) (reply.Given place need) t → need ≡ need_of words
 
 -- word i of a block is copied into another one, where these of its words are read: a read of the one, and then a write of what it found into
 -- the other; where it is none of these, a write of 0

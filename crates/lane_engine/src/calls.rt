@@ -7,7 +7,7 @@ ghost use Rattle.heap_geometry.specs.Need.{usable_words};
 ghost use Rattle.errand_steps.specs.declared.reply.Reply.{Reply};
 ghost use Rattle.errand_steps.specs.declared.reply.Reply.TheVariants as reply;
 ghost use Rattle.errand_steps.specs.Calls.{Call, alloc, free, put, take};
-ghost use Rattle.lane_engine.specs.Whole.{Copies, KeepBlocks, PutTells, TakeTells, allocated_as};
+ghost use Rattle.lane_engine.specs.Whole.{Copies, KeepBlocks, Maker, PutTells, TakeTells, allocated_as};
 ghost use Rattle.call_events.specs.Made.{LeadsBy, Sums, wrote};
 
 use crate::token::Token;
@@ -41,84 +41,73 @@ pub trait Calls {
     /// A block that the caller holds.
     type Held: Token;
 
-    /// It is in no call.
-    ghost stands: { Self → Type 0 };
-
-    /// The block at this place, which serves this need, is the caller's.
-    ghost owns: { Self → ℕ → Need → Type 0 };
-
-    /// What it runs on, which no call changes.
-    ghost Base: { Type 0 };
-
-    ghost runs_on: { Self → Base };
-
-    /// A whole call led from one state to the other, and ended with this answer.
-    ghost called: { Self → Call → Reply → Self → Type 0 };
+    /// What it is to a lane.
+    ghost maker: { Maker Self };
 
     /// Allocates a block of so many usable words.
     fn allocate<R: Wait>(&mut self, rt: &R, need: u32) -> Allocated<Self::Held>
-        requires stands { stands self.old }
+        requires stands { maker.stands self.old }
         requires need { need ≤ LARGE_MOST }
-        ensures stands { stands self.new }
-        ensures base { runs_on self.new ≡ runs_on self.old }
-        ensures called { called self.old (alloc need) (allocated_as Self.Held.place_of Self.Held.need_of result) self.new };
+        ensures stands { maker.stands self.new }
+        ensures base { maker.runs_on self.new ≡ maker.runs_on self.old }
+        ensures called { maker.called self.old (alloc need) (allocated_as Self.Held.place_of Self.Held.need_of result) self.new };
 
     /// Frees the caller's block.
     fn free<R: Wait>(&mut self, rt: &R, held: Self::Held)
-        requires stands { stands self.old }
-        requires owned { owns self.old (Self.Held.place_of held) (Self.Held.need_of held) }
-        ensures stands { stands self.new }
-        ensures base { runs_on self.new ≡ runs_on self.old }
-        ensures called { called self.old (free (Self.Held.place_of held) (Self.Held.need_of held)) reply.Freed self.new };
+        requires stands { maker.stands self.old }
+        requires owned { maker.owns self.old (Self.Held.place_of held) (Self.Held.need_of held) }
+        ensures stands { maker.stands self.new }
+        ensures base { maker.runs_on self.new ≡ maker.runs_on self.old }
+        ensures called { maker.called self.old (free (Self.Held.place_of held) (Self.Held.need_of held)) reply.Freed self.new };
 
     /// Fills the caller's block: word i with from + i, modulo 2^64.
     fn fill(&mut self, held: &Self::Held, from: u64)
-        requires stands { stands self.old }
-        requires owned { owns self.old (Self.Held.place_of held.now) (Self.Held.need_of held.now) }
-        ensures stands { stands self.new }
-        ensures base { runs_on self.new ≡ runs_on self.old }
-        ensures called { LeadsBy called self.old
+        requires stands { maker.stands self.old }
+        requires owned { maker.owns self.old (Self.Held.place_of held.now) (Self.Held.need_of held.now) }
+        ensures stands { maker.stands self.new }
+        ensures base { maker.runs_on self.new ≡ maker.runs_on self.old }
+        ensures called { LeadsBy maker.called self.old
             (wrote (Self.Held.place_of held.now) (Self.Held.need_of held.now) from (usable_words (Self.Held.need_of held.now))) self.new };
 
     /// The sum of the words of the caller's block, modulo 2^64.
     fn sum(&mut self, held: &Self::Held) -> u64
-        requires stands { stands self.old }
-        requires owned { owns self.old (Self.Held.place_of held.now) (Self.Held.need_of held.now) }
-        ensures stands { stands self.new }
-        ensures base { runs_on self.new ≡ runs_on self.old }
-        ensures called { Sums called self.old (Self.Held.place_of held.now) (Self.Held.need_of held.now) result self.new };
+        requires stands { maker.stands self.old }
+        requires owned { maker.owns self.old (Self.Held.place_of held.now) (Self.Held.need_of held.now) }
+        ensures stands { maker.stands self.new }
+        ensures base { maker.runs_on self.new ≡ maker.runs_on self.old }
+        ensures called { Sums maker.called self.old (Self.Held.place_of held.now) (Self.Held.need_of held.now) result self.new };
 
     /// Copies the caller's block into another one of its blocks, the first word first: each word is read and
     /// then written. What the other one has beyond them is filled with 0.
     fn copy(&mut self, from: &Self::Held, to: &Self::Held)
-        requires stands { stands self.old }
-        requires owned { owns self.old (Self.Held.place_of from.now) (Self.Held.need_of from.now) }
-        requires owned_too { owns self.old (Self.Held.place_of to.now) (Self.Held.need_of to.now) }
-        ensures stands { stands self.new }
-        ensures base { runs_on self.new ≡ runs_on self.old }
-        ensures called { Copies called self.old (Self.Held.place_of from.now) (Self.Held.need_of from.now)
+        requires stands { maker.stands self.old }
+        requires owned { maker.owns self.old (Self.Held.place_of from.now) (Self.Held.need_of from.now) }
+        requires owned_too { maker.owns self.old (Self.Held.place_of to.now) (Self.Held.need_of to.now) }
+        ensures stands { maker.stands self.new }
+        ensures base { maker.runs_on self.new ≡ maker.runs_on self.old }
+        ensures called { Copies maker.called self.old (Self.Held.place_of from.now) (Self.Held.need_of from.now)
             (Self.Held.place_of to.now) (Self.Held.need_of to.now) self.new };
 
     /// Puts the caller's block on a shelf; where a block lies there already it comes back.
     fn put(&mut self, held: Self::Held, shelf: u8) -> Option<Self::Held>
-        requires stands { stands self.old }
-        requires owned { owns self.old (Self.Held.place_of held) (Self.Held.need_of held) }
+        requires stands { maker.stands self.old }
+        requires owned { maker.owns self.old (Self.Held.place_of held) (Self.Held.need_of held) }
         requires shelf { shelf < SHELVES }
-        ensures stands { stands self.new }
-        ensures base { runs_on self.new ≡ runs_on self.old }
-        ensures called { PutTells Self.Held.place_of Self.Held.need_of (owns self.new)
-            (λ answer. called self.old (put (Self.Held.place_of held) (Self.Held.need_of held) shelf) answer self.new)
+        ensures stands { maker.stands self.new }
+        ensures base { maker.runs_on self.new ≡ maker.runs_on self.old }
+        ensures called { PutTells Self.Held.place_of Self.Held.need_of (maker.owns self.new)
+            (λ answer. maker.called self.old (put (Self.Held.place_of held) (Self.Held.need_of held) shelf) answer self.new)
             (Self.Held.place_of held) (Self.Held.need_of held) result };
 
     /// Takes the block that lies on a shelf.
     fn take(&mut self, shelf: u8) -> Taken<Self::Held>
-        requires stands { stands self.old }
+        requires stands { maker.stands self.old }
         requires shelf { shelf < SHELVES }
-        ensures stands { stands self.new }
-        ensures base { runs_on self.new ≡ runs_on self.old }
-        ensures called { TakeTells Self.Held.place_of Self.Held.need_of (λ answer. called self.old (take shelf) answer self.new) result };
+        ensures stands { maker.stands self.new }
+        ensures base { maker.runs_on self.new ≡ maker.runs_on self.old }
+        ensures called { TakeTells Self.Held.place_of Self.Held.need_of (λ answer. maker.called self.old (take shelf) answer self.new) result };
 
     /// What is so of all whole calls: a theorem, on a function that does nothing.
     fn calls_keep_blocks()
-        ensures { KeepBlocks called owns };
+        ensures { KeepBlocks maker };
 }

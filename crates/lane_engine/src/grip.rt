@@ -1,7 +1,7 @@
 //! A block that a caller of a machine holds.
 
 ghost use Rattle.heap_geometry.specs.Need.{IsNeed};
-ghost use Rattle.step_core.specs.Needs.{IsNeed-prop};
+ghost use Rattle.step_machine.specs.Needs.{IsNeed-prop};
 
 use crate::token::Token;
 use heap_geometry::need::{Need, usable};

@@ -4,21 +4,21 @@ ghost use Rattle.std.specs.Prelude.{ℕ, ◌≡◌, ◌≢◌, IfOk, IsSomeAnd, 
 ghost use Rattle.heap_geometry.specs.Need.{IsNeed};
 ghost use Rattle.errand_steps.specs.Begins.{IsIdle, IsBusy};
 ghost use Rattle.sound_state.specs.Runs.{steps};
-ghost use Rattle.step_core.specs.Cores.{IsCore, errand_at};
-ghost use Rattle.step_core.specs.Moments.{HasSeenMore};
+ghost use Rattle.step_machine.specs.Cores.{IsCore, errand_at};
+ghost use Rattle.step_machine.specs.Moments.{HasSeenMore};
 ghost use Rattle.lane_engine.specs.declared.stepped.Stepped.TheVariants as stepped;
-ghost use Rattle.lane_engine.specs.Machines.{MovesCore, Serves, grip_need, grip_place};
+ghost use Rattle.lane_engine.specs.Machines.{MovesCore, ServesCaller, grip_need, grip_place};
 ghost use Rattle.lane_engine.specs.Told.{HasStepped, IsTellable, Tells};
 
 use crate::grip::Grip;
 use crate::stepped::Stepped;
 use errand_steps::reply::{Offer, Progress, Reply};
 use std::alloc::AllocError;
-use step_core::machine::Core;
+use step_machine::machine::Core;
 
 /// Makes one step of a caller of the machine, and says what it came to; none where the caller is idle.
 pub fn step(core: &mut Core, caller: u32) -> Result<Stepped<Grip>, AllocError>
-    requires serves { Serves core.old caller }
+    requires serves { ServesCaller core.old caller }
     ensures rule { IsCore core.new }
     ensures geometry { core.new.geometry ≡ core.old.geometry }
     ensures idle { IfOk result (λ told. IsIdle (errand_at core.old.errands caller)

@@ -137,25 +137,11 @@ impl<'a> PassCalls<'a> {
 }
 
 impl<'a> Calls for PassCalls<'a> {
-    ghost use Rattle.std.specs.Prelude.{◌≡◌, ℕ};
-    ghost use Rattle.lane_engine.specs.declared.over_pass.PassCalls.{PassCalls};
-    ghost use Rattle.live_heap.specs.declared.heap.Heap.{Heap};
-    ghost use Rattle.step_core.specs.Cores.{OwnsAfter};
-    ghost use Rattle.live_heap.specs.Passes.{IsOf, seen};
-    ghost use Rattle.live_heap.specs.Whole.{IsAtRest, IsWhole};
-    ghost use Rattle.lane_engine.specs.Whole.{KeepBlocks};
+    ghost use Rattle.lane_engine.specs.Whole.{KeepBlocks, pass_maker};
 
     type Held = Block;
 
-    ghost stands = { λ e. IsAtRest e.heap.now e.pass.now };
-
-    ghost owns = { λ e place need. OwnsAfter (seen e.pass.now) e.pass.now.errand.caller place need };
-
-    ghost Base = { ℕ × Heap };
-
-    ghost runs_on = { λ e. (e.pass.ghost_name, e.heap.now) };
-
-    ghost called = { λ e call answer f. IsWhole e.heap.now e.pass.now call answer f.heap.now f.pass.now };
+    ghost maker = { pass_maker };
 
     fn allocate<R: Wait>(&mut self, rt: &R, need: u32) -> Allocated<Block> {
         let tries = tries(self.pass, &mut self.last);
@@ -213,8 +199,7 @@ impl<'a> Calls for PassCalls<'a> {
     }
 
     fn calls_keep_blocks()
-        ensures { KeepBlocks {S = PassCalls} (λ e call answer f. IsWhole e.heap.now e.pass.now call answer f.heap.now f.pass.now)
-            (λ e place need. OwnsAfter (seen e.pass.now) e.pass.now.errand.caller place need) }
+        ensures { KeepBlocks pass_maker }
     {
         whole_calls_keep_blocks();
     }

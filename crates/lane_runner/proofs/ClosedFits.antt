@@ -11,12 +11,12 @@ use Rattle.pool_model.specs.Legal.{IsLegal}
 use Rattle.pool_model.proofs.HistoryLemmas.{own-append}
 use Rattle.pool_model.proofs.OwnerLemmas.{own-none}
 use Rattle.errand_steps.specs.Errands.{ErrandFields}
-use Rattle.sound_state.specs.Contention.{lost_of}
+use Rattle.lost_exchanges.specs.Contention.{lost_of}
 use Rattle.sound_state.specs.Sums.{callers_sum}
 use Rattle.sound_state.proofs.shared.SumLemmas.{term-sum}
-use Rattle.step_core.specs.Cores.{CoreFields, errand_at}
-use Rattle.step_core.proofs.CoreLemmas.{core-sound}
-use Rattle.step_core.specs.Moments.{HasSeenMore}
+use Rattle.step_machine.specs.Cores.{CoreFields, errand_at}
+use Rattle.step_machine.proofs.CoreLemmas.{core-sound}
+use Rattle.step_machine.specs.Moments.{HasSeenMore}
 use Rattle.trace_text.specs.declared.trace.Op.{Op}
 use Rattle.trace_text.specs.declared.trace.OrderRun.{OrderRun}
 use Rattle.trace_text.specs.declared.trace.Trace.{Trace}
@@ -32,15 +32,15 @@ use Rattle.live_heap.specs.declared.heap.Heap.{Heap}
 use Rattle.live_heap.specs.declared.pass.Pass.{Pass}
 use Rattle.live_heap.specs.Endings.{ClosedFields, HasClosed, HasTakenIn, IsResting, machine_of}
 use Rattle.live_heap.specs.Passes.{seen}
-use Rattle.lane_steps.specs.declared.stage.Stage.{Stage}
-use Rattle.lane_steps.specs.declared.stage.Stage.TheVariants as stage
-use Rattle.lane_steps.specs.Lanes.{IsLane}
+use Rattle.trace_lane.specs.declared.stage.OperationStage.{OperationStage}
+use Rattle.trace_lane.specs.declared.stage.OperationStage.TheVariants as stage
+use Rattle.trace_lane.specs.Lanes.{IsLane}
 use Rattle.lane_runner.specs.Driven.{IsDriven}
 use Rattle.lane_runner.specs.Running.{operations_in}
 use Rattle.lane_runner.specs.Threads.{HasEndedOver, HaveRun}
-use Rattle.lane_steps.proofs.BesideLemmas.{lane-beside}
+use Rattle.trace_lane.proofs.BesideLemmas.{lane-beside}
 use Rattle.lane_runner.proofs.DrivenLemmas.{fits-all}
-use Rattle.lane_steps.proofs.EndedLemmas.{lane-fits}
+use Rattle.trace_lane.proofs.EndedLemmas.{lane-fits}
 use Rattle.lane_runner.proofs.RunLanes.{element_at}
 
 -- what follows a caller's events adds none, if it has no more of them
@@ -103,7 +103,7 @@ told-spent setting from to (operation ∷ operations) (result ∷ results) (suc 
 -- so its caller has taken as many turns as the limit
 rule-taken :
     (g : Geometry) (lane : ℕ) (events : List Event) (e : ErrandFields) (operations : List Op) (registers : List (Option Held)) (results : List Outcome)
-    (at : Stage) → IsLane g lane events e operations registers results at → Contains results outcome.Spent → e.turns ≡ g.turn_limit
+    (at : OperationStage) → IsLane g lane events e operations registers results at → Contains results outcome.Spent → e.turns ≡ g.turn_limit
 rule-taken g lane events e operations registers results at rule told =
     rule.spent
     (told-spent (setting_in events lane g.turn_limit e.lost) start rule.position (take (length results) operations) results told.0 rule.walks told.1 told.2)

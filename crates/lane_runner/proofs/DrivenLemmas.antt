@@ -8,10 +8,10 @@ use Rattle.std.proofs.Math.ListN.{get_or-eq_default}
 use Rattle.std.proofs.lemmas.List.Elements.{All-head, All-nil, All-tail, All-weaker}
 use Rattle.std.proofs.lemmas.Bool.{cases_Bool, cases_eq, cases_lt}
 use Rattle.heap_geometry.specs.declared.geometry.Geometry.{Geometry}
-use Rattle.word_plan.specs.declared.name.WordName.{WordName}
-use Rattle.word_plan.specs.Table.{exists}
-use Rattle.word_plan.specs.Words.{word_in}
-use Rattle.word_plan.proofs.NameLemmas.{true-Exists}
+use Rattle.word_table.specs.declared.name.WordName.{WordName}
+use Rattle.word_table.specs.Table.{exists}
+use Rattle.word_table.specs.Words.{word_in}
+use Rattle.word_table.proofs.NameLemmas.{true-Exists}
 use Rattle.pool_model.specs.declared.event.Event.{Event}
 use Rattle.pool_model.specs.Histories.{caller_of, own}
 use Rattle.trace_text.specs.declared.limits.TheConstants.{REGISTERS}
@@ -24,35 +24,36 @@ use Rattle.errand_steps.specs.Steps.{State, event_at, found_at, with_event}
 use Rattle.errand_steps.proofs.EventLemmas.{event_own}
 use Rattle.sound_state.specs.Moves.{is_step}
 use Rattle.sound_state.specs.Runs.{Move, begins, steps}
-use Rattle.sound_state.specs.Contention.{lost_of}
+use Rattle.lost_exchanges.specs.Contention.{lost_of}
 use Rattle.sound_state.specs.Sums.{callers_sum}
 use Rattle.sound_state.proofs.shared.SumLemmas.{term-sum}
-use Rattle.sound_state.proofs.wins.CountLemmas.{count-append}
-use Rattle.step_core.specs.Cores.{CoreFields, IsCore, errand_at, state_of}
-use Rattle.step_core.specs.Openings.{IsOpened}
+use Rattle.lost_exchanges.proofs.CountLemmas.{count-append}
+use Rattle.step_machine.specs.Cores.{CoreFields, IsCore, errand_at, state_of}
+use Rattle.step_machine.specs.Openings.{IsOpened}
 use Rattle.lane_engine.specs.declared.grip.Grip.{Grip}
 use Rattle.lane_outcomes.specs.declared.outcome.Outcome.{Outcome}
 use Rattle.lane_outcomes.specs.Fits.{Fits, LanesFit}
 use Rattle.lane_outcomes.specs.Passed.{AllPassed}
 use Rattle.lane_outcomes.specs.Standing.{setting_in}
-use Rattle.lane_steps.specs.declared.lane.LaneState.{LaneState}
-use Rattle.lane_steps.specs.declared.stage.Stage.TheVariants as stage
-use Rattle.lane_steps.specs.Begun.{calls_of}
-use Rattle.lane_steps.specs.Lanes.{IsLane}
+use Rattle.trace_lane.specs.declared.lane.LaneState.{LaneState}
+use Rattle.trace_lane.specs.declared.stage.OperationStage.TheVariants as stage
+use Rattle.trace_lane.specs.Begun.{calls_of}
+use Rattle.lane_engine.specs.Engines.{machine_at}
+use Rattle.trace_lane.specs.Lanes.{IsLane}
 use Rattle.lane_runner.specs.Driven.{IsAtItsEnd, IsDriven, IsDrivenSoFar, lost_by_all, mover_of}
 use Rattle.lane_runner.specs.Orders.{InOrder, OneByOne}
-use Rattle.lane_steps.specs.Paths.{Leads, begun_count}
+use Rattle.trace_lane.specs.Paths.{MovesLead, begun_count}
 use Rattle.lane_runner.specs.Running.{HasEnded, HasPassed, HaveFinished, HaveFollowed, HaveRunSo, IsBelow, IsOnScriptOf, LanesRan, LanesStand, operations_in}
-use Rattle.lane_steps.specs.Scripts.{IsOnScript, Scripts}
-use Rattle.lane_steps.specs.States.{AreNew, IsNew, StandsOn, progress_on}
-use Rattle.lane_steps.proofs.EndedLemmas.{lane-between, lane-fits, lane-new, lane-start, script-new}
+use Rattle.trace_lane.specs.Scripts.{IsOnScript, Scripts}
+use Rattle.trace_lane.specs.States.{AreNew, IsNew, StandsOn, progress_on}
+use Rattle.trace_lane.proofs.EndedLemmas.{lane-between, lane-fits, lane-new, lane-start, script-new}
 use Rattle.lane_runner.proofs.RunLanes.{element_at}
 use Rattle.lane_runner.proofs.StopLemmas.{finished-so, order-none, runs-behind}
-use Rattle.lane_steps.proofs.ScriptLemmas.{empty, script-none, script-whole}
+use Rattle.trace_lane.proofs.ScriptLemmas.{empty, script-none, script-whole}
 
 -- moves of one machine after the other count their steps
 pub leads-counted :
-    (c after : CoreFields) (moves : List Move) (n : ℕ) → c.steps ≡ min n (2 ^ 64 - 1) → Leads c moves after
+    (c after : CoreFields) (moves : List Move) (n : ℕ) → c.steps ≡ min n (2 ^ 64 - 1) → MovesLead c moves after
     → after.steps ≡ min (n + count_by is_step moves) (2 ^ 64 - 1)
 leads-counted c after [] n is leads = ap (λ (d : CoreFields). d.steps) leads ∙ is ∙ ap (λ m. min m (2 ^ 64 - 1)) (omega arith)
 leads-counted c after (begins caller call ∷ moves) n is leads = leads-counted leads.0 after moves n (leads.1.counted ∙ is) leads.2
@@ -75,7 +76,7 @@ all-told count caller events None lt mine all = all
 all-told count caller events (Some e) lt mine all = all-with count events e (subst (λ k. k < count) (sym (mine e refl)) lt) all
 
 pub leads-callers :
-    (count : ℕ) (c after : CoreFields) (moves : List Move) → All (IsBelow count) moves → Leads c moves after
+    (count : ℕ) (c after : CoreFields) (moves : List Move) → All (IsBelow count) moves → MovesLead c moves after
     → AllByRecursion (λ event. caller_of event < count) c.events → AllByRecursion (λ event. caller_of event < count) after.events
 leads-callers count c after [] below leads all =
     subst (λ (d : CoreFields). AllByRecursion (λ event. caller_of event < count) d.events) (sym leads) all
@@ -129,8 +130,7 @@ opened-stand trace c lanes is opened core new =
             core = core;
             has = has;
             stands =
-                lane-new (λ grip. grip.place) (λ grip. grip.need) c.geometry lane c.events (errand_at c.errands state.caller) (operations_in trace lane)
-                state one (ap (own lane) opened.events) (idle state.caller has);
+                lane-new (machine_at c state.caller) lane (operations_in trace lane) state one (ap (own lane) opened.events) (idle state.caller has);
           };
       rest = λ caller least has. idle caller has;
     }

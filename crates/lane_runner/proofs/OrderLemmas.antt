@@ -10,14 +10,14 @@ use Rattle.trace_text.specs.declared.trace.Trace.{Trace}
 use Rattle.sound_state.specs.Runs.{Move}
 use Rattle.errand_steps.specs.Steps.{State}
 use Rattle.heap_geometry.specs.declared.geometry.Geometry.{Geometry}
-use Rattle.step_core.specs.Cores.{CoreFields, state_of}
+use Rattle.step_machine.specs.Cores.{CoreFields, state_of}
 use Rattle.lane_engine.specs.declared.grip.Grip.{Grip}
-use Rattle.lane_steps.specs.declared.lane.LaneState.{LaneState}
-use Rattle.lane_steps.specs.Begun.{calls_of}
+use Rattle.trace_lane.specs.declared.lane.LaneState.{LaneState}
+use Rattle.trace_lane.specs.Begun.{calls_of}
 use Rattle.lane_runner.specs.Driven.{Drives, steppers_of}
 use Rattle.lane_runner.specs.Orders.{InOrder, OneByOne}
 use Rattle.lane_runner.specs.Running.{HasEnded, HasEndedIn, HasPassed, HasRun, HasRunOut, HasRunSome, HaveFinished, HaveFollowed, IsBelow, IsOnScriptOf, LanesRan, LanesStand, OneRanOut, operations_in}
-use Rattle.lane_steps.proofs.AdvanceLemmas.{calls-append, leads-append}
+use Rattle.trace_lane.proofs.AdvanceLemmas.{calls-append, leads-append}
 use Rattle.lane_runner.proofs.RunLemmas.{steppers-append}
 use Rattle.lane_runner.proofs.RunLanes.{contains-none, element_at, ended-at, one-ran, the-same}
 

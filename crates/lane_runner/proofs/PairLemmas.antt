@@ -9,10 +9,10 @@ use Rattle.live_heap.specs.declared.block.Block.{Block}
 use Rattle.live_heap.specs.declared.heap.Heap.{Heap}
 use Rattle.live_heap.specs.declared.pass.Pass.{Pass}
 use Rattle.live_heap.specs.Passes.{AreFrom, IsFresh}
-use Rattle.lane_steps.specs.declared.lane.LaneState.{LaneState}
+use Rattle.trace_lane.specs.declared.lane.LaneState.{LaneState}
 use Rattle.lane_runner.specs.declared.run_lanes.LaneThread.{LaneThread}
 use Rattle.lane_runner.specs.Running.{operations_in}
-use Rattle.lane_steps.specs.States.{IsNew}
+use Rattle.trace_lane.specs.States.{IsNew}
 use Rattle.lane_runner.specs.Threads.{AreDone, AreEnded, AreReady, HasEndedOver, IsDone, IsReady}
 use Rattle.lane_runner.proofs.ThreadLemmas.{done-ended, down-pop, down-push, ended-push, from-pop, ready}
 

@@ -17,23 +17,24 @@ use Rattle.trace_text.specs.declared.trace.Op.{Op}
 use Rattle.trace_text.specs.declared.trace.Trace.{Trace}
 use Rattle.errand_steps.specs.Begins.{IsIdle}
 use Rattle.errand_steps.specs.Calls.{Call}
-use Rattle.sound_state.proofs.wins.CountLemmas.{count-append}
+use Rattle.lost_exchanges.proofs.CountLemmas.{count-append}
 use Rattle.sound_state.specs.Moves.{is_step}
 use Rattle.sound_state.specs.Runs.{Move, Moved, begins, steps}
-use Rattle.step_core.specs.Cores.{CoreFields, errand_at, state_of}
-use Rattle.step_core.proofs.CoreLemmas.{core-sound}
-use Rattle.step_core.specs.Moments.{HasSeenMore}
+use Rattle.step_machine.specs.Cores.{CoreFields, errand_at, state_of}
+use Rattle.step_machine.proofs.CoreLemmas.{core-sound}
+use Rattle.step_machine.specs.Moments.{HasSeenMore}
 use Rattle.lane_engine.specs.declared.grip.Grip.{Grip}
-use Rattle.lane_steps.specs.declared.lane.LaneState.{LaneState}
-use Rattle.lane_steps.specs.Begun.{calls_of}
+use Rattle.trace_lane.specs.declared.lane.LaneState.{LaneState}
+use Rattle.trace_lane.specs.Begun.{calls_of}
 use Rattle.lane_runner.specs.Driven.{Drives, IsOnItsWay, mover_of, steppers_of}
-use Rattle.lane_steps.specs.Paths.{IsBy, Leads}
+use Rattle.trace_lane.specs.Paths.{IsBy, MovesLead}
 use Rattle.lane_runner.specs.Running.{HasEnded, HasEndedIn, HasPassed, HasRun, IsBelow, IsOnScriptOf, LanesStand, OneRan, operations_in}
-use Rattle.lane_steps.specs.Lanes.{IsLane}
-use Rattle.lane_steps.specs.Scripts.{IsOnScript}
-use Rattle.lane_steps.specs.States.{IsLaneOf, StandsOn, progress_on}
-use Rattle.lane_steps.proofs.BesideLemmas.{lane-beside, lane_of-beside}
-use Rattle.lane_steps.proofs.AdvanceLemmas.{calls-append}
+use Rattle.trace_lane.specs.Lanes.{IsLane}
+use Rattle.trace_lane.specs.Scripts.{IsOnScript}
+use Rattle.trace_lane.specs.States.{IsLaneOf, StandsOn, progress_on}
+use Rattle.lane_engine.specs.Engines.{machine_at}
+use Rattle.trace_lane.proofs.BesideLemmas.{lane-beside, lane_of-beside}
+use Rattle.trace_lane.proofs.AdvanceLemmas.{calls-append}
 use Rattle.lane_runner.proofs.RunLemmas.{seen-none}
 
 -- the lane at a place, after one was replaced
@@ -126,16 +127,14 @@ still-stands passed c after operations mine old new state made run ne stands =
     let legal : IsLegal after.geometry after.events = (core-sound after run.stands.core).legal in
     let has = subst (λ (g : Geometry). state.caller < g.callers) (sym run.heap) stands.has in
     let first =
-    subst (λ g. IsLaneOf (λ grip. grip.place) (λ grip. grip.need) g c.events (errand_at c.errands state.caller) mine state) (sym run.heap)
-    stands.stands in
+    subst (λ g. IsLaneOf (record (machine_at c state.caller) { geometry = g }) mine state) (sym run.heap) stands.stands in
     let second =
-    subst (λ e. IsLaneOf (λ grip. grip.place) (λ grip. grip.need) after.geometry c.events e mine state) (sym saw.0) first in
+    subst (λ e. IsLaneOf (record (machine_at after state.caller) { events = c.events; errand = e }) mine state) (sym saw.0) first in
     record {
       core = run.stands.core;
       has = has;
       stands =
-          lane_of-beside (λ grip. grip.place) (λ grip. grip.need) after.geometry c.events after.events (errand_at after.errands state.caller) mine state
-          second saw.1 legal;
+          lane_of-beside (record (machine_at after state.caller) { events = c.events }) after.events mine state second saw.1 legal;
     }
 
 -- a move of another leaves a lane its errand, and adds no event of the lane's
@@ -176,7 +175,7 @@ way-on g operations c after lane earlier move ne moved legal way =
 -- moves of one lane, with all others on their way
 lane-drives :
     (g : Geometry) (all : List (List Op)) (mover : ℕ) (c after : CoreFields) (earlier moves : List Move) → c.geometry ≡ g
-    → IsSound c.geometry (state_of c) → All (IsBy mover) moves → Leads c moves after
+    → IsSound c.geometry (state_of c) → All (IsBy mover) moves → MovesLead c moves after
     → ((lane : ℕ) → lane < length all → lane ≢ mover → IsOnItsWay g (get_or all lane []) lane (state_of c) (calls_of lane earlier))
     → Drives g all earlier (state_of c) moves (state_of after)
 lane-drives g all mover c after earlier [] heap sound by leads ways = ap state_of leads

@@ -13,20 +13,20 @@ use Rattle.errand_steps.specs.Calls.{take as take_call}
 use Rattle.pool_model.proofs.HistoryLemmas.{own-append as own-both}
 use Rattle.sound_state.specs.Moves.{is_step}
 use Rattle.sound_state.specs.Runs.{Move, begins, steps}
-use Rattle.step_core.specs.Cores.{CoreFields, errand_at}
-use Rattle.step_core.specs.Moments.{HasSeenMore}
+use Rattle.step_machine.specs.Cores.{CoreFields, errand_at}
+use Rattle.step_machine.specs.Moments.{HasSeenMore}
 use Rattle.lane_engine.specs.declared.grip.Grip.{Grip}
-use Rattle.lane_steps.specs.declared.lane.LaneState.{LaneState}
-use Rattle.lane_steps.specs.declared.stage.Stage.TheVariants as stage
-use Rattle.lane_steps.specs.Begun.{calls_of}
+use Rattle.trace_lane.specs.declared.lane.LaneState.{LaneState}
+use Rattle.trace_lane.specs.declared.stage.OperationStage.TheVariants as stage
+use Rattle.trace_lane.specs.Begun.{calls_of}
 use Rattle.lane_runner.specs.Driven.{steppers_of}
-use Rattle.lane_steps.specs.Lanes.{IsAt}
-use Rattle.lane_steps.specs.Paths.{IsBy, Leads, FirstPassed, HasAdvanced, begun_count}
+use Rattle.trace_lane.specs.Lanes.{IsAt}
+use Rattle.trace_lane.specs.Paths.{IsBy, MovesLead, FirstPassed, HasAdvanced, begun_count}
 use Rattle.lane_runner.specs.Running.{HasEnded, HasRun, IsOnScriptOf}
-use Rattle.lane_steps.specs.Advances.{AdvancesOn}
-use Rattle.lane_steps.specs.Scripts.{script_left}
-use Rattle.lane_steps.proofs.AdvanceLemmas.{calls-append, leads-append, steps-append}
-use Rattle.lane_steps.specs.States.{StandsOn, progress_on}
+use Rattle.trace_lane.specs.Advances.{AdvancesOn}
+use Rattle.trace_lane.specs.Scripts.{script_left}
+use Rattle.trace_lane.proofs.AdvanceLemmas.{calls-append, leads-append, steps-append}
+use Rattle.trace_lane.specs.States.{StandsOn, progress_on}
 
 -- the callers that made steps, of moves one after the other
 pub steppers-append : (first second : List Move) → steppers_of (first ++ second) ≡ steppers_of first ++ steppers_of second
@@ -110,7 +110,7 @@ between-idle c operations lane stands is =
 
 -- a step is made by a caller in a call
 first-idle :
-    (c after : CoreFields) (caller : ℕ) (moves : List Move) → Leads c (steps caller ∷ moves) after
+    (c after : CoreFields) (caller : ℕ) (moves : List Move) → MovesLead c (steps caller ∷ moves) after
     → IsIdle (errand_at c.errands caller) → ⊥
 first-idle c after caller moves leads idle = true≢false (sym idle ∙ leads.1.moved.1.busy)
 
@@ -140,10 +140,10 @@ ended-stays c after operations old new made stands advanced ended =
           )
       | inr same ↦ elim same.2 [
         | inl stays ↦ elim stays [
-          | inl is ↦ absurd (first-idle c after old.caller [] (subst (λ moves. Leads c moves after) is advanced.leads) idle)
+          | inl is ↦ absurd (first-idle c after old.caller [] (subst (λ moves. MovesLead c moves after) is advanced.leads) idle)
           | inr again ↦ absurd (
               first-idle c after old.caller (begins old.caller (take_call again.0) ∷ [])
-              (subst (λ moves. Leads c moves after) again.1 advanced.leads) idle
+              (subst (λ moves. MovesLead c moves after) again.1 advanced.leads) idle
               )
         ]
         | inr is ↦ (

@@ -3,10 +3,7 @@ use Rattle.std.proofs.Common.{ℕ, ◌≡◌, ◌<◌, ◌≤◌, ◌+◌, ◌*�
 use Rattle.std.proofs.lemmas.Bool.{true≢false}
 use Rattle.heap_geometry.specs.declared.geometry.Geometry.{Geometry}
 use Rattle.heap_geometry.specs.declared.limits.TheConstants.{CALL_STEPS}
-use Rattle.word_plan.specs.declared.action.Found.{Found}
-use Rattle.packed_words.specs.declared.shelf.ShelfWord.{ShelfWord}
-use Rattle.packed_words.specs.declared.shelf.ShelfWord.TheVariants as word
-use Rattle.packed_words.specs.Shelf.{shelf_of}
+use Rattle.word_table.specs.declared.action.Found.{Found}
 use Rattle.pool_model.specs.declared.event.Event.{Event}
 use Rattle.pool_model.specs.Histories.{caller_of, own}
 use Rattle.pool_model.proofs.HistoryLemmas.{own-append}
@@ -16,8 +13,7 @@ use Rattle.trace_text.specs.declared.trace.Op.TheVariants as op
 use Rattle.large_parts.specs.declared.point.LargePoint.TheVariants as large
 use Rattle.superblock_parts.specs.declared.point.BlockPoint.{BlockPoint}
 use Rattle.superblock_parts.specs.declared.point.BlockPoint.TheVariants as block
-use Rattle.large_parts.specs.Points.{after_shelf}
-use Rattle.word_plan.specs.Seats.{SeatFields}
+use Rattle.word_table.specs.Seats.{SeatFields}
 use Rattle.stack_parts.specs.Points.{seat_of_stack}
 use Rattle.hazard_parts.specs.Points.{seat_of_desc}
 use Rattle.partial_parts.specs.Points.{seat_of_partial}
@@ -28,42 +24,42 @@ use Rattle.errand_steps.specs.declared.point.Point.{Point}
 use Rattle.errand_steps.specs.declared.point.Point.TheVariants as point
 use Rattle.errand_steps.specs.Begins.{take_begun}
 use Rattle.errand_steps.specs.Calls.{take}
-use Rattle.errand_steps.specs.Errands.{ErrandFields, after_list, after_turn, counts_lost, course_of, point_after, settle_of}
+use Rattle.errand_steps.specs.Errands.{ErrandFields, counts_lost, course_of, settle_of}
 use Rattle.errand_steps.specs.Events.{event_of}
-use Rattle.errand_steps.specs.Nexts.{enter_large, next_of}
+use Rattle.errand_steps.specs.Nexts.{next_of}
 use Rattle.errand_steps.specs.Points.{plan_point_of, is_idle}
 use Rattle.errand_steps.specs.Steps.{State, Step, event_at, found_at, with_event}
 use Rattle.errand_steps.proofs.EventLemmas.{event_own}
 use Rattle.call_events.specs.Stages.{block_stage, continuation_stage}
 use Rattle.call_events.specs.UnderWay.{IsUnderWay, SoFar}
-use Rattle.sound_state.specs.Alone.{alone_left, class_at, clearings, emptied_for, stale_words}
-use Rattle.sound_state.specs.Expectations.{expects_of}
+use Rattle.calls_end.specs.Alone.{alone_left, class_at, clearings, emptied_for, stale_words}
+use Rattle.lost_exchanges.specs.Expectations.{expects_of}
 use Rattle.sound_state.specs.TurnStages.{in_turn}
-use Rattle.sound_state.proofs.wins.BegunWins.{begun-expects}
+use Rattle.lost_exchanges.proofs.BegunWins.{begun-expects}
 use Rattle.std.specs.Prelude.{count_by}
 use Rattle.sound_state.specs.Moves.{is_step}
-use Rattle.sound_state.specs.Runs.{Begins, Move, begins, steps}
+use Rattle.sound_state.specs.Runs.{BeginsCall, Move, begins, steps}
 use Rattle.sound_state.specs.Sound.{IsSound}
-use Rattle.sound_state.specs.StepsLeft.{steps_left}
+use Rattle.calls_end.specs.StepsLeft.{steps_left}
 use Rattle.sound_state.specs.Turns.{one_if}
-use Rattle.sound_state.proofs.endings.AloneLemmas.{alone-falls, alone-stale}
-use Rattle.sound_state.proofs.endings.RunsAlone.{alone-below}
-use Rattle.sound_state.proofs.endings.StaleLemmas.{none-stale}
-use Rattle.step_core.specs.Cores.{CoreFields, IsCore, errand_at, state_of}
-use Rattle.step_core.proofs.CoreLemmas.{core-sound}
+use Rattle.calls_end.proofs.AloneLemmas.{alone-falls, alone-stale}
+use Rattle.calls_end.proofs.RunsAlone.{alone-below}
+use Rattle.calls_end.proofs.StaleLemmas.{none-stale}
+use Rattle.step_machine.specs.Cores.{CoreFields, IsCore, errand_at, state_of}
+use Rattle.step_machine.proofs.CoreLemmas.{core-sound}
 use Rattle.lane_engine.specs.declared.grip.Grip.{Grip}
 use Rattle.lane_outcomes.specs.declared.outcome.Outcome.{Outcome}
 use Rattle.lane_outcomes.specs.declared.registers.Held.{Held}
 use Rattle.lane_outcomes.specs.Lane.{Position}
-use Rattle.lane_steps.specs.declared.lane.LaneState.{LaneState}
-use Rattle.lane_steps.specs.declared.stage.Stage.{Stage}
-use Rattle.lane_steps.specs.declared.stage.Stage.TheVariants as stage
-use Rattle.lane_steps.specs.Lanes.{IsAt}
-use Rattle.lane_steps.specs.Operations.{IsDoing}
-use Rattle.lane_steps.specs.Paths.{Leads, StaysInCall}
-use Rattle.lane_steps.specs.Scripts.{script_left}
-use Rattle.lane_steps.specs.Advances.{AdvancesOn}
-use Rattle.lane_steps.specs.States.{StandsOn, progress_on}
+use Rattle.trace_lane.specs.declared.lane.LaneState.{LaneState}
+use Rattle.trace_lane.specs.declared.stage.OperationStage.{OperationStage}
+use Rattle.trace_lane.specs.declared.stage.OperationStage.TheVariants as stage
+use Rattle.trace_lane.specs.Lanes.{IsAt}
+use Rattle.trace_lane.specs.Operations.{IsDoing}
+use Rattle.trace_lane.specs.Paths.{MovesLead, StaysInCall}
+use Rattle.trace_lane.specs.Scripts.{script_left}
+use Rattle.trace_lane.specs.Advances.{AdvancesOn}
+use Rattle.trace_lane.specs.States.{StandsOn, progress_on}
 
 -- a take isn't under way in a superblock, nor at a stack, at the descriptors or at a partial superblock
 block-none : (caller k : ℕ) (p : BlockPoint) (o : Continuation) (added : List Event) → SoFar caller (take k) (block_stage p o) added → ⊥
@@ -77,18 +73,11 @@ other-none caller k looked s (continuation.Alloc words) added way = way
 other-none caller k looked s o added way = way
 
 -- a shelf's word leads on
-shelf-at :
-    (e : ErrandFields) (shelf : ℕ) (o : Continuation) (w : Option ShelfWord)
-    → is_idle (point_after (after_turn e (after_list e (enter_large (after_shelf shelf w) o)))) ≡ true → ⊥
-shelf-at e shelf o None idle = true≢false (sym idle)
-shelf-at e shelf o (Some word.Nothing) idle = true≢false (sym idle)
-shelf-at e shelf o (Some (word.Block place need)) idle = true≢false (sym idle)
-
 shelf-busy :
     (e : ErrandFields) (shelf : ℕ) (o : Continuation) (x : Found)
     → is_idle (settle_of (record e { point = point.Large (large.LoadShelf shelf) o }) x).point ≡ true → ⊥
 unfolding settle_of course_of next_of
-shelf-busy e shelf o x idle = shelf-at (record e { point = point.Large (large.LoadShelf shelf) o }) shelf o (shelf_of x.value) idle
+shelf-busy e shelf o x idle = true≢false (sym idle)
 
 -- an event that isn't told
 won-none : (won : Bool) (event : Event) → (if won then Some event else None) ≡ None → not won ≡ true
@@ -115,7 +104,7 @@ missed-lost caller k e (point.Large p o) x added way idle none = absurd way
 -- where a take has begun again and the stage is the same, a take was under way before
 doing-take :
     (caller shelf : ℕ) (events events' : List Event) (p : Point) (position position' : Position) (registers registers' : List (Option Held)) (operation : Op)
-    (at : Stage) (added added' : List Event) → IsDoing caller events p position registers operation at added
+    (at : OperationStage) (added added' : List Event) → IsDoing caller events p position registers operation at added
     → IsDoing caller events' (point.Large (large.LoadShelf shelf) continuation.Nothing) position' registers' operation at added'
     → (k : ℕ) × IsUnderWay caller (take k) p added
 doing-take caller shelf events events' p position position' registers registers' (op.Alloc r need v) stage.Calling added added' d d' = absurd d'.3
@@ -140,7 +129,7 @@ doing-take caller shelf events events' p position position' registers registers'
 
 under-take :
     (caller shelf : ℕ) (events events' : List Event) (p : Point) (position position' : Position) (registers registers' : List (Option Held)) (operations : List Op)
-    (at : Stage) (added added' : List Event)
+    (at : OperationStage) (added added' : List Event)
     → (operation : Op) × (rest : List Op) × (operations ≡ operation ∷ rest) × IsDoing caller events p position registers operation at added
     → (operation : Op) × (rest : List Op) × (operations ≡ operation ∷ rest)
     × IsDoing caller events' (point.Large (large.LoadShelf shelf) continuation.Nothing) position' registers' operation at added'
@@ -152,7 +141,7 @@ under-take caller shelf events events' p position position' registers registers'
 
 at-take :
     (caller shelf : ℕ) (events events' : List Event) (e e' : ErrandFields) (position position' : Position) (registers registers' : List (Option Held))
-    (operations : List Op) (at : Stage) (added added' : List Event) → IsAt caller events e position registers operations at added
+    (operations : List Op) (at : OperationStage) (added added' : List Event) → IsAt caller events e position registers operations at added
     → IsAt caller events' e' position' registers' operations at added' → e'.point ≡ point.Large (large.LoadShelf shelf) continuation.Nothing
     → (k : ℕ) × IsUnderWay caller (take k) e.point added
 at-take caller shelf events events' e e' position position' registers registers' operations stage.Between added added' d d' is =
@@ -211,7 +200,7 @@ below-alone script script' alone alone' a b = omega (arith, a, b)
 -- a take that begins again has less left than before its step
 again-falls :
     (g : Geometry) (s mid after : State) (caller shelf : ℕ) → IsSound g s → caller < g.callers → Step s caller mid
-    → Begins mid caller (take shelf) after → counts_lost (s.errand caller).point (found_at s caller) ≡ true
+    → BeginsCall mid caller (take shelf) after → counts_lost (s.errand caller).point (found_at s caller) ≡ true
     → alone_left g after caller < alone_left g s caller
 unfolding take_begun steps_left
 again-falls g s mid after caller shelf sound has step begun lost =
@@ -232,7 +221,7 @@ again-falls g s mid after caller shelf sound has step begun lost =
 
 -- the call under way is nearer to its end
 step-falls :
-    (c after : CoreFields) (caller : ℕ) → IsCore c → caller < c.geometry.callers → Leads c (steps caller ∷ []) after
+    (c after : CoreFields) (caller : ℕ) → IsCore c → caller < c.geometry.callers → MovesLead c (steps caller ∷ []) after
     → alone_left after.geometry (state_of after) caller < alone_left c.geometry (state_of c) caller
 step-falls c after caller core has leads =
     let P = λ (d : CoreFields). alone_left d.geometry (state_of d) caller < alone_left c.geometry (state_of c) caller in
@@ -243,7 +232,7 @@ step-falls c after caller core has leads =
 
 tried-falls :
     (c after : CoreFields) (caller shelf k : ℕ) (added : List Event) → IsCore c → caller < c.geometry.callers
-    → Leads c (steps caller ∷ begins caller (take shelf) ∷ []) after → own caller after.events ≡ own caller c.events
+    → MovesLead c (steps caller ∷ begins caller (take shelf) ∷ []) after → own caller after.events ≡ own caller c.events
     → IsUnderWay caller (take k) (errand_at c.errands caller).point added
     → alone_left after.geometry (state_of after) caller < alone_left c.geometry (state_of c) caller
 tried-falls c after caller shelf k added core has leads same way =
@@ -266,7 +255,7 @@ tried-falls c after caller shelf k added core has leads same way =
 
 -- the point at which a take has begun
 begun-point :
-    (c after : CoreFields) (caller shelf : ℕ) → Leads c (steps caller ∷ begins caller (take shelf) ∷ []) after
+    (c after : CoreFields) (caller shelf : ℕ) → MovesLead c (steps caller ∷ begins caller (take shelf) ∷ []) after
     → (errand_at after.errands caller).point ≡ point.Large (large.LoadShelf shelf) continuation.Nothing
 unfolding take_begun
 begun-point c after caller shelf leads =
@@ -276,16 +265,16 @@ begun-point c after caller shelf leads =
 
 alone-left-falls :
     (c after : CoreFields) (operations : List Op) (old new : LaneState Grip) (moves : List Move) → StandsOn c operations old
-    → StandsOn after operations new → new.caller ≡ old.caller → Leads c moves after → count_by is_step moves ≡ 1
+    → StandsOn after operations new → new.caller ≡ old.caller → MovesLead c moves after → count_by is_step moves ≡ 1
     → new.outcomes.items ≡ old.outcomes.items → new.stage ≡ old.stage
     → StaysInCall old.caller c.events after.events moves ⊎ (moves ≡ [])
     → alone_left after.geometry (state_of after) old.caller < alone_left c.geometry (state_of c) old.caller
 alone-left-falls c after operations old new moves stands now caller leads one results same stays =
     elim stays [
       | inl goes ↦ elim goes [
-        | inl is ↦ step-falls c after old.caller stands.core stands.has (subst (λ moves. Leads c moves after) is leads)
+        | inl is ↦ step-falls c after old.caller stands.core stands.has (subst (λ moves. MovesLead c moves after) is leads)
         | inr again ↦
-            let lead = subst (λ moves. Leads c moves after) again.1 leads in
+            let lead = subst (λ moves. MovesLead c moves after) again.1 leads in
             let l = stands.stands.stands in
             let l' = now.stands.stands in
             let registers' = (progress_on new).registers in

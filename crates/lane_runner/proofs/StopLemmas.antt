@@ -5,9 +5,9 @@ use Rattle.std.proofs.lemmas.List.{append-nil}
 use Rattle.trace_text.specs.declared.trace.Op.{Op}
 use Rattle.trace_text.specs.declared.trace.OrderRun.{OrderRun}
 use Rattle.trace_text.specs.declared.trace.Trace.{Trace}
-use Rattle.step_core.specs.Cores.{CoreFields}
+use Rattle.step_machine.specs.Cores.{CoreFields}
 use Rattle.lane_engine.specs.declared.grip.Grip.{Grip}
-use Rattle.lane_steps.specs.declared.lane.LaneState.{LaneState}
+use Rattle.trace_lane.specs.declared.lane.LaneState.{LaneState}
 use Rattle.lane_runner.specs.Driven.{steppers_of}
 use Rattle.lane_runner.specs.Orders.{InOrder, OneByOne}
 use Rattle.lane_runner.specs.Running.{HasRun, HaveFinished, HaveFollowed, HaveRunSo, LanesStand, OneRan, operations_in}

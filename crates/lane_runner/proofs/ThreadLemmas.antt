@@ -20,17 +20,18 @@ use Rattle.live_heap.specs.declared.block.Block.{Block}
 use Rattle.live_heap.specs.declared.heap.Heap.{Heap}
 use Rattle.live_heap.specs.declared.pass.Pass.{Pass}
 use Rattle.live_heap.specs.Passes.{AreFrom, IsFresh, IsOf, seen}
-use Rattle.lane_steps.specs.declared.lane.LaneState.{LaneState}
+use Rattle.trace_lane.specs.declared.lane.LaneState.{LaneState}
 use Rattle.lane_runner.specs.declared.run_lanes.LaneThread.{LaneThread}
-use Rattle.lane_steps.specs.declared.stage.Stage.{Stage}
-use Rattle.lane_steps.specs.declared.stage.Stage.TheVariants as stage
-use Rattle.lane_steps.specs.Lanes.{IsLane}
-use Rattle.lane_steps.specs.Made.{AllMade}
-use Rattle.lane_steps.specs.Paths.{FirstPassed, begun_count, held_blocks}
+use Rattle.trace_lane.specs.declared.stage.OperationStage.{OperationStage}
+use Rattle.trace_lane.specs.declared.stage.OperationStage.TheVariants as stage
+use Rattle.lane_engine.specs.Engines.{heap_at}
+use Rattle.trace_lane.specs.Lanes.{IsLane}
+use Rattle.trace_lane.specs.Made.{AllMade}
+use Rattle.trace_lane.specs.Paths.{FirstPassed, begun_count, held_blocks}
 use Rattle.lane_runner.specs.Running.{operations_in}
-use Rattle.lane_steps.specs.States.{IsNew}
+use Rattle.trace_lane.specs.States.{IsNew}
 use Rattle.lane_runner.specs.Threads.{AreDone, AreDown, AreEnded, AreReady, HasEndedOver, HasMadeCalls, HasRunThrough, HaveRun, IsDone, IsReady, IsPaired, StandsOver, WholeAt}
-use Rattle.lane_steps.proofs.EndedLemmas.{blocks-none, lane-between, lane-new}
+use Rattle.trace_lane.proofs.EndedLemmas.{blocks-none, lane-between, lane-new}
 
 -- elements with their numbers: one more behind them, and the last one gone
 module _ {X : Type 0} (P : ℕ → X → Type 0) where
@@ -114,7 +115,7 @@ ready trace h k p lane has fresh caller new = record {
     of = fresh.of;
     caller = new.caller_is ∙ sym caller;
     stands =
-        lane-new (λ (block : Block). block.place) (λ (block : Block). block.need) h.layout k (seen p) p.errand (operations_in trace k) lane new
+        lane-new (heap_at h p) k (operations_in trace k) lane new
         (ap (own k) fresh.nothing_seen) (fresh-idle h p fresh);
   };
   fresh = fresh;
@@ -169,7 +170,7 @@ ready-done passed trace h k t u is ran = record {
 }
 
 -- a new lane has begun nothing
-new-passed : (passed : ℕ → ℕ → Type 0) (caller : ℕ) (results : List Outcome) (at : Stage) → results ≡ [] → at ≡ stage.Between
+new-passed : (passed : ℕ → ℕ → Type 0) (caller : ℕ) (results : List Outcome) (at : OperationStage) → results ≡ [] → at ≡ stage.Between
     → FirstPassed passed caller (begun_count results at)
 new-passed passed caller results at none between op lt =
     let zero_begun : begun_count results at ≡ 0 = ap (λ rs. begun_count rs at) none ∙ ap (begun_count []) between in

@@ -12,13 +12,13 @@ use Rattle.errand_steps.specs.declared.reply.Offer.{Offer}
 use Rattle.errand_steps.specs.declared.reply.Progress.TheVariants.{Done}
 use Rattle.errand_steps.specs.declared.reply.Reply.{Reply}
 use Rattle.errand_steps.specs.declared.reply.Reply.TheVariants as reply
-use Rattle.step_core.proofs.MomentAnswers.{moment-given}
+use Rattle.step_machine.proofs.MomentAnswers.{moment-given}
 use Rattle.live_heap.specs.declared.heap.Heap.{Heap}
 use Rattle.live_heap.specs.declared.pass.Pass.{Pass}
 use Rattle.live_heap.specs.Answers.{IsSpentAtOnce}
 use Rattle.live_heap.specs.Calls.{HasCalled}
 use Rattle.live_heap.specs.Passes.{seen}
-use Rattle.live_heap.specs.Whole.{IsAtRest, IsWhole, MadeByPass, by_steps, at_once}
+use Rattle.live_heap.specs.Whole.{IsAtRest, MadeByPass, by_steps, at_once}
 use Rattle.trace_text.specs.declared.limits.TheConstants.{REGISTERS}
 use Rattle.trace_text.specs.declared.trace.Op.{Op}
 use Rattle.trace_text.specs.declared.trace.Op.TheVariants as op
@@ -31,31 +31,29 @@ use Rattle.lane_outcomes.specs.declared.outcome.Outcome.{Outcome}
 use Rattle.lane_outcomes.specs.declared.outcome.Outcome.TheVariants as outcome
 use Rattle.lane_outcomes.specs.Lane.{held_in, registers_after}
 use Rattle.lane_outcomes.specs.Standing.{OwnsHeld}
-use Rattle.lane_steps.specs.declared.stage.Stage.TheVariants as stage
-use Rattle.lane_steps.specs.Lanes.{IsLane}
-use Rattle.lane_steps.specs.Made.{AllMade, HasRun, HoldsBlocks, MadeFor, Skips, register_of}
-use Rattle.lane_steps.specs.declared.lane.LaneState.{LaneState}
-use Rattle.lane_steps.specs.Paths.{FirstPassed, begun_count, held_blocks, held_by}
+use Rattle.lane_engine.specs.Whole.{pass_maker}
+use Rattle.trace_lane.specs.declared.stage.OperationStage.TheVariants as stage
+use Rattle.trace_lane.specs.Lanes.{IsLane}
+use Rattle.trace_lane.specs.Made.{AllMade, HasRun, HoldsBlocks, MadeFor, Skips, register_of}
+use Rattle.trace_lane.specs.declared.lane.LaneState.{LaneState}
+use Rattle.trace_lane.specs.Paths.{FirstPassed, begun_count, held_blocks, held_by}
 use Rattle.lane_runner.specs.Threads.{HasRunOver, StandsOver, WholeAt}
-use Rattle.lane_steps.proofs.EndedLemmas.{lane-between}
-use Rattle.lane_steps.proofs.LaneParts.{blocks-size, slot-full}
-use Rattle.lane_steps.proofs.MadeLemmas.{skip-leaves}
-use Rattle.step_core.specs.Cores.{OwnsAfter}
+use Rattle.trace_lane.proofs.EndedLemmas.{lane-between}
+use Rattle.trace_lane.proofs.LaneParts.{blocks-size, slot-full}
+use Rattle.trace_lane.proofs.MadeLemmas.{skip-leaves}
+use Rattle.step_machine.specs.Cores.{OwnsAfter}
 use Rattle.live_heap.specs.declared.block.Block.{Block}
-use Rattle.lane_steps.specs.Scripts.{registers_from}
-use Rattle.lane_steps.proofs.BeginLemmas.{IsSkipped, begin-alloc, begin-check, begin-fill, begin-skips, owned-words}
-use Rattle.lane_steps.proofs.LaneAnswers.{alloc-given_so, held-here}
+use Rattle.trace_lane.specs.Scripts.{registers_from}
+use Rattle.trace_lane.proofs.BeginLemmas.{IsSkipped, begin-alloc, begin-check, begin-fill, begin-skips, owned-words}
+use Rattle.trace_lane.proofs.LaneAnswers.{alloc-given_so, held-here}
 use Rattle.lane_runner.proofs.WholeOps.{HasNeed, StandsAt, begun, begun-at, free-stands, last-in, put-stands, put_full-stands, refused-stands, served-last, serves-held, spent-stands, spent_at_once-stands, step-of, to-pass}
 use Rattle.lane_runner.proofs.WholeResize.{kept-stands, resized-stands, respent-stands, respent_at_once-stands, unresized-stands}
 use Rattle.lane_runner.proofs.WholeSteps.{alloc-started, doing-in, need_in, place_in}
 use Rattle.lane_runner.proofs.WholeWalks.{BegunAt, check-walk, fill-walk, given-walk, steps-of, take_empty-stands, take_got-stands}
 
 -- calls over a struct with its pass are calls of the pass
-abbrev pub by_pass : PassCalls → Call → Reply → PassCalls → Type 0
-by_pass e call answer f = IsWhole e.heap.now e.pass.now call answer f.heap.now f.pass.now
-
 pub leads-pass :
-    (h : Heap) (e f : PassCalls) (made : List Made) → e.heap.now ≡ h → LeadsBy by_pass e made f
+    (h : Heap) (e f : PassCalls) (made : List Made) → e.heap.now ≡ h → LeadsBy pass_maker.called e made f
     → (f.heap.now ≡ h) × LeadsBy (WholeAt h) e.pass.now made f.pass.now
 leads-pass h e f [] here leads =
     (ap (λ (x : PassCalls). x.heap.now) leads ∙ here, ap (λ (x : PassCalls). x.pass.now) leads)
@@ -334,7 +332,7 @@ module _ (h : Heap) (operations : List Op) (ops : All IsOp operations) where
 -- calls over a struct with its pass, operation by operation
 pub all-pass :
     (h : Heap) (registers : List (Option Held)) (left : List Op) (outs : List Outcome) (e f : PassCalls) → e.heap.now ≡ h
-    → AllMade by_pass registers left outs e f → (f.heap.now ≡ h) × AllMade (WholeAt h) registers left outs e.pass.now f.pass.now
+    → AllMade pass_maker.called registers left outs e f → (f.heap.now ≡ h) × AllMade (WholeAt h) registers left outs e.pass.now f.pass.now
 all-pass h registers left [] e f here same =
     (ap (λ (x : PassCalls). x.heap.now) same ∙ here, ap (λ (x : PassCalls). x.pass.now) same)
 all-pass h registers [] (r ∷ outs) e f here all = absurd all
@@ -366,7 +364,7 @@ pub whole-run :
     → StandsOver h operations p old → old.stage ≡ stage.Between → e.pass.now ≡ p → e.heap.now ≡ h → IsAtRest f.heap.now f.pass.now
     → HoldsBlocks (λ (block : Block). block.place) (λ (block : Block). block.need)
     (λ place need. OwnsAfter (seen f.pass.now) f.pass.now.errand.caller place need) new.registers.items
-    → HasRun (λ (block : Block). block.place) (λ (block : Block). block.need) by_pass operations e f old new
+    → HasRun (λ (block : Block). block.place) (λ (block : Block). block.need) pass_maker.called operations e f old new
     → length new.outcomes.items ≡ length operations
     → (FirstPassed passed old.caller (length old.outcomes.items) → FirstPassed passed old.caller (length operations))
     → HasRunOver passed h operations p old f.pass.now new

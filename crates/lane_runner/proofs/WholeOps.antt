@@ -16,9 +16,9 @@ use Rattle.errand_steps.specs.declared.reply.Reply.TheVariants as reply
 use Rattle.errand_steps.specs.Offers.{offered_at}
 use Rattle.call_events.specs.UnderWay.{IsUnderWay}
 use Rattle.call_events.proofs.OfferLemmas.{put-offers}
-use Rattle.step_core.specs.Cores.{OwnsAfter}
-use Rattle.step_core.specs.Moments.{IsServed}
-use Rattle.step_core.proofs.MomentAnswers.{moment-caller}
+use Rattle.step_machine.specs.Cores.{OwnsAfter}
+use Rattle.step_machine.specs.Moments.{IsServed}
+use Rattle.step_machine.proofs.MomentAnswers.{moment-caller}
 use Rattle.live_heap.specs.declared.heap.Heap.{Heap}
 use Rattle.live_heap.specs.declared.pass.Pass.{Pass}
 use Rattle.live_heap.specs.Answers.{IsSpentAtOnce}
@@ -34,15 +34,15 @@ use Rattle.lane_outcomes.specs.declared.registers.Held.{Held}
 use Rattle.lane_outcomes.specs.declared.outcome.Outcome.{Outcome}
 use Rattle.lane_outcomes.specs.declared.outcome.Outcome.TheVariants as outcome
 use Rattle.lane_outcomes.specs.Lane.{held_in}
-use Rattle.lane_steps.specs.declared.stage.Stage.{Stage}
-use Rattle.lane_steps.specs.declared.stage.Stage.TheVariants as stage
-use Rattle.lane_steps.specs.Lanes.{IsLane}
-use Rattle.lane_steps.specs.Operations.{Serves}
-use Rattle.lane_steps.specs.Paths.{held_by}
-use Rattle.lane_steps.proofs.AnswerLemmas.{HasBegun, MayCall, call-begun, owned-need}
-use Rattle.lane_steps.proofs.BeginLemmas.{begin-alloc, begin-free, begin-put, begin-spent}
-use Rattle.lane_steps.proofs.CheckPutTake.{put-finds, put-puts}
-use Rattle.lane_steps.proofs.LaneAnswers.{alloc-ends_refused, alloc-ends_spent, free-ends_so}
+use Rattle.trace_lane.specs.declared.stage.OperationStage.{OperationStage}
+use Rattle.trace_lane.specs.declared.stage.OperationStage.TheVariants as stage
+use Rattle.trace_lane.specs.Lanes.{IsLane}
+use Rattle.trace_lane.specs.Operations.{IsOfNeed}
+use Rattle.trace_lane.specs.Paths.{held_by}
+use Rattle.trace_lane.proofs.AnswerLemmas.{HasBegun, MayCall, call-begun, owned-need}
+use Rattle.trace_lane.proofs.BeginLemmas.{begin-alloc, begin-free, begin-put, begin-spent}
+use Rattle.trace_lane.proofs.CheckPutTake.{put-finds, put-puts}
+use Rattle.trace_lane.proofs.LaneAnswers.{alloc-ends_refused, alloc-ends_spent, free-ends_so}
 use Rattle.lane_runner.proofs.WholeSteps.{InCall, alloc-started, called-begun, doing-in, need_in, place_in, steps-stay, steps-under}
 
 -- a lane between two operations, with the pass of its caller
@@ -54,7 +54,7 @@ pub begun-at : (h : Heap) (p : Pass) (call : Call) → IsAtRest h p → MayCall 
 begun-at h p call rests may = call-begun h.layout p.errand.caller p.errand (seen p) call rests.0.served rests.1 may
 
 module _ (h : Heap) (operations : List Op) (operation : Op) (rest : List Op) (results : List Outcome) (next : drop (length results) operations ≡ operation ∷ rest) where
-  abbrev In : ErrandFields → List Event → List (Option Held) → Stage → Type 0
+  abbrev In : ErrandFields → List Event → List (Option Held) → OperationStage → Type 0
   In = InCall h.layout operations operation rest results next
 
   -- a lane whose call has begun is at its last step
@@ -63,7 +63,7 @@ module _ (h : Heap) (operations : List Op) (operation : Op) (rest : List Op) (re
     begun = called-begun h p q call steps answer rests owned called
 
     pub last-in :
-        (registers : List (Option Held)) (at : Stage)
+        (registers : List (Option Held)) (at : OperationStage)
         → IsLane h.layout p.errand.caller (seen p) (begun_by p.errand call) operations registers results at → In called.last called.sight registers at
     last-in registers at lane =
         steps-stay h.layout operations operation rest results next steps (begun_by p.errand call) called.last (seen p) called.sight registers at
@@ -80,7 +80,7 @@ module _ (h : Heap) (operations : List Op) (operation : Op) (rest : List Op) (re
     served-last = subst (λ c. IsServed h.layout c q.errand (seen q)) same-caller of.served
 
     pub to-pass :
-        (f : ErrandFields) (registers : List (Option Held)) (outcomes : List Outcome) (at : Stage)
+        (f : ErrandFields) (registers : List (Option Held)) (outcomes : List Outcome) (at : OperationStage)
         → IsLane h.layout called.last.caller (seen q) f operations registers outcomes at
         → IsLane h.layout q.errand.caller (seen q) f operations registers outcomes at
     to-pass f registers outcomes at = subst (λ c. IsLane h.layout c (seen q) f operations registers outcomes at) (sym same-caller)
@@ -94,7 +94,7 @@ abbrev pub HasNeed : Held → Need → Type 0
 HasNeed held need = (held.words ≡ usable_words need) × (held.need ≡ need)
 
 pub serves-held : (h : Heap) (p : Pass) (held : Held) (need : Need) → IsAtRest h p → OwnsAfter (seen p) p.errand.caller held.place need
-    → HasNeed held need → Serves held need
+    → HasNeed held need → IsOfNeed held need
 serves-held h p held need rests owned has =
     (owned-need h.layout (seen p) p.errand.caller held.place need rests.0.served.legal owned, has.0, has.1)
 

@@ -33,7 +33,7 @@ use Rattle.errand_steps.specs.declared.reply.Reply.TheVariants as reply
 use Rattle.call_events.specs.Ends.{HasEnded, end_of}
 use Rattle.call_events.specs.Made.{LeadsBy, Made, answered}
 use Rattle.call_events.specs.UnderWay.{IsUnderWay}
-use Rattle.step_core.specs.Moments.{IsMoment, IsServed}
+use Rattle.step_machine.specs.Moments.{IsMoment, IsServed}
 use Rattle.live_heap.specs.declared.heap.Heap.{Heap}
 use Rattle.live_heap.specs.declared.pass.Pass.{Pass}
 use Rattle.live_heap.specs.Answers.{IsSpentAtOnce}
@@ -54,12 +54,12 @@ use Rattle.lane_outcomes.specs.declared.outcome.Outcome.TheVariants as outcome
 use Rattle.lane_outcomes.specs.Lane.{Position, held_in, registers_after, writing}
 use Rattle.lane_outcomes.specs.Rows.{IsCopy, IsSpent, IsWord, MayAsk, Moment, ResizeRow, Setting}
 use Rattle.lane_outcomes.specs.Standing.{OwnsHeld, setting_in}
-use Rattle.lane_steps.specs.declared.stage.Stage.TheVariants as stage
-use Rattle.lane_steps.specs.Lanes.{IsLane}
-use Rattle.lane_steps.proofs.AnswerLemmas.{EndsRead, EndsSpent, HasBegun, moved-on, settled-of, told-of_alloc, told-of_read}
-use Rattle.lane_steps.proofs.EndedLemmas.{lane-between}
-use Rattle.lane_steps.proofs.OutcomeLemmas.{IsLater, lane-ends}
-use Rattle.lane_steps.proofs.TurnLemmas.{asked-unspent, is-spent, may-ask}
+use Rattle.trace_lane.specs.declared.stage.OperationStage.TheVariants as stage
+use Rattle.trace_lane.specs.Lanes.{IsLane}
+use Rattle.trace_lane.proofs.AnswerLemmas.{EndsRead, EndsSpent, HasBegun, moved-on, settled-of, told-of_alloc, told-of_read}
+use Rattle.trace_lane.proofs.EndedLemmas.{lane-between}
+use Rattle.trace_lane.proofs.OutcomeLemmas.{IsLater, lane-ends}
+use Rattle.trace_lane.proofs.TurnLemmas.{asked-unspent, is-spent, may-ask}
 use Rattle.lane_runner.specs.Threads.{WholeAt}
 use Rattle.lane_runner.proofs.WholeOps.{StandsAt}
 use Rattle.lane_runner.proofs.WholeSteps.{alloc-started, called-begun, need_in, place_in, steps-under}

@@ -24,11 +24,11 @@ use Rattle.lane_outcomes.specs.declared.registers.Held.{Held}
 use Rattle.lane_outcomes.specs.declared.outcome.Outcome.{Outcome}
 use Rattle.lane_outcomes.specs.declared.outcome.Outcome.TheVariants as outcome
 use Rattle.lane_outcomes.specs.Lane.{held_in, registers_after}
-use Rattle.lane_steps.specs.Made.{AllMade, AreMisses, MadeFor, calls_made, register_of}
-use Rattle.lane_steps.specs.Operations.{Serves}
-use Rattle.lane_steps.specs.Scripts.{CallsOf, OnHeld, Replaces, Scripts, copying, copying_word, reads_of, writes_of}
-use Rattle.lane_steps.proofs.EndedLemmas.{lane-start}
-use Rattle.lane_steps.proofs.MadeLemmas.{leads-then}
+use Rattle.trace_lane.specs.Made.{AllMade, AreMisses, MadeFor, calls_made, register_of}
+use Rattle.trace_lane.specs.Operations.{IsOfNeed}
+use Rattle.trace_lane.specs.Scripts.{CallsOf, OnHeld, Replaces, Scripts, copying, copying_word, reads_of, writes_of}
+use Rattle.trace_lane.proofs.EndedLemmas.{lane-start}
+use Rattle.trace_lane.proofs.MadeLemmas.{leads-then}
 use Rattle.lane_runner.specs.Threads.{HasMadeCalls, WholeAt}
 use Rattle.lane_runner.proofs.ThreadLemmas.{fresh-idle}
 use Rattle.lane_runner.proofs.WholeLaws.{drop-next, here-is, leads-rest, op-stands, some-words}
@@ -90,10 +90,10 @@ misses-script shelf (m ∷ misses) answer are =
 module _ (h : Heap) (operations rest : List Op) (results : List Outcome) (registers : List (Option Held)) (p q : Pass) (rests : IsAtRest h p) (lane : StandsAt h p operations registers results) where
   on-held :
       (r : ℕ) (held : Held) (need : Need) (calls_on : Held → Need → List Call) (made : List Made) → held_in registers r ≡ Some held
-      → Serves held need → calls_made made ≡ calls_on held need → OnHeld (held_in registers r) calls_on (calls_made made)
+      → IsOfNeed held need → calls_made made ≡ calls_on held need → OnHeld (held_in registers r) calls_on (calls_made made)
   on-held r held need calls_on made is serves calls =
       subst (λ slot. OnHeld slot calls_on (calls_made made)) (sym is)
-      (subst (λ (n : Need). Serves held n × (calls_made made ≡ calls_on held n)) (sym serves.2) (serves, calls))
+      (subst (λ (n : Need). IsOfNeed held n × (calls_made made ≡ calls_on held n)) (sym serves.2) (serves, calls))
 
   filled-script :
       (r v : ℕ) (held : Held) (need : Need) (made : List Made) → held_in registers r ≡ Some held → HasNeed held need
@@ -120,13 +120,13 @@ module _ (h : Heap) (operations rest : List Op) (results : List Outcome) (regist
 
   one-script :
       (r : ℕ) (held : Held) (need : Need) (call : Held → Need → Call) (answer : Reply) (made : List Made) → held_in registers r ≡ Some held
-      → Serves held need → made ≡ answered (call held need) answer ∷ []
+      → IsOfNeed held need → made ≡ answered (call held need) answer ∷ []
       → OnHeld (held_in registers r) (λ held need. call held need ∷ []) (calls_made made)
   one-script r held need call answer made is serves calls =
       on-held r held need (λ held need. call held need ∷ []) made is serves (ap calls_made calls)
 
   -- the block of a full register is the lane's
-  serves-here : (r : ℕ) (held : Held) → held_in registers r ≡ Some held → Serves held held.need
+  serves-here : (r : ℕ) (held : Held) → held_in registers r ≡ Some held → IsOfNeed held held.need
   serves-here r held is =
       let owns = lane.holds.owned r held is in
       serves-held h p held held.need rests (owns.block, owns.live, owns.owned, sym owns.need_is)

@@ -18,7 +18,7 @@ use Rattle.errand_steps.proofs.AnswerLemmas.{done-told}
 use Rattle.call_events.specs.UnderWay.{IsUnderWay}
 use Rattle.call_events.proofs.BeginsLemmas.{too_large-stays, spent-begins}
 use Rattle.sound_state.proofs.CountedLemmas.{steps-counted}
-use Rattle.step_core.specs.Moments.{IsMoment}
+use Rattle.step_machine.specs.Moments.{IsMoment}
 use Rattle.live_heap.specs.declared.heap.Heap.{Heap}
 use Rattle.live_heap.specs.declared.pass.Pass.{Pass}
 use Rattle.live_heap.specs.Calls.{HasCalled, StepsOn}
@@ -30,11 +30,11 @@ use Rattle.lane_engine.specs.declared.stepped.Stepped.TheVariants as stepped
 use Rattle.lane_engine.specs.Told.{HasStepped}
 use Rattle.lane_outcomes.specs.declared.registers.Held.{Held}
 use Rattle.lane_outcomes.specs.declared.outcome.Outcome.{Outcome}
-use Rattle.lane_steps.specs.declared.stage.Stage.{Stage}
-use Rattle.lane_steps.specs.Lanes.{IsLane}
-use Rattle.lane_steps.specs.Operations.{IsDoing}
-use Rattle.lane_steps.proofs.AnswerLemmas.{HasBegun, MayCall, answer-not_idle, call-begun, settled-of, goes-on as call-goes_on}
-use Rattle.lane_steps.proofs.LaneGoes.{IsOn, doing-at, lane-goes_on}
+use Rattle.trace_lane.specs.declared.stage.OperationStage.{OperationStage}
+use Rattle.trace_lane.specs.Lanes.{IsLane}
+use Rattle.trace_lane.specs.Operations.{IsDoing}
+use Rattle.trace_lane.proofs.AnswerLemmas.{HasBegun, MayCall, answer-not_idle, call-begun, settled-of, goes-on as call-goes_on}
+use Rattle.trace_lane.proofs.LaneGoes.{IsOn, doing-at, lane-goes_on}
 
 -- a block, for what a step tells
 abbrev pub place_in : Offer → ℕ
@@ -84,20 +84,20 @@ moment-legal g e f before after answer m heap =
 
 module _ (g : Geometry) (operations : List Op) (operation : Op) (rest : List Op) (results : List Outcome) (next : drop (length results) operations ≡ operation ∷ rest) where
   -- the operation is under way in the lane
-  pub record InCall (e : ErrandFields) (events : List Event) (registers : List (Option Held)) (at : Stage) : Type 0 where
+  pub record InCall (e : ErrandFields) (events : List Event) (registers : List (Option Held)) (at : OperationStage) : Type 0 where
     pub lane : IsLane g e.caller events e operations registers results at
     pub busy : IsBusy e
     pub heap : e.geometry ≡ g
 
   pub doing-in :
-      (e : ErrandFields) (events : List Event) (registers : List (Option Held)) (at : Stage) (i : InCall e events registers at)
+      (e : ErrandFields) (events : List Event) (registers : List (Option Held)) (at : OperationStage) (i : InCall e events registers at)
       → IsDoing e.caller events e.point i.lane.position registers operation at i.lane.added
   doing-in e events registers at i =
       doing-at e.caller events e i.lane.position registers (drop (length results) operations) rest operation at i.lane.added next i.busy i.lane.stands
 
   -- it is so behind each step that goes on
   stays :
-      (e f : ErrandFields) (before after : List Event) (registers : List (Option Held)) (at : Stage) (answer : Progress)
+      (e f : ErrandFields) (before after : List Event) (registers : List (Option Held)) (at : OperationStage) (answer : Progress)
       → InCall e before registers at → IsMoment e f before after answer → IsBusy f → InCall f after registers at
   stays e f before after registers at answer i m busy =
       let on = goes-on e f before after answer m busy in
@@ -112,7 +112,7 @@ module _ (g : Geometry) (operations : List Op) (operation : Op) (rest : List Op)
       }
 
   pub steps-stay :
-      (steps : ℕ) (e f : ErrandFields) (before after : List Event) (registers : List (Option Held)) (at : Stage)
+      (steps : ℕ) (e f : ErrandFields) (before after : List Event) (registers : List (Option Held)) (at : OperationStage)
       → InCall e before registers at → StepsOn e before steps f after → InCall f after registers at
   steps-stay zero e f before after registers at i on =
       subst (λ (d : ErrandFields). InCall d after registers at) (sym on.0) (subst (λ h. InCall e h registers at) (sym on.1) i)

@@ -25,18 +25,18 @@ use Rattle.lane_outcomes.specs.declared.registers.Held.{Held}
 use Rattle.lane_outcomes.specs.declared.outcome.Outcome.{Outcome}
 use Rattle.lane_outcomes.specs.declared.outcome.Outcome.TheVariants as outcome
 use Rattle.lane_outcomes.specs.Lane.{held_in}
-use Rattle.lane_steps.specs.declared.stage.Stage.{Stage}
-use Rattle.lane_steps.specs.declared.stage.Stage.TheVariants as stage
-use Rattle.lane_steps.specs.Lanes.{IsLane}
-use Rattle.lane_steps.specs.Made.{AreMisses}
-use Rattle.lane_steps.specs.Operations.{Serves}
-use Rattle.lane_steps.specs.Paths.{held_by}
+use Rattle.trace_lane.specs.declared.stage.OperationStage.{OperationStage}
+use Rattle.trace_lane.specs.declared.stage.OperationStage.TheVariants as stage
+use Rattle.trace_lane.specs.Lanes.{IsLane}
+use Rattle.trace_lane.specs.Made.{AreMisses}
+use Rattle.trace_lane.specs.Operations.{IsOfNeed}
+use Rattle.trace_lane.specs.Paths.{held_by}
 use Rattle.lane_runner.specs.Threads.{WholeAt}
-use Rattle.lane_steps.proofs.AnswerLemmas.{HasBegun, told-of_read}
-use Rattle.lane_steps.proofs.BeginLemmas.{begin-take}
-use Rattle.lane_steps.proofs.CheckPutTake.{take-finds, take-gets, take-misses}
-use Rattle.lane_steps.proofs.EndsLemmas.{check-ends_lane, check-on_lane}
-use Rattle.lane_steps.proofs.LaneAnswers.{alloc-ends_given, alloc-goes_so, fill-ends_so, fill-goes_so, held-here}
+use Rattle.trace_lane.proofs.AnswerLemmas.{HasBegun, told-of_read}
+use Rattle.trace_lane.proofs.BeginLemmas.{begin-take}
+use Rattle.trace_lane.proofs.CheckPutTake.{take-finds, take-gets, take-misses}
+use Rattle.trace_lane.proofs.EndsLemmas.{check-ends_lane, check-on_lane}
+use Rattle.trace_lane.proofs.LaneAnswers.{alloc-ends_given, alloc-goes_so, fill-ends_so, fill-goes_so, held-here}
 use Rattle.lane_runner.proofs.WholeOps.{HasNeed, StandsAt, begun-at, last-in, serves-held, served-last, step-of, to-pass}
 use Rattle.lane_runner.proofs.WholeSteps.{doing-in, need_in, place_in}
 
@@ -51,7 +51,7 @@ some-same : (a b : Held) (slot : Option Held) → slot ≡ Some a → slot ≡ S
 some-same a b slot one two = let both : Some a ≡ Some b = sym one ∙ two in cc
 
 -- a lane whose call has begun
-abbrev pub BegunAt : Heap → Pass → Call → List Op → List (Option Held) → List Outcome → Stage → Type 0
+abbrev pub BegunAt : Heap → Pass → Call → List Op → List (Option Held) → List Outcome → OperationStage → Type 0
 BegunAt h p call operations registers results at =
     IsLane h.layout p.errand.caller (seen p) (begun_by p.errand call) operations registers results at
 
@@ -150,7 +150,7 @@ module _ (h : Heap) (operations rest : List Op) (results : List Outcome) (regist
         let o : Op = op.Fill r v in
         let call = write_at v i in
         let made = steps-of p t call reply.Wrote (λ words is. cc) one.0 in
-        let at : Stage = stage.Filling i in
+        let at : OperationStage = stage.Filling i in
         let inn = last-in h operations o rest results next p t rests one.2.0 call made.0 reply.Wrote one.1 made.1 registers at lane in
         let doing = doing-in h.layout operations o rest results next made.1.last made.1.sight registers at inn in
         let same : held ≡ doing.0 = some-same held doing.0 (held_in registers r) full doing.2 in
@@ -166,12 +166,12 @@ module _ (h : Heap) (operations rest : List Op) (results : List Outcome) (regist
         let call = write_at v i in
         let then = write_at v (i + 1) in
         let made = steps-of p t call reply.Wrote (λ words is. cc) one.0 in
-        let at : Stage = stage.Filling i in
+        let at : OperationStage = stage.Filling i in
         let inn = last-in h operations o rest results next p t rests one.2.0 call made.0 reply.Wrote one.1 made.1 registers at lane in
         let doing = doing-in h.layout operations o rest results next made.1.last made.1.sight registers at inn in
         let same : held ≡ doing.0 = some-same held doing.0 (held_in registers r) full doing.2 in
         let inside : i + 1 < doing.0.words = subst (λ (x : Held). i + 1 < x.words) same (omega (arith, left)) in
-        let serves : Serves doing.0 need = subst (λ (x : Held). Serves x need) same (serves-held h t held need one.2 leads.1.1 words_are) in
+        let serves : IsOfNeed doing.0 need = subst (λ (x : Held). IsOfNeed x need) same (serves-held h t held need one.2 leads.1.1 words_are) in
         let starts = subst (λ (x : Held). HasBegun t.errand (begun_by t.errand then) (write x.place need (i + 1) ((v + (i + 1)) % 2 ^ 64))) same
         (begun-at h t then one.2 leads.1.1) in
         let so = fill-goes_so place_in need_in h.layout made.1.last t.errand made.1.sight (seen t) operations registers results inn.heap
@@ -197,7 +197,7 @@ module _ (h : Heap) (operations rest : List Op) (results : List Outcome) (regist
         let call = read held.place need i in
         let answer : Reply = reply.Word w in
         let made = steps-of p t call answer (λ words is. cc) one.0 in
-        let at : Stage = stage.Summing i total in
+        let at : OperationStage = stage.Summing i total in
         let inn = last-in h operations o rest results next p t rests one.2.0 call made.0 answer one.1 made.1 registers at lane in
         let doing = doing-in h.layout operations o rest results next made.1.last made.1.sight registers at inn in
         let same : held ≡ doing.0 = some-same held doing.0 (held_in registers r) full doing.2 in
@@ -218,7 +218,7 @@ module _ (h : Heap) (operations rest : List Op) (results : List Outcome) (regist
         let then = read held.place need (i + 1) in
         let answer : Reply = reply.Word w in
         let made = steps-of p t call answer (λ words is. cc) one.0 in
-        let at : Stage = stage.Summing i total in
+        let at : OperationStage = stage.Summing i total in
         let inn = last-in h operations o rest results next p t rests one.2.0 call made.0 answer one.1 made.1 registers at lane in
         let doing = doing-in h.layout operations o rest results next made.1.last made.1.sight registers at inn in
         let same : held ≡ doing.0 = some-same held doing.0 (held_in registers r) full doing.2 in
@@ -229,7 +229,7 @@ module _ (h : Heap) (operations rest : List Op) (results : List Outcome) (regist
         let later : suc i ≡ i + 1 = omega arith in
         let leads_so : LeadsBy (WholeAt h) t (found_from held.place need (i + 1) (w2 ∷ words)) q =
         subst (λ k. LeadsBy (WholeAt h) t (found_from held.place need k (w2 ∷ words)) q) later leads in
-        let serves : Serves doing.0 need = subst (λ (x : Held). Serves x need) same (serves-held h t held need one.2 leads_so.1.1 words_are) in
+        let serves : IsOfNeed doing.0 need = subst (λ (x : Held). IsOfNeed x need) same (serves-held h t held need one.2 leads_so.1.1 words_are) in
         let starts = subst (λ (x : Held). HasBegun t.errand (begun_by t.errand then) (read x.place need (i + 1))) same
         (begun-at h t then one.2 leads_so.1.1) in
         let so = check-on_lane h.layout made.1.last t.errand made.1.sight (seen t) operations registers results i total inn.lane inn.heap
@@ -257,7 +257,7 @@ module _ (h : Heap) (operations rest : List Op) (results : List Outcome) (regist
         let o : Op = op.Alloc r asked v in
         let call = write_at v i in
         let made = steps-of p t call reply.Wrote (λ words is. cc) one.0 in
-        let at : Stage = stage.Filling i in
+        let at : OperationStage = stage.Filling i in
         let inn = last-in h operations o rest results next p t rests one.2.0 call made.0 reply.Wrote one.1 made.1 registers at lane in
         let doing = doing-in h.layout operations o rest results next made.1.last made.1.sight registers at inn in
         let same : held ≡ doing.0 = given-same inn.lane.position.registers doing.0 doing.2 in
@@ -275,12 +275,12 @@ module _ (h : Heap) (operations rest : List Op) (results : List Outcome) (regist
         let call = write_at v i in
         let then = write_at v (i + 1) in
         let made = steps-of p t call reply.Wrote (λ words is. cc) one.0 in
-        let at : Stage = stage.Filling i in
+        let at : OperationStage = stage.Filling i in
         let inn = last-in h operations o rest results next p t rests one.2.0 call made.0 reply.Wrote one.1 made.1 registers at lane in
         let doing = doing-in h.layout operations o rest results next made.1.last made.1.sight registers at inn in
         let same : held ≡ doing.0 = given-same inn.lane.position.registers doing.0 doing.2 in
         let inside : i + 1 < doing.0.words = subst (λ (x : Held). i + 1 < x.words) same (omega (arith, left)) in
-        let serves : Serves doing.0 need = subst (λ (x : Held). Serves x need) same (serves-held h t held need one.2 leads.1.1 words_are) in
+        let serves : IsOfNeed doing.0 need = subst (λ (x : Held). IsOfNeed x need) same (serves-held h t held need one.2 leads.1.1 words_are) in
         let starts = subst (λ (x : Held). HasBegun t.errand (begun_by t.errand then) (write x.place need (i + 1) ((v + (i + 1)) % 2 ^ 64))) same
         (begun-at h t then one.2 leads.1.1) in
         let so = alloc-goes_so place_in need_in h.layout made.1.last t.errand made.1.sight (seen t) operations registers results inn.heap

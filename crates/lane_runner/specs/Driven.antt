@@ -9,21 +9,21 @@ use Rattle.errand_steps.specs.Begins.{IsIdle}
 use Rattle.errand_steps.specs.Calls.{Call}
 use Rattle.errand_steps.specs.Openings.{opening, IsOpening}
 use Rattle.errand_steps.specs.Steps.{State}
-use Rattle.sound_state.specs.Contention.{lost_of}
+use Rattle.lost_exchanges.specs.Contention.{lost_of}
 use Rattle.sound_state.specs.Moves.{is_step}
 use Rattle.sound_state.specs.Runs.{Move, Moved, begins, steps}
 use Rattle.sound_state.specs.Sums.{callers_sum}
-use Rattle.step_core.specs.Cores.{CoreFields, errand_at, state_of}
+use Rattle.step_machine.specs.Cores.{CoreFields, errand_at, state_of}
 use Rattle.heap_geometry.specs.declared.geometry.Geometry.{Geometry}
 use Rattle.lane_outcomes.specs.declared.outcome.Outcome.{Outcome}
 use Rattle.lane_outcomes.specs.declared.registers.Held.{Held}
 use Rattle.lane_outcomes.specs.Fits.{OutcomesFit}
 use Rattle.lane_runner.specs.Orders.{InOrder}
-use Rattle.lane_steps.specs.Begun.{calls_of}
-use Rattle.lane_steps.specs.declared.stage.Stage.{Stage}
-use Rattle.lane_steps.specs.declared.stage.Stage.TheVariants as stage
-use Rattle.lane_steps.specs.Lanes.{IsLane}
-use Rattle.lane_steps.specs.Scripts.{IsOnScript, Scripts}
+use Rattle.trace_lane.specs.Begun.{calls_of}
+use Rattle.trace_lane.specs.declared.stage.OperationStage.{OperationStage}
+use Rattle.trace_lane.specs.declared.stage.OperationStage.TheVariants as stage
+use Rattle.trace_lane.specs.Lanes.{IsLane}
+use Rattle.trace_lane.specs.Scripts.{IsOnScript, Scripts}
 
 -- who makes each of the steps among moves
 abbrev pub steppers_of : List Move → List ℕ
@@ -35,7 +35,7 @@ steppers_of (steps caller ∷ moves) = caller ∷ steppers_of moves
 pub record IsOnItsWay (g : Geometry) (operations : List Op) (lane : ℕ) (s : State) (calls : List Call) : Type 0 where
   pub registers : List (Option Held)
   pub results : List Outcome
-  pub at : Stage
+  pub at : OperationStage
   pub script : IsOnScript operations registers results at calls
   pub rule : IsLane g lane s.history (s.errand lane) operations registers results at
 

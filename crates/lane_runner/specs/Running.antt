@@ -8,17 +8,17 @@ use Rattle.errand_steps.specs.Begins.{IsIdle}
 use Rattle.errand_steps.specs.Calls.{Call}
 use Rattle.sound_state.specs.Moves.{is_step}
 use Rattle.sound_state.specs.Runs.{Move, begins, steps}
-use Rattle.step_core.specs.Cores.{CoreFields, IsCore, errand_at, state_of}
-use Rattle.step_core.specs.Moments.{HasSeenMore}
+use Rattle.step_machine.specs.Cores.{CoreFields, IsCore, errand_at, state_of}
+use Rattle.step_machine.specs.Moments.{HasSeenMore}
 use Rattle.lane_engine.specs.declared.grip.Grip.{Grip}
-use Rattle.lane_steps.specs.declared.lane.LaneState.{LaneState}
-use Rattle.lane_steps.specs.declared.stage.Stage.TheVariants as stage
-use Rattle.lane_steps.specs.Begun.{calls_of}
+use Rattle.trace_lane.specs.declared.lane.LaneState.{LaneState}
+use Rattle.trace_lane.specs.declared.stage.OperationStage.TheVariants as stage
+use Rattle.trace_lane.specs.Begun.{calls_of}
 use Rattle.lane_runner.specs.Driven.{Drives, steppers_of}
 use Rattle.lane_runner.specs.Orders.{InOrder, OneByOne}
-use Rattle.lane_steps.specs.Paths.{IsBy, Leads, FirstPassed, begun_count}
-use Rattle.lane_steps.specs.Scripts.{IsOnScript}
-use Rattle.lane_steps.specs.States.{StandsOn, progress_on}
+use Rattle.trace_lane.specs.Paths.{IsBy, MovesLead, FirstPassed, begun_count}
+use Rattle.trace_lane.specs.Scripts.{IsOnScript}
+use Rattle.trace_lane.specs.States.{StandsOn, progress_on}
 
 -- no operation of the lane is under way, and none is left
 pub record HasEnded (operations : List Op) (lane : LaneState Grip) : Type 0 where
@@ -39,7 +39,7 @@ pub record HasRun (passed : ℕ → ℕ → Type 0) (c after : CoreFields) (oper
   pub heap : after.geometry ≡ c.geometry
   pub caller : new.caller ≡ old.caller
   pub moves : List Move
-  pub leads : Leads c moves after
+  pub leads : MovesLead c moves after
   pub by_caller : All (IsBy old.caller) moves
   pub counts : count_by is_step moves ≡ made
   pub script : (calls : List Call) → IsOnScriptOf operations old calls → IsOnScriptOf operations new (calls ++ calls_of old.caller moves)
@@ -91,7 +91,7 @@ IsBelow count (steps caller) = caller < count
 -- the lanes of a trace have made moves on the machine, and no one else has; one that had ended made no step
 pub record LanesRan (passed : ℕ → ℕ → Type 0) (trace : Trace) (c after : CoreFields) (old new : List (LaneState Grip)) : Type 0 where
   pub moves : List Move
-  pub leads : Leads c moves after
+  pub leads : MovesLead c moves after
   pub by_lanes : All (IsBelow (length old)) moves
   pub scripts :
       (lane : ℕ) (before now : LaneState Grip) (calls : List Call) → lane < length old → before ≡ slice_index_or old lane before

@@ -16,15 +16,16 @@ use Rattle.live_heap.specs.declared.heap.Heap.{Heap}
 use Rattle.live_heap.specs.declared.pass.Pass.{Pass}
 use Rattle.live_heap.specs.Passes.{IsFresh, IsOf, seen}
 use Rattle.live_heap.specs.Whole.{IsAtRest, MadeByPass, OwnsFor}
-use Rattle.lane_steps.specs.declared.lane.LaneState.{LaneState}
+use Rattle.trace_lane.specs.declared.lane.LaneState.{LaneState}
 use Rattle.lane_runner.specs.declared.run_lanes.LaneThread.{LaneThread}
 use Rattle.lane_runner.specs.declared.run_lanes.Reserved.{Reserved}
-use Rattle.lane_steps.specs.declared.stage.Stage.TheVariants as stage
-use Rattle.lane_steps.specs.Lanes.{IsLane}
-use Rattle.lane_steps.specs.Made.{AllMade}
-use Rattle.lane_steps.specs.Paths.{FirstPassed, begun_count, held_blocks}
+use Rattle.trace_lane.specs.declared.stage.OperationStage.TheVariants as stage
+use Rattle.lane_engine.specs.Engines.{heap_at}
+use Rattle.trace_lane.specs.Lanes.{IsLane}
+use Rattle.trace_lane.specs.Made.{AllMade}
+use Rattle.trace_lane.specs.Paths.{FirstPassed, begun_count, held_blocks}
 use Rattle.lane_runner.specs.Running.{operations_in}
-use Rattle.lane_steps.specs.States.{AreNew, IsLaneOf}
+use Rattle.trace_lane.specs.States.{AreNew, IsLaneOf}
 
 -- a whole call of a pass of this heap, which leaves it in no call
 abbrev pub WholeAt : Heap → Pass → Call → Reply → Pass → Type 0
@@ -60,7 +61,7 @@ pub record HaveRun (trace : Trace) (h : Heap) (passes : List Pass) (outcomes : L
 pub record StandsOver (h : Heap) (operations : List Op) (p : Pass) (lane : LaneState Block) : Type 0 where
   pub of : IsOf h p
   pub caller : lane.caller ≡ p.errand.caller
-  pub stands : IsLaneOf (λ (block : Block). block.place) (λ (block : Block). block.need) h.layout (seen p) p.errand operations lane
+  pub stands : IsLaneOf (heap_at h p) operations lane
 
 -- the lane has ended over the pass, which stood as `before` and has made the calls of the operations that were left; and they have passed the gate, if those had that it had begun before
 pub record HasRunOver (passed : ℕ → ℕ → Type 0) (h : Heap) (operations : List Op) (before : Pass) (old : LaneState Block) (p : Pass) (lane : LaneState Block) : Type 0 where

@@ -3,11 +3,11 @@
 ghost use Rattle.std.specs.Prelude.{◌≡◌, ◌<◌, IfOk, length};
 ghost use Rattle.trace_text.specs.Traces.{IsTrace};
 ghost use Rattle.lane_runner.specs.Running.{operations_in};
-ghost use Rattle.lane_steps.specs.States.{AreNew};
+ghost use Rattle.trace_lane.specs.States.{AreNew};
 
 use lane_engine::token::Token;
-use lane_steps::lane::LaneState;
 use std::alloc::{AllocError, Global};
+use trace_lane::lane::LaneState;
 use trace_text::trace::{Op, Trace};
 
 /// The operations of a lane.

@@ -4,20 +4,20 @@ ghost use Rattle.std.specs.Prelude.{ℕ, ◌≡◌, ◌<◌, ◌≤◌, ◌∷�
 ghost use Rattle.std.specs.List.{All};
 ghost use Rattle.trace_text.specs.Traces.{IsTrace, IsOp, IsOrder};
 ghost use Rattle.errand_steps.specs.Openings.{opening};
-ghost use Rattle.step_core.specs.Openings.{IsOpened};
+ghost use Rattle.step_machine.specs.Openings.{IsOpened};
 ghost use Rattle.lane_outcomes.specs.Passed.{AllPassed};
 ghost use Rattle.lane_runner.specs.Driven.{IsDriven, IsDrivenSoFar};
 ghost use Rattle.lane_runner.specs.Orders.{InOrder, OneByOne};
 ghost use Rattle.lane_runner.specs.Running.{HasRun, HasRunOut, HasRunSome, HaveFinished, HaveFollowed, HaveRunSo, LanesStand, OneRan, OneRanOut};
-ghost use Rattle.lane_steps.specs.States.{StandsOn};
+ghost use Rattle.trace_lane.specs.States.{StandsOn};
 
 use crate::lanes::{lane_of, open_lanes};
 use edge_io::gate::Gate;
 use lane_engine::grip::Grip;
 use lane_outcomes::outcome::Outcome;
-use lane_steps::lane::LaneState;
 use std::alloc::{AllocError, Global};
-use step_core::machine::Core;
+use step_machine::machine::Core;
+use trace_lane::lane::LaneState;
 use trace_text::trace::{Op, OrderRun, Trace};
 
 /// Advances a lane so many times, or to its end.

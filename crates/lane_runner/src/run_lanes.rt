@@ -6,8 +6,8 @@ ghost use Rattle.trace_text.specs.Traces.{IsOp, IsTrace};
 ghost use Rattle.lane_outcomes.specs.Passed.{AllPassed};
 ghost use Rattle.live_heap.specs.Endings.{AreAllIdle};
 ghost use Rattle.live_heap.specs.Passes.{AreFrom};
-ghost use Rattle.lane_steps.specs.declared.stage.Stage.TheVariants as stage;
-ghost use Rattle.lane_steps.specs.States.{AreNew};
+ghost use Rattle.trace_lane.specs.declared.stage.OperationStage.TheVariants as stage;
+ghost use Rattle.trace_lane.specs.States.{AreNew};
 ghost use Rattle.lane_runner.specs.Threads.{AreDone, AreEnded, AreReady, HasRunOver, HasRunThrough, HaveRun, IsReserved, IsPaired, StandsOver};
 ghost use Rattle.lane_runner.specs.declared.run_lanes.LaneThread.{LaneThread};
 
@@ -16,7 +16,6 @@ use crossbeam_utils::CachePadded;
 use edge_io::gate::Gate;
 use lane_engine::over_pass::PassCalls;
 use lane_outcomes::outcome::Outcome;
-use lane_steps::lane::LaneState;
 use live_heap::block::Block;
 use live_heap::heap::Heap;
 use live_heap::pass::Pass;
@@ -24,6 +23,7 @@ use std::alloc::{AllocError, Global};
 use std::sync::Wait;
 use std::thread;
 use std::thread::Threads;
+use trace_lane::lane::LaneState;
 use trace_text::trace::{Op, Trace};
 
 /// Runs a lane to its end, with the pass of its caller.

@@ -1,3 +1,3 @@
-pub mod FitLemmas
+pub mod PointLemmas
 pub mod LowestLemmas
 pub mod UnitLemmas

@@ -1,4 +1,3 @@
-pub mod Fits
 pub mod Points
 pub mod Runs
 pub mod Units

@@ -1,21 +1,30 @@
--- What each point does, and where it leads.
-use Rattle.std.specs.Prelude.{ℕ, Bool, true, false, Option, Some, None, ◌+◌, ◌%◌, ◌^◌, if◌then◌else◌}
+-- What each point does, where it leads, and that what a point or an exit remembers exists in its heap.
+use Rattle.std.specs.Prelude.{ℕ, Option, Some, None, ◌+◌, ◌%◌, ◌^◌, if◌then◌else◌, ◌≡◌, ◌<◌, ◌≤◌}
 use Rattle.heap_geometry.specs.Place.{unit_place}
 use Rattle.packed_words.specs.declared.prefix.Prefix.{Prefix}
 use Rattle.packed_words.specs.declared.prefix.Prefix.TheVariants.{Small, Large}
 use Rattle.packed_words.specs.declared.shelf.ShelfWord.{ShelfWord}
 use Rattle.packed_words.specs.declared.shelf.ShelfWord.TheVariants.{Nothing, Block}
 use Rattle.packed_words.specs.Prefix.{prefix_word, prefix_of}
-use Rattle.packed_words.specs.Shelf.{shelf_word, shelf_of}
-use Rattle.word_plan.specs.declared.action.Action.{Action}
-use Rattle.word_plan.specs.declared.action.Action.TheVariants.{Load, Store, Cas, And}
-use Rattle.word_plan.specs.declared.action.Found.{Found}
-use Rattle.word_plan.specs.declared.name.WordName.{WordName}
-use Rattle.word_plan.specs.declared.name.WordName.TheVariants.{Arena, FrameHead, Units, Shelf}
+use Rattle.packed_words.specs.Shelf.{shelf_word, shelf_of, IsShelfWord}
+use Rattle.word_table.specs.declared.action.Action.{Action}
+use Rattle.word_table.specs.declared.action.Action.TheVariants.{Load, Store, Cas, And}
+use Rattle.word_table.specs.declared.action.Found.{Found}
+use Rattle.word_table.specs.declared.name.WordName.{WordName}
+use Rattle.word_table.specs.declared.name.WordName.TheVariants.{Arena, Units, Shelf}
+use Rattle.word_table.specs.declared.onward.Onward.{Onward}
+use Rattle.word_table.specs.declared.onward.Onward.TheVariants.{Stays, Leaves}
+use Rattle.large_parts.specs.declared.exit.LargeExit.{LargeExit}
+use Rattle.large_parts.specs.declared.exit.LargeExit.TheVariants.{GivenRun, NoRun, FreedRun, Wrote, Word, PutDone, ShelfFull, Got, NothingThere, Missed}
 use Rattle.large_parts.specs.declared.point.LargePoint.{LargePoint}
-use Rattle.large_parts.specs.declared.point.LargePoint.TheVariants.{LoadUnits, TakeRun, StoreRunPrefix, LoadRunPrefix, FreeRun, StoreWord, LoadWord, PutBlock, LoadShelf, TakeBlock, ConfirmNothing, GivenRun, NoRun, FreedRun, Wrote, Word, PutDone, ShelfFull, Got, NothingThere, Missed}
-use Rattle.large_parts.specs.Runs.{WantFields, RunFields}
+use Rattle.large_parts.specs.declared.point.LargePoint.TheVariants.{LoadUnits, TakeRun, StoreRunPrefix, LoadRunPrefix, FreeRun, StoreWord, LoadWord, PutBlock, LoadShelf, TakeBlock, ConfirmNothing}
+use Rattle.large_parts.specs.Runs.{WantFields, RunFields, IsRun}
 use Rattle.large_parts.specs.Units.{first_run_of, other_bits, with_run}
+use Rattle.heap_geometry.specs.declared.geometry.Geometry.{Geometry}
+use Rattle.heap_geometry.specs.declared.limits.TheConstants.{MAX_UNITS, SHELVES}
+use Rattle.heap_geometry.specs.declared.need.Need.{Need}
+use Rattle.heap_geometry.specs.Geometry.{IsWithin}
+use Rattle.word_table.specs.Counts.{arena_words}
 
 -- the name of a usable word of the block at a place, whose prefix word stands before them
 abbrev pub payload_name : ℕ → ℕ → WordName
@@ -30,7 +39,7 @@ abbrev pub units_taken : ℕ → ℕ → Option ℕ → ℕ
 units_taken bits units None = bits
 units_taken bits units (Some first) = with_run bits first units
 
--- the action of a point; who left makes none, and its action here stands for nothing
+-- the action of a point
 abbrev pub plan_large_of : LargePoint → Action
 plan_large_of (LoadUnits w) = Load Units
 plan_large_of (TakeRun w bits) = Cas Units bits (units_taken bits w.units (first_wanted w bits))
@@ -45,22 +54,12 @@ plan_large_of (LoadShelf shelf) = Load (Shelf shelf)
 plan_large_of (TakeBlock shelf place need) =
     Cas (Shelf shelf) (shelf_word (Block place need)) (shelf_word Nothing)
 plan_large_of (ConfirmNothing shelf) = Cas (Shelf shelf) (shelf_word Nothing) (shelf_word Nothing)
-plan_large_of (GivenRun place r) = Load FrameHead
-plan_large_of NoRun = Load FrameHead
-plan_large_of FreedRun = Load FrameHead
-plan_large_of Wrote = Load FrameHead
-plan_large_of (Word value) = Load FrameHead
-plan_large_of PutDone = Load FrameHead
-plan_large_of (ShelfFull found) = Load FrameHead
-plan_large_of (Got place need) = Load FrameHead
-plan_large_of NothingThere = Load FrameHead
-plan_large_of (Missed expected found) = Load FrameHead
 
 -- where a look for a run leads, by its first unit
-abbrev pub after_take : WantFields → Option ℕ → LargePoint
-after_take w None = NoRun
+abbrev pub after_take : WantFields → Option ℕ → Onward LargePoint LargeExit
+after_take w None = Leaves NoRun
 after_take w (Some first) =
-    StoreRunPrefix (unit_place w.geometry.frames first) (record { first = first; units = w.units })
+    Stays (StoreRunPrefix (unit_place w.geometry.frames first) (record { first = first; units = w.units }))
 
 -- where the prefix word of a freed run leads
 abbrev pub after_run_prefix : ℕ → RunFields → Option Prefix → LargePoint
@@ -74,41 +73,65 @@ after_shelf shelf None = LoadShelf shelf
 after_shelf shelf (Some Nothing) = ConfirmNothing shelf
 after_shelf shelf (Some (Block place need)) = TakeBlock shelf place need
 
--- the point after what the action found
-abbrev pub settle_large_of : LargePoint → Found → LargePoint
-settle_large_of (LoadUnits w) x = TakeRun w x.value
-settle_large_of (TakeRun w bits) x = if x.won then after_take w (first_wanted w bits) else LoadUnits w
-settle_large_of (StoreRunPrefix place r) x = GivenRun place r
-settle_large_of (LoadRunPrefix place r) x = after_run_prefix place r (prefix_of x.value)
-settle_large_of (FreeRun place r) x = FreedRun
-settle_large_of (StoreWord place i value) x = Wrote
-settle_large_of (LoadWord place i) x = Word x.value
-settle_large_of (PutBlock shelf place need) x = if x.won then PutDone else ShelfFull x.value
-settle_large_of (LoadShelf shelf) x = after_shelf shelf (shelf_of x.value)
+-- where a point leads, by what its action found
+abbrev pub settle_large_of : LargePoint → Found → Onward LargePoint LargeExit
+settle_large_of (LoadUnits w) x = Stays (TakeRun w x.value)
+settle_large_of (TakeRun w bits) x = if x.won then after_take w (first_wanted w bits) else Stays (LoadUnits w)
+settle_large_of (StoreRunPrefix place r) x = Leaves (GivenRun place r)
+settle_large_of (LoadRunPrefix place r) x = Stays (after_run_prefix place r (prefix_of x.value))
+settle_large_of (FreeRun place r) x = Leaves FreedRun
+settle_large_of (StoreWord place i value) x = Leaves Wrote
+settle_large_of (LoadWord place i) x = Leaves (Word x.value)
+settle_large_of (PutBlock shelf place need) x = Leaves (if x.won then PutDone else ShelfFull x.value)
+settle_large_of (LoadShelf shelf) x = Stays (after_shelf shelf (shelf_of x.value))
 settle_large_of (TakeBlock shelf place need) x =
-    if x.won then Got place need else Missed (shelf_word (Block place need)) x.value
-settle_large_of (ConfirmNothing shelf) x = if x.won then NothingThere else Missed (shelf_word Nothing) x.value
-settle_large_of (GivenRun place r) x = GivenRun place r
-settle_large_of NoRun x = NoRun
-settle_large_of FreedRun x = FreedRun
-settle_large_of Wrote x = Wrote
-settle_large_of (Word value) x = Word value
-settle_large_of PutDone x = PutDone
-settle_large_of (ShelfFull found) x = ShelfFull found
-settle_large_of (Got place need) x = Got place need
-settle_large_of NothingThere x = NothingThere
-settle_large_of (Missed expected found) x = Missed expected found
+    Leaves (if x.won then Got place need else Missed (shelf_word (Block place need)) x.value)
+settle_large_of (ConfirmNothing shelf) x =
+    Leaves (if x.won then NothingThere else Missed (shelf_word Nothing) x.value)
 
--- the point is one at which the part has been left
-abbrev pub has_left_large : LargePoint → Bool
-has_left_large (GivenRun place run) = true
-has_left_large NoRun = true
-has_left_large FreedRun = true
-has_left_large Wrote = true
-has_left_large (Word value) = true
-has_left_large PutDone = true
-has_left_large (ShelfFull found) = true
-has_left_large (Got place block) = true
-has_left_large NothingThere = true
-has_left_large (Missed expected found) = true
-has_left_large p = false
+-- units of this heap are wanted
+pub record IsWantOf (g : Geometry) (w : WantFields) : Type 0 where
+  pub geometry : w.geometry ≡ g
+  pub units : IsWithin 1 MAX_UNITS w.units
+
+-- a run of this heap's units, which lies at the place
+pub record IsRunAt (g : Geometry) (p : ℕ) (r : RunFields) : Type 0 where
+  pub run : IsRun r
+  pub within : r.first + r.units ≤ g.units
+  pub place : p ≡ unit_place g.frames r.first
+
+-- a usable word of the block at a place, and the arena has it
+abbrev pub IsPayloadOf : Geometry → ℕ → ℕ → Type 0
+IsPayloadOf g place i = place + 1 + i < arena_words g
+
+-- a shelf, and a block that may lie on it
+pub record IsShelved (k p : ℕ) (need : Need) : Type 0 where
+  pub shelf : k < SHELVES
+  pub block : IsShelfWord (Block p need)
+
+-- everything that the point remembers exists in this heap
+abbrev pub FitsLarge : Geometry → LargePoint → Type 0
+FitsLarge g (LoadUnits w) = IsWantOf g w
+FitsLarge g (TakeRun w bits) = IsWantOf g w
+FitsLarge g (StoreRunPrefix place r) = IsRunAt g place r
+FitsLarge g (LoadRunPrefix place r) = IsRunAt g place r
+FitsLarge g (FreeRun place r) = IsRunAt g place r
+FitsLarge g (StoreWord place i value) = IsPayloadOf g place i × (value < 2 ^ 64)
+FitsLarge g (LoadWord place i) = IsPayloadOf g place i
+FitsLarge g (PutBlock shelf place need) = IsShelved shelf place need
+FitsLarge g (LoadShelf shelf) = shelf < SHELVES
+FitsLarge g (TakeBlock shelf place need) = IsShelved shelf place need
+FitsLarge g (ConfirmNothing shelf) = shelf < SHELVES
+
+-- everything that the exit remembers exists in this heap
+abbrev pub FitsLargeExit : Geometry → LargeExit → Type 0
+FitsLargeExit g (GivenRun place r) = IsRunAt g place r
+FitsLargeExit g NoRun = Unit {0}
+FitsLargeExit g FreedRun = Unit {0}
+FitsLargeExit g Wrote = Unit {0}
+FitsLargeExit g (Word value) = Unit {0}
+FitsLargeExit g PutDone = Unit {0}
+FitsLargeExit g (ShelfFull found) = Unit {0}
+FitsLargeExit g (Got place need) = IsShelfWord (Block place need)
+FitsLargeExit g NothingThere = Unit {0}
+FitsLargeExit g (Missed expected found) = Unit {0}

@@ -5,11 +5,11 @@ ghost use Rattle.std.specs.Int.{bit_at};
 ghost use Rattle.heap_geometry.specs.declared.geometry.Geometry.{Geometry};
 ghost use Rattle.heap_geometry.specs.declared.limits.TheConstants.{MAX_UNITS};
 ghost use Rattle.heap_geometry.specs.Geometry.{IsChecked};
-ghost use Rattle.word_plan.specs.declared.action.Found.{Found};
-ghost use Rattle.word_plan.specs.Actions.{after_action, name_of};
-ghost use Rattle.word_plan.specs.Table.{Exists};
-ghost use Rattle.large_parts.specs.Fits.{FitsLarge};
-ghost use Rattle.large_parts.specs.Points.{first_wanted, plan_large_of, settle_large_of};
+ghost use Rattle.word_table.specs.declared.action.Found.{Found};
+ghost use Rattle.word_table.specs.Actions.{after_action, name_of};
+ghost use Rattle.word_table.specs.Onwards.{IsOnward};
+ghost use Rattle.word_table.specs.Table.{Exists};
+ghost use Rattle.large_parts.specs.Points.{FitsLarge, FitsLargeExit, first_wanted, plan_large_of, settle_large_of};
 ghost use Rattle.large_parts.specs.Runs.{RunFields, WantFields};
 ghost use Rattle.large_parts.specs.Units.{IsInRun, IsFirstRun, first_run_of, with_run, without_run};
 ghost use Rattle.large_parts.specs.declared.point.LargePoint.{LargePoint};
@@ -47,10 +47,10 @@ pub fn run_is_given_back()
 {}
 
 /// A point whose memory exists in a heap acts on a word that exists there, and leads to such a
-/// point, whatever it finds.
+/// point, or such an exit, whatever it finds.
 pub fn points_fit()
     ensures names { (g : Geometry) (p : LargePoint) → IsChecked g → FitsLarge g p
         → Exists g (name_of (plan_large_of p)) }
     ensures keeps { (g : Geometry) (p : LargePoint) (x : Found) → IsChecked g → x.value < 2 ^ 64
-        → FitsLarge g p → FitsLarge g (settle_large_of p x) }
+        → FitsLarge g p → IsOnward (FitsLarge g) (FitsLargeExit g) (settle_large_of p x) }
 {}

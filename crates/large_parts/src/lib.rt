@@ -6,11 +6,10 @@
 //! that names one block or none.
 #![tactic(auto)]
 
+pub mod exit;
 pub mod laws;
-pub mod plan;
 pub mod point;
 pub mod run;
-pub mod settle;
 pub mod units;
 pub mod want;
 mod words;

@@ -8,12 +8,12 @@ use std::marker::Model;
 
 /// A run of units.
 #[derive(Clone, Copy)]
-pub struct Run {
+pub struct UnitRun {
     first: u8,
     units: u8,
 }
 
-impl Model for Run {
+impl Model for UnitRun {
     ghost use Rattle.large_parts.specs.Runs.{RunFields, IsRun};
 
     ghost Value = { RunFields };
@@ -25,13 +25,13 @@ impl Model for Run {
     ghost inverse = { λ r. record { first = r.first; units = r.units } };
 }
 
-impl Run {
+impl UnitRun {
     /// The run of so many units from this one on.
-    pub fn new(first: u8, units: u8) -> Run
+    pub fn new(first: u8, units: u8) -> UnitRun
         requires { IsRun (record { first = first; units = units }) }
         ensures { result ≡ record { first = first; units = units } }
     {
-        Run { first, units }
+        UnitRun { first, units }
     }
 
     /// The first unit.

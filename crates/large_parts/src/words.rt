@@ -12,7 +12,7 @@ use crate::want::Want;
 use heap_geometry::need::Need;
 use packed_words::shelf::LARGE_CODE;
 use packed_words::widths::{CODE_BITS, KIND_BITS};
-use word_plan::name::WordName;
+use word_table::name::WordName;
 
 /// The name of a usable word of a block.
 pub fn payload_name(place: u32, index: u32) -> WordName

@@ -3,10 +3,10 @@ use Rattle.std.proofs.Common.{ℕ, ◌≡◌, ◌<◌, ◌*◌, ◌-◌, length,
 use Rattle.heap_geometry.specs.declared.geometry.Geometry.{Geometry}
 use Rattle.errand_steps.specs.Errands.{ErrandFields}
 use Rattle.errand_steps.specs.Steps.{State}
-use Rattle.sound_state.specs.Contention.{lost_of}
+use Rattle.lost_exchanges.specs.Contention.{lost_of}
 use Rattle.sound_state.specs.Sums.{callers_sum, sum_below}
-use Rattle.step_core.specs.Cores.{IsReached}
-use Rattle.step_core.proofs.CoreLemmas.{run-won}
+use Rattle.step_machine.specs.Cores.{IsReached}
+use Rattle.step_machine.proofs.CoreLemmas.{run-won}
 
 sum-single : (n : ℕ) (f : ℕ → ℕ) → n ≡ 1 → sum_below n f ≡ f 0
 sum-single n f is = let e : sum_below n f ≡ sum_below 1 f = ap (λ m. sum_below m f) is in omega (arith, e)

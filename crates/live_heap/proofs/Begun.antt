@@ -11,8 +11,8 @@ use Rattle.errand_steps.specs.Begins.{IsIdle, IsHeapBlock, alloc_begun, free_beg
 use Rattle.errand_steps.specs.Calls.{Call, begun_by}
 use Rattle.errand_steps.specs.Errands.{ErrandFields, IsErrand}
 use Rattle.sound_state.specs.Runs.{MayBegin}
-use Rattle.step_core.specs.Cores.{OwnsAfter}
-use Rattle.step_core.specs.Moments.{IsServed}
+use Rattle.step_machine.specs.Cores.{OwnsAfter}
+use Rattle.step_machine.specs.Moments.{IsServed}
 use Rattle.live_heap.specs.declared.block.Block.{Block}
 use Rattle.live_heap.specs.declared.heap.Heap.{Heap}
 use Rattle.live_heap.specs.declared.pass.Pass.{Pass}

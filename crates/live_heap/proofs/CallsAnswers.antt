@@ -18,8 +18,8 @@ use Rattle.errand_steps.specs.Errands.{ErrandFields}
 use Rattle.errand_steps.proofs.SpentLemmas.{begins-at_limit}
 use Rattle.call_events.specs.Ends.{end_of}
 use Rattle.call_events.proofs.BeginsLemmas.{too_large-stays, spent-begins}
-use Rattle.step_core.specs.Moments.{IsMoment}
-use Rattle.step_core.proofs.MomentAnswers.{moment-geometry, moment-given, moment-got, moment-meant}
+use Rattle.step_machine.specs.Moments.{IsMoment}
+use Rattle.step_machine.proofs.MomentAnswers.{moment-geometry, moment-given, moment-got, moment-meant}
 use Rattle.live_heap.specs.declared.answers.AllocAnswer.TheVariants as alloc_answers
 use Rattle.live_heap.specs.declared.answers.Ending.{Ending}
 use Rattle.live_heap.specs.declared.answers.Ending.TheVariants as ending

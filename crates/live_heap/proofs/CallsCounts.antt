@@ -8,8 +8,8 @@ use Rattle.heap_geometry.specs.declared.need.Need.TheVariants.{Small, Large, Too
 use Rattle.heap_geometry.specs.Geometry.{IsChecked}
 use Rattle.heap_geometry.specs.Need.{need_of}
 use Rattle.packed_words.specs.declared.widths.TheConstants.{TAG_BITS}
-use Rattle.word_plan.specs.declared.action.Found.{Found as Find}
-use Rattle.word_plan.proofs.SeatLemmas.{block_count_of-most}
+use Rattle.word_table.specs.declared.action.Found.{Found as Find}
+use Rattle.word_table.proofs.SeatLemmas.{block_count_of-most}
 use Rattle.pool_model.specs.declared.event.Event.{Event}
 use Rattle.pool_model.specs.Histories.{Begins}
 use Rattle.errand_steps.specs.declared.next.Next.{Next}
@@ -22,10 +22,10 @@ use Rattle.errand_steps.specs.Calls.{Call, alloc, free, write, read, put, take, 
 use Rattle.errand_steps.specs.Errands.{ErrandFields, settle_of, answer_of, counts_lost, counts_cleared, course_of, is_spent, raised, told}
 use Rattle.errand_steps.specs.Points.{is_idle}
 use Rattle.errand_steps.proofs.AnswerLemmas.{lost-told, cleared-told}
-use Rattle.sound_state.specs.StepsLeft.{steps_left}
+use Rattle.calls_end.specs.StepsLeft.{steps_left}
 use Rattle.errand_steps.proofs.BegunErrands.{idle-is}
-use Rattle.sound_state.proofs.endings.LeftMost.{left-most}
-use Rattle.step_core.specs.Moments.{IsMoment}
+use Rattle.calls_end.proofs.LeftMost.{left-most}
+use Rattle.step_machine.specs.Moments.{IsMoment}
 use Rattle.live_heap.specs.declared.heap.Heap.{Heap}
 use Rattle.live_heap.specs.declared.pass.Pass.{Pass}
 use Rattle.live_heap.specs.Calls.{EndsInTime, IsCalling, IsInterrupted, IsTry, tries_of}

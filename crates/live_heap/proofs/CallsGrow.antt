@@ -5,8 +5,8 @@ use Rattle.std.proofs.lemmas.List.{append-nil}
 use Rattle.atomic_table.specs.declared.shared.Seat.{Seat}
 use Rattle.heap_geometry.specs.declared.limits.TheConstants.{CALL_STEPS}
 use Rattle.packed_words.specs.declared.widths.TheConstants.{TAG_BITS}
-use Rattle.word_plan.specs.Actions.{is_won}
-use Rattle.word_plan.specs.declared.action.Found.{Found as Find}
+use Rattle.word_table.specs.Actions.{is_won}
+use Rattle.word_table.specs.declared.action.Found.{Found as Find}
 use Rattle.pool_model.specs.declared.event.Event.{Event}
 use Rattle.pool_model.specs.Histories.{caller_of, own}
 use Rattle.errand_steps.specs.Begins.{IsBusy, IsIdle, alloc_answer}
@@ -25,14 +25,14 @@ use Rattle.call_events.specs.Ends.{HasEnded}
 use Rattle.call_events.specs.UnderWay.{IsAboutBlock, IsUnderWay}
 use Rattle.call_events.proofs.AnswerLemmas.{step-goes_on, step-ends}
 use Rattle.call_events.proofs.BeginsLemmas.{call-begins, started-busy, other-busy}
-use Rattle.sound_state.specs.StepsLeft.{steps_left}
+use Rattle.calls_end.specs.StepsLeft.{steps_left}
 use Rattle.sound_state.proofs.CountedLemmas.{without-counts}
-use Rattle.sound_state.proofs.endings.LeftMost.{left-most}
-use Rattle.sound_state.proofs.endings.LeftSteps.{steps-go_on}
+use Rattle.calls_end.proofs.LeftMost.{left-most}
+use Rattle.calls_end.proofs.LeftSteps.{steps-go_on}
 use Rattle.sound_state.proofs.events.OwnEvents.{own-with_event, added-event}
 use Rattle.sound_state.proofs.shared.ClearedLemmas.{cleared-far}
-use Rattle.step_core.specs.Moments.{IsMoment}
-use Rattle.step_core.proofs.MomentAnswers.{moment-own_after, settle-caller}
+use Rattle.step_machine.specs.Moments.{IsMoment}
+use Rattle.step_machine.proofs.MomentAnswers.{moment-own_after, settle-caller}
 use Rattle.live_heap.specs.declared.pass.Pass.{Pass}
 use Rattle.live_heap.specs.declared.view.View.{View}
 use Rattle.live_heap.specs.Answers.{HasBegun}

@@ -1,16 +1,16 @@
 -- Calls of one step, and of two.
-use Rattle.std.proofs.Common.{ℕ, Bool, true, false, ◌≡◌, ◌≢◌, ◌<◌, ◌⊎◌, inl, inr, List, Option, Some, None, refl, sym, ap, ◌∙◌, subst, arith}
+use Rattle.std.proofs.Common.{ℕ, Bool, true, false, ◌≡◌, ◌≢◌, ◌<◌, ◌⊎◌, inl, inr, List, Some, None, refl, sym, ap, ◌∙◌, subst, arith}
 use Rattle.std.specs.Prelude.{◌==◌, if◌then◌else◌, not, slice_index_or}
 use Rattle.std.proofs.lemmas.Bool.{cases_Bool, true≢false, eq-eqb}
 use mathlib.Core.HLevel.{is_prop→PathP}
 use Rattle.heap_geometry.specs.declared.geometry.Geometry.{Geometry}
 use Rattle.heap_geometry.specs.declared.need.Need.{Need}
 use Rattle.heap_geometry.specs.Need.{IsNeed}
-use Rattle.packed_words.specs.declared.shelf.ShelfWord.{ShelfWord}
 use Rattle.packed_words.specs.declared.shelf.ShelfWord.TheVariants as lies
 use Rattle.packed_words.specs.Shelf.{shelf_of, shelf_word}
-use Rattle.word_plan.specs.Actions.{is_won}
-use Rattle.word_plan.specs.declared.action.Found.{Found as Find}
+use Rattle.word_table.specs.Actions.{is_won}
+use Rattle.word_table.specs.declared.action.Found.{Found as Find}
+use Rattle.large_parts.specs.declared.exit.LargeExit.TheVariants as large_exit
 use Rattle.large_parts.specs.declared.point.LargePoint.{LargePoint}
 use Rattle.large_parts.specs.declared.point.LargePoint.TheVariants as large
 use Rattle.large_parts.specs.Points.{after_shelf}
@@ -30,17 +30,17 @@ use Rattle.errand_steps.specs.declared.reply.Reply.TheVariants as reply
 use Rattle.errand_steps.specs.Begins.{IsIdle, write_begun, read_begun, put_begun, take_begun}
 use Rattle.errand_steps.specs.Calls.{Call, begun_by, write, read, put, take}
 use Rattle.errand_steps.specs.Errands.{ErrandFields, after_list, after_turn, answer_of, counts_cleared, counts_lost, counts_won, course_of, one_more, plan_of, settle_of, told as told_by}
-use Rattle.errand_steps.specs.Nexts.{enter_large, next_of}
+use Rattle.errand_steps.specs.Nexts.{leave_large, next_of}
 use Rattle.errand_steps.specs.Points.{plan_point_of}
 use Rattle.call_events.specs.UnderWay.{IsUnderWay}
 use Rattle.call_events.proofs.OfferLemmas.{put-offers}
 use Rattle.sound_state.specs.Answers.{StandsAt}
-use Rattle.sound_state.specs.StepsLeft.{steps_left}
+use Rattle.calls_end.specs.StepsLeft.{steps_left}
 use Rattle.errand_steps.proofs.BegunErrands.{idle-is}
-use Rattle.step_core.specs.Cores.{OwnsAfter}
-use Rattle.step_core.specs.Moments.{IsMoment}
-use Rattle.step_core.specs.Needs.{IsNeed-prop}
-use Rattle.step_core.proofs.MomentAnswers.{moment-meant, moment-owns}
+use Rattle.step_machine.specs.Cores.{OwnsAfter}
+use Rattle.step_machine.specs.Moments.{IsMoment}
+use Rattle.step_machine.specs.Needs.{IsNeed-prop}
+use Rattle.step_machine.proofs.MomentAnswers.{moment-meant, moment-owns}
 use Rattle.live_heap.specs.declared.answers.Ending.{Ending}
 use Rattle.live_heap.specs.declared.answers.Ending.TheVariants as ending
 use Rattle.live_heap.specs.declared.answers.Full.{Full}
@@ -156,38 +156,38 @@ pub put-won :
     (shelf place : ℕ) (need : Need) (o : Continuation) (x : Find) → x.won ≡ true
     → next_of (point.Large (large.PutBlock shelf place need) o) x ≡ next.End reply.Put
 unfolding next_of
-put-won shelf place need o x won = ap (λ w. enter_large (if w then large.PutDone else large.ShelfFull x.value) o) won
+put-won shelf place need o x won = ap (λ w. leave_large (if w then large_exit.PutDone else large_exit.ShelfFull x.value) o) won
 
 pub put-lost :
     (shelf place : ℕ) (need : Need) (o : Continuation) (x : Find) → x.won ≡ false
     → next_of (point.Large (large.PutBlock shelf place need) o) x ≡ next.End (reply.Full x.value)
 unfolding next_of
-put-lost shelf place need o x lost = ap (λ w. enter_large (if w then large.PutDone else large.ShelfFull x.value) o) lost
+put-lost shelf place need o x lost = ap (λ w. leave_large (if w then large_exit.PutDone else large_exit.ShelfFull x.value) o) lost
 
 take-won :
     (shelf place : ℕ) (need : Need) (o : Continuation) (x : Find) → x.won ≡ true
     → next_of (point.Large (large.TakeBlock shelf place need) o) x ≡ next.End (reply.Got place need)
 unfolding next_of
 take-won shelf place need o x won =
-    ap (λ w. enter_large (if w then large.Got place need else large.Missed (shelf_word (lies.Block place need)) x.value) o) won
+    ap (λ w. leave_large (if w then large_exit.Got place need else large_exit.Missed (shelf_word (lies.Block place need)) x.value) o) won
 
 take-lost :
     (shelf place : ℕ) (need : Need) (o : Continuation) (x : Find) → x.won ≡ false
     → next_of (point.Large (large.TakeBlock shelf place need) o) x ≡ next.End (reply.Missed (shelf_word (lies.Block place need)) x.value)
 unfolding next_of
 take-lost shelf place need o x lost =
-    ap (λ w. enter_large (if w then large.Got place need else large.Missed (shelf_word (lies.Block place need)) x.value) o) lost
+    ap (λ w. leave_large (if w then large_exit.Got place need else large_exit.Missed (shelf_word (lies.Block place need)) x.value) o) lost
 
 none-won :
     (shelf : ℕ) (o : Continuation) (x : Find) → x.won ≡ true → next_of (point.Large (large.ConfirmNothing shelf) o) x ≡ next.End reply.Empty
 unfolding next_of
-none-won shelf o x won = ap (λ w. enter_large (if w then large.NothingThere else large.Missed (shelf_word lies.Nothing) x.value) o) won
+none-won shelf o x won = ap (λ w. leave_large (if w then large_exit.NothingThere else large_exit.Missed (shelf_word lies.Nothing) x.value) o) won
 
 none-lost :
     (shelf : ℕ) (o : Continuation) (x : Find) → x.won ≡ false
     → next_of (point.Large (large.ConfirmNothing shelf) o) x ≡ next.End (reply.Missed (shelf_word lies.Nothing) x.value)
 unfolding next_of
-none-lost shelf o x lost = ap (λ w. enter_large (if w then large.NothingThere else large.Missed (shelf_word lies.Nothing) x.value) o) lost
+none-lost shelf o x lost = ap (λ w. leave_large (if w then large_exit.NothingThere else large_exit.Missed (shelf_word lies.Nothing) x.value) o) lost
 
 -- a write has ended behind its one step, and a read
 pub write-told :
@@ -337,19 +337,11 @@ put-full p b q block shelf told full is stepped calling =
     }
 
 -- the first step of a take leads on
-shelf-answers :
-    (e : ErrandFields) (shelf : ℕ) (w : Option ShelfWord)
-    → told_by (after_turn e (after_list e (enter_large (after_shelf shelf w) Nothing))) false false ≡ progress.More
-shelf-answers e shelf None = refl
-shelf-answers e shelf (Some lies.Nothing) = refl
-shelf-answers e shelf (Some (lies.Block place need)) = refl
-
 pub shelf-loads :
     (e : ErrandFields) (shelf : ℕ) (x : Find) → e.point ≡ point.Large (large.LoadShelf shelf) Nothing → answer_of e x ≡ progress.More
 unfolding answer_of course_of next_of plan_point_of
 shelf-loads e shelf x at =
     ap (λ p. told_by (after_turn e (after_list e (next_of p x))) (counts_lost p x) (counts_cleared p x)) at
-    ∙ shelf-answers e shelf (shelf_of x.value)
 
 first-more :
     (p b q : Pass) (shelf : ℕ) (told : Step) → HasBegun p (take shelf) b → HasStepped b q told → told ≡ step.More
@@ -456,14 +448,9 @@ unfolding settle_of course_of
 end-settles e x r is won lost cleared = rw (is, won, lost, cleared) refl
 
 -- where a shelf's word leads is a point
-shelf-leads : (shelf : ℕ) (w : Option ShelfWord) → (p : Point) × (enter_large (after_shelf shelf w) Nothing ≡ next.At p)
-shelf-leads shelf None = (point.Large (large.LoadShelf shelf) Nothing, refl)
-shelf-leads shelf (Some lies.Nothing) = (point.Large (large.ConfirmNothing shelf) Nothing, refl)
-shelf-leads shelf (Some (lies.Block place need)) = (point.Large (large.TakeBlock shelf place need) Nothing, refl)
-
 load-leads : (shelf : ℕ) (x : Find) → (p : Point) × (next_of (point.Large (large.LoadShelf shelf) Nothing) x ≡ next.At p)
 unfolding next_of
-load-leads shelf x = shelf-leads shelf (shelf_of x.value)
+load-leads shelf x = (point.Large (after_shelf shelf (shelf_of x.value)) Nothing, refl)
 
 -- the counts of the steps of a take
 record IsQuiet (p : Point) (x : Find) (loses : Bool) : Type 0 where

@@ -23,7 +23,7 @@ use Rattle.errand_steps.specs.declared.reply.Reply.{Reply}
 use Rattle.errand_steps.specs.declared.reply.Reply.TheVariants as reply
 use Rattle.errand_steps.specs.Calls.{Call, alloc, free, put, read, take, write}
 use Rattle.call_events.specs.Ends.{HasEnded, end_of}
-use Rattle.call_events.specs.Stages.{Stage, asking, asking_run, freed, freeing, given, putting, reading, refused, stage_of, taking, writing}
+use Rattle.call_events.specs.Stages.{StageOfCall, asking, asking_run, freed, freeing, given, putting, reading, refused, stage_of, taking, writing}
 use Rattle.call_events.specs.UnderWay.{HasLooked, SoFar}
 use Rattle.live_heap.specs.declared.heap.Heap.{Heap}
 use Rattle.live_heap.specs.declared.pass.Pass.{Pass}
@@ -247,7 +247,7 @@ module _
   looked-quiet class false h = subst AllQuiet (sym h.1) (looks-quiet by class h.0)
   looked-quiet class true h = subst AllQuiet (sym h.1) (looks-quiet by class (suc h.0))
 
-  so_far-changes : (call : Call) (at : Stage) → SoFar by call at added → HasChangedSoFar p call at q
+  so_far-changes : (call : Call) (at : StageOfCall) → SoFar by call at added → HasChangedSoFar p call at q
   so_far-changes (alloc n) (asking words class looked) so = quiet-same g p q added legal same adds (looked-quiet class looked so.2)
   so_far-changes (alloc n) (asking_run words units) so = quiet-same g p q added legal same adds (none-quiet added so.2)
   so_far-changes (alloc n) refused so = quiet-same g p q added legal same adds (refusing-quiet by n (need_of n) added so)

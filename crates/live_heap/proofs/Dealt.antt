@@ -4,15 +4,15 @@ use Rattle.std.specs.Prelude.{if◌then◌else◌}
 use Rattle.atomic_table.specs.Table.{Me}
 use Rattle.heap_geometry.specs.declared.geometry.Geometry.{Geometry}
 use Rattle.heap_geometry.specs.Geometry.{IsChecked}
-use Rattle.word_plan.specs.Table.{exists}
+use Rattle.word_table.specs.Table.{exists}
 use Rattle.pool_model.specs.declared.event.Event.{Event}
 use Rattle.errand_steps.specs.Errands.{ErrandFields, open_errand}
 use Rattle.errand_steps.specs.Openings.{opening}
 use Rattle.errand_steps.specs.Steps.{State}
-use Rattle.sound_state.specs.Wins.{no_wins}
-use Rattle.step_core.specs.Cores.{IsReached}
-use Rattle.step_core.specs.Moments.{IsServed}
-use Rattle.step_core.proofs.MomentLemmas.{reached-served}
+use Rattle.lost_exchanges.specs.Wins.{no_wins}
+use Rattle.step_machine.specs.Cores.{IsReached}
+use Rattle.step_machine.specs.Moments.{IsServed}
+use Rattle.step_machine.proofs.MomentLemmas.{reached-served}
 use Rattle.live_heap.specs.declared.heap.Heap.{Heap}
 use Rattle.live_heap.specs.declared.pass.Pass.{Pass}
 use Rattle.live_heap.specs.declared.view.View.{View}

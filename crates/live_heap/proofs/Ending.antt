@@ -17,19 +17,19 @@ use Rattle.pool_model.specs.Legal.{IsLegal}
 use Rattle.errand_steps.specs.Begins.{IsIdle}
 use Rattle.errand_steps.specs.Errands.{ErrandFields}
 use Rattle.errand_steps.specs.Openings.{opening, IsOpening}
-use Rattle.sound_state.specs.Contention.{is_by, lost_of, won_of}
+use Rattle.lost_exchanges.specs.Contention.{is_by, lost_of, won_of}
 use Rattle.sound_state.specs.Moves.{is_step_of}
 use Rattle.sound_state.specs.Sums.{callers_sum}
-use Rattle.sound_state.specs.Wins.{Win}
-use Rattle.sound_state.proofs.wins.CountLemmas.{count-append}
-use Rattle.step_core.specs.Cores.{IsReached, errand_at, no_errand}
-use Rattle.step_core.proofs.CoreLemmas.{run-sound, run-won}
+use Rattle.lost_exchanges.specs.Wins.{Win}
+use Rattle.lost_exchanges.proofs.CountLemmas.{count-append}
+use Rattle.step_machine.specs.Cores.{IsReached, errand_at, no_errand}
+use Rattle.step_machine.proofs.CoreLemmas.{run-sound, run-won}
 use Rattle.live_heap.specs.declared.pass.Pass.{Pass}
 use Rattle.live_heap.specs.declared.view.Standing.{Standing}
 use Rattle.live_heap.specs.declared.view.View.{View}
 use Rattle.live_heap.specs.Endings.{HasAccesses, HasTakenIn, IsCounted, IsIn, IsResting, closed_with, errand_in, errands_from}
 use Rattle.live_heap.specs.Passes.{accesses, seen}
-use Rattle.live_heap.specs.Rule.{Stands, Kept, state_with}
+use Rattle.live_heap.specs.Rule.{Stands, KeptTable, state_with}
 use Rattle.live_heap.proofs.Totals.{HasCaller, all-callers}
 use Rattle.live_heap.proofs.Growing.{own-between, rest-none}
 
@@ -154,7 +154,7 @@ no_wins_left g seen (x ∷ xs) has none =
     absurd (omega (arith, one, more, nothing))
 
 -- at the end the words and what the last seat knows are a machine at rest, with the whole history
-module _ (g : Geometry) (words : List ℕ) (views : List View) (id : ℕ) (v : View) (h : Kept g words views) (at : get_elem? views id ≡ some v)
+module _ (g : Geometry) (words : List ℕ) (views : List View) (id : ℕ) (v : View) (h : KeptTable g words views) (at : get_elem? views id ≡ some v)
     (len : length v.callers ≡ g.callers) where
   stands : Stands g h.errands h.events h.run.wins.list h.run.moves h.place id v
   stands = h.each id v at
@@ -270,7 +270,7 @@ module _ (g : Geometry) (words : List ℕ) (views : List View) (id : ℕ) (v : V
 pub record IsLast (g : Geometry) (words : List ℕ) (v : View) : Type 0 where
   pub views : List View
   pub id : ℕ
-  pub kept : Kept g words views
+  pub kept : KeptTable g words views
   pub at : get_elem? views id ≡ some v
   pub all : length v.callers ≡ g.callers
 

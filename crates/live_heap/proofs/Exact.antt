@@ -13,9 +13,9 @@ use Rattle.pool_model.proofs.OwnedLemmas.{of-self, owned-found}
 use Rattle.errand_steps.specs.declared.reply.Reply.{Reply}
 use Rattle.errand_steps.specs.declared.reply.Reply.TheVariants as reply
 use Rattle.errand_steps.specs.Calls.{Call, alloc, free, put, take, write}
-use Rattle.call_events.specs.Stages.{Stage, freed, given, stage_of}
+use Rattle.call_events.specs.Stages.{StageOfCall, freed, given, stage_of}
 use Rattle.call_events.specs.UnderWay.{SoFar}
-use Rattle.step_core.specs.Cores.{OwnsAfter}
+use Rattle.step_machine.specs.Cores.{OwnsAfter}
 use Rattle.live_heap.specs.declared.block.Block.{Block}
 use Rattle.live_heap.specs.declared.heap.Heap.{Heap}
 use Rattle.live_heap.specs.declared.pass.Pass.{Pass}
@@ -181,7 +181,7 @@ whole-exact h k p q call answer had has (at_once words is_alloc spent once, may,
     subst (HoldsExactly q) (sym same_hand) (subst (λ (r : Pass). HoldsExactly r had) (sym once.same) held)
 
 so_far-exact :
-    (p q : Pass) (call : Call) (at : Stage) (added : List Event) (had has : List Block) → SoFar p.errand.caller call at added
+    (p q : Pass) (call : Call) (at : StageOfCall) (added : List Event) (had has : List Block) → SoFar p.errand.caller call at added
     → HasChangedSoFar p call at q → ChangesHandSoFar call at had has → HoldsExactly p had → HoldsExactly q has
 so_far-exact p q (alloc words) (given place need) added had has so changes hand held =
     gained-exact p q had has place need (fresh_block p.errand.caller words place) changes.nothing changes.given (sym so.0) hand held

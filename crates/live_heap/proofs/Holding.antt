@@ -9,7 +9,7 @@ use Rattle.errand_steps.specs.declared.reply.Reply.TheVariants as reply
 use Rattle.errand_steps.specs.Begins.{IsBusy, IsIdle}
 use Rattle.errand_steps.specs.Calls.{Call, alloc, free, put, take as take_call}
 use Rattle.errand_steps.specs.Errands.{ErrandFields}
-use Rattle.step_core.specs.Keeping.{Leaves}
+use Rattle.step_machine.specs.Keeping.{LeavesPlace}
 use Rattle.live_heap.specs.declared.answers.AllocAnswer.{AllocAnswer}
 use Rattle.live_heap.specs.declared.answers.AllocAnswer.TheVariants as alloc_answer
 use Rattle.live_heap.specs.declared.answers.FreeAnswer.{FreeAnswer}
@@ -123,12 +123,12 @@ holds-removed p blocks rest number block within is left held =
 -- a call that has ended leaves in the hand what it gives not away
 pub ended-hand :
     (h : Heap) (p q : Pass) (blocks : List Block) (call : Call) (steps : ℕ) (answer : Reply) → IsOf h p → IsOf h q
-    → HasCalled p call steps answer q → All (λ block. Leaves call block.place) blocks → Holds p blocks → IsHand h q blocks
+    → HasCalled p call steps answer q → All (λ block. LeavesPlace call block.place) blocks → Holds p blocks → IsHand h q blocks
 ended-hand h p q blocks call steps answer of of_new called leaves held =
     record {
       of = of_new;
       holds = λ idle.
-          holds-kept (λ block. Leaves call block.place) p q
+          holds-kept (λ block. LeavesPlace call block.place) p q
           (λ block left owns. called-keeps h p q call steps answer block of of_new called left owns) blocks leaves held;
       waits = λ busy. absurd (idle-free q.errand called.idle busy);
     }
@@ -158,7 +158,7 @@ brought-hand h q blocks block idle owns apart hand =
 -- a call that is interrupted waits with the others
 pub interrupted-hand :
     (h : Heap) (first p q : Pass) (blocks : List Block) (call : Call) (made tries : ℕ) → IsOf h first → IsOf h q
-    → IsInterrupted first call made p tries q → IsTried call → All (λ block. Leaves call block.place) blocks → Holds first blocks
+    → IsInterrupted first call made p tries q → IsTried call → All (λ block. LeavesPlace call block.place) blocks → Holds first blocks
     → IsHand h q blocks
 interrupted-hand h first p q blocks call made tries of of_new i tried leaves held =
     record {
@@ -182,13 +182,13 @@ pub plus-nothing : (h : Heap) (q : Pass) (blocks : List Block) → IsHand h q bl
 plus-nothing h q blocks hand = subst (IsHand h q) (sym (append-nil blocks)) hand
 
 -- no call of an allocation gives a block away
-alloc-leaves : (need : ℕ) (blocks : List Block) → All (λ block. Leaves (alloc need) block.place) blocks
+alloc-leaves : (need : ℕ) (blocks : List Block) → All (λ block. LeavesPlace (alloc need) block.place) blocks
 alloc-leaves need blocks k d within = tt
 
 -- a resumed or a first allocation or free: what it was given is in the hand
 pub resume-hand :
     (h : Heap) (first p q : Pass) (blocks : List Block) (call : Call) (made tries : ℕ) (answer : Resumed) → IsOf h first → IsOf h q
-    → ResumeTells first call made p tries answer q → IsTried call → All (λ block. Leaves call block.place) blocks → Holds first blocks
+    → ResumeTells first call made p tries answer q → IsTried call → All (λ block. LeavesPlace call block.place) blocks → Holds first blocks
     → IsHand h q (blocks ++ resumed_by answer)
 resume-hand h first p q blocks call made tries (resumed.Given block) of of_new tells tried leaves held =
     let e : EndsInTime first call made p tries (reply.Given block.place block.need) q = tells.0 in

@@ -18,8 +18,8 @@ use Rattle.errand_steps.specs.Steps.{State, event_at, found_at, with_event}
 use Rattle.errand_steps.proofs.EventLemmas.{event_own}
 use Rattle.call_events.specs.Ends.{HasEnded}
 use Rattle.sound_state.specs.Answers.{IsMeant}
-use Rattle.step_core.specs.Moments.{IsMoment}
-use Rattle.step_core.proofs.MomentAnswers.{moment-caller, moment-meant}
+use Rattle.step_machine.specs.Moments.{IsMoment}
+use Rattle.step_machine.proofs.MomentAnswers.{moment-caller, moment-meant}
 use Rattle.live_heap.specs.declared.pass.Pass.{Pass}
 use Rattle.live_heap.specs.Calls.{HasCalled}
 use Rattle.live_heap.specs.Contents.{tells_last}

@@ -25,11 +25,11 @@ use Rattle.errand_steps.specs.Errands.{ErrandFields}
 use Rattle.errand_steps.specs.Steps.{event_at}
 use Rattle.call_events.specs.Ends.{HasEnded, end_of}
 use Rattle.call_events.specs.Stages.{stage_of}
-use Rattle.step_core.specs.Cores.{OwnsAfter}
-use Rattle.step_core.specs.Keeping.{AllSpare, Leaves, LeavesAtEnd}
-use Rattle.step_core.specs.Moments.{IsMoment}
-use Rattle.step_core.proofs.KeepLemmas.{owns-rest}
-use Rattle.step_core.proofs.SpareLemmas.{so_far-spares, events-spare}
+use Rattle.step_machine.specs.Cores.{OwnsAfter}
+use Rattle.step_machine.specs.Keeping.{AllSpare, LeavesPlace, LeavesAtEnd}
+use Rattle.step_machine.specs.Moments.{IsMoment}
+use Rattle.step_machine.proofs.KeepLemmas.{owns-rest}
+use Rattle.step_machine.proofs.SpareLemmas.{so_far-spares, events-spare}
 use Rattle.live_heap.specs.declared.block.Block.{Block}
 use Rattle.live_heap.specs.declared.heap.Heap.{Heap}
 use Rattle.live_heap.specs.declared.pass.Pass.{Pass}
@@ -95,7 +95,7 @@ owns-on g caller place need before after added legal adds spares owns =
     (subst (AllSpare place) (sym adds.2) spares) owns)
 
 -- a call that gives no block away ends so
-leaves-some : (call : Call) (answer : Reply) (place : ℕ) → Leaves call place → IfSome (end_of call answer) (λ end. LeavesAtEnd end place)
+leaves-some : (call : Call) (answer : Reply) (place : ℕ) → LeavesPlace call place → IfSome (end_of call answer) (λ end. LeavesAtEnd end place)
 leaves-some (alloc words) (reply.Given at need) place leaves = tt
 leaves-some (alloc words) reply.Refused place leaves = tt
 leaves-some (alloc words) reply.Spent place leaves = tt
@@ -110,7 +110,7 @@ leaves-some (take shelf) (reply.Missed expected found) place leaves = tt
 leaves-some call answer place leaves = tt
 
 pub ended-spares :
-    (caller place : ℕ) (call : Call) (answer : Reply) (added : List Event) → Leaves call place → HasEnded caller call answer added
+    (caller place : ℕ) (call : Call) (answer : Reply) (added : List Event) → LeavesPlace call place → HasEnded caller call answer added
     → AllSpare place added
 ended-spares caller place call answer added leaves h =
     events-spare place caller h.ended.0 added
@@ -119,14 +119,14 @@ ended-spares caller place call answer added leaves h =
 -- a pass keeps its blocks through a call, but for the one that a free or a put is about
 pub called-keeps :
     (h : Heap) (p q : Pass) (call : Call) (steps : ℕ) (answer : Reply) (block : Block) → IsOf h p → IsOf h q → HasCalled p call steps answer q
-    → Leaves call block.place → Owns p block → Owns q block
+    → LeavesPlace call block.place → Owns p block → Owns q block
 called-keeps h p q call steps answer block was of called leaves owns =
     subst (λ c. OwnsAfter (seen q) c block.place block.need) (sym called.caller)
     (owns-on h.layout p.errand.caller block.place block.need (seen p) (seen q) called.added of.served.legal (called-adds p q call steps answer called)
     (ended-spares p.errand.caller block.place call answer called.added leaves called.ended) owns)
 
 pub calling-keeps :
-    (h : Heap) (p q : Pass) (call : Call) (steps : ℕ) (block : Block) → IsOf h p → IsOf h q → IsCalling p call steps q → Leaves call block.place
+    (h : Heap) (p q : Pass) (call : Call) (steps : ℕ) (block : Block) → IsOf h p → IsOf h q → IsCalling p call steps q → LeavesPlace call block.place
     → Owns p block → Owns q block
 calling-keeps h p q call steps block was of calling leaves owns =
     subst (λ c. OwnsAfter (seen q) c block.place block.need) (sym calling.caller)

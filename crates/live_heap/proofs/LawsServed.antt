@@ -20,7 +20,7 @@ use Rattle.sound_state.specs.Runs.{MayBegin}
 use Rattle.sound_state.specs.TurnStages.{turn_stage_of, out_of_turn, lacks_answer, is_unneeded}
 use Rattle.sound_state.specs.Turns.{one_if, errand_discards, turn_unanswered}
 use Rattle.errand_steps.proofs.BegunErrands.{idle-is, alloc-errand, free-errand, write-errand, read-errand, put-errand, take-errand}
-use Rattle.step_core.specs.Moments.{IsServed}
+use Rattle.step_machine.specs.Moments.{IsServed}
 use Rattle.live_heap.specs.declared.heap.Heap.{Heap}
 use Rattle.live_heap.specs.declared.pass.Pass.{Pass}
 use Rattle.live_heap.specs.Passes.{IsOf, seen}

@@ -6,12 +6,12 @@ use Rattle.heap_geometry.specs.declared.geometry.Geometry.{Geometry}
 use Rattle.placed_words.specs.Places.{placed_count, words_at}
 use Rattle.placed_words.specs.Writes.{Wrote, word_at}
 use Rattle.placed_words.proofs.WordsLemmas.{at-word_name, length-words_at}
-use Rattle.step_core.specs.Firsts.{IsTable}
-use Rattle.word_plan.specs.Counts.{descriptor_count, word_count}
-use Rattle.word_plan.specs.Table.{Exists, word_name}
-use Rattle.word_plan.specs.declared.name.WordName.{WordName}
-use Rattle.word_plan.specs.declared.name.WordName.TheVariants.{Arena, Anchor, Next, Info, Active, Slot, ListHead, FrameNext, FrameHead, DescHead, Hazard, Units, Shelf}
-use Rattle.word_plan.proofs.TableLemmas.{word_name-Exists}
+use Rattle.step_machine.specs.Firsts.{IsTable}
+use Rattle.word_table.specs.Counts.{descriptor_count, word_count}
+use Rattle.word_table.specs.Table.{Exists, word_name}
+use Rattle.word_table.specs.declared.name.WordName.{WordName}
+use Rattle.word_table.specs.declared.name.WordName.TheVariants.{Arena, Anchor, Next, Info, Active, Slot, ListHead, FrameNext, FrameHead, DescHead, Hazard, Units, Shelf}
+use Rattle.word_table.proofs.TableLemmas.{word_name-Exists}
 use Rattle.live_heap.specs.Linked.{AreLinked, IsNoLink}
 
 pub none-linked :

@@ -11,15 +11,15 @@ use Rattle.placed_words.specs.Places.{place}
 use Rattle.placed_words.proofs.StepLemmas.{allows-at_place}
 use Rattle.heap_geometry.specs.declared.geometry.Geometry.{Geometry}
 use Rattle.heap_geometry.specs.declared.need.Need.{Need}
-use Rattle.word_plan.specs.declared.action.Action.{Action}
-use Rattle.word_plan.specs.declared.action.Action.TheVariants.{Load, Store, Cas, Swap, And}
-use Rattle.word_plan.specs.declared.action.Found.{Found as Find}
-use Rattle.word_plan.specs.declared.name.WordName.{WordName}
-use Rattle.word_plan.specs.Actions.{name_of, after_action, found_by}
-use Rattle.word_plan.specs.Counts.{word_count}
-use Rattle.word_plan.specs.Table.{Exists, word_index}
-use Rattle.word_plan.specs.Words.{word_in}
-use Rattle.word_plan.proofs.WordLemmas.{Writes-set, word_in-there}
+use Rattle.word_table.specs.declared.action.Action.{Action}
+use Rattle.word_table.specs.declared.action.Action.TheVariants.{Load, Store, Cas, Swap, And}
+use Rattle.word_table.specs.declared.action.Found.{Found as Find}
+use Rattle.word_table.specs.declared.name.WordName.{WordName}
+use Rattle.word_table.specs.Actions.{name_of, after_action, found_by}
+use Rattle.word_table.specs.Counts.{word_count}
+use Rattle.word_table.specs.Table.{Exists, word_index}
+use Rattle.word_table.specs.Words.{word_in}
+use Rattle.word_table.proofs.WordLemmas.{Writes-set, word_in-there}
 use Rattle.pool_model.specs.declared.event.Event.{Event}
 use Rattle.pool_model.specs.Histories.{own}
 use Rattle.pool_model.specs.Legal.{IsLegal}
@@ -36,17 +36,17 @@ use Rattle.errand_steps.proofs.EventLemmas.{event_own}
 use Rattle.errand_steps.proofs.PlanLemmas.{plan-exists}
 use Rattle.sound_state.specs.Recalls.{IsOwned}
 use Rattle.sound_state.specs.Moves.{is_step_of}
-use Rattle.sound_state.specs.Runs.{MayBegin, Begins, Move, begins, steps}
+use Rattle.sound_state.specs.Runs.{MayBegin, BeginsCall, Move, begins, steps}
 use Rattle.sound_state.specs.Sound.{IsSound, IsOwnErrand}
-use Rattle.sound_state.specs.Wins.{Win, Wins, win_list_after, win_at}
-use Rattle.step_core.specs.Cores.{IsLonger, IsReached, made_with, no_errand}
-use Rattle.step_core.specs.Moments.{IsServed}
-use Rattle.step_core.proofs.CoreLemmas.{run-sound, run-longer}
-use Rattle.step_core.proofs.MomentAnswers.{settle-caller}
-use Rattle.step_core.proofs.MomentLemmas.{reached-served}
+use Rattle.lost_exchanges.specs.Wins.{Win, Wins, win_list_after, win_at}
+use Rattle.step_machine.specs.Cores.{IsLonger, IsReached, made_with, no_errand}
+use Rattle.step_machine.specs.Moments.{IsServed}
+use Rattle.step_machine.proofs.CoreLemmas.{run-sound, run-longer}
+use Rattle.step_machine.proofs.MomentAnswers.{settle-caller}
+use Rattle.step_machine.proofs.MomentLemmas.{reached-served}
 use Rattle.live_heap.specs.declared.view.Standing.{Standing}
 use Rattle.live_heap.specs.declared.view.View.{View}
-use Rattle.live_heap.specs.Rule.{IsStanding, Stands, Kept, PlacesHold, TableHolds, state_with}
+use Rattle.live_heap.specs.Rule.{IsStanding, Stands, KeptTable, PlacesHold, TableHolds, state_with}
 use Rattle.live_heap.specs.Sights.{IsBegun, Saw, TakesStep, after_events, found_in}
 use Rattle.live_heap.proofs.Alone.{reached-alone}
 use Rattle.live_heap.proofs.Growing.{IsBy, begin-uncounted, own-between, own-others, rest-none, starts-event, starts-more, starts-self, step-counted, steps-others, wins-others}
@@ -122,7 +122,7 @@ module _ (g : Geometry) (words : List ℕ) (errands : ℕ → ErrandFields) (log
       let s = state_with g words errands log in
       let e = begun_by (errands caller) call in
       let s' = state_with g words (moved errands caller e) log in
-      let b : Begins s caller call s' = record {
+      let b : BeginsCall s caller call s' = record {
         idle = idle;
         may = may;
         errands = moved errands caller e;
@@ -204,7 +204,7 @@ only : {A : Type 0} (x y : A) (k : ℕ) → get_elem? (x ∷ []) k ≡ some y �
 only x y zero e = (refl, some-injective x y e)
 only x y (suc k) e = absurd (some-ne-none y (sym e))
 
-module _ (g : Geometry) (words : List ℕ) (views : List View) (id : ℕ) (v : View) (before : Standing) (e : ErrandFields) (k : Kept g words views)
+module _ (g : Geometry) (words : List ℕ) (views : List View) (id : ℕ) (v : View) (before : Standing) (e : ErrandFields) (k : KeptTable g words views)
     (at : get_elem? views id ≡ some v) (one : v.callers ≡ before ∷ []) (b : IsBegun v.seen before.errand e) (busy : IsBusy e) where
   abbrev caller : ℕ
   caller = e.caller
@@ -394,7 +394,7 @@ module _ (g : Geometry) (words : List ℕ) (views : List View) (id : ℕ) (v : V
       (λ (t : (j ≢ id) × (get_elem? views j ≡ some u)). others_then j u t.0 t.1)
       (at_set views id j view_then u is)
 
-  kept_then : Kept g words_then (slice_set views id view_then)
+  kept_then : KeptTable g words_then (slice_set views id view_then)
   kept_then = record {
     whole = length-set words _ _ ∙ k.whole;
     errands = errands_then;

@@ -4,8 +4,8 @@ use Rattle.std.specs.Prelude.{IsTrue}
 use Rattle.std.proofs.lemmas.Bool.{cases_Bool, false≢true}
 use Rattle.heap_geometry.specs.declared.geometry.Geometry.{Geometry}
 use Rattle.heap_geometry.specs.declared.need.Need.{Need}
-use Rattle.word_plan.specs.declared.action.Found.{Found as Find}
-use Rattle.word_plan.specs.declared.seat.Site.{Site}
+use Rattle.word_table.specs.declared.action.Found.{Found as Find}
+use Rattle.word_table.specs.declared.seat.Site.{Site}
 use Rattle.partial_parts.specs.declared.point.PartialPoint.TheVariants as partial
 use Rattle.partial_parts.specs.Points.{seat_of_partial}
 use Rattle.pool_model.specs.declared.event.Event.{Event}
@@ -21,11 +21,11 @@ use Rattle.errand_steps.specs.Errands.{ErrandFields, settle_of, counts_cleared, 
 use Rattle.errand_steps.specs.Events.{event_of}
 use Rattle.errand_steps.specs.Fits.{FitsContinuation, FitsPoint}
 use Rattle.errand_steps.specs.Steps.{with_event}
-use Rattle.call_events.specs.Stages.{Stage, asking, asking_run, refused, given, freeing, freed, writing, reading, putting, taking, none, stage_of}
+use Rattle.call_events.specs.Stages.{StageOfCall, asking, asking_run, refused, given, freeing, freed, writing, reading, putting, taking, none, stage_of}
 use Rattle.call_events.specs.UnderWay.{IsUnderWay, SoFar}
 use Rattle.call_events.proofs.AnswerLemmas.{step-goes_on}
-use Rattle.step_core.specs.Moments.{IsMoment}
-use Rattle.step_core.proofs.MomentAnswers.{settle-caller}
+use Rattle.step_machine.specs.Moments.{IsMoment}
+use Rattle.step_machine.proofs.MomentAnswers.{settle-caller}
 use Rattle.live_heap.specs.declared.answers.FreeAnswer.TheVariants as free_answer
 use Rattle.live_heap.specs.declared.answers.Resumed.TheVariants as resumed
 use Rattle.live_heap.specs.declared.answers.Taken.TheVariants as taken
@@ -101,7 +101,7 @@ steps-keep (suc n) e before f after on out =
 
 -- no stage of a free is one of an allocation
 free-elsewhere :
-    (caller other place words : ℕ) (need : Need) (stage : Stage) (es fs : List Event) → SoFar caller (free place need) stage es
+    (caller other place words : ℕ) (need : Need) (stage : StageOfCall) (es fs : List Event) → SoFar caller (free place need) stage es
     → SoFar other (alloc words) stage fs → ⊥
 free-elsewhere caller other place words need (asking w c looked) es fs so also = so
 free-elsewhere caller other place words need (asking_run w units) es fs so also = so

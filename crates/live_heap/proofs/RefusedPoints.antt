@@ -8,11 +8,11 @@ use Rattle.heap_geometry.specs.declared.need.Need.TheVariants.{Small, Large}
 use Rattle.heap_geometry.specs.Need.{need_of}
 use Rattle.packed_words.specs.Head.{HeadFields, IsHead, head_of, head_word}
 use Rattle.packed_words.proofs.HeadLemmas.{head_of-head_word}
-use Rattle.word_plan.specs.declared.action.Found.{Found}
-use Rattle.word_plan.specs.declared.name.WordName.{WordName}
-use Rattle.word_plan.specs.declared.name.WordName.TheVariants.{FrameHead, ListHead}
-use Rattle.word_plan.specs.Actions.{found_by, name_of}
-use Rattle.word_plan.specs.Seats.{SeatFields}
+use Rattle.word_table.specs.declared.action.Found.{Found}
+use Rattle.word_table.specs.declared.name.WordName.{WordName}
+use Rattle.word_table.specs.declared.name.WordName.TheVariants.{FrameHead, ListHead}
+use Rattle.word_table.specs.Actions.{found_by, name_of}
+use Rattle.word_table.specs.Seats.{SeatFields}
 use Rattle.stack_parts.specs.declared.point.Pile.TheVariants.{Frames, Partials}
 use Rattle.stack_parts.specs.declared.point.StackPoint.TheVariants as stack
 use Rattle.large_parts.specs.declared.point.LargePoint.TheVariants as large

@@ -8,9 +8,9 @@ use Rattle.heap_geometry.specs.declared.need.Need.{Need}
 use Rattle.heap_geometry.specs.declared.need.Need.TheVariants.{Small, Large}
 use Rattle.heap_geometry.specs.Need.{need_of}
 use Rattle.packed_words.specs.Head.{head_of}
-use Rattle.word_plan.specs.declared.name.WordName.{WordName}
-use Rattle.word_plan.specs.declared.name.WordName.TheVariants.{FrameHead, ListHead}
-use Rattle.word_plan.specs.Actions.{name_of}
+use Rattle.word_table.specs.declared.name.WordName.{WordName}
+use Rattle.word_table.specs.declared.name.WordName.TheVariants.{FrameHead, ListHead}
+use Rattle.word_table.specs.Actions.{name_of}
 use Rattle.pool_model.specs.declared.event.Event.{Event}
 use Rattle.pool_model.specs.declared.event.Event.TheVariants.{Looked, Refuse}
 use Rattle.pool_model.specs.Calls.{EventsOf, IsRefusing, alloc_refused, looks}
@@ -28,8 +28,8 @@ use Rattle.errand_steps.specs.Errands.{ErrandFields, plan_of}
 use Rattle.errand_steps.specs.Fits.{FitsPoint}
 use Rattle.errand_steps.specs.Steps.{State, event_at, found_at, with_event}
 use Rattle.errand_steps.proofs.EventLemmas.{event_own}
-use Rattle.step_core.specs.Moments.{IsMoment}
-use Rattle.step_core.proofs.MomentAnswers.{moment-caller, moment-geometry, moment-settles, moment-sound, settle-geometry}
+use Rattle.step_machine.specs.Moments.{IsMoment}
+use Rattle.step_machine.proofs.MomentAnswers.{moment-caller, moment-geometry, moment-settles, moment-sound, settle-geometry}
 use Rattle.live_heap.specs.declared.pass.Pass.{Pass}
 use Rattle.live_heap.specs.Calls.{HasCalled, StepsOn}
 use Rattle.live_heap.specs.Passes.{seen}

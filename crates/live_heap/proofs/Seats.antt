@@ -10,23 +10,23 @@ use Rattle.placed_words.specs.Places.{placed_count}
 use Rattle.placed_words.proofs.PlaceLemmas.{place-least}
 use Rattle.heap_geometry.specs.declared.geometry.Geometry.{Geometry}
 use Rattle.heap_geometry.specs.Geometry.{IsChecked}
-use Rattle.word_plan.specs.Counts.{word_count}
-use Rattle.word_plan.specs.Table.{exists}
-use Rattle.word_plan.specs.Words.{word_in}
-use Rattle.word_plan.specs.declared.name.WordName.{WordName}
+use Rattle.word_table.specs.Counts.{word_count}
+use Rattle.word_table.specs.Table.{exists}
+use Rattle.word_table.specs.Words.{word_in}
+use Rattle.word_table.specs.declared.name.WordName.{WordName}
 use Rattle.errand_steps.specs.Errands.{open_errand}
 use Rattle.errand_steps.specs.Openings.{opening, IsOpening}
-use Rattle.word_plan.specs.declared.name.WordName.TheVariants.{FrameHead}
-use Rattle.word_plan.proofs.TableLemmas.{word_index-within}
-use Rattle.word_plan.proofs.NameLemmas.{exists-true, true-Exists}
-use Rattle.word_plan.proofs.WordLemmas.{word_in-nowhere}
-use Rattle.step_core.specs.Firsts.{IsTable}
-use Rattle.step_core.proofs.FirstLemmas.{table-words}
-use Rattle.sound_state.specs.Wins.{no_wins}
-use Rattle.step_core.specs.Cores.{IsReached, no_errand}
+use Rattle.word_table.specs.declared.name.WordName.TheVariants.{FrameHead}
+use Rattle.word_table.proofs.TableLemmas.{word_index-within}
+use Rattle.word_table.proofs.NameLemmas.{exists-true, true-Exists}
+use Rattle.word_table.proofs.WordLemmas.{word_in-nowhere}
+use Rattle.step_machine.specs.Firsts.{IsTable}
+use Rattle.step_machine.proofs.FirstLemmas.{table-words}
+use Rattle.lost_exchanges.specs.Wins.{no_wins}
+use Rattle.step_machine.specs.Cores.{IsReached, no_errand}
 use Rattle.live_heap.specs.declared.view.Standing.{Standing}
 use Rattle.live_heap.specs.declared.view.View.{View}
-use Rattle.live_heap.specs.Rule.{IsStanding, Stands, Kept, TableHolds, first_errands, state_with}
+use Rattle.live_heap.specs.Rule.{IsStanding, Stands, KeptTable, TableHolds, first_errands, state_with}
 use Rattle.live_heap.specs.Views.{idle_standing, idles_from, opening_view, first_part, first_caller, other_part, other_callers, gathered, spent_view, longer}
 use Rattle.live_heap.proofs.Growing.{StartsWith, starts-self, starts-on, count-between}
 
@@ -61,7 +61,7 @@ first-nobody g caller beyond = rw (ltb-beyond caller g.callers beyond) refl
 pub opens :
     (g : Geometry) (words : List ℕ) → IsChecked g → length words ≡ word_count g
     → ((name : WordName) → word_in g words name ≡ (if exists g name then opening g name else 0))
-    → Kept g words (opening_view g ∷ [])
+    → KeptTable g words (opening_view g ∷ [])
 opens g words checked whole are = record {
   whole = whole;
   errands = first_errands g;

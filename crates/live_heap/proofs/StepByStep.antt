@@ -2,7 +2,7 @@
 use Rattle.std.proofs.Common.{ℕ, zero, suc, ◌≡◌, ◌≢◌, inl, inr, refl, sym, ap, ◌∙◌, subst, arith}
 use Rattle.std.proofs.lemmas.Bool.{cases_Bool}
 use Rattle.heap_geometry.specs.declared.need.Need.{Need}
-use Rattle.word_plan.specs.declared.action.Found.{Found as Find}
+use Rattle.word_table.specs.declared.action.Found.{Found as Find}
 use Rattle.large_parts.specs.declared.point.LargePoint.TheVariants as large
 use Rattle.errand_steps.specs.declared.continuation.Continuation.{Continuation}
 use Rattle.errand_steps.specs.declared.continuation.Continuation.TheVariants.{Nothing}
@@ -16,7 +16,7 @@ use Rattle.errand_steps.specs.Begins.{alloc_answer, IsIdle, put_begun, read_begu
 use Rattle.errand_steps.specs.Calls.{Call, alloc, begun_by, free, write, read, put, take}
 use Rattle.errand_steps.specs.Errands.{ErrandFields}
 use Rattle.errand_steps.specs.Nexts.{next_of}
-use Rattle.step_core.proofs.MomentAnswers.{moment-meant}
+use Rattle.step_machine.proofs.MomentAnswers.{moment-meant}
 use Rattle.errand_steps.specs.declared.reply.Begun.{Begun}
 use Rattle.errand_steps.specs.declared.reply.Begun.TheVariants as begun
 use Rattle.live_heap.proofs.CallsCounts.{never-idle}

@@ -6,7 +6,7 @@ use Rattle.heap_geometry.specs.declared.need.Need.{Need}
 use Rattle.errand_steps.specs.declared.reply.Reply.TheVariants as reply
 use Rattle.errand_steps.specs.Begins.{IsBusy}
 use Rattle.errand_steps.specs.Calls.{Call, alloc, free, write, read, put, take}
-use Rattle.step_core.specs.Keeping.{Leaves}
+use Rattle.step_machine.specs.Keeping.{LeavesPlace}
 use Rattle.live_heap.specs.declared.answers.Ending.{Ending}
 use Rattle.live_heap.specs.declared.answers.Ending.TheVariants as ending
 use Rattle.live_heap.specs.declared.answers.Step.{Step}
@@ -28,7 +28,7 @@ use Rattle.live_heap.proofs.StepByStep.{steps-end, steps-on, steps-tell}
 module _ (h : Heap) (p q : Pass) (blocks : List Block) (of : IsOf h p) (held : Holds p blocks) (still : IsOf h q) where
   -- a put that found a full shelf has its block back
   full-hand :
-      (call : Call) (steps : ℕ) (block : Block) (found : ℕ) → All (λ block. Leaves call block.place) blocks
+      (call : Call) (steps : ℕ) (block : Block) (found : ℕ) → All (λ block. LeavesPlace call block.place) blocks
       → HasCalled p call steps (reply.Full found) q → EndTells call (ending.Full block found) q → IsHand h q (blocks ++ brought_by (ending.Full block found))
   full-hand (put place need shelf) steps block found leaves called tells =
       brought-hand h q blocks block called.idle tells.2
@@ -42,7 +42,7 @@ module _ (h : Heap) (p q : Pass) (blocks : List Block) (of : IsOf h p) (held : H
 
   -- what the end of a call brings is in the hand, with what the call left there
   pub done-hand :
-      (call : Call) (steps : ℕ) (end : Ending) → All (λ block. Leaves call block.place) blocks → HasCalled p call steps (reply_of end) q
+      (call : Call) (steps : ℕ) (end : Ending) → All (λ block. LeavesPlace call block.place) blocks → HasCalled p call steps (reply_of end) q
       → EndTells call end q → IsHand h q (blocks ++ brought_by end)
   done-hand call steps (ending.Given block) leaves called tells =
       brought-hand h q blocks block called.idle (given-owns p call steps q block called)
@@ -59,7 +59,7 @@ module _ (h : Heap) (p q : Pass) (blocks : List Block) (of : IsOf h p) (held : H
       plus-nothing h q blocks (ended-hand h p q blocks call steps (reply_of told) of still called leaves held)
 
   -- an allocation or a free that has begun waits with the others
-  pub begun-hand : (call : Call) → All (λ block. Leaves call block.place) blocks → IsTried call → IsCalling p call 0 q → IsHand h q blocks
+  pub begun-hand : (call : Call) → All (λ block. LeavesPlace call block.place) blocks → IsTried call → IsCalling p call 0 q → IsHand h q blocks
   begun-hand call leaves tried calling =
       record {
         of = still;

@@ -4,8 +4,8 @@ use Rattle.heap_geometry.specs.declared.geometry.Geometry.{Geometry}
 use Rattle.errand_steps.specs.declared.reply.Progress.{Progress}
 use Rattle.errand_steps.specs.Errands.{ErrandFields, settle_of, answer_of}
 use Rattle.errand_steps.specs.Offers.{offered_at}
-use Rattle.step_core.specs.Moments.{IsMoment, IsServed}
-use Rattle.step_core.proofs.MomentAnswers.{settle-caller}
+use Rattle.step_machine.specs.Moments.{IsMoment, IsServed}
+use Rattle.step_machine.proofs.MomentAnswers.{settle-caller}
 use Rattle.live_heap.specs.declared.answers.Step.{Step}
 use Rattle.live_heap.specs.declared.heap.Heap.{Heap}
 use Rattle.live_heap.specs.declared.pass.Pass.{Pass}

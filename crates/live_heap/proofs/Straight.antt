@@ -6,11 +6,11 @@ use Rattle.heap_geometry.specs.declared.need.Need.TheVariants.{Small, Large, Too
 use Rattle.heap_geometry.specs.Geometry.{IsChecked}
 use Rattle.heap_geometry.specs.Need.{usable_words}
 use Rattle.heap_geometry.proofs.PlaceLemmas.{block-within}
-use Rattle.word_plan.specs.declared.action.Action.TheVariants.{Load, Store}
-use Rattle.word_plan.specs.declared.action.Found.{Found as Find}
-use Rattle.word_plan.specs.declared.name.WordName.TheVariants.{Arena}
-use Rattle.word_plan.specs.Counts.{arena_words, word_count}
-use Rattle.word_plan.specs.Table.{start_of, word_index, words_in}
+use Rattle.word_table.specs.declared.action.Action.TheVariants.{Load, Store}
+use Rattle.word_table.specs.declared.action.Found.{Found as Find}
+use Rattle.word_table.specs.declared.name.WordName.TheVariants.{Arena}
+use Rattle.word_table.specs.Counts.{arena_words, word_count}
+use Rattle.word_table.specs.Table.{start_of, word_index, words_in}
 use Rattle.large_parts.specs.declared.point.LargePoint.TheVariants as large
 use Rattle.errand_steps.specs.declared.continuation.Continuation.TheVariants.{Nothing}
 use Rattle.errand_steps.specs.declared.point.Point.{Point}

@@ -2,7 +2,7 @@
 use Rattle.std.proofs.Common.{ℕ, ◌≡◌, List, IsSomeAnd, refl, sym, ap, ◌∙◌, subst}
 use Rattle.heap_geometry.specs.declared.need.Need.{Need}
 use Rattle.heap_geometry.specs.Need.{IsNeed}
-use Rattle.word_plan.specs.declared.action.Found.{Found as Find}
+use Rattle.word_table.specs.declared.action.Found.{Found as Find}
 use Rattle.pool_model.specs.declared.event.Event.{Event}
 use Rattle.errand_steps.specs.declared.point.Point.{Point}
 use Rattle.errand_steps.specs.declared.reply.Offer.{Offer}
@@ -20,8 +20,8 @@ use Rattle.sound_state.specs.Sound.{IsSound, IsOwnErrand}
 use Rattle.sound_state.proofs.CountedLemmas.{without-counts, steps-counted}
 use Rattle.sound_state.proofs.answers.StepAnswers.{answers-meant}
 use Rattle.sound_state.proofs.beginnings.BegunLemmas.{owned-block}
-use Rattle.step_core.specs.Moments.{IsMoment}
-use Rattle.step_core.proofs.MomentAnswers.{moment-meant, moment-sound}
+use Rattle.step_machine.specs.Moments.{IsMoment}
+use Rattle.step_machine.proofs.MomentAnswers.{moment-meant, moment-sound}
 use Rattle.live_heap.specs.Answers.{IsAnswerable}
 
 module _ (e f : ErrandFields) (before after : List Event) (answer : Progress) (m : IsMoment e f before after answer) where

@@ -1,8 +1,14 @@
 -- The step that a call makes without its errand, where it is not lost.
-use Rattle.std.proofs.Common.{ℕ, true, false, not, Option, Some, ◌≡◌, ◌<◌, refl, sym, ap, ◌∙◌, subst}
-use Rattle.word_plan.specs.declared.action.Action.{Action}
-use Rattle.word_plan.specs.declared.action.Action.TheVariants.{And, Cas, Load, Store, Swap}
-use Rattle.word_plan.specs.declared.action.Found.{Found as Find}
+use Rattle.std.proofs.Common.{ℕ, true, false, not, arith, Option, None, Some, is_some, ◌≡◌, ◌<◌, refl, sym, ap, ◌∙◌, subst}
+use Rattle.std.proofs.lemmas.Bool.{true≢false}
+use Rattle.std.proofs.lemmas.Option.{none-some}
+use Rattle.word_table.specs.declared.action.Action.{Action}
+use Rattle.word_table.specs.declared.action.Action.TheVariants.{And, Cas, Load, Store, Swap}
+use Rattle.word_table.specs.declared.action.Found.{Found as Find}
+use Rattle.word_table.specs.declared.onward.Onward.{Onward}
+use Rattle.word_table.specs.declared.onward.Onward.TheVariants.{Stays, Leaves}
+use Rattle.word_table.specs.Onwards.{exit_by, point_by}
+use Rattle.superblock_parts.specs.declared.exit.BlockExit.{BlockExit}
 use Rattle.superblock_parts.specs.declared.point.BlockPoint.{BlockPoint}
 use Rattle.superblock_parts.specs.Points.{plan_block_of, settle_block_of}
 use Rattle.errand_steps.specs.declared.continuation.Continuation.{Continuation}
@@ -12,11 +18,10 @@ use Rattle.errand_steps.specs.declared.point.Point.TheVariants as point
 use Rattle.errand_steps.specs.declared.reply.Progress.TheVariants.{Done, More}
 use Rattle.errand_steps.specs.Begins.{IsIdle}
 use Rattle.errand_steps.specs.Calls.{Call}
-use Rattle.errand_steps.specs.Continuations.{has_left_block}
 use Rattle.errand_steps.specs.Errands.{ErrandFields, IsErrand, answer_of, counts_lost, counts_won, course_of, is_lost_exchange, plan_of, raised, settle_of}
-use Rattle.errand_steps.specs.Nexts.{next_of}
+use Rattle.errand_steps.specs.Nexts.{enter_block, leave_block, next_of}
 use Rattle.errand_steps.specs.Points.{plan_point_of}
-use Rattle.errand_steps.proofs.StayLemmas.{ended_answer, ended_errand, stay_block}
+use Rattle.errand_steps.proofs.StayLemmas.{ended_answer, ended_errand}
 use Rattle.sound_state.specs.Runs.{MayBegin}
 use Rattle.errand_steps.proofs.BegunErrands.{idle-is}
 use Rattle.live_heap.specs.declared.answers.Ending.{Ending}
@@ -24,7 +29,7 @@ use Rattle.live_heap.specs.declared.heap.Heap.{Heap}
 use Rattle.live_heap.specs.declared.pass.Pass.{Pass}
 use Rattle.live_heap.specs.Answers.{reply_in, reply_of}
 use Rattle.live_heap.specs.Calls.{GoesOn, IsCalling}
-use Rattle.live_heap.specs.Going.{EndsSo, HasGone, HasWalked, IsWalking, at_block, in_call, stands_at}
+use Rattle.live_heap.specs.Going.{EndsBy, HasGone, HasWalked, IsWalking, at_block, in_call, stands_at}
 use Rattle.live_heap.specs.Passes.{IsOf, seen}
 use Rattle.live_heap.specs.Sights.{after_events, found_in}
 use Rattle.live_heap.proofs.Begun.{begins-of}
@@ -51,27 +56,44 @@ kept p o x won = won-kept (plan_block_of p) x won
 abbrev pub counted : ErrandFields → BlockPoint → Find → ErrandFields
 counted e p x = record e { won = raised (counts_won (plan_block_of p) x) e.won }
 
+pub no-exit : (exit : Option BlockExit) → is_some exit ≡ false → exit ≡ None
+no-exit None none = refl
+no-exit (Some e) none = absurd (true≢false none)
+
+-- where no exit is taken the caller stands at the next point; where one is, it leaves by that
+stays-at :
+    (p : BlockPoint) (w : Onward BlockPoint BlockExit) (o : Continuation) → exit_by w ≡ None → enter_block w o ≡ next.At (point.Block (point_by p w) o)
+stays-at p (Stays q) o inside = refl
+stays-at p (Leaves e) o inside = absurd (none-some e (sym inside))
+
+leaves-by :
+    (w : Onward BlockPoint BlockExit) (e : BlockExit) (o : Continuation) → exit_by w ≡ Some e → enter_block w o ≡ leave_block e o
+leaves-by (Stays q) e o left = absurd (none-some e left)
+leaves-by (Leaves f) e o left = grind (arith)
+
 -- it leads to another point of the superblock
 stays-answer :
-    (e : ErrandFields) (p : BlockPoint) (o : Continuation) (x : Find) → has_left_block (settle_block_of p x) ≡ false → x.won ≡ true
+    (e : ErrandFields) (p : BlockPoint) (o : Continuation) (x : Find) → exit_by (settle_block_of p x) ≡ None → x.won ≡ true
     → More ≡ answer_of (at_block e p o) x
 unfolding answer_of course_of next_of
 stays-answer e p o x inside won =
-    let to = stay_block (settle_block_of p x) o inside in
+    let to = stays-at p (settle_block_of p x) o inside in
     rw (to, kept p o x won) refl
 
 stays-errand :
-    (e : ErrandFields) (p q : BlockPoint) (o : Continuation) (x : Find) → q ≡ settle_block_of p x → has_left_block (settle_block_of p x) ≡ false
-    → x.won ≡ true → settle_of (at_block e p o) x ≡ at_block (counted e p x) q o
+    (e : ErrandFields) (p q : BlockPoint) (o : Continuation) (x : Find) → q ≡ point_by p (settle_block_of p x)
+    → exit_by (settle_block_of p x) ≡ None → x.won ≡ true → settle_of (at_block e p o) x ≡ at_block (counted e p x) q o
 unfolding settle_of course_of next_of plan_point_of
 stays-errand e p q o x is inside won =
-    let to = stay_block (settle_block_of p x) o inside in
+    let to = stays-at p (settle_block_of p x) o inside in
     rw (is, to, kept p o x won) refl
 
 -- it ends the call
-ends-next : (p : BlockPoint) (o : Continuation) (x : Find) (ending : Ending) → EndsSo p x ending → next_of (point.Block p o) x ≡ next.End (reply_of ending)
+ends-next :
+    (p : BlockPoint) (o : Continuation) (x : Find) (ending : Ending) → EndsBy (exit_by (settle_block_of p x)) ending
+    → next_of (point.Block p o) x ≡ next.End (reply_of ending)
 unfolding next_of
-ends-next p o x ending so = so.ends o
+ends-next p o x ending (e, left, ends) = leaves-by (settle_block_of p x) e o left ∙ ends o
 
 module _
     (h : Heap) (start : Pass) (tries : ℕ) (p : BlockPoint) (o : Continuation) (x : Find) (r : Pass)
@@ -83,14 +105,13 @@ module _
   n = w.has.0
 
   pub strides :
-      x.won ≡ true → (q : BlockPoint) → q ≡ settle_block_of p x → has_left_block q ≡ false → (f : ErrandFields) → f ≡ counted r.errand p x
-      → IsWalking h start tries q o (record { seat = r.seat; errand = f })
-  strides won q is inside f counts =
+      x.won ≡ true → exit_by (settle_block_of p x) ≡ None → (q : BlockPoint) → q ≡ point_by p (settle_block_of p x) → (f : ErrandFields)
+      → f ≡ counted r.errand p x → IsWalking h start tries q o (record { seat = r.seat; errand = f })
+  strides won inside q is f counts =
       let at : ErrandFields = counted r.errand p x in
       let after : Pass = stands_at (record { seat = r.seat; errand = at }) q o in
-      let left : has_left_block (settle_block_of p x) ≡ false = ap has_left_block (sym is) ∙ inside in
-      let settled : after.errand ≡ settle_of before.errand (found_in before.errand n) = sym (stays-errand r.errand p q o x is left won) ∙ w.has.2 in
-      let told : More ≡ answer_of before.errand (found_in before.errand n) = stays-answer r.errand p o x left won ∙ w.has.3 in
+      let settled : after.errand ≡ settle_of before.errand (found_in before.errand n) = sym (stays-errand r.errand p q o x is inside won) ∙ w.has.2 in
+      let told : More ≡ answer_of before.errand (found_in before.errand n) = stays-answer r.errand p o x inside won ∙ w.has.3 in
       let goes : IsWalking h start tries q o (record { seat = r.seat; errand = at }) =
       record {
         of = still-of h before after n w.walks.of w.table w.empty settled w.has.1;
@@ -103,17 +124,17 @@ module _
       subst (λ d. IsWalking h start tries q o (record { seat = r.seat; errand = d })) (sym counts) goes
 
   pub finishes :
-      (ending : Ending) → EndsSo p x ending → (f : ErrandFields) → f ≡ counted r.errand p x
+      x.won ≡ true → (ending : Ending) → EndsBy (exit_by (settle_block_of p x)) ending → (f : ErrandFields) → f ≡ counted r.errand p x
       → HasGone h start tries (Some ending) (record { seat = r.seat; errand = f })
-  finishes ending so f counts =
+  finishes won ending by f counts =
       let after : Pass = record { seat = r.seat; errand = f } in
       let at : ErrandFields = counted r.errand p x in
-      let ends = ends-next p o x ending so in
+      let ends = ends-next p o x ending by in
       let idle : at ≡ record at { point = point.Idle } = ap (λ (i : Point). record at { point = i }) (idle-is r.errand.point w.walks.idle) in
       let settled : after.errand ≡ settle_of before.errand (found_in before.errand n) =
       counts ∙ (idle
       ∙ (ended_errand before.errand x (reply_of ending) (plan_block_of p) at.won r.errand.lost r.errand.cleared ends (planned-at r.errand p o) refl
-      (ap (λ b. raised b r.errand.lost) (sym (kept p o x so.won))) refl
+      (ap (λ b. raised b r.errand.lost) (sym (kept p o x won))) refl
       ∙ w.has.2)) in
       let told : Done (reply_of ending) ≡ answer_of before.errand (found_in before.errand n) =
       sym (ended_answer before.errand x (reply_of ending) ends) ∙ w.has.3 in

@@ -6,9 +6,9 @@ use Rattle.errand_steps.specs.declared.reply.Progress.TheVariants as progress
 use Rattle.errand_steps.specs.declared.reply.Reply.{Reply}
 use Rattle.errand_steps.specs.declared.reply.Reply.TheVariants as reply
 use Rattle.errand_steps.specs.Calls.{Call, alloc}
-use Rattle.step_core.specs.Cores.{OwnsAfter}
-use Rattle.step_core.specs.Keeping.{Leaves}
-use Rattle.step_core.proofs.MomentAnswers.{moment-meant, moment-owns}
+use Rattle.step_machine.specs.Cores.{OwnsAfter}
+use Rattle.step_machine.specs.Keeping.{LeavesPlace}
+use Rattle.step_machine.proofs.MomentAnswers.{moment-meant, moment-owns}
 use Rattle.live_heap.specs.declared.heap.Heap.{Heap}
 use Rattle.live_heap.specs.declared.pass.Pass.{Pass}
 use Rattle.live_heap.specs.Passes.{seen}
@@ -20,7 +20,7 @@ OwnsAt p place need = OwnsAfter (seen p) p.errand.caller place need
 
 pub pass-keeps :
     (h k : Heap) (p q : Pass) (call : Call) (answer : Reply) (place : ℕ) (need : Need)
-    → IsWhole h p call answer k q → Leaves call place → OwnsAt p place need → OwnsAt q place need
+    → IsWhole h p call answer k q → LeavesPlace call place → OwnsAt p place need → OwnsAt q place need
 pass-keeps h k p q call answer place need (by_steps ended, may, same, is) leaves owns =
     let called = ended.1 in
     subst (λ c. OwnsAfter (seen q) c place need) (sym called.caller)

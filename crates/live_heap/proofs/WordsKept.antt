@@ -19,7 +19,7 @@ use Rattle.pool_model.proofs.WellFormedLemmas.{sound-of}
 use Rattle.errand_steps.specs.declared.reply.Reply.{Reply}
 use Rattle.errand_steps.specs.declared.reply.Reply.TheVariants as reply
 use Rattle.errand_steps.specs.Calls.{Call, alloc, free, put, read, take, write}
-use Rattle.call_events.specs.Stages.{Stage, freed, given, stage_of}
+use Rattle.call_events.specs.Stages.{StageOfCall, freed, given, stage_of}
 use Rattle.live_heap.specs.declared.heap.Heap.{Heap}
 use Rattle.live_heap.specs.declared.pass.Pass.{Pass}
 use Rattle.live_heap.specs.Answers.{IsContents}
@@ -85,7 +85,7 @@ called-word h p q call steps answer place i v of called =
     changed-word p q call answer place i v (called-changes h p q call steps answer of called)
 
 so_far-word :
-    (p q : Pass) (call : Call) (at : Stage) (place i v : ℕ) → HasChangedSoFar p call at q → LeavesWord call place i
+    (p q : Pass) (call : Call) (at : StageOfCall) (place i v : ℕ) → HasChangedSoFar p call at q → LeavesWord call place i
     → word_in p place i ≡ Some v → word_in q place i ≡ Some v
 so_far-word p q (alloc words) (given at need) place i v changes leaves is = come-word p q at _ place i v changes.nothing changes.given is
 so_far-word p q (free at need) freed place i v changes leaves is = same-word p q place i v (changes.others place leaves) is

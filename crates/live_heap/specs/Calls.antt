@@ -11,7 +11,7 @@ use Rattle.errand_steps.specs.Calls.{Call, begun_by}
 use Rattle.errand_steps.specs.Errands.{ErrandFields}
 use Rattle.call_events.specs.Ends.{HasEnded}
 use Rattle.call_events.specs.UnderWay.{IsUnderWay}
-use Rattle.step_core.specs.Moments.{IsMoment}
+use Rattle.step_machine.specs.Moments.{IsMoment}
 use Rattle.live_heap.specs.declared.pass.Pass.{Pass}
 use Rattle.live_heap.specs.Passes.{accesses, seen}
 

@@ -9,9 +9,9 @@ use Rattle.pool_model.specs.Pool.{Block, block_at, fresh_block, handed_to, pool_
 use Rattle.errand_steps.specs.declared.reply.Reply.{Reply}
 use Rattle.errand_steps.specs.declared.reply.Reply.TheVariants as reply
 use Rattle.errand_steps.specs.Calls.{Call, alloc, free, put, take, write}
-use Rattle.call_events.specs.Stages.{Stage}
+use Rattle.call_events.specs.Stages.{StageOfCall}
 use Rattle.call_events.specs.Stages as stage
-use Rattle.step_core.specs.Keeping.{Leaves}
+use Rattle.step_machine.specs.Keeping.{LeavesPlace}
 use Rattle.live_heap.specs.declared.pass.Pass.{Pass}
 use Rattle.live_heap.specs.Passes.{seen}
 
@@ -34,7 +34,7 @@ word_in p place i = word_of (owned_in p place) i
 -- the call neither writes this word nor gives its block away
 abbrev pub LeavesWord : Call → ℕ → ℕ → Type 0
 LeavesWord (write at need j value) place i = (place ≢ at) ⊎ (i ≢ j)
-LeavesWord call place i = Leaves call place
+LeavesWord call place i = LeavesPlace call place
 
 -- the pass owns the same blocks, with the same words
 abbrev pub OwnsSame : Pass → Pass → Type 0
@@ -86,7 +86,7 @@ HasChanged p (take shelf) (reply.Got place need) q = HasGot p shelf place q
 HasChanged p call answer q = OwnsSame p q
 
 -- what one has that is under way: an allocation behind its event has its block, a free behind its event has none any more
-abbrev pub HasChangedSoFar : Pass → Call → Stage → Pass → Type 0
+abbrev pub HasChangedSoFar : Pass → Call → StageOfCall → Pass → Type 0
 HasChangedSoFar p (alloc words) (stage.given place need) q = IsGiven p words place q
 HasChangedSoFar p (free place need) stage.freed q = OwnsBut p q place None
 HasChangedSoFar p call stage q = OwnsSame p q

@@ -9,11 +9,11 @@ use Rattle.pool_model.specs.Histories.{Begins, own}
 use Rattle.errand_steps.specs.Begins.{IsIdle}
 use Rattle.errand_steps.specs.Errands.{ErrandFields}
 use Rattle.errand_steps.specs.Openings.{opening, IsOpening}
-use Rattle.sound_state.specs.Contention.{lost_of, won_of}
+use Rattle.lost_exchanges.specs.Contention.{lost_of, won_of}
 use Rattle.sound_state.specs.Moves.{is_step_of}
 use Rattle.sound_state.specs.Sums.{callers_sum}
-use Rattle.sound_state.specs.Wins.{Win}
-use Rattle.step_core.specs.Cores.{CoreFields, IsCore, errand_at, no_errand}
+use Rattle.lost_exchanges.specs.Wins.{Win}
+use Rattle.step_machine.specs.Cores.{CoreFields, IsCore, errand_at, no_errand}
 use Rattle.live_heap.specs.declared.heap.Heap.{Heap}
 use Rattle.live_heap.specs.declared.pass.Pass.{Pass}
 use Rattle.live_heap.specs.declared.view.Standing.{Standing}

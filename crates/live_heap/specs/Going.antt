@@ -1,10 +1,10 @@
 -- A call that goes on, and one that was made so far without an errand.
-use Rattle.std.specs.Prelude.{ℕ, Option, None, true, ◌≡◌, ◌<◌, ◌≤◌, ◌+◌, ◌*◌, ◌-◌, ◌^◌}
+use Rattle.std.specs.Prelude.{ℕ, Option, None, Some, ◌≡◌, ◌<◌, ◌≤◌, ◌+◌, ◌*◌, ◌-◌, ◌^◌}
 use Rattle.heap_geometry.specs.declared.limits.TheConstants.{CALL_STEPS}
 use Rattle.atomic_table.specs.declared.shared.Seat.{Seat}
-use Rattle.word_plan.specs.declared.action.Found.{Found as Find}
+use Rattle.word_table.specs.declared.action.Found.{Found as Find}
 use Rattle.superblock_parts.specs.declared.point.BlockPoint.{BlockPoint}
-use Rattle.superblock_parts.specs.Points.{settle_block_of}
+use Rattle.superblock_parts.specs.declared.exit.BlockExit.{BlockExit}
 use Rattle.pool_model.specs.Histories.{Begins}
 use Rattle.errand_steps.specs.declared.continuation.Continuation.{Continuation}
 use Rattle.errand_steps.specs.declared.next.Next.TheVariants.{End}
@@ -13,8 +13,8 @@ use Rattle.errand_steps.specs.Begins.{IsBusy, IsIdle}
 use Rattle.errand_steps.specs.Offers.{offered_at}
 use Rattle.errand_steps.specs.Calls.{Call, begun_by}
 use Rattle.errand_steps.specs.Errands.{ErrandFields, IsErrand, answer_of, settle_of}
-use Rattle.errand_steps.specs.Nexts.{enter_block}
-use Rattle.sound_state.specs.StepsLeft.{steps_left}
+use Rattle.errand_steps.specs.Nexts.{leave_block}
+use Rattle.calls_end.specs.StepsLeft.{steps_left}
 use Rattle.live_heap.specs.declared.answers.AllocAnswer.{AllocAnswer}
 use Rattle.live_heap.specs.declared.answers.Ending.{Ending}
 use Rattle.live_heap.specs.declared.answers.FreeAnswer.{FreeAnswer}
@@ -95,7 +95,6 @@ pub record Rejoins (h : Heap) (start : Pass) (tries : ℕ) (x : Find) (q : Pass)
   pub table : q.seat.table_id ≡ last.seat.table_id
   pub empty : q.seat.me.1 ≡ last.seat.me.1
 
--- a step that found this ends its call so, wherever that goes on, and is not lost
-pub record EndsSo (p : BlockPoint) (x : Find) (ending : Ending) : Type 0 where
-  pub won : x.won ≡ true
-  pub ends : (o : Continuation) → enter_block (settle_block_of p x) o ≡ End (reply_of ending)
+-- a call that leaves a superblock by this exit ends so, wherever it goes on
+abbrev pub EndsBy : Option BlockExit → Ending → Type 0
+EndsBy exit ending = (e : BlockExit) × (exit ≡ Some e) × ((o : Continuation) → leave_block e o ≡ End (reply_of ending))

@@ -2,7 +2,7 @@
 use Rattle.std.specs.Prelude.{ℕ, List, [], ◌∷◌, All, Result, Ok, Err}
 use Rattle.errand_steps.specs.Begins.{IsBusy, IsIdle}
 use Rattle.errand_steps.specs.Calls.{Call}
-use Rattle.step_core.specs.Keeping.{Leaves}
+use Rattle.step_machine.specs.Keeping.{LeavesPlace}
 use Rattle.live_heap.specs.declared.answers.AllocAnswer.{AllocAnswer}
 use Rattle.live_heap.specs.declared.answers.AllocAnswer.TheVariants as alloc_answer
 use Rattle.live_heap.specs.declared.answers.Ending.{Ending}
@@ -31,7 +31,7 @@ pub record IsWaiting (h : Heap) (p : Pass) (blocks : List Block) : Type 0 where
   pub steps : ℕ
   pub calling : IsCalling first call steps p
   pub tried : IsTried call
-  pub leaves : All (λ block. Leaves call block.place) blocks
+  pub leaves : All (λ block. LeavesPlace call block.place) blocks
 
 -- the pass is of the heap, and the blocks are in its hand: in no call it holds them, and in one it waits with them
 pub record IsHand (h : Heap) (p : Pass) (blocks : List Block) : Type 0 where

@@ -4,7 +4,7 @@ use Rattle.heap_geometry.specs.declared.need.Need.{Need}
 use Rattle.errand_steps.specs.declared.reply.Reply.{Reply}
 use Rattle.errand_steps.specs.declared.reply.Reply.TheVariants as reply
 use Rattle.errand_steps.specs.Calls.{Call, alloc, free, put, take}
-use Rattle.call_events.specs.Stages.{Stage}
+use Rattle.call_events.specs.Stages.{StageOfCall}
 use Rattle.call_events.specs.Stages as stage
 use Rattle.live_heap.specs.declared.block.Block.{Block}
 use Rattle.live_heap.specs.declared.pass.Pass.{Pass}
@@ -36,7 +36,7 @@ ChangesHand (take shelf) (reply.Got place need) had has = Gains place need had h
 ChangesHand call answer had has = has ≡ had
 
 -- how one has that is under way: an allocation behind its event has its block, and a free keeps its own until its event
-abbrev pub ChangesHandSoFar : Call → Stage → List Block → List Block → Type 0
+abbrev pub ChangesHandSoFar : Call → StageOfCall → List Block → List Block → Type 0
 ChangesHandSoFar (alloc words) (stage.given place need) had has = Gains place need had has
 ChangesHandSoFar (free place need) stage.freed had has = Loses place had has
 ChangesHandSoFar call at had has = has ≡ had

@@ -4,9 +4,9 @@ use Rattle.errand_steps.specs.Openings.{opening}
 use Rattle.heap_geometry.specs.declared.geometry.Geometry.{Geometry}
 use Rattle.placed_words.specs.Places.{placed_count}
 use Rattle.placed_words.specs.Writes.{word_at}
-use Rattle.word_plan.specs.Table.{Exists}
-use Rattle.word_plan.specs.declared.name.WordName.{WordName}
-use Rattle.word_plan.specs.declared.name.WordName.TheVariants.{Next, FrameNext}
+use Rattle.word_table.specs.Table.{Exists}
+use Rattle.word_table.specs.declared.name.WordName.{WordName}
+use Rattle.word_table.specs.declared.name.WordName.TheVariants.{Next, FrameNext}
 
 -- a word that is no link of the two stacks
 abbrev pub IsNoLink : WordName → Type 0

@@ -5,18 +5,18 @@ use lib.ListN.{get_elem?}
 use Rattle.atomic_table.specs.Table.{State as TableState}
 use Rattle.placed_words.specs.Places.{HoldsAtPlaces}
 use Rattle.heap_geometry.specs.declared.geometry.Geometry.{Geometry}
-use Rattle.word_plan.specs.Counts.{word_count}
-use Rattle.word_plan.specs.Words.{word_in}
+use Rattle.word_table.specs.Counts.{word_count}
+use Rattle.word_table.specs.Words.{word_in}
 use Rattle.pool_model.specs.declared.event.Event.{Event}
 use Rattle.pool_model.specs.Histories.{Begins, own}
 use Rattle.errand_steps.specs.Errands.{ErrandFields, open_errand}
 use Rattle.errand_steps.specs.Openings.{opening, IsOpening}
 use Rattle.errand_steps.specs.Steps.{State}
-use Rattle.sound_state.specs.Contention.{is_by}
+use Rattle.lost_exchanges.specs.Contention.{is_by}
 use Rattle.sound_state.specs.Moves.{is_step_of}
 use Rattle.sound_state.specs.Runs.{Move}
-use Rattle.sound_state.specs.Wins.{Win}
-use Rattle.step_core.specs.Cores.{IsReached, no_errand}
+use Rattle.lost_exchanges.specs.Wins.{Win}
+use Rattle.step_machine.specs.Cores.{IsReached, no_errand}
 use Rattle.live_heap.specs.declared.view.Standing.{Standing}
 use Rattle.live_heap.specs.declared.view.View.{View}
 
@@ -50,7 +50,7 @@ pub record Stands (g : Geometry) (errands : ℕ → ErrandFields) (events : List
   pub each : (number : ℕ) (x : Standing) → get_elem? v.callers number ≡ some x → IsStanding g errands events wins moves place id v number x
 
 -- there are errands and events with which the words are a state that moves of the callers reached from the opening; and each pass has seen a part of it, and of what those moves won, and counts its own steps among them
-pub record Kept (g : Geometry) (words : List ℕ) (views : List View) : Type 0 where
+pub record KeptTable (g : Geometry) (words : List ℕ) (views : List View) : Type 0 where
   pub whole : length words ≡ word_count g
   pub errands : ℕ → ErrandFields
   pub nobody : (caller : ℕ) → g.callers ≤ caller → errands caller ≡ no_errand
@@ -63,7 +63,7 @@ pub record Kept (g : Geometry) (words : List ℕ) (views : List View) : Type 0 w
 
 -- so it is in a table
 abbrev pub TableHolds : {S : Type 0} → Geometry → TableState S View → Type 0
-TableHolds g s = Kept g s.words s.views
+TableHolds g s = KeptTable g s.words s.views
 
 -- and so it is in memory, where each word lies at its place
 abbrev pub PlacesHold : {S : Type 0} → Geometry → TableState S View → Type 0

@@ -6,7 +6,7 @@ use Rattle.errand_steps.specs.declared.reply.Progress.TheVariants.{Done}
 use Rattle.errand_steps.specs.declared.reply.Reply.{Reply}
 use Rattle.errand_steps.specs.Calls.{Call, begun_by}
 use Rattle.errand_steps.specs.Errands.{ErrandFields}
-use Rattle.step_core.specs.Moments.{IsMoment}
+use Rattle.step_machine.specs.Moments.{IsMoment}
 use Rattle.live_heap.specs.declared.pass.Pass.{Pass}
 use Rattle.live_heap.specs.Calls.{HasCalled, StepsOn}
 use Rattle.live_heap.specs.Passes.{seen}

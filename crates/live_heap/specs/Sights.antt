@@ -2,16 +2,16 @@
 use Rattle.std.specs.Prelude.{ℕ, suc, ◌≡◌, List, [], ◌∷◌, ◌⊎◌}
 use Rattle.atomic_table.specs.Table.{Me}
 use Rattle.heap_geometry.specs.declared.geometry.Geometry.{Geometry}
-use Rattle.word_plan.specs.declared.action.Found.{Found}
-use Rattle.word_plan.specs.Actions.{found_by}
+use Rattle.word_table.specs.declared.action.Found.{Found}
+use Rattle.word_table.specs.Actions.{found_by}
 use Rattle.pool_model.specs.declared.event.Event.{Event}
 use Rattle.errand_steps.specs.Begins.{IsIdle}
 use Rattle.errand_steps.specs.Calls.{Call, begun_by}
 use Rattle.errand_steps.specs.Errands.{ErrandFields, plan_of, settle_of, answer_of}
 use Rattle.errand_steps.specs.Steps.{State}
 use Rattle.sound_state.specs.Runs.{MayBegin}
-use Rattle.step_core.specs.Cores.{no_errand}
-use Rattle.step_core.specs.Moments.{IsMoment, IsServed}
+use Rattle.step_machine.specs.Cores.{no_errand}
+use Rattle.step_machine.specs.Moments.{IsMoment, IsServed}
 use Rattle.live_heap.specs.declared.view.Standing.{Standing}
 use Rattle.live_heap.specs.declared.view.View.{View}
 use Rattle.live_heap.specs.Rule.{BeginsWins}

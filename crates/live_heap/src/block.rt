@@ -2,7 +2,7 @@
 
 ghost use Rattle.std.specs.Prelude.{◌≡◌};
 ghost use Rattle.heap_geometry.specs.Need.{IsNeed, usable_words};
-ghost use Rattle.step_core.specs.Needs.{IsNeed-prop};
+ghost use Rattle.step_machine.specs.Needs.{IsNeed-prop};
 
 use heap_geometry::need::{Need, usable};
 

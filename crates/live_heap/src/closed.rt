@@ -2,12 +2,12 @@
 
 ghost use Rattle.std.specs.Prelude.{ℕ, ◌≡◌, ◌<◌, ◌≤◌, ◌-◌, ◌*◌, ◌^◌, min, sum_by, length, All, IfOk};
 ghost use Rattle.std.specs.Result.{IfErr};
-ghost use Rattle.word_plan.specs.Table.{Exists};
-ghost use Rattle.word_plan.specs.Words.{word_in};
+ghost use Rattle.word_table.specs.Table.{Exists};
+ghost use Rattle.word_table.specs.Words.{word_in};
 ghost use Rattle.errand_steps.specs.Begins.{IsIdle};
-ghost use Rattle.sound_state.specs.Contention.{lost_of, won_of};
+ghost use Rattle.lost_exchanges.specs.Contention.{lost_of, won_of};
 ghost use Rattle.sound_state.specs.Sums.{callers_sum};
-ghost use Rattle.step_core.specs.Cores.{errand_at};
+ghost use Rattle.step_machine.specs.Cores.{errand_at};
 ghost use Rattle.live_heap.specs.Endings.{AreAllIdle, HasAccesses, HasClosed, IsGathered, IsResting};
 
 use crate::heap::Heap;
@@ -20,7 +20,7 @@ use placed_words::placement::Placement;
 use std::alloc::Global;
 use std::marker::Model;
 use std::snapshot::Snapshot;
-use word_plan::name::WordName;
+use word_table::name::WordName;
 
 /// A heap that no thread shares any more. It holds the words; contracts see beside them the errand of
 /// each caller, all idle, the whole history and all that callers won from each other, which take no

@@ -3,8 +3,8 @@
 ghost use Rattle.std.specs.Prelude.{ℕ, ◌≡◌, ◌<◌, ◌+◌, ◌≤◌, [], length, vec_capacity, IfOk};
 ghost use Rattle.heap_geometry.specs.Geometry.{IsChecked};
 ghost use Rattle.placed_words.specs.Places.{place, placed_count};
-ghost use Rattle.word_plan.specs.Counts.{word_count};
-ghost use Rattle.word_plan.specs.Table.{Exists, word_index};
+ghost use Rattle.word_table.specs.Counts.{word_count};
+ghost use Rattle.word_table.specs.Table.{Exists, word_index};
 
 use crate::opened::first_words;
 use crate::pass::Pass;
@@ -15,7 +15,7 @@ use errand_steps::errand::Errand;
 use heap_geometry::geometry::Geometry;
 use placed_words::placement::Placement;
 use std::alloc::{AllocError, Global};
-use word_plan::name::WordName;
+use word_table::name::WordName;
 
 /// A heap of a fixed arena. Threads share it by reference, each with a pass of its own.
 ///

@@ -14,13 +14,13 @@ ghost use Rattle.errand_steps.specs.declared.reply.Reply.{Reply};
 ghost use Rattle.errand_steps.specs.declared.reply.Reply.TheVariants as reply;
 ghost use Rattle.errand_steps.specs.Calls.{Call, alloc, free};
 ghost use Rattle.errand_steps.specs.Errands.{ErrandFields};
-ghost use Rattle.sound_state.specs.Contention.{lost_of, won_of};
+ghost use Rattle.lost_exchanges.specs.Contention.{lost_of, won_of};
 ghost use Rattle.sound_state.specs.Sound.{IsSound};
 ghost use Rattle.sound_state.specs.Sums.{callers_sum};
 ghost use Rattle.sound_state.specs.Turns.{gives_small, refuses_small};
-ghost use Rattle.step_core.specs.Cores.{OwnsAfter, errand_at, state_of};
-ghost use Rattle.step_core.specs.Keeping.{Leaves};
-ghost use Rattle.step_core.specs.Moments.{IsServed};
+ghost use Rattle.step_machine.specs.Cores.{OwnsAfter, errand_at, state_of};
+ghost use Rattle.step_machine.specs.Keeping.{LeavesPlace};
+ghost use Rattle.step_machine.specs.Moments.{IsServed};
 ghost use Rattle.live_heap.specs.declared.answers.FreeAnswer.TheVariants as free_answer;
 ghost use Rattle.live_heap.specs.declared.answers.Resumed.TheVariants as resumed;
 ghost use Rattle.live_heap.specs.declared.answers.Taken.TheVariants as taken;
@@ -47,9 +47,9 @@ pub fn passes_are_served()
 /// is about; and a block that it is given or takes is none of those that it has.
 pub fn passes_keep_their_blocks()
     ensures called { (h : Heap) (p q : Pass) (call : Call) (steps : ℕ) (answer : Reply) (block : Block) → IsOf h p → IsOf h q
-        → HasCalled p call steps answer q → Leaves call block.place → Owns p block → Owns q block }
+        → HasCalled p call steps answer q → LeavesPlace call block.place → Owns p block → Owns q block }
     ensures calling { (h : Heap) (p q : Pass) (call : Call) (steps : ℕ) (block : Block) → IsOf h p → IsOf h q
-        → IsCalling p call steps q → Leaves call block.place → Owns p block → Owns q block }
+        → IsCalling p call steps q → LeavesPlace call block.place → Owns p block → Owns q block }
     ensures given { (h : Heap) (p q : Pass) (call : Call) (steps place : ℕ) (need : Need) (block : Block) → IsOf h p → IsOf h q
         → HasCalled p call steps (reply.Given place need) q → Owns p block → block.place ≢ place }
     ensures got { (h : Heap) (p q : Pass) (call : Call) (steps place : ℕ) (need : Need) (block : Block) → IsOf h p → IsOf h q
@@ -61,7 +61,7 @@ pub fn passes_keep_their_blocks()
 /// own and none of those that it had, and one that it is given serves what was asked for.
 pub fn whole_calls_keep_blocks()
     ensures keeps { (h k : Heap) (p q : Pass) (call : Call) (answer : Reply) (place : ℕ) (need : Need) → IsWhole h p call answer k q
-        → Leaves call place → OwnsAfter (seen p) p.errand.caller place need → OwnsAfter (seen q) q.errand.caller place need }
+        → LeavesPlace call place → OwnsAfter (seen p) p.errand.caller place need → OwnsAfter (seen q) q.errand.caller place need }
     ensures hands { (h k : Heap) (p q : Pass) (call : Call) (answer : Reply) (place : ℕ) (need : Need) → IsWhole h p call answer k q
         → Hands answer place need → OwnsAfter (seen q) q.errand.caller place need }
     ensures apart { (h k : Heap) (p q : Pass) (call : Call) (answer : Reply) (place other : ℕ) (need had : Need) → IsWhole h p call answer k q

@@ -3,13 +3,13 @@
 ghost use Rattle.std.specs.Prelude.{◌≡◌, length, IfOk};
 ghost use Rattle.errand_steps.specs.Openings.{opening};
 ghost use Rattle.placed_words.specs.Places.{placed_count, words_at};
-ghost use Rattle.step_core.specs.Firsts.{IsTable};
-ghost use Rattle.word_plan.specs.Counts.{word_count};
+ghost use Rattle.step_machine.specs.Firsts.{IsTable};
+ghost use Rattle.word_table.specs.Counts.{word_count};
 
 use placed_words::placement::Placement;
 use std::alloc::{AllocError, Global};
-use step_core::first::opening;
-use word_plan::name::WordName;
+use step_machine::first::opening;
+use word_table::name::WordName;
 
 /// The words at opening: all are 0 but those of the two stacks.
 pub(crate) fn first_words(alloc: Global, layout: &Placement) -> Result<Vec<u64>, AllocError>

@@ -25,7 +25,7 @@ pub trait Doing {
 }
 
 impl Doing for Brand {
-    ghost use Rattle.step_core.specs.Cores.{no_errand};
+    ghost use Rattle.step_machine.specs.Cores.{no_errand};
 
     ghost errand = { no_errand };
 }

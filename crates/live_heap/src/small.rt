@@ -24,7 +24,7 @@ use crate::heap::Heap;
 use crate::pass::Pass;
 use errand_steps::continuation::Continuation;
 use superblock_parts::point::BlockPoint;
-use word_plan::action::Found;
+use word_table::action::Found;
 
 impl Heap {
     /// The free of a block of a superblock.
@@ -91,37 +91,38 @@ impl Heap {
         ensures ends { IfOk result (λ ending. HasGone self.now start tries (Some ending) pass.new) }
         ensures off { IfErr result (λ found. Rejoins self.now start tries found pass.new) }
     {
-        let anchor = self.stride(pass, &prefix, &Continuation::Free, tries, |at| {
+        let mut at = prefix;
+        self.stride(pass, &mut at, &Continuation::Free, tries, |at| {
             matches!(*at, BlockPoint::LoadPushAnchor { .. })
         })?;
-        let seen = self.stride(pass, &anchor, &Continuation::Free, tries, |at| {
+        self.stride(pass, &mut at, &Continuation::Free, tries, |at| {
             matches!(
                 *at,
                 BlockPoint::StoreLink { .. } | BlockPoint::StoreGuard { .. }
             )
         })?;
-        let link = self.guard_last(pass, seen, tries)?;
-        let push = self.stride(pass, &link, &Continuation::Free, tries, |at| {
+        self.guard_last(pass, &mut at, tries)?;
+        self.stride(pass, &mut at, &Continuation::Free, tries, |at| {
             matches!(*at, BlockPoint::PushBlock { .. })
         })?;
-        self.finish(pass, &push, &Continuation::Free, tries)
+        self.finish(pass, &at, &Continuation::Free, tries)
     }
 
     /// Guards the superblock where the block is the last one of it in use.
     #[inline(always)]
-    fn guard_last(&self, pass: &mut Pass, at: BlockPoint, tries: u32) -> Result<BlockPoint, Found>
+    fn guard_last(&self, pass: &mut Pass, at: &mut BlockPoint, tries: u32) -> Result<(), Found>
         ghost start: { Pass }
-        requires { IsWalking self.now start tries at continuation.Free pass.old }
-        ensures on { IfOk result (λ next. IsWalking self.now start tries next continuation.Free pass.new) }
+        requires { IsWalking self.now start tries at.old continuation.Free pass.old }
+        ensures on { IfOk result (λ gone. IsWalking self.now start tries at.new continuation.Free pass.new) }
         ensures off { IfErr result (λ found. Rejoins self.now start tries found pass.new) }
     {
-        if !matches!(at, BlockPoint::StoreGuard { .. }) {
-            return Ok(at);
+        if !matches!(*at, BlockPoint::StoreGuard { .. }) {
+            return Ok(());
         }
-        let owner = self.stride(pass, &at, &Continuation::Free, tries, |at| {
+        self.stride(pass, at, &Continuation::Free, tries, |at| {
             matches!(*at, BlockPoint::LoadOwner { .. })
         })?;
-        self.stride(pass, &owner, &Continuation::Free, tries, |at| {
+        self.stride(pass, at, &Continuation::Free, tries, |at| {
             matches!(*at, BlockPoint::StoreLink { .. })
         })
     }
@@ -202,29 +203,30 @@ impl Heap {
         ensures off { IfErr result (λ found. Rejoins self.now start tries found pass.new) }
     {
         let goes = Continuation::Alloc { need };
-        let credit = self.stride(pass, &active, &goes, tries, |at| {
+        let mut at = active;
+        self.stride(pass, &mut at, &goes, tries, |at| {
             matches!(*at, BlockPoint::TakeCredit { .. })
         })?;
-        let info = self.stride(pass, &credit, &goes, tries, |at| {
+        self.stride(pass, &mut at, &goes, tries, |at| {
             matches!(*at, BlockPoint::LoadInfo { .. })
         })?;
-        let anchor = self.stride(pass, &info, &goes, tries, |at| {
+        self.stride(pass, &mut at, &goes, tries, |at| {
             matches!(*at, BlockPoint::LoadAnchor { .. })
         })?;
-        let link = self.stride(pass, &anchor, &goes, tries, |at| {
+        self.stride(pass, &mut at, &goes, tries, |at| {
             matches!(*at, BlockPoint::LoadLink { .. })
         })?;
-        let pop = self.stride(pass, &link, &goes, tries, |at| {
+        self.stride(pass, &mut at, &goes, tries, |at| {
             matches!(*at, BlockPoint::PopBlock { .. })
         })?;
-        let popped = self.stride(pass, &pop, &goes, tries, |at| {
+        self.stride(pass, &mut at, &goes, tries, |at| {
             matches!(
                 *at,
                 BlockPoint::StorePrefix { .. } | BlockPoint::InstallCredits { .. }
             )
         })?;
-        let store = self.offer_credits(pass, popped, &goes, tries)?;
-        self.finish(pass, &store, &goes, tries)
+        self.offer_credits(pass, &mut at, &goes, tries)?;
+        self.finish(pass, &at, &goes, tries)
     }
 
     /// Offers the blocks that were reserved behind a pop, where there are any.
@@ -232,19 +234,19 @@ impl Heap {
     fn offer_credits(
         &self,
         pass: &mut Pass,
-        at: BlockPoint,
+        at: &mut BlockPoint,
         goes: &Continuation,
         tries: u32,
-    ) -> Result<BlockPoint, Found>
+    ) -> Result<(), Found>
         ghost start: { Pass }
-        requires { IsWalking self.now start tries at goes.now pass.old }
-        ensures on { IfOk result (λ next. IsWalking self.now start tries next goes.now pass.new) }
+        requires { IsWalking self.now start tries at.old goes.now pass.old }
+        ensures on { IfOk result (λ gone. IsWalking self.now start tries at.new goes.now pass.new) }
         ensures off { IfErr result (λ found. Rejoins self.now start tries found pass.new) }
     {
-        if !matches!(at, BlockPoint::InstallCredits { .. }) {
-            return Ok(at);
+        if !matches!(*at, BlockPoint::InstallCredits { .. }) {
+            return Ok(());
         }
-        self.stride(pass, &at, goes, tries, |at| {
+        self.stride(pass, at, goes, tries, |at| {
             matches!(*at, BlockPoint::StorePrefix { .. })
         })
     }

@@ -2,8 +2,8 @@
 
 ghost use Rattle.std.specs.Prelude.{◌≡◌, Some, IsSomeAnd};
 ghost use Rattle.heap_geometry.specs.Need.{IsNeed};
-ghost use Rattle.word_plan.specs.Actions.{name_of};
-ghost use Rattle.word_plan.specs.Table.{Exists};
+ghost use Rattle.word_table.specs.Actions.{name_of};
+ghost use Rattle.word_table.specs.Table.{Exists};
 ghost use Rattle.errand_steps.specs.declared.reply.Progress.{Progress};
 ghost use Rattle.errand_steps.specs.Begins.{IsIdle, IsBusy};
 ghost use Rattle.errand_steps.specs.Errands.{plan_of};
@@ -23,7 +23,7 @@ use atomic_table::Seat;
 use errand_steps::errand::{Errand, plan};
 use errand_steps::reply::{Offer, Progress, Reply};
 use std::marker::Brand;
-use word_plan::action::{Action, Found};
+use word_table::action::{Action, Found};
 
 impl Heap {
     /// Makes one step of the pass, and says what it came to; none where the pass is in no call.

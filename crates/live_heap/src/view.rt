@@ -4,7 +4,7 @@ use errand_steps::errand::Errand;
 use pool_model::event::Event;
 use std::collections::LinkedList;
 use std::marker::Model;
-use word_plan::name::WordName;
+use word_table::name::WordName;
 
 /// How many steps a caller has made, each one access to a shared word. Its number has no end, as it is for
 /// proofs alone.
@@ -36,7 +36,7 @@ pub struct Won {
 }
 
 impl Model for Won {
-    ghost use Rattle.sound_state.specs.Wins.{Win};
+    ghost use Rattle.lost_exchanges.specs.Wins.{Win};
 
     ghost Value = { Win };
 

@@ -22,7 +22,7 @@ use errand_steps::errand::{Errand, plan};
 use errand_steps::reply::Progress;
 use std::marker::Brand;
 use superblock_parts::point::BlockPoint;
-use word_plan::action::{Action, Found};
+use word_table::action::{Action, Found};
 
 impl Heap {
     /// Makes the step of a point of a superblock by its action, in the errand that stands there with this one's

@@ -2,11 +2,11 @@
 
 ghost use Rattle.std.specs.Prelude.{ℕ, ◌≡◌, ◌<◌, ◌+◌};
 ghost use Rattle.heap_geometry.specs.Need.{usable_words};
-ghost use Rattle.word_plan.specs.Counts.{arena_words};
+ghost use Rattle.word_table.specs.Counts.{arena_words};
 ghost use Rattle.errand_steps.specs.declared.reply.Reply.TheVariants as reply;
 ghost use Rattle.errand_steps.specs.Begins.{IsIdle};
 ghost use Rattle.errand_steps.specs.Calls.{begun_by, write, read};
-ghost use Rattle.step_core.specs.Cores.{OwnsAfter};
+ghost use Rattle.step_machine.specs.Cores.{OwnsAfter};
 ghost use Rattle.live_heap.specs.Passes.{IsOf, seen};
 ghost use Rattle.live_heap.specs.Sights.{IsSightOf, TakesStep};
 ghost use Rattle.live_heap.specs.Words.{CallsOnWord};

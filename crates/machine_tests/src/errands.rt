@@ -1,13 +1,13 @@
 //! Steps of one caller's errand, each of which finds a given word.
 
-use errand_steps::errand::{Errand, answer, event, plan, settle};
+use errand_steps::errand::{Errand, event, plan};
 use errand_steps::reply::{Begun, Offer, Progress, Reply};
 use heap_geometry::geometry::Geometry;
 use heap_geometry::need::Need;
 use pool_model::event::Event;
 use std::process::Abort;
-use word_plan::action::{Action, Found};
-use word_plan::name::WordName;
+use word_table::action::{Action, Found};
+use word_table::name::WordName;
 
 /// One frame, one processor heap, three units and two callers of three turns each.
 const GEOMETRY: Geometry = Geometry {
@@ -26,12 +26,15 @@ type Row = (u64, bool, Step);
 
 /// The errand after a step that finds this, and what the step did; `None` where the caller is idle.
 fn step(errand: Errand, value: u64, won: bool) -> (Errand, Option<Step>) {
+    let mut errand = errand;
     let found = Found { value, won };
     if errand.idle() {
         return (errand, None);
     }
-    let told = (plan(&errand), event(&errand, found), answer(&errand, found));
-    (settle(errand, found), Some(told))
+    let action = plan(&errand);
+    let told = event(&errand, found);
+    let answer = errand.go_on(action, found);
+    (errand, Some((action, told, answer)))
 }
 
 /// The errand after these steps, each of which does what its row says.

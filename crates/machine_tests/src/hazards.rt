@@ -3,15 +3,16 @@
 ghost use Rattle.std.specs.Prelude.{[], ◌∷◌, ◌≡◌};
 
 use crate::heaps::seat_of;
-use crate::walk::{stay, walk};
+use crate::walk::{leave, stay, walk};
+use hazard_parts::exit::DescExit;
 use hazard_parts::held::Held;
 use hazard_parts::point::DescPoint;
 use hazard_parts::retired::Retired;
 use heap_geometry::geometry::Geometry;
 use std::process::Abort;
-use word_plan::action::Action;
-use word_plan::name::WordName::{DescHead, Hazard, Next};
-use word_plan::seat::Seat;
+use word_table::action::Action;
+use word_table::name::WordName::{DescHead, Hazard, Next};
+use word_table::seat::Seat;
 
 /// A heap of these numbers has 72 descriptors.
 const GEOMETRY: Geometry = Geometry {
@@ -48,8 +49,8 @@ fn a_pop_begins_anew_where_the_head_changed(rt: HostRuntime) {
         (Action::Store(Hazard(1), 0), 4, true),
     ];
     let first_point = DescPoint::LoadDescHead { seat: seat(&rt) };
-    let point = walk(&rt, first_point, &rows);
-    assert!(rt; matches!(point, DescPoint::Got { desc: 3, .. }));
+    let exit = leave(&rt, first_point, &rows);
+    assert!(rt; matches!(exit, Some(DescExit::Got { desc: 3, .. })));
 }
 
 /// A push stores the head that it found in the descriptor's word, and begins anew where its
@@ -68,8 +69,16 @@ fn a_push_begins_anew_where_it_is_lost(rt: HostRuntime) {
         seat: seat(&rt),
         desc: 7,
     };
-    let point = walk(&rt, first_point, &rows);
-    assert!(rt; matches!(point, DescPoint::Pushed { desc: 7, .. }));
+    let exit = leave(&rt, first_point, &rows);
+    assert!(rt; matches!(exit, Some(DescExit::Pushed { desc: 7, .. })));
+}
+
+/// What a scan that ends so has noted.
+fn held_by(exit: DescExit) -> Held {
+    match exit {
+        DescExit::Scanned { held, .. } => held,
+        _ => Held::nothing(),
+    }
 }
 
 /// What a scan has noted that reads these hazard words, in the order of the callers.
@@ -83,9 +92,9 @@ fn scanned<R: Abort>(rt: &R, first: u64, second: u64) -> Held {
         held: Held::nothing(),
         at: 0,
     };
-    match walk(rt, first_point, &rows) {
-        DescPoint::Scanned { held, .. } => held,
-        _ => Held::nothing(),
+    match leave(rt, first_point, &rows) {
+        Some(exit) => held_by(exit),
+        None => Held::nothing(),
     }
 }
 
@@ -110,8 +119,8 @@ fn a_hazard_word_of_no_descriptor_is_not_noted(rt: HostRuntime) {
 #[test]
 fn a_hazard_word_is_cleared(rt: HostRuntime) {
     let clear = DescPoint::ClearHazard { seat: seat(&rt) };
-    let cleared = walk(&rt, clear, &[(Action::Store(Hazard(1), 0), 3, true)]);
-    assert!(rt; matches!(cleared, DescPoint::Cleared { .. }));
+    let cleared = leave(&rt, clear, &[(Action::Store(Hazard(1), 0), 3, true)]);
+    assert!(rt; matches!(cleared, Some(DescExit::Cleared { .. })));
 }
 
 /// The last descriptor's name is 72. A word that names a later one leaves the point, as does a head

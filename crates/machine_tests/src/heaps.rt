@@ -6,7 +6,7 @@ ghost use Rattle.heap_geometry.specs.Geometry.{IsChecked};
 use heap_geometry::geometry::Geometry;
 use heap_geometry::limits::CLASSES;
 use std::process::Abort;
-use word_plan::seat::{Seat, Site};
+use word_table::seat::{Seat, Site};
 
 /// These numbers, which a heap can have.
 pub fn checked<R: Abort>(rt: &R, geometry: Geometry) -> Geometry

@@ -2,15 +2,14 @@
 
 use heap_geometry::geometry::Geometry;
 use heap_geometry::need::Need;
-use large_parts::plan::plan_large;
-use large_parts::point::LargePoint;
-use large_parts::run::Run;
-use large_parts::settle::settle_large;
+use large_parts::exit::LargeExit;
+use large_parts::point::{LargePoint, plan_large, settle_large};
+use large_parts::run::UnitRun;
 use large_parts::units::first_run;
 use large_parts::want::Want;
 use std::process::Abort;
-use word_plan::action::{Action, apply};
-use word_plan::name::WordName::{Arena, Shelf, Units};
+use word_table::action::{Action, apply};
+use word_table::name::WordName::{Arena, Shelf, Units};
 
 const GEOMETRY: Geometry = Geometry {
     frames: 1,
@@ -23,16 +22,19 @@ const GEOMETRY: Geometry = Geometry {
 /// An action, the word that it finds, and the word that it leaves.
 type Row = (Action, u64, u64);
 
-/// The point behind these steps, each of which makes the action of its row.
-fn steps<R: Abort>(rt: &R, point: LargePoint, rows: &[Row]) -> LargePoint {
-    let mut point = point;
+/// How the part is left behind these steps, each of which makes the action of its row and only the last
+/// of which may leave it.
+fn leave<R: Abort>(rt: &R, first: LargePoint, rows: &[Row]) -> Option<LargeExit> {
+    let mut at = first;
+    let mut exit = None;
     for row in rows {
         let (action, before, after) = *row;
         let (word, found) = apply(&action, before);
-        assert_eq!(rt; (plan_large(&point), word), (action, after));
-        point = settle_large(point, found);
+        assert!(rt; exit.is_none());
+        assert_eq!(rt; (plan_large(&at), word), (action, after));
+        exit = settle_large(&mut at, found);
     }
-    point
+    exit
 }
 
 /// An allocation of 2,048 words takes the first two units behind the one frame.
@@ -46,8 +48,8 @@ fn a_large_block_takes_two_units(rt: HostRuntime) {
     let load = LargePoint::LoadUnits {
         want: Want::new(GEOMETRY, 2),
     };
-    let given = steps(&rt, load, &rows);
-    assert!(rt; matches!(given, LargePoint::GivenRun { place: 4096, .. }));
+    let given = leave(&rt, load, &rows);
+    assert!(rt; matches!(given, Some(LargeExit::GivenRun { place: 4096, .. })));
 }
 
 /// It gives the units back.
@@ -59,9 +61,9 @@ fn a_large_block_is_freed(rt: HostRuntime) {
     ];
     let load = LargePoint::LoadRunPrefix {
         place: 4096,
-        run: Run::new(0, 2),
+        run: UnitRun::new(0, 2),
     };
-    assert!(rt; matches!(steps(&rt, load, &rows), LargePoint::FreedRun));
+    assert!(rt; matches!(leave(&rt, load, &rows), Some(LargeExit::FreedRun)));
 }
 
 /// Where no run is free, an exchange of the word with itself finds that again.
@@ -72,10 +74,11 @@ fn no_run_is_free(rt: HostRuntime) {
         bits: 0,
     };
     let exchange = Action::Cas(Units, 0, 0);
-    let won = steps(&rt, point, &[(exchange, 0, 0)]);
-    assert!(rt; matches!(won, LargePoint::NoRun));
-    let lost = steps(&rt, point, &[(exchange, 1, 1)]);
-    assert!(rt; matches!(lost, LargePoint::LoadUnits { .. }));
+    let won = leave(&rt, point, &[(exchange, 0, 0)]);
+    assert!(rt; matches!(won, Some(LargeExit::NoRun)));
+    let again = [(exchange, 1, 1), (Action::Load(Units), 1, 1)];
+    let lost = leave(&rt, point, &again);
+    assert!(rt; lost.is_none());
 }
 
 /// A block is put on a shelf, which is full then.
@@ -87,36 +90,36 @@ fn a_block_is_put_on_a_shelf(rt: HostRuntime) {
         need: Need::Large(2),
     };
     let action = Action::Cas(Shelf(5), 0, 524_434);
-    let done = steps(&rt, put, &[(action, 0, 524_434)]);
-    assert!(rt; matches!(done, LargePoint::PutDone));
-    let full = steps(&rt, put, &[(action, 524_434, 524_434)]);
-    assert!(rt; matches!(full, LargePoint::ShelfFull { found: 524_434 }));
+    let done = leave(&rt, put, &[(action, 0, 524_434)]);
+    assert!(rt; matches!(done, Some(LargeExit::PutDone)));
+    let full = leave(&rt, put, &[(action, 524_434, 524_434)]);
+    assert!(rt; matches!(full, Some(LargeExit::ShelfFull { found: 524_434 })));
 }
 
 /// It is taken from there, which leaves nothing; where another caller took it first, it is missed.
 #[test]
 fn a_block_is_taken_from_a_shelf(rt: HostRuntime) {
     let look = LargePoint::LoadShelf { shelf: 5 };
-    let take = steps(&rt, look, &[(Action::Load(Shelf(5)), 524_434, 524_434)]);
-    let action = Action::Cas(Shelf(5), 524_434, 0);
-    let got = steps(&rt, take, &[(action, 524_434, 0)]);
+    let load = (Action::Load(Shelf(5)), 524_434, 524_434);
+    let take = Action::Cas(Shelf(5), 524_434, 0);
+    let got = leave(&rt, look, &[load, (take, 524_434, 0)]);
     assert!(rt;
         matches!(
             got,
-            LargePoint::Got {
+            Some(LargeExit::Got {
                 place: 4096,
                 need: Need::Large(2)
-            }
+            })
         )
     );
-    let missed = steps(&rt, take, &[(action, 0, 0)]);
+    let missed = leave(&rt, look, &[load, (take, 0, 0)]);
     assert!(rt;
         matches!(
             missed,
-            LargePoint::Missed {
+            Some(LargeExit::Missed {
                 expected: 524_434,
                 found: 0
-            }
+            })
         )
     );
 }
@@ -129,7 +132,7 @@ fn nothing_lies_on_a_shelf(rt: HostRuntime) {
         (Action::Load(Shelf(5)), 0, 0),
         (Action::Cas(Shelf(5), 0, 0), 0, 0),
     ];
-    assert!(rt; matches!(steps(&rt, look, &rows), LargePoint::NothingThere));
+    assert!(rt; matches!(leave(&rt, look, &rows), Some(LargeExit::NothingThere)));
 }
 
 /// The usable words of a block stand behind its prefix word.
@@ -140,14 +143,14 @@ fn usable_words(rt: HostRuntime) {
         index: 3,
         value: 10,
     };
-    let wrote = steps(&rt, write, &[(Action::Store(Arena(4100), 10), 0, 10)]);
-    assert!(rt; matches!(wrote, LargePoint::Wrote));
+    let wrote = leave(&rt, write, &[(Action::Store(Arena(4100), 10), 0, 10)]);
+    assert!(rt; matches!(wrote, Some(LargeExit::Wrote)));
     let read = LargePoint::LoadWord {
         place: 4096,
         index: 3,
     };
-    let word = steps(&rt, read, &[(Action::Load(Arena(4100)), 10, 10)]);
-    assert!(rt; matches!(word, LargePoint::Word { value: 10 }));
+    let word = leave(&rt, read, &[(Action::Load(Arena(4100)), 10, 10)]);
+    assert!(rt; matches!(word, Some(LargeExit::Word { value: 10 })));
 }
 
 /// The first run of so many units, where so many can be asked for of so many.

@@ -19,7 +19,7 @@ mod packing;
 #[cfg(test)]
 mod partials;
 #[cfg(test)]
-mod plain_pool;
+mod plain_calls;
 #[cfg(test)]
 mod script;
 #[cfg(test)]

@@ -10,8 +10,8 @@ use pool_model::event::Event;
 use std::alloc::AllocError;
 use std::process::Abort;
 use std::test::Fail;
-use step_core::machine::Core;
-use word_plan::name::WordName;
+use step_machine::machine::Core;
+use word_table::name::WordName;
 
 // Both callers begin an allocation. Caller 0 has the anchor and the link when caller 1 pops the same block.
 #[test]

@@ -2,7 +2,7 @@
 
 use heap_geometry::need::Need;
 use packed_words::active::ActiveWord;
-use packed_words::anchor::{Anchor, State};
+use packed_words::anchor::{Anchor, AnchorState};
 use packed_words::head::Head;
 use packed_words::info::Info;
 use packed_words::prefix::{Prefix, link_of};
@@ -12,19 +12,19 @@ use packed_words::shelf::ShelfWord;
 #[test]
 fn anchors(rt: HostRuntime) {
     let rows = [
-        (Anchor::new(1, 1983, State::Active, 0), 4_061_185),
-        (Anchor::new(65, 895, State::Active, 64), 1_075_574_849),
-        (Anchor::new(1, 1983, State::Active, 64), 1_077_803_009),
-        (Anchor::new(0, 0, State::Full, 0), 1 << 22),
-        (Anchor::new(0, 0, State::Partial, 0), 2 << 22),
-        (Anchor::new(0, 0, State::Empty, 0), 3 << 22),
+        (Anchor::new(1, 1983, AnchorState::Active, 0), 4_061_185),
+        (Anchor::new(65, 895, AnchorState::Active, 64), 1_075_574_849),
+        (Anchor::new(1, 1983, AnchorState::Active, 64), 1_077_803_009),
+        (Anchor::new(0, 0, AnchorState::Full, 0), 1 << 22),
+        (Anchor::new(0, 0, AnchorState::Partial, 0), 2 << 22),
+        (Anchor::new(0, 0, AnchorState::Empty, 0), 3 << 22),
     ];
     for (anchor, word) in rows {
         assert_eq!(rt; (anchor.pack(), Anchor::unpack(word)), (word, anchor));
     }
     let again = Anchor::unpack(1_077_803_009);
     let fields = (again.avail(), again.count(), again.state(), again.tag());
-    assert_eq!(rt; fields, (1, 1983, State::Active, 64));
+    assert_eq!(rt; fields, (1, 1983, AnchorState::Active, 64));
 }
 
 #[test]

@@ -1,13 +1,14 @@
 //! Steps of partial superblocks, by the numbers of the words.
 
 use crate::heaps::{first_site, seat_of};
-use crate::walk::{Row, stay, walk};
+use crate::walk::{Row, leave, stay, walk};
 use heap_geometry::geometry::Geometry;
+use partial_parts::exit::PartialExit;
 use partial_parts::point::PartialPoint;
 use std::process::Abort;
-use word_plan::action::Action;
-use word_plan::name::WordName::{Anchor, Info, Slot};
-use word_plan::seat::Seat;
+use word_table::action::Action;
+use word_table::name::WordName::{Anchor, Info, Slot};
+use word_table::seat::Seat;
 
 /// A heap of these numbers has 94 descriptors.
 const GEOMETRY: Geometry = Geometry {
@@ -41,8 +42,8 @@ fn the_last_block_is_granted(rt: HostRuntime) {
         (Action::Cas(Anchor(0), PARTIAL, 37_748_736), PARTIAL, true),
     ];
     let first_point = PartialPoint::LoadSlot { seat: seat(&rt) };
-    let point = walk(&rt, first_point, &rows);
-    assert!(rt; matches!(point, PartialPoint::Granted { more: 0, .. }));
+    let exit = leave(&rt, first_point, &rows);
+    assert!(rt; matches!(exit, Some(PartialExit::Granted { more: 0, .. })));
 }
 
 /// Of 70 free blocks 65 are granted, by a caller of another processor heap than the one before. The
@@ -64,8 +65,8 @@ fn the_most_is_granted(rt: HostRuntime) {
     let first_point = PartialPoint::LoadSlot {
         seat: seat_of(&rt, GEOMETRY, 1, 1),
     };
-    let point = walk(&rt, first_point, &rows);
-    assert!(rt; matches!(point, PartialPoint::Granted { more: 64, .. }));
+    let exit = leave(&rt, first_point, &rows);
+    assert!(rt; matches!(exit, Some(PartialExit::Granted { more: 64, .. })));
 }
 
 /// A superblock that became partial goes into the slot of its processor heap, and the one that
@@ -79,10 +80,10 @@ fn slots_are_filled(rt: HostRuntime) {
     let rows = [(Action::Load(Info(4)), (10 << 24) + 65_537, true)];
     let put = walk(&rt, load, &rows);
     let swap = Action::Swap(Slot(1, 10), 5);
-    let filled = walk(&rt, put, &[(swap, 0, true)]);
-    assert!(rt; matches!(filled, PartialPoint::SlotFilled { .. }));
-    let other = walk(&rt, put, &[(swap, 94, true)]);
-    assert!(rt; matches!(other, PartialPoint::Displaced { desc: 93, .. }));
+    let filled = leave(&rt, put, &[(swap, 0, true)]);
+    assert!(rt; matches!(filled, Some(PartialExit::SlotFilled { .. })));
+    let other = leave(&rt, put, &[(swap, 94, true)]);
+    assert!(rt; matches!(other, Some(PartialExit::Displaced { desc: 93, .. })));
 }
 
 /// A superblock that became empty is taken out of the slot where it stands there.
@@ -95,21 +96,21 @@ fn an_empty_superblock_leaves_the_slot(rt: HostRuntime) {
     };
     let load = Action::Load(Slot(1, 10));
     let remove = Action::Cas(Slot(1, 10), 5, 0);
-    let removed = walk(&rt, first, &[(load, 5, true), (remove, 5, true)]);
-    assert!(rt; matches!(removed, PartialPoint::Removed { desc: 4, .. }));
+    let removed = leave(&rt, first, &[(load, 5, true), (remove, 5, true)]);
+    assert!(rt; matches!(removed, Some(PartialExit::Removed { desc: 4, .. })));
     let other: &[Row] = &[(load, 4, true)];
     let lost: &[Row] = &[(load, 5, true), (remove, 0, false)];
     for rows in [other, lost] {
-        let point = walk(&rt, first, rows);
-        assert!(rt; matches!(point, PartialPoint::NotInSlot { .. }));
+        let exit = leave(&rt, first, rows);
+        assert!(rt; matches!(exit, Some(PartialExit::NotInSlot { .. })));
     }
 }
 
 /// Whether descriptor 0 of a list was found to be empty, or partial.
-fn told_empty(point: PartialPoint) -> Option<bool> {
-    match point {
-        PartialPoint::ListedEmpty { desc: 0, .. } => Some(true),
-        PartialPoint::ListedPartial { desc: 0, .. } => Some(false),
+fn told_empty(exit: Option<PartialExit>) -> Option<bool> {
+    match exit {
+        Some(PartialExit::ListedEmpty { desc: 0, .. }) => Some(true),
+        Some(PartialExit::ListedPartial { desc: 0, .. }) => Some(false),
         _ => None,
     }
 }
@@ -126,9 +127,9 @@ fn empty_superblocks_are_told(rt: HostRuntime) {
     };
     let load = Action::Load(Anchor(0));
     for value in [EMPTY, EMPTY + 1] {
-        let took = walk(&rt, grant, &[(load, value, true)]);
+        let took = leave(&rt, grant, &[(load, value, true)]);
         assert!(rt;
-            matches!(took, PartialPoint::TookEmpty { .. }),
+            matches!(took, Some(PartialExit::TookEmpty { .. })),
             "at {value}"
         );
     }
@@ -139,8 +140,8 @@ fn empty_superblocks_are_told(rt: HostRuntime) {
         (PARTIAL + 2, false),
     ];
     for (value, empty) in rows {
-        let point = walk(&rt, listed, &[(load, value, true)]);
-        assert_eq!(rt; told_empty(point), Some(empty), "at {value}");
+        let told = leave(&rt, listed, &[(load, value, true)]);
+        assert_eq!(rt; told_empty(told), Some(empty), "at {value}");
     }
 }
 
@@ -170,6 +171,6 @@ fn words_that_are_not_expected(rt: HostRuntime) {
         (grant, PARTIAL + 2),
     ];
     stay(&rt, &rows);
-    let empty = walk(&rt, slot, &[(Action::Load(Slot(0, 10)), 0, true)]);
-    assert!(rt; matches!(empty, PartialPoint::SlotEmpty { .. }));
+    let empty = leave(&rt, slot, &[(Action::Load(Slot(0, 10)), 0, true)]);
+    assert!(rt; matches!(empty, Some(PartialExit::SlotEmpty { .. })));
 }

@@ -2,7 +2,7 @@
 
 ghost use Rattle.std.specs.Prelude.{◌<◌, IsTrue};
 ghost use Rattle.errand_steps.specs.Begins.{IsIdle};
-ghost use Rattle.step_core.specs.Cores.{errand_at, OwnsBlock};
+ghost use Rattle.step_machine.specs.Cores.{errand_at, OwnsBlock};
 
 use crate::heaps::checked;
 use errand_steps::reply::{Begun, Progress, Reply};
@@ -14,10 +14,10 @@ use pool_model::owner::Owner;
 use std::alloc::{AllocError, Global};
 use std::process::Abort;
 use std::test::Fail;
-use step_core::laws::open_installed;
-use step_core::machine::{Core, Stopped};
-use word_plan::layout::Layout;
-use word_plan::name::WordName;
+use step_machine::laws::open_installed;
+use step_machine::machine::{Core, Stopped};
+use word_table::layout::Layout;
+use word_table::name::WordName;
 
 /// The need of three usable words, the only one whose blocks are written and read here.
 pub const THREE: Need = Need::Small(1);

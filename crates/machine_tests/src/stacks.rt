@@ -1,16 +1,15 @@
 //! Steps of a stack, by the numbers of the words.
 
 use crate::heaps::seat_of;
-use crate::walk::walk;
+use crate::walk::{leave, walk};
 use heap_geometry::geometry::Geometry;
 use packed_words::head::Head;
-use stack_parts::plan::plan_stack;
-use stack_parts::point::{Pile, StackPoint};
-use stack_parts::settle::settle_stack;
+use stack_parts::exit::StackExit;
+use stack_parts::point::{Pile, StackPoint, plan_stack, settle_stack};
 use std::process::Abort;
-use word_plan::action::{Action, apply};
-use word_plan::name::WordName::{self, FrameHead, FrameNext, ListHead, Next};
-use word_plan::seat::Seat;
+use word_table::action::{Action, apply};
+use word_table::name::WordName::{self, FrameHead, FrameNext, ListHead, Next};
+use word_table::seat::Seat;
 
 /// A heap of these numbers has 111 descriptors.
 const GEOMETRY: Geometry = Geometry {
@@ -48,45 +47,45 @@ fn place_of(name: WordName) -> Option<usize> {
     }
 }
 
-/// Makes one step over the words, and answers the next point.
-fn step(words: &mut [u64], point: StackPoint) -> StackPoint {
-    let action = plan_stack(&point);
+/// Makes one step over the words, and answers how it leaves the stack.
+fn step(words: &mut [u64], at: &mut StackPoint) -> Option<StackExit> {
+    let action = plan_stack(at);
     match place_of(name_of(&action)) {
         Some(place) if place < words.len() => {
             let (after, found) = apply(&action, words[place]);
             words[place] = after;
-            settle_stack(point, found)
+            settle_stack(at, found)
         }
-        _ => point,
+        _ => None,
     }
 }
 
-/// Makes some steps.
-fn steps(words: &mut [u64], first: StackPoint, count: u8) -> StackPoint {
-    let mut point = first;
+/// Makes some steps, and answers how the last one leaves the stack.
+fn steps(words: &mut [u64], at: &mut StackPoint, count: u8) -> Option<StackExit> {
+    let mut exit = None;
     for _ in 0..count {
-        point = step(words, point);
+        exit = step(words, at);
     }
-    point
+    exit
 }
 
 /// Makes some steps, behind which the head is this one.
 fn steps_to<R: Abort>(
     rt: &R,
     words: &mut [u64],
-    first: StackPoint,
+    at: &mut StackPoint,
     count: u8,
     head: u64,
-) -> StackPoint {
-    let left = steps(words, first, count);
+) -> Option<StackExit> {
+    let exit = steps(words, at, count);
     assert_eq!(rt; words.first().copied(), Some(head));
-    left
+    exit
 }
 
 /// The frame that was popped, if one was.
-fn popped(point: StackPoint) -> Option<u16> {
-    match point {
-        StackPoint::Popped { index, .. } => Some(index),
+fn popped(exit: Option<StackExit>) -> Option<u16> {
+    match exit {
+        Some(StackExit::Popped { index, .. }) => Some(index),
         _ => None,
     }
 }
@@ -105,23 +104,27 @@ fn pop<R: Abort>(rt: &R, caller: u8) -> StackPoint {
 #[test]
 fn the_tag_tells_a_reused_frame(rt: HostRuntime) {
     let mut words = [1, 2, 0];
-    let first = steps_to(&rt, &mut words, pop(&rt, 0), 2, 1);
+    let mut first = pop(&rt, 0);
+    let exit = steps_to(&rt, &mut words, &mut first, 2, 1);
+    assert!(rt; exit.is_none());
     assert_eq!(rt; plan_stack(&first), Action::Cas(FrameHead, 1, 65_538));
     for (head, index) in [(65_538, 0), (131_072, 1)] {
-        let left = steps_to(&rt, &mut words, pop(&rt, 1), 3, head);
-        assert_eq!(rt; popped(left), Some(index));
+        let mut second = pop(&rt, 1);
+        let exit = steps_to(&rt, &mut words, &mut second, 3, head);
+        assert_eq!(rt; popped(exit), Some(index));
     }
-    let push = StackPoint::LoadTopToPush {
+    let mut push = StackPoint::LoadTopToPush {
         seat: seat(&rt, 1),
         pile: Pile::Frames,
         index: 0,
     };
-    let left = steps_to(&rt, &mut words, push, 3, 131_073);
-    assert!(rt; matches!(left, StackPoint::Pushed { .. }));
-    let first = steps_to(&rt, &mut words, first, 1, 131_073);
+    let exit = steps_to(&rt, &mut words, &mut push, 3, 131_073);
+    assert!(rt; matches!(exit, Some(StackExit::Pushed { .. })));
+    let exit = steps_to(&rt, &mut words, &mut first, 1, 131_073);
+    assert!(rt; exit.is_none());
     assert!(rt; matches!(first, StackPoint::LoadTop { .. }));
-    let left = steps_to(&rt, &mut words, first, 3, 196_608);
-    assert_eq!(rt; popped(left), Some(0));
+    let exit = steps_to(&rt, &mut words, &mut first, 3, 196_608);
+    assert_eq!(rt; popped(exit), Some(0));
 }
 
 /// Descriptor 5 is pushed on the list of its class, where a pop came between the first time, and
@@ -142,8 +145,8 @@ fn a_list_of_partial_superblocks(rt: HostRuntime) {
         pile,
         index: 5,
     };
-    let point = walk(&rt, first_point, &push);
-    assert!(rt; matches!(point, StackPoint::Pushed { .. }));
+    let exit = leave(&rt, first_point, &push);
+    assert!(rt; matches!(exit, Some(StackExit::Pushed { .. })));
 
     let pop = [
         (Action::Load(ListHead(9)), 65_542, true),
@@ -154,8 +157,8 @@ fn a_list_of_partial_superblocks(rt: HostRuntime) {
         seat: seat(&rt, 0),
         pile,
     };
-    let point = walk(&rt, first_point, &pop);
-    assert!(rt; matches!(point, StackPoint::Popped { index: 5, .. }));
+    let exit = leave(&rt, first_point, &pop);
+    assert!(rt; matches!(exit, Some(StackExit::Popped { index: 5, .. })));
 }
 
 /// An empty stack is confirmed by an exchange of its head for itself, and where that is lost the pop
@@ -167,8 +170,8 @@ fn an_empty_stack(rt: HostRuntime) {
         seat: seat(&rt, 0),
         pile,
     };
-    let point = walk(&rt, load, &[(Action::Load(FrameHead), 65_536, true)]);
-    assert!(rt; matches!(point, StackPoint::FoundEmpty { .. }));
+    let exit = leave(&rt, load, &[(Action::Load(FrameHead), 65_536, true)]);
+    assert!(rt; matches!(exit, Some(StackExit::FoundEmpty { .. })));
 
     let confirm = StackPoint::ConfirmEmpty {
         seat: seat(&rt, 0),
@@ -176,8 +179,8 @@ fn an_empty_stack(rt: HostRuntime) {
         head: Head::new(0, 1),
     };
     let exchange = Action::Cas(FrameHead, 65_536, 65_536);
-    let confirmed = walk(&rt, confirm, &[(exchange, 65_536, true)]);
-    assert!(rt; matches!(confirmed, StackPoint::ConfirmedEmpty { .. }));
+    let confirmed = leave(&rt, confirm, &[(exchange, 65_536, true)]);
+    assert!(rt; matches!(confirmed, Some(StackExit::ConfirmedEmpty { .. })));
     let lost = walk(&rt, confirm, &[(exchange, 65_537, false)]);
     assert!(rt; matches!(lost, StackPoint::LoadTop { .. }));
 }

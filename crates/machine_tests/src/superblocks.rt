@@ -1,13 +1,14 @@
 //! Steps of one superblock, by the numbers of the words.
 
 use crate::heaps::{first_site, seat_of};
-use crate::walk::{stay, walk};
+use crate::walk::{leave, stay, walk};
 use heap_geometry::geometry::Geometry;
 use std::process::Abort;
+use superblock_parts::exit::BlockExit;
 use superblock_parts::point::{BlockPoint, Share};
-use word_plan::action::Action;
-use word_plan::name::WordName::{self, Active, Arena, Hazard, Info};
-use word_plan::seat::{Seat, Site};
+use word_table::action::Action;
+use word_table::name::WordName::{self, Active, Arena, Hazard, Info};
+use word_table::seat::{Seat, Site};
 
 const GEOMETRY: Geometry = Geometry {
     frames: 1,
@@ -46,8 +47,8 @@ fn the_tag_tells_a_second_pop(rt: HostRuntime) {
     let first_point = BlockPoint::LoadActive {
         seat: seat_of(&rt, GEOMETRY, 0, 10),
     };
-    let point = walk(&rt, first_point, &first);
-    assert!(rt; matches!(point, BlockPoint::Given { index: 1, .. }));
+    let exit = leave(&rt, first_point, &first);
+    assert!(rt; matches!(exit, Some(BlockExit::Given { index: 1, .. })));
 
     let second = [
         (Action::Load(active), 64, true),
@@ -61,8 +62,8 @@ fn the_tag_tells_a_second_pop(rt: HostRuntime) {
     let first_point = BlockPoint::LoadActive {
         seat: seat_of(&rt, GEOMETRY, 1, 10),
     };
-    let point = walk(&rt, first_point, &second);
-    assert!(rt; matches!(point, BlockPoint::Given { index: 0, .. }));
+    let exit = leave(&rt, first_point, &second);
+    assert!(rt; matches!(exit, Some(BlockExit::Given { index: 0, .. })));
 }
 
 /// The free of the first of two handed-out blocks makes the full superblock partial, and the free
@@ -86,8 +87,8 @@ fn two_frees_empty_a_superblock(rt: HostRuntime) {
         frame: 0,
         index: 0,
     };
-    let point = walk(&rt, first_point, &first);
-    assert!(rt; matches!(point, BlockPoint::BecamePartial { stored: false, .. }));
+    let exit = leave(&rt, first_point, &first);
+    assert!(rt; matches!(exit, Some(BlockExit::BecamePartial { stored: false, .. })));
 
     let second = [
         (Action::Load(Arena(2048)), 0, true),
@@ -106,8 +107,8 @@ fn two_frees_empty_a_superblock(rt: HostRuntime) {
         frame: 0,
         index: 1,
     };
-    let point = walk(&rt, first_point, &second);
-    assert!(rt; matches!(point, BlockPoint::BecameEmpty { heap: 0, .. }));
+    let exit = leave(&rt, first_point, &second);
+    assert!(rt; matches!(exit, Some(BlockExit::BecameEmpty { heap: 0, .. })));
 }
 
 /// The last blocks of a new superblock of class 0 are linked, and it is installed with 64 credits
@@ -124,16 +125,16 @@ fn a_new_superblock(rt: HostRuntime) {
     ];
     let site = first_site(seat_of(&rt, GEOMETRY, 0, 0));
     let first_point = BlockPoint::LinkBlock { site, index: 2046 };
-    let point = walk(&rt, first_point, &rows);
-    assert!(rt; matches!(point, BlockPoint::Given { index: 0, .. }));
+    let exit = leave(&rt, first_point, &rows);
+    assert!(rt; matches!(exit, Some(BlockExit::Given { index: 0, .. })));
 
     let install = BlockPoint::InstallSuperblock { site };
-    let point = walk(
+    let exit = leave(
         &rt,
         install,
         &[(Action::Cas(Active(0, 0), 0, 127), 128, false)],
     );
-    assert!(rt; matches!(point, BlockPoint::Discarded { .. }));
+    assert!(rt; matches!(exit, Some(BlockExit::Discarded { .. })));
 }
 
 /// Who takes the last credit of a superblock of class 1 takes 64 more off its count, and offers
@@ -164,8 +165,8 @@ fn the_last_credit(rt: HostRuntime) {
     let first_point = BlockPoint::LoadActive {
         seat: seat_of(&rt, GEOMETRY, 0, 1),
     };
-    let point = walk(&rt, first_point, &rows);
-    assert!(rt; matches!(point, BlockPoint::Returned { index: 64, .. }));
+    let exit = leave(&rt, first_point, &rows);
+    assert!(rt; matches!(exit, Some(BlockExit::Returned { index: 64, .. })));
 }
 
 /// A pop that a grant pays for leaves the state, and what was granted beside is offered.

@@ -2,13 +2,13 @@
 
 use crate::heaps::{checked, seat_of};
 use heap_geometry::geometry::Geometry;
-use packed_words::anchor::{Anchor, State};
+use packed_words::anchor::{Anchor, AnchorState};
 use packed_words::info::Info;
 use std::process::Abort;
-use word_plan::action::{Action, Found, apply};
-use word_plan::layout::Layout;
-use word_plan::name::WordName;
-use word_plan::seat::{Seat, Site};
+use word_table::action::{Action, Found, apply};
+use word_table::layout::Layout;
+use word_table::name::WordName;
+use word_table::seat::{Seat, Site};
 
 const SMALL: Geometry = Geometry {
     frames: 4,
@@ -167,7 +167,7 @@ fn found_words(rt: HostRuntime) {
     for (word, info) in rows {
         assert_eq!(rt; seat.info(word), info, "at {word}");
     }
-    let anchor = Some(Anchor::new(1, 0, State::Active, 0));
+    let anchor = Some(Anchor::new(1, 0, AnchorState::Active, 0));
     for (word, anchor) in [(1, anchor), (2, None)] {
         assert_eq!(rt; seat.anchor(word), anchor, "at {word}");
     }

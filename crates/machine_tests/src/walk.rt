@@ -1,65 +1,72 @@
 //! A walk through the points of one part of the algorithm, each step of which finds a given word.
 
-use hazard_parts::plan::plan_desc;
-use hazard_parts::point::DescPoint;
-use hazard_parts::settle::settle_desc;
-use partial_parts::plan::plan_partial;
-use partial_parts::point::PartialPoint;
-use partial_parts::settle::settle_partial;
-use stack_parts::plan::plan_stack;
-use stack_parts::point::StackPoint;
-use stack_parts::settle::settle_stack;
+use hazard_parts::exit::DescExit;
+use hazard_parts::point::{DescPoint, plan_desc, settle_desc};
+use partial_parts::exit::PartialExit;
+use partial_parts::point::{PartialPoint, plan_partial, settle_partial};
+use stack_parts::exit::StackExit;
+use stack_parts::point::{StackPoint, plan_stack, settle_stack};
 use std::process::Abort;
-use superblock_parts::plan::plan_block;
-use superblock_parts::point::BlockPoint;
-use superblock_parts::settle::settle_block;
-use word_plan::action::{Action, Found};
+use superblock_parts::exit::BlockExit;
+use superblock_parts::point::{BlockPoint, plan_block, settle_block};
+use word_table::action::{Action, Found};
 
 /// A point of one part of the algorithm.
 pub trait Point: Copy {
-    /// The action that is made there.
-    fn plan(self) -> Action;
+    /// How the part is left.
+    type Exit: Copy;
 
-    /// The point behind it, where the action found this.
-    fn settle(self, found: Found) -> Self;
+    /// The action that is made there.
+    fn plan(&self) -> Action;
+
+    /// Goes on to the point behind it, where the action found this, or answers how the part is left.
+    fn settle(&mut self, found: Found) -> Option<Self::Exit>;
 }
 
 impl Point for BlockPoint {
-    fn plan(self) -> Action {
-        plan_block(&self)
+    type Exit = BlockExit;
+
+    fn plan(&self) -> Action {
+        plan_block(self)
     }
 
-    fn settle(self, found: Found) -> BlockPoint {
+    fn settle(&mut self, found: Found) -> Option<BlockExit> {
         settle_block(self, found)
     }
 }
 
 impl Point for StackPoint {
-    fn plan(self) -> Action {
-        plan_stack(&self)
+    type Exit = StackExit;
+
+    fn plan(&self) -> Action {
+        plan_stack(self)
     }
 
-    fn settle(self, found: Found) -> StackPoint {
+    fn settle(&mut self, found: Found) -> Option<StackExit> {
         settle_stack(self, found)
     }
 }
 
 impl Point for DescPoint {
-    fn plan(self) -> Action {
-        plan_desc(&self)
+    type Exit = DescExit;
+
+    fn plan(&self) -> Action {
+        plan_desc(self)
     }
 
-    fn settle(self, found: Found) -> DescPoint {
+    fn settle(&mut self, found: Found) -> Option<DescExit> {
         settle_desc(self, found)
     }
 }
 
 impl Point for PartialPoint {
-    fn plan(self) -> Action {
-        plan_partial(&self)
+    type Exit = PartialExit;
+
+    fn plan(&self) -> Action {
+        plan_partial(self)
     }
 
-    fn settle(self, found: Found) -> PartialPoint {
+    fn settle(&mut self, found: Found) -> Option<PartialExit> {
         settle_partial(self, found)
     }
 }
@@ -67,22 +74,40 @@ impl Point for PartialPoint {
 /// The action of a step, the word that it finds, and whether its exchange is won.
 pub type Row = (Action, u64, bool);
 
-/// The point behind these steps, each of which makes the action of its row.
-pub fn walk<R: Abort, P: Point>(rt: &R, first: P, rows: &[Row]) -> P {
-    let mut point = first;
+/// Goes through these steps, each of which makes the action of its row, and answers how the last one
+/// leaves the part. No other one does.
+fn go<R: Abort, P: Point>(rt: &R, at: &mut P, rows: &[Row]) -> Option<P::Exit> {
+    let mut exit = None;
     for row in rows {
         let (action, value, won) = *row;
-        assert_eq!(rt; point.plan(), action);
-        point = point.settle(Found { value, won });
+        assert!(rt; exit.is_none());
+        assert_eq!(rt; at.plan(), action);
+        exit = at.settle(Found { value, won });
     }
+    exit
+}
+
+/// The point behind these steps, none of which leaves the part.
+pub fn walk<R: Abort, P: Point>(rt: &R, first: P, rows: &[Row]) -> P {
+    let mut point = first;
+    let exit = go(rt, &mut point, rows);
+    assert!(rt; exit.is_none());
     point
+}
+
+/// How the part is left behind these steps; `None` where it isn't.
+pub fn leave<R: Abort, P: Point>(rt: &R, first: P, rows: &[Row]) -> Option<P::Exit> {
+    let mut point = first;
+    go(rt, &mut point, rows)
 }
 
 /// Behind each of these points, where its word is found to be this, the plan is the same as before.
 pub fn stay<R: Abort, P: Point>(rt: &R, rows: &[(P, u64)]) {
     for row in rows {
         let (point, value) = *row;
-        let next = point.settle(Found { value, won: true });
+        let mut next = point;
+        let exit = next.settle(Found { value, won: true });
+        assert!(rt; exit.is_none(), "at {value}");
         assert_eq!(rt; next.plan(), point.plan(), "at {value}");
     }
 }

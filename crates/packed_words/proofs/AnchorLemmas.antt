@@ -1,7 +1,7 @@
 -- The anchor word is exact.
 use Rattle.std.proofs.Common.{ℕ, zero, suc, subst, ◌≡◌, ◌/◌, ◌%◌, ◌^◌, ◌<◌, List, [], ◌∷◌, Some, arith, refl, ap, ◌∙◌}
-use Rattle.packed_words.specs.declared.anchor.State.{State}
-use Rattle.packed_words.specs.declared.anchor.State.TheVariants.{Active, Full, Partial, Empty}
+use Rattle.packed_words.specs.declared.anchor.AnchorState.{AnchorState}
+use Rattle.packed_words.specs.declared.anchor.AnchorState.TheVariants.{Active, Full, Partial, Empty}
 use Rattle.packed_words.specs.declared.widths.TheConstants.{AVAIL_BITS, COUNT_BITS, STATE_BITS, TAG_BITS, STATE_AT, TAG_AT}
 use Rattle.packed_words.specs.Fields.{IsExact, bits_at, joined, parted}
 use Rattle.packed_words.specs.Anchor.{AnchorFields, IsAnchor, anchor_word, anchor_of, state_code, state_of}
@@ -16,14 +16,14 @@ abbrev numbers : AnchorFields → List ℕ
 numbers a = a.avail ∷ a.count ∷ state_code a.state ∷ a.tag ∷ []
 
 -- the code of a state fits its bits
-state_code-below : (state : State) → state_code state < 2 ^ STATE_BITS
+state_code-below : (state : AnchorState) → state_code state < 2 ^ STATE_BITS
 state_code-below Active = omega arith
 state_code-below Full = omega arith
 state_code-below Partial = omega arith
 state_code-below Empty = omega arith
 
 -- and gives the state back
-state_of-state_code : (state : State) → state_of (state_code state) ≡ state
+state_of-state_code : (state : AnchorState) → state_of (state_code state) ≡ state
 state_of-state_code Active = refl
 state_of-state_code Full = refl
 state_of-state_code Partial = refl

@@ -1,7 +1,7 @@
 -- The anchor word of a superblock.
 use Rattle.std.specs.Prelude.{ℕ, zero, suc, ◌+◌, ◌*◌, ◌^◌, ◌<◌}
-use Rattle.packed_words.specs.declared.anchor.State.{State}
-use Rattle.packed_words.specs.declared.anchor.State.TheVariants.{Active, Full, Partial, Empty}
+use Rattle.packed_words.specs.declared.anchor.AnchorState.{AnchorState}
+use Rattle.packed_words.specs.declared.anchor.AnchorState.TheVariants.{Active, Full, Partial, Empty}
 use Rattle.packed_words.specs.declared.widths.TheConstants.{AVAIL_BITS, COUNT_BITS, STATE_BITS, TAG_BITS, COUNT_AT, STATE_AT, TAG_AT}
 use Rattle.packed_words.specs.Fields.{bits_at}
 
@@ -9,7 +9,7 @@ use Rattle.packed_words.specs.Fields.{bits_at}
 pub record AnchorFields : Type 0 where
   pub avail : ℕ
   pub count : ℕ
-  pub state : State
+  pub state : AnchorState
   pub tag : ℕ
 
 -- each number fits its bits
@@ -19,14 +19,14 @@ pub record IsAnchor (a : AnchorFields) : Type 0 where
   pub tag : a.tag < 2 ^ TAG_BITS
 
 -- the code of a state
-abbrev pub state_code : State → ℕ
+abbrev pub state_code : AnchorState → ℕ
 state_code Active = 0
 state_code Full = 1
 state_code Partial = 2
 state_code Empty = 3
 
 -- the state of a code
-abbrev pub state_of : ℕ → State
+abbrev pub state_of : ℕ → AnchorState
 state_of zero = Active
 state_of (suc zero) = Full
 state_of (suc (suc zero)) = Partial

@@ -15,7 +15,7 @@ const STATE_MASK: u64 = (1 << STATE_BITS) - 1;
 
 /// The state of a superblock.
 #[derive(Clone, Copy, Debug, PartialEq, Eq)]
-pub enum State {
+pub enum AnchorState {
     /// Its descriptor stands in an active word, or is about to be put there.
     Active,
     /// No block of it can be reserved until one is freed.
@@ -52,7 +52,7 @@ impl Model for Anchor {
 impl Anchor {
     /// The anchor with these fields: the first available block, the number of free blocks that
     /// nobody has reserved, the state, and the tag.
-    pub fn new(avail: u16, count: u16, state: State, tag: u64) -> Anchor
+    pub fn new(avail: u16, count: u16, state: AnchorState, tag: u64) -> Anchor
         requires avail { avail < 2 ^ AVAIL_BITS }
         requires count { count < 2 ^ COUNT_BITS }
         requires tag { tag < 2 ^ TAG_BITS }
@@ -80,7 +80,7 @@ impl Anchor {
     }
 
     /// The state of the superblock.
-    pub fn state(self) -> State
+    pub fn state(self) -> AnchorState
         ensures { result ≡ self.state }
     {
         state_of((self.word >> STATE_AT) & STATE_MASK)
@@ -113,7 +113,7 @@ impl Anchor {
 }
 
 /// The word of an anchor with these fields.
-fn anchor_word(avail: u16, count: u16, state: State, tag: u64) -> u64
+fn anchor_word(avail: u16, count: u16, state: AnchorState, tag: u64) -> u64
     requires avail { avail < 2 ^ AVAIL_BITS }
     requires count { count < 2 ^ COUNT_BITS }
     requires tag { tag < 2 ^ TAG_BITS }
@@ -123,25 +123,25 @@ fn anchor_word(avail: u16, count: u16, state: State, tag: u64) -> u64
 }
 
 /// The code of a state.
-fn state_code(state: State) -> u64
+fn state_code(state: AnchorState) -> u64
     ensures { result ≡ state_code state }
 {
     match state {
-        State::Active => 0,
-        State::Full => 1,
-        State::Partial => 2,
-        State::Empty => 3,
+        AnchorState::Active => 0,
+        AnchorState::Full => 1,
+        AnchorState::Partial => 2,
+        AnchorState::Empty => 3,
     }
 }
 
 /// The state of a code.
-fn state_of(code: u64) -> State
+fn state_of(code: u64) -> AnchorState
     ensures { result ≡ state_of code }
 {
     match code {
-        0 => State::Active,
-        1 => State::Full,
-        2 => State::Partial,
-        _ => State::Empty,
+        0 => AnchorState::Active,
+        1 => AnchorState::Full,
+        2 => AnchorState::Partial,
+        _ => AnchorState::Empty,
     }
 }

@@ -1,7 +1,7 @@
 -- What a grant leaves.
 use Rattle.std.proofs.Common.{ℕ, ◌≡◌, ◌+◌, ◌<◌, ◌≤◌, arith}
 use Rattle.packed_words.specs.Anchor.{AnchorFields}
-use Rattle.word_plan.specs.declared.limits.TheConstants.{MOST_CREDITS}
+use Rattle.word_table.specs.declared.limits.TheConstants.{MOST_CREDITS}
 use Rattle.partial_parts.specs.Grants.{grant_more, granted}
 
 -- a grant takes what it reserves off the count

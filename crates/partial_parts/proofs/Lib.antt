@@ -1,3 +1,2 @@
-pub mod FitLemmas
+pub mod PointLemmas
 pub mod GrantLemmas
-pub mod SeatLemmas

@@ -1,3 +1,2 @@
-pub mod Fits
 pub mod Grants
 pub mod Points

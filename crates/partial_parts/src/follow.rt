@@ -2,23 +2,26 @@
 
 ghost use Rattle.std.specs.Prelude.{◌≡◌};
 ghost use Rattle.packed_words.specs.Anchor.{anchor_of};
-ghost use Rattle.word_plan.specs.Seats.{desc_named, info_in, anchor_in};
+ghost use Rattle.word_table.specs.Seats.{desc_named, info_in, anchor_in};
 ghost use Rattle.partial_parts.specs.Points.{after_slot, after_kept, after_taken_info, after_grant_anchor, after_live, after_owner, after_put, after_displaced, after_held_slot, after_listed_anchor};
 
+use crate::exit::PartialExit;
 use crate::grants::is_empty;
 use crate::point::PartialPoint;
 use packed_words::anchor::Anchor;
-use word_plan::name::name_of_desc;
-use word_plan::seat::{Seat, Site};
+use word_table::name::name_of_desc;
+use word_table::onward::Onward;
+use word_table::seat::{Seat, Site};
 
 /// From the slot of the caller's processor heap.
-pub fn after_slot(seat: Seat, word: u64) -> PartialPoint
+#[inline(always)]
+pub fn after_slot(seat: Seat, word: u64) -> Onward<PartialPoint, PartialExit>
     ensures { result ≡ after_slot seat word }
 {
     if word == 0 {
-        PartialPoint::SlotEmpty { seat }
+        Onward::Leaves(PartialExit::SlotEmpty { seat })
     } else {
-        after_kept(seat, word)
+        Onward::Stays(after_kept(seat, word))
     }
 }
 
@@ -49,13 +52,14 @@ pub fn after_taken_info(seat: Seat, desc: u16, word: u64) -> PartialPoint
 }
 
 /// From the anchor of a superblock that was taken.
-pub fn after_grant_anchor(site: Site, word: u64) -> PartialPoint
+#[inline(always)]
+pub fn after_grant_anchor(site: Site, word: u64) -> Onward<PartialPoint, PartialExit>
     ensures { result ≡ after_grant_anchor site (anchor_of word) (anchor_in site.seat.class word) }
 {
     if is_empty(Anchor::unpack(word).state()) {
-        PartialPoint::TookEmpty { site }
+        Onward::Leaves(PartialExit::TookEmpty { site })
     } else {
-        after_live(site, word)
+        Onward::Stays(after_live(site, word))
     }
 }
 
@@ -84,44 +88,52 @@ pub fn after_owner(seat: Seat, desc: u16, word: u64) -> PartialPoint
 }
 
 /// From the slot into which a superblock was put.
-pub fn after_put(seat: Seat, desc: u16, heap: u8, word: u64) -> PartialPoint
+#[inline(always)]
+pub fn after_put(seat: Seat, desc: u16, heap: u8, word: u64) -> Onward<PartialPoint, PartialExit>
     ensures { result ≡ after_put seat desc heap word }
 {
     if word == 0 {
-        PartialPoint::SlotFilled { seat }
+        Onward::Leaves(PartialExit::SlotFilled { seat })
     } else {
         after_displaced(seat, desc, heap, word)
     }
 }
 
 /// From that slot, where it was not empty.
-fn after_displaced(seat: Seat, desc: u16, heap: u8, word: u64) -> PartialPoint
+#[inline(always)]
+fn after_displaced(seat: Seat, desc: u16, heap: u8, word: u64) -> Onward<PartialPoint, PartialExit>
     ensures { result ≡ after_displaced seat desc heap (desc_named seat.geometry word) }
 {
     match seat.desc_named(word) {
-        Some(other) => PartialPoint::Displaced { seat, desc: other },
-        None => PartialPoint::PutSlot { seat, desc, heap },
+        Some(other) => Onward::Leaves(PartialExit::Displaced { seat, desc: other }),
+        None => Onward::Stays(PartialPoint::PutSlot { seat, desc, heap }),
     }
 }
 
 /// From the slot in which a superblock may stand that became empty.
-pub fn after_held_slot(seat: Seat, desc: u16, heap: u8, word: u64) -> PartialPoint
+#[inline(always)]
+pub fn after_held_slot(
+    seat: Seat,
+    desc: u16,
+    heap: u8,
+    word: u64,
+) -> Onward<PartialPoint, PartialExit>
     ensures { result ≡ after_held_slot seat desc heap word }
 {
     if word == name_of_desc(desc) {
-        PartialPoint::RemoveFromSlot { seat, desc, heap }
+        Onward::Stays(PartialPoint::RemoveFromSlot { seat, desc, heap })
     } else {
-        PartialPoint::NotInSlot { seat }
+        Onward::Leaves(PartialExit::NotInSlot { seat })
     }
 }
 
 /// From the anchor of a superblock that was popped from the list.
-pub fn after_listed_anchor(seat: Seat, desc: u16, word: u64) -> PartialPoint
+pub fn after_listed_anchor(seat: Seat, desc: u16, word: u64) -> PartialExit
     ensures { result ≡ after_listed_anchor seat desc (anchor_of word) }
 {
     if is_empty(Anchor::unpack(word).state()) {
-        PartialPoint::ListedEmpty { seat, desc }
+        PartialExit::ListedEmpty { seat, desc }
     } else {
-        PartialPoint::ListedPartial { seat, desc }
+        PartialExit::ListedPartial { seat, desc }
     }
 }

@@ -1,11 +1,11 @@
 //! What a caller grants itself of a partial superblock.
 
 ghost use Rattle.std.specs.Prelude.{◌≡◌, ◌≤◌};
-ghost use Rattle.word_plan.specs.declared.limits.TheConstants.{MOST_CREDITS};
+ghost use Rattle.word_table.specs.declared.limits.TheConstants.{MOST_CREDITS};
 ghost use Rattle.partial_parts.specs.Grants.{grant_more, granted_state, granted, is_empty};
 
-use packed_words::anchor::{Anchor, State};
-use word_plan::limits::MOST_CREDITS;
+use packed_words::anchor::{Anchor, AnchorState};
+use word_table::limits::MOST_CREDITS;
 
 /// How many blocks a grant reserves beside the one that is popped, where so many are free.
 pub fn grant_more(count: u16) -> u8
@@ -16,10 +16,14 @@ pub fn grant_more(count: u16) -> u8
 }
 
 /// The state after a grant that reserves so many more.
-fn granted_state(more: u8) -> State
+fn granted_state(more: u8) -> AnchorState
     ensures { result ≡ granted_state more }
 {
-    if more > 0 { State::Active } else { State::Full }
+    if more > 0 {
+        AnchorState::Active
+    } else {
+        AnchorState::Full
+    }
 }
 
 /// The anchor after a grant.
@@ -32,11 +36,11 @@ pub fn granted(anchor: Anchor) -> Anchor
 }
 
 /// Whether all blocks of a superblock are free.
-pub fn is_empty(state: State) -> bool
+pub fn is_empty(state: AnchorState) -> bool
     ensures { result ≡ is_empty state }
 {
     match state {
-        State::Empty => true,
-        State::Active | State::Full | State::Partial => false,
+        AnchorState::Empty => true,
+        AnchorState::Active | AnchorState::Full | AnchorState::Partial => false,
     }
 }

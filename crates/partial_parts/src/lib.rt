@@ -7,11 +7,9 @@
 //! 2004).
 #![tactic(auto)]
 
+pub mod exit;
 mod follow;
 mod grants;
 pub mod laws;
-pub mod plan;
 pub mod point;
-pub mod settle;
-pub mod stay;
 mod words;

@@ -1,11 +1,11 @@
 //! The words of partial superblocks, and the numbers that the steps write.
 
 ghost use Rattle.std.specs.Prelude.{◌≡◌, ◌+◌};
-ghost use Rattle.word_plan.specs.Sites.{slot_name};
+ghost use Rattle.word_table.specs.Sites.{slot_name};
 ghost use Rattle.partial_parts.specs.Points.{slot_of};
 
-use word_plan::name::WordName;
-use word_plan::seat::Seat;
+use word_table::name::WordName;
+use word_table::seat::Seat;
 
 /// The slot of the caller's processor heap, for its class.
 pub fn slot_name(seat: Seat) -> WordName

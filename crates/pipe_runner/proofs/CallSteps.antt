@@ -17,7 +17,7 @@ use Rattle.errand_steps.specs.declared.reply.Reply.{Reply}
 use Rattle.errand_steps.specs.declared.reply.Reply.TheVariants as reply
 use Rattle.errand_steps.specs.Calls.{Call, alloc, put, read, take, write}
 use Rattle.call_events.specs.Ends.{end_of}
-use Rattle.step_core.specs.Keeping.{Leaves}
+use Rattle.step_machine.specs.Keeping.{LeavesPlace}
 use Rattle.lane_engine.specs.declared.calls.Allocated.{Allocated}
 use Rattle.lane_engine.specs.declared.calls.Allocated.TheVariants as allocated
 use Rattle.lane_engine.specs.Whole.{allocated_as}
@@ -69,7 +69,7 @@ keeps-trans h p q r a b = record {
 
 pub keeps-whole :
     (h : Heap) (p q : Pass) (call : Call) (answer : Reply) (end : Ended) → IsWhole h p call answer h q → end_of call answer ≡ Some end
-    → HandsNothingOver end → ((place : ℕ) → Leaves call place) → ((blocks : List Block) → ChangesHand call answer blocks blocks)
+    → HandsNothingOver end → ((place : ℕ) → LeavesPlace call place) → ((blocks : List Block) → ChangesHand call answer blocks blocks)
     → KeepsBlocks h p q
 keeps-whole h p q call answer end whole is home leaves hand =
     let (made, may, same, rest) = whole in record {

@@ -21,7 +21,7 @@ use Rattle.live_heap.specs.Calls.{HasCalled}
 use Rattle.live_heap.specs.Passes.{seen}
 use Rattle.live_heap.specs.Whole.{IsWhole, by_steps, at_once}
 use Rattle.live_heap.proofs.LawsKept.{called-grows}
-use Rattle.pipe_runner.specs.Moves.{GoesOn, StaysHome}
+use Rattle.pipe_runner.specs.Moves.{PassGoesOn, StaysHome}
 
 -- an event that is outside of each pipe stays home, and so does each of a list
 one-home : (event : Event) → ((n m : ℕ) → IsOutside n m event) → StaysHome event
@@ -92,7 +92,7 @@ no-take n m k (TakeNone caller shelf) home = refl
 -- a call that hands nothing over
 pub called-goes :
     (p q : Pass) (call : Call) (steps : ℕ) (answer : Reply) (end : Ended) → HasCalled p call steps answer q → end_of call answer ≡ Some end
-    → HandsNothingOver end → GoesOn p q
+    → HandsNothingOver end → PassGoesOn p q
 called-goes p q call steps answer end called is home =
     let c = p.errand.caller in
     let grows = called-grows p q call steps answer called in
@@ -110,7 +110,7 @@ called-goes p q call steps answer end called is home =
           (all-home called.added (λ n m. ended-outside n m c told.0 called.added (subst HandsNothingOver same home) told.2));
     }
 
-pub goes-here : (p q : Pass) → q ≡ p → GoesOn p q
+pub goes-here : (p q : Pass) → q ≡ p → PassGoesOn p q
 goes-here p q same = record {
   caller = ap (λ (x : Pass). x.errand.caller) same;
   more = [];
@@ -118,7 +118,7 @@ goes-here p q same = record {
   home = All-nil StaysHome;
 }
 
-pub goes-trans : (p q r : Pass) → GoesOn p q → GoesOn q r → GoesOn p r
+pub goes-trans : (p q r : Pass) → PassGoesOn p q → PassGoesOn q r → PassGoesOn p r
 goes-trans p q r a b =
     let c = p.errand.caller in
     record {
@@ -131,23 +131,23 @@ goes-trans p q r a b =
 
 pub whole-goes :
     (h : Heap) (p q : Pass) (call : Call) (answer : Reply) (end : Ended) → IsWhole h p call answer h q → end_of call answer ≡ Some end
-    → HandsNothingOver end → GoesOn p q
+    → HandsNothingOver end → PassGoesOn p q
 whole-goes h p q call answer end (by_steps made, may, same, is) there home =
     called-goes p q call made.0 answer end made.1 there home
 whole-goes h p q call answer end (at_once words is_alloc spent once, may, same, is) there home = goes-here p q once.same
 
 -- what it has seen of its own, and what of that counts
-pub goes-own : (p q : Pass) (g : GoesOn p q) → own p.errand.caller (seen q) ≡ own p.errand.caller (seen p) ++ own p.errand.caller g.more
+pub goes-own : (p q : Pass) (g : PassGoesOn p q) → own p.errand.caller (seen q) ≡ own p.errand.caller (seen p) ++ own p.errand.caller g.more
 goes-own p q g = ap (own p.errand.caller) g.grows ∙ own-append p.errand.caller (seen p) g.more
 
 pub goes-quiet :
-    (n m : ℕ) (p q : Pass) → GoesOn p q → IsQuiet n m (own p.errand.caller (seen p)) → IsQuiet n m (own p.errand.caller (seen q))
+    (n m : ℕ) (p q : Pass) → PassGoesOn p q → IsQuiet n m (own p.errand.caller (seen p)) → IsQuiet n m (own p.errand.caller (seen q))
 goes-quiet n m p q g quiet =
     let c = p.errand.caller in
     subst (IsQuiet n m) (sym (goes-own p q g)) (quiet-more n m (own c (seen p)) (own c g.more) quiet (home-outside n m (own c g.more) g.home))
 
 pub goes-turns :
-    (n m k : ℕ) (p q : Pass) → 0 < m → k < n → GoesOn p q
+    (n m k : ℕ) (p q : Pass) → 0 < m → k < n → PassGoesOn p q
     → (count_by (is_put_of m k) (own p.errand.caller (seen q)) ≡ count_by (is_put_of m k) (own p.errand.caller (seen p)))
     × (count_by (is_take_of n m k) (own p.errand.caller (seen q)) ≡ count_by (is_take_of n m k) (own p.errand.caller (seen p)))
 goes-turns n m k p q some_shelves below g =
@@ -155,14 +155,14 @@ goes-turns n m k p q some_shelves below g =
     let stay = turns-stay n m k (own c (seen p)) (own c g.more) some_shelves below (home-outside n m (own c g.more) g.home) in
     (ap (count_by (is_put_of m k)) (goes-own p q g) ∙ stay.0, ap (count_by (is_take_of n m k)) (goes-own p q g) ∙ stay.1)
 
-pub goes-sent : (m k : ℕ) (p q : Pass) → p.errand.caller ≡ k → GoesOn p q → sent m k (seen q) ≡ sent m k (seen p)
+pub goes-sent : (m k : ℕ) (p q : Pass) → p.errand.caller ≡ k → PassGoesOn p q → sent m k (seen q) ≡ sent m k (seen p)
 goes-sent m k p q caller g =
     let none : count_by (is_put_of m k) g.more ≡ 0 =
     sym (puts-own m k g.more)
     ∙ home-none (is_put_of m k) (own k g.more) (no-put m k) (subst (λ (c : ℕ). All StaysHome (own c g.more)) caller g.home) in
     ap (sent m k) g.grows ∙ parcels-none (is_put_of m k) (seen p) g.more none
 
-pub goes-taken : (n m k : ℕ) (p q : Pass) → p.errand.caller ≡ n → GoesOn p q → taken n m k (seen q) ≡ taken n m k (seen p)
+pub goes-taken : (n m k : ℕ) (p q : Pass) → p.errand.caller ≡ n → PassGoesOn p q → taken n m k (seen q) ≡ taken n m k (seen p)
 goes-taken n m k p q caller g =
     let none : count_by (is_take_of n m k) g.more ≡ 0 =
     sym (takes-own n m k g.more)

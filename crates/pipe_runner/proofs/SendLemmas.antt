@@ -17,7 +17,7 @@ use Rattle.live_heap.specs.declared.heap.Heap.{Heap}
 use Rattle.live_heap.specs.declared.pass.Pass.{Pass}
 use Rattle.live_heap.specs.Passes.{seen}
 use Rattle.pipe_runner.specs.Messages.{contents_of, message_of, messages}
-use Rattle.pipe_runner.specs.Moves.{GoesOn, StaysHome}
+use Rattle.pipe_runner.specs.Moves.{PassGoesOn, StaysHome}
 use Rattle.pipe_runner.specs.Senders.{HasSent, IsBetween, PutsWithin}
 use Rattle.pipe_runner.proofs.HandLemmas.{IsHandedAt}
 use Rattle.pipe_runner.proofs.MessageLemmas.{contents-push}
@@ -48,7 +48,7 @@ all-within senders (event ∷ events) home =
     (all-within senders events (All-tail StaysHome event events home))
 
 pub goes-within :
-    (senders : ℕ) (p q : Pass) → GoesOn p q → All (PutsWithin senders) (own p.errand.caller (seen p))
+    (senders : ℕ) (p q : Pass) → PassGoesOn p q → All (PutsWithin senders) (own p.errand.caller (seen p))
     → All (PutsWithin senders) (own p.errand.caller (seen q))
 goes-within senders p q g within =
     let c = p.errand.caller in
@@ -57,7 +57,7 @@ goes-within senders p q g within =
 
 pub sent-goes :
     (passed : ℕ → ℕ → Type 0) (h : Heap) (senders start count : ℕ) (p q : Pass) → p.errand.caller < senders → HasSent passed h senders start count p
-    → GoesOn p q → HasSentIn passed senders start count p.errand.caller (seen q)
+    → PassGoesOn p q → HasSentIn passed senders start count p.errand.caller (seen q)
 sent-goes passed h senders start count p q below has g = record {
   quiet = goes-quiet senders 8 p q g has.between.quiet;
   within = goes-within senders p q g has.between.within;

@@ -23,20 +23,20 @@ StaysHome (Take caller shelf place) = ⊥
 StaysHome event = Unit {0}
 
 -- the pass has gone on, and seen these events more; its caller has handed no block over among them
-pub record GoesOn (p q : Pass) : Type 0 where
+pub record PassGoesOn (p q : Pass) : Type 0 where
   pub caller : q.errand.caller ≡ p.errand.caller
   pub more : List Event
   pub grows : seen q ≡ seen p ++ more
   pub home : All StaysHome (own p.errand.caller more)
 
 -- a pass at rest has gone on so, and is at rest
-pub record Moves (h : Heap) (p q : Pass) : Type 0 where
-  pub goes : GoesOn p q
+pub record HasMoved (h : Heap) (p q : Pass) : Type 0 where
+  pub goes : PassGoesOn p q
   pub rest : IsAtRest h q
 
 -- it owns just this block now, as it is given, and nothing else; before it owned nothing
 pub record HasAllocated (h : Heap) (p : Pass) (words : ℕ) (block : Block) (q : Pass) : Type 0 where
-  pub moves : Moves h p q
+  pub moves : HasMoved h p q
   pub given : owned_in q block.place ≡ Some (fresh_block p.errand.caller words block.place)
   pub owned : Owns q block
   pub serves : block.need ≡ need_of words
@@ -44,7 +44,7 @@ pub record HasAllocated (h : Heap) (p : Pass) (words : ℕ) (block : Block) (q :
 
 -- it has changed nothing of what it owns but the words in its block
 pub record KeepsBlocks (h : Heap) (p q : Pass) : Type 0 where
-  pub moves : Moves h p q
+  pub moves : HasMoved h p q
   pub owns : (block : Block) → Owns p block → Owns q block
   pub holds : (blocks : List Block) → HoldsExactly p blocks → HoldsExactly q blocks
 

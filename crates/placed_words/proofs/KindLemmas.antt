@@ -4,11 +4,11 @@ use Rattle.std.specs.Prelude.{min}
 use Rattle.heap_geometry.specs.declared.geometry.Geometry.{Geometry}
 use Rattle.heap_geometry.specs.declared.limits.TheConstants.{CLASSES}
 use Rattle.heap_geometry.specs.Geometry.{IsChecked}
-use Rattle.word_plan.specs.Counts.{arena_words, descriptor_count}
-use Rattle.word_plan.specs.Table.{Exists, start_of, word_index, words_in}
-use Rattle.word_plan.specs.declared.name.WordName.TheVariants.{Arena, Anchor, Next, Info, Active, Slot, ListHead, FrameNext, FrameHead, DescHead, Hazard, Units, Shelf}
-use Rattle.word_plan.specs.declared.name.WordName.{WordName}
-use Rattle.word_plan.proofs.TableLemmas.{word_index-one, word_index-within}
+use Rattle.word_table.specs.Counts.{arena_words, descriptor_count}
+use Rattle.word_table.specs.Table.{Exists, start_of, word_index, words_in}
+use Rattle.word_table.specs.declared.name.WordName.TheVariants.{Arena, Anchor, Next, Info, Active, Slot, ListHead, FrameNext, FrameHead, DescHead, Hazard, Units, Shelf}
+use Rattle.word_table.specs.declared.name.WordName.{WordName}
+use Rattle.word_table.proofs.TableLemmas.{word_index-one, word_index-within}
 use Rattle.placed_words.proofs.PlaceLemmas.{place-keeps, place-most}
 use Rattle.placed_words.specs.declared.placement.Starts.{Starts}
 use Rattle.placed_words.specs.Starts.{place_from, place_of, starts_of}

@@ -4,10 +4,10 @@ use Rattle.std.proofs.lemmas.Bool.{cases_lt}
 use Rattle.heap_geometry.specs.declared.geometry.Geometry.{Geometry}
 use Rattle.heap_geometry.specs.declared.limits.TheConstants.{CLASSES}
 use Rattle.heap_geometry.specs.Geometry.{IsChecked}
-use Rattle.word_plan.specs.Counts.{descriptor_count, word_count}
-use Rattle.word_plan.proofs.CountLemmas.{descriptor_count_within, word_count_within}
-use Rattle.word_plan.specs.Table.{start_of, word_index, words_in}
-use Rattle.word_plan.specs.declared.name.WordName.TheVariants.{Anchor, Active, FrameHead}
+use Rattle.word_table.specs.Counts.{descriptor_count, word_count}
+use Rattle.word_table.proofs.CountLemmas.{descriptor_count_within, word_count_within}
+use Rattle.word_table.specs.Table.{start_of, word_index, words_in}
+use Rattle.word_table.specs.declared.name.WordName.TheVariants.{Anchor, Active, FrameHead}
 use Rattle.placed_words.specs.declared.placement.Stretch.{Stretch}
 use Rattle.placed_words.specs.declared.placement.Stretches.{Stretches}
 use Rattle.placed_words.specs.Starts.{stretches_of}

@@ -2,7 +2,7 @@
 use Rattle.std.proofs.Common.{ℕ, ◌≡◌, ◌<◌, List, slice_index, slice_set, sym, ◌∙◌, subst, length-set}
 use Rattle.atomic_table.specs.Table.{State, Me, Allows, Splits, Joins, carried_after, homes_after}
 use Rattle.heap_geometry.specs.declared.geometry.Geometry.{Geometry}
-use Rattle.word_plan.specs.Counts.{word_count}
+use Rattle.word_table.specs.Counts.{word_count}
 use Rattle.placed_words.specs.Places.{at_places, place, words_at, HoldsAtPlaces}
 use Rattle.placed_words.proofs.WordsLemmas.{at-words_at, set-words_at}
 

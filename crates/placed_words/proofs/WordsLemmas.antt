@@ -3,10 +3,10 @@ use Rattle.std.proofs.Common.{ℕ, zero, suc, ◌≡◌, ◌≢◌, ◌<◌, ◌
 use Rattle.std.proofs.lemmas.List.{get_or-set_same, get_or-set_other, ext_get_or, length-set}
 use Rattle.std.proofs.lemmas.Bool.{cases_eq}
 use Rattle.heap_geometry.specs.declared.geometry.Geometry.{Geometry}
-use Rattle.word_plan.specs.Counts.{word_count}
-use Rattle.word_plan.specs.Table.{Exists, word_index, word_name}
-use Rattle.word_plan.specs.declared.name.WordName.{WordName}
-use Rattle.word_plan.proofs.TableLemmas.{word_index-one, word_index-within, word_index-word_name}
+use Rattle.word_table.specs.Counts.{word_count}
+use Rattle.word_table.specs.Table.{Exists, word_index, word_name}
+use Rattle.word_table.specs.declared.name.WordName.{WordName}
+use Rattle.word_table.proofs.TableLemmas.{word_index-one, word_index-within, word_index-word_name}
 use Rattle.placed_words.specs.Starts.{place_of}
 use Rattle.placed_words.specs.Writes.{Wrote, word_at}
 use Rattle.placed_words.specs.Places.{place, placed_count, words_at, words_from}

@@ -1,8 +1,8 @@
 -- The words in memory as a function of their names.
 use Rattle.std.specs.Prelude.{ℕ, ◌≡◌, ◌≢◌, List, length, slice_index}
 use Rattle.heap_geometry.specs.declared.geometry.Geometry.{Geometry}
-use Rattle.word_plan.specs.Table.{Exists}
-use Rattle.word_plan.specs.declared.name.WordName.{WordName}
+use Rattle.word_table.specs.Table.{Exists}
+use Rattle.word_table.specs.declared.name.WordName.{WordName}
 use Rattle.placed_words.specs.Starts.{place_of}
 
 -- the word at a name's place

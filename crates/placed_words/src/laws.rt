@@ -6,9 +6,9 @@ ghost use Rattle.heap_geometry.specs.Geometry.{IsChecked};
 ghost use Rattle.placed_words.specs.Places.{IsApart, place, placed_count, words_at};
 ghost use Rattle.placed_words.specs.Starts.{place_of};
 ghost use Rattle.placed_words.specs.declared.placement.TheConstants.{APART};
-ghost use Rattle.word_plan.specs.Counts.{word_count};
-ghost use Rattle.word_plan.specs.Table.{Exists};
-ghost use Rattle.word_plan.specs.declared.name.WordName.{WordName};
+ghost use Rattle.word_table.specs.Counts.{word_count};
+ghost use Rattle.word_table.specs.Table.{Exists};
+ghost use Rattle.word_table.specs.declared.name.WordName.{WordName};
 
 /// A word that callers change again and again lies so many words from every other word, wherever the
 /// lines of the memory begin.

@@ -4,19 +4,19 @@ ghost use Rattle.std.specs.Prelude.{ℕ, ◌≡◌, ◌<◌, ◌≤◌, ◌+◌,
 ghost use Rattle.heap_geometry.specs.declared.limits.TheConstants.{CLASSES};
 ghost use Rattle.heap_geometry.specs.Geometry.{IsChecked};
 ghost use Rattle.heap_geometry.specs.declared.geometry.Geometry.{Geometry};
-ghost use Rattle.word_plan.specs.Counts.{word_count};
-ghost use Rattle.word_plan.specs.Table.{Exists, word_index};
+ghost use Rattle.word_table.specs.Counts.{word_count};
+ghost use Rattle.word_table.specs.Table.{Exists, word_index};
 ghost use Rattle.placed_words.specs.Places.{place, placed_count};
 ghost use Rattle.placed_words.specs.Writes.{Wrote, word_at};
-ghost use Rattle.word_plan.specs.declared.name.WordName.{WordName};
+ghost use Rattle.word_table.specs.declared.name.WordName.{WordName};
 ghost use Rattle.placed_words.specs.Starts.{place_from, starts_of, stretches_of};
 
 use heap_geometry::geometry::Geometry;
 use heap_geometry::limits::CLASSES;
 use std::alloc::{AllocError, Global};
 use std::marker::Model;
-use word_plan::layout::Layout;
-use word_plan::name::WordName;
+use word_table::layout::Layout;
+use word_table::name::WordName;
 
 /// How many words lie from one word that is apart to the next.
 pub const APART: u32 = 8;

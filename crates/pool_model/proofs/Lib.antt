@@ -4,13 +4,7 @@ pub mod NeedOfLemmas
 pub mod WellFormedLemmas
 pub mod OwnerLemmas
 pub mod CountLemmas
-pub mod KeptLemmas
-pub mod VisitLemmas
-pub mod PlacesLemmas
 pub mod FreeLemmas
-pub mod ChosenLemmas
-pub mod RefusalLemmas
-pub mod AnswerLemmas
 pub mod CapacityLemmas
 pub mod OwnedLemmas
 pub mod ParcelLemmas

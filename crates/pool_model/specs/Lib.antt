@@ -4,9 +4,5 @@ pub mod Legal
 pub mod Calls
 pub mod WellFormed
 pub mod Counts
-pub mod Plain
-pub mod Answers
-pub mod Stored
-pub mod Search
 pub mod Owned
 pub mod Parcels

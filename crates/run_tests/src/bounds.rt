@@ -9,7 +9,7 @@ use lane_outcomes::outcome::Outcome;
 use pool_model::event::Event;
 use std::alloc::{AllocError, Global};
 use std::test::Fail;
-use step_core::machine::Core;
+use step_machine::machine::Core;
 use trace_commands::driven::{DrivenRun, drive};
 use trace_text::limits::MAX_INPUT;
 use trace_text::reading::read_trace;

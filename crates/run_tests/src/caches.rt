@@ -1,7 +1,7 @@
 //! The command on lanes that run through caches. Expected values are worked by hand.
 
 use crate::running::{Left, writes};
-use command_parts::status::REPORTED;
+use command_line::status::REPORTED;
 use std::test::Fail;
 
 /// A lane's second allocation is given the block that it has freed, and filled again.

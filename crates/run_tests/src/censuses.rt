@@ -1,7 +1,7 @@
 //! Reports with what the closed heap holds.
 
 use crate::running::{Left, Told, run_on, writes};
-use command_parts::status::REPORTED;
+use command_line::status::REPORTED;
 use edge_io::memory::MemorySink;
 use std::alloc::{AllocError, Global};
 use std::process::Abort;

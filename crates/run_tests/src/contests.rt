@@ -1,7 +1,7 @@
 //! Lanes that all want what only one of them can have.
 
 use crate::running::{Left, Told, run_on};
-use command_parts::status::REPORTED;
+use command_line::status::REPORTED;
 use edge_io::memory::MemorySink;
 use std::alloc::{AllocError, Global};
 use std::process::Abort;

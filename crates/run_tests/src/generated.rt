@@ -5,7 +5,7 @@ use crate::running::{
     Left, ROOM, Told, failing_sink, failing_source, leaves, next_reads, run_from, run_on,
     wide_sink, writes,
 };
-use command_parts::status::{REPORTED, WRITE_FAULT};
+use command_line::status::{REPORTED, WRITE_FAULT};
 use edge_io::memory::MemorySink;
 use edge_io::steady::SteadySource;
 use std::alloc::{AllocError, Global};

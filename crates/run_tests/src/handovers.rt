@@ -7,8 +7,8 @@ ghost use Rattle.trace_text.specs.declared.limits.TheConstants.{MAX_INPUT};
 ghost use Rattle.workloads.specs.declared.making.TheConstants.{MAX_SIZE};
 
 use crate::printed::trace_of;
-use command_parts::command::Workload;
-use command_parts::summary::summary;
+use command_line::command::Workload;
+use command_line::summary::summary;
 use edge_io::gate::NoGate;
 use lane_outcomes::live::live_count;
 use lane_outcomes::outcome::Outcome;

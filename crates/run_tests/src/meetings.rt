@@ -2,7 +2,7 @@
 //! there, which lanes that run one after another never do.
 
 use crate::running::{Left, Told, run_through, steady_source, wide_sink};
-use command_parts::status::REPORTED;
+use command_line::status::REPORTED;
 use edge_io::gate::Gate;
 use edge_io::memory::MemorySink;
 use std::alloc::{AllocError, Global};

@@ -1,7 +1,7 @@
 //! Where a text is refused, and for which cause.
 
 use crate::running::{Left, writes};
-use command_parts::status::REFUSED;
+use command_line::status::REFUSED;
 use std::process::Abort;
 use std::sync::Wait;
 use std::test::Fail;

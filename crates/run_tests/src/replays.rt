@@ -1,7 +1,7 @@
 //! Reports of traces that have one report, whatever order the threads of their lanes make their steps in.
 
 use crate::running::{Left, writes};
-use command_parts::status::REPORTED;
+use command_line::status::REPORTED;
 use std::process::Abort;
 use std::sync::Wait;
 use std::test::Fail;

@@ -1,7 +1,7 @@
 //! Traces with frames and turns to spare have one report each, on threads and in any order of steps.
 
 use crate::running::{Left, Told, run_on, writes};
-use command_parts::status::REPORTED;
+use command_line::status::REPORTED;
 use edge_io::memory::MemorySink;
 use std::alloc::{AllocError, Global};
 use std::process::Abort;

@@ -1,7 +1,7 @@
 //! Reports of traces that give the order of their steps.
 
 use crate::running::{Left, writes};
-use command_parts::status::REPORTED;
+use command_line::status::REPORTED;
 use std::alloc::{AllocError, Global};
 use std::process::Abort;
 use std::sync::Wait;

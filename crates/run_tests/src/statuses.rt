@@ -4,7 +4,7 @@ use crate::running::{
     Left, ROOM, Told, failing_sink, failing_source, leaves, next_reads, next_writes, run_between,
     run_from, steady_source, wide_sink,
 };
-use command_parts::status::{READ_FAULT, REFUSED, REPORTED, TOO_MANY, USAGE, WRITE_FAULT};
+use command_line::status::{READ_FAULT, REFUSED, REPORTED, TOO_MANY, USAGE, WRITE_FAULT};
 use edge_io::memory::MemorySink;
 use edge_io::steady::SteadySource;
 use std::alloc::{AllocError, Global};

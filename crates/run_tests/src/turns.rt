@@ -2,7 +2,7 @@
 //! in its lane.
 
 use crate::running::{Left, Told, run_through, steady_source, wide_sink};
-use command_parts::status::REPORTED;
+use command_line::status::REPORTED;
 use edge_io::gate::Gate;
 use std::alloc::{AllocError, Global};
 use std::process::Abort;

@@ -1,12 +1,10 @@
 -- The counts of a legal history: a step whose event has its count keeps them.
 use Rattle.std.proofs.Common.{ℕ, Option, Some, None, ◌≡◌, ◌<◌, List, sym, subst, refl}
-use Rattle.heap_geometry.specs.declared.geometry.Geometry.{Geometry}
-use Rattle.pool_model.specs.declared.event.Event.{Event}
-use Rattle.pool_model.specs.Legal.{IsLegal, IsLegalEvent, IsLegalEventWithoutCounts, IsLegalWithoutCounts, IsCounted}
-use Rattle.pool_model.specs.Pool.{pool_of}
+use Rattle.sound_state.proofs.Common.{Geometry, Event, IsLegalWithoutCounts, pool_of, State, Step, with_event, IsSound, IsSoundWithoutCounts}
+use Rattle.pool_model.specs.Legal.{IsLegal, IsLegalEvent, IsLegalEventWithoutCounts, IsCounted}
 use Rattle.pool_model.proofs.HistoryLemmas.{EachAfter-last, EachAfter-push, legal-weaker}
-use Rattle.errand_steps.specs.Steps.{State, Step, event_at, with_event}
-use Rattle.sound_state.specs.Sound.{IsSound, IsSoundWithoutCounts, TellsCounted}
+use Rattle.errand_steps.specs.Steps.{event_at}
+use Rattle.sound_state.specs.Sound.{TellsCounted}
 use Rattle.sound_state.proofs.counts.BareLemmas.{refusal-counted}
 use Rattle.sound_state.proofs.counts.PartUsedLemmas.{look-counted}
 use Rattle.sound_state.proofs.counts.TellCounts.{tells-counted}

@@ -1,3 +1,4 @@
+pub mod Common
 pub mod CountedLemmas
 pub mod EveryStep
 pub mod ReachLemmas
@@ -8,7 +9,6 @@ pub mod beginnings
 pub mod counts
 pub mod descriptors
 pub mod discards
-pub mod endings
 pub mod guards
 pub mod events
 pub mod hazards
@@ -24,4 +24,3 @@ pub mod stacks
 pub mod stores
 pub mod tags
 pub mod tellings
-pub mod wins

@@ -1,18 +1,16 @@
 -- Every state that callers reach is sound.
 use Rattle.std.proofs.Common.{ℕ, ◌<◌, List, [], ◌∷◌, sym, subst}
-use Rattle.heap_geometry.specs.declared.geometry.Geometry.{Geometry}
+use Rattle.sound_state.proofs.Common.{Geometry, State, IsSound, IsSoundWithoutCounts}
 use Rattle.errand_steps.specs.Calls.{Call, alloc, free, write, read, put, take}
-use Rattle.errand_steps.specs.Steps.{State}
-use Rattle.sound_state.specs.Runs.{Begins, Move, begins, steps, Moved, Reaches}
+use Rattle.sound_state.specs.Runs.{BeginsCall, Move, begins, steps, Moved, Reaches}
 use Rattle.pool_model.specs.Legal.{IsLegal}
-use Rattle.sound_state.specs.Sound.{IsSound, IsSoundWithoutCounts}
 use Rattle.sound_state.proofs.CountedLemmas.{without-counts, with-counts, steps-counted}
 use Rattle.sound_state.proofs.EveryStep.{steps-sound}
 use Rattle.sound_state.proofs.beginnings.BegunLemmas.{alloc-sound, free-sound, write-sound, read-sound, put-sound, take-sound}
 
 -- a call that begins
 pub begins-sound :
-    (g : Geometry) (s : State) (caller : ℕ) (call : Call) (s' : State) → IsSoundWithoutCounts g s → caller < g.callers → Begins s caller call s'
+    (g : Geometry) (s : State) (caller : ℕ) (call : Call) (s' : State) → IsSoundWithoutCounts g s → caller < g.callers → BeginsCall s caller call s'
     → IsSoundWithoutCounts g s'
 begins-sound g s caller (alloc words) s' sound has b =
     subst (IsSoundWithoutCounts g) (sym b.after) (alloc-sound g s caller words b.errands sound has b.idle b.moves)
@@ -30,7 +28,7 @@ begins-sound g s caller (take shelf) s' sound has b =
 
 -- it leaves the history, and so its counts
 pub begins-counted :
-    (g : Geometry) (s : State) (caller : ℕ) (call : Call) (s' : State) → IsSound g s → caller < g.callers → Begins s caller call s' → IsSound g s'
+    (g : Geometry) (s : State) (caller : ℕ) (call : Call) (s' : State) → IsSound g s → caller < g.callers → BeginsCall s caller call s' → IsSound g s'
 begins-counted g s caller call s' sound has b =
     with-counts g s' (begins-sound g s caller call s' (without-counts g s sound) has b)
     (subst (λ t. IsLegal g t.history) (sym b.after) sound.legal)

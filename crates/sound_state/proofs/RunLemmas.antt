@@ -1,15 +1,13 @@
 -- Whatever callers make steps in whatever order, the state stays sound.
-use Rattle.std.proofs.Common.{ℕ, ◌<◌, List, [], ◌∷◌, sym, subst, inl, inr}
-use Rattle.std.specs.Prelude.{All}
+use Rattle.std.proofs.Common.{ℕ, ◌<◌, List, [], ◌∷◌, sym, subst, inl, inr, All}
 use Rattle.std.proofs.lemmas.List.Elements.{All-head, All-tail}
-use Rattle.heap_geometry.specs.declared.geometry.Geometry.{Geometry}
-use Rattle.errand_steps.specs.Steps.{State, Slot, Run}
-use Rattle.sound_state.specs.Sound.{IsSound}
+use Rattle.sound_state.proofs.Common.{Geometry, State, IsSound}
+use Rattle.errand_steps.specs.Steps.{ScheduleSlot, Run}
 use Rattle.sound_state.proofs.CountedLemmas.{steps-counted}
 
 -- a turn makes a step, or none
 turn-sound :
-    (g : Geometry) (s : State) (caller n : ℕ) (s' : State) → IsSound g s → caller < g.callers → Slot s caller n s'
+    (g : Geometry) (s : State) (caller n : ℕ) (s' : State) → IsSound g s → caller < g.callers → ScheduleSlot s caller n s'
     → IsSound g s'
 turn-sound g s caller n s' sound has (inl idle) = subst (IsSound g) (sym idle.2) sound
 turn-sound g s caller n s' sound has (inr one) = steps-counted g s caller s' sound has one.0

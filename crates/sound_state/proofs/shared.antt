@@ -12,6 +12,7 @@ pub mod HasLemmas
 pub mod HeapNames
 pub mod HolderLemmas
 pub mod HoldingEffects
+pub mod KeepsSound
 pub mod KeptCounts
 pub mod KeptLemmas
 pub mod ListEffects
@@ -23,6 +24,7 @@ pub mod OverlapLemmas
 pub mod OwnerLemmas
 pub mod PointLemmas
 pub mod RecallEffects
+pub mod RecallFrame
 pub mod RecallTables
 pub mod ShelfFacts
 pub mod ShownLemmas

@@ -6,7 +6,7 @@ use Rattle.heap_geometry.specs.declared.need.Need.TheVariants as need
 use Rattle.heap_geometry.specs.Need.{need_of, usable_words}
 use Rattle.packed_words.specs.declared.shelf.ShelfWord.TheVariants as lies
 use Rattle.packed_words.specs.Shelf.{shelf_word}
-use Rattle.word_plan.specs.declared.name.WordName.TheVariants as name
+use Rattle.word_table.specs.declared.name.WordName.TheVariants as name
 use Rattle.large_parts.specs.declared.point.LargePoint.{LargePoint}
 use Rattle.large_parts.specs.declared.point.LargePoint.TheVariants as large
 use Rattle.large_parts.specs.Runs.{RunFields}
@@ -88,15 +88,15 @@ IsGot s caller place n after =
     (shelf : ℕ) × TellsAt s caller (large.TakeBlock shelf place n) (Take caller shelf place) × IsOwned after caller place n
 
 -- the caller is about to take what it saw on the shelf, a block or nothing
-abbrev pub Takes : State → ℕ → ℕ → ℕ → Type 0
-Takes s caller shelf saw =
+abbrev pub IsAboutToTake : State → ℕ → ℕ → ℕ → Type 0
+IsAboutToTake s caller shelf saw =
     ((place : ℕ) × (n : Need) × StandsAt s caller (large.TakeBlock shelf place n) × (saw ≡ shelf_word (lies.Block place n)))
     ⊎ (StandsAt s caller (large.ConfirmNothing shelf) × (saw ≡ shelf_word lies.Nothing))
 
 -- something else lies there now than what the caller saw
 abbrev pub IsMissed : State → ℕ → ℕ → ℕ → State → Type 0
 IsMissed s caller saw found after =
-    (shelf : ℕ) × Takes s caller shelf saw × (saw ≢ found) × (ShelfHolds after shelf found ⊎ ShelfIsEmpty after shelf found)
+    (shelf : ℕ) × IsAboutToTake s caller shelf saw × (saw ≢ found) × (ShelfHolds after shelf found ⊎ ShelfIsEmpty after shelf found)
 
 -- what the answer of the caller's last step of a call says: of that step, from one state to the other
 abbrev pub IsMeant : Geometry → State → ℕ → Reply → State → Type 0

@@ -1,8 +1,8 @@
 -- Each frame is in one place.
 use Rattle.std.specs.Prelude.{ℕ, ◌≡◌, ◌<◌, ◌+◌, ◌==◌, ◌&&◌, if◌then◌else◌}
 use Rattle.heap_geometry.specs.declared.geometry.Geometry.{Geometry}
-use Rattle.word_plan.specs.Counts.{descriptor_count}
-use Rattle.word_plan.specs.Occurs.{occurs}
+use Rattle.word_table.specs.Counts.{descriptor_count}
+use Rattle.word_table.specs.Occurs.{occurs}
 use Rattle.errand_steps.specs.Errands.{ErrandFields}
 use Rattle.errand_steps.specs.Steps.{State}
 use Rattle.sound_state.specs.Holdings.{holds_of}

@@ -1,9 +1,9 @@
 -- How long a guard lasts.
 use Rattle.std.specs.Prelude.{ℕ, ◌≡◌, ◌≢◌, ◌<◌, ◌+◌, Some, List, [], ◌∷◌, Contains, slice_index}
 use Rattle.heap_geometry.specs.declared.geometry.Geometry.{Geometry}
-use Rattle.word_plan.specs.declared.action.Action.TheVariants.{Store}
-use Rattle.word_plan.specs.declared.name.WordName.TheVariants as name
-use Rattle.word_plan.specs.Occurs.{occurs}
+use Rattle.word_table.specs.declared.action.Action.TheVariants.{Store}
+use Rattle.word_table.specs.declared.name.WordName.TheVariants as name
+use Rattle.word_table.specs.Occurs.{occurs}
 use Rattle.errand_steps.specs.Fits.{pushed_by}
 use Rattle.errand_steps.specs.Steps.{State, action_at}
 use Rattle.sound_state.specs.Guards.{passed_by, held_by}

@@ -3,8 +3,8 @@ use Rattle.std.specs.Prelude.{ℕ, Bool, true, false, ◌+◌, nat_lt, if◌then
 use Rattle.heap_geometry.specs.declared.need.Need.{Need}
 use Rattle.heap_geometry.specs.declared.need.Need.TheVariants as need
 use Rattle.heap_geometry.specs.Place.{block_place}
-use Rattle.word_plan.specs.declared.seat.Site.{Site}
-use Rattle.word_plan.specs.Seats.{SeatFields}
+use Rattle.word_table.specs.declared.seat.Site.{Site}
+use Rattle.word_table.specs.Seats.{SeatFields}
 use Rattle.superblock_parts.specs.declared.point.BlockPoint.{BlockPoint}
 use Rattle.superblock_parts.specs.declared.point.BlockPoint.TheVariants as block
 use Rattle.superblock_parts.specs.declared.point.Share.{Share}
@@ -156,7 +156,6 @@ block_holds (block.PushBlock at i a stored heap) = pushing at i (if_stored store
 block_holds (block.LinkBlock at i) = making at
 block_holds (block.StoreInfo at) = making at
 block_holds (block.StoreAnchor at) = making at
-block_holds p = nothing
 
 -- what waits behind a part: a descriptor on its way, or partly used ones; the block that is handed out; the hazard word
 abbrev pub continuation_holds : SeatFields → Continuation → Holding
@@ -191,7 +190,6 @@ stack_holds (stack.ConfirmEmpty s pile h) o = continuation_holds s o
 stack_holds (stack.LoadTopToPush s pile i) o = pushed_too pile i s o
 stack_holds (stack.StoreBelow s pile i h) o = pushed_too pile i s o
 stack_holds (stack.PushTop s pile i h) o = pushed_too pile i s o
-stack_holds p o = nothing
 
 -- at the descriptors or the hazard words; the hazard word of a free that clears it names what it removed, or anything
 abbrev pub cleared_holds : SeatFields → Continuation → Holding

@@ -4,17 +4,17 @@ use Rattle.heap_geometry.specs.declared.geometry.Geometry.{Geometry}
 use Rattle.heap_geometry.specs.declared.need.Need.{Need}
 use Rattle.heap_geometry.specs.declared.need.Need.TheVariants.{Small}
 use Rattle.heap_geometry.specs.Need.{block_count_of, need_of, usable_words}
-use Rattle.packed_words.specs.declared.anchor.State.TheVariants as phase
+use Rattle.packed_words.specs.declared.anchor.AnchorState.TheVariants as phase
 use Rattle.packed_words.specs.Anchor.{AnchorFields, anchor_word}
 use Rattle.packed_words.specs.Head.{HeadFields, head_of}
 use Rattle.packed_words.specs.Info.{info_word}
 use Rattle.packed_words.specs.Prefix.{link_of}
-use Rattle.word_plan.specs.declared.name.WordName.{WordName}
-use Rattle.word_plan.specs.declared.name.WordName.TheVariants as name
-use Rattle.word_plan.specs.declared.seat.Site.{Site}
-use Rattle.word_plan.specs.Seats.{SeatFields}
-use Rattle.word_plan.specs.Sites.{info_at}
-use Rattle.word_plan.specs.Occurs.{occurs}
+use Rattle.word_table.specs.declared.name.WordName.{WordName}
+use Rattle.word_table.specs.declared.name.WordName.TheVariants as name
+use Rattle.word_table.specs.declared.seat.Site.{Site}
+use Rattle.word_table.specs.Seats.{SeatFields}
+use Rattle.word_table.specs.Sites.{info_at}
+use Rattle.word_table.specs.Occurs.{occurs}
 use Rattle.superblock_parts.specs.Anchors.{new_anchor, new_link}
 use Rattle.superblock_parts.specs.Chains.{prefix_name}
 use Rattle.superblock_parts.specs.declared.point.BlockPoint.{BlockPoint}
@@ -127,7 +127,6 @@ stack_recalls (stack.ConfirmEmpty s pile h) o = continuation_recalls s o
 stack_recalls (stack.LoadTopToPush s pile i) o = continuation_recalls s o
 stack_recalls (stack.StoreBelow s pile i h) o = tops_exist s pile h ∷ continuation_recalls s o
 stack_recalls (stack.PushTop s pile i h) o = says (next_name pile i) h.top ∷ tops_exist s pile h ∷ continuation_recalls s o
-stack_recalls p o = []
 
 -- what waits behind a retirement: who is refused has told so
 abbrev pub resumed_recalls : SeatFields → Continuation → List Recall
@@ -147,7 +146,6 @@ desc_recalls (desc.ReadHazard s held at) o = resumed_recalls s o
 desc_recalls (desc.LoadHeadToPush s d) o = resumed_recalls s o
 desc_recalls (desc.StoreNextDesc s d top) o = resumed_recalls s o
 desc_recalls (desc.PushDesc s d top) o = says (name.Next d) top ∷ resumed_recalls s o
-desc_recalls p o = []
 
 -- at a partial superblock
 abbrev pub partial_recalls : PartialPoint → Continuation → List Recall

@@ -20,7 +20,7 @@ MayBegin s caller (put place need shelf) = IsOwned s caller place need × (shelf
 MayBegin s caller (take shelf) = shelf < SHELVES
 
 -- a caller that is in no call begins one
-pub record Begins (s : State) (caller : ℕ) (call : Call) (s' : State) : Type 0 where
+pub record BeginsCall (s : State) (caller : ℕ) (call : Call) (s' : State) : Type 0 where
   pub idle : IsIdle (s.errand caller)
   pub may : MayBegin s caller call
   pub errands : ℕ → ErrandFields
@@ -33,7 +33,7 @@ pub data Move : Type 0 where
   steps : (caller : ℕ) → Move
 
 abbrev pub Moved : Geometry → State → Move → State → Type 0
-Moved g s (begins caller call) s' = (caller < g.callers) × Begins s caller call s'
+Moved g s (begins caller call) s' = (caller < g.callers) × BeginsCall s caller call s'
 Moved g s (steps caller) s' = (caller < g.callers) × Step s caller s'
 
 -- these moves, one after the other, of any callers in any order, lead from one state to the other

@@ -2,7 +2,7 @@
 use Rattle.std.specs.Prelude.{ℕ, ◌≡◌, ◌<◌, ◌^◌, Some}
 use Rattle.heap_geometry.specs.declared.geometry.Geometry.{Geometry}
 use Rattle.heap_geometry.specs.Geometry.{IsChecked}
-use Rattle.word_plan.specs.declared.name.WordName.{WordName}
+use Rattle.word_table.specs.declared.name.WordName.{WordName}
 use Rattle.pool_model.specs.declared.event.Event.{Event}
 use Rattle.pool_model.specs.Legal.{IsCounted, IsLegal, IsLegalWithoutCounts}
 use Rattle.pool_model.specs.Pool.{pool_of}

@@ -1,9 +1,9 @@
 -- Sums over the words and over the callers of a heap.
 use Rattle.std.specs.Prelude.{ℕ, zero, suc, ◌+◌}
 use Rattle.heap_geometry.specs.declared.geometry.Geometry.{Geometry}
-use Rattle.word_plan.specs.declared.name.WordName.{WordName}
-use Rattle.word_plan.specs.Counts.{word_count}
-use Rattle.word_plan.specs.Table.{word_name}
+use Rattle.word_table.specs.declared.name.WordName.{WordName}
+use Rattle.word_table.specs.Counts.{word_count}
+use Rattle.word_table.specs.Table.{word_name}
 use Rattle.errand_steps.specs.Errands.{ErrandFields}
 
 -- f 0 + .. + f (n - 1)

@@ -8,11 +8,11 @@ use Rattle.packed_words.specs.declared.active.ActiveWord.TheVariants.{Null, Held
 use Rattle.packed_words.specs.Active.{active_of}
 use Rattle.packed_words.specs.Anchor.{AnchorFields, anchor_of}
 use Rattle.packed_words.specs.Info.{InfoFields, info_of}
-use Rattle.word_plan.specs.Counts.{descriptor_count}
-use Rattle.word_plan.specs.Seats.{info_in}
-use Rattle.word_plan.specs.declared.name.WordName.{WordName}
-use Rattle.word_plan.specs.declared.name.WordName.TheVariants as name
-use Rattle.word_plan.specs.Occurs.{occurs}
+use Rattle.word_table.specs.Counts.{descriptor_count}
+use Rattle.word_table.specs.Seats.{info_in}
+use Rattle.word_table.specs.declared.name.WordName.{WordName}
+use Rattle.word_table.specs.declared.name.WordName.TheVariants as name
+use Rattle.word_table.specs.Occurs.{occurs}
 use Rattle.superblock_parts.specs.Chains.{chain_of, link_in}
 use Rattle.partial_parts.specs.Grants.{is_empty}
 use Rattle.pool_model.specs.Pool.{Block, block_at, pool_of}

@@ -8,17 +8,15 @@ ghost use Rattle.pool_model.specs.Legal.{IsLegal};
 ghost use Rattle.errand_steps.specs.Calls.{Call};
 ghost use Rattle.errand_steps.specs.Openings.{opening, installed, IsOpening};
 ghost use Rattle.errand_steps.specs.Steps.{State, Step, Run};
-ghost use Rattle.sound_state.specs.Runs.{Begins, Move, Reaches};
+ghost use Rattle.sound_state.specs.Runs.{BeginsCall, Move, Reaches};
 ghost use Rattle.sound_state.specs.Sound.{IsSound, IsSoundWithoutCounts, TellsCounted};
 
 pub mod answers;
 pub mod calls;
 pub mod consequences;
-pub mod endings;
 pub mod guards;
 pub mod sums;
 pub mod tags;
-pub mod wins;
 
 /// A state before the first step is sound: every frame is free, every descriptor available, and
 /// nothing is live.
@@ -46,7 +44,7 @@ pub fn counts_follow()
 /// A call that begins under its condition keeps the state sound.
 pub fn begun_calls_keep_sound()
     ensures { (g : Geometry) (s : State) (caller : ℕ) (call : Call) (after : State)
-        → IsSound g s → caller < g.callers → Begins s caller call after → IsSound g after }
+        → IsSound g s → caller < g.callers → BeginsCall s caller call after → IsSound g after }
 {}
 
 /// So does every step of every caller, wherever the others stand.

@@ -1,3 +1,2 @@
-pub mod FitLemmas
-pub mod SeatLemmas
+pub mod PointLemmas
 pub mod StackLemmas

@@ -1,4 +1,3 @@
-pub mod Fits
 pub mod Piles
 pub mod Points
 pub mod Stacks

@@ -3,10 +3,10 @@ use Rattle.std.specs.Prelude.{ℕ, ◌+◌, ◌%◌, ◌^◌}
 use Rattle.heap_geometry.specs.declared.geometry.Geometry.{Geometry}
 use Rattle.packed_words.specs.declared.widths.TheConstants.{TOP_BITS, HEAD_TAG_BITS}
 use Rattle.packed_words.specs.Head.{HeadFields}
-use Rattle.word_plan.specs.declared.name.WordName.{WordName}
-use Rattle.word_plan.specs.declared.name.WordName.TheVariants.{FrameHead, FrameNext, ListHead, Next}
-use Rattle.word_plan.specs.Counts.{descriptor_count}
-use Rattle.word_plan.specs.Seats.{SeatFields}
+use Rattle.word_table.specs.declared.name.WordName.{WordName}
+use Rattle.word_table.specs.declared.name.WordName.TheVariants.{FrameHead, FrameNext, ListHead, Next}
+use Rattle.word_table.specs.Counts.{descriptor_count}
+use Rattle.word_table.specs.Seats.{SeatFields}
 use Rattle.stack_parts.specs.declared.point.Pile.{Pile}
 use Rattle.stack_parts.specs.declared.point.Pile.TheVariants.{Frames, Partials}
 

@@ -1,6 +1,6 @@
 -- A stack as a list.
 use Rattle.std.specs.Prelude.{ℕ, ◌≡◌, ◌+◌, List, [], ◌∷◌}
-use Rattle.word_plan.specs.declared.name.WordName.{WordName}
+use Rattle.word_table.specs.declared.name.WordName.{WordName}
 use Rattle.stack_parts.specs.declared.point.Pile.{Pile}
 use Rattle.stack_parts.specs.Piles.{next_name}
 

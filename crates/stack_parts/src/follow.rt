@@ -3,21 +3,24 @@
 ghost use Rattle.std.specs.Prelude.{◌≡◌};
 ghost use Rattle.stack_parts.specs.Points.{after_top, after_below};
 
+use crate::exit::StackExit;
 use crate::point::{Pile, StackPoint};
 use crate::words::pile_limit;
 use packed_words::head::Head;
-use word_plan::seat::Seat;
+use word_table::onward::Onward;
+use word_table::seat::Seat;
 
 /// From a head, for a pop.
-pub fn after_top(seat: Seat, pile: Pile, head: Head) -> StackPoint
+#[inline(always)]
+pub fn after_top(seat: Seat, pile: Pile, head: Head) -> Onward<StackPoint, StackExit>
     ensures { result ≡ after_top seat pile head }
 {
     if head.top() == 0 {
-        StackPoint::FoundEmpty { seat, pile, head }
+        Onward::Leaves(StackExit::FoundEmpty { seat, pile, head })
     } else if u32::from(head.top()) <= pile_limit(seat, pile) {
-        StackPoint::LoadBelow { seat, pile, head }
+        Onward::Stays(StackPoint::LoadBelow { seat, pile, head })
     } else {
-        StackPoint::LoadTop { seat, pile }
+        Onward::Stays(StackPoint::LoadTop { seat, pile })
     }
 }
 

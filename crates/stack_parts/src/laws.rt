@@ -5,15 +5,15 @@ ghost use Rattle.heap_geometry.specs.declared.geometry.Geometry.{Geometry};
 ghost use Rattle.heap_geometry.specs.Geometry.{IsChecked};
 ghost use Rattle.packed_words.specs.declared.widths.TheConstants.{TOP_BITS};
 ghost use Rattle.packed_words.specs.Head.{HeadFields};
-ghost use Rattle.word_plan.specs.declared.action.Found.{Found};
-ghost use Rattle.word_plan.specs.declared.name.WordName.{WordName};
-ghost use Rattle.word_plan.specs.Actions.{name_of};
-ghost use Rattle.word_plan.specs.Table.{Exists};
-ghost use Rattle.word_plan.specs.Words.{Writes};
-ghost use Rattle.word_plan.specs.Occurs.{occurs};
-ghost use Rattle.stack_parts.specs.Fits.{FitsStack};
+ghost use Rattle.word_table.specs.declared.action.Found.{Found};
+ghost use Rattle.word_table.specs.declared.name.WordName.{WordName};
+ghost use Rattle.word_table.specs.Actions.{name_of};
+ghost use Rattle.word_table.specs.Onwards.{IsOnward, told_onward};
+ghost use Rattle.word_table.specs.Table.{Exists};
+ghost use Rattle.word_table.specs.Words.{Writes};
+ghost use Rattle.word_table.specs.Occurs.{occurs};
+ghost use Rattle.stack_parts.specs.Points.{FitsStack, FitsStackExit, plan_stack_of, seat_of_stack, seat_of_stack_exit, settle_stack_of};
 ghost use Rattle.stack_parts.specs.Piles.{next_name, popped_head, pushed_head};
-ghost use Rattle.stack_parts.specs.Points.{plan_stack_of, seat_of_stack, settle_stack_of};
 ghost use Rattle.stack_parts.specs.Stacks.{Stacked, next_in};
 ghost use Rattle.stack_parts.specs.declared.point.Pile.{Pile};
 ghost use Rattle.stack_parts.specs.declared.point.StackPoint.{StackPoint};
@@ -54,11 +54,11 @@ pub fn other_words_leave_a_stack()
 {}
 
 /// A point whose memory exists in a heap acts on a word that exists there, and leads to such a
-/// point of the same seat, whatever it finds.
+/// point or exit of the same seat, whatever it finds.
 pub fn points_fit()
     ensures names { (g : Geometry) (caller : ℕ) (p : StackPoint) → IsChecked g → caller < g.callers → FitsStack g caller p
         → Exists g (name_of (plan_stack_of p)) }
     ensures keeps { (g : Geometry) (caller : ℕ) (p : StackPoint) (x : Found) → IsChecked g → x.value < 2 ^ 64
-        → FitsStack g caller p → FitsStack g caller (settle_stack_of p x) }
-    ensures seat { (p : StackPoint) (x : Found) → seat_of_stack (settle_stack_of p x) ≡ seat_of_stack p }
+        → FitsStack g caller p → IsOnward (FitsStack g caller) (FitsStackExit g caller) (settle_stack_of p x) }
+    ensures seat { (p : StackPoint) (x : Found) → told_onward seat_of_stack seat_of_stack_exit (settle_stack_of p x) ≡ seat_of_stack p }
 {}

@@ -7,11 +7,9 @@
 //! another pop came between, even if the same index is on top again.
 #![tactic(auto)]
 
+pub mod exit;
 mod follow;
 mod heads;
 pub mod laws;
-pub mod plan;
 pub mod point;
-pub mod settle;
-pub mod stay;
 mod words;

@@ -1,13 +1,13 @@
 //! The words of a stack, and the numbers that its steps write.
 
 ghost use Rattle.std.specs.Prelude.{◌≡◌, ◌≤◌, ◌-◌};
-ghost use Rattle.word_plan.specs.declared.limits.TheConstants.{MAX_DESCRIPTORS};
+ghost use Rattle.word_table.specs.declared.limits.TheConstants.{MAX_DESCRIPTORS};
 ghost use Rattle.stack_parts.specs.Piles.{head_name, next_name, pile_limit};
 
 use crate::point::Pile;
 use packed_words::head::Head;
-use word_plan::name::WordName;
-use word_plan::seat::Seat;
+use word_table::name::WordName;
+use word_table::seat::Seat;
 
 /// The head of a stack.
 pub fn head_name(seat: Seat, pile: Pile) -> WordName

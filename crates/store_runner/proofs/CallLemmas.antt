@@ -28,20 +28,20 @@ use Rattle.typed_store.specs.Stores.{IsReady, LeavesPopped, TellsPopped, pairs_a
 use Rattle.typed_store.proofs.WalkLemmas.{first-kept}
 use Rattle.typed_store.specs.Passings.{Rests}
 use Rattle.typed_store.proofs.CountLemmas.{allocs-blind, counts-on, freed-one, frees-blind, given-one, refused-none, spent-none}
-use Rattle.store_runner.specs.Counts.{Counts}
+use Rattle.store_runner.specs.Counts.{CountsBlocks}
 
-pub counts-then : (a b c d : ℕ) (p q r : Pass) → Counts a b p q → Counts c d q r → Counts (a + c) (b + d) p r
+pub counts-then : (a b c d : ℕ) (p q r : Pass) → CountsBlocks a b p q → CountsBlocks c d q r → CountsBlocks (a + c) (b + d) p r
 counts-then a b c d p q r x y = record {
   caller = y.caller ∙ x.caller;
   given_is = omega (arith, x.given_is, y.given_is);
   freed_is = omega (arith, x.freed_is, y.freed_is);
 }
 
-pub rests-count : (h : Heap) (p q : Pass) → Rests h p q → Counts 0 0 p q
+pub rests-count : (h : Heap) (p q : Pass) → Rests h p q → CountsBlocks 0 0 p q
 rests-count h p q r = record { caller = r.caller; given_is = omega (arith, r.given); freed_is = omega (arith, r.freed) }
 
 pub given-counts :
-    (p q : Pass) (words steps place : ℕ) (need : Need) → HasCalled p (alloc words) steps (reply.Given place need) q → Counts 1 0 p q
+    (p q : Pass) (words steps place : ℕ) (need : Need) → HasCalled p (alloc words) steps (reply.Given place need) q → CountsBlocks 1 0 p q
 given-counts p q words steps place need called =
     let k = p.errand.caller in
     let answer = reply.Given place need in
@@ -51,7 +51,7 @@ given-counts p q words steps place need called =
       freed_is = counts-on is_free 0 p q (alloc words) steps answer (λ added has. given-one is_free k words place need added frees-blind has) called;
     }
 
-pub refused-counts : (p q : Pass) (words steps : ℕ) → HasCalled p (alloc words) steps reply.Refused q → Counts 0 0 p q
+pub refused-counts : (p q : Pass) (words steps : ℕ) → HasCalled p (alloc words) steps reply.Refused q → CountsBlocks 0 0 p q
 refused-counts p q words steps called =
     let k = p.errand.caller in
     record {
@@ -60,7 +60,7 @@ refused-counts p q words steps called =
       freed_is = counts-on is_free 0 p q (alloc words) steps reply.Refused (λ added has. refused-none is_free k words added frees-blind has) called;
     }
 
-pub spent-counts : (p q : Pass) (words steps : ℕ) → HasCalled p (alloc words) steps reply.Spent q → Counts 0 0 p q
+pub spent-counts : (p q : Pass) (words steps : ℕ) → HasCalled p (alloc words) steps reply.Spent q → CountsBlocks 0 0 p q
 spent-counts p q words steps called =
     let k = p.errand.caller in
     record {
@@ -69,15 +69,15 @@ spent-counts p q words steps called =
       freed_is = counts-on is_free 0 p q (alloc words) steps reply.Spent (λ added has. spent-none is_free k words added frees-blind has) called;
     }
 
-pub same-counts : (p q : Pass) → q ≡ p → Counts 0 0 p q
+pub same-counts : (p q : Pass) → q ≡ p → CountsBlocks 0 0 p q
 same-counts p q same =
-    subst (λ (r : Pass). Counts 0 0 p r) (sym same) (record { caller = refl; given_is = omega arith; freed_is = omega arith })
+    subst (λ (r : Pass). CountsBlocks 0 0 p r) (sym same) (record { caller = refl; given_is = omega arith; freed_is = omega arith })
 
-pub spent-tells : (p q : Pass) (words tries : ℕ) → AllocTells p words tries alloc_answer.Spent q → Counts 0 0 p q
+pub spent-tells : (p q : Pass) (words tries : ℕ) → AllocTells p words tries alloc_answer.Spent q → CountsBlocks 0 0 p q
 spent-tells p q words tries (inl once) = same-counts p q once.same
 spent-tells p q words tries (inr ended) = spent-counts p q words ended.0.steps ended.0.called
 
-pub freed-counts : (p q : Pass) (block : Block) (tries : ℕ) → FreeTells p block tries free_answer.Freed q → Counts 0 1 p q
+pub freed-counts : (p q : Pass) (block : Block) (tries : ℕ) → FreeTells p block tries free_answer.Freed q → CountsBlocks 0 1 p q
 freed-counts p q block tries tells =
     let k = p.errand.caller in
     let called = tells.called in
@@ -90,7 +90,7 @@ freed-counts p q block tries tells =
 
 -- an addition that is done, refused or spent
 pub answer-counts :
-    (h : Heap) (p q : Pass) (words tries : ℕ) → IsAnswerOf h p words tries stored.Done q → Counts 1 0 p q
+    (h : Heap) (p q : Pass) (words tries : ℕ) → IsAnswerOf h p words tries stored.Done q → CountsBlocks 1 0 p q
 answer-counts h p q words tries (block, given, tells, rests) =
     counts-then 1 0 0 0 p given q (given-counts p given words tells.0.steps block.place block.need tells.0.called) (rests-count h given q rests)
 
@@ -128,7 +128,7 @@ done-goes h pending.Free p q tries adds is = absurd (adds refl)
 
 pub resumed-done :
     (h : Heap) (waits : Pending) (first p q : Pass) (tries asked made : ℕ) → waits ≢ pending.Free → IsResumedAnswer h waits p tries stored.Done q
-    → IsCalling first (alloc asked) made p → Counts 1 0 first q
+    → IsCalling first (alloc asked) made p → CountsBlocks 1 0 first q
 resumed-done h waits first p q tries asked made adds is calling =
     let g = done-goes h waits p q tries adds is in
     let tells = g.2 first (alloc asked) made calling in
@@ -136,14 +136,14 @@ resumed-done h waits first p q tries asked made adds is calling =
 
 pub resumed-refused :
     (h : Heap) (waits : Pending) (first p q : Pass) (tries asked made : ℕ) → IsResumedAnswer h waits p tries stored.Refused q
-    → IsCalling first (alloc asked) made p → Counts 0 0 first q
+    → IsCalling first (alloc asked) made p → CountsBlocks 0 0 first q
 resumed-refused h waits first p q tries asked made is calling =
     let tells = refused-goes h waits p q tries is first (alloc asked) made calling in
     refused-counts first q asked tells.steps tells.called
 
 pub resumed-spent :
     (h : Heap) (waits : Pending) (first p q : Pass) (tries asked made : ℕ) → IsResumedAnswer h waits p tries stored.Spent q
-    → IsCalling first (alloc asked) made p → Counts 0 0 first q
+    → IsCalling first (alloc asked) made p → CountsBlocks 0 0 first q
 resumed-spent h waits first p q tries asked made is calling =
     let tells = spent-goes h waits p q tries is first (alloc asked) made calling in
     spent-counts first q asked tells.0.steps tells.0.called
@@ -200,7 +200,7 @@ without-length key (x ∷ xs) pair found =
     ]
 
 abbrev pub Frees : Store → Store → ℕ → List (ℕ × ℕ) → Type 0
-Frees s t key pairs = (freed : ℕ) × Counts 0 freed s.pass t.pass × (length (without_first key pairs) + freed ≡ length pairs)
+Frees s t key pairs = (freed : ℕ) × CountsBlocks 0 freed s.pass t.pass × (length (without_first key pairs) + freed ≡ length pairs)
 
 pub freed-of :
     (h : Heap) (s t : Store) (key tries : ℕ) (pairs : List (ℕ × ℕ)) (found : Option (ℕ × ℕ)) (came : Popped) → first_with key pairs ≡ found

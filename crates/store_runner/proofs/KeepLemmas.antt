@@ -15,7 +15,7 @@ use Rattle.typed_store.specs.Records.{IsRecord}
 use Rattle.typed_store.specs.Stores.{HasList, HasRecords, IsReady}
 use Rattle.typed_store.proofs.LinkLemmas.{leads-one, leads-same}
 use Rattle.typed_store.proofs.PassLemmas.{owned-token}
-use Rattle.store_runner.specs.Ends.{AreOwned, Keeps}
+use Rattle.store_runner.specs.Ends.{AreOwned, IsSpelled}
 
 holds-owned : (p : Pass) (blocks : List Block) → Holds p blocks → AreOwned (owned_in p) blocks
 holds-owned p [] holds = tt
@@ -31,7 +31,7 @@ one-record p (b ∷ c ∷ bs) words are = absurd are.1
 
 pub store-keeps :
     (h : Heap) (s : Store) (pairs : List (ℕ × ℕ)) (words : List ℕ) → IsReady h s → HasList s pairs → HasRecords s (words ∷ [])
-    → Keeps (owned_in s.pass) pairs words
+    → IsSpelled (owned_in s.pass) pairs words
 store-keeps h s pairs words ready list records =
     let one = one-record s.pass s.records.items words records.0 in
     let b = ready.built in
@@ -64,7 +64,7 @@ owned-same owned now (b ∷ bs) same are = ((are.0.0, same b.place ∙ are.0.1),
 
 pub keeps-same :
     (owned now : ℕ → Option PoolBlock) (pairs : List (ℕ × ℕ)) (words : List ℕ) → ((place : ℕ) → now place ≡ owned place)
-    → Keeps owned pairs words → Keeps now pairs words
+    → IsSpelled owned pairs words → IsSpelled now pairs words
 keeps-same owned now pairs words same k = record {
   slots = k.slots;
   head = k.head;

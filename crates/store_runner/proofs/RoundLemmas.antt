@@ -13,8 +13,8 @@ use Rattle.typed_store.specs.Passings.{Rests, freed_in, given_in}
 use Rattle.typed_store.specs.Stores.{HasList, HasRecords, IsReady}
 use Rattle.typed_store.proofs.LinkLemmas.{leads-one}
 use Rattle.store_runner.specs.declared.script.Script.{Script}
-use Rattle.store_runner.specs.Counts.{Counts}
-use Rattle.store_runner.specs.Ends.{HasRun, Keeps}
+use Rattle.store_runner.specs.Counts.{CountsBlocks}
+use Rattle.store_runner.specs.Ends.{HasRun, IsSpelled}
 use Rattle.store_runner.specs.Scripts.{IsBehind, latest, list_after, values_of}
 use Rattle.store_runner.proofs.CallLemmas.{Frees}
 use Rattle.store_runner.proofs.ScriptLemmas.{latest-without}
@@ -29,7 +29,7 @@ Records s t = (records : List (List ℕ)) → HasRecords s records → HasRecord
 round-behind :
     (h : Heap) (rounds : ℕ) (s t u : Store) → IsBehind h rounds s → Lists s t (without_first ((rounds + 1) % 7)) → Records s t
     → ((pairs : List (ℕ × ℕ)) → HasList s pairs → Frees s t ((rounds + 1) % 7) pairs) → IsReady h u
-    → Lists t u (λ pairs. ((rounds + 1) % 7, rounds + 1) ∷ pairs) → Records t u → Counts 1 0 t.pass u.pass → IsBehind h (rounds + 1) u
+    → Lists t u (λ pairs. ((rounds + 1) % 7, rounds + 1) ∷ pairs) → Records t u → CountsBlocks 1 0 t.pass u.pass → IsBehind h (rounds + 1) u
 round-behind h rounds s t u behind out kept frees ready front stay counts =
     let pairs = list_after rounds in
     let up : rounds + 1 ≡ suc rounds = omega arith in
@@ -51,7 +51,7 @@ round-behind h rounds s t u behind out kept frees ready front stay counts =
 pub round-at :
     (h : Heap) (rounds n : ℕ) (s t u : Store) → n ≡ rounds → IsBehind h rounds s → Lists s t (without_first ((n + 1) % 7)) → Records s t
     → ((pairs : List (ℕ × ℕ)) → HasList s pairs → Frees s t ((n + 1) % 7) pairs) → IsReady h u
-    → Lists t u (λ pairs. ((n + 1) % 7, n + 1) ∷ pairs) → Records t u → Counts 1 0 t.pass u.pass → IsBehind h (rounds + 1) u
+    → Lists t u (λ pairs. ((n + 1) % 7, n + 1) ∷ pairs) → Records t u → CountsBlocks 1 0 t.pass u.pass → IsBehind h (rounds + 1) u
 round-at h rounds n s t u is behind out kept frees ready front stay counts =
     subst (λ k. IsBehind h (k + 1) u) is
     (round-behind h n s t u (subst (λ k. IsBehind h k s) (sym is) behind) out kept frees ready front stay counts)
@@ -79,9 +79,9 @@ one-list s pairs others has too = leads-one (nodes_at (owned_in s.pass) s.slots.
 pub script-ran :
     (h : Heap) (rounds : ℕ) (s t u : Store) (listed : List (ℕ × ℕ)) (values : List ℕ) (script : Script) → IsBehind h rounds s → HasList s listed
     → values ≡ values_of listed → Rests h s.pass t.pass → Lists s t (λ pairs. pairs) → Lists t u (λ pairs. pairs) → HasRecords u (values ∷ [])
-    → Counts 1 0 t.pass u.pass → Rests h u.pass script.pass → HasList u script.pairs.items
+    → CountsBlocks 1 0 t.pass u.pass → Rests h u.pass script.pass → HasList u script.pairs.items
     → ((words : List ℕ) → HasRecords u (words ∷ []) → script.words.items ≡ words)
-    → ((pairs : List (ℕ × ℕ)) (words : List ℕ) → HasList u pairs → HasRecords u (words ∷ []) → Keeps (owned_in script.pass) pairs words)
+    → ((pairs : List (ℕ × ℕ)) (words : List ℕ) → HasList u pairs → HasRecords u (words ∷ []) → IsSpelled (owned_in script.pass) pairs words)
     → HasRun h rounds script
 script-ran h rounds s t u listed values script behind has is reads first then noted counts rests read words keeps =
     let pairs = list_after rounds in
@@ -94,7 +94,7 @@ script-ran h rounds s t u listed values script behind has is reads first then no
       caller = rests.caller ∙ (counts.caller ∙ (reads.caller ∙ behind.caller));
       pairs = one-list u script.pairs.items pairs read now;
       words = words values noted ∙ values_are;
-      keeps = subst (λ (l : List ℕ). Keeps (owned_in script.pass) pairs l) values_are (keeps pairs values now noted);
+      keeps = subst (λ (l : List ℕ). IsSpelled (owned_in script.pass) pairs l) values_are (keeps pairs values now noted);
       given = omega (arith, rests.given, counts.given_is, reads.given, behind.given);
       freed = omega (arith, rests.freed, counts.freed_is, reads.freed, behind.freed);
     }

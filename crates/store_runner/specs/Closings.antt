@@ -7,7 +7,7 @@ use Rattle.pool_model.specs.Legal.{IsLegal}
 use Rattle.pool_model.specs.Pool.{pool_of}
 use Rattle.live_heap.specs.Contents.{owned_after}
 use Rattle.live_heap.specs.Endings.{ClosedFields, IsResting}
-use Rattle.store_runner.specs.Ends.{Keeps}
+use Rattle.store_runner.specs.Ends.{IsSpelled}
 use Rattle.store_runner.specs.Scripts.{list_after, values_of}
 
 -- the heap of the script has 64 frames, one processor heap of each class, no unit and one caller
@@ -19,7 +19,7 @@ pub record IsStored (rounds : ℕ) (c : ClosedFields) : Type 0 where
   pub heap : c.geometry ≡ store_heap
   pub rests : IsResting c
   pub legal : IsLegal store_heap c.events
-  pub keeps : Keeps (owned_after c.events 0) (list_after rounds) (values_of (list_after rounds))
+  pub keeps : IsSpelled (owned_after c.events 0) (list_after rounds) (values_of (list_after rounds))
   pub live : length (pool_of c.events) ≡ length (list_after rounds) + 1
   pub given : count_by is_alloc c.events ≡ rounds + 1
   pub freed : count_by is_free c.events + length (list_after rounds) ≡ rounds

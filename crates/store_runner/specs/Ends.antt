@@ -20,7 +20,7 @@ AreOwned owned (token ∷ tokens) =
     ((block : PoolBlock) × (owned token.place ≡ Some block)) × All (λ other. other.place ≢ token.place) tokens × AreOwned owned tokens
 
 -- the blocks that are owned spell the pairs, with one node for each, and one block more spells the words: it begins with how many they are. No block is owned but these
-pub record Keeps (owned : ℕ → Option PoolBlock) (pairs : List (ℕ × ℕ)) (words : List ℕ) : Type 0 where
+pub record IsSpelled (owned : ℕ → Option PoolBlock) (pairs : List (ℕ × ℕ)) (words : List ℕ) : Type 0 where
   pub slots : List Slot
   pub head : ℕ
   pub list : Spells owned slots head pairs
@@ -38,6 +38,6 @@ pub record HasRun (h : Heap) (rounds : ℕ) (script : Script) : Type 0 where
   pub caller : script.pass.errand.caller ≡ 0
   pub pairs : script.pairs.items ≡ list_after rounds
   pub words : script.words.items ≡ values_of (list_after rounds)
-  pub keeps : Keeps (owned_in script.pass) (list_after rounds) (values_of (list_after rounds))
+  pub keeps : IsSpelled (owned_in script.pass) (list_after rounds) (values_of (list_after rounds))
   pub given : given_in script.pass ≡ rounds + 1
   pub freed : freed_in script.pass + length (list_after rounds) ≡ rounds

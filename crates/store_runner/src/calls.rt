@@ -4,7 +4,7 @@ ghost use Rattle.std.specs.Prelude.{ℕ, ◌≡◌, ◌≢◌, ◌≤◌, ◌+�
 ghost use Rattle.errand_steps.specs.Calls.{alloc};
 ghost use Rattle.live_heap.specs.declared.pass.Pass.{Pass};
 ghost use Rattle.live_heap.specs.Calls.{IsCalling};
-ghost use Rattle.store_runner.specs.Counts.{Counts, given_by};
+ghost use Rattle.store_runner.specs.Counts.{CountsBlocks, given_by};
 ghost use Rattle.typed_store.specs.declared.store.Pending.TheVariants as pending;
 ghost use Rattle.typed_store.specs.Nodes.{without_first};
 ghost use Rattle.typed_store.specs.Stores.{HasList, HasRecords, IsReady, IsUnderWay, pairs_after, records_after, with_pair, with_record};
@@ -27,7 +27,7 @@ pub(crate) fn take_out(heap: &Heap, store: &mut Store, key: u64)
     ensures list { (pairs : List (ℕ × ℕ)) → HasList store.old pairs → HasList store.new (without_first key pairs) }
     ensures records { (records : List (List ℕ)) → HasRecords store.old records → HasRecords store.new records }
     ensures counts { (pairs : List (ℕ × ℕ)) → HasList store.old pairs
-        → (freed : ℕ) × Counts 0 freed store.old.pass store.new.pass × (length (without_first key pairs) + freed ≡ length pairs) }
+        → (freed : ℕ) × CountsBlocks 0 freed store.old.pass store.new.pass × (length (without_first key pairs) + freed ≡ length pairs) }
 {
     one_caller_loses_nothing();
     store.remove(heap, key, TRIES);
@@ -43,7 +43,7 @@ fn go_on<R: Wait>(rt: &R, heap: &Heap, store: &mut Store, words: &[u64]) -> Stor
     ensures records { (records : List (List ℕ)) → HasRecords store.old records
         → HasRecords store.new (records_after store.old.pending words.now result records) }
     ensures counts { (first : Pass) (asked made : ℕ) → IsCalling first (alloc asked) made store.old.pass
-        → Counts (given_by result) 0 first store.new.pass }
+        → CountsBlocks (given_by result) 0 first store.new.pass }
 {
     for _ in rt.forever() {
         match store.resume(heap, words, TRIES) {
@@ -69,7 +69,7 @@ fn try_push<R: Wait>(
     ensures list { IfOk result (λ stored. (pairs : List (ℕ × ℕ)) → HasList store.old pairs
         → HasList store.new (with_pair stored (key, value) pairs)) }
     ensures records { (records : List (List ℕ)) → HasRecords store.old records → HasRecords store.new records }
-    ensures counts { IfOk result (λ stored. Counts (given_by stored) 0 store.old.pass store.new.pass) }
+    ensures counts { IfOk result (λ stored. CountsBlocks (given_by stored) 0 store.old.pass store.new.pass) }
 {
     let stored = store.push_front(heap, key, value, TRIES)?;
     match stored {
@@ -92,7 +92,7 @@ pub(crate) fn push<R: Wait>(
     ensures ready { OnOk result (IsReady heap.now store.new) }
     ensures list { OnOk result ((pairs : List (ℕ × ℕ)) → HasList store.old pairs → HasList store.new ((key, value) ∷ pairs)) }
     ensures records { OnOk result ((records : List (List ℕ)) → HasRecords store.old records → HasRecords store.new records) }
-    ensures counts { OnOk result (Counts 1 0 store.old.pass store.new.pass) }
+    ensures counts { OnOk result (CountsBlocks 1 0 store.old.pass store.new.pass) }
 {
     for _ in rt.forever() {
         match try_push(rt, heap, store, key, value)? {
@@ -116,7 +116,7 @@ fn try_note<R: Wait>(
     ensures ready { IfOk result (λ stored. IsReady heap.now store.new) }
     ensures list { (pairs : List (ℕ × ℕ)) → HasList store.old pairs → HasList store.new pairs }
     ensures records { IfOk result (λ stored. HasRecords store.new (with_record stored words.now [])) }
-    ensures counts { IfOk result (λ stored. Counts (given_by stored) 0 store.old.pass store.new.pass) }
+    ensures counts { IfOk result (λ stored. CountsBlocks (given_by stored) 0 store.old.pass store.new.pass) }
 {
     let stored = store.add_record(heap, words, TRIES)?;
     match stored {
@@ -140,7 +140,7 @@ pub(crate) fn note<R: Wait>(
     ensures ready { OnOk result (IsReady heap.now store.new) }
     ensures list { OnOk result ((pairs : List (ℕ × ℕ)) → HasList store.old pairs → HasList store.new pairs) }
     ensures records { OnOk result (HasRecords store.new (words.now ∷ [])) }
-    ensures counts { OnOk result (Counts 1 0 store.old.pass store.new.pass) }
+    ensures counts { OnOk result (CountsBlocks 1 0 store.old.pass store.new.pass) }
 {
     for _ in rt.forever() {
         match try_note(rt, heap, store, words)? {

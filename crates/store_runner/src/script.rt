@@ -5,7 +5,7 @@ ghost use Rattle.live_heap.specs.Contents.{owned_in};
 ghost use Rattle.live_heap.specs.Passes.{IsFresh};
 ghost use Rattle.typed_store.specs.Passings.{Rests};
 ghost use Rattle.typed_store.specs.Stores.{HasList, HasRecords, IsReady};
-ghost use Rattle.store_runner.specs.Ends.{HasRun, Keeps};
+ghost use Rattle.store_runner.specs.Ends.{HasRun, IsSpelled};
 ghost use Rattle.store_runner.specs.Scripts.{IsBehind, values_of};
 
 use crate::calls::{note, push, take_out};
@@ -94,7 +94,7 @@ fn read_back(alloc: Global, heap: &Heap, mut store: Store) -> Result<Script, All
     ensures pairs { IfOk result (λ script. HasList store script.pairs.items) }
     ensures words { IfOk result (λ script. (words : List ℕ) → HasRecords store (words ∷ []) → script.words.items ≡ words) }
     ensures keeps { IfOk result (λ script. (pairs : List (ℕ × ℕ)) (words : List ℕ) → HasList store pairs → HasRecords store (words ∷ [])
-        → Keeps (owned_in script.pass) pairs words) }
+        → IsSpelled (owned_in script.pass) pairs words) }
 {
     let pairs = store.list(alloc, heap)?;
     match store.record(alloc, heap, 0)? {

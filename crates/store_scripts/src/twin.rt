@@ -33,7 +33,7 @@ pub struct Twin {
 
 impl Twin {
     ghost use Rattle.live_heap.specs.declared.heap.Heap.{Heap};
-    ghost use Rattle.typed_store.specs.Stores.{IsReady, Leaves, LeavesPopped};
+    ghost use Rattle.typed_store.specs.Stores.{IsReady, LeavesStore, LeavesPopped};
     ghost use Rattle.store_scripts.specs.Twins.{IsTwin, Waits};
 
     /// A store that holds nothing.
@@ -167,7 +167,7 @@ impl Twin {
     /// Takes note of what a call came to that asked for this.
     fn note(&mut self, heap: &Heap, stored: Stored, asked: Pending) -> Result<(), AllocError>
         requires some { asked ≢ pending.Nothing }
-        requires left { Leaves heap.now stored asked self.old.store }
+        requires left { LeavesStore heap.now stored asked self.old.store }
         requires words { (many : ℕ) → asked ≡ pending.Record many → length self.old.words.items ≡ many }
         ensures { IsTwin heap.now self.new }
     {

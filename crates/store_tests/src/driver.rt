@@ -4,7 +4,7 @@ ghost use Rattle.std.specs.Prelude.{ℕ, ◌≡◌, ◌≤◌, IfOk, length};
 ghost use Rattle.heap_geometry.specs.Geometry.{IsChecked};
 ghost use Rattle.typed_store.specs.declared.store.Pending.{Pending};
 ghost use Rattle.typed_store.specs.declared.store.Pending.TheVariants as pending;
-ghost use Rattle.typed_store.specs.Stores.{IsReady, Leaves, LeavesPopped};
+ghost use Rattle.typed_store.specs.Stores.{IsReady, LeavesStore, LeavesPopped};
 
 use heap_geometry::geometry::Geometry;
 use live_heap::heap::Heap;
@@ -36,7 +36,7 @@ pub fn finish<R: Abort>(
     first: Stored,
     busy: &mut u64,
 ) -> Stored
-    requires left { (waiting : Pending) × Leaves heap.now first waiting store.old × ((many : ℕ) → waiting ≡ pending.Record many → length words.now ≡ many) }
+    requires left { (waiting : Pending) × LeavesStore heap.now first waiting store.old × ((many : ℕ) → waiting ≡ pending.Record many → length words.now ≡ many) }
     ensures { IsReady heap.now store.new }
 {
     let mut stored = first;

@@ -6,10 +6,10 @@ use Rattle.std.proofs.lemmas.Nat.{mul-le, pow_pos}
 use Rattle.heap_geometry.specs.Need.{block_words_of}
 use Rattle.heap_geometry.specs.Place.{block_place}
 use Rattle.packed_words.specs.Prefix.{link_of}
-use Rattle.word_plan.specs.declared.name.WordName.{WordName}
-use Rattle.word_plan.specs.declared.name.WordName.TheVariants.{Arena}
-use Rattle.word_plan.specs.Words.{Writes}
-use Rattle.word_plan.specs.Occurs.{occurs}
+use Rattle.word_table.specs.declared.name.WordName.{WordName}
+use Rattle.word_table.specs.declared.name.WordName.TheVariants.{Arena}
+use Rattle.word_table.specs.Words.{Writes}
+use Rattle.word_table.specs.Occurs.{occurs}
 use Rattle.superblock_parts.specs.Chains.{chain_of, prefix_name, link_in, chain_in}
 
 -- a list that begins with an index has it once more than the rest

@@ -1,3 +1,2 @@
 pub mod ChainLemmas
-pub mod FitLemmas
-pub mod SeatLemmas
+pub mod PointLemmas

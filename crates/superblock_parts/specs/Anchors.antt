@@ -1,11 +1,11 @@
 -- How the steps change an anchor.
 use Rattle.std.specs.Prelude.{ℕ, Bool, ◌+◌, ◌-◌, ◌%◌, ◌^◌, ◌==◌, nat_lt, min, if◌then◌else◌}
 use Rattle.heap_geometry.specs.Need.{block_count_of}
-use Rattle.packed_words.specs.declared.anchor.State.{State}
-use Rattle.packed_words.specs.declared.anchor.State.TheVariants.{Active, Full, Partial, Empty}
+use Rattle.packed_words.specs.declared.anchor.AnchorState.{AnchorState}
+use Rattle.packed_words.specs.declared.anchor.AnchorState.TheVariants.{Active, Full, Partial, Empty}
 use Rattle.packed_words.specs.declared.widths.TheConstants.{AVAIL_BITS, COUNT_BITS, TAG_BITS}
 use Rattle.packed_words.specs.Anchor.{AnchorFields}
-use Rattle.word_plan.specs.declared.limits.TheConstants.{MOST_CREDITS}
+use Rattle.word_table.specs.declared.limits.TheConstants.{MOST_CREDITS}
 use Rattle.superblock_parts.specs.declared.point.Share.{Share}
 use Rattle.superblock_parts.specs.declared.point.Share.TheVariants.{Credit, LastCredit, Grant}
 
@@ -16,7 +16,7 @@ taken_off LastCredit a = min a.count MOST_CREDITS
 taken_off (Grant more) a = 0
 
 -- the state after a pop
-abbrev pub popped_state : Share → AnchorFields → State
+abbrev pub popped_state : Share → AnchorFields → AnchorState
 popped_state Credit a = a.state
 popped_state LastCredit a = if a.count == 0 then Full else a.state
 popped_state (Grant more) a = a.state
@@ -45,7 +45,7 @@ abbrev pub is_last : ℕ → AnchorFields → Bool
 is_last class a = a.count + 1 == block_count_of class
 
 -- the state after a push that doesn't
-abbrev pub pushed_state : State → State
+abbrev pub pushed_state : AnchorState → AnchorState
 pushed_state Active = Active
 pushed_state Full = Partial
 pushed_state Partial = Partial

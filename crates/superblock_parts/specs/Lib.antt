@@ -1,4 +1,3 @@
 pub mod Anchors
 pub mod Chains
-pub mod Fits
 pub mod Points

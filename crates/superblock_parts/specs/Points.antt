@@ -1,30 +1,38 @@
--- What each point does, and where it leads.
-use Rattle.std.specs.Prelude.{ℕ, Bool, true, false, Option, Some, None, ◌+◌, ◌-◌, ◌==◌, nat_lt, if◌then◌else◌}
+-- What each point does, where it leads, and that what a point or an exit remembers exists in its heap.
+use Rattle.std.specs.Prelude.{ℕ, Bool, true, false, Option, Some, None, ◌+◌, ◌-◌, ◌==◌, nat_lt, if◌then◌else◌, ◌<◌, ◌≤◌, ◌^◌, IsTrue}
 use Rattle.heap_geometry.specs.Need.{block_count_of}
 use Rattle.heap_geometry.specs.Place.{block_place}
 use Rattle.packed_words.specs.declared.active.ActiveWord.{ActiveWord}
 use Rattle.packed_words.specs.declared.active.ActiveWord.TheVariants.{Null, Held}
-use Rattle.packed_words.specs.declared.anchor.State.{State}
-use Rattle.packed_words.specs.declared.anchor.State.TheVariants as state
+use Rattle.packed_words.specs.declared.anchor.AnchorState.{AnchorState}
+use Rattle.packed_words.specs.declared.anchor.AnchorState.TheVariants as state
 use Rattle.packed_words.specs.declared.prefix.Prefix.{Prefix}
 use Rattle.packed_words.specs.declared.prefix.Prefix.TheVariants.{Small, Large}
 use Rattle.packed_words.specs.Active.{active_word, active_of}
 use Rattle.packed_words.specs.Anchor.{AnchorFields, anchor_word}
 use Rattle.packed_words.specs.Info.{InfoFields, info_word}
 use Rattle.packed_words.specs.Prefix.{prefix_word, prefix_of, link_of}
-use Rattle.word_plan.specs.declared.action.Action.{Action}
-use Rattle.word_plan.specs.declared.action.Action.TheVariants.{Load, Store, Cas}
-use Rattle.word_plan.specs.declared.action.Found.{Found}
-use Rattle.word_plan.specs.declared.name.WordName.TheVariants as name
-use Rattle.word_plan.specs.declared.seat.Site.{Site}
-use Rattle.word_plan.specs.Counts.{descriptor_count}
-use Rattle.word_plan.specs.Seats.{SeatFields, info_in, anchor_in}
-use Rattle.word_plan.specs.Sites.{info_at, active_name, block_name}
+use Rattle.word_table.specs.declared.action.Action.{Action}
+use Rattle.word_table.specs.declared.action.Action.TheVariants.{Load, Store, Cas}
+use Rattle.word_table.specs.declared.action.Found.{Found}
+use Rattle.word_table.specs.declared.name.WordName.TheVariants as name
+use Rattle.word_table.specs.declared.onward.Onward.{Onward}
+use Rattle.word_table.specs.declared.onward.Onward.TheVariants.{Stays, Leaves}
+use Rattle.word_table.specs.declared.seat.Site.{Site}
+use Rattle.word_table.specs.Counts.{descriptor_count}
+use Rattle.word_table.specs.Seats.{SeatFields, info_in, anchor_in}
+use Rattle.word_table.specs.Sites.{info_at, active_name, block_name, IsSeatOf, IsSiteOf, IsAnchorOf}
 use Rattle.superblock_parts.specs.declared.point.Share.{Share}
-use Rattle.superblock_parts.specs.declared.point.Share.TheVariants.{Credit, LastCredit}
+use Rattle.superblock_parts.specs.declared.point.Share.TheVariants.{Credit, LastCredit, Grant}
 use Rattle.superblock_parts.specs.declared.point.BlockPoint.{BlockPoint}
-use Rattle.superblock_parts.specs.declared.point.BlockPoint.TheVariants.{LoadActive, TakeCredit, LoadInfo, LoadAnchor, LoadLink, PopBlock, StorePrefix, InstallCredits, InstallSuperblock, LoadReturn, ReturnCredits, LoadPrefix, LoadPushAnchor, StoreGuard, LoadOwner, StoreLink, PushBlock, LinkBlock, StoreInfo, StoreAnchor, WantsPartial, Returned, Discarded, Given, BecameEmpty, BecamePartial, Pushed}
+use Rattle.superblock_parts.specs.declared.point.BlockPoint.TheVariants.{LoadActive, TakeCredit, LoadInfo, LoadAnchor, LoadLink, PopBlock, StorePrefix, InstallCredits, InstallSuperblock, LoadReturn, ReturnCredits, LoadPrefix, LoadPushAnchor, StoreGuard, LoadOwner, StoreLink, PushBlock, LinkBlock, StoreInfo, StoreAnchor}
+use Rattle.superblock_parts.specs.declared.exit.BlockExit.{BlockExit}
+use Rattle.superblock_parts.specs.declared.exit.BlockExit.TheVariants.{WantsPartial, Returned, Discarded, Given, BecameEmpty, BecamePartial, Pushed}
 use Rattle.superblock_parts.specs.Anchors.{popped, more_of, returned, is_last, pushed, new_credits, new_anchor, new_link}
+use Rattle.heap_geometry.specs.declared.geometry.Geometry.{Geometry}
+use Rattle.heap_geometry.specs.Geometry.{IsWithin}
+use Rattle.packed_words.specs.declared.widths.TheConstants.{CREDIT_BITS}
+use Rattle.word_table.specs.declared.limits.TheConstants.{MOST_CREDITS}
 
 -- for whom the point is
 abbrev pub seat_of_block : BlockPoint → SeatFields
@@ -48,19 +56,22 @@ seat_of_block (PushBlock at i a stored heap) = at.seat
 seat_of_block (LinkBlock at i) = at.seat
 seat_of_block (StoreInfo at) = at.seat
 seat_of_block (StoreAnchor at) = at.seat
-seat_of_block (WantsPartial s) = s
-seat_of_block (Returned at i) = at.seat
-seat_of_block (Discarded at) = at.seat
-seat_of_block (Given at i) = at.seat
-seat_of_block (BecameEmpty at heap) = at.seat
-seat_of_block (BecamePartial at stored) = at.seat
-seat_of_block (Pushed s stored) = s
+
+-- for whom the exit is
+abbrev pub seat_of_block_exit : BlockExit → SeatFields
+seat_of_block_exit (WantsPartial s) = s
+seat_of_block_exit (Returned at i) = at.seat
+seat_of_block_exit (Discarded at) = at.seat
+seat_of_block_exit (Given at i) = at.seat
+seat_of_block_exit (BecameEmpty at heap) = at.seat
+seat_of_block_exit (BecamePartial at stored) = at.seat
+seat_of_block_exit (Pushed s stored) = s
 
 -- the active word with one credit less, or null after the last
 abbrev pub credit_taken : ℕ → ℕ → ℕ
 credit_taken d credits = if credits == 0 then active_word Null else active_word (Held d (credits - 1))
 
--- the action of a point; who left makes none, and its action here stands for nothing
+-- the action of a point
 abbrev pub plan_block_of : BlockPoint → Action
 plan_block_of (LoadActive s) = Load (active_name s)
 plan_block_of (TakeCredit s d credits) = Cas (active_name s) (active_word (Held d credits)) (credit_taken d credits)
@@ -87,20 +98,13 @@ plan_block_of (PushBlock at i a stored heap) =
 plan_block_of (LinkBlock at i) = Store (block_name at i) (new_link at.seat.class i)
 plan_block_of (StoreInfo at) = Store (name.Info at.desc) (info_word (info_at at))
 plan_block_of (StoreAnchor at) = Store (name.Anchor at.desc) (anchor_word (new_anchor at.seat.class))
-plan_block_of (WantsPartial s) = Load name.FrameHead
-plan_block_of (Returned at i) = Load name.FrameHead
-plan_block_of (Discarded at) = Load name.FrameHead
-plan_block_of (Given at i) = Load name.FrameHead
-plan_block_of (BecameEmpty at heap) = Load name.FrameHead
-plan_block_of (BecamePartial at stored) = Load name.FrameHead
-plan_block_of (Pushed s stored) = Load name.FrameHead
 
 -- where an active word leads; the point stays where the heap has no such descriptor
-abbrev pub after_active : SeatFields → Option ActiveWord → BlockPoint
-after_active s None = LoadActive s
-after_active s (Some Null) = WantsPartial s
+abbrev pub after_active : SeatFields → Option ActiveWord → Onward BlockPoint BlockExit
+after_active s None = Stays (LoadActive s)
+after_active s (Some Null) = Leaves (WantsPartial s)
 after_active s (Some (Held d credits)) =
-    if nat_lt d (descriptor_count s.geometry) then TakeCredit s d credits else LoadActive s
+    Stays (if nat_lt d (descriptor_count s.geometry) then TakeCredit s d credits else LoadActive s)
 
 -- where a descriptor's word leads
 abbrev pub after_info : SeatFields → ℕ → Share → Option InfoFields → BlockPoint
@@ -141,62 +145,115 @@ abbrev pub after_owner : Site → ℕ → AnchorFields → Option InfoFields →
 after_owner at i a None = LoadOwner at i a
 after_owner at i a (Some info) = StoreLink at i a true info.heap
 
--- where a push that leaves free blocks behind leads, by the state before it
-abbrev pub after_push_to : Site → Bool → State → BlockPoint
+-- the exit of a push that does not make the superblock empty, by the state before it
+abbrev pub after_push_to : Site → Bool → AnchorState → BlockExit
 after_push_to at stored state.Active = Pushed at.seat stored
 after_push_to at stored state.Full = BecamePartial at stored
 after_push_to at stored state.Partial = Pushed at.seat stored
 after_push_to at stored state.Empty = Pushed at.seat stored
 
--- where a push leads
-abbrev pub after_push : Site → AnchorFields → Bool → ℕ → BlockPoint
+-- the exit of a push
+abbrev pub after_push : Site → AnchorFields → Bool → ℕ → BlockExit
 after_push at a stored heap = if is_last at.seat.class a then BecameEmpty at heap else after_push_to at stored a.state
 
 -- where the link of a new superblock's block leads
 abbrev pub after_link : Site → ℕ → BlockPoint
 after_link at i = if nat_lt (i + 1) (block_count_of at.seat.class) then LinkBlock at (i + 1) else StoreInfo at
 
--- the point after what the action found
-abbrev pub settle_block_of : BlockPoint → Found → BlockPoint
+-- where a step leads in which the action found this
+abbrev pub settle_block_of : BlockPoint → Found → Onward BlockPoint BlockExit
 settle_block_of (LoadActive s) x = after_active s (active_of x.value)
 settle_block_of (TakeCredit s d credits) x =
-    if x.won then LoadInfo s d (if credits == 0 then LastCredit else Credit) else LoadActive s
-settle_block_of (LoadInfo s d share) x = after_info s d share (info_in s.geometry x.value)
-settle_block_of (LoadAnchor at share) x = after_anchor at share (anchor_in at.seat.class x.value)
-settle_block_of (LoadLink at share a) x = PopBlock at share a x.value
+    Stays (if x.won then LoadInfo s d (if credits == 0 then LastCredit else Credit) else LoadActive s)
+settle_block_of (LoadInfo s d share) x = Stays (after_info s d share (info_in s.geometry x.value))
+settle_block_of (LoadAnchor at share) x = Stays (after_anchor at share (anchor_in at.seat.class x.value))
+settle_block_of (LoadLink at share a) x = Stays (PopBlock at share a x.value)
 settle_block_of (PopBlock at share a prefix) x =
-    if x.won then after_pop at a.avail (more_of share a) else LoadAnchor at share
-settle_block_of (StorePrefix at i) x = Given at i
-settle_block_of (InstallCredits at i more) x = if x.won then StorePrefix at i else LoadReturn at i more
-settle_block_of (InstallSuperblock at) x = if x.won then StorePrefix at 0 else Discarded at
-settle_block_of (LoadReturn at i more) x = after_return_anchor at i more (anchor_in at.seat.class x.value)
-settle_block_of (ReturnCredits at i more a) x = if x.won then Returned at i else LoadReturn at i more
-settle_block_of (LoadPrefix s frame i) x = after_prefix s frame i (prefix_of x.value)
+    Stays (if x.won then after_pop at a.avail (more_of share a) else LoadAnchor at share)
+settle_block_of (StorePrefix at i) x = Leaves (Given at i)
+settle_block_of (InstallCredits at i more) x = Stays (if x.won then StorePrefix at i else LoadReturn at i more)
+settle_block_of (InstallSuperblock at) x = if x.won then Stays (StorePrefix at 0) else Leaves (Discarded at)
+settle_block_of (LoadReturn at i more) x =
+    Stays (after_return_anchor at i more (anchor_in at.seat.class x.value))
+settle_block_of (ReturnCredits at i more a) x =
+    if x.won then Leaves (Returned at i) else Stays (LoadReturn at i more)
+settle_block_of (LoadPrefix s frame i) x = Stays (after_prefix s frame i (prefix_of x.value))
 settle_block_of (LoadPushAnchor at i stored) x =
-    after_push_anchor at i stored (anchor_in at.seat.class x.value)
-settle_block_of (StoreGuard at i a) x = LoadOwner at i a
-settle_block_of (LoadOwner at i a) x = after_owner at i a (info_in at.seat.geometry x.value)
-settle_block_of (StoreLink at i a stored heap) x = PushBlock at i a stored heap
+    Stays (after_push_anchor at i stored (anchor_in at.seat.class x.value))
+settle_block_of (StoreGuard at i a) x = Stays (LoadOwner at i a)
+settle_block_of (LoadOwner at i a) x = Stays (after_owner at i a (info_in at.seat.geometry x.value))
+settle_block_of (StoreLink at i a stored heap) x = Stays (PushBlock at i a stored heap)
 settle_block_of (PushBlock at i a stored heap) x =
-    if x.won then after_push at a stored heap else LoadPushAnchor at i stored
-settle_block_of (LinkBlock at i) x = after_link at i
-settle_block_of (StoreInfo at) x = StoreAnchor at
-settle_block_of (StoreAnchor at) x = InstallSuperblock at
-settle_block_of (WantsPartial s) x = WantsPartial s
-settle_block_of (Returned at i) x = Returned at i
-settle_block_of (Discarded at) x = Discarded at
-settle_block_of (Given at i) x = Given at i
-settle_block_of (BecameEmpty at heap) x = BecameEmpty at heap
-settle_block_of (BecamePartial at stored) x = BecamePartial at stored
-settle_block_of (Pushed s stored) x = Pushed s stored
+    if x.won then Leaves (after_push at a stored heap) else Stays (LoadPushAnchor at i stored)
+settle_block_of (LinkBlock at i) x = Stays (after_link at i)
+settle_block_of (StoreInfo at) x = Stays (StoreAnchor at)
+settle_block_of (StoreAnchor at) x = Stays (InstallSuperblock at)
 
--- the point is one at which the part has been left
-abbrev pub has_left_block : BlockPoint → Bool
-has_left_block (WantsPartial s) = true
-has_left_block (Returned at i) = true
-has_left_block (Discarded at) = true
-has_left_block (Given at i) = true
-has_left_block (BecameEmpty at heap) = true
-has_left_block (BecamePartial at stored) = true
-has_left_block (Pushed s stored) = true
-has_left_block p = false
+-- a seat of this caller of this heap, and a descriptor that the heap has
+pub record IsHeldBy (g : Geometry) (caller : ℕ) (s : SeatFields) (d : ℕ) : Type 0 where
+  pub seat : IsSeatOf g caller s
+  pub desc : d < descriptor_count g
+
+-- a block of a superblock that the caller has at hand
+pub record IsBlockOf (g : Geometry) (caller : ℕ) (at : Site) (i : ℕ) : Type 0 where
+  pub site : IsSiteOf g caller at
+  pub index : i < block_count_of at.seat.class
+
+-- a grant is no greater than what an active word can offer
+abbrev pub IsShare : Share → Type 0
+IsShare Credit = Unit {0}
+IsShare LastCredit = Unit {0}
+IsShare (Grant more) = more ≤ MOST_CREDITS
+
+-- a superblock at hand, what its pop pays with, and the anchor that was read
+pub record IsPop (g : Geometry) (caller : ℕ) (at : Site) (share : Share) (a : AnchorFields) : Type 0 where
+  pub site : IsSiteOf g caller at
+  pub paid : IsShare share
+  pub anchor : IsAnchorOf at.seat.class a
+
+-- a block that is freed, the anchor that was read, and the heap; the hazard word is stored before the last one
+pub record IsPush (g : Geometry) (caller : ℕ) (at : Site) (i : ℕ) (a : AnchorFields) (stored : Bool) (heap : ℕ) : Type 0 where
+  pub block : IsBlockOf g caller at i
+  pub anchor : IsAnchorOf at.seat.class a
+  pub owner : heap < g.heaps
+  pub before_last : IsTrue (is_last at.seat.class a) → IsTrue stored
+
+-- a block whose push makes its superblock empty
+pub record IsLastPush (g : Geometry) (caller : ℕ) (at : Site) (i : ℕ) (a : AnchorFields) : Type 0 where
+  pub block : IsBlockOf g caller at i
+  pub anchor : IsAnchorOf at.seat.class a
+  pub last : IsTrue (is_last at.seat.class a)
+
+-- the point is of this caller of this heap, and everything that it remembers exists there
+abbrev pub FitsBlock : Geometry → ℕ → BlockPoint → Type 0
+FitsBlock g caller (LoadActive s) = IsSeatOf g caller s
+FitsBlock g caller (TakeCredit s d credits) = IsHeldBy g caller s d × (credits < 2 ^ CREDIT_BITS)
+FitsBlock g caller (LoadInfo s d share) = IsHeldBy g caller s d × IsShare share
+FitsBlock g caller (LoadAnchor at share) = IsSiteOf g caller at × IsShare share
+FitsBlock g caller (LoadLink at share a) = IsPop g caller at share a
+FitsBlock g caller (PopBlock at share a prefix) = IsPop g caller at share a
+FitsBlock g caller (StorePrefix at i) = IsBlockOf g caller at i
+FitsBlock g caller (InstallCredits at i more) = IsBlockOf g caller at i × IsWithin 1 MOST_CREDITS more
+FitsBlock g caller (InstallSuperblock at) = IsSiteOf g caller at
+FitsBlock g caller (LoadReturn at i more) = IsBlockOf g caller at i × IsWithin 1 MOST_CREDITS more
+FitsBlock g caller (ReturnCredits at i more a) =
+    IsBlockOf g caller at i × IsWithin 1 MOST_CREDITS more × IsAnchorOf at.seat.class a
+FitsBlock g caller (LoadPrefix s frame i) = IsSeatOf g caller s × (frame < g.frames) × (i < block_count_of s.class)
+FitsBlock g caller (LoadPushAnchor at i stored) = IsBlockOf g caller at i
+FitsBlock g caller (StoreGuard at i a) = IsLastPush g caller at i a
+FitsBlock g caller (LoadOwner at i a) = IsLastPush g caller at i a
+FitsBlock g caller (StoreLink at i a stored heap) = IsPush g caller at i a stored heap
+FitsBlock g caller (PushBlock at i a stored heap) = IsPush g caller at i a stored heap
+FitsBlock g caller (LinkBlock at i) = IsBlockOf g caller at i
+FitsBlock g caller (StoreInfo at) = IsSiteOf g caller at
+FitsBlock g caller (StoreAnchor at) = IsSiteOf g caller at
+
+-- the same of an exit
+abbrev pub FitsBlockExit : Geometry → ℕ → BlockExit → Type 0
+FitsBlockExit g caller (WantsPartial s) = IsSeatOf g caller s
+FitsBlockExit g caller (Returned at i) = IsBlockOf g caller at i
+FitsBlockExit g caller (Discarded at) = IsSiteOf g caller at
+FitsBlockExit g caller (Given at i) = IsBlockOf g caller at i
+FitsBlockExit g caller (BecameEmpty at heap) = IsSiteOf g caller at × (heap < g.heaps)
+FitsBlockExit g caller (BecamePartial at stored) = IsSiteOf g caller at
+FitsBlockExit g caller (Pushed s stored) = IsSeatOf g caller s

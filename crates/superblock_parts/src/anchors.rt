@@ -2,15 +2,15 @@
 
 ghost use Rattle.std.specs.Prelude.{◌≡◌, ◌≤◌};
 ghost use Rattle.packed_words.specs.Prefix.{link_of};
-ghost use Rattle.word_plan.specs.declared.limits.TheConstants.{MOST_CREDITS};
+ghost use Rattle.word_table.specs.declared.limits.TheConstants.{MOST_CREDITS};
 ghost use Rattle.superblock_parts.specs.Anchors.{popped, taken_off, popped_state, more_of, returned, is_last, pushed, pushed_state, new_credits, new_anchor};
 
 use crate::point::Share;
-use packed_words::anchor::{Anchor, State};
+use packed_words::anchor::{Anchor, AnchorState};
 use packed_words::prefix::link_of;
 use packed_words::widths::{AVAIL_BITS, COUNT_BITS, TAG_BITS};
-use word_plan::limits::MOST_CREDITS;
-use word_plan::seat::Seat;
+use word_table::limits::MOST_CREDITS;
+use word_table::seat::Seat;
 
 /// The anchor after a pop, whose popped block had this prefix word.
 #[inline(always)]
@@ -39,11 +39,11 @@ fn taken_off(share: Share, anchor: Anchor) -> u16
 
 /// The state after a pop.
 #[inline(always)]
-fn popped_state(share: Share, anchor: Anchor) -> State
+fn popped_state(share: Share, anchor: Anchor) -> AnchorState
     ensures { result ≡ popped_state share anchor }
 {
     match share {
-        Share::LastCredit if anchor.count() == 0 => State::Full,
+        Share::LastCredit if anchor.count() == 0 => AnchorState::Full,
         _ => anchor.state(),
     }
 }
@@ -67,7 +67,7 @@ pub fn returned(more: u16, anchor: Anchor) -> Anchor
     Anchor::new(
         anchor.avail(),
         ((u32::from(anchor.count()) + u32::from(more)) % (1 << COUNT_BITS)) as u16,
-        State::Partial,
+        AnchorState::Partial,
         anchor.tag(),
     )
 }
@@ -87,7 +87,7 @@ pub fn pushed(seat: Seat, index: u16, anchor: Anchor) -> Anchor
 {
     let avail = index % (1 << AVAIL_BITS);
     if is_last(seat, anchor) {
-        Anchor::new(avail, anchor.count(), State::Empty, anchor.tag())
+        Anchor::new(avail, anchor.count(), AnchorState::Empty, anchor.tag())
     } else {
         let count = (anchor.count() + 1) % (1 << COUNT_BITS);
         Anchor::new(avail, count, pushed_state(anchor.state()), anchor.tag())
@@ -96,11 +96,11 @@ pub fn pushed(seat: Seat, index: u16, anchor: Anchor) -> Anchor
 
 /// The state after a push that leaves the superblock with live or reserved blocks.
 #[inline(always)]
-fn pushed_state(state: State) -> State
+fn pushed_state(state: AnchorState) -> AnchorState
     ensures { result ≡ pushed_state state }
 {
     match state {
-        State::Full => State::Partial,
+        AnchorState::Full => AnchorState::Partial,
         _ => state,
     }
 }
@@ -117,5 +117,5 @@ pub fn new_anchor(seat: Seat) -> Anchor
     ensures { result ≡ new_anchor seat.class }
 {
     let count = (seat.block_count() - 1) - (u16::from(new_credits(seat)) + 1);
-    Anchor::new(1, count, State::Active, 0)
+    Anchor::new(1, count, AnchorState::Active, 0)
 }

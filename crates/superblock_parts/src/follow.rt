@@ -3,16 +3,18 @@
 ghost use Rattle.std.specs.Prelude.{◌≡◌, nat_lt};
 ghost use Rattle.packed_words.specs.Active.{active_of};
 ghost use Rattle.packed_words.specs.Prefix.{prefix_of};
-ghost use Rattle.word_plan.specs.Counts.{descriptor_count};
-ghost use Rattle.word_plan.specs.Seats.{info_in, anchor_in};
+ghost use Rattle.word_table.specs.Counts.{descriptor_count};
+ghost use Rattle.word_table.specs.Seats.{info_in, anchor_in};
 ghost use Rattle.superblock_parts.specs.Points.{after_active, after_info, after_anchor, after_pop, after_return_anchor, after_prefix, after_push_anchor, after_owner, after_link, after_push, after_push_to};
 
 use crate::anchors::is_last;
+use crate::exit::BlockExit;
 use crate::point::{BlockPoint, Share};
 use packed_words::active::ActiveWord;
-use packed_words::anchor::{Anchor, State};
+use packed_words::anchor::{Anchor, AnchorState};
 use packed_words::prefix::Prefix;
-use word_plan::seat::{Seat, Site};
+use word_table::onward::Onward;
+use word_table::seat::{Seat, Site};
 
 /// Whether the heap has the descriptor.
 fn has_desc(seat: Seat, desc: u16) -> bool
@@ -23,17 +25,19 @@ fn has_desc(seat: Seat, desc: u16) -> bool
 
 /// From an active word.
 #[inline(always)]
-pub fn after_active(seat: Seat, word: u64) -> BlockPoint
+pub fn after_active(seat: Seat, word: u64) -> Onward<BlockPoint, BlockExit>
     ensures { result ≡ after_active seat (active_of word) }
 {
     match ActiveWord::unpack(word) {
-        Some(ActiveWord::Null) => BlockPoint::WantsPartial { seat },
-        Some(ActiveWord::Held { desc, credits }) if has_desc(seat, desc) => BlockPoint::TakeCredit {
-            seat,
-            desc,
-            credits,
-        },
-        _ => BlockPoint::LoadActive { seat },
+        Some(ActiveWord::Null) => Onward::Leaves(BlockExit::WantsPartial { seat }),
+        Some(ActiveWord::Held { desc, credits }) if has_desc(seat, desc) => {
+            Onward::Stays(BlockPoint::TakeCredit {
+                seat,
+                desc,
+                credits,
+            })
+        }
+        _ => Onward::Stays(BlockPoint::LoadActive { seat }),
     }
 }
 
@@ -172,25 +176,25 @@ pub fn after_link(site: Site, index: u16) -> BlockPoint
     }
 }
 
-/// From a push.
+/// From a push, which leaves the superblock.
 #[inline(always)]
-pub fn after_push(site: Site, anchor: Anchor, stored: bool, heap: u8) -> BlockPoint
+pub fn after_push(site: Site, anchor: Anchor, stored: bool, heap: u8) -> BlockExit
     ensures { result ≡ after_push site anchor stored heap }
 {
     if is_last(site.seat, anchor) {
-        BlockPoint::BecameEmpty { site, heap }
+        BlockExit::BecameEmpty { site, heap }
     } else {
         after_push_to(site, stored, anchor.state())
     }
 }
 
 /// From a push that leaves the superblock with live or reserved blocks, by the state before it.
-fn after_push_to(site: Site, stored: bool, state: State) -> BlockPoint
+fn after_push_to(site: Site, stored: bool, state: AnchorState) -> BlockExit
     ensures { result ≡ after_push_to site stored state }
 {
     match state {
-        State::Full => BlockPoint::BecamePartial { site, stored },
-        _ => BlockPoint::Pushed {
+        AnchorState::Full => BlockExit::BecamePartial { site, stored },
+        _ => BlockExit::Pushed {
             seat: site.seat,
             stored,
         },

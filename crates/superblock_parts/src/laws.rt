@@ -4,15 +4,15 @@ ghost use Rattle.std.specs.Prelude.{ℕ, ◌≡◌, ◌≢◌, ◌<◌, ◌+◌,
 ghost use Rattle.heap_geometry.specs.declared.geometry.Geometry.{Geometry};
 ghost use Rattle.heap_geometry.specs.Geometry.{IsChecked};
 ghost use Rattle.packed_words.specs.Prefix.{link_of};
-ghost use Rattle.word_plan.specs.declared.action.Found.{Found};
-ghost use Rattle.word_plan.specs.declared.name.WordName.{WordName};
-ghost use Rattle.word_plan.specs.Actions.{name_of};
-ghost use Rattle.word_plan.specs.Table.{Exists};
-ghost use Rattle.word_plan.specs.Words.{Writes};
-ghost use Rattle.word_plan.specs.Occurs.{occurs};
+ghost use Rattle.word_table.specs.declared.action.Found.{Found};
+ghost use Rattle.word_table.specs.declared.name.WordName.{WordName};
+ghost use Rattle.word_table.specs.Actions.{name_of};
+ghost use Rattle.word_table.specs.Onwards.{IsOnward, told_onward};
+ghost use Rattle.word_table.specs.Table.{Exists};
+ghost use Rattle.word_table.specs.Words.{Writes};
+ghost use Rattle.word_table.specs.Occurs.{occurs};
 ghost use Rattle.superblock_parts.specs.Chains.{chain_of, chain_in, prefix_name};
-ghost use Rattle.superblock_parts.specs.Fits.{FitsBlock};
-ghost use Rattle.superblock_parts.specs.Points.{plan_block_of, seat_of_block, settle_block_of};
+ghost use Rattle.superblock_parts.specs.Points.{FitsBlock, FitsBlockExit, plan_block_of, seat_of_block, seat_of_block_exit, settle_block_of};
 ghost use Rattle.superblock_parts.specs.declared.point.BlockPoint.{BlockPoint};
 
 /// Taking the first index off a chain of `k` leaves the rest, a chain of `k - 1`.
@@ -39,11 +39,11 @@ pub fn other_words_leave_a_chain()
 {}
 
 /// A point whose memory exists in a heap acts on a word that exists there, and leads to such a
-/// point of the same seat, whatever it finds.
+/// point or exit of the same seat, whatever it finds.
 pub fn points_fit()
     ensures names { (g : Geometry) (caller : ℕ) (p : BlockPoint) → IsChecked g → caller < g.callers → FitsBlock g caller p
         → Exists g (name_of (plan_block_of p)) }
     ensures keeps { (g : Geometry) (caller : ℕ) (p : BlockPoint) (x : Found) → IsChecked g → x.value < 2 ^ 64
-        → FitsBlock g caller p → FitsBlock g caller (settle_block_of p x) }
-    ensures seat { (p : BlockPoint) (x : Found) → seat_of_block (settle_block_of p x) ≡ seat_of_block p }
+        → FitsBlock g caller p → IsOnward (FitsBlock g caller) (FitsBlockExit g caller) (settle_block_of p x) }
+    ensures seat { (p : BlockPoint) (x : Found) → told_onward seat_of_block seat_of_block_exit (settle_block_of p x) ≡ seat_of_block p }
 {}

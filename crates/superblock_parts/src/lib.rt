@@ -7,10 +7,8 @@
 #![tactic(auto)]
 
 mod anchors;
+pub mod exit;
 mod follow;
 pub mod laws;
-pub mod plan;
 pub mod point;
-pub mod settle;
-pub mod stay;
 mod words;

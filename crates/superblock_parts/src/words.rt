@@ -5,13 +5,13 @@ ghost use Rattle.packed_words.specs.Active.{active_word};
 ghost use Rattle.packed_words.specs.Prefix.{prefix_word};
 ghost use Rattle.packed_words.specs.declared.active.ActiveWord.{ActiveWord};
 ghost use Rattle.packed_words.specs.declared.prefix.Prefix.{Prefix};
-ghost use Rattle.word_plan.specs.Sites.{active_name, block_name};
+ghost use Rattle.word_table.specs.Sites.{active_name, block_name};
 ghost use Rattle.superblock_parts.specs.Anchors.{new_link};
 ghost use Rattle.superblock_parts.specs.Points.{credit_taken};
 
 use packed_words::widths::{CREDIT_BITS, KIND_BITS};
-use word_plan::name::WordName;
-use word_plan::seat::{Seat, Site};
+use word_table::name::WordName;
+use word_table::seat::{Seat, Site};
 
 /// The active word of the seat's processor heap and class.
 pub fn active_name(seat: Seat) -> WordName

@@ -7,8 +7,8 @@ use Rattle.pool_model.specs.declared.event.Event.{Event}
 use Rattle.pool_model.specs.Legal.{IsLegal}
 use Rattle.pool_model.specs.Pool.{live_words, pool_of}
 use Rattle.trace_text.specs.declared.trace.Trace.{Trace}
-use Rattle.step_core.specs.Cores.{errand_at}
-use Rattle.step_core.proofs.CoreLemmas.{core-sound}
+use Rattle.step_machine.specs.Cores.{errand_at}
+use Rattle.step_machine.proofs.CoreLemmas.{core-sound}
 use Rattle.live_heap.specs.Endings.{ClosedFields, machine_of}
 use Rattle.lane_outcomes.specs.declared.outcome.Outcome.{Outcome}
 use Rattle.lane_outcomes.specs.declared.outcome.Outcome.TheVariants.{Spent}

@@ -8,8 +8,8 @@ use Rattle.pool_model.proofs.HistoryLemmas.{legal-weaker}
 use Rattle.trace_text.specs.declared.limits.TheConstants.{MAX_LANES}
 use Rattle.trace_text.specs.declared.trace.Trace.{Trace}
 use Rattle.trace_text.specs.Traces.{IsTrace}
-use Rattle.step_core.specs.Cores.{CoreFields, IsCore}
-use Rattle.step_core.proofs.CoreLemmas.{core-sound}
+use Rattle.step_machine.specs.Cores.{CoreFields, IsCore}
+use Rattle.step_machine.proofs.CoreLemmas.{core-sound}
 use Rattle.lane_outcomes.specs.declared.outcome.Outcome.{Outcome}
 use Rattle.lane_outcomes.specs.Fits.{OutcomesFit}
 use Rattle.lane_outcomes.specs.Passed.{AllPassed}
@@ -26,11 +26,11 @@ use Rattle.roomy_traces.specs.Serial.{left_by, serial_outcomes, serial_report_of
 use Rattle.roomy_traces.proofs.ReportLemmas.{live-left, one-report}
 use Rattle.roomy_traces.proofs.SerialLemmas.{outcomes-serial}
 use Rattle.trace_commands.specs.Answers.{IsRun, IsTold, make_text, replay_text, serial_make, serial_replay}
-use Rattle.command_parts.specs.Summaries.{summary_with, trace_of}
+use Rattle.command_line.specs.Summaries.{summary_with, trace_of}
 use Rattle.trace_commands.specs.Closings.{IsDrivenIn, IsSharedIn, history_of, lost_by_threads, lost_of}
 use Rattle.trace_commands.specs.declared.closing.Closing.{Closing}
 use Rattle.trace_commands.specs.declared.closing.Closing.TheVariants.{Ran, Stepped}
-use Rattle.command_parts.specs.declared.command.Workload.{Workload}
+use Rattle.command_line.specs.declared.command.Workload.{Workload}
 use Rattle.trace_commands.proofs.SerialLemmas.{summaries-same}
 
 -- what a machine that was driven leaves

@@ -1,10 +1,10 @@
 -- How runs end.
 use Rattle.std.proofs.Common.{◌≡◌, Bool, true, false, lit<, refl}
 use Rattle.trace_commands.specs.Runs.{IsAnswer, IsStatus}
-use Rattle.command_parts.specs.Statuses.{stop_status}
-use Rattle.command_parts.specs.declared.status.TheConstants.{REPORTED, REFUSED, OUT_OF_MEMORY}
-use Rattle.command_parts.specs.declared.stop.Stop.{Stop}
-use Rattle.command_parts.specs.declared.stop.Stop.TheVariants.{Fault, TooMany, OutOfMemory}
+use Rattle.command_line.specs.Statuses.{stop_status}
+use Rattle.command_line.specs.declared.status.TheConstants.{REPORTED, REFUSED, OUT_OF_MEMORY}
+use Rattle.command_line.specs.declared.stop.Stop.{Stop}
+use Rattle.command_line.specs.declared.stop.Stop.TheVariants.{Fault, TooMany, OutOfMemory}
 
 -- a run that stops has one of the statuses
 pub known-stop : (stop : Stop) → IsStatus (stop_status stop)

@@ -10,11 +10,11 @@ use Rattle.lane_outcomes.specs.declared.outcome.Outcome.TheVariants as outcome
 use Rattle.roomy_traces.specs.Serial.{without_place}
 use Rattle.trace_text.specs.Text.{line}
 use Rattle.trace_text.specs.declared.trace.Op.{Op}
-use Rattle.command_parts.specs.Command.{workload_words}
-use Rattle.command_parts.specs.Summaries.{counts_text, summary_with}
-use Rattle.command_parts.specs.Tallies.{all_of, given_words, is_freed, is_given, is_refused, is_spent, is_sum, tally_of}
-use Rattle.command_parts.specs.declared.command.Workload.{Workload}
-use Rattle.command_parts.specs.declared.tally.Tally.{Tally}
+use Rattle.command_line.specs.Command.{workload_words}
+use Rattle.command_line.specs.Summaries.{counts_text, summary_with}
+use Rattle.command_line.specs.Tallies.{all_of, given_words, is_freed, is_given, is_refused, is_spent, is_sum, tally_of}
+use Rattle.command_line.specs.declared.command.Workload.{Workload}
+use Rattle.command_line.specs.declared.tally.OutcomeTally.{OutcomeTally}
 
 -- what is counted of outcomes is the same without their places
 sums-same :
@@ -64,7 +64,7 @@ pub summaries-same :
 summaries-same workload lanes outcomes others live words same =
     let tally : tally_of (all_of outcomes) ≡ tally_of (all_of others) =
     sym (tallies-same (all_of outcomes)) ∙ (ap tally_of (sym (all-same outcomes)) ∙ ap (λ (o : List (List Outcome)). tally_of (all_of o)) same) in
-    ap (λ (t : Tally).
+    ap (λ (t : OutcomeTally).
     line (codes "make" ∷ workload_words workload)
     ++ line (codes "lanes" ∷ decimal (length lanes) ∷ codes "operations" ∷ decimal (length (all_of lanes)) ∷ [])
     ++ counts_text t

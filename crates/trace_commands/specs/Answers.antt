@@ -19,15 +19,15 @@ use Rattle.heap_census.specs.declared.census.Census.{Census as Counts}
 use Rattle.workloads.specs.declared.kind.Kind.TheVariants.{Pipeline}
 use Rattle.trace_commands.specs.Censuses.{IsCensusOf, census_text}
 use Rattle.trace_commands.specs.Closings.{IsDrivenIn, IsSharedIn, IsSharedThroughIn, geometry_of, history_of, lost_of, steps_of, turns_of}
-use Rattle.command_parts.specs.Command.{has_input}
-use Rattle.command_parts.specs.Summaries.{serial_summary_of, summary_of, trace_of}
+use Rattle.command_line.specs.Command.{has_input}
+use Rattle.command_line.specs.Summaries.{serial_summary_of, summary_of, trace_of}
 use Rattle.trace_commands.specs.Pipes.{IsPiped}
 use Rattle.trace_commands.specs.Stored.{IsStoreTold}
 use Rattle.trace_commands.specs.declared.closing.Closing.{Closing}
-use Rattle.command_parts.specs.declared.command.Command.{Command}
-use Rattle.command_parts.specs.declared.command.Command.TheVariants.{Replay, Schedule, Census, Make, Print, Pipe, Store, Cache}
-use Rattle.command_parts.specs.declared.command.Workload.{Workload}
-use Rattle.command_parts.specs.declared.status.TheConstants.{REPORTED, REFUSED}
+use Rattle.command_line.specs.declared.command.Command.{Command}
+use Rattle.command_line.specs.declared.command.Command.TheVariants.{Replay, Schedule, Census, Make, Print, Pipe, Store, Cache}
+use Rattle.command_line.specs.declared.command.Workload.{Workload}
+use Rattle.command_line.specs.declared.status.TheConstants.{REPORTED, REFUSED}
 
 -- the lanes of a trace ran to their ends on this heap, which is the one that the trace asks for: by this rule each lane's
 -- outcomes fit its operations and the one history of the heap, which is legal; a lane that was told to have no turn left has

@@ -4,9 +4,9 @@ use Rattle.std.specs.Fmt.{decimal}
 use Rattle.heap_geometry.specs.declared.geometry.Geometry.{Geometry}
 use Rattle.pool_model.specs.declared.event.Event.{Event}
 use Rattle.errand_steps.specs.Errands.{ErrandFields}
-use Rattle.sound_state.specs.Contention.{lost_of as lost_by}
+use Rattle.lost_exchanges.specs.Contention.{lost_of as lost_by}
 use Rattle.sound_state.specs.Sums.{callers_sum}
-use Rattle.step_core.specs.Cores.{CoreFields, errand_at}
+use Rattle.step_machine.specs.Cores.{CoreFields, errand_at}
 use Rattle.trace_text.specs.Text.{line}
 use Rattle.trace_text.specs.declared.trace.OrderRun.{OrderRun}
 use Rattle.trace_text.specs.declared.trace.Trace.{Trace}

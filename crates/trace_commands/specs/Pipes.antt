@@ -4,8 +4,8 @@ use Rattle.std.specs.Fmt.{decimal}
 use Rattle.std.specs.List.{flat_map, range_with_len}
 use Rattle.pool_model.specs.Pool.{live_words, pool_of}
 use Rattle.trace_text.specs.Text.{line}
-use Rattle.command_parts.specs.Command.{piping_words}
-use Rattle.command_parts.specs.declared.command.Piping.{Piping}
+use Rattle.command_line.specs.Command.{piping_words}
+use Rattle.command_line.specs.declared.command.Piping.{Piping}
 use Rattle.pipe_runner.specs.declared.run.PipeRun.{PipeRun}
 use Rattle.pipe_runner.specs.Runs.{IsPipeRun}
 use Rattle.trace_commands.specs.declared.closing.Closing.{Closing}

@@ -3,11 +3,11 @@ use Rattle.std.specs.Prelude.{ℕ, ◌≡◌, ◌⊎◌, ◌∷◌, Bool, true, 
 use Rattle.edge_io.specs.declared.faults.Failed.{Failed}
 use Rattle.trace_text.specs.declared.limits.TheConstants.{MAX_INPUT}
 use Rattle.trace_commands.specs.declared.closing.Closing.{Closing}
-use Rattle.command_parts.specs.declared.command.Command.{Command}
-use Rattle.command_parts.specs.declared.status.TheConstants.{REPORTED, USAGE, REFUSED, READ_FAULT, WRITE_FAULT, OUT_OF_MEMORY, TOO_MANY}
-use Rattle.command_parts.specs.Command.{IsCommandLine, has_input}
-use Rattle.command_parts.specs.Input.{TakesAll, TakesFirst, TakesUntil}
-use Rattle.command_parts.specs.Output.{WritesAll, WritesSome}
+use Rattle.command_line.specs.declared.command.Command.{Command}
+use Rattle.command_line.specs.declared.status.TheConstants.{REPORTED, USAGE, REFUSED, READ_FAULT, WRITE_FAULT, OUT_OF_MEMORY, TOO_MANY}
+use Rattle.command_line.specs.Command.{IsCommandLine, has_input}
+use Rattle.command_line.specs.Input.{TakesAll, TakesFirst, TakesUntil}
+use Rattle.command_line.specs.Output.{WritesAll, WritesSome}
 
 -- the program ends so: the words are no command, an edge failed, or it gave its answer
 abbrev pub IsStatus : ℕ → Type 0

@@ -2,14 +2,14 @@
 
 ghost use Rattle.std.specs.Prelude.{◌≡◌, IfOk, Some, map, sum};
 ghost use Rattle.trace_text.specs.Traces.{IsTrace};
-ghost use Rattle.command_parts.specs.Command.{IsDepth};
+ghost use Rattle.command_line.specs.Command.{IsDepth};
 ghost use Rattle.trace_commands.specs.Answers.{IsCacheTold, IsCachedRun, hits_line};
 
 use crate::closing::Closing;
 use crate::told::{Told, report_on};
 use cached_runner::laws::{closed_lanes_fit_through_caches, spent_lanes_took_their_turns};
 use cached_runner::run_cached::run_through_caches;
-use command_parts::wide::write_wide;
+use command_line::wide::write_wide;
 use edge_io::gate::Gate;
 use lane_outcomes::outcome::Outcome;
 use live_heap::closed::Closed;

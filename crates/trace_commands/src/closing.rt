@@ -2,8 +2,8 @@
 
 use live_heap::closed::Closed;
 use pipe_runner::run::PipeRun;
-use pool_model::plain::PlainPool;
-use step_core::machine::Core;
+use plain_pool::pool::PlainPool;
+use step_machine::machine::Core;
 
 /// The heap at the end of a run, by what kept it.
 #[derive(Drop)]

@@ -10,7 +10,7 @@ use edge_io::gate::Gate;
 use lane_outcomes::outcome::Outcome;
 use lane_runner::run_core::run_core;
 use std::alloc::{AllocError, Global};
-use step_core::machine::Core;
+use step_machine::machine::Core;
 use trace_text::trace::Trace;
 
 /// A run of a trace: the machine at its end, and the outcomes of each lane.

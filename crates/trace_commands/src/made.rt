@@ -4,14 +4,14 @@ ghost use Rattle.std.specs.Prelude.{◌≡◌, IfOk, Some};
 ghost use Rattle.trace_text.specs.Text.{canonical_of};
 ghost use Rattle.trace_commands.specs.Answers.{HasOneSummary, IsTold, make_text, serial_make};
 ghost use Rattle.trace_commands.specs.Closings.{IsSharedIn};
-ghost use Rattle.command_parts.specs.Command.{IsWorkload};
-ghost use Rattle.command_parts.specs.Summaries.{trace_of};
+ghost use Rattle.command_line.specs.Command.{IsWorkload};
+ghost use Rattle.command_line.specs.Summaries.{trace_of};
 
 use crate::closing::Closing;
 use crate::threaded::{ThreadedRun, run_on_threads};
 use crate::told::Told;
-use command_parts::command::Workload;
-use command_parts::summary::summary;
+use command_line::command::Workload;
+use command_line::summary::summary;
 use edge_io::gate::Gate;
 use lane_outcomes::live::live_count;
 use std::alloc::{AllocError, Global};

@@ -4,12 +4,12 @@ ghost use Rattle.std.specs.Prelude.{◌≡◌, ◌<◌, ◌≤◌, ◌++◌, ◌
 ghost use Rattle.std.specs.Fmt.{decimal};
 ghost use Rattle.std.specs.List.{flat_map, range_with_len};
 ghost use Rattle.trace_text.specs.Text.{line};
-ghost use Rattle.command_parts.specs.Command.{IsPiping, piping_words};
+ghost use Rattle.command_line.specs.Command.{IsPiping, piping_words};
 ghost use Rattle.trace_commands.specs.Pipes.{IsPiped, sender_line};
 
 use crate::closing::Closing;
 use crate::told::Told;
-use command_parts::command::Piping;
+use command_line::command::Piping;
 use edge_io::gate::Gate;
 use pipe_runner::run::{PipeRun, run_pipe};
 use std::alloc::{AllocError, Global};

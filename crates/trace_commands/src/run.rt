@@ -4,18 +4,18 @@ ghost use Rattle.std.specs.Prelude.{◌≡◌, ◌≢◌, ◌⊎◌, None, false
 ghost use Rattle.std.specs.Process.{exit_status};
 ghost use Rattle.edge_io.specs.Faults.{FaultsRose};
 ghost use Rattle.trace_commands.specs.Answers.{IsRefusal, IsReport};
-ghost use Rattle.command_parts.specs.Command.{IsCommand, IsCommandLine, has_input};
-ghost use Rattle.command_parts.specs.Input.{TakesMore, TakesSome};
-ghost use Rattle.command_parts.specs.declared.command.Command.{Command};
-ghost use Rattle.command_parts.specs.declared.status.TheConstants.{REPORTED, REFUSED, READ_FAULT, TOO_MANY};
+ghost use Rattle.command_line.specs.Command.{IsCommand, IsCommandLine, has_input};
+ghost use Rattle.command_line.specs.Input.{TakesMore, TakesSome};
+ghost use Rattle.command_line.specs.declared.command.Command.{Command};
+ghost use Rattle.command_line.specs.declared.status.TheConstants.{REPORTED, REFUSED, READ_FAULT, TOO_MANY};
 ghost use Rattle.trace_commands.specs.Runs.{AsksInput, IsAnswer, IsStatus, ReadsInVain, Writes, WritesPart};
 
 use crate::answer::{Answer, answer_to};
 use crate::closing::Closing;
-use command_parts::exit::code_of;
-use command_parts::output::write_text;
-use command_parts::parsing::{NoCommand, read_words};
-use command_parts::status::{OUT_OF_MEMORY, USAGE, WRITE_FAULT};
+use command_line::exit::code_of;
+use command_line::output::write_text;
+use command_line::parsing::{NoCommand, read_words};
+use command_line::status::{OUT_OF_MEMORY, USAGE, WRITE_FAULT};
 use edge_io::gate::Gate;
 use edge_io::sink::Sink;
 use edge_io::source::Source;

@@ -4,9 +4,9 @@ ghost use Rattle.std.specs.Prelude.{◌≡◌, IfOk};
 ghost use Rattle.trace_commands.specs.Closings.{cleared_by_all, steps_line};
 ghost use Rattle.lane_runner.specs.Driven.{lost_by_all};
 
-use command_parts::wide::write_wide;
+use command_line::wide::write_wide;
 use std::alloc::{AllocError, Global};
-use step_core::machine::Core;
+use step_machine::machine::Core;
 use trace_text::text::Text;
 
 /// How many exchanges the callers of a machine lost, all together.

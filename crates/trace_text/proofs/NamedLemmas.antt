@@ -10,8 +10,8 @@ use Rattle.heap_geometry.specs.declared.limits.TheConstants.{MAX_FRAMES, MAX_HEA
 use Rattle.trace_text.specs.declared.limits.TheConstants.{REGISTERS, MAX_LANES, ORDER_MOST}
 use Rattle.trace_text.specs.declared.fault.Cause.{Cause}
 use Rattle.trace_text.specs.declared.fault.Cause.TheVariants.{BadGeometry, OutOfRange, UnknownOp, NotAscii, TooManyLanes}
-use Rattle.trace_text.specs.declared.stage.Stage.{Stage}
-use Rattle.trace_text.specs.declared.stage.Stage.TheVariants.{Before, Inside, Ended}
+use Rattle.trace_text.specs.declared.stage.ReadingStage.{ReadingStage}
+use Rattle.trace_text.specs.declared.stage.ReadingStage.TheVariants.{Before, Inside, Ended}
 use Rattle.trace_text.specs.declared.trace.Op.{Op}
 use Rattle.trace_text.specs.declared.trace.Op.TheVariants.{Alloc, Free, Fill, Check, Put, Take, Resize}
 use Rattle.trace_text.specs.declared.trace.OrderRun.{OrderRun}
@@ -188,7 +188,7 @@ abbrev IsTraceOf : Version → Trace → Type 0
 IsTraceOf version trace = IsTrace trace × (trace.version ≡ version)
 
 -- behind a heap line of this version
-abbrev pub IsBehind : Version → Stage → Type 0
+abbrev pub IsBehind : Version → ReadingStage → Type 0
 IsBehind version Before = ⊥
 IsBehind version (Inside trace) = IsTraceOf version trace
 IsBehind version (Ended trace) = IsTraceOf version trace
@@ -302,7 +302,7 @@ order_more trace run is in_range =
 
 -- ---- the stage after each line
 
-after_lane_named : (trace : Trace) (fields : List (List ℕ)) (next : Stage) → IsTrace trace → after_lane trace fields ≡ Ok next → IsBehind trace.version next
+after_lane_named : (trace : Trace) (fields : List (List ℕ)) (next : ReadingStage) → IsTrace trace → after_lane trace fields ≡ Ok next → IsBehind trace.version next
 unfolding after_lane
 after_lane_named trace fields next is e =
     let unordered = kept (is_unordered trace) (none_in fields >>= λ _. cond (ltb (length trace.lanes) MAX_LANES) (Ok (Inside (with_lane trace))) (Err TooManyLanes)) UnknownOp next e in
@@ -311,27 +311,27 @@ after_lane_named trace fields next is e =
     subst (IsBehind trace.version) (ok_is (Inside (with_lane trace)) next few.1)
     (lane_more trace is (eqb-true (length trace.orders) 0 unordered.0) (ltb-true (length trace.lanes) MAX_LANES few.0), refl)
 
-after_order_named : (trace : Trace) (fields : List (List ℕ)) (next : Stage) → IsTrace trace → after_order trace fields ≡ Ok next → IsBehind trace.version next
+after_order_named : (trace : Trace) (fields : List (List ℕ)) (next : ReadingStage) → IsTrace trace → after_order trace fields ≡ Ok next → IsBehind trace.version next
 unfolding after_order
 after_order_named trace fields next is e =
     let run = bind_ok (order_in (length trace.lanes) fields) (λ run. Ok (Inside (with_order trace run))) next e in
     subst (IsBehind trace.version) (ok_is (Inside (with_order trace run.0)) next run.2)
     (order_more trace run.0 is (order_ok trace.lanes fields run.0 run.1), refl)
 
-after_end_named : (trace : Trace) (fields : List (List ℕ)) (next : Stage) → IsTrace trace → after_end trace fields ≡ Ok next → IsBehind trace.version next
+after_end_named : (trace : Trace) (fields : List (List ℕ)) (next : ReadingStage) → IsTrace trace → after_end trace fields ≡ Ok next → IsBehind trace.version next
 unfolding after_end
 after_end_named trace fields next is e =
     let none = bind_ok (none_in fields) (λ _. Ok (Ended trace)) next e in
     subst (IsBehind trace.version) (ok_is (Ended trace) next none.2) (is, refl)
 
-after_op_named : (trace : Trace) (word : List ℕ) (fields : List (List ℕ)) (next : Stage) → IsTrace trace → after_op trace word fields ≡ Ok next → IsBehind trace.version next
+after_op_named : (trace : Trace) (word : List ℕ) (fields : List (List ℕ)) (next : ReadingStage) → IsTrace trace → after_op trace word fields ≡ Ok next → IsBehind trace.version next
 unfolding after_op
 after_op_named trace word fields next is e =
     let in_lane = kept _ (op_of trace.version word fields >>= λ op. Ok (Inside (with_op trace op))) UnknownOp next e in
     let op = bind_ok (op_of trace.version word fields) (λ op. Ok (Inside (with_op trace op))) next in_lane.1 in
     subst (IsBehind trace.version) (ok_is (Inside (with_op trace op.0)) next op.2) (op_more trace op.0 is (op_of_ok trace.version word fields op.0 op.1), refl)
 
-after_inner_named : (trace : Trace) (word : List ℕ) (fields : List (List ℕ)) (next : Stage) → IsTrace trace → after_inner trace word fields ≡ Ok next → IsBehind trace.version next
+after_inner_named : (trace : Trace) (word : List ℕ) (fields : List (List ℕ)) (next : ReadingStage) → IsTrace trace → after_inner trace word fields ≡ Ok next → IsBehind trace.version next
 unfolding after_inner
 after_inner_named trace word fields next is e =
     either (bytes_eq word (codes "lane")) _ _ _ (IsBehind trace.version next) e (after_lane_named trace fields next is)
@@ -341,7 +341,7 @@ after_inner_named trace word fields next is e =
 
 -- a heap line begins a trace of the version that its word says
 pub after_first_named :
-    (known : Version) (word : List ℕ) (fields : List (List ℕ)) (next : Stage) → after_first known word fields ≡ Ok next
+    (known : Version) (word : List ℕ) (fields : List (List ℕ)) (next : ReadingStage) → after_first known word fields ≡ Ok next
     → (version : Version) × (version_in known word ≡ Ok version) × IsBehind version next
 unfolding after_first
 after_first_named known word fields next e =
@@ -350,17 +350,17 @@ after_first_named known word fields next e =
     (version.0, version.1, subst (IsBehind version.0) (ok_is (Inside trace.0) next trace.2) (heap_ok version.0 fields trace.0 trace.1))
 
 -- from one stage to the next: a trace stays of its version
-abbrev pub Goes : Stage → Stage → Type 0
+abbrev pub Goes : ReadingStage → ReadingStage → Type 0
 Goes Before next = (next ≡ Before) ⊎ ((version : Version) × IsBehind version next)
 Goes (Inside trace) next = IsBehind trace.version next
 Goes (Ended trace) next = IsBehind trace.version next
 
-stays : (stage next : Stage) → HasTrace stage → done stage ≡ Ok next → Goes stage next
+stays : (stage next : ReadingStage) → HasTrace stage → done stage ≡ Ok next → Goes stage next
 stays Before next is e = inl (sym (ok_is Before next e))
 stays (Inside trace) next is e = subst (IsBehind trace.version) (ok_is (Inside trace) next e) (is, refl)
 stays (Ended trace) next is e = subst (IsBehind trace.version) (ok_is (Ended trace) next e) (is, refl)
 
-after_word_named : (known : Version) (stage next : Stage) (word : List ℕ) (fields : List (List ℕ)) → HasTrace stage → after_word known stage word fields ≡ Ok next → Goes stage next
+after_word_named : (known : Version) (stage next : ReadingStage) (word : List ℕ) (fields : List (List ℕ)) → HasTrace stage → after_word known stage word fields ≡ Ok next → Goes stage next
 unfolding after_word
 after_word_named known Before next word fields is e =
     let begun = after_first_named known word fields next e in
@@ -368,7 +368,7 @@ after_word_named known Before next word fields is e =
 after_word_named known (Inside trace) next word fields is e = after_inner_named trace word fields next is e
 after_word_named known (Ended trace) next word fields is e = absurd cc
 
-after_fields_named : (known : Version) (stage next : Stage) (fields : List (List ℕ)) → HasTrace stage → after_fields known stage fields ≡ Ok next → Goes stage next
+after_fields_named : (known : Version) (stage next : ReadingStage) (fields : List (List ℕ)) → HasTrace stage → after_fields known stage fields ≡ Ok next → Goes stage next
 unfolding after_fields
 after_fields_named known stage next [] is e = stays stage next is e
 after_fields_named known stage next (word ∷ fields) is e =
@@ -376,23 +376,23 @@ after_fields_named known stage next (word ∷ fields) is e =
     (after_word_named known stage next word fields is)
 
 -- a line that is not refused
-pub line_goes : (known : Version) (stage next : Stage) (line : List ℕ) → HasTrace stage → after_line known stage line ≡ Ok next → Goes stage next
+pub line_goes : (known : Version) (stage next : ReadingStage) (line : List ℕ) → HasTrace stage → after_line known stage line ≡ Ok next → Goes stage next
 unfolding after_line
 line_goes known stage next line is e =
     let plain = kept (list_all is_plain line) (after_fields known stage (fields_of line)) NotAscii next e in
     after_fields_named known stage next (fields_of line) is plain.1
 
-pub behind_named : (version : Version) (stage : Stage) → IsBehind version stage → HasTrace stage
+pub behind_named : (version : Version) (stage : ReadingStage) → IsBehind version stage → HasTrace stage
 behind_named version Before is = absurd is
 behind_named version (Inside trace) is = is.0
 behind_named version (Ended trace) is = is.0
 
-goes_named : (stage next : Stage) → Goes stage next → HasTrace next
+goes_named : (stage next : ReadingStage) → Goes stage next → HasTrace next
 goes_named Before next (inl passed) = subst HasTrace (sym passed) tt
 goes_named Before next (inr begun) = behind_named begun.0 next begun.1
 goes_named (Inside trace) next goes = behind_named trace.version next goes
 goes_named (Ended trace) next goes = behind_named trace.version next goes
 
 -- a line that is not refused leaves such a trace
-pub line_named : (known : Version) (stage next : Stage) (line : List ℕ) → HasTrace stage → after_line known stage line ≡ Ok next → HasTrace next
+pub line_named : (known : Version) (stage next : ReadingStage) (line : List ℕ) → HasTrace stage → after_line known stage line ≡ Ok next → HasTrace next
 line_named known stage next line is e = goes_named stage next (line_goes known stage next line is e)

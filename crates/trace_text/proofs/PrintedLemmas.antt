@@ -9,7 +9,7 @@ use Rattle.std.proofs.lemmas.List.Elements.{All-from_recursion}
 use Rattle.std.proofs.lemmas.List.Splits.{slice_split_at, slice_split_none}
 use Rattle.std.proofs.lemmas.Str.Parse.{digit_at}
 use Rattle.trace_text.specs.declared.limits.TheConstants.{SPACE, LINE_FEED}
-use Rattle.trace_text.specs.declared.stage.Stage.{Stage}
+use Rattle.trace_text.specs.declared.stage.ReadingStage.{ReadingStage}
 use Rattle.trace_text.specs.declared.trace.Version.TheVariants.{Two}
 use Rattle.trace_text.specs.Lines.{without_return, lines_in, lines_of, is_blank, is_plain, has_bytes, fields_of}
 use Rattle.trace_text.specs.Reading.{Reading, reading_from}
@@ -117,12 +117,12 @@ lines_of-line fields rest h =
     ∙ ap (λ first. first ∷ lines_in (slice_split p rest)) (without_return-printed joined printed)
 
 -- a text is read so from here, whatever the number of its first line
-abbrev pub ReadsTo : Reading → Stage → List ℕ → Type 0
+abbrev pub ReadsTo : Reading → ReadingStage → List ℕ → Type 0
 ReadsTo reading stage text = (number : ℕ) → reading_from Two (lines_of text) number stage ≡ reading
 
 -- a line that is printed, and what comes behind it
 pub reads_line :
-    (reading : Reading) (stage next : Stage) (fields : List (List ℕ)) (rest : List ℕ) → AreFields fields → 0 < length fields
+    (reading : Reading) (stage next : ReadingStage) (fields : List (List ℕ)) (rest : List ℕ) → AreFields fields → 0 < length fields
     → after_fields Two stage fields ≡ Ok next → ReadsTo reading next rest → ReadsTo reading stage (line fields ++ rest)
 unfolding reading_from after_line
 reads_line reading stage next fields rest h some said reads number =

@@ -10,8 +10,8 @@ use Rattle.heap_geometry.specs.declared.limits.TheConstants.{MAX_FRAMES, MAX_HEA
 use Rattle.trace_text.specs.declared.limits.TheConstants.{REGISTERS, MAX_LANES, ORDER_MOST}
 use Rattle.trace_text.specs.declared.fault.Cause.{Cause}
 use Rattle.trace_text.specs.declared.fault.Cause.TheVariants.{BadGeometry, OutOfRange}
-use Rattle.trace_text.specs.declared.stage.Stage.{Stage}
-use Rattle.trace_text.specs.declared.stage.Stage.TheVariants.{Before, Inside, Ended}
+use Rattle.trace_text.specs.declared.stage.ReadingStage.{ReadingStage}
+use Rattle.trace_text.specs.declared.stage.ReadingStage.TheVariants.{Before, Inside, Ended}
 use Rattle.trace_text.specs.declared.trace.Op.{Op}
 use Rattle.trace_text.specs.declared.trace.Op.TheVariants.{Alloc, Free, Fill, Check, Put, Take, Resize}
 use Rattle.trace_text.specs.declared.trace.OrderRun.{OrderRun}
@@ -286,7 +286,7 @@ ops_read reading t lanes (op ∷ ops) last rest h allowed reads =
     let said = op_after (so_far t (lanes ++ last ∷ []) []) op here (All-head (IsAllowed t.version) op ops allowed) (omega (arith, length-append lanes (last ∷ []))) refl in
     let next = ap (λ (trace : Trace). Inside trace) (op_added t lanes last op) in
     let one = reads_line reading (Inside (so_far t (lanes ++ last ∷ []) [])) (Inside (so_far t (lanes ++ (last ++ op ∷ []) ∷ []) [])) (op_fields op) (flat_map op_line ops ++ rest)
-    (op_are_fields op here) (op_some op) (said ∙ ap (λ (stage : Stage). Ok stage) next) others in
+    (op_are_fields op here) (op_some op) (said ∙ ap (λ (stage : ReadingStage). Ok stage) next) others in
     subst (λ (text : List ℕ). ReadsTo reading (Inside (so_far t (lanes ++ last ∷ []) [])) text) (sym (append_assoc (op_line op) (flat_map op_line ops) rest)) one
 
 -- the lanes, and what comes behind them

@@ -6,33 +6,33 @@ use Rattle.std.proofs.lemmas.List.{map-append}
 use Rattle.trace_text.specs.declared.fault.Stop.{Stop}
 use Rattle.trace_text.specs.declared.fault.Stop.TheVariants as stops
 use Rattle.trace_text.specs.declared.fault.Cause.TheVariants.{NoHeapLine, NoEnd}
-use Rattle.trace_text.specs.declared.stage.Stage.{Stage}
-use Rattle.trace_text.specs.declared.stage.Stage.TheVariants.{Before, Inside, Ended}
+use Rattle.trace_text.specs.declared.stage.ReadingStage.{ReadingStage}
+use Rattle.trace_text.specs.declared.stage.ReadingStage.TheVariants.{Before, Inside, Ended}
 use Rattle.trace_text.specs.declared.trace.Trace.{Trace}
 use Rattle.trace_text.specs.declared.trace.Version.TheVariants.{Two}
 use Rattle.trace_text.specs.declared.trace.Op.{Op}
-use Rattle.trace_text.specs.Causes.{Stops}
+use Rattle.trace_text.specs.Causes.{StopsReading}
 use Rattle.trace_text.specs.Said.{after_line, after_op, op_of, is_unordered, last_with}
-use Rattle.trace_text.specs.Reading.{Reading, Read, Answers, at_end, fault_of, reading_from}
+use Rattle.trace_text.specs.Reading.{Reading, Read, AnswersReading, at_end, fault_of, reading_from}
 
 -- the lines after one that was read
 pub goes_on :
-    (line : List ℕ) (after lines : List (List ℕ)) (number : ℕ) (stage next : Stage) (reading : Reading) → lines ≡ line ∷ after
+    (line : List ℕ) (after lines : List (List ℕ)) (number : ℕ) (stage next : ReadingStage) (reading : Reading) → lines ≡ line ∷ after
     → reading_from Two lines number stage ≡ reading → after_line Two stage line ≡ Ok next → reading_from Two after (number + 1) next ≡ reading
 unfolding reading_from
 goes_on line after lines number stage next reading is reads said = rw (is, said) at reads
 
 -- a line that is refused
 pub stopped :
-    (stop : Stop) (line : List ℕ) (after lines : List (List ℕ)) (number : ℕ) (stage : Stage) (reading : Reading) → lines ≡ line ∷ after
-    → reading_from Two lines number stage ≡ reading → Stops stop (after_line Two stage line) → Answers (Err (fault_of number stop)) reading
+    (stop : Stop) (line : List ℕ) (after lines : List (List ℕ)) (number : ℕ) (stage : ReadingStage) (reading : Reading) → lines ≡ line ∷ after
+    → reading_from Two lines number stage ≡ reading → StopsReading stop (after_line Two stage line) → AnswersReading (Err (fault_of number stop)) reading
 unfolding reading_from
 stopped stops.OutOfMemory line after lines number stage reading is reads said = tt
 stopped (stops.Because cause) line after lines number stage reading is reads said =
-    subst (λ r. Answers (Err (fault_of number (stops.Because cause))) r) (rw (is, said) at reads) (refl, refl)
+    subst (λ r. AnswersReading (Err (fault_of number (stops.Because cause))) r) (rw (is, said) at reads) (refl, refl)
 
 -- the end of the text
-pub ended : (lines : List (List ℕ)) (number : ℕ) (stage : Stage) (reading : Reading) → lines ≡ [] → reading_from Two lines number stage ≡ reading → at_end number stage ≡ reading
+pub ended : (lines : List (List ℕ)) (number : ℕ) (stage : ReadingStage) (reading : Reading) → lines ≡ [] → reading_from Two lines number stage ≡ reading → at_end number stage ≡ reading
 unfolding reading_from
 ended lines number stage reading is reads = rw is at reads
 
@@ -50,19 +50,19 @@ last_pushed items op old rest new last pushed was more now =
     rw (was, now, map-append, map-append, more) (sym (last_with-append op (map items rest) (items last)))
 
 -- the three ends of a text
-pub read_at_end : (trace : Trace) (number : ℕ) (stage : Stage) (reading : Reading) → stage ≡ Ended trace → at_end number stage ≡ reading → reading ≡ Read trace
+pub read_at_end : (trace : Trace) (number : ℕ) (stage : ReadingStage) (reading : Reading) → stage ≡ Ended trace → at_end number stage ≡ reading → reading ≡ Read trace
 unfolding at_end
 read_at_end trace number stage reading is e = sym (rw is at e)
 
-pub no_heap_line : (number : ℕ) (stage : Stage) (reading : Reading) → stage ≡ Before → at_end number stage ≡ reading → Answers (Err (fault_of number (stops.Because NoHeapLine))) reading
+pub no_heap_line : (number : ℕ) (stage : ReadingStage) (reading : Reading) → stage ≡ Before → at_end number stage ≡ reading → AnswersReading (Err (fault_of number (stops.Because NoHeapLine))) reading
 unfolding at_end
 no_heap_line number stage reading is e =
-    subst (λ r. Answers (Err (fault_of number (stops.Because NoHeapLine))) r) (rw is at e) (refl, refl)
+    subst (λ r. AnswersReading (Err (fault_of number (stops.Because NoHeapLine))) r) (rw is at e) (refl, refl)
 
-pub no_end : (trace : Trace) (number : ℕ) (stage : Stage) (reading : Reading) → stage ≡ Inside trace → at_end number stage ≡ reading → Answers (Err (fault_of number (stops.Because NoEnd))) reading
+pub no_end : (trace : Trace) (number : ℕ) (stage : ReadingStage) (reading : Reading) → stage ≡ Inside trace → at_end number stage ≡ reading → AnswersReading (Err (fault_of number (stops.Because NoEnd))) reading
 unfolding at_end
 no_end trace number stage reading is e =
-    subst (λ r. Answers (Err (fault_of number (stops.Because NoEnd))) r) (rw is at e) (refl, refl)
+    subst (λ r. AnswersReading (Err (fault_of number (stops.Because NoEnd))) r) (rw is at e) (refl, refl)
 
 -- in a lane: some lane and no order run has come
 in_lane : (trace : Trace) → (trace.lanes ≡ [] → ⊥) → trace.orders ≡ [] → (nat_lt 0 (length trace.lanes) && is_unordered trace) ≡ true

@@ -6,8 +6,8 @@ use Rattle.std.proofs.lemmas.Bool.{cases_Bool}
 use Rattle.std.proofs.lemmas.Slice.Eq.{bytes_eq-Decides}
 use Rattle.trace_text.specs.declared.fault.Cause.{Cause}
 use Rattle.trace_text.specs.declared.fault.Cause.TheVariants.{NotAscii, NoHeapLine}
-use Rattle.trace_text.specs.declared.stage.Stage.{Stage}
-use Rattle.trace_text.specs.declared.stage.Stage.TheVariants.{Before, Inside, Ended}
+use Rattle.trace_text.specs.declared.stage.ReadingStage.{ReadingStage}
+use Rattle.trace_text.specs.declared.stage.ReadingStage.TheVariants.{Before, Inside, Ended}
 use Rattle.trace_text.specs.declared.trace.Trace.{Trace}
 use Rattle.trace_text.specs.declared.trace.Version.{Version}
 use Rattle.trace_text.specs.declared.trace.Version.TheVariants.{One, Two}
@@ -20,7 +20,7 @@ use Rattle.trace_text.proofs.NamedLemmas.{IsBehind, Goes, kept, ok_is, after_fir
 
 -- ---- behind the heap line no version is asked for
 
-fields_alike : (known other version : Version) (stage : Stage) (fields : List (List ℕ)) → IsBehind version stage → after_fields known stage fields ≡ after_fields other stage fields
+fields_alike : (known other version : Version) (stage : ReadingStage) (fields : List (List ℕ)) → IsBehind version stage → after_fields known stage fields ≡ after_fields other stage fields
 unfolding after_fields after_word
 fields_alike known other version Before fields is = absurd is
 fields_alike known other version (Inside trace) [] is = refl
@@ -29,27 +29,27 @@ fields_alike known other version (Ended trace) [] is = refl
 fields_alike known other version (Ended trace) (word ∷ fields) is = refl
 
 -- a line of fields that are answered alike
-line_alike : (known other : Version) (stage : Stage) (line : List ℕ) → after_fields known stage (fields_of line) ≡ after_fields other stage (fields_of line) → after_line known stage line ≡ after_line other stage line
+line_alike : (known other : Version) (stage : ReadingStage) (line : List ℕ) → after_fields known stage (fields_of line) ≡ after_fields other stage (fields_of line) → after_line known stage line ≡ after_line other stage line
 unfolding after_line
 line_alike known other stage line e = ap (λ said. cond (list_all is_plain line) said (Err NotAscii)) e
 
 continued_alike :
-    (number : ℕ) (said : Result Stage Cause) (f g : Stage → Reading) → ((next : Stage) → said ≡ Ok next → f next ≡ g next)
+    (number : ℕ) (said : Result ReadingStage Cause) (f g : ReadingStage → Reading) → ((next : ReadingStage) → said ≡ Ok next → f next ≡ g next)
     → continued number said f ≡ continued number said g
 continued_alike number (Ok next) f g e = e next refl
 continued_alike number (Err cause) f g e = refl
 
-behind_goes : (version : Version) (stage next : Stage) → IsBehind version stage → Goes stage next → IsBehind version next
+behind_goes : (version : Version) (stage next : ReadingStage) → IsBehind version stage → Goes stage next → IsBehind version next
 behind_goes version Before next is goes = absurd is
 behind_goes version (Inside trace) next is goes = subst (λ v. IsBehind v next) is.1 goes
 behind_goes version (Ended trace) next is goes = subst (λ v. IsBehind v next) is.1 goes
 
-line_behind : (known version : Version) (stage next : Stage) (line : List ℕ) → IsBehind version stage → after_line known stage line ≡ Ok next → IsBehind version next
+line_behind : (known version : Version) (stage next : ReadingStage) (line : List ℕ) → IsBehind version stage → after_line known stage line ≡ Ok next → IsBehind version next
 line_behind known version stage next line is e =
     behind_goes version stage next is (line_goes known stage next line (behind_named version stage is) e)
 
 lines_alike :
-    (known other version : Version) (lines : List (List ℕ)) (number : ℕ) (stage : Stage) → IsBehind version stage
+    (known other version : Version) (lines : List (List ℕ)) (number : ℕ) (stage : ReadingStage) → IsBehind version stage
     → reading_from known lines number stage ≡ reading_from other lines number stage
 unfolding reading_from
 lines_alike known other version [] number stage is = refl
@@ -99,12 +99,12 @@ version_said Two version word e =
     ]
 
 -- before the heap line a line is passed over, or it is the heap line and has the word of its version
-abbrev Begins : Version → List (List ℕ) → List (List (List ℕ)) → Stage → Type 0
+abbrev Begins : Version → List (List ℕ) → List (List (List ℕ)) → ReadingStage → Type 0
 Begins known fields lines next =
     ((next ≡ Before) × (first_word_in (fields ∷ lines) ≡ first_word_in lines))
     ⊎ ((version : Version) × (known ≡ One → version ≡ One) × (first_word_in (fields ∷ lines) ≡ Some (heap_word version)) × IsBehind version next)
 
-fields_begin : (known : Version) (fields : List (List ℕ)) (lines : List (List (List ℕ))) (next : Stage) → after_fields known Before fields ≡ Ok next → Begins known fields lines next
+fields_begin : (known : Version) (fields : List (List ℕ)) (lines : List (List (List ℕ))) (next : ReadingStage) → after_fields known Before fields ≡ Ok next → Begins known fields lines next
 unfolding first_word_in after_fields after_word
 fields_begin known [] lines next e = inl (sym (ok_is Before next e), refl)
 fields_begin known (word ∷ fields) lines next e =
@@ -117,7 +117,7 @@ fields_begin known (word ∷ fields) lines next e =
     ]
 
 -- the same of a line whose bytes are tested
-line_begins : (known : Version) (line : List ℕ) (lines : List (List (List ℕ))) (next : Stage) → after_line known Before line ≡ Ok next → Begins known (fields_of line) lines next
+line_begins : (known : Version) (line : List ℕ) (lines : List (List (List ℕ))) (next : ReadingStage) → after_line known Before line ≡ Ok next → Begins known (fields_of line) lines next
 unfolding after_line
 line_begins known line lines next e =
     fields_begin known (fields_of line) lines next (kept (list_all is_plain line) (after_fields known Before (fields_of line)) NotAscii next e).1
@@ -139,7 +139,7 @@ same text other = lines_before (lines_of text) 1 other
 
 -- ---- the version of what is read
 
-behind_read : (known version : Version) (lines : List (List ℕ)) (number : ℕ) (stage : Stage) (t : Trace) → IsBehind version stage → reading_from known lines number stage ≡ Read t → t.version ≡ version
+behind_read : (known version : Version) (lines : List (List ℕ)) (number : ℕ) (stage : ReadingStage) (t : Trace) → IsBehind version stage → reading_from known lines number stage ≡ Read t → t.version ≡ version
 unfolding reading_from at_end
 behind_read known version [] number Before t is e = absurd is
 behind_read known version [] number (Inside trace) t is e = absurd cc

@@ -24,16 +24,16 @@ abbrev pub ◌>>=◌ : {A B : Type 0} → Result A Cause → (A → Result B Cau
 (Err cause) >>= f = Err cause
 
 -- a test of the grammar answers what the grammar says, seen by view
-abbrev pub Tells : {X Y : Type 0} → (X → Y) → Result X Cause → Result Y Cause → Type 0
-Tells view (Ok x) said = said ≡ Ok (view x)
-Tells view (Err cause) said = said ≡ Err cause
+abbrev pub TellsCause : {X Y : Type 0} → (X → Y) → Result X Cause → Result Y Cause → Type 0
+TellsCause view (Ok x) said = said ≡ Ok (view x)
+TellsCause view (Err cause) said = said ≡ Err cause
 
 -- an early end is the grammar's cause, unless memory ran out
-abbrev pub Stops : {Y : Type 0} → Stop → Result Y Cause → Type 0
-Stops stops.OutOfMemory said = Unit {0}
-Stops (stops.Because cause) said = said ≡ Err cause
+abbrev pub StopsReading : {Y : Type 0} → Stop → Result Y Cause → Type 0
+StopsReading stops.OutOfMemory said = Unit {0}
+StopsReading (stops.Because cause) said = said ≡ Err cause
 
 -- what a function returned is what the grammar says, unless memory ran out
 abbrev pub Gives : {X : Type 0} → Result X Stop → Result X Cause → Type 0
 Gives (Ok x) said = said ≡ Ok x
-Gives (Err stop) said = Stops stop said
+Gives (Err stop) said = StopsReading stop said

@@ -6,8 +6,8 @@ use Rattle.trace_text.specs.declared.fault.Stop.{Stop}
 use Rattle.trace_text.specs.declared.fault.Stop.TheVariants as stops
 use Rattle.trace_text.specs.declared.fault.TraceFault.{TraceFault}
 use Rattle.trace_text.specs.declared.fault.TraceFault.TheVariants.{OutOfMemory, Line}
-use Rattle.trace_text.specs.declared.stage.Stage.{Stage}
-use Rattle.trace_text.specs.declared.stage.Stage.TheVariants.{Before, Inside, Ended}
+use Rattle.trace_text.specs.declared.stage.ReadingStage.{ReadingStage}
+use Rattle.trace_text.specs.declared.stage.ReadingStage.TheVariants.{Before, Inside, Ended}
 use Rattle.trace_text.specs.declared.trace.Trace.{Trace}
 use Rattle.trace_text.specs.declared.trace.Version.{Version}
 use Rattle.trace_text.specs.declared.trace.Version.TheVariants.{Two}
@@ -21,18 +21,18 @@ pub data Reading : Type 0 where
   Refused : (line : ℕ) (cause : Cause) → Reading
 
 -- the end of the text, with the number of the line that would come next
-unfoldable pub at_end : ℕ → Stage → Reading
+unfoldable pub at_end : ℕ → ReadingStage → Reading
 at_end number Before = Refused number NoHeapLine
 at_end number (Inside trace) = Refused number NoEnd
 at_end number (Ended trace) = Read trace
 
 -- a line's cause, or what comes next
-abbrev pub continued : ℕ → Result Stage Cause → (Stage → Reading) → Reading
+abbrev pub continued : ℕ → Result ReadingStage Cause → (ReadingStage → Reading) → Reading
 continued number (Ok stage) next = next stage
 continued number (Err cause) next = Refused number cause
 
 -- the lines from one on, of which the first has this number
-unfoldable pub reading_from : Version → List (List ℕ) → ℕ → Stage → Reading
+unfoldable pub reading_from : Version → List (List ℕ) → ℕ → ReadingStage → Reading
 reading_from known [] number stage = at_end number stage
 reading_from known (line ∷ lines) number stage =
     continued number (after_line known stage line) (λ next. reading_from known lines (number + 1) next)
@@ -66,7 +66,7 @@ IsRefused line code (Read trace) = ⊥
 IsRefused line code (Refused number cause) = (line ≡ number) × (code ≡ code_of cause)
 
 -- the reader answers what the text is read as, unless memory ran out
-abbrev pub Answers : Result Trace TraceFault → Reading → Type 0
-Answers (Ok trace) reading = reading ≡ Read trace
-Answers (Err OutOfMemory) reading = Unit {0}
-Answers (Err (Line number code)) reading = IsRefused number code reading
+abbrev pub AnswersReading : Result Trace TraceFault → Reading → Type 0
+AnswersReading (Ok trace) reading = reading ≡ Read trace
+AnswersReading (Err OutOfMemory) reading = Unit {0}
+AnswersReading (Err (Line number code)) reading = IsRefused number code reading

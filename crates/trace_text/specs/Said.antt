@@ -12,8 +12,8 @@ use Rattle.trace_text.specs.declared.trace.OrderRun.{OrderRun}
 use Rattle.trace_text.specs.declared.trace.Trace.{Trace}
 use Rattle.trace_text.specs.declared.trace.Version.{Version}
 use Rattle.trace_text.specs.declared.trace.Version.TheVariants.{One, Two}
-use Rattle.trace_text.specs.declared.stage.Stage.{Stage}
-use Rattle.trace_text.specs.declared.stage.Stage.TheVariants.{Before, Inside, Ended}
+use Rattle.trace_text.specs.declared.stage.ReadingStage.{ReadingStage}
+use Rattle.trace_text.specs.declared.stage.ReadingStage.TheVariants.{Before, Inside, Ended}
 use Rattle.trace_text.specs.Causes.{◌>>=◌}
 use Rattle.trace_text.specs.Lines.{fields_of, is_plain, is_comment}
 use Rattle.trace_text.specs.Numbers.{number_in}
@@ -221,31 +221,31 @@ abbrev pub is_unordered : Trace → Bool
 is_unordered trace = length trace.orders == 0
 
 -- a line `lane`, which no order line precedes
-unfoldable pub after_lane : Trace → List (List ℕ) → Result Stage Cause
+unfoldable pub after_lane : Trace → List (List ℕ) → Result ReadingStage Cause
 after_lane trace fields =
     if is_unordered trace
     then (none_in fields >>= λ _. if nat_lt (length trace.lanes) MAX_LANES then Ok (Inside (with_lane trace)) else Err TooManyLanes)
     else Err UnknownOp
 
 -- an order line
-unfoldable pub after_order : Trace → List (List ℕ) → Result Stage Cause
+unfoldable pub after_order : Trace → List (List ℕ) → Result ReadingStage Cause
 after_order trace fields = do
   run ← order_in (length trace.lanes) fields
   Ok (Inside (with_order trace run))
 
 -- the line `end`
-unfoldable pub after_end : Trace → List (List ℕ) → Result Stage Cause
+unfoldable pub after_end : Trace → List (List ℕ) → Result ReadingStage Cause
 after_end trace fields = none_in fields >>= λ _. Ok (Ended trace)
 
 -- an operation, which stands in a lane: a line `lane` and no order line precede it
-unfoldable pub after_op : Trace → List ℕ → List (List ℕ) → Result Stage Cause
+unfoldable pub after_op : Trace → List ℕ → List (List ℕ) → Result ReadingStage Cause
 after_op trace word fields =
     if nat_lt 0 (length trace.lanes) && is_unordered trace
     then (op_of trace.version word fields >>= λ op. Ok (Inside (with_op trace op)))
     else Err UnknownOp
 
 -- a line between the heap line and `end`, by its word and the fields behind it
-unfoldable pub after_inner : Trace → List ℕ → List (List ℕ) → Result Stage Cause
+unfoldable pub after_inner : Trace → List ℕ → List (List ℕ) → Result ReadingStage Cause
 after_inner trace word fields =
     if bytes_eq word (codes "lane") then after_lane trace fields
     else (if bytes_eq word (codes "order") then after_order trace fields
@@ -253,23 +253,23 @@ after_inner trace word fields =
     else after_op trace word fields))
 
 -- the first line that is not passed over is the heap line, of one of the versions up to the known one
-unfoldable pub after_first : Version → List ℕ → List (List ℕ) → Result Stage Cause
+unfoldable pub after_first : Version → List ℕ → List (List ℕ) → Result ReadingStage Cause
 after_first known word fields = do
   version ← version_in known word
   trace ← heap_in version fields
   Ok (Inside trace)
 
 -- a line with a word, at its place: before the heap line, behind it, or behind `end`
-unfoldable pub after_word : Version → Stage → List ℕ → List (List ℕ) → Result Stage Cause
+unfoldable pub after_word : Version → ReadingStage → List ℕ → List (List ℕ) → Result ReadingStage Cause
 after_word known Before word fields = after_first known word fields
 after_word known (Inside trace) word fields = after_inner trace word fields
 after_word known (Ended trace) word fields = Err UnknownOp
 
 -- a line of these fields: one without a field, and a comment, are passed over
-unfoldable pub after_fields : Version → Stage → List (List ℕ) → Result Stage Cause
+unfoldable pub after_fields : Version → ReadingStage → List (List ℕ) → Result ReadingStage Cause
 after_fields known stage [] = Ok stage
 after_fields known stage (word ∷ fields) = if is_comment word then Ok stage else after_word known stage word fields
 
 -- a line, whose bytes are tested first
-unfoldable pub after_line : Version → Stage → List ℕ → Result Stage Cause
+unfoldable pub after_line : Version → ReadingStage → List ℕ → Result ReadingStage Cause
 after_line known stage line = if list_all is_plain line then after_fields known stage (fields_of line) else Err NotAscii

@@ -1,10 +1,10 @@
 -- What holds of the traces along a text.
-use Rattle.trace_text.specs.declared.stage.Stage.{Stage}
-use Rattle.trace_text.specs.declared.stage.Stage.TheVariants.{Before, Inside, Ended}
+use Rattle.trace_text.specs.declared.stage.ReadingStage.{ReadingStage}
+use Rattle.trace_text.specs.declared.stage.ReadingStage.TheVariants.{Before, Inside, Ended}
 use Rattle.trace_text.specs.Traces.{IsTrace}
 
 -- the trace so far is one that a text can name
-abbrev pub HasTrace : Stage → Type 0
+abbrev pub HasTrace : ReadingStage → Type 0
 HasTrace Before = Unit {0}
 HasTrace (Inside trace) = IsTrace trace
 HasTrace (Ended trace) = IsTrace trace

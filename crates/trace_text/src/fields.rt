@@ -3,7 +3,7 @@
 ghost use Rattle.std.specs.Prelude.{◌≡◌, ◌∷◌, ◌<◌, ◌≤◌, ◌^◌, IfOk, OnOk};
 ghost use Rattle.std.specs.Option.{option_copied};
 ghost use Rattle.trace_text.specs.declared.limits.TheConstants.{MAX_LANES};
-ghost use Rattle.trace_text.specs.Causes.{Tells};
+ghost use Rattle.trace_text.specs.Causes.{TellsCause};
 ghost use Rattle.trace_text.specs.Lines.{fields_of};
 ghost use Rattle.trace_text.specs.Said.{numeral_in, ranged, register_of, need_of, shelf_of, some_in, none_in, one_in, two_in, three_in, heap_fields_in, limit_in, heap_numbers_in, alloc_in, free_in, fill_in, check_in, put_in, take_in, resize_in, op_in, op_of, order_in};
 
@@ -58,14 +58,14 @@ fn shelf(n: u64) -> Result<u8, Cause>
 
 /// The first field, and what is left behind it.
 fn field(fields: &[u8]) -> Result<(&[u8], &[u8]), Cause>
-    ensures { Tells (λ p. p.0.now ∷ fields_of p.1.now) result (some_in (fields_of fields.now)) }
+    ensures { TellsCause (λ p. p.0.now ∷ fields_of p.1.now) result (some_in (fields_of fields.now)) }
 {
     first_field(fields).ok_or(Cause::WrongFields)
 }
 
 /// No field behind the word.
 pub(crate) fn none(fields: &[u8]) -> Result<(), Cause>
-    ensures { Tells (λ _. tt) result (none_in (fields_of fields.now)) }
+    ensures { TellsCause (λ _. tt) result (none_in (fields_of fields.now)) }
 {
     match first_field(fields) {
         None => Ok(()),
@@ -227,7 +227,7 @@ pub(crate) fn order(lanes: usize, fields: &[u8]) -> Result<OrderRun, Cause>
 
 /// The three or four fields behind the word of a heap line.
 fn heap_fields(fields: &[u8]) -> Result<(&[u8], &[u8], &[u8], Option<&[u8]>), Cause>
-    ensures { Tells (λ p. (p.0.now, p.1.now, p.2.now, option_copied p.3)) result
+    ensures { TellsCause (λ p. (p.0.now, p.1.now, p.2.now, option_copied p.3)) result
         (heap_fields_in (fields_of fields.now)) }
 {
     let (frames, rest) = field(fields)?;

@@ -1,13 +1,13 @@
 //! The reader: from a text to its trace.
 
 ghost use Rattle.std.specs.Prelude.{◌≡◌, ◌≤◌, length, IfOk};
-ghost use Rattle.trace_text.specs.Reading.{Answers, fault_of, reading_of};
+ghost use Rattle.trace_text.specs.Reading.{AnswersReading, fault_of, reading_of};
 ghost use Rattle.trace_text.specs.Traces.{IsTrace};
 ghost use Rattle.trace_text.specs.declared.limits.TheConstants.{MAX_INPUT};
 
 use crate::fault::{Cause, Stop, TraceFault};
 use crate::lines::first_line;
-use crate::stage::Stage;
+use crate::stage::ReadingStage;
 use crate::trace::Trace;
 use std::alloc::Global;
 
@@ -29,10 +29,10 @@ fn fault_at(number: u32, stop: Stop) -> TraceFault
 /// taken for the trace alone.
 pub fn read_trace(alloc: Global, text: &[u8]) -> Result<Trace, TraceFault>
     requires { length text.now ≤ MAX_INPUT }
-    ensures reads { Answers result (reading_of text.now) }
+    ensures reads { AnswersReading result (reading_of text.now) }
     ensures named { IfOk result IsTrace }
 {
-    let mut stage = Stage::Before;
+    let mut stage = ReadingStage::Before;
     let mut number = 1;
     let mut rest = text;
     while let Some((line, after)) = first_line(rest) {
@@ -44,8 +44,8 @@ pub fn read_trace(alloc: Global, text: &[u8]) -> Result<Trace, TraceFault>
         rest = after;
     }
     match stage {
-        Stage::Ended(trace) => Ok(trace),
-        Stage::Before => Err(fault_at(number, Stop::Because(Cause::NoHeapLine))),
-        Stage::Inside(_) => Err(fault_at(number, Stop::Because(Cause::NoEnd))),
+        ReadingStage::Ended(trace) => Ok(trace),
+        ReadingStage::Before => Err(fault_at(number, Stop::Because(Cause::NoHeapLine))),
+        ReadingStage::Inside(_) => Err(fault_at(number, Stop::Because(Cause::NoEnd))),
     }
 }

@@ -20,7 +20,7 @@ use std::alloc::Global;
 /// Where the reader stands: before the heap line, behind it with the trace so far, or behind `end`
 /// with the whole trace.
 #[derive(Debug, Drop)]
-pub(crate) enum Stage {
+pub(crate) enum ReadingStage {
     Before,
     Inside(Trace),
     Ended(Trace),
@@ -67,7 +67,7 @@ fn heap(alloc: Global, version: Version, fields: &[u8]) -> Result<Trace, Cause>
 
 /// A line `lane`.
 #[tactic(auto, unfolding(crate::specs::Said::after_lane))]
-fn lane(alloc: Global, mut trace: Trace, fields: &[u8]) -> Result<Stage, Stop>
+fn lane(alloc: Global, mut trace: Trace, fields: &[u8]) -> Result<ReadingStage, Stop>
     requires { IsTrace trace }
     ensures { Gives result (after_lane trace (fields_of fields.now)) }
 {
@@ -80,32 +80,32 @@ fn lane(alloc: Global, mut trace: Trace, fields: &[u8]) -> Result<Stage, Stop>
     }
     trace.heap.callers = trace.lanes.len() as u32 + 1;
     trace.lanes.push_lane(alloc)?;
-    Ok(Stage::Inside(trace))
+    Ok(ReadingStage::Inside(trace))
 }
 
 /// An order line.
 #[tactic(auto, unfolding(crate::specs::Said::after_order))]
-fn order_run(mut trace: Trace, fields: &[u8]) -> Result<Stage, Stop>
+fn order_run(mut trace: Trace, fields: &[u8]) -> Result<ReadingStage, Stop>
     requires { IsTrace trace }
     ensures { Gives result (after_order trace (fields_of fields.now)) }
 {
     let run = order(trace.lanes.len(), fields)?;
     trace.orders.push(run)?;
-    Ok(Stage::Inside(trace))
+    Ok(ReadingStage::Inside(trace))
 }
 
 /// The line `end`.
 #[tactic(auto, unfolding(crate::specs::Said::after_end))]
-fn end(trace: Trace, fields: &[u8]) -> Result<Stage, Cause>
+fn end(trace: Trace, fields: &[u8]) -> Result<ReadingStage, Cause>
     ensures { result ≡ after_end trace (fields_of fields.now) }
 {
     none(fields)?;
-    Ok(Stage::Ended(trace))
+    Ok(ReadingStage::Ended(trace))
 }
 
 /// An operation of the last lane.
 #[tactic(auto, unfolding(crate::specs::Said::after_op))]
-fn operation(mut trace: Trace, word: &[u8], fields: &[u8]) -> Result<Stage, Stop>
+fn operation(mut trace: Trace, word: &[u8], fields: &[u8]) -> Result<ReadingStage, Stop>
     ensures { Gives result (after_op trace word.now (fields_of fields.now)) }
 {
     if trace.lanes.is_empty() || !trace.orders.is_empty() {
@@ -113,12 +113,12 @@ fn operation(mut trace: Trace, word: &[u8], fields: &[u8]) -> Result<Stage, Stop
     }
     let op = op(trace.version, word, fields)?;
     trace.lanes.push_op(op)?;
-    Ok(Stage::Inside(trace))
+    Ok(ReadingStage::Inside(trace))
 }
 
 /// A line between the heap line and `end`.
 #[tactic(auto, unfolding(crate::specs::Said::after_inner))]
-fn inner(alloc: Global, trace: Trace, word: &[u8], fields: &[u8]) -> Result<Stage, Stop>
+fn inner(alloc: Global, trace: Trace, word: &[u8], fields: &[u8]) -> Result<ReadingStage, Stop>
     requires { IsTrace trace }
     ensures { Gives result (after_inner trace word.now (fields_of fields.now)) }
 {
@@ -135,30 +135,30 @@ fn inner(alloc: Global, trace: Trace, word: &[u8], fields: &[u8]) -> Result<Stag
 
 /// The first line that is not passed over.
 #[tactic(auto, unfolding(crate::specs::Said::after_first))]
-fn first(alloc: Global, word: &[u8], fields: &[u8]) -> Result<Stage, Cause>
+fn first(alloc: Global, word: &[u8], fields: &[u8]) -> Result<ReadingStage, Cause>
     ensures { result ≡ after_first Two word.now (fields_of fields.now) }
 {
     let version = version(word)?;
-    Ok(Stage::Inside(heap(alloc, version, fields)?))
+    Ok(ReadingStage::Inside(heap(alloc, version, fields)?))
 }
 
-impl Stage {
+impl ReadingStage {
     /// Where the reader stands after a line with a word.
     #[tactic(auto, unfolding(crate::specs::Said::after_word))]
-    fn after_word(self, alloc: Global, word: &[u8], fields: &[u8]) -> Result<Stage, Stop>
+    fn after_word(self, alloc: Global, word: &[u8], fields: &[u8]) -> Result<ReadingStage, Stop>
         requires { HasTrace self }
         ensures { Gives result (after_word Two self word.now (fields_of fields.now)) }
     {
         match self {
-            Stage::Before => Ok(first(alloc, word, fields)?),
-            Stage::Inside(trace) => inner(alloc, trace, word, fields),
-            Stage::Ended(_) => Err(Stop::Because(Cause::UnknownOp)),
+            ReadingStage::Before => Ok(first(alloc, word, fields)?),
+            ReadingStage::Inside(trace) => inner(alloc, trace, word, fields),
+            ReadingStage::Ended(_) => Err(Stop::Because(Cause::UnknownOp)),
         }
     }
 
     /// Where the reader stands after a line.
     #[tactic(auto, unfolding(crate::specs::Said::after_line, crate::specs::Said::after_fields))]
-    pub(crate) fn after_line(self, alloc: Global, line: &[u8]) -> Result<Stage, Stop>
+    pub(crate) fn after_line(self, alloc: Global, line: &[u8]) -> Result<ReadingStage, Stop>
         requires { HasTrace self }
         ensures { Gives result (after_line Two self line.now) }
     {

@@ -17,7 +17,7 @@ use Rattle.live_heap.specs.Passes.{IsOf}
 use Rattle.live_heap.proofs.Changes.{called-changes}
 use Rattle.live_heap.proofs.Enough.{given-enough}
 use Rattle.live_heap.proofs.Exact.{called-exact}
-use Rattle.typed_store.specs.Passings.{Reads}
+use Rattle.typed_store.specs.Passings.{KeepsWords}
 use Rattle.pool_model.specs.Counts.{is_alloc, is_free}
 use Rattle.typed_store.proofs.CountLemmas.{allocs-blind, frees-blind, refused-none, spent-none}
 use Rattle.typed_store.proofs.PassLemmas.{called-rests, reads-self}
@@ -44,7 +44,7 @@ given-to h p q words steps hand block of called held =
     }
 
 -- where none is given all is as before
-pub refused-reads : (h : Heap) (p q : Pass) (words steps : ℕ) → IsOf h q → HasCalled p (alloc words) steps reply.Refused q → Reads h p q
+pub refused-reads : (h : Heap) (p q : Pass) (words steps : ℕ) → IsOf h q → HasCalled p (alloc words) steps reply.Refused q → KeepsWords h p q
 refused-reads h p q words steps of called = record {
   rests =
       called-rests h p q (alloc words) steps reply.Refused of called (λ blocks. refl)
@@ -55,7 +55,7 @@ refused-reads h p q words steps of called = record {
   same = called-changes h p q (alloc words) steps reply.Refused of called;
 }
 
-pub spent-called-reads : (h : Heap) (p q : Pass) (words steps : ℕ) → IsOf h q → HasCalled p (alloc words) steps reply.Spent q → Reads h p q
+pub spent-called-reads : (h : Heap) (p q : Pass) (words steps : ℕ) → IsOf h q → HasCalled p (alloc words) steps reply.Spent q → KeepsWords h p q
 spent-called-reads h p q words steps of called = record {
   rests =
       called-rests h p q (alloc words) steps reply.Spent of called (λ blocks. refl)
@@ -67,6 +67,6 @@ spent-called-reads h p q words steps of called = record {
 }
 
 pub spent-reads :
-    (h : Heap) (p q : Pass) (words tries : ℕ) → IsOf h p → IsIdle p.errand → IsOf h q → AllocTells p words tries alloc_answer.Spent q → Reads h p q
-spent-reads h p q words tries of_p idle of (inl once) = subst (Reads h p) (sym once.same) (reads-self h p of_p idle)
+    (h : Heap) (p q : Pass) (words tries : ℕ) → IsOf h p → IsIdle p.errand → IsOf h q → AllocTells p words tries alloc_answer.Spent q → KeepsWords h p q
+spent-reads h p q words tries of_p idle of (inl once) = subst (KeepsWords h p) (sym once.same) (reads-self h p of_p idle)
 spent-reads h p q words tries of_p idle of (inr ended) = spent-called-reads h p q words ended.0.steps of ended.0.called

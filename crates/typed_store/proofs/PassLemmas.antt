@@ -27,7 +27,7 @@ use Rattle.typed_store.specs.Nodes.{node_at, node_of}
 use Rattle.call_events.specs.Ends.{HasEnded}
 use Rattle.pool_model.specs.declared.event.Event.{Event}
 use Rattle.pool_model.specs.Counts.{is_alloc, is_free}
-use Rattle.typed_store.specs.Passings.{Reads, Rests}
+use Rattle.typed_store.specs.Passings.{KeepsWords, Rests}
 use Rattle.typed_store.proofs.CountLemmas.{allocs-blind, counts-on, frees-blind, reads-none, writes-none}
 
 -- a call neither gives a block nor frees one
@@ -48,7 +48,7 @@ called-rests h p q call steps answer of called same calm = record {
 }
 
 pub read-reads :
-    (h : Heap) (p q : Pass) (place i word : ℕ) (need : Need) → IsOf h q → HasCalled p (read place need i) 0 (reply.Word word) q → Reads h p q
+    (h : Heap) (p q : Pass) (place i word : ℕ) (need : Need) → IsOf h q → HasCalled p (read place need i) 0 (reply.Word word) q → KeepsWords h p q
 read-reads h p q place i word need of called = record {
   rests =
       called-rests h p q (read place need i) 0 (reply.Word word) of called (λ blocks. refl)
@@ -80,10 +80,10 @@ rests-on h p q r a b = record {
   freed = b.freed ∙ a.freed;
 }
 
-pub reads-on : (h : Heap) (p q r : Pass) → Reads h p q → Reads h q r → Reads h p r
+pub reads-on : (h : Heap) (p q r : Pass) → KeepsWords h p q → KeepsWords h q r → KeepsWords h p r
 reads-on h p q r a b = record { rests = rests-on h p q r a.rests b.rests; same = λ place. b.same place ∙ a.same place }
 
-pub reads-self : (h : Heap) (p : Pass) → IsOf h p → Rattle.errand_steps.specs.Begins.IsIdle p.errand → Reads h p p
+pub reads-self : (h : Heap) (p : Pass) → IsOf h p → Rattle.errand_steps.specs.Begins.IsIdle p.errand → KeepsWords h p p
 reads-self h p of idle =
     record { rests = record { of = of; idle = idle; caller = refl; hand = λ blocks holds. holds; given = refl; freed = refl }; same = λ place. refl }
 

@@ -2,19 +2,19 @@
 use Rattle.std.proofs.Common.{ℕ, suc, ◌≡◌, ◌≢◌, ◌-◌, List, [], ◌∷◌, ◌++◌, Option, Some, refl, sym, ◌∙◌, ap, subst, arith, append_assoc, inl, inr}
 use Rattle.typed_store.specs.declared.seeking.Sought.{Sought}
 use Rattle.typed_store.specs.Links.{Leads}
-use Rattle.typed_store.specs.Passings.{Stands, but}
+use Rattle.typed_store.specs.Passings.{StandsBetween, but}
 use Rattle.typed_store.proofs.LinkLemmas.{apart, leads-append, leads-behind, leads-kept}
 use Rattle.typed_store.proofs.StoreLemmas.{but-away}
 
 -- the node and those behind it begin at its number
 pub behind :
-    (at : ℕ → Option (ℕ × (ℕ × ℕ))) (head : ℕ) (before : List (ℕ × ℕ)) (sought : Sought) (after : List (ℕ × ℕ)) → Stands at head before sought after
+    (at : ℕ → Option (ℕ × (ℕ × ℕ))) (head : ℕ) (before : List (ℕ × ℕ)) (sought : Sought) (after : List (ℕ × ℕ)) → StandsBetween at head before sought after
     → Leads at (suc sought.slot) ((sought.node.key, sought.node.value) ∷ after) 0
 behind at head before sought after stands = (sought.slot, sought.node.next, refl, stands.here, stands.left)
 
 -- the first one goes
 pub unlinked-first :
-    (at : ℕ → Option (ℕ × (ℕ × ℕ))) (head : ℕ) (before : List (ℕ × ℕ)) (sought : Sought) (after : List (ℕ × ℕ)) → Stands at head before sought after
+    (at : ℕ → Option (ℕ × (ℕ × ℕ))) (head : ℕ) (before : List (ℕ × ℕ)) (sought : Sought) (after : List (ℕ × ℕ)) → StandsBetween at head before sought after
     → sought.previous ≡ 0 → Leads (but at sought.slot) sought.node.next (before ++ after) 0
 unlinked-first at head before sought after stands none =
     elim stands.link [
@@ -35,7 +35,7 @@ pub record Follows (at : ℕ → Option (ℕ × (ℕ × ℕ))) (head : ℕ) (bef
   pub there : at (sought.previous - 1) ≡ Some (suc sought.slot, pair)
 
 pub follows :
-    (at : ℕ → Option (ℕ × (ℕ × ℕ))) (head : ℕ) (before : List (ℕ × ℕ)) (sought : Sought) (after : List (ℕ × ℕ)) → Stands at head before sought after
+    (at : ℕ → Option (ℕ × (ℕ × ℕ))) (head : ℕ) (before : List (ℕ × ℕ)) (sought : Sought) (after : List (ℕ × ℕ)) → StandsBetween at head before sought after
     → sought.previous ≢ 0 → Follows at head before sought
 follows at head before sought after stands some =
     elim stands.link [
@@ -55,7 +55,7 @@ follows at head before sought after stands some =
 -- a later one goes
 pub unlinked-later :
     (at now : ℕ → Option (ℕ × (ℕ × ℕ))) (head : ℕ) (before : List (ℕ × ℕ)) (sought : Sought) (after : List (ℕ × ℕ))
-    → Stands at head before sought after → (f : Follows at head before sought) → now (sought.previous - 1) ≡ Some (sought.node.next, f.pair)
+    → StandsBetween at head before sought after → (f : Follows at head before sought) → now (sought.previous - 1) ≡ Some (sought.node.next, f.pair)
     → ((slot : ℕ) → slot ≢ sought.previous - 1 → now slot ≡ at slot) → Leads (but now sought.slot) head (before ++ after) 0
 unlinked-later at now head before sought after stands f led keep =
     let j = sought.previous - 1 in

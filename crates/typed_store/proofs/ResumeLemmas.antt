@@ -19,7 +19,7 @@ use Rattle.live_heap.specs.Passes.{IsOf}
 use Rattle.live_heap.proofs.Exact.{called-exact}
 use Rattle.typed_store.specs.declared.store.Pending.TheVariants.{Pair, Record, Free}
 use Rattle.typed_store.specs.declared.store.Store.{Store}
-use Rattle.typed_store.specs.Passings.{Reads}
+use Rattle.typed_store.specs.Passings.{KeepsWords}
 use Rattle.typed_store.specs.Stores.{IsBuilt, IsReady, IsUnderWay, IsWaitingFor, blocks_of}
 use Rattle.typed_store.proofs.AskLemmas.{given-to, refused-reads, spent-called-reads}
 use Rattle.typed_store.proofs.StayLemmas.{SameFor, calling-alloc-same, calling-free-same, freed-same, same-all, same-since}
@@ -87,7 +87,7 @@ pub record IsOver (h : Heap) (s : Store) (q : Pass) : Type 0 where
   pub ready : IsReady h (record s { pass = q })
   pub same : SameFor s.pass q (blocks_of s)
 
-over : (h : Heap) (s : Store) (words : ℕ) (q : Pass) → (a : AsksFor s words) → IsOf h s.pass → Reads h a.first q → IsBuilt s → IsOver h s q
+over : (h : Heap) (s : Store) (words : ℕ) (q : Pass) → (a : AsksFor s words) → IsOf h s.pass → KeepsWords h a.first q → IsBuilt s → IsOver h s q
 over h s words q a of_s reads built =
     let same =
     same-since a.first s.pass q (blocks_of s) (calling-alloc-same h a.first s.pass words a.steps (blocks_of s) of_s a.calling a.exactly.0)

@@ -4,7 +4,7 @@ use Rattle.std.specs.Prelude.{All}
 use Rattle.std.specs.List.{AllZip}
 use Rattle.std.proofs.lemmas.List.Elements.{All-head, All-tail}
 use Rattle.std.proofs.lemmas.Option.{none-some}
-use Rattle.call_events.specs.Stages.{Stage, freed, given, stage_of}
+use Rattle.call_events.specs.Stages.{StageOfCall, freed, given, stage_of}
 use Rattle.pool_model.specs.Pool.{Block as PoolBlock}
 use Rattle.errand_steps.specs.declared.reply.Reply.TheVariants as reply
 use Rattle.errand_steps.specs.Calls.{alloc, free}
@@ -71,12 +71,12 @@ same-given p q place nothing others (b ∷ bs) held =
 
 -- through an allocation, and through a free of another block
 so-far-alloc :
-    (p q : Pass) (words : ℕ) (at : Stage) (blocks : List Block) → HasChangedSoFar p (alloc words) at q → Holds p blocks → SameFor p q blocks
+    (p q : Pass) (words : ℕ) (at : StageOfCall) (blocks : List Block) → HasChangedSoFar p (alloc words) at q → Holds p blocks → SameFor p q blocks
 so-far-alloc p q words (given place need) blocks changes held = same-given p q place changes.nothing changes.given.others blocks held
 so-far-alloc p q words at blocks changes held = same-all p q changes blocks
 
 so-far-free :
-    (p q : Pass) (block : Block) (at : Stage) (blocks : List Block) → HasChangedSoFar p (free block.place block.need) at q
+    (p q : Pass) (block : Block) (at : StageOfCall) (blocks : List Block) → HasChangedSoFar p (free block.place block.need) at q
     → All (λ other. other.place ≢ block.place) blocks → SameFor p q blocks
 so-far-free p q block freed blocks changes away = same-away p q block.place changes.others blocks away
 so-far-free p q block at blocks changes away = same-all p q changes blocks

@@ -16,7 +16,7 @@ use Rattle.typed_store.specs.declared.store.Pending.{Pending}
 use Rattle.typed_store.specs.declared.store.Store.{Store}
 use Rattle.typed_store.specs.Links.{Leads}
 use Rattle.typed_store.specs.Nodes.{IsSpare, Spells, node_at, node_in, nodes_at, spare_in, spares_at, tokens_in}
-use Rattle.typed_store.specs.Passings.{Reads, but}
+use Rattle.typed_store.specs.Passings.{KeepsWords, but}
 use Rattle.typed_store.specs.Records.{IsRecord}
 use Rattle.typed_store.specs.Stores.{HasList, HasRecords, IsBuilt, IsReady, blocks_of}
 use Rattle.typed_store.proofs.LinkLemmas.{leads-behind, leads-new, leads-same}
@@ -204,7 +204,7 @@ pub words-stay :
 words-stay s q records same has =
     (records-stay s.pass q s.records.items records (same-back s.pass q (tokens_in s.slots.items) s.records.items same) has.0, has.1)
 
-pub ready-reads : (h : Heap) (s : Store) (q : Pass) → IsReady h s → Reads h s.pass q → IsReady h (record s { pass = q })
+pub ready-reads : (h : Heap) (s : Store) (q : Pass) → IsReady h s → KeepsWords h s.pass q → IsReady h (record s { pass = q })
 ready-reads h s q ready reads = record {
   of = reads.rests.of;
   idle = reads.rests.idle;

@@ -25,7 +25,7 @@ use Rattle.typed_store.specs.declared.nodes.Node as declared_node
 use Rattle.typed_store.specs.declared.store.Popped.{Popped}
 use Rattle.typed_store.specs.declared.store.Popped.TheVariants.{Got, Empty}
 use Rattle.typed_store.specs.Causes.{IsFreed}
-use Rattle.typed_store.specs.Passings.{IsLink, Reads, Rests, Stands, but}
+use Rattle.typed_store.specs.Passings.{IsLink, KeepsWords, Rests, StandsBetween, but}
 use Rattle.typed_store.specs.Stores.{HasList, HasRecords, IsBuilt, IsReady, IsUnderWay, blocks_of}
 use Rattle.typed_store.proofs.LinkLemmas.{leads-append, leads-one, leads-same}
 use Rattle.std.proofs.lemmas.Option.{some_pair_parts}
@@ -38,7 +38,7 @@ use Rattle.typed_store.proofs.StoreLemmas.{built-stays, exact-out, fewer-tokens,
 -- the pairs in front, the one that is sought, and those behind are the list
 pub stands-whole :
     (at : ℕ → Option (ℕ × (ℕ × ℕ))) (head : ℕ) (before : List (ℕ × ℕ)) (sought : Sought) (after pairs : List (ℕ × ℕ))
-    → Stands at head before sought after → Leads at head pairs 0 → pairs ≡ before ++ (sought.node.key, sought.node.value) ∷ after
+    → StandsBetween at head before sought after → Leads at head pairs 0 → pairs ≡ before ++ (sought.node.key, sought.node.value) ∷ after
 stands-whole at head before sought after pairs stands leads =
     leads-one at head pairs (before ++ (sought.node.key, sought.node.value) ∷ after) leads
     (leads-append at head (suc sought.slot) 0 before ((sought.node.key, sought.node.value) ∷ after) stands.come
@@ -66,13 +66,13 @@ pub record IsOut (s : Store) (sought : Sought) (block : Block) (t : Store) : Typ
   pub exactly : HoldsExactly t.pass (block ∷ blocks_of t)
   pub built : IsBuilt t
   pub list :
-      (before after : List (ℕ × ℕ)) → Stands (nodes_at (owned_in s.pass) s.slots.items) s.head before sought after → HasList t (before ++ after)
+      (before after : List (ℕ × ℕ)) → StandsBetween (nodes_at (owned_in s.pass) s.slots.items) s.head before sought after → HasList t (before ++ after)
   pub records : (records : List (List ℕ)) → HasRecords s records → HasRecords t records
 
 pub taken-out :
     (h : Heap) (s : Store) (r : Pass) (slots : Vec Slot Global) (unused head : ℕ) (block : Block) (sought : Sought) (before after : List (ℕ × ℕ))
-    → IsReady h s → Stands (nodes_at (owned_in s.pass) s.slots.items) s.head before sought after → Rests h s.pass r
-    → ((front back : List (ℕ × ℕ)) → Stands (nodes_at (owned_in s.pass) s.slots.items) s.head front sought back
+    → IsReady h s → StandsBetween (nodes_at (owned_in s.pass) s.slots.items) s.head before sought after → Rests h s.pass r
+    → ((front back : List (ℕ × ℕ)) → StandsBetween (nodes_at (owned_in s.pass) s.slots.items) s.head front sought back
     → Leads (but (nodes_at (owned_in r) s.slots.items) sought.slot) head (front ++ back) 0)
     → ((place : ℕ) → All (λ b. b.place ≢ place) (tokens_in s.slots.items) → owned_in r place ≡ owned_in s.pass place)
     → slice_get s.slots.items sought.slot ≡ Some (Node block) → unused ≡ suc sought.slot
@@ -82,13 +82,13 @@ taken-out h s r slots unused head block sought before after ready stands rests l
     let at = nodes_at (owned_in s.pass) s.slots.items in
     let b = ready.built in
     let same = same-others s.pass r (tokens_in s.slots.items) s.records.items others ready.exactly.0 in
-    let spelled : (front back : List (ℕ × ℕ)) → Stands at s.head front sought back → Spells (owned_in r) slots.items head (front ++ back) =
+    let spelled : (front back : List (ℕ × ℕ)) → StandsBetween at s.head front sought back → Spells (owned_in r) slots.items head (front ++ back) =
     λ front back there.
     subst (λ (l : List Slot). Spells (owned_in r) l head (front ++ back)) (sym now)
     (list-unlinked (owned_in r) s.slots.items sought.slot s.unused head block (front ++ back) is (led front back there)) in
-    let less : (front back : List (ℕ × ℕ)) → Stands at s.head front sought back → length b.pairs ≡ suc (length (front ++ back)) =
+    let less : (front back : List (ℕ × ℕ)) → StandsBetween at s.head front sought back → length b.pairs ≡ suc (length (front ++ back)) =
     λ front back there. one-less front back b.pairs _ (stands-whole at s.head front sought back b.pairs there b.list.0) in
-    let has : (front back : List (ℕ × ℕ)) → Stands at s.head front sought back
+    let has : (front back : List (ℕ × ℕ)) → StandsBetween at s.head front sought back
     → Spells (owned_in r) slots.items head (front ++ back) × (s.count - 1 ≡ length (front ++ back)) =
     λ front back there. (spelled front back there, omega (arith, less front back there, b.list.1)) in
     let fewer = fewer-tokens s.slots.items sought.slot s.unused block is in
@@ -145,7 +145,7 @@ free-under-way h t block tries q held built of tells = record {
 
 -- reads in front of a call that freed a block
 pub freed-behind :
-    (h : Heap) (s : Store) (q : Pass) (tries : ℕ) (popped : Popped) (t : Store) → Reads h s.pass q → IsFreed h (record s { pass = q }) tries popped t
+    (h : Heap) (s : Store) (q : Pass) (tries : ℕ) (popped : Popped) (t : Store) → KeepsWords h s.pass q → IsFreed h (record s { pass = q }) tries popped t
     → IsFreed h s tries popped t
 freed-behind h s q tries Empty t reads freed = rests-on h s.pass q t.pass reads.rests freed
 freed-behind h s q tries (Got key value done) t reads (slot, block, between, is, rests, tells) =
@@ -160,8 +160,8 @@ link-read at now head before previous here stay (inr (front, pair, slot, whole, 
 
 -- a node that stands in a list that was read stands there still
 pub stands-read :
-    (h : Heap) (s : Store) (q : Pass) (before : List (ℕ × ℕ)) (sought : Sought) (after : List (ℕ × ℕ)) → Reads h s.pass q
-    → Stands (nodes_at (owned_in s.pass) s.slots.items) s.head before sought after → Stands (nodes_at (owned_in q) s.slots.items) s.head before sought after
+    (h : Heap) (s : Store) (q : Pass) (before : List (ℕ × ℕ)) (sought : Sought) (after : List (ℕ × ℕ)) → KeepsWords h s.pass q
+    → StandsBetween (nodes_at (owned_in s.pass) s.slots.items) s.head before sought after → StandsBetween (nodes_at (owned_in q) s.slots.items) s.head before sought after
 stands-read h s q before sought after reads stands =
     let at = nodes_at (owned_in s.pass) s.slots.items in
     let now = nodes_at (owned_in q) s.slots.items in
@@ -178,7 +178,7 @@ pub first-stands :
     (at : ℕ → Option (ℕ × (ℕ × ℕ))) (head : ℕ) (pairs : List (ℕ × ℕ)) (node : declared_node.Node) → head ≢ 0 → Leads at head pairs 0
     → at (head - 1) ≡ Some (node.next, (node.key, node.value))
     → (rest : List (ℕ × ℕ)) × (pairs ≡ (node.key, node.value) ∷ rest)
-    × Stands at head [] (record { previous = 0; slot = head - 1; node = node }) rest
+    × StandsBetween at head [] (record { previous = 0; slot = head - 1; node = node }) rest
 first-stands at head [] node some leads there = absurd (some leads)
 first-stands at head (pair ∷ pairs) node some (slot, next, is, here, left) there =
     let same : head - 1 ≡ slot = omega (arith, is) in

@@ -13,7 +13,7 @@ use Rattle.typed_store.specs.declared.slot.Slot.TheVariants.{Node}
 use Rattle.typed_store.specs.Links.{Leads}
 use Rattle.typed_store.specs.Nodes.{first_with, node_at, node_in, nodes_at, without_first}
 use Rattle.typed_store.specs.declared.nodes.Node as declared_node
-use Rattle.typed_store.specs.Passings.{Finds, IsLink, IsPassing, Reads}
+use Rattle.typed_store.specs.Passings.{FindsNode, IsLink, IsPassing, KeepsWords}
 use Rattle.typed_store.proofs.LinkLemmas.{leads-append, leads-one}
 use Rattle.typed_store.proofs.SlotLemmas.{node-token}
 
@@ -59,7 +59,7 @@ walk-token owned slots head previous here passed pairs p few =
     (t.0, t.1)
 
 pub walk-node :
-    (h : Heap) (p q : Pass) (slots : List Slot) (head previous here passed : ℕ) (pairs : List (ℕ × ℕ)) (block : Block) → Reads h p q
+    (h : Heap) (p q : Pass) (slots : List Slot) (head previous here passed : ℕ) (pairs : List (ℕ × ℕ)) (block : Block) → KeepsWords h p q
     → IsPassing (nodes_at (owned_in p) slots) head previous here passed pairs → passed < length pairs
     → slice_get slots (here - 1) ≡ Some (Node block) → (next : ℕ) × (pair : ℕ × ℕ) × (node_at (owned_in q block.place) ≡ Some (next, pair))
 walk-node h p q slots head previous here passed pairs block reads passing few is =
@@ -68,7 +68,7 @@ walk-node h p q slots head previous here passed pairs block reads passing few is
 
 -- what was read there stands there
 pub walk-read :
-    (h : Heap) (p q : Pass) (slots : List Slot) (slot : ℕ) (block : Block) (next : ℕ) (pair : ℕ × ℕ) → Reads h p q
+    (h : Heap) (p q : Pass) (slots : List Slot) (slot : ℕ) (block : Block) (next : ℕ) (pair : ℕ × ℕ) → KeepsWords h p q
     → slice_get slots slot ≡ Some (Node block) → node_at (owned_in q block.place) ≡ Some (next, pair)
     → nodes_at (owned_in p) slots slot ≡ Some (next, pair)
 walk-read h p q slots slot block next pair reads is node =
@@ -159,7 +159,7 @@ pub walk-finds :
     (at : ℕ → Option (ℕ × (ℕ × ℕ))) (head previous here passed key : ℕ) (node : declared_node.Node) (pairs : List (ℕ × ℕ))
     → (p : IsPassing at head previous here passed pairs) → first_with key p.before ≡ None → passed < length pairs
     → at (here - 1) ≡ Some (node.next, (node.key, node.value)) → node.key ≡ key
-    → Finds at head key pairs (record { previous = previous; slot = here - 1; node = node })
+    → FindsNode at head key pairs (record { previous = previous; slot = here - 1; node = node })
 walk-finds at head previous here passed key node pairs p none few there is =
     let a = passing-at at head previous here passed pairs p few in
     let both = some_pair_parts a.next node.next a.pair (node.key, node.value) (sym a.there ∙ there) in

@@ -30,7 +30,7 @@ pub record Rests (h : Heap) (p q : Pass) : Type 0 where
   pub freed : freed_in q ≡ freed_in p
 
 -- and they have the words that they had
-pub record Reads (h : Heap) (p q : Pass) : Type 0 where
+pub record KeepsWords (h : Heap) (p q : Pass) : Type 0 where
   pub rests : Rests h p q
   pub same : OwnsSame p q
 
@@ -52,20 +52,20 @@ pub record IsPassing (at : ℕ → Option (ℕ × (ℕ × ℕ))) (head previous 
   pub link : IsLink at head before previous here
 
 -- a node of the list stands behind these pairs and in front of those
-pub record Stands (at : ℕ → Option (ℕ × (ℕ × ℕ))) (head : ℕ) (before : List (ℕ × ℕ)) (sought : Sought) (after : List (ℕ × ℕ)) : Type 0 where
+pub record StandsBetween (at : ℕ → Option (ℕ × (ℕ × ℕ))) (head : ℕ) (before : List (ℕ × ℕ)) (sought : Sought) (after : List (ℕ × ℕ)) : Type 0 where
   pub come : Leads at head before (suc sought.slot)
   pub here : at sought.slot ≡ Some (sought.node.next, (sought.node.key, sought.node.value))
   pub left : Leads at sought.node.next after 0
   pub link : IsLink at head before sought.previous (suc sought.slot)
 
 -- it is that of the first pair with this key
-pub record Finds (at : ℕ → Option (ℕ × (ℕ × ℕ))) (head key : ℕ) (pairs : List (ℕ × ℕ)) (sought : Sought) : Type 0 where
+pub record FindsNode (at : ℕ → Option (ℕ × (ℕ × ℕ))) (head key : ℕ) (pairs : List (ℕ × ℕ)) (sought : Sought) : Type 0 where
   pub before : List (ℕ × ℕ)
   pub after : List (ℕ × ℕ)
   pub whole : pairs ≡ before ++ (sought.node.key, sought.node.value) ∷ after
   pub key_is : sought.node.key ≡ key
   pub first : first_with key before ≡ None
-  pub stands : Stands at head before sought after
+  pub stands : StandsBetween at head before sought after
 
 -- a slot without its node
 abbrev pub but : (ℕ → Option (ℕ × (ℕ × ℕ))) → ℕ → ℕ → Option (ℕ × (ℕ × ℕ))

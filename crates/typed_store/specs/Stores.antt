@@ -73,9 +73,9 @@ pub record IsUnderWay (h : Heap) (s : Store) : Type 0 where
   pub built : IsBuilt s
 
 -- how an answer leaves it: interrupted, so that it waits for this; or in no call
-abbrev pub Leaves : Heap → Stored → Pending → Store → Type 0
-Leaves h Busy pending s = IsUnderWay h s × (s.pending ≡ pending)
-Leaves h stored pending s = IsReady h s
+abbrev pub LeavesStore : Heap → Stored → Pending → Store → Type 0
+LeavesStore h Busy pending s = IsUnderWay h s × (s.pending ≡ pending)
+LeavesStore h stored pending s = IsReady h s
 
 abbrev pub LeavesPopped : Heap → Popped → Store → Type 0
 LeavesPopped h (Got key value false) s = IsUnderWay h s × (s.pending ≡ Free)

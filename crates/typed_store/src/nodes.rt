@@ -7,7 +7,7 @@ ghost use Rattle.errand_steps.specs.Begins.{IsIdle};
 ghost use Rattle.live_heap.specs.Contents.{owned_in};
 ghost use Rattle.live_heap.specs.Passes.{IsOf, Owns};
 ghost use Rattle.typed_store.specs.Nodes.{node_at};
-ghost use Rattle.typed_store.specs.Passings.{Reads, Rests};
+ghost use Rattle.typed_store.specs.Passings.{KeepsWords, Rests};
 
 use live_heap::block::Block;
 use live_heap::heap::Heap;
@@ -31,7 +31,7 @@ pub(crate) fn read_node(heap: &Heap, pass: &mut Pass, block: &Block) -> Node
     requires idle { IsIdle pass.old.errand }
     requires owned { Owns pass.old block.now }
     requires node { (next : ℕ) × (pair : ℕ × ℕ) × (node_at (owned_in pass.old block.now.place) ≡ Some (next, pair)) }
-    ensures reads { Reads heap.now pass.old pass.new }
+    ensures reads { KeepsWords heap.now pass.old pass.new }
     ensures node { node_at (owned_in pass.old block.now.place) ≡ Some (result.next, (result.key, result.value)) }
 {
     let next = heap.read(pass, block, 0);

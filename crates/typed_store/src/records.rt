@@ -6,7 +6,7 @@ ghost use Rattle.errand_steps.specs.Begins.{IsIdle};
 ghost use Rattle.live_heap.specs.declared.block.Block.{Block};
 ghost use Rattle.live_heap.specs.Contents.{owned_in};
 ghost use Rattle.live_heap.specs.Passes.{IsOf, Owns};
-ghost use Rattle.typed_store.specs.Passings.{Reads, Rests};
+ghost use Rattle.typed_store.specs.Passings.{KeepsWords, Rests};
 ghost use Rattle.typed_store.specs.Records.{IsRecord};
 
 use live_heap::block::Block;
@@ -50,7 +50,7 @@ pub(crate) fn read_record(
     requires idle { IsIdle pass.old.errand }
     requires owned { Owns pass.old block.now }
     requires record { (words : List ℕ) × IsRecord pass.old block.now words }
-    ensures reads { Reads heap.now pass.old pass.new }
+    ensures reads { KeepsWords heap.now pass.old pass.new }
     ensures words { IfOk result (λ read. (words : List ℕ) → IsRecord pass.old block.now words → read.items ≡ words) }
 {
     let _most = block.words();

@@ -8,7 +8,7 @@ ghost use Rattle.live_heap.specs.Holdings.{HoldsExactly};
 ghost use Rattle.live_heap.specs.Passes.{IsOf};
 ghost use Rattle.typed_store.specs.Links.{Leads};
 ghost use Rattle.typed_store.specs.Nodes.{Spells, first_with, nodes_at, tokens_in};
-ghost use Rattle.typed_store.specs.Passings.{Finds, Reads, Rests, Stands, but};
+ghost use Rattle.typed_store.specs.Passings.{FindsNode, KeepsWords, Rests, StandsBetween, but};
 
 use crate::nodes::{Node, read_node, write_next};
 use crate::slot::{Slot, token};
@@ -39,9 +39,9 @@ pub(crate) fn seek(
     requires idle { IsIdle pass.old.errand }
     requires held { (more : List Block) × HoldsExactly pass.old (tokens_in slots.now.items ++ more) }
     requires spelled { (pairs : List (ℕ × ℕ)) × Spells (owned_in pass.old) slots.now.items head pairs × (count ≡ length pairs) }
-    ensures reads { Reads heap.now pass.old pass.new }
+    ensures reads { KeepsWords heap.now pass.old pass.new }
     ensures found { IfSome result (λ sought. (pairs : List (ℕ × ℕ)) → Spells (owned_in pass.old) slots.now.items head pairs
-        → Finds (nodes_at (owned_in pass.old) slots.now.items) head key pairs sought) }
+        → FindsNode (nodes_at (owned_in pass.old) slots.now.items) head key pairs sought) }
     ensures none { IfNone result ((pairs : List (ℕ × ℕ)) → Spells (owned_in pass.old) slots.now.items head pairs → first_with key pairs ≡ None) }
 {
     let mut previous = 0;
@@ -75,7 +75,7 @@ pub(crate) fn list_pairs(
     requires idle { IsIdle pass.old.errand }
     requires held { (more : List Block) × HoldsExactly pass.old (tokens_in slots.now.items ++ more) }
     requires spelled { (pairs : List (ℕ × ℕ)) × Spells (owned_in pass.old) slots.now.items head pairs × (count ≡ length pairs) }
-    ensures reads { Reads heap.now pass.old pass.new }
+    ensures reads { KeepsWords heap.now pass.old pass.new }
     ensures pairs { IfOk result (λ listed. (pairs : List (ℕ × ℕ)) → Spells (owned_in pass.old) slots.now.items head pairs → listed.items ≡ pairs) }
 {
     let mut listed = Vec::with_capacity(alloc, count as usize)?;
@@ -100,9 +100,9 @@ pub(crate) fn relink(
     requires idle { IsIdle pass.old.errand }
     requires held { (more : List Block) × HoldsExactly pass.old (tokens_in slots.now.items ++ more) }
     requires stands { (before : List (ℕ × ℕ)) × (after : List (ℕ × ℕ))
-        × Stands (nodes_at (owned_in pass.old) slots.now.items) head.old before sought.now after }
+        × StandsBetween (nodes_at (owned_in pass.old) slots.now.items) head.old before sought.now after }
     ensures rests { Rests heap.now pass.old pass.new }
-    ensures list { (before after : List (ℕ × ℕ)) → Stands (nodes_at (owned_in pass.old) slots.now.items) head.old before sought.now after
+    ensures list { (before after : List (ℕ × ℕ)) → StandsBetween (nodes_at (owned_in pass.old) slots.now.items) head.old before sought.now after
         → Leads (but (nodes_at (owned_in pass.new) slots.now.items) sought.now.slot) head.new (before ++ after) 0 }
     ensures others { (place : ℕ) → All (λ block. block.place ≢ place) (tokens_in slots.now.items)
         → owned_in pass.new place ≡ owned_in pass.old place }

@@ -14,8 +14,8 @@ ghost use Rattle.typed_store.specs.declared.store.Popped.TheVariants as popped;
 ghost use Rattle.typed_store.specs.declared.store.Stored.TheVariants as stored;
 ghost use Rattle.typed_store.specs.Causes.{IsAnswerOf, IsFreed, IsResumedAnswer};
 ghost use Rattle.typed_store.specs.Nodes.{first_with, nodes_at, without_first};
-ghost use Rattle.typed_store.specs.Passings.{Rests, Stands};
-ghost use Rattle.typed_store.specs.Stores.{HasList, HasRecords, IsBuilt, IsReady, IsUnderWay, Leaves, LeavesPopped, TellsPopped, blocks_of, pairs_after, records_after, slot_count, with_pair, with_record};
+ghost use Rattle.typed_store.specs.Passings.{Rests, StandsBetween};
+ghost use Rattle.typed_store.specs.Stores.{HasList, HasRecords, IsBuilt, IsReady, IsUnderWay, LeavesStore, LeavesPopped, TellsPopped, blocks_of, pairs_after, records_after, slot_count, with_pair, with_record};
 
 use crate::nodes::{NODE_WORDS, Node, read_node, write_node};
 use crate::records::{read_record, record_token, write_record};
@@ -115,7 +115,7 @@ impl Store {
     ) -> Result<Stored, AllocError>
         requires ready { IsReady heap.now self.old }
         requires tries { 0 < tries }
-        ensures left { IfOk result (λ stored. Leaves heap.now stored (pending.Pair key value) self.new) }
+        ensures left { IfOk result (λ stored. LeavesStore heap.now stored (pending.Pair key value) self.new) }
         ensures list { IfOk result (λ stored. (pairs : List (ℕ × ℕ)) → HasList self.old pairs
             → HasList self.new (with_pair stored (key, value) pairs)) }
         ensures err { OnErr result (IsReady heap.now self.new × ((pairs : List (ℕ × ℕ)) → HasList self.old pairs → HasList self.new pairs)) }
@@ -133,7 +133,7 @@ impl Store {
         requires ready { IsReady heap.now self.old }
         requires room { self.old.unused ≢ 0 }
         requires tries { 0 < tries }
-        ensures left { Leaves heap.now result (pending.Pair key value) self.new }
+        ensures left { LeavesStore heap.now result (pending.Pair key value) self.new }
         ensures list { (pairs : List (ℕ × ℕ)) → HasList self.old pairs → HasList self.new (with_pair result (key, value) pairs) }
         ensures records { (records : List (List ℕ)) → HasRecords self.old records → HasRecords self.new records }
         ensures cause { IsAnswerOf heap.now self.old.pass 3 tries result self.new.pass }
@@ -231,10 +231,10 @@ impl Store {
         requires ready { IsReady heap.now self.old }
         requires tries { 0 < tries }
         requires stands { (before : List (ℕ × ℕ)) × (after : List (ℕ × ℕ))
-            × Stands (nodes_at (owned_in self.old.pass) self.old.slots.items) self.old.head before sought after }
+            × StandsBetween (nodes_at (owned_in self.old.pass) self.old.slots.items) self.old.head before sought after }
         ensures left { LeavesPopped heap.now result self.new }
         ensures told { (freed : Bool) × (result ≡ popped.Got sought.node.key sought.node.value freed) }
-        ensures list { (before after : List (ℕ × ℕ)) → Stands (nodes_at (owned_in self.old.pass) self.old.slots.items) self.old.head before sought after
+        ensures list { (before after : List (ℕ × ℕ)) → StandsBetween (nodes_at (owned_in self.old.pass) self.old.slots.items) self.old.head before sought after
             → HasList self.new (before ++ after) }
         ensures records { (records : List (List ℕ)) → HasRecords self.old records → HasRecords self.new records }
         ensures cause { IsFreed heap.now self.old tries result self.new }
@@ -316,7 +316,7 @@ impl Store {
         requires tries { 0 < tries }
         requires few { length words.now ≤ 131070 }
         requires room { self.old.recorded < 1000000 }
-        ensures left { IfOk result (λ stored. Leaves heap.now stored (pending.Record (length words.now)) self.new) }
+        ensures left { IfOk result (λ stored. LeavesStore heap.now stored (pending.Record (length words.now)) self.new) }
         ensures records { IfOk result (λ stored. (records : List (List ℕ)) → HasRecords self.old records
             → HasRecords self.new (with_record stored words.now records)) }
         ensures err { OnErr result (IsReady heap.now self.new × ((records : List (List ℕ)) → HasRecords self.old records → HasRecords self.new records)) }
@@ -335,7 +335,7 @@ impl Store {
         requires few { length words.now ≤ 131070 }
         requires room { self.old.recorded < 1000000 }
         requires reserved { vec_len self.old.records < vec_capacity self.old.records }
-        ensures left { Leaves heap.now result (pending.Record (length words.now)) self.new }
+        ensures left { LeavesStore heap.now result (pending.Record (length words.now)) self.new }
         ensures records { (records : List (List ℕ)) → HasRecords self.old records → HasRecords self.new (with_record result words.now records) }
         ensures list { (pairs : List (ℕ × ℕ)) → HasList self.old pairs → HasList self.new pairs }
         ensures cause { IsAnswerOf heap.now self.old.pass (length words.now + 1) tries result self.new.pass }
@@ -413,7 +413,7 @@ impl Store {
         requires under_way { IsUnderWay heap.now self.old }
         requires tries { 0 < tries }
         requires words { (many : ℕ) → self.old.pending ≡ pending.Record many → length words.now ≡ many }
-        ensures left { Leaves heap.now result self.old.pending self.new }
+        ensures left { LeavesStore heap.now result self.old.pending self.new }
         ensures list { (pairs : List (ℕ × ℕ)) → HasList self.old pairs → HasList self.new (pairs_after self.old.pending result pairs) }
         ensures records { (records : List (List ℕ)) → HasRecords self.old records
             → HasRecords self.new (records_after self.old.pending words.now result records) }
@@ -433,7 +433,7 @@ impl Store {
         requires under_way { IsUnderWay heap.now self.old }
         requires pending { self.old.pending ≡ pending.Pair key value }
         requires tries { 0 < tries }
-        ensures left { Leaves heap.now result (pending.Pair key value) self.new }
+        ensures left { LeavesStore heap.now result (pending.Pair key value) self.new }
         ensures list { (pairs : List (ℕ × ℕ)) → HasList self.old pairs → HasList self.new (with_pair result (key, value) pairs) }
         ensures records { (records : List (List ℕ)) → HasRecords self.old records → HasRecords self.new records }
         ensures cause { IsResumedAnswer heap.now (pending.Pair key value) self.old.pass tries result self.new.pass }
@@ -456,7 +456,7 @@ impl Store {
         requires under_way { IsUnderWay heap.now self.old }
         requires pending { self.old.pending ≡ pending.Record (length words.now) }
         requires tries { 0 < tries }
-        ensures left { Leaves heap.now result (pending.Record (length words.now)) self.new }
+        ensures left { LeavesStore heap.now result (pending.Record (length words.now)) self.new }
         ensures records { (records : List (List ℕ)) → HasRecords self.old records → HasRecords self.new (with_record result words.now records) }
         ensures list { (pairs : List (ℕ × ℕ)) → HasList self.old pairs → HasList self.new pairs }
         ensures cause { IsResumedAnswer heap.now (pending.Record (length words.now)) self.old.pass tries result self.new.pass }
@@ -479,7 +479,7 @@ impl Store {
         requires under_way { IsUnderWay heap.now self.old }
         requires pending { self.old.pending ≡ pending.Free }
         requires tries { 0 < tries }
-        ensures left { Leaves heap.now result pending.Free self.new }
+        ensures left { LeavesStore heap.now result pending.Free self.new }
         ensures list { (pairs : List (ℕ × ℕ)) → HasList self.old pairs → HasList self.new pairs }
         ensures records { (records : List (List ℕ)) → HasRecords self.old records → HasRecords self.new records }
         ensures cause { IsResumedAnswer heap.now pending.Free self.old.pass tries result self.new.pass }

@@ -5,7 +5,7 @@
 ghost use Rattle.std.specs.Process.{exit_status};
 ghost use Rattle.trace_commands.specs.Runs.{IsStatus};
 
-use command_parts::exit::{code_of, status_without_words};
+use command_line::exit::{code_of, status_without_words};
 use edge_io::gate::NoGate;
 use edge_io::real::{StdSink, StdSource};
 use std::alloc::Global;

@@ -12,7 +12,7 @@ use heap_scripts::random::Random;
 use std::alloc::{AllocError, Global};
 use std::thread;
 use std::thread::Threads;
-use word_plan::layout::Layout;
+use word_table::layout::Layout;
 
 /// The rule of the table, its steps and its cuts, none of which says anything.
 struct Nothing;

@@ -5,7 +5,7 @@ ghost use Rattle.heap_geometry.specs.Geometry.{IsChecked};
 use heap_geometry::geometry::Geometry;
 use heap_scripts::random::Random;
 use std::alloc::{AllocError, Global};
-use word_plan::layout::Layout;
+use word_table::layout::Layout;
 
 /// Loads a word, compares it and stores it, so many times, at random places of a table of as many words
 /// as a heap has.

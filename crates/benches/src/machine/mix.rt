@@ -3,7 +3,7 @@
 ghost use Rattle.std.specs.Prelude.{◌≡◌, ◌<◌};
 ghost use Rattle.heap_geometry.specs.declared.limits.TheConstants.{SHELVES};
 ghost use Rattle.errand_steps.specs.Begins.{IsIdle};
-ghost use Rattle.step_core.specs.Cores.{errand_at};
+ghost use Rattle.step_machine.specs.Cores.{errand_at};
 
 use crate::command::Mix;
 use heap_geometry::limits::{CLASSES, SMALL_MOST};
@@ -11,7 +11,7 @@ use heap_geometry::need::usable;
 use heap_scripts::random::Random;
 use pool_model::owner::Owner;
 use std::alloc::{AllocError, Global};
-use step_core::machine::Core;
+use step_machine::machine::Core;
 
 /// How many shelves are used.
 const USED_SHELVES: u32 = 4;

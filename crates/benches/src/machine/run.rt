@@ -9,7 +9,7 @@ use errand_steps::reply::{Progress, Reply};
 use heap_geometry::geometry::Geometry;
 use heap_scripts::random::Random;
 use std::alloc::{AllocError, Global};
-use step_core::machine::Core;
+use step_machine::machine::Core;
 
 /// A machine whose callers have had so many turns, each of them a step. A caller that is in no call begins
 /// one of the mix.

@@ -1,8 +1,8 @@
 //! Sums of what a run made, to compare it with another program's.
 
 use pool_model::event::Event;
-use step_core::machine::Core;
-use word_plan::layout::Layout;
+use step_machine::machine::Core;
+use word_table::layout::Layout;
 
 /// What all callers have counted, together.
 #[derive(Clone, Copy)]

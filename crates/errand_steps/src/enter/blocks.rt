@@ -1,14 +1,11 @@
 //! From a superblock.
 
-ghost use Rattle.std.specs.Prelude.{◌≡◌, IfSome};
+ghost use Rattle.std.specs.Prelude.{◌≡◌};
 ghost use Rattle.heap_geometry.specs.Place.{block_place};
 ghost use Rattle.stack_parts.specs.declared.point.Pile.{Pile};
 ghost use Rattle.stack_parts.specs.declared.point.StackPoint.{StackPoint};
-ghost use Rattle.superblock_parts.specs.declared.point.BlockPoint.{BlockPoint};
-ghost use Rattle.superblock_parts.specs.Points.{settle_block_of};
-ghost use Rattle.errand_steps.specs.declared.continuation.Continuation.{Continuation};
-ghost use Rattle.errand_steps.specs.declared.next.Next.TheVariants.{End};
-ghost use Rattle.errand_steps.specs.Nexts.{enter_block, finish};
+ghost use Rattle.superblock_parts.specs.declared.exit.BlockExit.{BlockExit};
+ghost use Rattle.errand_steps.specs.Nexts.{leave_block, finish};
 
 use crate::continuation::{Continuation, asked};
 use crate::next::Next;
@@ -17,57 +14,42 @@ use hazard_parts::point::DescPoint;
 use heap_geometry::need::Need;
 use partial_parts::point::PartialPoint;
 use stack_parts::point::{Pile, StackPoint};
-use superblock_parts::point::BlockPoint;
-use superblock_parts::settle::settle_block;
-use word_plan::action::Found;
-use word_plan::seat::{Seat, Site};
+use superblock_parts::exit::BlockExit;
+use word_table::seat::{Seat, Site};
 
-/// What follows where this point of a superblock is reached.
-pub fn enter_block(at: BlockPoint, continuation: Continuation) -> Next
-    ensures { result ≡ enter_block at continuation }
+/// What follows where a superblock is left by this exit.
+pub fn leave_block(exit: BlockExit, continuation: Continuation) -> Next
+    ensures { result ≡ leave_block exit continuation }
 {
-    match at {
-        BlockPoint::WantsPartial { seat } => Next::partial(
+    match exit {
+        BlockExit::WantsPartial { seat } => Next::partial(
             PartialPoint::LoadSlot { seat },
             continuation,
         ),
-        BlockPoint::Returned { site, index } => returned(site, index, continuation),
-        BlockPoint::Discarded { site } => Next::stack(
+        BlockExit::Returned { site, index } => returned(site, index, continuation),
+        BlockExit::Discarded { site } => Next::stack(
             push_frame(&site),
             Continuation::Discard {
                 need: asked(continuation),
                 desc: site.desc,
             },
         ),
-        BlockPoint::Given { site, index } => Next::end(given(&site, index)),
-        BlockPoint::BecameEmpty { site, heap } => Next::stack(
+        BlockExit::Given { site, index } => Next::end(given(&site, index)),
+        BlockExit::BecameEmpty { site, heap } => Next::stack(
             push_frame(&site),
             Continuation::Remove {
                 desc: site.desc,
                 heap,
             },
         ),
-        BlockPoint::BecamePartial { site, stored } => Next::partial(
+        BlockExit::BecamePartial { site, stored } => Next::partial(
             PartialPoint::LoadOwner {
                 seat: site.seat,
                 desc: site.desc,
             },
             Continuation::Finish { stored },
         ),
-        BlockPoint::Pushed { seat, stored } => finish(seat, stored),
-        _ => Next::block(at, continuation),
-    }
-}
-
-/// The reply with which the call ends in this step, where a block is handed out, or is freed and no hazard
-/// word was stored.
-pub(crate) fn ending_block(at: BlockPoint, found: Found) -> Option<Reply>
-    ensures { IfSome result (λ reply. (o : Continuation) → enter_block (settle_block_of at found) o ≡ End reply) }
-{
-    match settle_block(at, found) {
-        BlockPoint::Given { site, index } => Some(given(&site, index)),
-        BlockPoint::Pushed { stored: false, .. } => Some(Reply::Freed),
-        _ => None,
+        BlockExit::Pushed { seat, stored } => finish(seat, stored),
     }
 }
 
@@ -83,7 +65,7 @@ fn given(site: &Site, index: u16) -> Reply
 
 /// The superblock whose reserved blocks were returned goes into the slot; then the block is handed out.
 fn returned(site: Site, index: u16, continuation: Continuation) -> Next
-    ensures { result ≡ enter_block (BlockPoint.Returned site index) continuation }
+    ensures { result ≡ leave_block (BlockExit.Returned site index) continuation }
 {
     Next::partial(
         PartialPoint::PutSlot {

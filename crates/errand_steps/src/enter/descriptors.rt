@@ -1,21 +1,21 @@
 //! From the descriptors or the hazard words.
 
 ghost use Rattle.std.specs.Prelude.{◌≡◌};
-ghost use Rattle.errand_steps.specs.Nexts.{enter_desc, cleared};
+ghost use Rattle.errand_steps.specs.Nexts.{leave_desc, cleared};
 
 use crate::continuation::{Continuation, asked};
 use crate::next::Next;
 use crate::reply::Reply;
-use hazard_parts::point::DescPoint;
+use hazard_parts::exit::DescExit;
 use stack_parts::point::{Pile, StackPoint};
-use word_plan::seat::Seat;
+use word_table::seat::Seat;
 
-/// What follows where this point of the descriptors or the hazard words is reached.
-pub fn enter_desc(at: DescPoint, continuation: Continuation) -> Next
-    ensures { result ≡ enter_desc at continuation }
+/// What follows where the descriptors or the hazard words are left by this exit.
+pub fn leave_desc(exit: DescExit, continuation: Continuation) -> Next
+    ensures { result ≡ leave_desc exit continuation }
 {
-    match at {
-        DescPoint::Got { seat, desc } => Next::stack(
+    match exit {
+        DescExit::Got { seat, desc } => Next::stack(
             StackPoint::LoadTop {
                 seat,
                 pile: Pile::Frames,
@@ -25,18 +25,17 @@ pub fn enter_desc(at: DescPoint, continuation: Continuation) -> Next
                 desc,
             },
         ),
-        DescPoint::Cleared { seat } => cleared(seat, continuation),
-        DescPoint::Scanned { seat, held } => Next::Pick {
+        DescExit::Cleared { seat } => cleared(seat, continuation),
+        DescExit::Scanned { seat, held } => Next::Pick {
             seat,
             held,
             continuation,
         },
-        DescPoint::Pushed { seat, desc } => Next::Unlist {
+        DescExit::Pushed { seat, desc } => Next::Unlist {
             seat,
             desc,
             continuation,
         },
-        _ => Next::desc(at, continuation),
     }
 }
 

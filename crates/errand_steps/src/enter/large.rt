@@ -1,52 +1,65 @@
 //! From a large block, a usable word or a shelf.
 
 ghost use Rattle.std.specs.Prelude.{◌≡◌, IfSome};
-ghost use Rattle.large_parts.specs.Points.{settle_large_of};
 ghost use Rattle.errand_steps.specs.declared.continuation.Continuation.{Continuation};
 ghost use Rattle.errand_steps.specs.declared.next.Next.TheVariants.{End};
-ghost use Rattle.errand_steps.specs.Nexts.{enter_large};
+ghost use Rattle.errand_steps.specs.Errands.{EndsUncounted, is_on_word};
+ghost use Rattle.errand_steps.specs.Nexts.{leave_large};
 
-use crate::continuation::Continuation;
-use crate::next::Next;
+use crate::point::Point;
 use crate::reply::Reply;
 use heap_geometry::need::Need;
-use large_parts::point::LargePoint;
-use large_parts::settle::settle_large;
-use word_plan::action::Found;
+use large_parts::exit::LargeExit;
+use large_parts::point::{LargePoint, settle_large};
+use word_table::action::Found;
 
-/// The reply with which the call ends in this step, where it is on a usable word or a shelf.
-pub(crate) fn ending_large(at: LargePoint, found: Found) -> Option<Reply>
-    ensures { IfSome result (λ reply. (o : Continuation) → enter_large (settle_large_of at found) o ≡ End reply) }
+/// The reply with which the call ends where a large block, a usable word or a shelf is left by this exit.
+pub(crate) fn ended(exit: LargeExit) -> Reply
+    ensures { (o : Continuation) → leave_large exit o ≡ End result }
 {
-    match settle_large(at, found) {
-        LargePoint::Wrote => Some(Reply::Wrote),
-        LargePoint::Word { value } => Some(Reply::Word(value)),
-        LargePoint::PutDone => Some(Reply::Put),
-        LargePoint::ShelfFull { found } => Some(Reply::Full { found }),
-        LargePoint::Got { place, need } => Some(Reply::Got { place, need }),
-        LargePoint::NothingThere => Some(Reply::Empty),
+    match exit {
+        LargeExit::GivenRun { place, run } => Reply::Given {
+            place,
+            need: Need::Large(run.units()),
+        },
+        LargeExit::NoRun => Reply::Refused,
+        LargeExit::FreedRun => Reply::Freed,
+        LargeExit::Wrote => Reply::Wrote,
+        LargeExit::Word { value } => Reply::Word(value),
+        LargeExit::PutDone => Reply::Put,
+        LargeExit::ShelfFull { found } => Reply::Full { found },
+        LargeExit::Got { place, need } => Reply::Got { place, need },
+        LargeExit::NothingThere => Reply::Empty,
+        LargeExit::Missed { expected, found } => Reply::Missed { expected, found },
+    }
+}
+
+/// The reply with which a call on a usable word ends in this step, its only one, which counts nothing.
+/// Most steps of a busy program are such ones, so they are looked for first.
+#[inline(always)]
+pub(crate) fn ending_on_word(point: &Point, found: Found) -> Option<Reply>
+    ensures { IfSome result (EndsUncounted point.now found) }
+{
+    match *point {
+        Point::Large { at, .. } => {
+            if is_on_word(&at) {
+                let mut at = at;
+                Some(ended(settle_large(&mut at, found)?))
+            } else {
+                None
+            }
+        }
         _ => None,
     }
 }
 
-/// What follows where this point of a large block, a usable word or a shelf is reached.
-pub fn enter_large(at: LargePoint, continuation: Continuation) -> Next
-    ensures { result ≡ enter_large at continuation }
+/// Whether the step is on a usable word.
+#[inline(always)]
+fn is_on_word(at: &LargePoint) -> bool
+    ensures { result ≡ is_on_word at.now }
 {
-    match at {
-        LargePoint::GivenRun { place, run } => Next::end(Reply::Given {
-            place,
-            need: Need::Large(run.units()),
-        }),
-        LargePoint::NoRun => Next::end(Reply::Refused),
-        LargePoint::FreedRun => Next::end(Reply::Freed),
-        LargePoint::Wrote => Next::end(Reply::Wrote),
-        LargePoint::Word { value } => Next::end(Reply::Word(value)),
-        LargePoint::PutDone => Next::end(Reply::Put),
-        LargePoint::ShelfFull { found } => Next::end(Reply::Full { found }),
-        LargePoint::Got { place, need } => Next::end(Reply::Got { place, need }),
-        LargePoint::NothingThere => Next::end(Reply::Empty),
-        LargePoint::Missed { expected, found } => Next::end(Reply::Missed { expected, found }),
-        _ => Next::large(at, continuation),
-    }
+    matches!(
+        *at,
+        LargePoint::StoreWord { .. } | LargePoint::LoadWord { .. }
+    )
 }

@@ -3,54 +3,53 @@
 ghost use Rattle.std.specs.Prelude.{◌≡◌};
 ghost use Rattle.stack_parts.specs.declared.point.Pile.{Pile};
 ghost use Rattle.stack_parts.specs.declared.point.StackPoint.{StackPoint};
-ghost use Rattle.errand_steps.specs.Nexts.{enter_partial, listed_empty, listed_partial};
+ghost use Rattle.errand_steps.specs.Nexts.{leave_partial, listed_empty, listed_partial};
 
 use crate::continuation::{Continuation, asked};
 use crate::enter::stacks::{push_partial, put_away};
 use crate::next::Next;
 use hazard_parts::point::DescPoint;
-use partial_parts::point::PartialPoint;
+use partial_parts::exit::PartialExit;
 use stack_parts::point::{Pile, StackPoint};
 use superblock_parts::point::{BlockPoint, Share};
-use word_plan::seat::Seat;
+use word_table::seat::Seat;
 
-/// What follows where this point of a partial superblock is reached.
-pub fn enter_partial(at: PartialPoint, continuation: Continuation) -> Next
-    ensures { result ≡ enter_partial at continuation }
+/// What follows where a partial superblock is left by this exit.
+pub fn leave_partial(exit: PartialExit, continuation: Continuation) -> Next
+    ensures { result ≡ leave_partial exit continuation }
 {
-    match at {
-        PartialPoint::SlotEmpty { seat } => Next::stack(pop_partial(seat), continuation),
-        PartialPoint::Granted { site, more } => Next::block(
+    match exit {
+        PartialExit::SlotEmpty { seat } => Next::stack(pop_partial(seat), continuation),
+        PartialExit::Granted { site, more } => Next::block(
             BlockPoint::LoadAnchor {
                 site,
                 share: Share::Grant { more },
             },
             continuation,
         ),
-        PartialPoint::TookEmpty { site } => Next::Retire {
+        PartialExit::TookEmpty { site } => Next::Retire {
             seat: site.seat,
             desc: site.desc,
             continuation: Continuation::Look {
                 need: asked(continuation),
             },
         },
-        PartialPoint::SlotFilled { seat } => put_away(seat, continuation),
-        PartialPoint::Displaced { seat, desc } => Next::stack(
+        PartialExit::SlotFilled { seat } => put_away(seat, continuation),
+        PartialExit::Displaced { seat, desc } => Next::stack(
             push_partial(seat, desc),
             continuation,
         ),
-        PartialPoint::NotInSlot { seat } => {
+        PartialExit::NotInSlot { seat } => {
             Next::desc(DescPoint::ClearHazard { seat }, Continuation::Clear)
         }
-        PartialPoint::Removed { seat, desc } => {
+        PartialExit::Removed { seat, desc } => {
             Next::desc(
                 DescPoint::ClearHazard { seat },
                 Continuation::Retire { desc },
             )
         }
-        PartialPoint::ListedEmpty { seat, desc } => listed_empty(seat, desc, continuation),
-        PartialPoint::ListedPartial { seat, desc } => listed_partial(seat, desc, continuation),
-        _ => Next::partial(at, continuation),
+        PartialExit::ListedEmpty { seat, desc } => listed_empty(seat, desc, continuation),
+        PartialExit::ListedPartial { seat, desc } => listed_partial(seat, desc, continuation),
     }
 }
 

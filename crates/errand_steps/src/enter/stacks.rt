@@ -3,7 +3,7 @@
 ghost use Rattle.std.specs.Prelude.{◌≡◌};
 ghost use Rattle.stack_parts.specs.declared.point.Pile.{Pile};
 ghost use Rattle.stack_parts.specs.declared.point.StackPoint.{StackPoint};
-ghost use Rattle.errand_steps.specs.Nexts.{enter_stack, put_away, found_empty, confirmed_empty, popped};
+ghost use Rattle.errand_steps.specs.Nexts.{leave_stack, put_away, found_empty, confirmed_empty, popped};
 
 use crate::continuation::Continuation;
 use crate::enter::blocks::finish;
@@ -12,20 +12,20 @@ use crate::reply::Reply;
 use hazard_parts::point::DescPoint;
 use packed_words::head::Head;
 use partial_parts::point::PartialPoint;
+use stack_parts::exit::StackExit;
 use stack_parts::point::{Pile, StackPoint};
 use superblock_parts::point::BlockPoint;
-use word_plan::seat::{Seat, Site};
+use word_table::seat::{Seat, Site};
 
-/// What follows where this point of a stack is reached.
-pub fn enter_stack(at: StackPoint, continuation: Continuation) -> Next
-    ensures { result ≡ enter_stack at continuation }
+/// What follows where a stack is left by this exit.
+pub fn leave_stack(exit: StackExit, continuation: Continuation) -> Next
+    ensures { result ≡ leave_stack exit continuation }
 {
-    match at {
-        StackPoint::Popped { seat, index, .. } => popped(seat, index, continuation),
-        StackPoint::FoundEmpty { seat, pile, head } => found_empty(seat, pile, head, continuation),
-        StackPoint::ConfirmedEmpty { seat, .. } => confirmed_empty(seat, continuation),
-        StackPoint::Pushed { seat, .. } => put_away(seat, continuation),
-        _ => Next::stack(at, continuation),
+    match exit {
+        StackExit::Popped { seat, index, .. } => popped(seat, index, continuation),
+        StackExit::FoundEmpty { seat, pile, head } => found_empty(seat, pile, head, continuation),
+        StackExit::ConfirmedEmpty { seat, .. } => confirmed_empty(seat, continuation),
+        StackExit::Pushed { seat, .. } => put_away(seat, continuation),
     }
 }
 

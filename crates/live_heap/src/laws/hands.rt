@@ -5,7 +5,7 @@ ghost use Rattle.std.specs.Result.{IfErr};
 ghost use Rattle.errand_steps.specs.Begins.{IsBusy, IsIdle};
 ghost use Rattle.errand_steps.specs.declared.reply.Reply.TheVariants as reply;
 ghost use Rattle.errand_steps.specs.Calls.{Call, put};
-ghost use Rattle.step_core.specs.Keeping.{Leaves};
+ghost use Rattle.step_machine.specs.Keeping.{LeavesPlace};
 ghost use Rattle.live_heap.specs.declared.answers.AllocAnswer.{AllocAnswer};
 ghost use Rattle.live_heap.specs.declared.answers.Ending.{Ending};
 ghost use Rattle.live_heap.specs.declared.answers.FreeAnswer.{FreeAnswer};
@@ -49,14 +49,14 @@ pub fn hands_go_through_calls()
     ensures take { (h : Heap) (p q : Pass) (blocks : List Block) (shelf : ℕ) (answer : Taken) → IsOf h p → Holds p blocks → IsOf h q
         → TakeTells p shelf answer q → IsHand h q (blocks ++ taken_by answer) }
     ensures ended { (h : Heap) (p q : Pass) (blocks : List Block) (call : Call) (steps : ℕ) (end : Ending) → IsOf h p → Holds p blocks
-        → IsOf h q → All (λ block. Leaves call block.place) blocks → HasCalled p call steps (reply_of end) q → EndTells call end q
+        → IsOf h q → All (λ block. LeavesPlace call block.place) blocks → HasCalled p call steps (reply_of end) q → EndTells call end q
         → IsHand h q (blocks ++ brought_by end) }
 {}
 
 /// And it goes through an allocation or a free that is made step by step.
 pub fn hands_go_through_steps()
     ensures begun { (h : Heap) (p q : Pass) (blocks : List Block) (call : Call) → IsOf h p → Holds p blocks → IsOf h q
-        → All (λ block. Leaves call block.place) blocks → IsTried call → IsCalling p call 0 q → IsHand h q blocks }
+        → All (λ block. LeavesPlace call block.place) blocks → IsTried call → IsCalling p call 0 q → IsHand h q blocks }
     ensures stepped { (h : Heap) (p q : Pass) (blocks : List Block) (told : Step) → IsHand h p blocks → IsBusy p.errand → IsOf h q
         → HasStepped p q told → IsHand h q (blocks ++ brought_in told) }
 {}

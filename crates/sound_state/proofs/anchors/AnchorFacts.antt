@@ -1,22 +1,12 @@
 -- A step that stores the anchor of a new superblock: its descriptor gets it, and nothing else changes.
 use Rattle.std.proofs.Common.{ℕ, true, ◌≡◌, ◌≢◌, ◌<◌, ◌≤◌, ◌+◌, refl, arith, ap, ◌∙◌}
-use Rattle.heap_geometry.specs.declared.geometry.Geometry.{Geometry}
-use Rattle.packed_words.specs.Anchor.{anchor_of, anchor_word}
+use Rattle.sound_state.proofs.Common.{Geometry, anchor_of, anchor_word, WordName, Site, IsSiteOf, Writes, new_credits, ErrandFields, State, Moves, waiting}
+use Rattle.sound_state.proofs.Common.{on_its_way, holds_of, errand_has, Lists, IsSoundWith, words_sum, callers_sum, anchor_for, info_for, is_bound, away_of}
+use Rattle.sound_state.proofs.Common.{errand_away, errand_keeps, kept_among, waiting_of, word_reserves, reserved_of}
 use Rattle.packed_words.proofs.AnchorLemmas.{anchor_of-anchor_word}
-use Rattle.word_plan.specs.declared.name.WordName.{WordName}
-use Rattle.word_plan.specs.declared.name.WordName.TheVariants as name
-use Rattle.word_plan.specs.declared.seat.Site.{Site}
-use Rattle.word_plan.specs.Sites.{IsSiteOf}
-use Rattle.word_plan.specs.Words.{Writes}
-use Rattle.superblock_parts.specs.Anchors.{new_anchor, new_credits}
-use Rattle.errand_steps.specs.Errands.{ErrandFields}
-use Rattle.errand_steps.specs.Steps.{State, Moves}
-use Rattle.sound_state.specs.Holdings.{making, waiting, on_its_way, holds_of}
-use Rattle.sound_state.specs.Keepers.{errand_has}
-use Rattle.sound_state.specs.Lists.{Lists}
-use Rattle.sound_state.specs.Sound.{IsSoundWith}
-use Rattle.sound_state.specs.Sums.{words_sum, callers_sum}
-use Rattle.sound_state.specs.Superblocks.{anchor_for, info_for, is_bound, away_of, errand_away, errand_keeps, kept_among, waiting_of, word_reserves, reserved_of}
+use Rattle.word_table.specs.declared.name.WordName.TheVariants as name
+use Rattle.superblock_parts.specs.Anchors.{new_anchor}
+use Rattle.sound_state.specs.Holdings.{making}
 use Rattle.sound_state.proofs.shared.UnplacedLemmas.{IsUnplaced, way-unplaced}
 use Rattle.sound_state.proofs.shared.WaitsAlone.{new_anchor-fits}
 use Rattle.sound_state.proofs.anchors.NewSuperblocks.{unbound-reserves}
@@ -36,7 +26,7 @@ pub record Anchors (g : Geometry) (s : State) (l : Lists) (caller : ℕ) (at : S
   pub holds_before : holds_of (s.errand caller).point ≡ making at
   pub holds_after : holds_of e.point ≡ installing_holds at
 
-module _ (g : Geometry) (s : State) (l : Lists) (caller : ℕ) (at : Site) (e : ErrandFields) (s' : State) (h : Anchors g s l caller at e s') where
+module _ {g : Geometry} {s : State} {l : Lists} {caller : ℕ} {at : Site} {e : ErrandFields} {s' : State} (h : Anchors g s l caller at e s') where
   pub anchored-holds : HoldingEffects g s caller (making at) (installing_holds at) e s'
   anchored-holds = record { in_heap = h.in_heap; moves = h.moves; retired = h.retired; before = h.holds_before; after = h.holds_after }
 

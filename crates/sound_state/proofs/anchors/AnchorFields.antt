@@ -1,20 +1,10 @@
 -- The store of a new superblock's anchor keeps the chains, the frames, the places of descriptors, the lists and what is remembered.
-use Rattle.std.proofs.Common.{ℕ, Bool, true, false, ◌≡◌, ◌≢◌, ◌<◌, refl, arith, ap, sym, subst, inl, inr, ◌∙◌}
+use Rattle.std.proofs.Common.{ℕ, Bool, true, false, ◌≡◌, ◌≢◌, ◌<◌, refl, arith, ap, sym, subst, inl, inr, ◌∙◌, ◌==◌, ◌&&◌, if◌then◌else◌, IsTrue}
 use Rattle.std.proofs.Math.Path.{fun_ext}
-use Rattle.std.specs.Prelude.{◌==◌, ◌&&◌, if◌then◌else◌, IsTrue}
 use Rattle.std.proofs.lemmas.Bool.{cases_eq}
-use Rattle.heap_geometry.specs.declared.geometry.Geometry.{Geometry}
-use Rattle.heap_geometry.specs.Need.{block_count_of}
-use Rattle.heap_geometry.specs.Place.{block_place}
-use Rattle.word_plan.specs.declared.seat.Site.{Site}
-use Rattle.superblock_parts.specs.Chains.{link_in}
-use Rattle.errand_steps.specs.Errands.{ErrandFields}
-use Rattle.errand_steps.specs.Steps.{State}
-use Rattle.sound_state.specs.Frames.{IsFramed, fills_frame}
-use Rattle.sound_state.specs.Lists.{Lists, IsListed}
-use Rattle.sound_state.specs.Recalls.{IsLocated, AreMade}
-use Rattle.sound_state.specs.Sound.{IsSoundWith}
-use Rattle.sound_state.specs.Superblocks.{AreChained, IsChained, info_for, is_bound, live_at, superblock_of, waiting_of}
+use Rattle.sound_state.proofs.Common.{Geometry, block_count_of, block_place, Site, link_in, ErrandFields, State, IsFramed, fills_frame, Lists, IsListed, IsLocated}
+use Rattle.sound_state.proofs.Common.{IsSoundWith, AreChained, IsChained, info_for, is_bound, live_at, superblock_of, waiting_of}
+use Rattle.sound_state.specs.Recalls.{AreMade}
 use Rattle.sound_state.proofs.anchors.AnchorFacts.{Anchors, anchored-holds, anchored-write, anchored-anchor, anchored-here, anchored-waits, anchored-bound, anchored-reserved, anchored-credits, anchored-none, anchored-free}
 use Rattle.sound_state.proofs.shared.FrameLemmas.{waiting-fills}
 use Rattle.sound_state.proofs.shared.HoldingEffects.{framed-after}
@@ -29,17 +19,17 @@ unbound-fill : (b : Bool) (n x f : ℕ) → (IsTrue b → ⊥) → ◌≡◌ {A 
 unbound-fill true n x f none = absurd (none refl)
 unbound-fill false n x f none = refl
 
-module _ (g : Geometry) (s : State) (l : Lists) (caller : ℕ) (at : Site) (e : ErrandFields) (s' : State) (h : Anchors g s l caller at e s') where
+module _ {g : Geometry} {s : State} {l : Lists} {caller : ℕ} {at : Site} {e : ErrandFields} {s' : State} (h : Anchors g s l caller at e s') where
   anchored-lie : LieStill s s'
-  anchored-lie = anchor-still (anchored-write g s l caller at e s' h)
+  anchored-lie = anchor-still (anchored-write h)
 
   anchored-others-wait : (d : ℕ) → d ≢ at.desc → waiting_of g s' d ≡ waiting_of g s d
-  anchored-others-wait d differ = omega (arith, anchored-waits g s l caller at e s' h d, it-elsewhere at d differ)
+  anchored-others-wait d differ = omega (arith, anchored-waits h d, it-elsewhere at d differ)
 
   -- the other superblocks stay
   pub anchored-superblock : (d : ℕ) → d ≢ at.desc → superblock_of g s' d ≡ superblock_of g s d
   anchored-superblock d differ =
-      same-superblock _ _ _ _ _ _ _ _ _ _ _ _ (anchored-anchor g s l caller at e s' h d differ) (anchored-reserved g s l caller at e s' h d differ)
+      same-superblock _ _ _ _ _ _ _ _ _ _ _ _ (anchored-anchor h d differ) (anchored-reserved h d differ)
       (anchored-others-wait d differ) (next-stays anchored-lie g d) (live-stays anchored-lie g h.history d) (size-stays anchored-lie g d)
 
   -- the new one is as it was made
@@ -47,11 +37,11 @@ module _ (g : Geometry) (s : State) (l : Lists) (caller : ℕ) (at : Site) (e : 
       IsSoundWith g s l → IsLocated s at.desc at.frame at.seat.class → superblock_of g s' at.desc ≡ new_superblock s at.frame at.seat.class
   anchored-new old lies =
       let d = at.desc in
-      let none = anchored-none g s l caller at e s' h old in
+      let none = anchored-none h old in
       let next =
       next-stays anchored-lie g d ∙ ap (λ x. link_in s.word x (info_for s d).class) lies.frame ∙ ap (λ x. link_in s.word at.frame x) lies.class in
-      same-superblock _ _ _ _ _ _ _ _ _ _ _ _ (anchored-here g s l caller at e s' h)
-      (omega (arith, anchored-credits g s l caller at e s' h, none.0)) (omega (arith, anchored-waits g s l caller at e s' h d, it-here at, none.1)) next
+      same-superblock _ _ _ _ _ _ _ _ _ _ _ _ (anchored-here h)
+      (omega (arith, anchored-credits h, none.0)) (omega (arith, anchored-waits h d, it-here at, none.1)) next
       (live-stays anchored-lie g h.history d ∙ fun_ext (located-live g s d at.frame at.seat.class lies))
       (size-stays anchored-lie g d ∙ ap block_count_of lies.class)
 
@@ -69,21 +59,21 @@ module _ (g : Geometry) (s : State) (l : Lists) (caller : ℕ) (at : Site) (e : 
               (new-chained s at.frame at.seat.class h.site.seat.class links_made unlive))
           | inr differ ↦
               subst IsChained (sym (anchored-superblock d differ))
-              (old.chained.chained d has (subst IsTrue (anchored-bound g s l caller at e s' h d differ) bound))
+              (old.chained.chained d has (subst IsTrue (anchored-bound h d differ) bound))
         ];
   }
 
   -- it waits, so it fills_frame no frame; the frame stays in the caller's hand
   pub anchored-framed : IsSoundWith g s l → IsFramed g s' l
   anchored-framed old =
-      framed-after (anchored-holds g s l caller at e s' h) l
+      framed-after (anchored-holds h) l
       (λ f.
       let waits : waiting_of g s' at.desc ≡ 1 =
-      omega (arith, anchored-waits g s l caller at e s' h at.desc, it-here at, (anchored-none g s l caller at e s' h old).1) in
+      omega (arith, anchored-waits h at.desc, it-here at, (anchored-none h old).1) in
       let before : fills_frame g s l f at.desc ≡ 0 =
-      unbound-fill (is_bound g s l at.desc) (waiting_of g s at.desc) (info_for s at.desc).frame f (anchored-free g s l caller at e s' h old).bound in
+      unbound-fill (is_bound g s l at.desc) (waiting_of g s at.desc) (info_for s at.desc).frame f (anchored-free h old).bound in
       of-each (λ k. fills_frame g s' l f k ≡ fills_frame g s l f k) at.desc (waiting-fills g s' l at.desc f waits ∙ sym before)
-      (λ d differ. rw (anchored-bound g s l caller at e s' h d differ, anchored-others-wait d differ, info-stays anchored-lie d) refl))
+      (λ d differ. rw (anchored-bound h d differ, anchored-others-wait d differ, info-stays anchored-lie d) refl))
       (λ f. refl) old.framed
 
   pub anchored-listed : IsSoundWith g s l → IsListed g s'.word l

@@ -1,26 +1,14 @@
 -- The store of a new superblock's anchor keeps what the other callers remember.
-use Rattle.std.proofs.Common.{ℕ, ◌≡◌, ◌≢◌, ◌<◌, ◌≤◌, ◌∷◌, arith, ap, sym, subst, ◌∙◌}
+use Rattle.std.proofs.Common.{ℕ, ◌≡◌, ◌≢◌, ◌<◌, ◌≤◌, ◌∷◌, arith, ap, sym, subst, ◌∙◌, IsTrue}
 use Rattle.std.specs.List.{All}
-use Rattle.std.specs.Prelude.{IsTrue}
 use Rattle.std.proofs.lemmas.List.Elements.{All-cons, recursion_from_All}
-use Rattle.heap_geometry.specs.declared.geometry.Geometry.{Geometry}
-use Rattle.packed_words.specs.Anchor.{anchor_word}
-use Rattle.word_plan.specs.declared.name.WordName.TheVariants as name
-use Rattle.word_plan.specs.declared.seat.Site.{Site}
+use Rattle.sound_state.proofs.Common.{Geometry, anchor_word, Site, is_empty, own, Point, ErrandFields, State, on_its_way, Lists, Recall, IsLocated, IsSo, bound_here}
+use Rattle.sound_state.proofs.Common.{recalls_of, bound_for, bound_at, pops, links, says, IsSoundWith, callers_sum, kept_among, is_bound, errand_keeps}
+use Rattle.word_table.specs.declared.name.WordName.TheVariants as name
 use Rattle.superblock_parts.specs.Anchors.{new_anchor}
 use Rattle.superblock_parts.specs.declared.point.BlockPoint.TheVariants as block
-use Rattle.partial_parts.specs.Grants.{is_empty}
-use Rattle.pool_model.specs.Histories.{own}
-use Rattle.errand_steps.specs.declared.point.Point.{Point}
 use Rattle.errand_steps.specs.declared.point.Point.TheVariants as point
-use Rattle.errand_steps.specs.Errands.{ErrandFields}
-use Rattle.errand_steps.specs.Steps.{State}
-use Rattle.sound_state.specs.Holdings.{on_its_way}
-use Rattle.sound_state.specs.Lists.{Lists}
-use Rattle.sound_state.specs.Recalls.{Recall, IsPopped, IsLocated, IsEmptied, IsRemembered, IsSo, bound_here, recalls_of, bound_for, bound_at, pops, links, says}
-use Rattle.sound_state.specs.Sound.{IsSoundWith}
-use Rattle.sound_state.specs.Sums.{callers_sum}
-use Rattle.sound_state.specs.Superblocks.{kept_among, is_bound, errand_keeps}
+use Rattle.sound_state.specs.Recalls.{IsPopped, IsEmptied, IsRemembered}
 use Rattle.sound_state.proofs.shared.MakingWeights.{it-here, making-ways, is_it}
 use Rattle.sound_state.proofs.shared.RecallEffects.{IsSteadyWord, Leaves, IsLeft, here-so, remembered-left}
 use Rattle.sound_state.proofs.shared.RecallTables.{InstallsNone, IsBacked, bound-differs, backed-recalls}
@@ -31,10 +19,10 @@ use Rattle.sound_state.proofs.anchors.AnchorFields.{anchored-superblock}
 use Rattle.sound_state.proofs.anchors.AnchorRests.{owned-anchored}
 
 -- the store of an anchor
-module _ (g : Geometry) (s : State) (l : Lists) (caller : ℕ) (at : Site) (e : ErrandFields) (s' : State) (h : Anchors g s l caller at e s') where
+module _ {g : Geometry} {s : State} {l : Lists} {caller : ℕ} {at : Site} {e : ErrandFields} {s' : State} (h : Anchors g s l caller at e s') where
   -- what is bound is another superblock, and so is what waits to be installed
   others-bound : IsSoundWith g s l → (d : ℕ) → IsTrue (is_bound g s l d) → d ≢ at.desc
-  others-bound old d bound = bound-differs g s l at.desc (anchored-free g s l caller at e s' h old).bound d bound
+  others-bound old d bound = bound-differs g s l at.desc (anchored-free h old).bound d bound
 
   anchored-installed : IsSoundWith g s l → (i : ℕ) → i < g.callers → InstallsNone (s.errand i).point at.desc
   unfolding recalls_of
@@ -61,21 +49,21 @@ module _ (g : Geometry) (s : State) (l : Lists) (caller : ℕ) (at : Site) (e : 
   anchored-leaves i = record {
     steady = λ n is. h.writes.elsewhere n (λ same. subst IsSteadyWord same is);
     events = ap (own i) h.history;
-    owned = owned-anchored g s l caller at e s' h i;
-    empty = λ d so. ap (λ x. is_empty x.state) (anchored-anchor g s l caller at e s' h d (emptied-differs d so));
-    ways = λ d so. omega (arith, anchored-ways g s l caller at e s' h d, so.standing);
+    owned = owned-anchored h i;
+    empty = λ d so. ap (λ x. is_empty x.state) (anchored-anchor h d (emptied-differs d so));
+    ways = λ d so. omega (arith, anchored-ways h d, so.standing);
   }
 
   still-bound : IsSoundWith g s l → (d : ℕ) → IsTrue (is_bound g s l d) → IsTrue (is_bound g s' l d)
-  still-bound old d bound = subst IsTrue (sym (anchored-bound g s l caller at e s' h d (others-bound old d bound))) bound
+  still-bound old d bound = subst IsTrue (sym (anchored-bound h d (others-bound old d bound))) bound
 
   anchored-left : IsSoundWith g s l → (r : Recall) → IsBacked g s l at.desc r → IsLeft g s l s' r
   anchored-left old (bound_for d c) backed = still-bound old d
   anchored-left old (bound_at d f c) backed = still-bound old d
   anchored-left old (pops d a) backed =
-      subst (λ b. IsPopped b a) (sym (anchored-superblock g s l caller at e s' h d (others-bound old d backed)))
+      subst (λ b. IsPopped b a) (sym (anchored-superblock h d (others-bound old d backed)))
   anchored-left old (links d a prefix) backed =
-      λ is. is ∙ ap (λ x. x.tag) (anchored-anchor g s l caller at e s' h d (others-bound old d backed.0))
+      λ is. is ∙ ap (λ x. x.tag) (anchored-anchor h d (others-bound old d backed.0))
   anchored-left old (says n w) backed = h.writes.elsewhere n backed
   anchored-left old r backed = tt
 
@@ -86,7 +74,7 @@ module _ (g : Geometry) (s : State) (l : Lists) (caller : ℕ) (at : Site) (e : 
       remembered-left g s l caller e s' h.moves
       (subst (All (IsSo g s' l caller)) (sym recalls)
       (All-cons (IsSo g s' l caller) (says (name.Anchor at.desc) (anchor_word (new_anchor at.seat.class))) (bound_here at) (tt, h.writes.here)
-      (here-so g s l s' (anchored-leaves caller).steady caller at (anchored-bound_here g s l caller at e s' h old) lies)))
+      (here-so g s l s' (anchored-leaves caller).steady caller at (anchored-bound_here h old) lies)))
       (λ i has ne. anchored-leaves i)
       (λ i has ne k d lt.
       anchored-left old _

@@ -1,31 +1,18 @@
 -- The store of a new superblock's anchor keeps the stock of descriptors, the hazard words and the ties to the events.
-use Rattle.std.proofs.Common.{ℕ, ◌≡◌, ◌≢◌, ◌<◌, ◌+◌, ◌^◌, ◌*◌, length, refl, arith, ap, sym, subst, inl, inr, ◌∙◌}
-use Rattle.std.specs.Prelude.{◌⊎◌, ◌==◌, if◌then◌else◌, All, Any, IsTrue}
+use Rattle.std.proofs.Common.{ℕ, ◌≡◌, ◌≢◌, ◌<◌, ◌+◌, ◌^◌, ◌*◌, length, refl, arith, ap, sym, subst, inl, inr, ◌∙◌, ◌⊎◌, ◌==◌, if◌then◌else◌, All, Any, IsTrue}
 use Rattle.std.specs.Int.{bit_at}
 use Rattle.std.proofs.lemmas.List.Elements.{All-nil}
-use Rattle.heap_geometry.specs.declared.geometry.Geometry.{Geometry}
-use Rattle.heap_geometry.specs.declared.need.Need.{Need}
+use Rattle.sound_state.proofs.Common.{Geometry, Need, Site, descriptor_count, block_at, pool_of, Continuation, ErrandFields, spare_of, pushed_by, State, IsGuarded}
+use Rattle.sound_state.proofs.Common.{passed_by, held_by, holds_of, full_keeps, Lists, IsOwned, IsSoundWith, waits_in, word_stock, full_stock, sum_below, anchor_for}
+use Rattle.sound_state.proofs.Common.{info_for, is_bound, IsTied, IsLive}
 use Rattle.heap_geometry.specs.Place.{unit_place}
-use Rattle.word_plan.specs.declared.name.WordName.TheVariants as name
-use Rattle.word_plan.specs.declared.seat.Site.{Site}
-use Rattle.word_plan.specs.Counts.{descriptor_count}
+use Rattle.word_table.specs.declared.name.WordName.TheVariants as name
 use Rattle.superblock_parts.specs.declared.point.BlockPoint.TheVariants as block
-use Rattle.pool_model.specs.Pool.{Block, block_at, pool_of}
-use Rattle.errand_steps.specs.declared.continuation.Continuation.{Continuation}
+use Rattle.pool_model.specs.Pool.{Block}
 use Rattle.errand_steps.specs.declared.point.Point.TheVariants as point
-use Rattle.errand_steps.specs.Errands.{ErrandFields}
-use Rattle.errand_steps.specs.Fits.{spare_of, pushed_by}
-use Rattle.errand_steps.specs.Steps.{State}
-use Rattle.sound_state.specs.Guards.{IsGuarded, passed_by, held_by}
-use Rattle.sound_state.specs.Holdings.{making, holds_of}
-use Rattle.sound_state.specs.Keepers.{full_keeps}
-use Rattle.sound_state.specs.Lists.{Lists}
-use Rattle.sound_state.specs.Recalls.{IsOwned}
-use Rattle.sound_state.specs.Sound.{IsSoundWith}
-use Rattle.sound_state.specs.Stock.{IsStocked, waits_in, word_stock, full_stock}
-use Rattle.sound_state.specs.Sums.{sum_below}
-use Rattle.sound_state.specs.Superblocks.{anchor_for, info_for, is_bound}
-use Rattle.sound_state.specs.Ties.{IsTied, IsLive, IsExcepted}
+use Rattle.sound_state.specs.Holdings.{making}
+use Rattle.sound_state.specs.Stock.{IsStocked}
+use Rattle.sound_state.specs.Ties.{IsExcepted}
 use Rattle.sound_state.proofs.anchors.AnchorFacts.{Anchors, anchored-holds, anchored-write, anchored-here, anchored-info, anchored-bound, anchored-free, anchored-words}
 use Rattle.sound_state.proofs.shared.GuardEffects.{guarded-clear}
 use Rattle.sound_state.proofs.shared.ShownLemmas.{each-caller, Excepts}
@@ -40,23 +27,23 @@ pub anchored-stocked :
     → (s.errand caller).point ≡ point.Block (block.StoreAnchor at) o → e.point ≡ point.Block (block.InstallSuperblock at) o
     → IsSoundWith g s l → IsStocked g s' l
 anchored-stocked g s l caller at e s' o h before after old =
-    let free = anchored-free g s l caller at e s' h old in
+    let free = anchored-free h old in
     record {
       most = λ class has.
           let full : sum_below (descriptor_count g) (full_stock s' class) ≡ sum_below (descriptor_count g) (full_stock s class) =
           sum-same (descriptor_count g) (full_stock s class) (full_stock s' class)
           (λ d lt.
           let keeps : full_keeps (anchor_for s' d).state ≡ full_keeps (anchor_for s d).state =
-          field-stays (anchored-write g s l caller at e s' h) (λ a. full_keeps a.state)
-          (ap (λ a. full_keeps a.state) (anchored-here g s l caller at e s' h) ∙ sym free.full) d in
+          field-stays (anchored-write h) (λ a. full_keeps a.state)
+          (ap (λ a. full_keeps a.state) (anchored-here h) ∙ sym free.full) d in
           ap (λ n. if (info_for s' d).class == class then n else 0) keeps
-          ∙ ap (λ i. if i.class == class then full_keeps (anchor_for s d).state else 0) (anchored-info g s l caller at e s' h d)) in
+          ∙ ap (λ i. if i.class == class then full_keeps (anchor_for s d).state else 0) (anchored-info h d)) in
           omega (
             arith,
             full,
-            stock-goes (anchored-holds g s l caller at e s' h) class (ap (waits_in class) before) (ap (waits_in class) after),
+            stock-goes (anchored-holds h) class (ap (waits_in class) before) (ap (waits_in class) after),
             making-stock at class,
-            anchored-words g s l caller at e s' h (word_stock class) (λ v. refl),
+            anchored-words h (word_stock class) (λ v. refl),
             old.stocked.most class has,
           );
     }
@@ -75,7 +62,7 @@ making-excepts :
 making-excepts at place (inl x) = omega (arith, x.2)
 making-excepts at place (inr x) = omega (arith, x.2)
 
-module _ (g : Geometry) (s : State) (l : Lists) (caller : ℕ) (at : Site) (e : ErrandFields) (s' : State) (h : Anchors g s l caller at e s') where
+module _ {g : Geometry} {s : State} {l : Lists} {caller : ℕ} {at : Site} {e : ErrandFields} {s' : State} (h : Anchors g s l caller at e s') where
   pub owned-anchored : (i place : ℕ) (n : Need) → IsOwned s i place n → IsOwned s' i place n
   owned-anchored i place n k = record {
     block = (k.block.0, ap (λ past. block_at place (pool_of past)) h.history ∙ k.block.1, k.block.2, k.block.3);
@@ -85,7 +72,7 @@ module _ (g : Geometry) (s : State) (l : Lists) (caller : ℕ) (at : Site) (e : 
   anchored-tied old =
       let tied = old.tied in
       let w = h.writes in
-      let free = anchored-free g s l caller at e s' h old in
+      let free = anchored-free h old in
       let was = λ (place : ℕ) (b : Block) (live : IsLive s' place b). ap (λ past. block_at place (pool_of past)) (sym h.history) ∙ live in
       let excepted : (place : ℕ) → IsExcepted g s place → IsExcepted g s' place =
       λ place x. record {
@@ -105,11 +92,11 @@ module _ (g : Geometry) (s : State) (l : Lists) (caller : ℕ) (at : Site) (e : 
             let of = tied.small place class b (was place b live) is in
             let d : ℕ = of.0 in
             let differ : d ≢ at.desc = λ same. free.bound (subst (λ k. IsTrue (is_bound g s l k)) same of.1.bound) in
-            let info = anchored-info g s l caller at e s' h d in (
+            let info = anchored-info h d in (
               d,
               record {
                 exists = of.1.exists;
-                bound = subst IsTrue (sym (anchored-bound g s l caller at e s' h d differ)) of.1.bound;
+                bound = subst IsTrue (sym (anchored-bound h d differ)) of.1.bound;
                 located = record {
                   frame = ap (λ x. x.frame) info ∙ of.1.located.frame;
                   class = ap (λ x. x.class) info ∙ of.1.located.class;

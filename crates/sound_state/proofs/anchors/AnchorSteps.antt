@@ -1,37 +1,21 @@
 -- The store of a new superblock's anchor keeps the state sound.
 use Rattle.std.proofs.Common.{ℕ, Option, Some, None, ◌≡◌, ◌<◌, ◌≤◌, ◌+◌, [], ◌∷◌, refl, arith, ap, sym, subst, inl, ◌∙◌}
 use Rattle.std.proofs.lemmas.List.Elements.{All-head}
-use Rattle.heap_geometry.specs.declared.geometry.Geometry.{Geometry}
-use Rattle.heap_geometry.specs.Need.{block_count_of}
-use Rattle.heap_geometry.specs.Place.{block_place}
-use Rattle.heap_geometry.proofs.PlaceLemmas.{frame_of-block_place}
-use Rattle.packed_words.specs.Anchor.{anchor_word}
-use Rattle.packed_words.specs.Info.{info_word, info_of}
+use Rattle.sound_state.proofs.Common.{Geometry, block_count_of, block_place, frame_of-block_place, anchor_word, info_of, Site, IsSiteOf, Writes, BlockPoint}
+use Rattle.sound_state.proofs.Common.{IsLegalWithoutCounts, block_at, pool_of, Continuation, Block, ErrandFields, counts_lost, event_of, next_of, plan_point_of}
+use Rattle.sound_state.proofs.Common.{State, Step, holds_of, Lists, IsSo, IsLocated, recalls_of, says, IsSoundWithoutCounts, IsSoundWith, IsOwnErrand, turn_stage_of}
+use Rattle.sound_state.proofs.Common.{info_or_zero, anchor_for, away_of, is_there, live_at, IsTurned, one_if, pops_left, emptied_out}
+use Rattle.packed_words.specs.Info.{info_word}
 use Rattle.packed_words.proofs.AnchorLemmas.{anchor_word-below}
 use Rattle.packed_words.proofs.InfoLemmas.{info-exact}
-use Rattle.word_plan.specs.declared.name.WordName.TheVariants as name
-use Rattle.word_plan.specs.declared.seat.Site.{Site}
-use Rattle.word_plan.specs.Sites.{info_at, IsSiteOf}
-use Rattle.word_plan.specs.Words.{Writes}
+use Rattle.word_table.specs.declared.name.WordName.TheVariants as name
+use Rattle.word_table.specs.Sites.{info_at}
 use Rattle.superblock_parts.specs.Anchors.{new_anchor}
-use Rattle.superblock_parts.specs.declared.point.BlockPoint.{BlockPoint}
 use Rattle.superblock_parts.specs.declared.point.BlockPoint.TheVariants as block
-use Rattle.pool_model.specs.Legal.{IsLegalWithoutCounts}
-use Rattle.pool_model.specs.Pool.{Block as Live, block_at, pool_of}
-use Rattle.errand_steps.specs.declared.continuation.Continuation.{Continuation}
-use Rattle.errand_steps.specs.declared.point.Point.TheVariants.{Block}
-use Rattle.errand_steps.specs.Errands.{ErrandFields, counts_lost}
-use Rattle.errand_steps.specs.Events.{event_of}
-use Rattle.errand_steps.specs.Nexts.{next_of}
-use Rattle.errand_steps.specs.Points.{plan_point_of}
-use Rattle.errand_steps.specs.Steps.{State, Step}
-use Rattle.sound_state.specs.Holdings.{holds_of}
-use Rattle.sound_state.specs.Lists.{Lists}
-use Rattle.sound_state.specs.Recalls.{IsSo, IsLocated, AreMade, recalls_of, says, made}
-use Rattle.sound_state.specs.Sound.{IsSoundWithoutCounts, IsSoundWith, IsOwnErrand}
-use Rattle.sound_state.specs.TurnStages.{turn_stage_of, lacks_partial, block_turn_stage, frame_taken}
-use Rattle.sound_state.specs.Superblocks.{info_or_zero, anchor_for, away_of, is_there, live_at}
-use Rattle.sound_state.specs.Turns.{IsTurned, one_if, pops_left, turn_unlisted, errand_pops, emptied_out}
+use Rattle.pool_model.specs.Pool.{Block as Live}
+use Rattle.sound_state.specs.Recalls.{AreMade, made}
+use Rattle.sound_state.specs.TurnStages.{lacks_partial, block_turn_stage, frame_taken}
+use Rattle.sound_state.specs.Turns.{turn_unlisted, errand_pops}
 use Rattle.sound_state.proofs.anchors.AnchorFacts.{Anchors, anchored-anchor, anchored-here, anchored-away, anchored-home}
 use Rattle.sound_state.proofs.anchors.AnchorFields.{anchored-chained, anchored-framed, anchored-listed}
 use Rattle.sound_state.proofs.anchors.AnchorKept.{anchored-kept}
@@ -47,6 +31,7 @@ use Rattle.sound_state.proofs.shared.MakingWeights.{it-here, it-elsewhere}
 use Rattle.sound_state.proofs.shared.WonEffects.{StepEffects, step-effects}
 use Rattle.sound_state.proofs.shared.SuperblockEffects.{of-each}
 use Rattle.sound_state.proofs.shared.WordFacts.{site-info}
+use Rattle.sound_state.proofs.shared.KeepsSound.{KeepsSound}
 
 -- a caller that makes a superblock is in a turn
 making-weighs : (e : ErrandFields) (b : BlockPoint) (o : Continuation) → e.point ≡ Block b o → block_turn_stage b ≡ frame_taken → TurnWeighs e 1 0 0
@@ -65,16 +50,16 @@ anchored-turned g s l caller at e s' o h before after turns lost cleared old =
     let unlisted : turn_unlisted (s.errand caller) ≡ 1 = ap (λ p. one_if (lacks_partial (turn_stage_of p))) before in
     let pops : errand_pops e ≡ 0 = ap pops_left after in
     let events = no-event g caller s.history s'.history h.history in
-    let home = anchored-home g s l caller at e s' h old in
-    let one : away_of g s l at.desc ≡ 1 = omega (arith, anchored-away g s l caller at e s' h at.desc, home, it-here at) in
+    let home = anchored-home h old in
+    let one : away_of g s l at.desc ≡ 1 = omega (arith, anchored-away h at.desc, home, it-here at) in
     let out_0 : emptied_out g s l at.desc ≡ 0 = rw one refl in
-    let out_1 : emptied_out g s' l at.desc ≡ 0 = rw (home, anchored-here g s l caller at e s' h) refl in
+    let out_1 : emptied_out g s' l at.desc ≡ 0 = rw (home, anchored-here h) refl in
     let emptied_same =
     emptied-kept g s l s' l
     (of-each (λ k. emptied_out g s' l k ≡ emptied_out g s l k) at.desc (out_1 ∙ sym out_0)
     (λ d differ.
-    let away : away_of g s' l d ≡ away_of g s l d = omega (arith, anchored-away g s l caller at e s' h d, it-elsewhere at d differ) in
-    rw (away, anchored-anchor g s l caller at e s' h d differ) refl)) in
+    let away : away_of g s' l d ≡ away_of g s l d = omega (arith, anchored-away h d, it-elsewhere at d differ) in
+    rw (away, anchored-anchor h d differ) refl)) in
     turned-after g s l caller e s' l 0 0
     (record {
       in_heap = h.in_heap;
@@ -86,8 +71,8 @@ anchored-turned g s l caller at e s' o h before after turns lost cleared old =
       own_answers = omega (arith, turned.own_answers caller h.in_heap, events.gives, events.refuses caller, p.unanswered, q.unanswered, turns);
       anchor_tags = λ d has.
           of-each (λ k. (anchor_for s' k).tag ≤ (anchor_for s k).tag + 0) at.desc
-          (omega (arith, ap (λ a. a.tag) (anchored-here g s l caller at e s' h)))
-          (λ d differ. omega (arith, ap (λ a. a.tag) (anchored-anchor g s l caller at e s' h d differ))) d;
+          (omega (arith, ap (λ a. a.tag) (anchored-here h)))
+          (λ d differ. omega (arith, ap (λ a. a.tag) (anchored-anchor h d differ))) d;
       frame_turns = omega (arith, head-tag (h.writes.elsewhere name.FrameHead (λ is. cc)), q.unframed, turns);
       emptied = omega (arith, emptied_same, cleared);
       list_turns = λ class has.
@@ -100,11 +85,9 @@ no-block-there None none = refl
 no-block-there (Some b) none = absurd (none b refl)
 
 -- the anchor of a new superblock
-pub store_anchor-sound :
-    (g : Geometry) (s : State) (caller : ℕ) (s' : State) (site : Site) (o : Continuation) → IsSoundWithoutCounts g s → caller < g.callers
-    → (s.errand caller).point ≡ Block (block.StoreAnchor site) o → Step s caller s' → IsSoundWithoutCounts g s'
+pub store_anchor-sound : (site : Site) (o : Continuation) → KeepsSound (Block (block.StoreAnchor site) o)
 unfolding plan_point_of next_of event_of holds_of recalls_of
-store_anchor-sound g s caller s' site o sound has stands step =
+store_anchor-sound site o g s caller s' sound has stands step =
     let p = Block (block.StoreAnchor site) o in
     let q = Block (block.InstallSuperblock site) o in
     let c = site.seat.class in
@@ -154,18 +137,18 @@ store_anchor-sound g s caller s' site o sound has stands step =
               words-below s.word (name.Anchor site.desc) (anchor_word (new_anchor c)) s'.word w old.words
               (anchor_word-below (new_anchor c) (new_anchor-fits c));
           errands = each-caller g (IsOwnErrand g) s.errand caller e s'.errand effects.moves effects.rule old.errands;
-          listed = anchored-listed g s l caller site e s' h old;
-          kept = anchored-kept g s l caller site e s' h old lies;
-          chained = anchored-chained g s l caller site e s' h old lies links_made unlive;
-          framed = anchored-framed g s l caller site e s' h old;
-          remembered = anchored-remembered g s l caller site e s' h old lies refl;
+          listed = anchored-listed h old;
+          kept = anchored-kept h old lies;
+          chained = anchored-chained h old lies links_made unlive;
+          framed = anchored-framed h old;
+          remembered = anchored-remembered h old lies refl;
           guarded = anchored-guarded g s l caller site e s' o h refl old;
           stocked = anchored-stocked g s l caller site e s' o h stands refl old;
           turned =
               anchored-turned g s l caller site e s' o h stands refl refl
               (raised-least (counts_lost (s.errand caller).point x) (s.errand caller).lost (old.errands caller has).lost)
               effects.cleared old;
-          tied = anchored-tied g s l caller site e s' h old;
+          tied = anchored-tied h old;
         },
       );
     }

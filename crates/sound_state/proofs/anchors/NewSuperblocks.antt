@@ -4,41 +4,20 @@ use Rattle.std.specs.List.{AllByRecursion}
 use Rattle.std.specs.Prelude.{◌==◌, IsTrue, nat_lt, if◌then◌else◌}
 use Rattle.std.proofs.lemmas.Bool.{cond-true, cond-false, cond_both, ne_eqb, lt-ltb, ltb-true}
 use Rattle.std.proofs.lemmas.List.Elements.{recursion_from_All}
-use Rattle.heap_geometry.specs.declared.geometry.Geometry.{Geometry}
-use Rattle.heap_geometry.specs.declared.limits.TheConstants.{CLASSES}
-use Rattle.heap_geometry.specs.Need.{block_count_of}
-use Rattle.heap_geometry.specs.Place.{block_place}
-use Rattle.packed_words.specs.declared.active.ActiveWord.{ActiveWord}
-use Rattle.packed_words.specs.declared.active.ActiveWord.TheVariants.{Null, Held}
-use Rattle.packed_words.specs.Active.{active_of}
-use Rattle.packed_words.specs.Prefix.{link_of}
-use Rattle.word_plan.specs.declared.name.WordName.{WordName}
-use Rattle.word_plan.specs.declared.name.WordName.TheVariants as name
-use Rattle.word_plan.specs.Counts.{word_count}
-use Rattle.word_plan.specs.Table.{word_name}
-use Rattle.word_plan.proofs.SeatLemmas.{block_count_of-least, block_count_of-most}
-use Rattle.word_plan.specs.Occurs.{occurs}
-use Rattle.superblock_parts.specs.Anchors.{new_anchor, new_credits, new_link}
-use Rattle.superblock_parts.specs.Chains.{chain_of, link_in}
-use Rattle.superblock_parts.specs.declared.point.BlockPoint.{BlockPoint}
+use Rattle.sound_state.proofs.Common.{Geometry, CLASSES, block_count_of, block_place, ActiveWord, Null, Held, active_of, link_of, WordName, word_count, word_name}
+use Rattle.sound_state.proofs.Common.{occurs, new_credits, link_in, BlockPoint, Share, Credit, LastCredit, Grant, StackPoint, DescPoint, PartialPoint, LargePoint}
+use Rattle.sound_state.proofs.Common.{Continuation, Point, State, holds_before_pop, holds_of, word_keeps, Lists, IsSo, recalls_of, IsSoundWith, words_sum}
+use Rattle.sound_state.proofs.Common.{callers_sum, Superblock, IsChained, is_bound, free_chain, live_at, word_reserves, reserved_among, errand_reserves, reserved_of}
+use Rattle.word_table.specs.declared.name.WordName.TheVariants as name
+use Rattle.word_table.proofs.SeatLemmas.{block_count_of-least, block_count_of-most}
+use Rattle.superblock_parts.specs.Anchors.{new_anchor, new_link}
+use Rattle.superblock_parts.specs.Chains.{chain_of}
 use Rattle.superblock_parts.specs.declared.point.BlockPoint.TheVariants as block
-use Rattle.superblock_parts.specs.declared.point.Share.{Share}
-use Rattle.superblock_parts.specs.declared.point.Share.TheVariants.{Credit, LastCredit, Grant}
-use Rattle.stack_parts.specs.declared.point.StackPoint.{StackPoint}
-use Rattle.hazard_parts.specs.declared.point.DescPoint.{DescPoint}
-use Rattle.partial_parts.specs.declared.point.PartialPoint.{PartialPoint}
-use Rattle.large_parts.specs.declared.point.LargePoint.{LargePoint}
-use Rattle.errand_steps.specs.declared.continuation.Continuation.{Continuation}
-use Rattle.errand_steps.specs.declared.point.Point.{Point}
 use Rattle.errand_steps.specs.declared.point.Point.TheVariants as point
-use Rattle.errand_steps.specs.Steps.{State}
-use Rattle.sound_state.specs.Holdings.{holds_before_pop, block_holds, stack_holds, desc_holds, partial_holds, large_holds, holds_of}
-use Rattle.sound_state.specs.Keepers.{word_keeps, active_keeps}
-use Rattle.sound_state.specs.Lists.{Lists}
-use Rattle.sound_state.specs.Recalls.{IsSo, AreMade, block_recalls, recalls_of}
-use Rattle.sound_state.specs.Sound.{IsSoundWith}
-use Rattle.sound_state.specs.Sums.{words_sum, callers_sum}
-use Rattle.sound_state.specs.Superblocks.{Superblock, IsChained, is_bound, free_chain, live_at, offered, word_reserves, reserved_among, errand_reserves, reserved_of}
+use Rattle.sound_state.specs.Holdings.{block_holds, stack_holds, desc_holds, partial_holds, large_holds}
+use Rattle.sound_state.specs.Keepers.{active_keeps}
+use Rattle.sound_state.specs.Recalls.{AreMade, block_recalls}
+use Rattle.sound_state.specs.Superblocks.{offered}
 use Rattle.sound_state.proofs.beginnings.OpeningLists.{indexes, indexes-before, indexes-once, indexes-end, indexes-chained}
 use Rattle.sound_state.proofs.shared.SumLemmas.{sum-none, term-sum, callers-none}
 use Rattle.sound_state.proofs.shared.RecallTables.{bound-differs}

@@ -1,19 +1,14 @@
 -- How a call comes to its answer: from a part, from a retirement, or from the turn limit.
 use Rattle.std.proofs.Common.{ℕ, Bool, true, false, Option, Some, None, ◌≡◌, ◌≢◌, refl, ap, subst, arith, inl, inr}
 use Rattle.std.proofs.lemmas.Bool.{cases_Bool}
-use Rattle.word_plan.specs.declared.action.Found.{Found}
-use Rattle.word_plan.specs.Seats.{SeatFields}
+use Rattle.sound_state.proofs.Common.{Found, SeatFields, Next, At, End, Retire, Pick, Unlist, Continuation, Desc, Reply, ErrandFields, course_of, next_of}
 use Rattle.hazard_parts.specs.declared.point.DescPoint.TheVariants as desc
-use Rattle.errand_steps.specs.declared.next.Next.{Next}
-use Rattle.errand_steps.specs.declared.next.Next.TheVariants.{At, End, Turn, Retire, Pick, Unlist}
-use Rattle.errand_steps.specs.declared.continuation.Continuation.{Continuation}
+use Rattle.errand_steps.specs.declared.next.Next.TheVariants.{Turn}
 use Rattle.errand_steps.specs.declared.continuation.Continuation.TheVariants as continuation
-use Rattle.errand_steps.specs.declared.point.Point.TheVariants.{Desc}
 use Rattle.errand_steps.specs.declared.reply.Progress.TheVariants.{Done}
-use Rattle.errand_steps.specs.declared.reply.Reply.{Reply}
 use Rattle.errand_steps.specs.declared.reply.Reply.TheVariants as reply
-use Rattle.errand_steps.specs.Errands.{ErrandFields, after_list, after_turn, answer_of, course_of, going_on, told, turned, is_full, is_spent, no_words, picked}
-use Rattle.errand_steps.specs.Nexts.{next_of, resumed}
+use Rattle.errand_steps.specs.Errands.{after_list, after_turn, answer_of, going_on, told, turned, is_full, is_spent, no_words, picked}
+use Rattle.errand_steps.specs.Nexts.{resumed}
 
 going-undone : (lost cleared : Bool) (r : Reply) → going_on lost cleared ≢ Done r
 going-undone true cleared r e = absurd cc

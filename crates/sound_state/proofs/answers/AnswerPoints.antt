@@ -1,34 +1,26 @@
 -- With which answer a call ends at each point.
-use Rattle.std.proofs.Common.{ℕ, Bool, true, false, Option, Some, None, ◌≡◌, refl, arith, inl, inr}
-use Rattle.std.specs.Prelude.{◌⊎◌, if◌then◌else◌, IsTrue}
+use Rattle.std.proofs.Common.{ℕ, Bool, true, false, Option, Some, None, ◌≡◌, refl, arith, inl, inr, ◌⊎◌, if◌then◌else◌, IsTrue}
 use Rattle.heap_geometry.specs.declared.need.Need.TheVariants as need
-use Rattle.heap_geometry.specs.Place.{block_place}
+use Rattle.sound_state.proofs.Common.{block_place, Found, BlockPoint, StackPoint, DescPoint, PartialPoint, LargePoint, Continuation, At, Large, Reply, ErrandFields}
 use Rattle.packed_words.specs.declared.prefix.Prefix.{Prefix}
 use Rattle.packed_words.specs.declared.prefix.Prefix.TheVariants as prefix
 use Rattle.packed_words.specs.declared.shelf.ShelfWord.{ShelfWord}
 use Rattle.packed_words.specs.declared.shelf.ShelfWord.TheVariants as lies
-use Rattle.word_plan.specs.declared.action.Found.{Found}
-use Rattle.superblock_parts.specs.declared.point.BlockPoint.{BlockPoint}
+use Rattle.word_table.specs.declared.onward.Onward.{Onward}
 use Rattle.superblock_parts.specs.declared.point.BlockPoint.TheVariants as block
 use Rattle.superblock_parts.specs.Points.{settle_block_of}
-use Rattle.stack_parts.specs.declared.point.StackPoint.{StackPoint}
 use Rattle.stack_parts.specs.declared.point.StackPoint.TheVariants as stack
 use Rattle.stack_parts.specs.Points.{settle_stack_of}
-use Rattle.hazard_parts.specs.declared.point.DescPoint.{DescPoint}
 use Rattle.hazard_parts.specs.declared.point.DescPoint.TheVariants as desc
 use Rattle.hazard_parts.specs.Points.{settle_desc_of}
-use Rattle.partial_parts.specs.declared.point.PartialPoint.{PartialPoint}
 use Rattle.partial_parts.specs.Points.{settle_partial_of}
-use Rattle.large_parts.specs.declared.point.LargePoint.{LargePoint}
+use Rattle.large_parts.specs.declared.exit.LargeExit.{LargeExit}
 use Rattle.large_parts.specs.Points.{after_take, after_run_prefix, after_shelf}
 use Rattle.large_parts.specs.Runs.{WantFields, RunFields}
-use Rattle.errand_steps.specs.declared.continuation.Continuation.{Continuation}
 use Rattle.errand_steps.specs.declared.continuation.Continuation.TheVariants as continuation
-use Rattle.errand_steps.specs.declared.reply.Reply.{Reply}
 use Rattle.errand_steps.specs.declared.reply.Reply.TheVariants as reply
-use Rattle.errand_steps.specs.Errands.{ErrandFields}
-use Rattle.errand_steps.specs.Nexts.{enter_block, enter_stack, enter_desc, enter_partial, enter_large}
-use Rattle.errand_steps.specs.Continuations.{goes_partial, has_left_block, has_left_stack, has_left_desc, has_left_partial}
+use Rattle.errand_steps.specs.Nexts.{enter_block, enter_stack, enter_desc, enter_partial, enter_large, leave_large}
+use Rattle.errand_steps.specs.Continuations.{goes_partial}
 use Rattle.sound_state.proofs.answers.AnswerCourses.{IsResumed, EndsBy}
 
 -- in a superblock: a block is given, or a free ends
@@ -37,9 +29,9 @@ BlockEnd (block.StorePrefix at i) r = r ≡ reply.Given (block_place at.frame at
 BlockEnd p r = r ≡ reply.Freed
 
 pub block-ends :
-    (e : ErrandFields) (p : BlockPoint) (o : Continuation) (x : Found) (r : Reply) → has_left_block p ≡ false
+    (e : ErrandFields) (p : BlockPoint) (o : Continuation) (x : Found) (r : Reply)
     → EndsBy e (enter_block (settle_block_of p x) o) r → BlockEnd p r
-block-ends e p o x r inside ends = grind (arith, inside, ends)
+block-ends e p o x r ends = grind (arith, ends)
 
 -- at a stack: a call ends, or is resumed, where nothing has to be read again
 abbrev pub StackEnd : ErrandFields → StackPoint → Continuation → Found → Reply → Type 0
@@ -49,9 +41,9 @@ StackEnd e (stack.PushTop s pile i h) (continuation.Discard words d) x r = IsRes
 StackEnd e p o x r = r ≡ reply.Freed
 
 pub stack-ends :
-    (e : ErrandFields) (p : StackPoint) (o : Continuation) (x : Found) (r : Reply) → has_left_stack p ≡ false
+    (e : ErrandFields) (p : StackPoint) (o : Continuation) (x : Found) (r : Reply)
     → EndsBy e (enter_stack (settle_stack_of p x) o) r → StackEnd e p o x r
-stack-ends e p o x r inside ends = grind (arith, inside, ends)
+stack-ends e p o x r ends = grind (arith, ends)
 
 -- at the descriptors or the hazard words: behind the push of a retired descriptor, or at the end of a free
 abbrev pub DescEnd : ErrandFields → DescPoint → Continuation → Found → Reply → Type 0
@@ -59,22 +51,28 @@ DescEnd e (desc.PushDesc s d top) o x r = (x.won ≡ true) × IsResumed e o r
 DescEnd e p o x r = r ≡ reply.Freed
 
 pub desc-ends :
-    (e : ErrandFields) (p : DescPoint) (o : Continuation) (x : Found) (r : Reply) → has_left_desc p ≡ false
+    (e : ErrandFields) (p : DescPoint) (o : Continuation) (x : Found) (r : Reply)
     → EndsBy e (enter_desc (settle_desc_of p x) o) r → DescEnd e p o x r
-desc-ends e p o x r inside ends = grind (arith, inside, ends)
+desc-ends e p o x r ends = grind (arith, ends)
 
 -- at a partial superblock only a free ends
 pub partial-ends :
-    (e : ErrandFields) (p : PartialPoint) (o : Continuation) (x : Found) (r : Reply) → has_left_partial p ≡ false → IsTrue (goes_partial p o)
+    (e : ErrandFields) (p : PartialPoint) (o : Continuation) (x : Found) (r : Reply) → IsTrue (goes_partial p o)
     → EndsBy e (enter_partial (settle_partial_of p x) o) r → r ≡ reply.Freed
-partial-ends e p o x r inside goes ends = grind (arith, inside, goes, ends)
+partial-ends e p o x r goes ends = grind (arith, goes, ends)
 
 -- at a large block, a usable word or a shelf: an exchange is won or lost
 pub either-ends :
-    (e : ErrandFields) (won : Bool) (p q : LargePoint) (o : Continuation) (r : Reply) → EndsBy e (enter_large (if won then p else q) o) r
+    (e : ErrandFields) (won : Bool) (p q : Onward LargePoint LargeExit) (o : Continuation) (r : Reply) → EndsBy e (enter_large (if won then p else q) o) r
     → ((won ≡ true) × EndsBy e (enter_large p o) r) ⊎ ((won ≡ false) × EndsBy e (enter_large q o) r)
 either-ends e true p q o r ends = inl (refl, ends)
 either-ends e false p q o r ends = inr (refl, ends)
+
+pub either-left :
+    (e : ErrandFields) (won : Bool) (a b : LargeExit) (o : Continuation) (r : Reply) → EndsBy e (leave_large (if won then a else b) o) r
+    → ((won ≡ true) × EndsBy e (leave_large a o) r) ⊎ ((won ≡ false) × EndsBy e (leave_large b o) r)
+either-left e true a b o r ends = inl (refl, ends)
+either-left e false a b o r ends = inr (refl, ends)
 
 -- no run is free
 pub take-ends :
@@ -86,13 +84,13 @@ take-ends e w o (Some first) r ends = absurd ends
 -- a load never ends a call
 pub prefix-goes-on :
     (e : ErrandFields) (place : ℕ) (run : RunFields) (o : Continuation) (word : Option Prefix) (r : Reply)
-    → EndsBy e (enter_large (after_run_prefix place run word) o) r → ⊥
+    → EndsBy e (At (Large (after_run_prefix place run word) o)) r → ⊥
 prefix-goes-on e place run o None r ends = ends
 prefix-goes-on e place run o (Some (prefix.Small d)) r ends = ends
 prefix-goes-on e place run o (Some (prefix.Large units)) r ends = ends
 
 pub shelf-goes-on :
-    (e : ErrandFields) (k : ℕ) (o : Continuation) (word : Option ShelfWord) (r : Reply) → EndsBy e (enter_large (after_shelf k word) o) r → ⊥
+    (e : ErrandFields) (k : ℕ) (o : Continuation) (word : Option ShelfWord) (r : Reply) → EndsBy e (At (Large (after_shelf k word) o)) r → ⊥
 shelf-goes-on e k o None r ends = ends
 shelf-goes-on e k o (Some lies.Nothing) r ends = ends
 shelf-goes-on e k o (Some (lies.Block place n)) r ends = ends

@@ -1,48 +1,40 @@
 -- What the answers mean at a large block, a usable word or a shelf.
-use Rattle.std.proofs.Common.{ℕ, true, false, Option, Some, None, [], ◌∷◌, ◌++◌, ◌≡◌, ◌≢◌, ◌<◌, ◌+◌, refl, arith, ap, sym, subst, inl, inr, ◌∙◌}
-use Rattle.std.specs.Prelude.{◌⊎◌, ◌==◌}
+use Rattle.std.proofs.Common.{ℕ, true, false, Option, Some, None, [], ◌∷◌, ◌++◌, ◌≡◌, ◌≢◌, ◌<◌, ◌+◌, refl, arith, ap, sym, subst, inl, inr, ◌∙◌, ◌⊎◌, ◌==◌}
 use Rattle.std.proofs.lemmas.Bool.{eqb-true, eqb-false}
-use Rattle.heap_geometry.specs.declared.geometry.Geometry.{Geometry}
+use Rattle.sound_state.proofs.Common.{Geometry, Need, need_of, LargePoint, Event, IsLegalWithoutCounts, block_at, pool_of, place-found, sound-of, Continuation}
+use Rattle.sound_state.proofs.Common.{Point, Large, Reply, event_of, next_of, plan_point_of, State, Step, with_event, holds_of, IsOwned, recalls_of}
+use Rattle.sound_state.proofs.Common.{IsSoundWithoutCounts, IsLive}
 use Rattle.heap_geometry.specs.declared.limits.TheConstants.{SHELVES}
-use Rattle.heap_geometry.specs.declared.need.Need.{Need}
 use Rattle.heap_geometry.specs.declared.need.Need.TheVariants as need
-use Rattle.heap_geometry.specs.Need.{need_of, usable_words}
+use Rattle.heap_geometry.specs.Need.{usable_words}
 use Rattle.packed_words.specs.declared.shelf.ShelfWord.TheVariants as lies
 use Rattle.packed_words.specs.Prefix.{prefix_of}
 use Rattle.packed_words.specs.Shelf.{shelf_of, shelf_word}
 use Rattle.packed_words.proofs.ShelfLemmas.{shelf-exact}
-use Rattle.word_plan.specs.declared.name.WordName.TheVariants as name
-use Rattle.large_parts.specs.declared.point.LargePoint.{LargePoint}
+use Rattle.word_table.specs.declared.name.WordName.TheVariants as name
+use Rattle.word_table.specs.declared.onward.Onward.TheVariants.{Stays}
+use Rattle.large_parts.specs.declared.exit.LargeExit.TheVariants as exit
 use Rattle.large_parts.specs.declared.point.LargePoint.TheVariants as large
 use Rattle.large_parts.specs.Points.{first_wanted, after_take, payload_name}
 use Rattle.large_parts.specs.Runs.{WantFields, RunFields}
-use Rattle.pool_model.specs.declared.event.Event.{Event}
 use Rattle.pool_model.specs.declared.event.Event.TheVariants.{Refuse, Free, Write, Put, Take, TakeNone}
 use Rattle.pool_model.specs.declared.owner.Owner.TheVariants.{Caller, Shelf}
-use Rattle.pool_model.specs.Legal.{IsEmptyShelf, IsLegalEventWithoutCounts, IsLegalWithoutCounts}
-use Rattle.pool_model.specs.Pool.{block_at, handed_to, pool_of}
+use Rattle.pool_model.specs.Legal.{IsEmptyShelf, IsLegalEventWithoutCounts}
+use Rattle.pool_model.specs.Pool.{handed_to}
 use Rattle.pool_model.specs.WellFormed.{IsPlaceFor, IsWellFormed}
 use Rattle.pool_model.proofs.HistoryLemmas.{EachAfter-last}
-use Rattle.pool_model.proofs.PoolLemmas.{every-each, place-found}
-use Rattle.pool_model.proofs.WellFormedLemmas.{found-itself, sound-differ, sound-of}
-use Rattle.errand_steps.specs.declared.continuation.Continuation.{Continuation}
+use Rattle.pool_model.proofs.PoolLemmas.{every-each}
+use Rattle.pool_model.proofs.WellFormedLemmas.{found-itself, sound-differ}
 use Rattle.errand_steps.specs.declared.continuation.Continuation.TheVariants as continuation
-use Rattle.errand_steps.specs.declared.point.Point.{Point}
-use Rattle.errand_steps.specs.declared.point.Point.TheVariants.{Large}
-use Rattle.errand_steps.specs.declared.reply.Reply.{Reply}
 use Rattle.errand_steps.specs.declared.reply.Reply.TheVariants as reply
-use Rattle.errand_steps.specs.Events.{event_of, run_event}
-use Rattle.errand_steps.specs.Nexts.{next_of}
+use Rattle.errand_steps.specs.Events.{run_event}
 use Rattle.errand_steps.specs.Continuations.{IsRunFor}
-use Rattle.errand_steps.specs.Points.{plan_point_of, asked as asked_by}
-use Rattle.errand_steps.specs.Steps.{State, Step, event_at, with_event}
-use Rattle.sound_state.specs.Answers.{continuation_at, ShelfHolds, ShelfIsEmpty, IsFreed, IsMeant, Takes}
-use Rattle.sound_state.specs.Holdings.{holds_of}
-use Rattle.sound_state.specs.Recalls.{IsOwned, owns, owns_all, recalls_of}
-use Rattle.sound_state.specs.Sound.{IsSoundWithoutCounts}
-use Rattle.sound_state.specs.Ties.{IsLive}
+use Rattle.errand_steps.specs.Points.{asked as asked_by}
+use Rattle.errand_steps.specs.Steps.{event_at}
+use Rattle.sound_state.specs.Answers.{continuation_at, ShelfHolds, ShelfIsEmpty, IsFreed, IsMeant, IsAboutToTake}
+use Rattle.sound_state.specs.Recalls.{owns, owns_all}
 use Rattle.sound_state.proofs.answers.AnswerCourses.{EndsBy}
-use Rattle.sound_state.proofs.answers.AnswerPoints.{either-ends, take-ends, prefix-goes-on, shelf-goes-on}
+use Rattle.sound_state.proofs.answers.AnswerPoints.{either-ends, either-left, take-ends, prefix-goes-on, shelf-goes-on}
 use Rattle.sound_state.proofs.EveryStep.{steps-sound}
 use Rattle.sound_state.proofs.large.TouchShelves.{changes-from}
 use Rattle.sound_state.proofs.quiet.QuietLinks.{written-at}
@@ -196,7 +188,7 @@ module _
 
   -- the shelf's word is another one
   missed-meant :
-      (k saw : ℕ) (p : LargePoint) (o : Continuation) → k < SHELVES → (s.errand caller).point ≡ Large p o → Takes s caller k saw
+      (k saw : ℕ) (p : LargePoint) (o : Continuation) → k < SHELVES → (s.errand caller).point ≡ Large p o → IsAboutToTake s caller k saw
       → event_of caller (Large p o) (found_from s (Large p o)) ≡ None → (s.word (name.Shelf k) == saw) ≡ false
       → IsMeant g s caller (reply.Missed saw (s.word (name.Shelf k))) after
   missed-meant k saw p o in_heap stands takes none lost =
@@ -220,7 +212,7 @@ module _
   large-meant (large.LoadUnits w) o r stands ends = absurd ends
   large-meant (large.TakeRun w bits) o r stands ends =
       let e = s.errand caller in
-      elim (either-ends e (s.word name.Units == bits) (after_take w (first_wanted w bits)) (large.LoadUnits w) o r ends) [
+      elim (either-ends e (s.word name.Units == bits) (after_take w (first_wanted w bits)) (Stays (large.LoadUnits w)) o r ends) [
         | inl won ↦
             let none = take-ends e w o (first_wanted w bits) r won.1 in
             answered reply.Refused r none.1 (no_run-meant w bits o stands won.0 none.0)
@@ -237,7 +229,7 @@ module _
       answered (reply.Word (s.word (payload_name place i))) r ends (read-meant place i o stands)
   large-meant (large.PutBlock k place n) o r stands ends =
       let w = s.word (name.Shelf k) in
-      elim (either-ends (s.errand caller) (w == shelf_word lies.Nothing) large.PutDone (large.ShelfFull w) o r ends) [
+      elim (either-left (s.errand caller) (w == shelf_word lies.Nothing) exit.PutDone (exit.ShelfFull w) o r ends) [
         | inl won ↦
             answered reply.Put r won.1
             (place, k, n, ((o, stands), event-told (Large (large.PutBlock k place n) o) (Some (Put caller place k)) stands (rw (won.0) refl)))
@@ -249,7 +241,7 @@ module _
       let w = s.word (name.Shelf k) in
       let saw = shelf_word (lies.Block place n) in
       let fits = fits-now g s caller (Large p o) sound has stands in
-      elim (either-ends (s.errand caller) (w == saw) (large.Got place n) (large.Missed saw w) o r ends) [
+      elim (either-left (s.errand caller) (w == saw) (exit.Got place n) (exit.Missed saw w) o r ends) [
         | inl won ↦ answered (reply.Got place n) r won.1 (got-meant k place n o stands won.0)
         | inr lost ↦
             answered (reply.Missed saw w) r lost.1
@@ -260,8 +252,7 @@ module _
       let w = s.word (name.Shelf k) in
       let saw = shelf_word lies.Nothing in
       let fits = fits-now g s caller (Large p o) sound has stands in
-      elim (either-ends (s.errand caller) (w == saw) large.NothingThere (large.Missed saw w) o r ends) [
+      elim (either-left (s.errand caller) (w == saw) exit.NothingThere (exit.Missed saw w) o r ends) [
         | inl won ↦ answered reply.Empty r won.1 (k, ((o, stands), event-told (Large p o) (Some (TakeNone caller k)) stands (rw (won.0) refl)))
         | inr lost ↦ answered (reply.Missed saw w) r lost.1 (missed-meant k saw p o fits.point stands (inr ((o, stands), refl)) (rw (lost.0) refl) lost.0)
       ]
-  large-meant p o r stands ends = absurd (cc ((fits-now g s caller (Large p o) sound has stands).inside))

@@ -1,42 +1,21 @@
 -- What the answers mean, at every point.
-use Rattle.std.proofs.Common.{ℕ, true, false, Some, [], ◌∷◌, ◌++◌, ◌≡◌, ◌<◌, refl, arith, ap, sym, subst, inl, ◌∙◌}
-use Rattle.std.specs.Prelude.{◌==◌}
+use Rattle.std.proofs.Common.{ℕ, true, false, Some, [], ◌∷◌, ◌++◌, ◌≡◌, ◌<◌, refl, arith, ap, sym, subst, inl, ◌∙◌, ◌==◌}
 use Rattle.std.proofs.lemmas.Bool.{eqb-true}
-use Rattle.heap_geometry.specs.declared.geometry.Geometry.{Geometry}
-use Rattle.heap_geometry.specs.declared.need.Need.TheVariants.{Small}
-use Rattle.heap_geometry.specs.Place.{block_place}
-use Rattle.packed_words.specs.Head.{HeadFields}
-use Rattle.word_plan.specs.declared.name.WordName.TheVariants as name
-use Rattle.word_plan.specs.declared.seat.Site.{Site}
-use Rattle.word_plan.specs.Seats.{SeatFields}
-use Rattle.superblock_parts.specs.declared.point.BlockPoint.{BlockPoint}
+use Rattle.sound_state.proofs.Common.{Geometry, Small, block_place, HeadFields, Site, SeatFields, BlockPoint, Pile, Frames, Partials, StackPoint, DescPoint, own}
+use Rattle.sound_state.proofs.Common.{Next, Continuation, Point, Idle, Block, Stack, Desc, Partial, Large, Reply, ErrandFields, raised, settle_of, event_of, next_of}
+use Rattle.sound_state.proofs.Common.{asked, plan_point_of, State, Step, found_at, with_event, holds_of, IsOwned, looked, recalls_of, IsSoundWithoutCounts}
+use Rattle.word_table.specs.declared.name.WordName.TheVariants as name
 use Rattle.superblock_parts.specs.declared.point.BlockPoint.TheVariants as block
-use Rattle.stack_parts.specs.declared.point.Pile.{Pile}
-use Rattle.stack_parts.specs.declared.point.Pile.TheVariants.{Frames, Partials}
-use Rattle.stack_parts.specs.declared.point.StackPoint.{StackPoint}
 use Rattle.stack_parts.specs.declared.point.StackPoint.TheVariants as stack
-use Rattle.hazard_parts.specs.declared.point.DescPoint.{DescPoint}
 use Rattle.hazard_parts.specs.declared.point.DescPoint.TheVariants as desc
 use Rattle.pool_model.specs.declared.event.Event.TheVariants.{Refuse}
-use Rattle.pool_model.specs.Histories.{own}
-use Rattle.errand_steps.specs.declared.next.Next.{Next}
-use Rattle.errand_steps.specs.declared.continuation.Continuation.{Continuation}
 use Rattle.errand_steps.specs.declared.continuation.Continuation.TheVariants as continuation
-use Rattle.errand_steps.specs.declared.point.Point.{Point}
-use Rattle.errand_steps.specs.declared.point.Point.TheVariants.{Idle, Block, Stack, Desc, Partial, Large}
 use Rattle.errand_steps.specs.declared.reply.Progress.TheVariants.{Done}
-use Rattle.errand_steps.specs.declared.reply.Reply.{Reply}
 use Rattle.errand_steps.specs.declared.reply.Reply.TheVariants as reply
-use Rattle.errand_steps.specs.Errands.{ErrandFields, after_list, answer_of, begins_turn, is_spent, raised, settle_of}
-use Rattle.errand_steps.specs.Events.{event_of}
-use Rattle.errand_steps.specs.Nexts.{next_of}
+use Rattle.errand_steps.specs.Errands.{after_list, answer_of, begins_turn, is_spent}
 use Rattle.errand_steps.specs.Fits.{FitsContinuation}
-use Rattle.errand_steps.specs.Points.{asked, plan_point_of}
-use Rattle.errand_steps.specs.Steps.{State, Step, found_at, with_event}
 use Rattle.sound_state.specs.Answers.{IsMeant, continuation_at}
-use Rattle.sound_state.specs.Holdings.{holds_of}
-use Rattle.sound_state.specs.Recalls.{EndsRefused, IsOwned, looked, refused, recalls_of}
-use Rattle.sound_state.specs.Sound.{IsSoundWithoutCounts}
+use Rattle.sound_state.specs.Recalls.{EndsRefused, refused}
 use Rattle.sound_state.proofs.answers.AnswerCourses.{IsResumed, EndsBy, answer-ends}
 use Rattle.sound_state.proofs.answers.AnswerPoints.{block-ends, stack-ends, desc-ends, partial-ends}
 use Rattle.sound_state.proofs.answers.LargeAnswers.{answered, event-told, freed-meant, large-meant, owned-after, past-stays}
@@ -100,8 +79,7 @@ module _
   block-meant (block.StorePrefix at i) o r is ends =
       answered g s caller after sound has step (reply.Given (block_place at.frame at.seat.class i) (Small at.seat.class)) r ends (given-meant at i o is)
   block-meant p o r stands ends =
-      let fits = fits-now g s caller (Block p o) sound has stands in
-      freed-answers r (block-ends (s.errand caller) p o (found_from s (Block p o)) r fits.inside ends)
+      freed-answers r (block-ends (s.errand caller) p o (found_from s (Block p o)) r ends)
 
   -- a small need is refused
   confirm-meant :
@@ -112,7 +90,7 @@ module _
   confirm-meant seat Frames h (continuation.TakeFrame words d) r stands ends =
       let p = Stack (stack.ConfirmEmpty seat Frames h) (continuation.TakeFrame words d) in
       let fits = fits-now g s caller p sound has stands in
-      let won = stack-ends (s.errand caller) (stack.ConfirmEmpty seat Frames h) (continuation.TakeFrame words d) (found_from s p) r refl ends in
+      let won = stack-ends (s.errand caller) (stack.ConfirmEmpty seat Frames h) (continuation.TakeFrame words d) (found_from s p) r ends in
       let told = event-told g s caller after sound has step p (Some (Refuse caller words)) stands (rw (won.0) refl) in
       let grown : after.history ≡ s.history ++ Refuse caller words ∷ [] = step.history ∙ ap (with_event s.history) told in
       let ended =
@@ -121,7 +99,7 @@ module _
       answered g s caller after sound has step reply.Refused r won.1 (inl (seat.class, subst (λ past. EndsRefused (own caller past) caller seat.class) (sym grown) ended))
   confirm-meant seat Partials h (continuation.Alloc words) r stands ends =
       let p = stack.ConfirmEmpty seat Partials h in
-      absurd (stack-ends (s.errand caller) p (continuation.Alloc words) (found_from s (Stack p (continuation.Alloc words))) r refl ends)
+      absurd (stack-ends (s.errand caller) p (continuation.Alloc words) (found_from s (Stack p (continuation.Alloc words))) r ends)
   confirm-meant seat pile h o r stands ends =
       let bad : ⊥ = cc ((fits-now g s caller (Stack (stack.ConfirmEmpty seat pile h) o) sound has stands).goes) in absurd bad
 
@@ -132,11 +110,10 @@ module _
   stack-meant (stack.ConfirmEmpty seat pile h) o r stands ends = confirm-meant seat pile h o r stands ends
   stack-meant (stack.PushTop seat pile i h) (continuation.Discard words d) r stands ends =
       let p = stack.PushTop seat pile i h in
-      let spent = stack-ends (s.errand caller) p (continuation.Discard words d) (found_from s (Stack p (continuation.Discard words d))) r refl ends in
+      let spent = stack-ends (s.errand caller) p (continuation.Discard words d) (found_from s (Stack p (continuation.Discard words d))) r ends in
       answered g s caller after sound has step reply.Spent r spent.1 (spent-meant spent.0)
   stack-meant p o r stands ends =
-      let fits = fits-now g s caller (Stack p o) sound has stands in
-      freed-answers r (stack-ends (s.errand caller) p o (found_from s (Stack p o)) r fits.inside ends)
+      freed-answers r (stack-ends (s.errand caller) p o (found_from s (Stack p o)) r ends)
 
   -- behind the push of a retired descriptor
   push-meant :
@@ -159,11 +136,10 @@ module _
   unfolding plan_point_of next_of
   desc-meant (desc.PushDesc seat d top) o r stands ends =
       let p = desc.PushDesc seat d top in
-      let pushed = desc-ends (s.errand caller) p o (found_from s (Desc p o)) r refl ends in
+      let pushed = desc-ends (s.errand caller) p o (found_from s (Desc p o)) r ends in
       push-meant seat d top o r stands pushed.0 pushed.1
   desc-meant p o r stands ends =
-      let fits = fits-now g s caller (Desc p o) sound has stands in
-      freed-answers r (desc-ends (s.errand caller) p o (found_from s (Desc p o)) r fits.inside ends)
+      freed-answers r (desc-ends (s.errand caller) p o (found_from s (Desc p o)) r ends)
 
   point-meant :
       (p : Point) (r : Reply) → (s.errand caller).point ≡ p → EndsBy (s.errand caller) (next_of p (found_from s p)) r
@@ -175,7 +151,7 @@ module _
   point-meant (Desc p o) r stands ends = desc-meant p o r stands ends
   point-meant (Partial p o) r stands ends =
       let fits = fits-now g s caller (Partial p o) sound has stands in
-      freed-answers r (partial-ends (s.errand caller) p o (found_from s (Partial p o)) r fits.inside fits.goes ends)
+      freed-answers r (partial-ends (s.errand caller) p o (found_from s (Partial p o)) r fits.goes ends)
   point-meant (Large p o) r stands ends = large-meant g s caller after sound has step p o r stands ends
 
 pub answers-meant :

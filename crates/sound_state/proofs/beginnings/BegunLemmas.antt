@@ -1,39 +1,27 @@
 -- A call that begins keeps the state sound.
-use Rattle.std.proofs.Common.{ℕ, false, None, ◌≡◌, ◌<◌, ◌≤◌, ◌+◌, List, [], ◌∷◌, refl, arith, sym, subst, inl, inr, ◌∙◌, ◌^◌}
+use Rattle.std.proofs.Common.{ℕ, false, None, ◌≡◌, ◌<◌, ◌≤◌, ◌+◌, List, [], ◌∷◌, refl, arith, sym, subst, inl, inr, ◌∙◌, ◌^◌, All, length, count_by}
 use Rattle.std.proofs.Math.Path.{fun_ext}
-use Rattle.std.specs.Prelude.{All, length, count_by}
 use Rattle.std.proofs.lemmas.Bool.{cases_eq, cases_Bool, cond-true, cond-false}
 use Rattle.std.proofs.lemmas.List.Elements.{All-nil, All-cons}
 use Rattle.std.proofs.lemmas.Option.{none-some}
-use Rattle.heap_geometry.specs.declared.geometry.Geometry.{Geometry}
+use Rattle.sound_state.proofs.Common.{Geometry, Need, Small, need_of, block_place, frame_of, pool_of, place-found, sound-of, WordName, Writes, Point, Idle}
+use Rattle.sound_state.proofs.Common.{ErrandFields, spare_of, pushed_by, State, Moves, IsGuard, IsHazard, passed_by, held_by, Holding, holds_of, IsKeptAs, IsWithout}
+use Rattle.sound_state.proofs.Common.{Lists, IsSo, IsOwned, recalls_of, IsSoundWith, IsOwnErrand, IsSoundWithoutCounts, turn_stage_of, in_turn, is_unneeded}
+use Rattle.sound_state.proofs.Common.{waits_in, gives_small, refuses_small, one_if, pops_left}
 use Rattle.heap_geometry.specs.declared.limits.TheConstants.{SHELVES}
-use Rattle.heap_geometry.specs.declared.need.Need.{Need}
-use Rattle.heap_geometry.specs.declared.need.Need.TheVariants.{Small, Large, TooLarge}
-use Rattle.heap_geometry.specs.Need.{need_of, usable_words}
-use Rattle.heap_geometry.specs.Place.{block_place, frame_of, index_of}
+use Rattle.heap_geometry.specs.declared.need.Need.TheVariants.{Large, TooLarge}
+use Rattle.heap_geometry.specs.Need.{usable_words}
+use Rattle.heap_geometry.specs.Place.{index_of}
 use Rattle.heap_geometry.proofs.PlaceLemmas.{block_place-split}
-use Rattle.pool_model.specs.Pool.{pool_of}
 use Rattle.pool_model.specs.WellFormed.{IsWellFormed}
-use Rattle.pool_model.proofs.PoolLemmas.{every-each, place-found}
-use Rattle.pool_model.proofs.WellFormedLemmas.{sound-of}
-use Rattle.word_plan.specs.declared.name.WordName.{WordName}
-use Rattle.word_plan.specs.declared.name.WordName.TheVariants as name
-use Rattle.word_plan.specs.Words.{Writes}
-use Rattle.errand_steps.specs.declared.point.Point.{Point}
-use Rattle.errand_steps.specs.declared.point.Point.TheVariants.{Idle}
+use Rattle.pool_model.proofs.PoolLemmas.{every-each}
+use Rattle.word_table.specs.declared.name.WordName.TheVariants as name
 use Rattle.errand_steps.specs.Begins.{IsIdle, IsHeapBlock, begins_alloc, alloc_begun, free_begun, write_begun, read_begun, put_begun, take_begun}
-use Rattle.errand_steps.specs.Errands.{ErrandFields, IsErrand, is_spent, one_more}
-use Rattle.errand_steps.specs.Fits.{spare_of, pushed_by}
-use Rattle.errand_steps.specs.Steps.{State, Moves}
-use Rattle.sound_state.specs.Guards.{IsGuard, IsHazard, passed_by, held_by}
-use Rattle.sound_state.specs.Holdings.{Holding, Freed, nothing, holds_of}
-use Rattle.sound_state.specs.Keepers.{IsKeptAs, IsWithout}
-use Rattle.sound_state.specs.Lists.{Lists}
-use Rattle.sound_state.specs.Recalls.{IsSo, IsOwned, recalls_of}
-use Rattle.sound_state.specs.Sound.{IsSoundWith, IsOwnErrand, IsSoundWithoutCounts, with_errands}
-use Rattle.sound_state.specs.TurnStages.{turn_stage_of, in_turn, lacks_frame, lacks_partial, lacks_answer, is_unneeded, out_of_turn}
-use Rattle.sound_state.specs.Stock.{waits_in}
-use Rattle.sound_state.specs.Turns.{gives_small, refuses_small, turn_open, turn_unanswered, errand_discards, one_if, pops_left}
+use Rattle.errand_steps.specs.Errands.{IsErrand, is_spent, one_more}
+use Rattle.sound_state.specs.Holdings.{Freed, nothing}
+use Rattle.sound_state.specs.Sound.{with_errands}
+use Rattle.sound_state.specs.TurnStages.{lacks_frame, lacks_partial, lacks_answer, out_of_turn}
+use Rattle.sound_state.specs.Turns.{turn_open, turn_unanswered, errand_discards}
 use Rattle.errand_steps.proofs.BegunErrands.{idle-is, alloc-errand, free-errand, write-errand, read-errand, put-errand, take-errand}
 use Rattle.sound_state.proofs.shared.AlikeLemmas.{sound-alike}
 use Rattle.sound_state.proofs.shared.ShownLemmas.{MayGoOn, MayGuard}

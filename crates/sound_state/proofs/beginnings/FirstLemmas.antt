@@ -7,46 +7,28 @@ use Rattle.std.proofs.lemmas.List.Elements.{All-nil}
 use Rattle.std.proofs.lemmas.Nat.{pow_pos}
 use Rattle.std.proofs.lemmas.Option.{none-some}
 use Rattle.std.proofs.lemmas.List.{length-append}
-use Rattle.heap_geometry.specs.declared.geometry.Geometry.{Geometry}
-use Rattle.heap_geometry.specs.declared.limits.TheConstants.{CLASSES}
-use Rattle.heap_geometry.specs.Geometry.{IsChecked}
+use Rattle.sound_state.proofs.Common.{Geometry, CLASSES, IsChecked, Held, active_of, anchor_of, head_of, info_of, WordName, descriptor_count, info_in, occurs}
+use Rattle.sound_state.proofs.Common.{Frames, Partials, Stacked, next_in, Event, block_at, pool_of, spare_of, ErrandFields, State, IsFramed, errand_frames}
+use Rattle.sound_state.proofs.Common.{fills_frame, IsGuarded, IsGuard, IsHazard, held_by, waiting, holds_of, IsKept, IsPartlyUsed, IsWithout, IsKeptAs, word_keeps}
+use Rattle.sound_state.proofs.Common.{errand_has, full_keeps, Lists, IsListed, IsSo, IsOwned, recalls_of, IsSoundWith, IsOwnErrand, word_stock, errand_stock}
+use Rattle.sound_state.proofs.Common.{full_stock, sum_below, words_sum, callers_sum, AreChained, IsChained, anchor_for, info_for, superblock_of, is_bound, away_of}
+use Rattle.sound_state.proofs.Common.{errand_away, errand_reserves, waiting_of, errand_keeps, IsTied, IsLive, IsTurned, emptied_out, gives_small, refuses_small}
 use Rattle.heap_geometry.specs.Place.{unit_place}
-use Rattle.packed_words.specs.declared.active.ActiveWord.TheVariants.{Held}
-use Rattle.packed_words.specs.declared.anchor.State.TheVariants as phase
-use Rattle.packed_words.specs.Active.{active_of}
-use Rattle.packed_words.specs.Anchor.{anchor_of}
+use Rattle.packed_words.specs.declared.anchor.AnchorState.TheVariants as phase
 use Rattle.packed_words.specs.declared.widths.TheConstants.{TOP_BITS, HEAD_TAG_BITS}
 use Rattle.packed_words.specs.Fields.{bits_at}
-use Rattle.packed_words.specs.Head.{head_of}
-use Rattle.packed_words.specs.Info.{info_of}
-use Rattle.word_plan.specs.declared.limits.TheConstants.{MAX_DESCRIPTORS}
-use Rattle.word_plan.specs.declared.name.WordName.{WordName}
-use Rattle.word_plan.specs.declared.name.WordName.TheVariants as name
-use Rattle.word_plan.specs.Counts.{descriptor_count}
-use Rattle.word_plan.specs.Seats.{info_in, info_within}
-use Rattle.word_plan.specs.Table.{exists}
-use Rattle.word_plan.specs.Occurs.{occurs}
-use Rattle.stack_parts.specs.declared.point.Pile.TheVariants.{Frames, Partials}
-use Rattle.stack_parts.specs.Stacks.{Stacked, next_in}
-use Rattle.pool_model.specs.declared.event.Event.{Event}
+use Rattle.word_table.specs.declared.limits.TheConstants.{MAX_DESCRIPTORS}
+use Rattle.word_table.specs.declared.name.WordName.TheVariants as name
+use Rattle.word_table.specs.Seats.{info_within}
+use Rattle.word_table.specs.Table.{exists}
 use Rattle.pool_model.specs.Histories.{EachAfter}
-use Rattle.pool_model.specs.Pool.{Block, block_at, pool_of}
-use Rattle.errand_steps.specs.Fits.{spare_of}
-use Rattle.errand_steps.specs.Errands.{ErrandFields, open_errand}
+use Rattle.pool_model.specs.Pool.{Block}
+use Rattle.errand_steps.specs.Errands.{open_errand}
 use Rattle.errand_steps.specs.Openings.{next_index, IsOpening}
-use Rattle.errand_steps.specs.Steps.{State}
-use Rattle.sound_state.specs.Frames.{IsFramed, errand_frames, fills_frame}
-use Rattle.sound_state.specs.Guards.{IsGuarded, Guards, IsGuard, IsHazard, held_by}
-use Rattle.sound_state.specs.Holdings.{waiting, holds_of}
-use Rattle.sound_state.specs.Keepers.{IsKept, IsPartlyUsed, IsWithout, IsKeptAs, word_keeps, errand_has, full_keeps}
-use Rattle.sound_state.specs.Lists.{Lists, IsListed}
-use Rattle.sound_state.specs.Recalls.{IsRemembered, IsSo, IsOwned, recalls_of}
-use Rattle.sound_state.specs.Sound.{IsSoundWith, IsOwnErrand}
-use Rattle.sound_state.specs.Stock.{IsStocked, word_stock, errand_stock, full_stock}
-use Rattle.sound_state.specs.Sums.{sum_below, words_sum, callers_sum}
-use Rattle.sound_state.specs.Superblocks.{AreChained, IsChained, anchor_for, info_for, superblock_of, is_bound, away_of, errand_away, errand_reserves, waiting_of, errand_keeps}
-use Rattle.sound_state.specs.Ties.{IsTied, IsLive}
-use Rattle.sound_state.specs.Turns.{IsTurned, turn_open, turn_unframed, turn_unlisted, errand_pops, cleared_of, emptied_out, gives_small, refuses_small, errand_discards, turn_unanswered}
+use Rattle.sound_state.specs.Guards.{Guards}
+use Rattle.sound_state.specs.Recalls.{IsRemembered}
+use Rattle.sound_state.specs.Stock.{IsStocked}
+use Rattle.sound_state.specs.Turns.{turn_open, turn_unframed, turn_unlisted, errand_pops, cleared_of, errand_discards, turn_unanswered}
 use Rattle.sound_state.proofs.beginnings.OpeningLists.{indexes, indexes-below, indexes-before, indexes-once, indexes-stacked, top_from}
 use Rattle.sound_state.proofs.shared.SumLemmas.{sum-none, callers-none}
 use Rattle.sound_state.proofs.shared.WordFacts.{shelf-nothing}

@@ -2,40 +2,30 @@
 use Rattle.std.proofs.Common.{ℕ, zero, suc, true, ◌≡◌, ◌≢◌, ◌<◌, ◌≤◌, ◌+◌, ◌^◌, Some, refl, arith, ap, sym, subst, ◌∙◌, inl, inr}
 use Rattle.std.specs.Prelude.{◌-◌, ◌==◌, ◌&&◌, if◌then◌else◌, IsSome, is_some, nat_lt}
 use Rattle.std.proofs.lemmas.Bool.{cond_both, cond-true, cond-false, lt-ltb, ltb-true, eq-eqb, eqb-true, and_parts, and_from, cases_Bool}
-use Rattle.heap_geometry.specs.declared.geometry.Geometry.{Geometry}
-use Rattle.heap_geometry.specs.declared.limits.TheConstants.{CLASSES}
-use Rattle.heap_geometry.specs.Geometry.{IsChecked}
-use Rattle.heap_geometry.specs.Need.{block_count_of}
-use Rattle.heap_geometry.specs.Place.{block_place, index_of}
+use Rattle.sound_state.proofs.Common.{Geometry, CLASSES, IsChecked, block_count_of, block_place, Held, active_of, active_word, anchor_of, anchor_word, info_of}
+use Rattle.sound_state.proofs.Common.{link_of, WordName, descriptor_count, info_in, occurs, prefix_name, link_in, State, fills_frame, word_keeps, IsSound}
+use Rattle.sound_state.proofs.Common.{word_stock, sum_below, words_sum, Superblock, IsChained, superblock_of, free_chain, anchor_for, info_for, info_or_zero}
+use Rattle.sound_state.proofs.Common.{reserved_of, word_reserves, live_at, is_there}
+use Rattle.heap_geometry.specs.Place.{index_of}
 use Rattle.heap_geometry.proofs.PlaceLemmas.{index_of-block_place}
-use Rattle.packed_words.specs.declared.active.ActiveWord.TheVariants.{Held}
-use Rattle.packed_words.specs.declared.anchor.State.TheVariants as phase
+use Rattle.packed_words.specs.declared.anchor.AnchorState.TheVariants as phase
 use Rattle.packed_words.specs.declared.widths.TheConstants.{CREDIT_BITS}
-use Rattle.packed_words.specs.Active.{active_of, active_word}
-use Rattle.packed_words.specs.Anchor.{IsAnchor, anchor_of, anchor_word}
-use Rattle.packed_words.specs.Info.{InfoFields, info_of, info_word}
-use Rattle.packed_words.specs.Prefix.{link_of}
+use Rattle.packed_words.specs.Anchor.{IsAnchor}
+use Rattle.packed_words.specs.Info.{InfoFields, info_word}
 use Rattle.packed_words.proofs.ActiveLemmas.{active-exact}
 use Rattle.packed_words.proofs.AnchorLemmas.{anchor_word-below, anchor_of-anchor_word}
 use Rattle.packed_words.proofs.InfoLemmas.{info-exact}
-use Rattle.word_plan.specs.declared.name.WordName.{WordName}
-use Rattle.word_plan.specs.declared.name.WordName.TheVariants as name
-use Rattle.word_plan.specs.Counts.{arena_words, descriptor_count}
-use Rattle.word_plan.specs.Table.{exists}
-use Rattle.word_plan.specs.Seats.{info_in, info_within}
-use Rattle.word_plan.proofs.CountLemmas.{descriptor_count_within}
-use Rattle.word_plan.proofs.SeatLemmas.{block_place-within, block_count_of-least, block_count_of-most}
-use Rattle.word_plan.specs.Occurs.{occurs}
-use Rattle.superblock_parts.specs.Chains.{chain_of, prefix_name, link_in}
+use Rattle.word_table.specs.declared.name.WordName.TheVariants as name
+use Rattle.word_table.specs.Counts.{arena_words}
+use Rattle.word_table.specs.Table.{exists}
+use Rattle.word_table.specs.Seats.{info_within}
+use Rattle.word_table.proofs.CountLemmas.{descriptor_count_within}
+use Rattle.word_table.proofs.SeatLemmas.{block_place-within, block_count_of-least, block_count_of-most}
+use Rattle.superblock_parts.specs.Chains.{chain_of}
 use Rattle.pool_model.specs.Legal.{IsLegalEvent}
 use Rattle.errand_steps.specs.Openings.{installed, link_at, full_credits, full_anchor, IsOpening}
-use Rattle.errand_steps.specs.Steps.{State}
-use Rattle.sound_state.specs.Frames.{fills_frame}
-use Rattle.sound_state.specs.Keepers.{word_keeps, active_keeps}
-use Rattle.sound_state.specs.Sound.{IsSound}
-use Rattle.sound_state.specs.Stock.{word_stock}
-use Rattle.sound_state.specs.Sums.{sum_below, words_sum}
-use Rattle.sound_state.specs.Superblocks.{Superblock, IsChained, superblock_of, free_chain, anchor_for, info_for, info_or_zero, reserved_of, word_reserves, offered, live_at, is_there}
+use Rattle.sound_state.specs.Keepers.{active_keeps}
+use Rattle.sound_state.specs.Superblocks.{offered}
 use Rattle.sound_state.proofs.beginnings.FirstLemmas.{IsFirst, IsBegun, next-word, some-descriptors, info-some, info-zero, first_lists, zero-word, first-word, zero-state, zero-anchor_tag, first-here, first-state, first-waiting, first-reserved, first-live, first-kept, first-chained, first-fills, first-framed, first-stocked, first-history, first-sound}
 use Rattle.sound_state.proofs.shared.HolderLemmas.{IsHolderWeight, is_holder, holders-one, keeps-holder, reserves-holder, stock-holder, zero-active}
 use Rattle.sound_state.proofs.beginnings.OpeningLists.{indexes, indexes-before, indexes-once, indexes-end, indexes-chained}

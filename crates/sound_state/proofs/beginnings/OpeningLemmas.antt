@@ -1,23 +1,12 @@
 -- The opening state is sound.
-use Rattle.std.proofs.Common.{ℕ, true, ◌≡◌, ◌<◌, ◌^◌, refl, arith, ap}
-use Rattle.std.specs.Prelude.{◌-◌, is_some}
+use Rattle.std.proofs.Common.{ℕ, true, ◌≡◌, ◌<◌, ◌^◌, refl, arith, ap, ◌-◌, is_some}
 use Rattle.std.proofs.lemmas.Bool.{ltb-true}
-use Rattle.heap_geometry.specs.declared.geometry.Geometry.{Geometry}
-use Rattle.heap_geometry.specs.Geometry.{IsChecked}
-use Rattle.word_plan.specs.declared.name.WordName.{WordName}
-use Rattle.word_plan.specs.declared.name.WordName.TheVariants as name
-use Rattle.word_plan.specs.Counts.{descriptor_count}
-use Rattle.word_plan.specs.Table.{exists}
-use Rattle.word_plan.proofs.CountLemmas.{descriptor_count_within}
-use Rattle.word_plan.specs.Occurs.{occurs}
+use Rattle.sound_state.proofs.Common.{Geometry, IsChecked, WordName, descriptor_count, occurs, State, fills_frame, word_keeps, IsSound, word_stock, words_sum}
+use Rattle.word_table.specs.declared.name.WordName.TheVariants as name
+use Rattle.word_table.specs.Table.{exists}
+use Rattle.word_table.proofs.CountLemmas.{descriptor_count_within}
 use Rattle.pool_model.specs.Legal.{IsLegalEvent}
 use Rattle.errand_steps.specs.Openings.{opening, IsOpening}
-use Rattle.errand_steps.specs.Steps.{State}
-use Rattle.sound_state.specs.Frames.{fills_frame}
-use Rattle.sound_state.specs.Keepers.{word_keeps}
-use Rattle.sound_state.specs.Sound.{IsSound}
-use Rattle.sound_state.specs.Stock.{word_stock}
-use Rattle.sound_state.specs.Sums.{words_sum}
 use Rattle.sound_state.proofs.beginnings.FirstLemmas.{IsFirst, IsBegun, next-word, some-descriptors, info-zero, first_lists, zero-word, zero-state, zero-anchor_tag, first-kept, first-chained, first-fills, first-framed, first-stocked, first-history, first-sound}
 use Rattle.sound_state.proofs.shared.HolderLemmas.{IsHolderWeight, is_holder, holders-none, keeps-holder, stock-holder, zero-active}
 use Rattle.sound_state.proofs.beginnings.OpeningLists.{indexes, indexes-once}

@@ -1,6 +1,5 @@
 -- Numbers that rise are no more than the sum of what each of them weighs.
-use Rattle.std.proofs.Common.{ℕ, suc, ◌≡◌, ◌≢◌, ◌<◌, ◌≤◌, ◌+◌, List, [], ◌∷◌, length, get_or, refl, arith}
-use Rattle.std.specs.Prelude.{◌==◌, if◌then◌else◌, All}
+use Rattle.std.proofs.Common.{ℕ, suc, ◌≡◌, ◌≢◌, ◌<◌, ◌≤◌, ◌+◌, List, [], ◌∷◌, length, get_or, refl, arith, ◌==◌, if◌then◌else◌, All}
 use Rattle.std.specs.List.{AllPairs}
 use Rattle.std.proofs.lemmas.Bool.{cond-true, cond-false, eq-eqb, ne_eqb}
 use Rattle.std.proofs.lemmas.List.Kept.{AllPairs-from_increasing}

@@ -1,42 +1,23 @@
 -- A bare frame weighs something: it is in a caller's hand, or a block of it is reserved.
-use Rattle.std.proofs.Common.{ℕ, Bool, true, Option, Some, None, ◌≡◌, ◌<◌, ◌≤◌, ◌+◌, [], refl, sym, ◌∙◌, ap, subst, arith, inl, inr}
-use Rattle.std.specs.Prelude.{◌==◌, ◌&&◌, if◌then◌else◌, All}
+use Rattle.std.proofs.Common.{ℕ, Bool, true, Option, Some, None, ◌≡◌, ◌<◌, ◌≤◌, ◌+◌, [], refl, sym, ◌∙◌, ap, subst, arith, inl, inr, ◌==◌, ◌&&◌, if◌then◌else◌, All}
 use Rattle.std.proofs.lemmas.Bool.{cases_eq, cond-false, ne_eqb}
 use Rattle.std.proofs.lemmas.List.Elements.{All-head}
-use Rattle.heap_geometry.specs.declared.geometry.Geometry.{Geometry}
-use Rattle.heap_geometry.specs.declared.need.Need.{Need}
-use Rattle.heap_geometry.specs.declared.need.Need.TheVariants.{Small}
-use Rattle.heap_geometry.specs.Need.{block_count_of}
-use Rattle.heap_geometry.specs.Place.{block_place, frame_of}
-use Rattle.heap_geometry.proofs.PlaceLemmas.{frame_of-block_place}
-use Rattle.packed_words.specs.declared.active.ActiveWord.{ActiveWord}
-use Rattle.packed_words.specs.declared.active.ActiveWord.TheVariants.{Null, Held}
-use Rattle.packed_words.specs.Active.{active_of}
-use Rattle.word_plan.specs.declared.name.WordName.{WordName}
-use Rattle.word_plan.specs.declared.name.WordName.TheVariants as name
-use Rattle.word_plan.specs.declared.seat.Site.{Site}
-use Rattle.word_plan.specs.Counts.{descriptor_count}
-use Rattle.word_plan.specs.Occurs.{occurs}
-use Rattle.superblock_parts.specs.Anchors.{new_credits}
-use Rattle.superblock_parts.specs.declared.point.BlockPoint.{BlockPoint}
+use Rattle.sound_state.proofs.Common.{Geometry, Need, Small, block_count_of, block_place, frame_of, frame_of-block_place, ActiveWord, Null, Held, active_of}
+use Rattle.sound_state.proofs.Common.{WordName, Site, descriptor_count, occurs, new_credits, BlockPoint, Share, block_at, pool_of, place-found, Point, FitsPoint}
+use Rattle.sound_state.proofs.Common.{State, fills_frame, errand_frames, waiting, holds_before_pop, holds_of, Lists, IsSo, IsOwned, IsLocated, recalls_of}
+use Rattle.sound_state.proofs.Common.{bound_here, bound_at, IsSoundWith, sum_below, words_sum, callers_sum, Superblock, IsChained, superblock_of, free_chain}
+use Rattle.sound_state.proofs.Common.{live_at, is_there, info_for, is_bound, waiting_of, reserved_of, word_reserves, reserved_among, errand_reserves, kept_among}
+use Rattle.sound_state.proofs.Common.{errand_keeps}
+use Rattle.word_table.specs.declared.name.WordName.TheVariants as name
 use Rattle.superblock_parts.specs.declared.point.BlockPoint.TheVariants as block
-use Rattle.superblock_parts.specs.declared.point.Share.{Share}
-use Rattle.superblock_parts.specs.Fits.{FitsBlock}
+use Rattle.superblock_parts.specs.Points.{FitsBlock}
 use Rattle.superblock_parts.proofs.ChainLemmas.{chain_of-length}
-use Rattle.pool_model.specs.Pool.{Block, block_at, pool_of}
+use Rattle.pool_model.specs.Pool.{Block}
 use Rattle.pool_model.specs.Legal.{IsBare}
-use Rattle.pool_model.proofs.PoolLemmas.{place-found}
-use Rattle.errand_steps.specs.declared.point.Point.{Point}
 use Rattle.errand_steps.specs.declared.point.Point.TheVariants as point
-use Rattle.errand_steps.specs.Fits.{FitsPoint}
-use Rattle.errand_steps.specs.Steps.{State}
-use Rattle.sound_state.specs.Frames.{fills_frame, errand_frames}
-use Rattle.sound_state.specs.Holdings.{waiting, keep, reserve, holds_before_pop, block_handed, holds_of, block_holds}
-use Rattle.sound_state.specs.Lists.{Lists}
-use Rattle.sound_state.specs.Recalls.{IsSo, IsOwned, IsLocated, recalls_of, block_recalls, bound_here, bound_at}
-use Rattle.sound_state.specs.Sound.{IsSoundWith}
-use Rattle.sound_state.specs.Sums.{sum_below, words_sum, callers_sum}
-use Rattle.sound_state.specs.Superblocks.{Superblock, IsChained, superblock_of, free_chain, live_at, is_there, info_for, is_bound, waiting_of, reserved_of, offered, word_reserves, reserved_among, errand_reserves, kept_among, errand_keeps}
+use Rattle.sound_state.specs.Holdings.{keep, reserve, block_handed, block_holds}
+use Rattle.sound_state.specs.Recalls.{block_recalls}
+use Rattle.sound_state.specs.Superblocks.{offered}
 use Rattle.sound_state.proofs.counts.BareWeights.{popping, popping_block, popping_fills, errand_weighs, held_fills, word_weighs, frame_weighs}
 use Rattle.sound_state.proofs.shared.PointLemmas.{fits-at}
 use Rattle.sound_state.proofs.shared.WeightSums.{words-some, callers-least}

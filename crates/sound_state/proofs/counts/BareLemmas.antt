@@ -1,14 +1,7 @@
 -- A refusal finds few bare frames.
-use Rattle.std.proofs.Common.{ℕ, ◌≡◌, ◌<◌, ◌+◌, ◌*◌, []}
-use Rattle.std.specs.Prelude.{◌-◌}
-use Rattle.heap_geometry.specs.declared.geometry.Geometry.{Geometry}
-use Rattle.heap_geometry.specs.declared.limits.TheConstants.{CLASSES}
+use Rattle.std.proofs.Common.{ℕ, ◌≡◌, ◌<◌, ◌+◌, ◌*◌, [], ◌-◌}
+use Rattle.sound_state.proofs.Common.{Geometry, CLASSES, pool_of, State, holds_of, Lists, IsSoundWith}
 use Rattle.pool_model.specs.Legal.{IsBare, IsCrowded}
-use Rattle.pool_model.specs.Pool.{pool_of}
-use Rattle.errand_steps.specs.Steps.{State}
-use Rattle.sound_state.specs.Holdings.{holds_of}
-use Rattle.sound_state.specs.Lists.{Lists}
-use Rattle.sound_state.specs.Sound.{IsSoundWith}
 use Rattle.sound_state.proofs.counts.AtMostLemmas.{at_most-sum}
 use Rattle.sound_state.proofs.counts.BareFrames.{bare-weighs}
 use Rattle.sound_state.proofs.counts.BareWeights.{frame_weighs, frames-weigh}

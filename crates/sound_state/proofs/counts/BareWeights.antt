@@ -1,29 +1,13 @@
 -- What a frame weighs: the callers that have it in their hands or are about to pop a block of it, and the active words that offer blocks of it.
-use Rattle.std.proofs.Common.{ℕ, Bool, Option, Some, None, ◌≡◌, ◌<◌, ◌≤◌, ◌+◌, ◌*◌, [], length, refl, ap, arith}
-use Rattle.std.specs.Prelude.{◌==◌, ◌&&◌, ◌-◌, if◌then◌else◌}
+use Rattle.std.proofs.Common.{ℕ, Bool, Option, Some, None, ◌≡◌, ◌<◌, ◌≤◌, ◌+◌, ◌*◌, [], length, refl, ap, arith, ◌==◌, ◌&&◌, ◌-◌, if◌then◌else◌}
 use Rattle.std.proofs.lemmas.Bool.{cond-true, eq-eqb}
-use Rattle.heap_geometry.specs.declared.geometry.Geometry.{Geometry}
-use Rattle.heap_geometry.specs.declared.limits.TheConstants.{CLASSES}
-use Rattle.packed_words.specs.declared.active.ActiveWord.{ActiveWord}
-use Rattle.packed_words.specs.declared.active.ActiveWord.TheVariants.{Null, Held}
-use Rattle.packed_words.specs.Active.{active_of}
-use Rattle.word_plan.specs.declared.name.WordName.{WordName}
-use Rattle.word_plan.specs.declared.name.WordName.TheVariants as name
-use Rattle.word_plan.specs.Counts.{word_count}
-use Rattle.word_plan.specs.Table.{Exists, word_name}
-use Rattle.word_plan.proofs.TableLemmas.{word_name-Exists}
-use Rattle.word_plan.specs.Occurs.{occurs}
-use Rattle.superblock_parts.specs.declared.point.BlockPoint.{BlockPoint}
+use Rattle.sound_state.proofs.Common.{Geometry, CLASSES, ActiveWord, Null, Held, active_of, WordName, word_count, Exists, word_name, occurs, BlockPoint, Point}
+use Rattle.sound_state.proofs.Common.{ErrandFields, State, fills_frame, errand_frames, holds_of, Lists, sum_below, words_sum, callers_sum, info_for, is_bound}
+use Rattle.sound_state.proofs.Common.{waiting_of}
+use Rattle.word_table.specs.declared.name.WordName.TheVariants as name
+use Rattle.word_table.proofs.TableLemmas.{word_name-Exists}
 use Rattle.superblock_parts.specs.declared.point.BlockPoint.TheVariants as block
-use Rattle.errand_steps.specs.declared.point.Point.{Point}
 use Rattle.errand_steps.specs.declared.point.Point.TheVariants as point
-use Rattle.errand_steps.specs.Errands.{ErrandFields}
-use Rattle.errand_steps.specs.Steps.{State}
-use Rattle.sound_state.specs.Frames.{fills_frame, errand_frames}
-use Rattle.sound_state.specs.Holdings.{holds_of}
-use Rattle.sound_state.specs.Lists.{Lists}
-use Rattle.sound_state.specs.Sums.{sum_below, words_sum, callers_sum}
-use Rattle.sound_state.specs.Superblocks.{info_for, is_bound, waiting_of}
 use Rattle.sound_state.proofs.shared.HeapNames.{active_one, actives-most}
 use Rattle.sound_state.proofs.shared.WeightSums.{words-together, callers-together}
 use Rattle.sound_state.proofs.shared.SumLemmas.{sum-none, sum-plus, sum-most, sum-least, sum-swap, sum-once, sum-occurs, term-sum}

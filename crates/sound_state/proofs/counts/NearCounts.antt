@@ -1,19 +1,11 @@
 -- How often descriptors are near a class: in its active words and slots, and at the callers.
-use Rattle.std.proofs.Common.{ℕ, true, false, ◌≡◌, ◌<◌, ◌≤◌, ◌+◌, ◌*◌, List, [], ◌∷◌, length, refl, ap, arith, inl, inr}
-use Rattle.std.specs.Prelude.{◌==◌, ◌-◌, if◌then◌else◌}
+use Rattle.std.proofs.Common.{ℕ, true, false, ◌≡◌, ◌<◌, ◌≤◌, ◌+◌, ◌*◌, List, [], ◌∷◌, length, refl, ap, arith, inl, inr, ◌==◌, ◌-◌, if◌then◌else◌}
 use Rattle.std.proofs.lemmas.Bool.{cases_eq, eq-eqb, ne_eqb}
-use Rattle.heap_geometry.specs.declared.geometry.Geometry.{Geometry}
-use Rattle.packed_words.specs.Active.{active_of}
-use Rattle.word_plan.specs.declared.name.WordName.{WordName}
-use Rattle.word_plan.specs.declared.name.WordName.TheVariants as name
-use Rattle.word_plan.specs.Counts.{descriptor_count, word_count}
-use Rattle.word_plan.specs.Table.{word_name}
-use Rattle.errand_steps.specs.declared.point.Point.{Point}
-use Rattle.errand_steps.specs.Errands.{ErrandFields}
-use Rattle.errand_steps.specs.Steps.{State}
-use Rattle.sound_state.specs.Holdings.{Kept, Reserved, Holding, holds_of}
+use Rattle.sound_state.proofs.Common.{Geometry, active_of, WordName, descriptor_count, word_count, word_name, Point, ErrandFields, State, Kept, Holding, holds_of}
+use Rattle.sound_state.proofs.Common.{sum_below, words_sum, callers_sum}
+use Rattle.word_table.specs.declared.name.WordName.TheVariants as name
+use Rattle.sound_state.specs.Holdings.{Reserved}
 use Rattle.sound_state.specs.Keepers.{active_keeps}
-use Rattle.sound_state.specs.Sums.{sum_below, words_sum, callers_sum}
 use Rattle.sound_state.proofs.shared.HeapNames.{active_one, slot_one, actives-most, slots-most}
 use Rattle.sound_state.proofs.shared.StockLemmas.{active-one, slot-once}
 use Rattle.sound_state.proofs.shared.KeptCounts.{named_among, named-most}

@@ -2,31 +2,18 @@
 use Rattle.std.proofs.Common.{ℕ, zero, suc, Option, Some, None, ◌≡◌, ◌<◌, ◌≤◌, ◌+◌, List, [], ◌∷◌, refl, sym, subst, ◌∙◌, ap, arith, inl, inr, ◌⊎◌}
 use Rattle.std.specs.Prelude.{◌==◌, if◌then◌else◌, IsTrue}
 use Rattle.std.proofs.lemmas.Bool.{cases_eq, cond-true, cond-false, eq-eqb, ne_eqb}
-use Rattle.heap_geometry.specs.declared.geometry.Geometry.{Geometry}
-use Rattle.heap_geometry.specs.declared.limits.TheConstants.{CLASSES}
-use Rattle.heap_geometry.specs.Need.{block_count_of}
-use Rattle.heap_geometry.specs.Place.{block_place}
-use Rattle.packed_words.specs.declared.active.ActiveWord.{ActiveWord}
-use Rattle.packed_words.specs.declared.active.ActiveWord.TheVariants.{Null, Held}
-use Rattle.packed_words.specs.declared.anchor.State.{State as Phase}
-use Rattle.packed_words.specs.declared.anchor.State.TheVariants as phase
-use Rattle.packed_words.specs.Active.{active_of}
-use Rattle.word_plan.specs.declared.name.WordName.{WordName}
-use Rattle.word_plan.specs.declared.name.WordName.TheVariants as name
-use Rattle.word_plan.specs.Counts.{descriptor_count}
-use Rattle.word_plan.specs.Table.{Exists}
-use Rattle.word_plan.specs.Occurs.{occurs}
+use Rattle.sound_state.proofs.Common.{Geometry, CLASSES, block_count_of, block_place, ActiveWord, Null, Held, active_of, WordName, descriptor_count, Exists, occurs}
+use Rattle.sound_state.proofs.Common.{block_at, pool_of, ErrandFields, State, waiting, holds_of, word_keeps, full_keeps, errand_has, IsPartlyUsed, Lists}
+use Rattle.sound_state.proofs.Common.{IsSoundWith, sum_below, words_sum, callers_sum, Superblock, superblock_of, is_there, anchor_for, info_for, word_reserves}
+use Rattle.sound_state.proofs.Common.{reserved_among, errand_reserves, reserved_of, errand_keeps, errand_away, waiting_of, is_bound}
+use Rattle.packed_words.specs.declared.anchor.AnchorState.{AnchorState as Phase}
+use Rattle.packed_words.specs.declared.anchor.AnchorState.TheVariants as phase
+use Rattle.word_table.specs.declared.name.WordName.TheVariants as name
 use Rattle.superblock_parts.specs.Chains.{chain_of}
 use Rattle.pool_model.specs.Legal.{IsPartUsed, IsWorn}
-use Rattle.pool_model.specs.Pool.{block_at, pool_of}
-use Rattle.errand_steps.specs.Errands.{ErrandFields}
-use Rattle.errand_steps.specs.Steps.{State}
-use Rattle.sound_state.specs.Holdings.{Reserved, waiting, holds_of}
-use Rattle.sound_state.specs.Keepers.{active_keeps, word_keeps, full_keeps, errand_has, IsPartlyUsed}
-use Rattle.sound_state.specs.Lists.{Lists}
-use Rattle.sound_state.specs.Sound.{IsSoundWith}
-use Rattle.sound_state.specs.Sums.{sum_below, words_sum, callers_sum}
-use Rattle.sound_state.specs.Superblocks.{Superblock, superblock_of, held_back, is_there, anchor_for, info_for, offered, word_reserves, reserved_among, errand_reserves, reserved_of, errand_keeps, errand_away, waiting_of, is_bound}
+use Rattle.sound_state.specs.Holdings.{Reserved}
+use Rattle.sound_state.specs.Keepers.{active_keeps}
+use Rattle.sound_state.specs.Superblocks.{held_back, offered}
 use Rattle.sound_state.proofs.counts.FrameCounts.{frames-most}
 use Rattle.sound_state.proofs.counts.NearCounts.{class_keeps, credited_among, errand_nears, near_of, near-most}
 use Rattle.sound_state.proofs.shared.HasLemmas.{bound-away}

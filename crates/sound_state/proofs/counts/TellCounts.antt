@@ -1,44 +1,28 @@
 -- Which steps tell a look or a refusal; each of these has its number where what it stands on has it.
-use Rattle.std.proofs.Common.{ℕ, Bool, true, false, Option, Some, None, ◌≡◌, ◌<◌, [], refl, sym, arith, ap, subst, ◌∙◌}
-use Rattle.std.specs.Prelude.{◌==◌, if◌then◌else◌, IsTrue}
+use Rattle.std.proofs.Common.{ℕ, Bool, true, false, Option, Some, None, ◌≡◌, ◌<◌, [], refl, sym, arith, ap, subst, ◌∙◌, ◌==◌, if◌then◌else◌, IsTrue}
 use Rattle.std.proofs.lemmas.Bool.{eqb-true}
 use Rattle.std.proofs.lemmas.Option.{none-some}
-use Rattle.heap_geometry.specs.declared.geometry.Geometry.{Geometry}
-use Rattle.heap_geometry.specs.declared.limits.TheConstants.{CLASSES}
-use Rattle.heap_geometry.specs.declared.need.Need.{Need}
-use Rattle.heap_geometry.specs.declared.need.Need.TheVariants.{Small, Large, TooLarge}
-use Rattle.heap_geometry.specs.Need.{need_of}
-use Rattle.packed_words.specs.Head.{HeadFields, IsHead, head_of, head_word}
+use Rattle.sound_state.proofs.Common.{Geometry, CLASSES, Need, Small, need_of, HeadFields, head_of, SeatFields, BlockPoint, Pile, Frames, Partials, StackPoint}
+use Rattle.sound_state.proofs.Common.{head_name, next_in, LargePoint, Event, pool_of, Continuation, Point, event_of, FitsPoint, asked, plan_point_of, State}
+use Rattle.sound_state.proofs.Common.{found_at, Holding, holds_of, Lists, IsSoundWith}
+use Rattle.heap_geometry.specs.declared.need.Need.TheVariants.{Large, TooLarge}
+use Rattle.packed_words.specs.Head.{IsHead, head_word}
 use Rattle.packed_words.proofs.HeadLemmas.{head_of-head_word}
-use Rattle.word_plan.specs.declared.name.WordName.TheVariants as name
-use Rattle.word_plan.specs.Seats.{SeatFields}
-use Rattle.superblock_parts.specs.declared.point.BlockPoint.{BlockPoint}
-use Rattle.stack_parts.specs.declared.point.Pile.{Pile}
-use Rattle.stack_parts.specs.declared.point.Pile.TheVariants.{Frames, Partials}
-use Rattle.stack_parts.specs.declared.point.StackPoint.{StackPoint}
+use Rattle.word_table.specs.declared.name.WordName.TheVariants as name
 use Rattle.stack_parts.specs.declared.point.StackPoint.TheVariants as stack
-use Rattle.stack_parts.specs.Fits.{IsBare}
-use Rattle.stack_parts.specs.Piles.{head_name}
-use Rattle.stack_parts.specs.Stacks.{next_in}
-use Rattle.large_parts.specs.declared.point.LargePoint.{LargePoint}
+use Rattle.stack_parts.specs.Points.{IsBare}
 use Rattle.large_parts.specs.declared.point.LargePoint.TheVariants as large
 use Rattle.large_parts.specs.Points.{first_wanted}
 use Rattle.large_parts.specs.Runs.{WantFields}
-use Rattle.pool_model.specs.declared.event.Event.{Event}
 use Rattle.pool_model.specs.Legal.{IsCounted, IsCountedFor, IsCrowded, IsWorn}
-use Rattle.pool_model.specs.Pool.{Pool, pool_of}
-use Rattle.errand_steps.specs.declared.continuation.Continuation.{Continuation}
+use Rattle.pool_model.specs.Pool.{Pool}
 use Rattle.errand_steps.specs.declared.continuation.Continuation.TheVariants as continuation
-use Rattle.errand_steps.specs.declared.point.Point.{Point}
 use Rattle.errand_steps.specs.declared.point.Point.TheVariants as point
-use Rattle.errand_steps.specs.Events.{event_of, won_event, block_event, stack_event, empty_event, large_event, run_event}
-use Rattle.errand_steps.specs.Fits.{FitsPoint, FitsInStack}
+use Rattle.errand_steps.specs.Events.{won_event, block_event, stack_event, empty_event, large_event, run_event}
+use Rattle.errand_steps.specs.Fits.{FitsInStack}
 use Rattle.errand_steps.specs.Continuations.{GoesLarge, IsRunFor, confirms}
-use Rattle.errand_steps.specs.Points.{asked, plan_point_of}
-use Rattle.errand_steps.specs.Steps.{State, found_at}
-use Rattle.sound_state.specs.Holdings.{Holding, holds_of, stack_holds, continuation_holds}
-use Rattle.sound_state.specs.Lists.{Lists}
-use Rattle.sound_state.specs.Sound.{IsSoundWith, TellsCounted}
+use Rattle.sound_state.specs.Holdings.{stack_holds, continuation_holds}
+use Rattle.sound_state.specs.Sound.{TellsCounted}
 use Rattle.sound_state.proofs.shared.PointLemmas.{fits-at}
 use Rattle.sound_state.proofs.shared.StackedLemmas.{stacked-none}
 use Rattle.sound_state.proofs.shared.StepLemmas.{found_from}

@@ -1,11 +1,7 @@
 -- What stays at a step that takes the first of the available descriptors, or puts one in front.
 use Rattle.std.proofs.Common.{ℕ, ◌≡◌, ◌≤◌, arith, List}
-use Rattle.word_plan.specs.declared.name.WordName.{WordName}
-use Rattle.word_plan.specs.declared.name.WordName.TheVariants as name
-use Rattle.word_plan.specs.Occurs.{occurs}
-use Rattle.errand_steps.specs.Steps.{State}
-use Rattle.sound_state.specs.Lists.{Lists}
-use Rattle.sound_state.specs.Recalls.{Recall, says, emptied, noted}
+use Rattle.sound_state.proofs.Common.{WordName, occurs, State, Lists, Recall, says, emptied, noted}
+use Rattle.word_table.specs.declared.name.WordName.TheVariants as name
 use Rattle.sound_state.proofs.shared.ShownLemmas.{StaysSo}
 
 -- the word is not the head of the available descriptors

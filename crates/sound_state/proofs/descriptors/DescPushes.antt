@@ -3,44 +3,24 @@ use Rattle.std.proofs.Common.{ℕ, Bool, true, false, None, Some, ◌≡◌, ◌
 use Rattle.std.specs.Prelude.{◌==◌, not, All, Any, Contains, IsTrue, IfSome, if◌then◌else◌}
 use Rattle.std.proofs.lemmas.Bool.{cases_eq, cond-true, cond-false, eq-eqb, ne_eqb}
 use Rattle.std.proofs.lemmas.List.Elements.{All-nil, All-cons, All-head, All-tail}
-use Rattle.heap_geometry.specs.declared.geometry.Geometry.{Geometry}
-use Rattle.word_plan.specs.declared.action.Found.{Found}
-use Rattle.word_plan.specs.declared.name.WordName.TheVariants as name
-use Rattle.word_plan.specs.Actions.{name_of, after_action}
-use Rattle.word_plan.specs.Counts.{descriptor_count}
-use Rattle.word_plan.specs.Seats.{SeatFields}
-use Rattle.word_plan.specs.Words.{Writes}
-use Rattle.word_plan.specs.Occurs.{occurs}
+use Rattle.sound_state.proofs.Common.{Geometry, Found, name_of, after_action, descriptor_count, SeatFields, Writes, occurs, Partials, Stacked, next_in}
+use Rattle.sound_state.proofs.Common.{IsLegalWithoutCounts, Next, At, End, Unlist, Continuation, Point, Block, Desc, ErrandFields, settle_of, course_of, raised}
+use Rattle.sound_state.proofs.Common.{counts_lost, counts_cleared, event_of, spare_of, pushed_by, next_of, plan_point_of, State, Step, Moves, found_at, with_event}
+use Rattle.sound_state.proofs.Common.{name_at, IsGuard, IsHazard, passed_by, held_by, Kept, holds_of, IsWithout, IsKeptAs, Lists, IsSo, IsOwned, says, recalls_of}
+use Rattle.sound_state.proofs.Common.{IsSoundWithoutCounts, IsSoundWith, turn_stage_of, in_turn, is_unneeded, waits_in, one_if, pops_left}
+use Rattle.word_table.specs.declared.name.WordName.TheVariants as name
 use Rattle.superblock_parts.specs.declared.point.BlockPoint.TheVariants as block
-use Rattle.stack_parts.specs.declared.point.Pile.TheVariants.{Partials}
-use Rattle.stack_parts.specs.Stacks.{Stacked, next_in}
 use Rattle.hazard_parts.specs.Retired.{without}
 use Rattle.hazard_parts.specs.declared.point.DescPoint.TheVariants as desc
-use Rattle.pool_model.specs.Legal.{IsLegalWithoutCounts}
-use Rattle.errand_steps.specs.declared.next.Next.{Next}
-use Rattle.errand_steps.specs.declared.next.Next.TheVariants.{At, End, Unlist}
-use Rattle.errand_steps.specs.declared.continuation.Continuation.{Continuation}
 use Rattle.errand_steps.specs.declared.continuation.Continuation.TheVariants as continuation
-use Rattle.errand_steps.specs.declared.point.Point.{Point}
-use Rattle.errand_steps.specs.declared.point.Point.TheVariants.{Block, Desc}
 use Rattle.errand_steps.specs.declared.reply.Reply.TheVariants as reply
-use Rattle.errand_steps.specs.Errands.{ErrandFields, IsErrand, settle_of, course_of, plan_of, after_turn, begins_turn, is_spent, point_after, raised, one_more, counts_won, counts_lost, counts_cleared}
-use Rattle.errand_steps.specs.Events.{event_of}
-use Rattle.errand_steps.specs.Fits.{spare_of, pushed_by}
-use Rattle.errand_steps.specs.Nexts.{next_of, resumed}
+use Rattle.errand_steps.specs.Errands.{IsErrand, plan_of, after_turn, begins_turn, is_spent, point_after, one_more, counts_won}
+use Rattle.errand_steps.specs.Nexts.{resumed}
 use Rattle.errand_steps.specs.Continuations.{resumes}
-use Rattle.errand_steps.specs.Points.{plan_point_of}
-use Rattle.errand_steps.specs.Steps.{State, Step, Moves, found_at, with_event, name_at}
 use Rattle.errand_steps.proofs.ErrandLemmas.{settle_errand}
-use Rattle.sound_state.specs.Guards.{IsGuard, IsHazard, passed_by, held_by}
-use Rattle.sound_state.specs.Holdings.{Kept, nothing, holds_of}
-use Rattle.sound_state.specs.Keepers.{IsWithout, IsKeptAs}
-use Rattle.sound_state.specs.Lists.{Lists}
-use Rattle.sound_state.specs.Recalls.{IsSo, IsOwned, says, recalls_of, resumed_recalls}
-use Rattle.sound_state.specs.Sound.{IsSoundWithoutCounts, IsSoundWith}
-use Rattle.sound_state.specs.TurnStages.{turn_stage_of, in_turn, lacks_frame, lacks_partial, lacks_answer, is_unneeded}
-use Rattle.sound_state.specs.Stock.{waits_in}
-use Rattle.sound_state.specs.Turns.{one_if, pops_left}
+use Rattle.sound_state.specs.Holdings.{nothing}
+use Rattle.sound_state.specs.Recalls.{resumed_recalls}
+use Rattle.sound_state.specs.TurnStages.{lacks_frame, lacks_partial, lacks_answer}
 use Rattle.sound_state.proofs.descriptors.DescEffects.{IsOfListed}
 use Rattle.sound_state.proofs.shared.ShownLemmas.{sound-but_one, sound-shown, with_available, Excepts, MayGoOn}
 use Rattle.sound_state.proofs.descriptors.DescRecalls.{recalls-pushed}
@@ -50,6 +30,7 @@ use Rattle.sound_state.proofs.shared.PointLemmas.{exists-at, fits-at, so-at, haz
 use Rattle.sound_state.proofs.quiet.QuietDescs.{push_desc_lost-sound}
 use Rattle.sound_state.proofs.shared.StepLemmas.{raised-least, raised-below, found_from}
 use Rattle.sound_state.proofs.shared.WordFacts.{name-below}
+use Rattle.sound_state.proofs.shared.KeepsSound.{KeepsSound, KeepsSoundWhere}
 
 -- where a call goes on after a retirement, and how many turns it has begun then
 abbrev pub resumed_point : ErrandFields → SeatFields → Continuation → Point
@@ -228,10 +209,9 @@ push-excepts seat d top o e stands place x =
 
 -- the descriptor is put in front of the available ones, and the call goes on or ends
 pub push_desc_won-sound :
-    (g : Geometry) (s : State) (caller : ℕ) (s' : State) (seat : SeatFields) (d top : ℕ) (o : Continuation) → IsSoundWithoutCounts g s → caller < g.callers
-    → (s.errand caller).point ≡ Desc (desc.PushDesc seat d top) o → s.word name.DescHead ≡ top → Step s caller s' → IsSoundWithoutCounts g s'
+    (seat : SeatFields) (d top : ℕ) (o : Continuation) → KeepsSoundWhere (Desc (desc.PushDesc seat d top) o) (λ s. s.word name.DescHead ≡ top)
 unfolding plan_point_of next_of event_of holds_of recalls_of
-push_desc_won-sound g s caller s' seat d top o sound has stands won step =
+push_desc_won-sound seat d top o g s caller s' sound has stands won step =
     let p = Desc (desc.PushDesc seat d top) o in
     let l = sound.parts.0 in
     let old = sound.parts.1 in
@@ -284,11 +264,9 @@ push_desc_won-sound g s caller s' seat d top o sound has stands won step =
     }
 
 -- won or lost
-pub push_desc-sound :
-    (g : Geometry) (s : State) (caller : ℕ) (s' : State) (seat : SeatFields) (d top : ℕ) (o : Continuation) → IsSoundWithoutCounts g s → caller < g.callers
-    → (s.errand caller).point ≡ Desc (desc.PushDesc seat d top) o → Step s caller s' → IsSoundWithoutCounts g s'
-push_desc-sound g s caller s' seat d top o sound has stands step =
+pub push_desc-sound : (seat : SeatFields) (d top : ℕ) (o : Continuation) → KeepsSound (Desc (desc.PushDesc seat d top) o)
+push_desc-sound seat d top o g s caller s' sound has stands step =
     elim (cases_eq (s.word name.DescHead) top) [
-      | inl won ↦ push_desc_won-sound g s caller s' seat d top o sound has stands won step
-      | inr lost ↦ push_desc_lost-sound g s caller s' seat d top o sound has stands lost step
+      | inl won ↦ push_desc_won-sound seat d top o g s caller s' sound has stands won step
+      | inr lost ↦ push_desc_lost-sound seat d top o g s caller s' sound has stands lost step
     ]

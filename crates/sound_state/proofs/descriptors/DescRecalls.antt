@@ -1,37 +1,19 @@
 -- What a caller remembers of an EMPTY or a noted descriptor, it remembers of one that it guards or keeps.
-use Rattle.std.proofs.Common.{ℕ, Some, ◌≡◌, ◌<◌, ◌≤◌, ◌+◌, List, [], ◌∷◌, refl, arith, sym, subst, inl, inr}
-use Rattle.std.specs.Prelude.{◌⊎◌, ◌==◌, All, IsTrue, Contains}
+use Rattle.std.proofs.Common.{ℕ, Some, ◌≡◌, ◌<◌, ◌≤◌, ◌+◌, List, [], ◌∷◌, refl, arith, sym, subst, inl, inr, ◌⊎◌, ◌==◌, All, IsTrue, Contains}
 use Rattle.std.proofs.lemmas.Bool.{cases_eq, cond-false, ne_eqb}
 use Rattle.std.specs.List.{AllByRecursion}
-use Rattle.heap_geometry.specs.declared.geometry.Geometry.{Geometry}
-use Rattle.word_plan.specs.declared.name.WordName.TheVariants as name
-use Rattle.word_plan.specs.Counts.{descriptor_count}
-use Rattle.word_plan.specs.Seats.{SeatFields}
-use Rattle.word_plan.specs.Occurs.{occurs}
-use Rattle.superblock_parts.specs.declared.point.BlockPoint.{BlockPoint}
-use Rattle.stack_parts.specs.declared.point.Pile.TheVariants.{Frames, Partials}
-use Rattle.stack_parts.specs.declared.point.StackPoint.{StackPoint}
+use Rattle.sound_state.proofs.Common.{Geometry, descriptor_count, SeatFields, occurs, BlockPoint, Frames, Partials, StackPoint, DescPoint, PartialPoint, LargePoint}
+use Rattle.sound_state.proofs.Common.{Continuation, Point, Idle, Block, Stack, Desc, Partial, Large, FitsPoint, pushed_by, State, IsGuard, IsHazard, Holding}
+use Rattle.sound_state.proofs.Common.{partly_used, holds_of, errand_has, Lists, Recall, emptied, noted, says, recalls_of, IsSoundWith, sum_below, callers_sum}
+use Rattle.sound_state.proofs.Common.{kept_among, errand_keeps}
+use Rattle.word_table.specs.declared.name.WordName.TheVariants as name
 use Rattle.stack_parts.specs.declared.point.StackPoint.TheVariants as stack
-use Rattle.hazard_parts.specs.declared.point.DescPoint.{DescPoint}
 use Rattle.hazard_parts.specs.declared.point.DescPoint.TheVariants as desc
-use Rattle.partial_parts.specs.declared.point.PartialPoint.{PartialPoint}
 use Rattle.partial_parts.specs.declared.point.PartialPoint.TheVariants as partial
-use Rattle.large_parts.specs.declared.point.LargePoint.{LargePoint}
-use Rattle.errand_steps.specs.declared.continuation.Continuation.{Continuation}
 use Rattle.errand_steps.specs.declared.continuation.Continuation.TheVariants as continuation
-use Rattle.errand_steps.specs.declared.point.Point.{Point}
-use Rattle.errand_steps.specs.declared.point.Point.TheVariants.{Idle, Block, Stack, Desc, Partial, Large}
-use Rattle.errand_steps.specs.Fits.{FitsPoint, pushed_by}
 use Rattle.errand_steps.specs.Continuations.{goes_desc}
-use Rattle.errand_steps.specs.Steps.{State}
-use Rattle.sound_state.specs.Guards.{IsGuard, IsHazard}
-use Rattle.sound_state.specs.Holdings.{Holding, guarded, partly_used, holds_of, continuation_holds, with_partial, stack_holds, desc_holds, cleared_holds, partial_holds}
-use Rattle.sound_state.specs.Keepers.{errand_has}
-use Rattle.sound_state.specs.Lists.{Lists}
-use Rattle.sound_state.specs.Recalls.{Recall, emptied, noted, says, recalls_of, continuation_recalls, stack_recalls, resumed_recalls, desc_recalls, block_recalls, partial_recalls, large_recalls}
-use Rattle.sound_state.specs.Sound.{IsSoundWith}
-use Rattle.sound_state.specs.Sums.{sum_below, callers_sum}
-use Rattle.sound_state.specs.Superblocks.{kept_among, errand_keeps}
+use Rattle.sound_state.specs.Holdings.{guarded, continuation_holds, with_partial, stack_holds, desc_holds, cleared_holds, partial_holds}
+use Rattle.sound_state.specs.Recalls.{continuation_recalls, stack_recalls, resumed_recalls, desc_recalls, block_recalls, partial_recalls, large_recalls}
 use Rattle.sound_state.proofs.descriptors.DescEffects.{IsNoDescHead, IsOfListed}
 use Rattle.sound_state.proofs.shared.ListFacts.{contains-occurs}
 use Rattle.sound_state.proofs.shared.PointLemmas.{fits-at}
@@ -75,7 +57,6 @@ held-stack (stack.StoreBelow seat Frames i h) o = (tt, held-continuation seat o)
 held-stack (stack.StoreBelow seat Partials i h) o = (tt, continuation-held-too i seat o)
 held-stack (stack.PushTop seat Frames i h) o = (tt, (tt, held-continuation seat o))
 held-stack (stack.PushTop seat Partials i h) o = (tt, (tt, continuation-held-too i seat o))
-held-stack p o = tt
 
 -- a free that clears its hazard word
 held-clear :

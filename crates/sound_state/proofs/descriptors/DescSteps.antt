@@ -1,34 +1,14 @@
 -- The won exchanges of the stack of available descriptors keep the state sound.
-use Rattle.std.proofs.Common.{ℕ, true, false, None, ◌≡◌, ◌<◌, ◌+◌, ◌^◌, List, [], ◌∷◌, refl, arith, ap, sym, subst, inl, inr, ◌∙◌}
-use Rattle.std.specs.Prelude.{◌==◌, All, if◌then◌else◌}
+use Rattle.std.proofs.Common.{ℕ, true, false, None, ◌≡◌, ◌<◌, ◌+◌, ◌^◌, List, [], ◌∷◌, refl, arith, ap, sym, subst, inl, inr, ◌∙◌, ◌==◌, All, if◌then◌else◌}
 use Rattle.std.proofs.lemmas.Bool.{cases_eq, cond-true, eq-eqb}
 use Rattle.std.proofs.lemmas.List.Elements.{All-nil, All-cons, All-head, All-tail}
-use Rattle.heap_geometry.specs.declared.geometry.Geometry.{Geometry}
-use Rattle.word_plan.specs.declared.action.Found.{Found}
-use Rattle.word_plan.specs.declared.name.WordName.TheVariants as name
-use Rattle.word_plan.specs.Actions.{name_of, after_action}
-use Rattle.word_plan.specs.Counts.{descriptor_count}
-use Rattle.word_plan.specs.Seats.{SeatFields}
-use Rattle.word_plan.specs.Words.{Writes}
-use Rattle.word_plan.specs.Occurs.{occurs}
-use Rattle.stack_parts.specs.declared.point.Pile.TheVariants.{Partials}
-use Rattle.stack_parts.specs.Stacks.{Stacked, next_in}
+use Rattle.sound_state.proofs.Common.{Geometry, Found, name_of, after_action, descriptor_count, SeatFields, Writes, occurs, Partials, Stacked, next_in}
+use Rattle.sound_state.proofs.Common.{IsLegalWithoutCounts, Continuation, Desc, ErrandFields, counts_cleared, raised, event_of, next_of, plan_point_of, State, Step}
+use Rattle.sound_state.proofs.Common.{Moves, found_at, with_event, name_at, IsGuard, Kept, holds_of, on_its_way, waiting, IsWithout, IsKeptAs, Lists, IsSo, IsOwned}
+use Rattle.sound_state.proofs.Common.{noted, looked, recalls_of, IsSoundWithoutCounts, kept_among}
+use Rattle.word_table.specs.declared.name.WordName.TheVariants as name
 use Rattle.hazard_parts.specs.declared.point.DescPoint.TheVariants as desc
-use Rattle.pool_model.specs.Legal.{IsLegalWithoutCounts}
-use Rattle.errand_steps.specs.declared.continuation.Continuation.{Continuation}
-use Rattle.errand_steps.specs.declared.point.Point.TheVariants.{Desc}
-use Rattle.errand_steps.specs.Errands.{ErrandFields, counts_cleared, raised}
-use Rattle.errand_steps.specs.Events.{event_of}
-use Rattle.errand_steps.specs.Nexts.{next_of}
-use Rattle.errand_steps.specs.Points.{plan_point_of}
-use Rattle.errand_steps.specs.Steps.{State, Step, Moves, found_at, with_event, name_at}
-use Rattle.sound_state.specs.Guards.{IsGuard}
-use Rattle.sound_state.specs.Holdings.{Kept, holds_of, keep, on_its_way, waiting}
-use Rattle.sound_state.specs.Keepers.{IsWithout, IsKeptAs}
-use Rattle.sound_state.specs.Lists.{Lists}
-use Rattle.sound_state.specs.Recalls.{IsSo, IsOwned, noted, looked, recalls_of}
-use Rattle.sound_state.specs.Sound.{IsSoundWithoutCounts}
-use Rattle.sound_state.specs.Superblocks.{kept_among}
+use Rattle.sound_state.specs.Holdings.{keep}
 use Rattle.sound_state.proofs.descriptors.DescEffects.{IsOfListed}
 use Rattle.sound_state.proofs.shared.HasLemmas.{ways-one}
 use Rattle.sound_state.proofs.shared.ShownLemmas.{sound-but_one, sound-shown, with_available}
@@ -38,6 +18,7 @@ use Rattle.sound_state.proofs.hazards.HazardLemmas.{plain-guards, leads-at}
 use Rattle.sound_state.proofs.shared.PointLemmas.{exists-at, so-at, hazard-at, kept_places}
 use Rattle.sound_state.proofs.quiet.QuietDescs.{pop_desc_lost-sound}
 use Rattle.sound_state.proofs.shared.StepLemmas.{PointStands, TurnGoes, at_point, may-after, found_from}
+use Rattle.sound_state.proofs.shared.KeepsSound.{KeepsSound, KeepsSoundWhere}
 
 -- a stack whose top names a descriptor begins with it
 pub first-of :
@@ -92,10 +73,9 @@ pop_desc-stands g s l caller seat d next o without so = record {
 
 -- the first descriptor is taken: the caller keeps it on its way
 pub pop_desc_won-sound :
-    (g : Geometry) (s : State) (caller : ℕ) (s' : State) (seat : SeatFields) (d next : ℕ) (o : Continuation) → IsSoundWithoutCounts g s → caller < g.callers
-    → (s.errand caller).point ≡ Desc (desc.PopDesc seat d next) o → s.word name.DescHead ≡ d + 1 → Step s caller s' → IsSoundWithoutCounts g s'
+    (seat : SeatFields) (d next : ℕ) (o : Continuation) → KeepsSoundWhere (Desc (desc.PopDesc seat d next) o) (λ s. s.word name.DescHead ≡ d + 1)
 unfolding plan_point_of next_of event_of holds_of recalls_of
-pop_desc_won-sound g s caller s' seat d next o sound has at won step =
+pop_desc_won-sound seat d next o g s caller s' sound has at won step =
     let p = Desc (desc.PopDesc seat d next) o in
     let q = Desc (desc.ClearAfterPop seat d) o in
     let l = sound.parts.0 in
@@ -142,11 +122,9 @@ pop_desc_won-sound g s caller s' seat d next o sound has at won step =
     }
 
 -- won or lost
-pub pop_desc-sound :
-    (g : Geometry) (s : State) (caller : ℕ) (s' : State) (seat : SeatFields) (d next : ℕ) (o : Continuation) → IsSoundWithoutCounts g s → caller < g.callers
-    → (s.errand caller).point ≡ Desc (desc.PopDesc seat d next) o → Step s caller s' → IsSoundWithoutCounts g s'
-pop_desc-sound g s caller s' seat d next o sound has stands step =
+pub pop_desc-sound : (seat : SeatFields) (d next : ℕ) (o : Continuation) → KeepsSound (Desc (desc.PopDesc seat d next) o)
+pop_desc-sound seat d next o g s caller s' sound has stands step =
     elim (cases_eq (s.word name.DescHead) (d + 1)) [
-      | inl won ↦ pop_desc_won-sound g s caller s' seat d next o sound has stands won step
-      | inr lost ↦ pop_desc_lost-sound g s caller s' seat d next o sound has stands lost step
+      | inl won ↦ pop_desc_won-sound seat d next o g s caller s' sound has stands won step
+      | inr lost ↦ pop_desc_lost-sound seat d next o g s caller s' sound has stands lost step
     ]

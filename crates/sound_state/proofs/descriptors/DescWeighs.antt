@@ -1,27 +1,9 @@
 -- What a step at the head of the available descriptors weighs.
-use Rattle.std.proofs.Common.{ℕ, ◌≡◌, ◌<◌, ◌+◌, ◌^◌, List, refl, arith, ap, sym, subst, inl, inr}
-use Rattle.std.specs.Prelude.{All}
-use Rattle.heap_geometry.specs.declared.geometry.Geometry.{Geometry}
-use Rattle.packed_words.specs.Anchor.{anchor_of}
-use Rattle.word_plan.specs.declared.name.WordName.{WordName}
-use Rattle.word_plan.specs.declared.name.WordName.TheVariants as name
-use Rattle.word_plan.specs.Counts.{descriptor_count}
-use Rattle.word_plan.specs.Table.{Exists}
-use Rattle.word_plan.specs.Words.{Writes}
-use Rattle.word_plan.proofs.NameLemmas.{cases_name}
-use Rattle.word_plan.specs.Occurs.{occurs}
-use Rattle.stack_parts.specs.declared.point.Pile.TheVariants.{Partials}
-use Rattle.stack_parts.specs.Stacks.{Stacked, next_in}
-use Rattle.errand_steps.specs.Errands.{ErrandFields}
-use Rattle.errand_steps.specs.Steps.{State, Moves}
-use Rattle.sound_state.specs.Frames.{errand_frames}
-use Rattle.sound_state.specs.Holdings.{waiting, on_its_way}
-use Rattle.sound_state.specs.Keepers.{IsWithout, word_keeps, errand_has, full_keeps}
-use Rattle.sound_state.specs.Lists.{Lists}
-use Rattle.sound_state.specs.Recalls.{recalls_of}
-use Rattle.sound_state.specs.Sound.{IsSoundWith}
-use Rattle.sound_state.specs.Stock.{word_stock, errand_stock}
-use Rattle.sound_state.specs.Superblocks.{word_reserves, errand_reserves, errand_keeps, errand_away, away_of}
+use Rattle.std.proofs.Common.{ℕ, ◌≡◌, ◌<◌, ◌+◌, ◌^◌, List, refl, arith, ap, sym, subst, inl, inr, All}
+use Rattle.sound_state.proofs.Common.{Geometry, anchor_of, WordName, descriptor_count, Exists, Writes, cases_name, occurs, Partials, Stacked, next_in, ErrandFields}
+use Rattle.sound_state.proofs.Common.{State, Moves, errand_frames, waiting, on_its_way, IsWithout, word_keeps, errand_has, full_keeps, Lists, recalls_of}
+use Rattle.sound_state.proofs.Common.{IsSoundWith, word_stock, errand_stock, word_reserves, errand_reserves, errand_keeps, errand_away, away_of}
+use Rattle.word_table.specs.declared.name.WordName.TheVariants as name
 use Rattle.sound_state.proofs.descriptors.DescEffects.{IsNoDescHead, IsOfListed, stays-listed}
 use Rattle.sound_state.proofs.shared.StepLemmas.{words-below}
 use Rattle.sound_state.proofs.shared.ShownLemmas.{IsShown, ShowsSame, actives-same, with_available, MayGoOn, MayGuard}

@@ -1,24 +1,10 @@
 -- A lost install: what it changes, and that everything else stays.
-use Rattle.std.proofs.Common.{ℕ, None, ◌≡◌, ◌<◌, ◌≤◌, ◌+◌, [], length}
-use Rattle.std.specs.Prelude.{◌⊎◌, IsTrue}
-use Rattle.heap_geometry.specs.declared.geometry.Geometry.{Geometry}
-use Rattle.word_plan.specs.declared.name.WordName.{WordName}
-use Rattle.word_plan.specs.declared.seat.Site.{Site}
-use Rattle.word_plan.specs.Sites.{IsSiteOf}
+use Rattle.std.proofs.Common.{ℕ, None, ◌≡◌, ◌<◌, ◌≤◌, ◌+◌, [], length, ◌⊎◌, IsTrue}
+use Rattle.sound_state.proofs.Common.{Geometry, WordName, Site, IsSiteOf, ErrandFields, spare_of, pushed_by, Point, State, Moves, passed_by, held_by, holds_of}
+use Rattle.sound_state.proofs.Common.{Lists, IsLocated, recalls_of, IsOwnErrand, turn_stage_of, waits_in, anchor_for, is_bound, pops_left}
 use Rattle.superblock_parts.specs.Anchors.{new_anchor}
-use Rattle.errand_steps.specs.Errands.{ErrandFields}
-use Rattle.errand_steps.specs.Fits.{spare_of, pushed_by}
-use Rattle.errand_steps.specs.declared.point.Point.{Point}
-use Rattle.errand_steps.specs.Steps.{State, Moves}
-use Rattle.sound_state.specs.Guards.{passed_by, held_by}
-use Rattle.sound_state.specs.Holdings.{making, holds_of}
-use Rattle.sound_state.specs.Lists.{Lists}
-use Rattle.sound_state.specs.Recalls.{IsLocated, recalls_of}
-use Rattle.sound_state.specs.Sound.{IsOwnErrand}
-use Rattle.sound_state.specs.TurnStages.{turn_stage_of, not_needed}
-use Rattle.sound_state.specs.Stock.{waits_in}
-use Rattle.sound_state.specs.Superblocks.{anchor_for, is_bound}
-use Rattle.sound_state.specs.Turns.{pops_left}
+use Rattle.sound_state.specs.Holdings.{making}
+use Rattle.sound_state.specs.TurnStages.{not_needed}
 use Rattle.sound_state.proofs.shared.MakingWeights.{installing_holds}
 use Rattle.sound_state.proofs.shared.TurnEffects.{StandsFramed}
 

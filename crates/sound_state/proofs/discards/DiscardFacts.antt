@@ -1,22 +1,11 @@
 -- What a lost install leaves, and that nobody else has anything of its superblock.
-use Rattle.std.proofs.Common.{ℕ, false, true≢false, None, ◌≡◌, ◌≢◌, ◌<◌, ◌+◌, ◌-◌, refl, arith, ap, sym, subst, ◌∙◌}
-use Rattle.std.specs.Prelude.{IsTrue}
+use Rattle.std.proofs.Common.{ℕ, false, true≢false, None, ◌≡◌, ◌≢◌, ◌<◌, ◌+◌, ◌-◌, refl, arith, ap, sym, subst, ◌∙◌, IsTrue}
 use Rattle.std.proofs.lemmas.Bool.{ne_eqb}
-use Rattle.heap_geometry.specs.declared.geometry.Geometry.{Geometry}
-use Rattle.heap_geometry.specs.Need.{block_count_of}
-use Rattle.heap_geometry.specs.Place.{block_place}
-use Rattle.packed_words.specs.Anchor.{anchor_of}
-use Rattle.word_plan.specs.declared.name.WordName.TheVariants as name
-use Rattle.word_plan.specs.declared.seat.Site.{Site}
-use Rattle.superblock_parts.specs.Anchors.{new_credits}
-use Rattle.pool_model.specs.Pool.{block_at, pool_of}
-use Rattle.errand_steps.specs.Errands.{ErrandFields}
-use Rattle.errand_steps.specs.Steps.{State}
-use Rattle.sound_state.specs.Holdings.{waiting, on_its_way, making}
-use Rattle.sound_state.specs.Lists.{Lists}
-use Rattle.sound_state.specs.Sound.{IsSoundWith}
-use Rattle.sound_state.specs.Sums.{sum_below, callers_sum}
-use Rattle.sound_state.specs.Superblocks.{IsChained, info_for, superblock_of, is_bound, away_of, waiting_of, reserved_of, word_reserves, errand_reserves, reserved_among, errand_keeps}
+use Rattle.sound_state.proofs.Common.{Geometry, block_count_of, block_place, anchor_of, Site, new_credits, block_at, pool_of, ErrandFields, State, waiting}
+use Rattle.sound_state.proofs.Common.{on_its_way, Lists, IsSoundWith, sum_below, callers_sum, IsChained, info_for, superblock_of, is_bound, away_of, waiting_of}
+use Rattle.sound_state.proofs.Common.{reserved_of, word_reserves, errand_reserves, reserved_among, errand_keeps}
+use Rattle.word_table.specs.declared.name.WordName.TheVariants as name
+use Rattle.sound_state.specs.Holdings.{making}
 use Rattle.sound_state.proofs.discards.DiscardEffects.{Discards}
 use Rattle.sound_state.proofs.shared.KeptLemmas.{SameDescs}
 use Rattle.sound_state.proofs.shared.OverlapLemmas.{there-none}
@@ -26,7 +15,7 @@ use Rattle.sound_state.proofs.shared.MakingWeights.{it-here, it-elsewhere, makin
 use Rattle.sound_state.proofs.shared.TallyLemmas.{tally, held-back-once}
 use Rattle.sound_state.proofs.shared.SuperblockEffects.{LieStill, info-stays}
 
-module _ (g : Geometry) (s : State) (l : Lists) (caller : ℕ) (at : Site) (e : ErrandFields) (s' : State) (h : Discards g s l caller at e s') where
+module _ {g : Geometry} {s : State} {l : Lists} {caller : ℕ} {at : Site} {e : ErrandFields} {s' : State} (h : Discards g s l caller at e s') where
   pub discarded-still : LieStill s s'
   discarded-still = record { words = λ n is. h.words n }
 

@@ -1,27 +1,14 @@
 -- A lost install keeps the lists, the descriptors, the stock, the frames, the chains, the guards and the bounds of tags and turns.
-use Rattle.std.proofs.Common.{ℕ, ◌≡◌, ◌≢◌, ◌<◌, ◌^◌, [], refl, arith, ap, sym, subst, inl, inr, ◌∙◌}
+use Rattle.std.proofs.Common.{ℕ, ◌≡◌, ◌≢◌, ◌<◌, ◌^◌, [], refl, arith, ap, sym, subst, inl, inr, ◌∙◌, All, IsTrue}
 use Rattle.std.proofs.Math.Path.{fun_ext}
-use Rattle.std.specs.Prelude.{All, IsTrue}
 use Rattle.std.proofs.lemmas.List.Elements.{All-nil, All-cons}
-use Rattle.heap_geometry.specs.declared.geometry.Geometry.{Geometry}
-use Rattle.packed_words.specs.Active.{active_of}
-use Rattle.word_plan.specs.Counts.{descriptor_count}
-use Rattle.word_plan.specs.declared.name.WordName.{WordName}
-use Rattle.word_plan.specs.declared.name.WordName.TheVariants as name
-use Rattle.word_plan.specs.declared.seat.Site.{Site}
-use Rattle.errand_steps.specs.Errands.{ErrandFields}
-use Rattle.errand_steps.specs.Steps.{State}
-use Rattle.sound_state.specs.Frames.{IsFramed, fills_frame}
-use Rattle.sound_state.specs.Guards.{IsGuarded}
-use Rattle.sound_state.specs.Holdings.{Kept, on_its_way, holds_of}
-use Rattle.sound_state.specs.Keepers.{IsKept, IsWithout, IsKeptAs, full_keeps, word_keeps}
-use Rattle.sound_state.specs.Lists.{Lists, IsListed}
-use Rattle.sound_state.specs.Sound.{IsSoundWith}
+use Rattle.sound_state.proofs.Common.{Geometry, active_of, descriptor_count, WordName, Site, ErrandFields, State, IsFramed, fills_frame, IsGuarded, Kept, on_its_way}
+use Rattle.sound_state.proofs.Common.{holds_of, IsKept, IsWithout, IsKeptAs, full_keeps, word_keeps, Lists, IsListed, IsSoundWith, full_stock, word_stock, sum_below}
+use Rattle.sound_state.proofs.Common.{AreChained, superblock_of, is_bound, away_of, waiting_of, IsTurned, emptied_out}
+use Rattle.word_table.specs.declared.name.WordName.TheVariants as name
 use Rattle.sound_state.specs.TurnStages.{not_needed}
-use Rattle.sound_state.specs.Stock.{IsStocked, full_stock, word_stock}
-use Rattle.sound_state.specs.Sums.{sum_below}
-use Rattle.sound_state.specs.Superblocks.{AreChained, superblock_of, is_bound, away_of, waiting_of}
-use Rattle.sound_state.specs.Turns.{IsTurned, turn_unlisted, emptied_out}
+use Rattle.sound_state.specs.Stock.{IsStocked}
+use Rattle.sound_state.specs.Turns.{turn_unlisted}
 use Rattle.sound_state.proofs.discards.DiscardEffects.{Discards}
 use Rattle.sound_state.proofs.discards.DiscardFacts.{discarded-holds, discarded-still, discarded-descs, discarded-away, discarded-waits, discarded-bound, discarded-unbound, discarded-was, discarded-reserved, discarded-waited}
 use Rattle.sound_state.proofs.shared.FrameLemmas.{waiting-fills}
@@ -34,7 +21,7 @@ use Rattle.sound_state.proofs.shared.TurnEffects.{emptied-kept, head-tag, no-eve
 use Rattle.sound_state.proofs.shared.HoldingEffects.{places-go, stock-goes, framed-after}
 use Rattle.sound_state.proofs.shared.MakingWeights.{it-elsewhere, making-places, making-stock}
 
-module _ (g : Geometry) (s : State) (l : Lists) (caller : ℕ) (at : Site) (e : ErrandFields) (s' : State) (h : Discards g s l caller at e s') where
+module _ {g : Geometry} {s : State} {l : Lists} {caller : ℕ} {at : Site} {e : ErrandFields} {s' : State} (h : Discards g s l caller at e s') where
   words-all : s'.word ≡ s.word
   words-all = fun_ext h.words
 
@@ -47,7 +34,7 @@ module _ (g : Geometry) (s : State) (l : Lists) (caller : ℕ) (at : Site) (e : 
   pub discarded-kept : IsSoundWith g s l → IsKept g s' l
   discarded-kept old =
       let kept = old.kept in
-      let same = discarded-descs g s l caller at e s' h in
+      let same = discarded-descs h in
       let words = words-all in
       let without : IsWithout s' at.desc = inl (ap (λ x. x.state) (same.anchor at.desc) ∙ ap (λ x. x.state) h.anchor) in
       record {
@@ -55,7 +42,7 @@ module _ (g : Geometry) (s : State) (l : Lists) (caller : ℕ) (at : Site) (e : 
             omega (
               arith,
               kept.once d has,
-              places-go (discarded-holds g s l caller at e s' h) d,
+              places-go (discarded-holds h) d,
               making-places at d,
               words-same g (word_keeps d) s.word s'.word h.words,
               ap (λ x. full_keeps x.state) (same.anchor d),
@@ -64,68 +51,68 @@ module _ (g : Geometry) (s : State) (l : Lists) (caller : ℕ) (at : Site) (e : 
         slot_words = rw words kept.slot_words;
         active = λ heap class d credits has_heap has_class is.
             let a = kept.active heap class d credits has_heap has_class (ap (λ w. active_of (w (name.Active heap class))) (sym words) ∙ is) in
-            (a.0, active-same s s' same d class a.1);
+            (a.0, active-same same d class a.1);
         slot = λ heap class d has_heap has_class is.
             let a = kept.slot heap class d has_heap has_class (ap (λ w. w (name.Slot heap class)) (sym words) ∙ is) in
-            (a.0, partly-same s s' same d class a.1);
+            (a.0, partly-same same d class a.1);
         full = λ d has is. ap (λ a. a.count) (same.anchor d) ∙ kept.full d has (ap (λ a. a.state) (sym (same.anchor d)) ∙ is);
-        listed = λ class has k d lt. partly-same s s' same _ class (kept.listed class has k d lt);
-        available = λ k d lt. without-same s s' same _ (kept.available k d lt);
+        listed = λ class has k d lt. partly-same same _ class (kept.listed class has k d lt);
+        available = λ k d lt. without-same same _ (kept.available k d lt);
         retired =
             each-caller g (λ i e. All (IsWithout s') e.retired) s.errand caller e s'.errand h.moves
-            (subst (All (IsWithout s')) (sym h.retired) (λ k d lt. without-same s s' same _ (kept.retired caller h.in_heap k d lt)))
-            (λ i has k d lt. without-same s s' same _ (kept.retired i has k d lt));
+            (subst (All (IsWithout s')) (sym h.retired) (λ k d lt. without-same same _ (kept.retired caller h.in_heap k d lt)))
+            (λ i has k d lt. without-same same _ (kept.retired i has k d lt));
         errand =
             each-caller g (λ i e. All (λ k. IsKeptAs s' k.status k.desc k.class) (holds_of e.point).kept) s.errand caller e s'.errand h.moves
             (subst (λ x. All (λ (k : Kept). IsKeptAs s' k.status k.desc k.class) x.kept) (sym h.holds_after)
             (All-cons (λ (k : Kept). IsKeptAs s' k.status k.desc k.class) (record { desc = at.desc; class = at.seat.class; status = on_its_way }) []
             without (All-nil (λ (k : Kept). IsKeptAs s' k.status k.desc k.class))))
-            (λ i has k d lt. kept_as-same s s' same _ _ _ (kept.errand i has k d lt));
+            (λ i has k d lt. kept_as-same same _ _ _ (kept.errand i has k d lt));
       }
 
   pub discarded-stocked : IsSoundWith g s l → IsStocked g s' l
   discarded-stocked old = record {
     most = λ class has.
-        let same = discarded-descs g s l caller at e s' h in
+        let same = discarded-descs h in
         let filled : sum_below (descriptor_count g) (full_stock s' class) ≡ sum_below (descriptor_count g) (full_stock s class) =
         sum-same (descriptor_count g) (full_stock s class) (full_stock s' class) (λ d lt. rw (same.info d, same.anchor d) refl) in
         omega (
           arith,
           old.stocked.most class has,
           filled,
-          stock-goes (discarded-holds g s l caller at e s' h) class (h.stands_before.waits class) (h.stands_after.waits class),
+          stock-goes (discarded-holds h) class (h.stands_before.waits class) (h.stands_after.waits class),
           words-same g (word_stock class) s.word s'.word h.words,
           making-stock at class,
         );
   }
 
   discarded-others-wait : (d : ℕ) → d ≢ at.desc → waiting_of g s' d ≡ waiting_of g s d
-  discarded-others-wait d differ = omega (arith, discarded-waits g s l caller at e s' h d, it-elsewhere at d differ)
+  discarded-others-wait d differ = omega (arith, discarded-waits h d, it-elsewhere at d differ)
 
   -- the frame stays in the caller's hand
   pub discarded-framed : IsSoundWith g s l → IsFramed g s' l
   discarded-framed old =
-      let same = discarded-descs g s l caller at e s' h in
-      framed-after (discarded-holds g s l caller at e s' h) l
+      let same = discarded-descs h in
+      framed-after (discarded-holds h) l
       (λ f.
-      let now : fills_frame g s' l f at.desc ≡ 0 = rw (discarded-unbound g s l caller at e s' h) refl in
-      let was : fills_frame g s l f at.desc ≡ 0 = waiting-fills g s l at.desc f (discarded-waited g s l caller at e s' h old) in
+      let now : fills_frame g s' l f at.desc ≡ 0 = rw (discarded-unbound h) refl in
+      let was : fills_frame g s l f at.desc ≡ 0 = waiting-fills g s l at.desc f (discarded-waited h old) in
       of-each (λ k. fills_frame g s' l f k ≡ fills_frame g s l f k) at.desc (now ∙ sym was)
-      (λ d differ. rw (discarded-bound g s l caller at e s' h d differ, discarded-others-wait d differ, same.info d) refl))
+      (λ d differ. rw (discarded-bound h d differ, discarded-others-wait d differ, same.info d) refl))
       (λ f. refl) old.framed
 
   -- all superblocks that are left keep their blocks in order
   pub discarded-chained : IsSoundWith g s l → AreChained g s' l
   discarded-chained old =
-      let still = discarded-still g s l caller at e s' h in
+      let still = discarded-still h in
       record {
         infos = infos-stay still g l old.chained;
         chained = λ d has bound.
-            let differ : d ≢ at.desc = discarded-was g s l caller at e s' h d bound in
-            let was : IsTrue (is_bound g s l d) = subst IsTrue (discarded-bound g s l caller at e s' h d differ) bound in
-            let anchor = (discarded-descs g s l caller at e s' h).anchor d in
+            let differ : d ≢ at.desc = discarded-was h d bound in
+            let was : IsTrue (is_bound g s l d) = subst IsTrue (discarded-bound h d differ) bound in
+            let anchor = (discarded-descs h).anchor d in
             same-chained (superblock_of g s d) (superblock_of g s' d) (old.chained.chained d has was)
-            (superblock-stays still g d anchor (discarded-reserved g s l caller at e s' h d differ) (discarded-others-wait d differ))
+            (superblock-stays still g d anchor (discarded-reserved h d differ) (discarded-others-wait d differ))
             (λ i lt. ap (λ f. f i) (live-stays still g h.history d));
       }
 
@@ -139,7 +126,7 @@ module _ (g : Geometry) (s : State) (l : Lists) (caller : ℕ) (at : Site) (e : 
   pub discarded-turned : IsSoundWith g s l → IsTurned g s' l
   discarded-turned old =
       let turned = old.turned in
-      let same = discarded-descs g s l caller at e s' h in
+      let same = discarded-descs h in
       let p = h.stands_before in
       let q = h.stands_after in
       let before = framed-weighs (s.errand caller) p in
@@ -152,7 +139,7 @@ module _ (g : Geometry) (s : State) (l : Lists) (caller : ℕ) (at : Site) (e : 
       emptied-kept g s l s' l
       (of-each (λ k. emptied_out g s' l k ≡ emptied_out g s l k) at.desc (now ∙ sym was)
       (λ d differ.
-      let away : away_of g s' l d ≡ away_of g s l d = omega (arith, discarded-away g s l caller at e s' h d, it-elsewhere at d differ) in
+      let away : away_of g s' l d ≡ away_of g s l d = omega (arith, discarded-away h d, it-elsewhere at d differ) in
       rw (away, same.anchor d) refl)) in
       turned-after g s l caller e s' l 0 0
       (record {

@@ -1,19 +1,11 @@
 -- A lost install keeps what the callers remember: nobody else remembers anything of the superblock that isn't needed.
-use Rattle.std.proofs.Common.{ℕ, ◌≡◌, ◌≢◌, arith, ap, sym, subst, ◌∙◌}
+use Rattle.std.proofs.Common.{ℕ, ◌≡◌, ◌≢◌, arith, ap, sym, subst, ◌∙◌, IsTrue}
 use Rattle.std.specs.List.{All}
-use Rattle.std.specs.Prelude.{IsTrue}
 use Rattle.std.proofs.lemmas.List.Elements.{All-nil}
-use Rattle.heap_geometry.specs.declared.geometry.Geometry.{Geometry}
-use Rattle.packed_words.specs.declared.anchor.State.TheVariants as phase
-use Rattle.word_plan.specs.declared.seat.Site.{Site}
-use Rattle.partial_parts.specs.Grants.{is_empty}
-use Rattle.pool_model.specs.Histories.{own}
-use Rattle.errand_steps.specs.Errands.{ErrandFields}
-use Rattle.errand_steps.specs.Steps.{State}
-use Rattle.sound_state.specs.Lists.{Lists}
-use Rattle.sound_state.specs.Recalls.{Recall, IsRemembered, IsSo, bound_for, bound_at, pops, links, says}
-use Rattle.sound_state.specs.Sound.{IsSoundWithoutCounts, IsSoundWith}
-use Rattle.sound_state.specs.Superblocks.{anchor_for}
+use Rattle.sound_state.proofs.Common.{Geometry, Site, is_empty, own, ErrandFields, State, Lists, Recall, IsSo, bound_for, bound_at, pops, links, says}
+use Rattle.sound_state.proofs.Common.{IsSoundWithoutCounts, IsSoundWith, anchor_for}
+use Rattle.packed_words.specs.declared.anchor.AnchorState.TheVariants as phase
+use Rattle.sound_state.specs.Recalls.{IsRemembered}
 use Rattle.sound_state.proofs.shared.MakingWeights.{it-elsewhere}
 use Rattle.sound_state.proofs.shared.RecallEffects.{Leaves, IsLeft, popped-steady, remembered-left}
 use Rattle.sound_state.proofs.shared.RecallTables.{IsUnbound, unbound-recalls}
@@ -22,28 +14,28 @@ use Rattle.sound_state.proofs.discards.DiscardFacts.{discarded-descs, discarded-
 use Rattle.sound_state.proofs.discards.DiscardTies.{own-apart, discarded-owned}
 
 -- an install that was lost
-module _ (g : Geometry) (s : State) (l : Lists) (caller : ℕ) (at : Site) (e : ErrandFields) (s' : State) (h : Discards g s l caller at e s') where
+module _ {g : Geometry} {s : State} {l : Lists} {caller : ℕ} {at : Site} {e : ErrandFields} {s' : State} (h : Discards g s l caller at e s') where
   -- it leaves what the others remember
   discarded-leaves : (i : ℕ) → Leaves g s l s' i
   discarded-leaves i = record {
     steady = λ n is. h.words n;
     events = ap (own i) h.history;
-    owned = discarded-owned g s l caller at e s' h i;
-    empty = λ d so. ap (λ x. is_empty x.state) ((discarded-descs g s l caller at e s' h).anchor d);
+    owned = discarded-owned h i;
+    empty = λ d so. ap (λ x. is_empty x.state) ((discarded-descs h).anchor d);
     ways = λ d so.
         let differ : d ≢ at.desc =
         λ same.
         let bad : phase.Active ≡ phase.Empty = sym (ap (λ x. x.state) h.anchor) ∙ ap (λ k. (anchor_for s k).state) (sym same) ∙ so.state in cc in
-        omega (arith, discarded-ways g s l caller at e s' h d, it-elsewhere at d differ);
+        omega (arith, discarded-ways h d, it-elsewhere at d differ);
   }
 
   discarded-left : (r : Recall) → IsUnbound at.desc r → IsLeft g s l s' r
-  discarded-left (bound_for d c) apart = subst IsTrue (sym (discarded-bound g s l caller at e s' h d apart))
-  discarded-left (bound_at d f c) apart = subst IsTrue (sym (discarded-bound g s l caller at e s' h d apart))
+  discarded-left (bound_for d c) apart = subst IsTrue (sym (discarded-bound h d apart))
+  discarded-left (bound_at d f c) apart = subst IsTrue (sym (discarded-bound h d apart))
   discarded-left (pops d b) apart =
-      popped-steady g s l s' (λ n is. h.words n) d b ((discarded-descs g s l caller at e s' h).anchor d)
-      (discarded-reserved g s l caller at e s' h d apart)
-  discarded-left (links d b prefix) apart = λ is. is ∙ ap (λ x. x.tag) ((discarded-descs g s l caller at e s' h).anchor d)
+      popped-steady g s l s' (λ n is. h.words n) d b ((discarded-descs h).anchor d)
+      (discarded-reserved h d apart)
+  discarded-left (links d b prefix) apart = λ is. is ∙ ap (λ x. x.tag) ((discarded-descs h).anchor d)
   discarded-left (says n w) apart = h.words n
   discarded-left r apart = tt
 
@@ -53,5 +45,5 @@ module _ (g : Geometry) (s : State) (l : Lists) (caller : ℕ) (at : Site) (e : 
       (λ i has ne. discarded-leaves i)
       (λ i has ne k d lt.
       discarded-left _
-      (unbound-recalls g s l i at.desc (own-apart g s l caller at e s' h sound old i) old has (others-reserve g s l caller at e s' h old i has ne) k d lt))
+      (unbound-recalls g s l i at.desc (own-apart h sound old i) old has (others-reserve h old i has ne) k d lt))
       old.remembered

@@ -1,32 +1,12 @@
 -- The step of a lost install, and what it changes.
-use Rattle.std.proofs.Common.{ℕ, true, false, ◌≡◌, ◌≢◌, ◌<◌, ◌≤◌, ◌+◌, ◌^◌, refl, arith, ap, sym, subst, inl, inr}
-use Rattle.std.specs.Prelude.{◌⊎◌, ◌==◌}
+use Rattle.std.proofs.Common.{ℕ, true, false, ◌≡◌, ◌≢◌, ◌<◌, ◌≤◌, ◌+◌, ◌^◌, refl, arith, ap, sym, subst, inl, inr, ◌⊎◌, ◌==◌}
 use Rattle.std.proofs.lemmas.Bool.{cases_eq, cases_lt, cond-false, ne_eqb}
-use Rattle.heap_geometry.specs.declared.geometry.Geometry.{Geometry}
-use Rattle.packed_words.specs.Active.{active_word}
-use Rattle.packed_words.specs.declared.active.ActiveWord.TheVariants.{Null, Held}
-use Rattle.word_plan.specs.declared.action.Found.{Found}
-use Rattle.word_plan.specs.declared.seat.Site.{Site}
-use Rattle.word_plan.specs.Sites.{active_name}
-use Rattle.word_plan.specs.Words.{Writes}
-use Rattle.superblock_parts.specs.Anchors.{new_credits}
+use Rattle.sound_state.proofs.Common.{Geometry, active_word, Null, Held, Found, Site, active_name, Writes, new_credits, Frames, Continuation, Point, Block, Stack}
+use Rattle.sound_state.proofs.Common.{ErrandFields, counts_lost, raised, event_of, next_of, asked, plan_point_of, State, Step, IsLegalWithoutCounts, holds_of, Lists}
+use Rattle.sound_state.proofs.Common.{recalls_of, IsSoundWithoutCounts, IsSoundWith, IsOwnErrand}
 use Rattle.superblock_parts.specs.declared.point.BlockPoint.TheVariants as block
-use Rattle.stack_parts.specs.declared.point.Pile.TheVariants.{Frames}
 use Rattle.stack_parts.specs.declared.point.StackPoint.TheVariants as stack
-use Rattle.errand_steps.specs.declared.continuation.Continuation.{Continuation}
 use Rattle.errand_steps.specs.declared.continuation.Continuation.TheVariants as continuation
-use Rattle.errand_steps.specs.declared.point.Point.{Point}
-use Rattle.errand_steps.specs.declared.point.Point.TheVariants.{Block, Stack}
-use Rattle.errand_steps.specs.Errands.{ErrandFields, counts_lost, raised}
-use Rattle.errand_steps.specs.Events.{event_of}
-use Rattle.errand_steps.specs.Nexts.{next_of}
-use Rattle.errand_steps.specs.Points.{asked, plan_point_of}
-use Rattle.errand_steps.specs.Steps.{State, Step}
-use Rattle.pool_model.specs.Legal.{IsLegalWithoutCounts}
-use Rattle.sound_state.specs.Holdings.{holds_of}
-use Rattle.sound_state.specs.Lists.{Lists}
-use Rattle.sound_state.specs.Recalls.{recalls_of}
-use Rattle.sound_state.specs.Sound.{IsSoundWithoutCounts, IsSoundWith, IsOwnErrand}
 use Rattle.sound_state.proofs.discards.DiscardEffects.{Discards, StandsDiscarding}
 use Rattle.sound_state.proofs.discards.DiscardKeeps.{discarded-words, discarded-listed, discarded-kept, discarded-stocked, discarded-framed, discarded-chained, discarded-guarded, discarded-turned}
 use Rattle.sound_state.proofs.discards.DiscardRecalls.{discarded-remembered}
@@ -37,6 +17,7 @@ use Rattle.sound_state.proofs.shared.ShownLemmas.{each-caller}
 use Rattle.sound_state.proofs.shared.StepLemmas.{at_point, words-stay}
 use Rattle.sound_state.proofs.shared.TurnEffects.{StandsFramed}
 use Rattle.sound_state.proofs.shared.WonEffects.{StepEffects, step-effects}
+use Rattle.sound_state.proofs.shared.KeepsSound.{KeepsSound, KeepsSoundWhere}
 
 -- where a lost install leads
 abbrev pub discarded_point : Site → Continuation → Point
@@ -99,10 +80,8 @@ install-discards g s l caller s' at o sound is has here other step =
 
 -- the state after a lost install is sound
 pub install_superblock-lost :
-    (g : Geometry) (s : State) (caller : ℕ) (s' : State) (at : Site) (o : Continuation) → IsSoundWithoutCounts g s → caller < g.callers
-    → (s.errand caller).point ≡ Block (block.InstallSuperblock at) o → s.word (active_name at.seat) ≢ active_word Null → Step s caller s'
-    → IsSoundWithoutCounts g s'
-install_superblock-lost g s caller s' at o sound has here other step =
+    (at : Site) (o : Continuation) → KeepsSoundWhere (Block (block.InstallSuperblock at) o) (λ s. s.word (active_name at.seat) ≢ active_word Null)
+install_superblock-lost at o g s caller s' sound has here other step =
     let l = sound.parts.0 in
     let is = sound.parts.1 in
     let e = at_point (s.errand caller) (lost_with (s.word (active_name at.seat))) (discarded_point at o) in
@@ -113,27 +92,25 @@ install_superblock-lost g s caller s' at o sound has here other step =
       parts = (
         l,
         record {
-          words = discarded-words g s l caller at e s' h is;
+          words = discarded-words h is;
           errands = each-caller g (IsOwnErrand g) s.errand caller e s'.errand h.moves h.rule is.errands;
-          listed = discarded-listed g s l caller at e s' h is;
-          kept = discarded-kept g s l caller at e s' h is;
-          chained = discarded-chained g s l caller at e s' h is;
-          framed = discarded-framed g s l caller at e s' h is;
-          remembered = discarded-remembered g s l caller at e s' h sound is;
-          guarded = discarded-guarded g s l caller at e s' h is;
-          stocked = discarded-stocked g s l caller at e s' h is;
-          turned = discarded-turned g s l caller at e s' h is;
-          tied = discarded-tied g s l caller at e s' h sound is;
+          listed = discarded-listed h is;
+          kept = discarded-kept h is;
+          chained = discarded-chained h is;
+          framed = discarded-framed h is;
+          remembered = discarded-remembered h sound is;
+          guarded = discarded-guarded h is;
+          stocked = discarded-stocked h is;
+          turned = discarded-turned h is;
+          tied = discarded-tied h sound is;
         },
       );
     }
 
 -- so it is after an install, won or lost
-pub install_superblock-sound :
-    (g : Geometry) (s : State) (caller : ℕ) (s' : State) (at : Site) (o : Continuation) → IsSoundWithoutCounts g s → caller < g.callers
-    → (s.errand caller).point ≡ Block (block.InstallSuperblock at) o → Step s caller s' → IsSoundWithoutCounts g s'
-install_superblock-sound g s caller s' at o sound has here step =
+pub install_superblock-sound : (at : Site) (o : Continuation) → KeepsSound (Block (block.InstallSuperblock at) o)
+install_superblock-sound at o g s caller s' sound has here step =
     elim (cases_eq (s.word (active_name at.seat)) (active_word Null)) [
-      | inl is ↦ install_superblock-won g s caller s' at o sound has here is step
-      | inr other ↦ install_superblock-lost g s caller s' at o sound has here other step
+      | inl is ↦ install_superblock-won at o g s caller s' sound has here is step
+      | inr other ↦ install_superblock-lost at o g s caller s' sound has here other step
     ]

@@ -1,82 +1,62 @@
 -- After a lost install the words still show the pool of the events.
-use Rattle.std.proofs.Common.{ℕ, ◌≡◌, ◌≢◌, ap, sym, subst, ◌∙◌}
-use Rattle.std.specs.Prelude.{IsTrue}
-use Rattle.heap_geometry.specs.declared.geometry.Geometry.{Geometry}
-use Rattle.heap_geometry.specs.declared.need.Need.{Need}
-use Rattle.heap_geometry.specs.declared.need.Need.TheVariants.{Small}
-use Rattle.heap_geometry.specs.Place.{block_place, frame_of}
-use Rattle.heap_geometry.proofs.PlaceLemmas.{frame_of-block_place}
-use Rattle.word_plan.specs.declared.name.WordName.TheVariants as name
-use Rattle.word_plan.specs.declared.seat.Site.{Site}
-use Rattle.superblock_parts.specs.Fits.{IsBlockOf}
-use Rattle.pool_model.specs.Pool.{Block, block_at, pool_of}
-use Rattle.errand_steps.specs.Errands.{ErrandFields}
-use Rattle.errand_steps.specs.Steps.{State}
-use Rattle.sound_state.specs.Holdings.{Holding}
-use Rattle.sound_state.specs.Lists.{Lists}
-use Rattle.sound_state.specs.Recalls.{IsLocated, IsOwned, IsSo, bound_at}
-use Rattle.sound_state.specs.Sound.{IsSoundWithoutCounts, IsSoundWith}
-use Rattle.sound_state.specs.Superblocks.{info_for}
-use Rattle.sound_state.specs.Ties.{IsTied, IsLive, IsBlockOfDesc}
+use Rattle.std.proofs.Common.{ℕ, ◌≡◌, ◌≢◌, ap, sym, subst, ◌∙◌, IsTrue}
+use Rattle.sound_state.proofs.Common.{Geometry, Need, Small, block_place, frame_of, frame_of-block_place, Site, block_at, pool_of, ErrandFields, State, Holding}
+use Rattle.sound_state.proofs.Common.{Lists, IsLocated, IsOwned, IsSo, bound_at, IsSoundWithoutCounts, IsSoundWith, info_for, IsTied, IsLive}
+use Rattle.word_table.specs.declared.name.WordName.TheVariants as name
+use Rattle.superblock_parts.specs.Points.{IsBlockOf}
+use Rattle.pool_model.specs.Pool.{Block}
+use Rattle.sound_state.specs.Ties.{IsBlockOfDesc}
 use Rattle.sound_state.proofs.discards.DiscardEffects.{Discards}
 use Rattle.sound_state.proofs.discards.DiscardFacts.{discarded-descs, discarded-bound, nothing-there}
 use Rattle.sound_state.proofs.shared.TieLemmas.{IsBareHanded, blocks-stay, bare-owns, excepts-none, located-stays, not-live, owned-stays, small-lies}
 
--- no live block is one of the superblock that isn't needed
-pub not-its :
-    (g : Geometry) (s : State) (l : Lists) (caller : ℕ) (at : Site) (e : ErrandFields) (s' : State)
-    → Discards g s l caller at e s' → IsSoundWithoutCounts g s → IsSoundWith g s l → (place class : ℕ) (b : Block) → IsLive s place b
-    → b.need ≡ Small class → (d : ℕ) → IsBlockOfDesc g s l place class d → d ≢ at.desc
-not-its g s l caller at e s' h sound is place class b live small d of here =
-    let lies =
-    small-lies g s place class (info_for s at.desc).frame (info_for s at.desc).class b sound live small
-    (sym of.located.frame ∙ ap (λ k. (info_for s k).frame) here) (sym of.located.class ∙ ap (λ k. (info_for s k).class) here) in
-    not-live s (block_place (info_for s at.desc).frame (info_for s at.desc).class lies.0) place b (nothing-there g s l caller at e s' h is lies.0 lies.1)
-    lies.2 live
+module _ {g : Geometry} {s : State} {l : Lists} {caller : ℕ} {at : Site} {e : ErrandFields} {s' : State} (h : Discards g s l caller at e s') where
+  -- no live block is one of the superblock that isn't needed
+  pub not-its :
+      IsSoundWithoutCounts g s → IsSoundWith g s l → (place class : ℕ) (b : Block) → IsLive s place b → b.need ≡ Small class → (d : ℕ)
+      → IsBlockOfDesc g s l place class d → d ≢ at.desc
+  not-its sound is place class b live small d of here =
+      let lies =
+      small-lies g s place class (info_for s at.desc).frame (info_for s at.desc).class b sound live small
+      (sym of.located.frame ∙ ap (λ k. (info_for s k).frame) here) (sym of.located.class ∙ ap (λ k. (info_for s k).class) here) in
+      not-live s (block_place (info_for s at.desc).frame (info_for s at.desc).class lies.0) place b (nothing-there h is lies.0 lies.1)
+      lies.2 live
 
--- so nobody owns a block of it
-pub own-apart :
-    (g : Geometry) (s : State) (l : Lists) (caller : ℕ) (at : Site) (e : ErrandFields) (s' : State)
-    → Discards g s l caller at e s' → IsSoundWithoutCounts g s → IsSoundWith g s l → (i : ℕ) (site : Site) (k : ℕ) → IsBlockOf g i site k
-    → IsOwned s i (block_place site.frame site.seat.class k) (Small site.seat.class)
-    → IsSo g s l i (bound_at site.desc site.frame site.seat.class) → site.desc ≢ at.desc
-own-apart g s l caller at e s' h sound is i site k fit owned so =
-    not-its g s l caller at e s' h sound is (block_place site.frame site.seat.class k) site.seat.class owned.block.0 owned.block.1
-    owned.block.3 site.desc
-    (record {
-      exists = fit.site.desc;
-      bound = so.0;
-      located =
-          subst (λ f. IsLocated s site.desc f site.seat.class) (sym (frame_of-block_place site.frame site.seat.class k fit.index)) so.1;
-    })
+  -- so nobody owns a block of it
+  pub own-apart :
+      IsSoundWithoutCounts g s → IsSoundWith g s l → (i : ℕ) (site : Site) (k : ℕ) → IsBlockOf g i site k
+      → IsOwned s i (block_place site.frame site.seat.class k) (Small site.seat.class) → IsSo g s l i (bound_at site.desc site.frame site.seat.class)
+      → site.desc ≢ at.desc
+  own-apart sound is i site k fit owned so =
+      not-its sound is (block_place site.frame site.seat.class k) site.seat.class owned.block.0 owned.block.1
+      owned.block.3 site.desc
+      (record {
+        exists = fit.site.desc;
+        bound = so.0;
+        located =
+            subst (λ f. IsLocated s site.desc f site.seat.class) (sym (frame_of-block_place site.frame site.seat.class k fit.index)) so.1;
+      })
 
--- what was owned is, and what was located
-pub discarded-owned :
-    (g : Geometry) (s : State) (l : Lists) (caller : ℕ) (at : Site) (e : ErrandFields) (s' : State)
-    → Discards g s l caller at e s' → (i place : ℕ) (n : Need) → IsOwned s i place n → IsOwned s' i place n
-discarded-owned g s l caller at e s' h i place n k =
-    owned-stays s s' i place n (λ b live. ap (λ past. block_at place (pool_of past)) h.history ∙ live) k
+  -- what was owned is, and what was located
+  pub discarded-owned : (i place : ℕ) (n : Need) → IsOwned s i place n → IsOwned s' i place n
+  discarded-owned i place n k = owned-stays s s' i place n (λ b live. ap (λ past. block_at place (pool_of past)) h.history ∙ live) k
 
-pub discarded-located :
-    (g : Geometry) (s : State) (l : Lists) (caller : ℕ) (at : Site) (e : ErrandFields) (s' : State)
-    → Discards g s l caller at e s' → (d f c : ℕ) → IsLocated s d f c → IsLocated s' d f c
-discarded-located g s l caller at e s' h d f c k = located-stays s s' d f c ((discarded-descs g s l caller at e s' h).info d) k
+  pub discarded-located : (d f c : ℕ) → IsLocated s d f c → IsLocated s' d f c
+  discarded-located d f c k = located-stays s s' d f c ((discarded-descs h).info d) k
 
--- the words still show the pool: no block changes
-pub discarded-tied :
-    (g : Geometry) (s : State) (l : Lists) (caller : ℕ) (at : Site) (e : ErrandFields) (s' : State)
-    → Discards g s l caller at e s' → IsSoundWithoutCounts g s → IsSoundWith g s l → IsTied g s' l
-discarded-tied g s l caller at e s' h sound is =
-    let before : IsBareHanded (s.errand caller).point =
-    record { hands = ap (λ (o : Holding). o.hands) h.holds_before; frees = ap (λ (o : Holding). o.frees) h.holds_before } in
-    let owns =
-    bare-owns s' caller e.point
-    (record { hands = ap (λ (o : Holding). o.hands) h.holds_after; frees = ap (λ (o : Holding). o.frees) h.holds_after }) in
-    blocks-stay g s l l caller e s' h.moves
-    (record { arena = λ place. h.words (name.Arena place); units = h.words name.Units; shelf = λ k. h.words (name.Shelf k) }) h.history
-    (λ place c b d live of its. record {
-      exists = its.exists;
-      bound = subst IsTrue (sym (discarded-bound g s l caller at e s' h d (not-its g s l caller at e s' h sound is place c b live of d its))) its.bound;
-      located = discarded-located g s l caller at e s' h d (frame_of place) c its.located;
-    })
-    (λ place excepts. absurd (excepts-none (s.errand caller) place before excepts)) owns.0 owns.1 is.tied
+  -- the words still show the pool: no block changes
+  pub discarded-tied : IsSoundWithoutCounts g s → IsSoundWith g s l → IsTied g s' l
+  discarded-tied sound is =
+      let before : IsBareHanded (s.errand caller).point =
+      record { hands = ap (λ (o : Holding). o.hands) h.holds_before; frees = ap (λ (o : Holding). o.frees) h.holds_before } in
+      let owns =
+      bare-owns s' caller e.point
+      (record { hands = ap (λ (o : Holding). o.hands) h.holds_after; frees = ap (λ (o : Holding). o.frees) h.holds_after }) in
+      blocks-stay g s l l caller e s' h.moves
+      (record { arena = λ place. h.words (name.Arena place); units = h.words name.Units; shelf = λ k. h.words (name.Shelf k) }) h.history
+      (λ place c b d live of its. record {
+        exists = its.exists;
+        bound = subst IsTrue (sym (discarded-bound h d (not-its sound is place c b live of d its))) its.bound;
+        located = discarded-located d (frame_of place) c its.located;
+      })
+      (λ place excepts. absurd (excepts-none (s.errand caller) place before excepts)) owns.0 owns.1 is.tied

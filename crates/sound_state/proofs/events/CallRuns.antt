@@ -2,20 +2,15 @@
 use Rattle.std.proofs.Common.{ℕ, ◌≡◌, ◌<◌, List, [], ◌∷◌, inl, inr, refl, sym, ◌∙◌, subst}
 use Rattle.std.proofs.lemmas.Bool.{cases_eq, cases_Bool, true≢false}
 use Rattle.std.proofs.lemmas.List.Elements.{All-head, All-tail}
-use Rattle.heap_geometry.specs.declared.geometry.Geometry.{Geometry}
-use Rattle.pool_model.specs.declared.event.Event.{Event}
-use Rattle.pool_model.specs.Histories.{own}
-use Rattle.errand_steps.specs.declared.reply.Reply.{Reply}
+use Rattle.sound_state.proofs.Common.{Geometry, Event, own, Reply, State, Step, found_at, IsSound}
 use Rattle.errand_steps.specs.declared.reply.Progress.TheVariants.{Done}
 use Rattle.errand_steps.specs.Begins.{IsIdle, IsBusy}
 use Rattle.errand_steps.specs.Calls.{Call}
 use Rattle.errand_steps.specs.Errands.{answer_of}
 use Rattle.errand_steps.specs.Points.{is_idle}
-use Rattle.errand_steps.specs.Steps.{State, Step, found_at}
 use Rattle.sound_state.specs.Calls.{IsInCall, HasEndedCall}
 use Rattle.sound_state.specs.Moves.{IsNoBegin, BeginsNothing}
-use Rattle.sound_state.specs.Runs.{Begins, Move, begins, steps, Moved, Reaches}
-use Rattle.sound_state.specs.Sound.{IsSound}
+use Rattle.sound_state.specs.Runs.{BeginsCall, Move, begins, steps, Moved, Reaches}
 use Rattle.sound_state.proofs.ReachLemmas.{moved-sound, reached-sound}
 use Rattle.sound_state.proofs.events.CallSteps.{IsAside, begins-aside, steps-aside, begins-in_call, moved-in_call, step-ends_call}
 
@@ -59,7 +54,7 @@ run-in_call g s caller call before (move ∷ moves) s' sound has now none reache
 -- from the begin of the call on
 pub begun-in_call :
     (g : Geometry) (s : State) (caller : ℕ) (call : Call) (begun : State) (moves : List Move) (s' : State) → IsSound g s → caller < g.callers
-    → Begins s caller call begun → BeginsNothing caller moves → Reaches g begun moves s' → IsBusy (s'.errand caller)
+    → BeginsCall s caller call begun → BeginsNothing caller moves → Reaches g begun moves s' → IsBusy (s'.errand caller)
     → IsInCall caller call (own caller s.history) s'
 begun-in_call g s caller call begun moves s' sound has b none reached busy =
     elim (cases_Bool (is_idle (begun.errand caller).point)) [
@@ -73,7 +68,7 @@ begun-in_call g s caller call begun moves s' sound has b none reached busy =
 -- and to its end
 pub begun-ends :
     (g : Geometry) (s : State) (caller : ℕ) (call : Call) (begun : State) (moves : List Move) (later after : State) (r : Reply) → IsSound g s
-    → caller < g.callers → Begins s caller call begun → BeginsNothing caller moves → Reaches g begun moves later → Step later caller after
+    → caller < g.callers → BeginsCall s caller call begun → BeginsNothing caller moves → Reaches g begun moves later → Step later caller after
     → answer_of (later.errand caller) (found_at later caller) ≡ Done r → HasEndedCall caller call (own caller s.history) r after
 begun-ends g s caller call begun moves later after r sound has b none reached step is =
     let sound_later = reached-sound g begun moves later (moved-sound g s (begins caller call) begun sound (has, b)) reached in

@@ -1,16 +1,13 @@
 -- One move of any caller, seen by a caller that is in a call.
 use Rattle.std.proofs.Common.{ℕ, ◌≡◌, ◌≢◌, ◌<◌, List, [], ◌++◌, Some, inl, inr, refl, sym, ap, ◌∙◌, subst, append-nil}
 use Rattle.std.proofs.lemmas.Bool.{cases_eq, true≢false}
-use Rattle.heap_geometry.specs.declared.geometry.Geometry.{Geometry}
-use Rattle.pool_model.specs.declared.event.Event.{Event}
-use Rattle.pool_model.specs.Histories.{own, caller_of}
-use Rattle.errand_steps.specs.declared.reply.Reply.{Reply}
+use Rattle.sound_state.proofs.Common.{Geometry, Event, own, Reply, ErrandFields, settle_of, event_of, State, Step, found_at, name_at, with_event, IsSound}
+use Rattle.pool_model.specs.Histories.{caller_of}
 use Rattle.errand_steps.specs.declared.reply.Progress.TheVariants.{Done}
 use Rattle.errand_steps.specs.Begins.{IsIdle, IsBusy}
 use Rattle.errand_steps.specs.Calls.{Call, alloc, free, write, read, put, take, begun_by}
-use Rattle.errand_steps.specs.Errands.{ErrandFields, answer_of, settle_of}
-use Rattle.errand_steps.specs.Events.{event_of}
-use Rattle.errand_steps.specs.Steps.{State, Step, found_at, event_at, name_at, with_event}
+use Rattle.errand_steps.specs.Errands.{answer_of}
+use Rattle.errand_steps.specs.Steps.{event_at}
 use Rattle.errand_steps.proofs.EventLemmas.{event_own}
 use Rattle.call_events.specs.Ends.{HasEnded}
 use Rattle.call_events.specs.UnderWay.{IsUnderWay, IsAboutBlock}
@@ -18,8 +15,7 @@ use Rattle.call_events.proofs.AnswerLemmas.{step-goes_on, step-ends}
 use Rattle.call_events.proofs.BeginsLemmas.{call-begins}
 use Rattle.call_events.proofs.EndLemmas.{way-busy}
 use Rattle.sound_state.specs.Calls.{IsInCall, HasEndedCall}
-use Rattle.sound_state.specs.Runs.{Begins, MayBegin, Move, begins, steps, Moved}
-use Rattle.sound_state.specs.Sound.{IsSound}
+use Rattle.sound_state.specs.Runs.{BeginsCall, MayBegin, Move, begins, steps, Moved}
 use Rattle.sound_state.proofs.CountedLemmas.{without-counts}
 use Rattle.sound_state.proofs.beginnings.BegunLemmas.{errand-block}
 use Rattle.sound_state.proofs.events.OwnEvents.{own-with_event, own-of_others, added-event}
@@ -40,7 +36,7 @@ about-block g s caller (put place need shelf) sound has may = errand-block g s c
 about-block g s caller (take shelf) sound has may = tt
 
 pub begins-in_call :
-    (g : Geometry) (s : State) (caller : ℕ) (call : Call) (s' : State) → IsSound g s → caller < g.callers → Begins s caller call s'
+    (g : Geometry) (s : State) (caller : ℕ) (call : Call) (s' : State) → IsSound g s → caller < g.callers → BeginsCall s caller call s'
     → IsBusy (s'.errand caller) → IsInCall caller call (own caller s.history) s'
 begins-in_call g s caller call s' sound has b busy =
     let here : s'.errand caller ≡ begun_by (s.errand caller) call = ap (λ (t : State). t.errand caller) b.after ∙ b.moves.here in
@@ -101,7 +97,7 @@ pub record IsAside (caller : ℕ) (s s' : State) : Type 0 where
   pub errand : s'.errand caller ≡ s.errand caller
   pub events : own caller s'.history ≡ own caller s.history
 
-pub begins-aside : (s : State) (caller other : ℕ) (call : Call) (s' : State) → other ≢ caller → Begins s other call s' → IsAside caller s s'
+pub begins-aside : (s : State) (caller other : ℕ) (call : Call) (s' : State) → other ≢ caller → BeginsCall s other call s' → IsAside caller s s'
 begins-aside s caller other call s' apart b = record {
   errand = ap (λ (t : State). t.errand caller) b.after ∙ b.moves.elsewhere caller (λ same. apart (sym same));
   events = ap (λ (t : State). own caller t.history) b.after;

@@ -1,9 +1,8 @@
 -- A step adds an event to its caller's own, and none to another's.
 use Rattle.std.proofs.Common.{ℕ, ◌≡◌, ◌≢◌, List, [], ◌∷◌, ◌++◌, Option, Some, None, refl, ◌∙◌, sym, append_assoc, eq-eqb}
-use Rattle.pool_model.specs.declared.event.Event.{Event}
-use Rattle.pool_model.specs.Histories.{own, caller_of}
+use Rattle.sound_state.proofs.Common.{Event, own, with_event}
+use Rattle.pool_model.specs.Histories.{caller_of}
 use Rattle.pool_model.proofs.HistoryLemmas.{own-append}
-use Rattle.errand_steps.specs.Steps.{with_event}
 use Rattle.sound_state.proofs.shared.EventFacts.{told-own}
 
 pub own-with_event :

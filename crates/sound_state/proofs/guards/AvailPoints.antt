@@ -1,33 +1,17 @@
 -- What the step from each point does to the words of the available descriptors.
-use Rattle.std.proofs.Common.{ℕ, Some, ◌≡◌, ◌≤◌, ◌+◌, refl, arith, ap, inl, inr}
-use Rattle.std.specs.Prelude.{◌⊎◌}
+use Rattle.std.proofs.Common.{ℕ, Some, ◌≡◌, ◌≤◌, ◌+◌, refl, arith, ap, inl, inr, ◌⊎◌}
 use Rattle.std.proofs.lemmas.Bool.{cases_eq, eq-eqb, ne_eqb}
-use Rattle.word_plan.specs.declared.name.WordName.{WordName}
-use Rattle.word_plan.specs.declared.name.WordName.TheVariants as name
-use Rattle.word_plan.specs.Actions.{name_of, after_action}
-use Rattle.word_plan.specs.Seats.{SeatFields}
-use Rattle.superblock_parts.specs.declared.point.BlockPoint.{BlockPoint}
+use Rattle.sound_state.proofs.Common.{WordName, name_of, after_action, SeatFields, BlockPoint, Pile, Frames, Partials, StackPoint, head_name, next_name, DescPoint}
+use Rattle.sound_state.proofs.Common.{PartialPoint, LargePoint, Continuation, Point, pushed_by, plan_point_of, partly_used, holds_of, kept_among}
+use Rattle.word_table.specs.declared.name.WordName.TheVariants as name
 use Rattle.superblock_parts.specs.Points.{plan_block_of}
-use Rattle.stack_parts.specs.declared.point.Pile.{Pile}
-use Rattle.stack_parts.specs.declared.point.Pile.TheVariants.{Frames, Partials}
-use Rattle.stack_parts.specs.declared.point.StackPoint.{StackPoint}
 use Rattle.stack_parts.specs.declared.point.StackPoint.TheVariants as stack
-use Rattle.stack_parts.specs.Piles.{head_name, next_name}
 use Rattle.stack_parts.specs.Points.{plan_stack_of}
-use Rattle.hazard_parts.specs.declared.point.DescPoint.{DescPoint}
 use Rattle.hazard_parts.specs.declared.point.DescPoint.TheVariants as desc
 use Rattle.hazard_parts.specs.Points.{plan_desc_of}
-use Rattle.partial_parts.specs.declared.point.PartialPoint.{PartialPoint}
 use Rattle.partial_parts.specs.Points.{plan_partial_of}
-use Rattle.large_parts.specs.declared.point.LargePoint.{LargePoint}
 use Rattle.large_parts.specs.Points.{plan_large_of}
-use Rattle.errand_steps.specs.declared.continuation.Continuation.{Continuation}
-use Rattle.errand_steps.specs.declared.point.Point.{Point}
 use Rattle.errand_steps.specs.declared.point.Point.TheVariants as point
-use Rattle.errand_steps.specs.Fits.{pushed_by}
-use Rattle.errand_steps.specs.Points.{plan_point_of}
-use Rattle.sound_state.specs.Holdings.{partly_used, holds_of}
-use Rattle.sound_state.specs.Superblocks.{kept_among}
 
 -- the word is neither a next word of a descriptor nor the head of the available ones
 abbrev IsOff : WordName → Type 0
@@ -74,7 +58,6 @@ next-stack e w (stack.StoreBelow s Frames i h) o is = absurd (cc)
 next-stack e w (stack.StoreBelow s Partials i h) o is = inr (inr (rw (eq-eqb i e (ap next_number is)) (omega arith)))
 next-stack e w (stack.PushTop s Frames i h) o is = absurd (cc)
 next-stack e w (stack.PushTop s Partials i h) o is = absurd (cc)
-next-stack e w p o is = inl refl
 
 next-desc : (e w : ℕ) (p : DescPoint) (o : Continuation) → name_of (plan_desc_of p) ≡ name.Next e → NextGoes e w (point.Desc p o)
 unfolding plan_point_of holds_of

@@ -1,31 +1,16 @@
 -- The available descriptors gain only what a caller pushes.
-use Rattle.std.proofs.Common.{ℕ, Some, ◌≡◌, ◌≢◌, ◌<◌, List, [], ◌∷◌, refl, arith, ap, sym, subst, inl, inr, ◌∙◌}
-use Rattle.std.specs.Prelude.{◌==◌, Contains, IfSome}
+use Rattle.std.proofs.Common.{ℕ, Some, ◌≡◌, ◌≢◌, ◌<◌, List, [], ◌∷◌, refl, arith, ap, sym, subst, inl, inr, ◌∙◌, ◌==◌, Contains, IfSome}
 use Rattle.std.proofs.lemmas.Bool.{cond-false, ne_eqb}
 use Rattle.std.proofs.lemmas.List.Elements.{All-head}
-use Rattle.heap_geometry.specs.declared.geometry.Geometry.{Geometry}
-use Rattle.word_plan.specs.declared.name.WordName.{WordName}
-use Rattle.word_plan.specs.declared.name.WordName.TheVariants as name
-use Rattle.word_plan.specs.Actions.{after_action}
-use Rattle.word_plan.specs.Counts.{descriptor_count}
-use Rattle.word_plan.specs.Seats.{SeatFields}
-use Rattle.word_plan.proofs.NameLemmas.{cases_name}
-use Rattle.word_plan.specs.Occurs.{occurs}
+use Rattle.sound_state.proofs.Common.{Geometry, WordName, after_action, descriptor_count, SeatFields, cases_name, occurs, Stacked, next_in, Partials, Continuation}
+use Rattle.sound_state.proofs.Common.{pushed_by, plan_point_of, State, Step, name_at, errand_has, Lists, IsSo, recalls_of, noted, says, looked, IsSoundWithoutCounts}
+use Rattle.sound_state.proofs.Common.{IsSoundWith, callers_sum}
+use Rattle.word_table.specs.declared.name.WordName.TheVariants as name
 use Rattle.superblock_parts.proofs.ChainLemmas.{occurs-here, occurs-more}
-use Rattle.stack_parts.specs.Stacks.{Stacked, next_in}
-use Rattle.stack_parts.specs.declared.point.Pile.TheVariants.{Partials}
 use Rattle.hazard_parts.specs.declared.point.DescPoint.TheVariants as desc
-use Rattle.errand_steps.specs.declared.continuation.Continuation.{Continuation}
 use Rattle.errand_steps.specs.declared.point.Point.TheVariants as point
-use Rattle.errand_steps.specs.Fits.{pushed_by}
-use Rattle.errand_steps.specs.Points.{plan_point_of}
-use Rattle.errand_steps.specs.Steps.{State, Step, name_at}
 use Rattle.sound_state.specs.Guarding.{IsAvailable}
-use Rattle.sound_state.specs.Keepers.{errand_has}
-use Rattle.sound_state.specs.Lists.{Lists}
-use Rattle.sound_state.specs.Recalls.{IsSo, recalls_of, resumed_recalls, noted, says, looked}
-use Rattle.sound_state.specs.Sound.{IsSoundWithoutCounts, IsSoundWith}
-use Rattle.sound_state.specs.Sums.{callers_sum}
+use Rattle.sound_state.specs.Recalls.{resumed_recalls}
 use Rattle.sound_state.proofs.guards.AvailPoints.{PopsAvailable, HeadGoes, head-point, next-point}
 use Rattle.sound_state.proofs.shared.ListFacts.{contains-occurs, occurring-all}
 use Rattle.sound_state.proofs.shared.PointLemmas.{so-at}

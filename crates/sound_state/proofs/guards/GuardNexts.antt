@@ -4,42 +4,32 @@ use Rattle.std.specs.Prelude.{◌⊎◌, slice_index, slice_set, nat_lt}
 use Rattle.std.proofs.lemmas.Bool.{cases_eq, cond_both, true≢false, ltb-false}
 use Rattle.std.proofs.lemmas.Option.{none-some}
 use Rattle.std.proofs.lemmas.Grind.{get_or-set_at}
-use Rattle.heap_geometry.specs.declared.geometry.Geometry.{Geometry}
-use Rattle.heap_geometry.specs.Geometry.{IsChecked}
-use Rattle.word_plan.specs.Counts.{descriptor_count}
-use Rattle.word_plan.specs.declared.action.Action.{Action}
-use Rattle.word_plan.specs.declared.action.Action.TheVariants.{Store}
-use Rattle.word_plan.specs.declared.action.Found.{Found}
-use Rattle.word_plan.specs.declared.name.WordName.TheVariants as name
-use Rattle.word_plan.specs.Actions.{name_of, after_action}
-use Rattle.word_plan.specs.Seats.{SeatFields}
-use Rattle.superblock_parts.specs.declared.point.BlockPoint.{BlockPoint}
+use Rattle.sound_state.proofs.Common.{Geometry, IsChecked, descriptor_count, Found, name_of, after_action, SeatFields, BlockPoint, Pile, Frames, Partials}
+use Rattle.sound_state.proofs.Common.{StackPoint, head_name, next_name, DescPoint, PartialPoint, LargePoint, Continuation, Next, At, End, Retire, Pick, Unlist}
+use Rattle.sound_state.proofs.Common.{Point, FitsPoint, pushed_by, next_of, plan_point_of, passed_by, held_by}
+use Rattle.word_table.specs.declared.action.Action.{Action}
+use Rattle.word_table.specs.declared.action.Action.TheVariants.{Store}
+use Rattle.word_table.specs.declared.name.WordName.TheVariants as name
+use Rattle.word_table.specs.declared.onward.Onward.{Onward}
+use Rattle.word_table.specs.declared.onward.Onward.TheVariants.{Stays, Leaves}
+use Rattle.superblock_parts.specs.declared.exit.BlockExit.{BlockExit}
 use Rattle.superblock_parts.specs.declared.point.BlockPoint.TheVariants as block
-use Rattle.superblock_parts.specs.Fits.{FitsBlock}
-use Rattle.superblock_parts.specs.Points.{settle_block_of, plan_block_of}
-use Rattle.stack_parts.specs.declared.point.Pile.{Pile}
-use Rattle.stack_parts.specs.declared.point.Pile.TheVariants.{Frames, Partials}
-use Rattle.stack_parts.specs.declared.point.StackPoint.{StackPoint}
-use Rattle.stack_parts.specs.Piles.{head_name, next_name}
+use Rattle.superblock_parts.specs.Points.{FitsBlock, settle_block_of, plan_block_of}
+use Rattle.stack_parts.specs.declared.exit.StackExit.{StackExit}
 use Rattle.stack_parts.specs.Points.{settle_stack_of, plan_stack_of}
-use Rattle.hazard_parts.specs.declared.point.DescPoint.{DescPoint}
+use Rattle.hazard_parts.specs.declared.exit.DescExit.TheVariants.{Scanned}
 use Rattle.hazard_parts.specs.declared.point.DescPoint.TheVariants as desc
-use Rattle.hazard_parts.specs.Fits.{FitsDesc}
-use Rattle.hazard_parts.specs.Points.{settle_desc_of, plan_desc_of, after_hazard, named_in}
+use Rattle.hazard_parts.specs.Points.{FitsDesc, settle_desc_of, plan_desc_of, after_hazard, named_in}
 use Rattle.hazard_parts.proofs.PickLemmas.{named-here}
-use Rattle.partial_parts.specs.declared.point.PartialPoint.{PartialPoint}
+use Rattle.partial_parts.specs.declared.exit.PartialExit.{PartialExit}
 use Rattle.partial_parts.specs.Points.{settle_partial_of, plan_partial_of}
-use Rattle.large_parts.specs.declared.point.LargePoint.{LargePoint}
+use Rattle.large_parts.specs.declared.exit.LargeExit.{LargeExit}
 use Rattle.large_parts.specs.Points.{settle_large_of, plan_large_of}
-use Rattle.errand_steps.specs.declared.continuation.Continuation.{Continuation}
-use Rattle.errand_steps.specs.declared.next.Next.{Next}
-use Rattle.errand_steps.specs.declared.next.Next.TheVariants.{At, End, Turn, Retire, Pick, Unlist}
-use Rattle.errand_steps.specs.declared.point.Point.{Point}
+use Rattle.errand_steps.specs.declared.next.Next.TheVariants.{Turn}
 use Rattle.errand_steps.specs.declared.point.Point.TheVariants as point
-use Rattle.errand_steps.specs.Fits.{FitsPoint, pushed_by, pushed_by_desc}
-use Rattle.errand_steps.specs.Nexts.{next_of, enter_block, enter_stack, enter_desc, enter_partial, enter_large}
-use Rattle.errand_steps.specs.Points.{plan_point_of}
-use Rattle.sound_state.specs.Guards.{passed_by, held_by, passed_by_desc, held_by_desc}
+use Rattle.errand_steps.specs.Fits.{pushed_by_desc}
+use Rattle.errand_steps.specs.Nexts.{enter_block, enter_stack, enter_desc, enter_partial, enter_large}
+use Rattle.sound_state.specs.Guards.{passed_by_desc, held_by_desc}
 use Rattle.sound_state.proofs.hazards.HazardLemmas.{hazard_caller}
 use Rattle.sound_state.proofs.shared.GuardEffects.{scans}
 
@@ -48,17 +38,17 @@ abbrev pub next_pushed : Next → Option ℕ
 next_pushed (At p) = pushed_by p
 next_pushed n = None
 
-pushed-block : (p : BlockPoint) (o : Continuation) → next_pushed (enter_block p o) ≡ None
-pushed-block p o = grind (arith)
+pushed-block : (n : Onward BlockPoint BlockExit) (o : Continuation) → next_pushed (enter_block n o) ≡ None
+pushed-block n o = grind (arith)
 
-pushed-stack : (p : StackPoint) (o : Continuation) → next_pushed (enter_stack p o) ≡ None
-pushed-stack p o = grind (arith)
+pushed-stack : (n : Onward StackPoint StackExit) (o : Continuation) → next_pushed (enter_stack n o) ≡ None
+pushed-stack n o = grind (arith)
 
-pushed-partial : (p : PartialPoint) (o : Continuation) → next_pushed (enter_partial p o) ≡ None
-pushed-partial p o = grind (arith)
+pushed-partial : (n : Onward PartialPoint PartialExit) (o : Continuation) → next_pushed (enter_partial n o) ≡ None
+pushed-partial n o = grind (arith)
 
-pushed-large : (p : LargePoint) (o : Continuation) → next_pushed (enter_large p o) ≡ None
-pushed-large p o = grind (arith)
+pushed-large : (n : Onward LargePoint LargeExit) (o : Continuation) → next_pushed (enter_large n o) ≡ None
+pushed-large n o = grind (arith)
 
 pushed-desc : (p : DescPoint) (x : Found) (o : Continuation) (d : ℕ) → next_pushed (enter_desc (settle_desc_of p x) o) ≡ Some d → pushed_by_desc p ≡ Some d
 pushed-desc p x o d is = grind (arith, is)
@@ -79,17 +69,17 @@ scans_on (At p) = nat_lt 0 (passed_by p)
 scans_on (Pick s held o) = true
 scans_on n = false
 
-reads-block : (p : BlockPoint) (o : Continuation) → scans_on (enter_block p o) ≡ false
-reads-block p o = grind (arith)
+reads-block : (n : Onward BlockPoint BlockExit) (o : Continuation) → scans_on (enter_block n o) ≡ false
+reads-block n o = grind (arith)
 
-reads-stack : (p : StackPoint) (o : Continuation) → scans_on (enter_stack p o) ≡ false
-reads-stack p o = grind (arith)
+reads-stack : (n : Onward StackPoint StackExit) (o : Continuation) → scans_on (enter_stack n o) ≡ false
+reads-stack n o = grind (arith)
 
-reads-partial : (p : PartialPoint) (o : Continuation) → scans_on (enter_partial p o) ≡ false
-reads-partial p o = grind (arith)
+reads-partial : (n : Onward PartialPoint PartialExit) (o : Continuation) → scans_on (enter_partial n o) ≡ false
+reads-partial n o = grind (arith)
 
-reads-large : (p : LargePoint) (o : Continuation) → scans_on (enter_large p o) ≡ false
-reads-large p o = grind (arith)
+reads-large : (n : Onward LargePoint LargeExit) (o : Continuation) → scans_on (enter_large n o) ≡ false
+reads-large n o = grind (arith)
 
 reads-desc : (p : DescPoint) (x : Found) (o : Continuation) → scans p ≡ false → scans_on (enter_desc (settle_desc_of p x) o) ≡ false
 reads-desc p x o is = grind (arith, is)
@@ -130,8 +120,8 @@ read-notes g caller k d s held i o v checked has exists fits noted scans_on =
     let named = named-here s.geometry v d (subst (λ (h : Geometry). d < descriptor_count h) (sym fits.0.seat.geometry) exists) in
     let notes = word-notes held i k d new room noted (λ same. named (scans_on same)) in
     let now = slice_set held i new in
-    cond_both (nat_lt (i + 1) s.geometry.callers) (desc.ReadHazard s now (i + 1)) (desc.Scanned s now)
-    (λ p. NextNotes k d (enter_desc p o)) (λ more below. notes below)
+    cond_both (nat_lt (i + 1) s.geometry.callers) (Stays (desc.ReadHazard s now (i + 1))) (Leaves (Scanned s now))
+    (λ n. NextNotes k d (enter_desc n o)) (λ more below. notes below)
     (λ last. (
       omega (arith, has, checked.callers.1, fits.0.words, length-set held i new),
       notes (omega (arith, has, all, ltb-false (i + 1) s.geometry.callers last)),
@@ -145,7 +135,6 @@ desc-notes :
     → NextNotes k d (enter_desc (settle_desc_of p x) o)
 desc-notes g caller k d (desc.ReadHazard s held i) o x checked has exists fits noted scans_on =
     read-notes g caller k d s held i o x.value checked has exists fits.point noted (λ same. scans_on (ap name.Hazard (sym same)))
-desc-notes g caller k d (desc.Scanned s held) o x checked has exists fits noted scans_on = absurd (true≢false fits.inside)
 desc-notes g caller k d p o x checked has exists fits noted scans_on =
     unread-notes k d (enter_desc (settle_desc_of p x) o) (reads-desc p x o refl)
 

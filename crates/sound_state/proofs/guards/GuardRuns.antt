@@ -2,22 +2,16 @@
 use Rattle.std.proofs.Common.{ℕ, true, None, Some, ◌≡◌, ◌≢◌, ◌<◌, List, [], ◌∷◌, refl, arith, ap, sym, subst, ◌∙◌}
 use Rattle.std.proofs.lemmas.Bool.{cond_both}
 use Rattle.std.proofs.lemmas.Option.{none-some}
-use Rattle.heap_geometry.specs.declared.geometry.Geometry.{Geometry}
-use Rattle.heap_geometry.specs.declared.need.Need.{Need}
-use Rattle.heap_geometry.specs.declared.need.Need.TheVariants.{Small, Large, TooLarge}
-use Rattle.heap_geometry.specs.Need.{need_of}
-use Rattle.errand_steps.specs.declared.point.Point.{Point}
+use Rattle.sound_state.proofs.Common.{Geometry, Need, Small, need_of, Point, ErrandFields, pushed_by, State, passed_by, IsListed, IsSoundWithoutCounts}
+use Rattle.heap_geometry.specs.declared.need.Need.TheVariants.{Large, TooLarge}
 use Rattle.errand_steps.specs.Begins.{IsIdle, begins_alloc, alloc_begun, free_point, free_begun, write_begun, read_begun, put_begun, take_begun}
 use Rattle.errand_steps.specs.Calls.{Call, alloc, free, write, read, put, take, begun_by}
-use Rattle.errand_steps.specs.Errands.{ErrandFields, is_spent}
-use Rattle.errand_steps.specs.Fits.{pushed_by}
+use Rattle.errand_steps.specs.Errands.{is_spent}
 use Rattle.errand_steps.specs.Points.{is_idle}
-use Rattle.errand_steps.specs.Steps.{State}
 use Rattle.sound_state.specs.Guarding.{IsAvailable, IsGuardedBy, LeavesHazard, ReachesUnstored}
-use Rattle.sound_state.specs.Guards.{Guards, passed_by}
-use Rattle.sound_state.specs.Lists.{IsListed}
-use Rattle.sound_state.specs.Runs.{Begins, Move, begins, steps, Moved}
-use Rattle.sound_state.specs.Sound.{IsSoundWithoutCounts, with_errands}
+use Rattle.sound_state.specs.Guards.{Guards}
+use Rattle.sound_state.specs.Runs.{BeginsCall, Move, begins, steps, Moved}
+use Rattle.sound_state.specs.Sound.{with_errands}
 use Rattle.sound_state.proofs.ReachLemmas.{move-sound}
 use Rattle.sound_state.proofs.guards.AvailSteps.{available-stepped}
 use Rattle.sound_state.proofs.guards.GuardSettles.{HasNoted}
@@ -63,7 +57,7 @@ begun-fresh e (take shelf) idle = record { retired = refl; pushed = refl; passed
 
 -- a call that begins keeps what is guarded
 guarded-begun :
-    (g : Geometry) (s : State) (caller d other : ℕ) (call : Call) (s' : State) → IsGuardedBy g s caller d → Begins s other call s' → IsGuardedBy g s' caller d
+    (g : Geometry) (s : State) (caller d other : ℕ) (call : Call) (s' : State) → IsGuardedBy g s caller d → BeginsCall s other call s' → IsGuardedBy g s' caller d
 guarded-begun g s caller d other call s' guarded b =
     let fresh = begun-fresh (s.errand other) call b.idle in
     let after : IsGuardedBy g (with_errands s b.errands) caller d = record {

@@ -1,23 +1,17 @@
 -- What a caller has noted and pushes after its step, whatever its retired list says.
-use Rattle.std.proofs.Common.{ℕ, Option, Some, None, ◌≡◌, ◌<◌, ◌+◌, List, refl, arith, sym, ◌∙◌, length}
-use Rattle.std.specs.Prelude.{◌≢◌, Contains, slice_index}
+use Rattle.std.proofs.Common.{ℕ, Option, Some, None, ◌≡◌, ◌<◌, ◌+◌, List, refl, arith, sym, ◌∙◌, length, ◌≢◌, Contains, slice_index}
 use Rattle.std.proofs.lemmas.Bool.{cond_both}
 use Rattle.std.proofs.lemmas.List.{get_or_default}
 use Rattle.std.proofs.lemmas.Option.{none-some}
-use Rattle.word_plan.specs.declared.action.Found.{Found}
-use Rattle.word_plan.specs.Seats.{SeatFields}
+use Rattle.sound_state.proofs.Common.{Found, SeatFields, Continuation, Next, At, End, Retire, Pick, Unlist, Point, ErrandFields, settle_of, course_of, pushed_by}
+use Rattle.sound_state.proofs.Common.{next_of, passed_by, held_by}
 use Rattle.hazard_parts.specs.declared.point.DescPoint.TheVariants as desc
 use Rattle.hazard_parts.specs.Retired.{first_unheld}
 use Rattle.hazard_parts.proofs.PickLemmas.{some-listed, some-free}
-use Rattle.errand_steps.specs.declared.continuation.Continuation.{Continuation}
-use Rattle.errand_steps.specs.declared.next.Next.{Next}
-use Rattle.errand_steps.specs.declared.next.Next.TheVariants.{At, End, Turn, Retire, Pick, Unlist}
-use Rattle.errand_steps.specs.declared.point.Point.{Point}
+use Rattle.errand_steps.specs.declared.next.Next.TheVariants.{Turn}
 use Rattle.errand_steps.specs.declared.point.Point.TheVariants as point
-use Rattle.errand_steps.specs.Errands.{ErrandFields, settle_of, course_of, after_list, after_turn, picked, turned, is_full, no_words, point_after, list_after}
-use Rattle.errand_steps.specs.Fits.{pushed_by}
-use Rattle.errand_steps.specs.Nexts.{next_of, resumed}
-use Rattle.sound_state.specs.Guards.{passed_by, held_by}
+use Rattle.errand_steps.specs.Errands.{after_list, after_turn, picked, turned, is_full, no_words, point_after, list_after}
+use Rattle.errand_steps.specs.Nexts.{resumed}
 use Rattle.sound_state.proofs.guards.GuardNexts.{NextNotes, next_pushed, pushed-next}
 
 -- a caller that has retired d has noted the word of k where it has passed it

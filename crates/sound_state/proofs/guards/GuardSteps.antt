@@ -1,16 +1,9 @@
 -- A step that isn't the caller's store to its own hazard word keeps what it guards.
-use Rattle.std.proofs.Common.{ℕ, Some, ◌≡◌, ◌≢◌, ◌<◌, refl, ap, sym, inl, inr, ◌∙◌}
-use Rattle.std.specs.Prelude.{Contains}
-use Rattle.heap_geometry.specs.declared.geometry.Geometry.{Geometry}
-use Rattle.word_plan.specs.declared.name.WordName.TheVariants as name
-use Rattle.word_plan.specs.Actions.{after_action}
-use Rattle.word_plan.proofs.NameLemmas.{cases_name}
-use Rattle.errand_steps.specs.Fits.{pushed_by}
-use Rattle.errand_steps.specs.Nexts.{next_of}
-use Rattle.errand_steps.specs.Points.{plan_point_of}
-use Rattle.errand_steps.specs.Steps.{State, Step, action_at, found_at, name_at}
+use Rattle.std.proofs.Common.{ℕ, Some, ◌≡◌, ◌≢◌, ◌<◌, refl, ap, sym, inl, inr, ◌∙◌, Contains}
+use Rattle.sound_state.proofs.Common.{Geometry, after_action, cases_name, pushed_by, next_of, plan_point_of, State, Step, action_at, found_at, name_at}
+use Rattle.sound_state.proofs.Common.{IsSoundWithoutCounts}
+use Rattle.word_table.specs.declared.name.WordName.TheVariants as name
 use Rattle.sound_state.specs.Guarding.{IsGuardedBy, StoresHazard}
-use Rattle.sound_state.specs.Sound.{IsSoundWithoutCounts}
 use Rattle.sound_state.proofs.guards.GuardNexts.{NextNotes, may-store, notes-next}
 use Rattle.sound_state.proofs.guards.GuardSettles.{HasNoted, settled-notes, settled-pushes}
 use Rattle.sound_state.proofs.shared.CallerLemmas.{each-other}

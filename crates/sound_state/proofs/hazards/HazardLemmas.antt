@@ -1,36 +1,15 @@
 -- A step that stores its caller's hazard word, or reads one, and after which the caller holds what else it held.
-use Rattle.std.proofs.Common.{ℕ, false, Option, Some, None, ◌≡◌, ◌<◌, ◌+◌, ◌^◌, List, length, refl, arith, ap, sym, subst, inl, inr, ◌⊎◌, ◌∙◌}
-use Rattle.std.specs.Prelude.{All, Any, IsTrue}
+use Rattle.std.proofs.Common.{ℕ, false, Option, Some, None, ◌≡◌, ◌<◌, ◌+◌, ◌^◌, List, length, refl, arith, ap, sym, subst, inl, inr, ◌⊎◌, ◌∙◌, All, Any, IsTrue}
 use Rattle.std.proofs.lemmas.Option.{none-some}
-use Rattle.heap_geometry.specs.declared.geometry.Geometry.{Geometry}
-use Rattle.word_plan.specs.declared.action.Found.{Found}
-use Rattle.word_plan.specs.declared.name.WordName.{WordName}
-use Rattle.word_plan.specs.declared.name.WordName.TheVariants as name
-use Rattle.word_plan.specs.Actions.{name_of, after_action}
-use Rattle.word_plan.specs.Words.{Writes}
-use Rattle.errand_steps.specs.declared.next.Next.TheVariants.{At, End, Pick}
-use Rattle.errand_steps.specs.declared.continuation.Continuation.{Continuation}
-use Rattle.errand_steps.specs.declared.point.Point.{Point}
-use Rattle.errand_steps.specs.declared.point.Point.TheVariants.{Idle, Desc}
-use Rattle.errand_steps.specs.declared.reply.Reply.{Reply}
+use Rattle.sound_state.proofs.Common.{Geometry, Found, WordName, name_of, after_action, Writes, At, End, Pick, Continuation, Point, Idle, Desc, Reply, SeatFields}
+use Rattle.sound_state.proofs.Common.{occurs, ErrandFields, counts_cleared, settle_of, course_of, event_of, spare_of, pushed_by, next_of, plan_point_of, State, Step}
+use Rattle.sound_state.proofs.Common.{found_at, IsHazard, IsGuard, passed_by, held_by, holds_of, waiting, on_its_way, IsKeptAs, word_keeps, Lists, IsSo, IsOwned}
+use Rattle.sound_state.proofs.Common.{recalls_of, IsSoundWithoutCounts, IsSoundWith, waits_in, word_stock, stock_among, word_reserves, reserved_among, kept_among}
+use Rattle.word_table.specs.declared.name.WordName.TheVariants as name
 use Rattle.hazard_parts.specs.declared.point.DescPoint.TheVariants as desc
 use Rattle.hazard_parts.specs.Retired.{first_unheld}
-use Rattle.word_plan.specs.Seats.{SeatFields}
-use Rattle.word_plan.specs.Occurs.{occurs}
-use Rattle.errand_steps.specs.Errands.{ErrandFields, counts_cleared, settle_of, course_of}
-use Rattle.errand_steps.specs.Events.{event_of}
-use Rattle.errand_steps.specs.Fits.{spare_of, pushed_by}
-use Rattle.errand_steps.specs.Nexts.{next_of}
-use Rattle.errand_steps.specs.Points.{plan_point_of}
-use Rattle.errand_steps.specs.Steps.{State, Step, found_at}
-use Rattle.sound_state.specs.Guards.{Guards, IsHazard, IsGuard, passed_by, held_by}
-use Rattle.sound_state.specs.Holdings.{holds_of, waiting, on_its_way}
-use Rattle.sound_state.specs.Keepers.{IsKeptAs, word_keeps}
-use Rattle.sound_state.specs.Lists.{Lists}
-use Rattle.sound_state.specs.Recalls.{IsPlain, IsSo, IsOwned, recalls_of}
-use Rattle.sound_state.specs.Sound.{IsSoundWithoutCounts, IsSoundWith}
-use Rattle.sound_state.specs.Stock.{waits_in, word_stock, stock_among}
-use Rattle.sound_state.specs.Superblocks.{word_reserves, reserved_among, kept_among}
+use Rattle.sound_state.specs.Guards.{Guards}
+use Rattle.sound_state.specs.Recalls.{IsPlain}
 use Rattle.sound_state.proofs.shared.ShownLemmas.{actives-same, GuardsAnew, MayGuard, ActivesKept}
 use Rattle.sound_state.proofs.shared.StepLemmas.{PointStands, TurnGoes, at_point, settle-at, settle-end, step-most, found_from, actives-stay, words-stay}
 use Rattle.sound_state.proofs.shared.WeighLemmas.{WeighMost}

@@ -5,40 +5,21 @@ use Rattle.std.proofs.lemmas.Bool.{cond-true, eq-eqb, lt-ltb, le-ltb, ltb-true, 
 use Rattle.std.proofs.lemmas.Option.{none-some, same_Some}
 use Rattle.std.proofs.lemmas.List.{get_or_default}
 use Rattle.std.proofs.lemmas.Grind.{get_or-set_at}
-use Rattle.heap_geometry.specs.Geometry.{IsChecked}
+use Rattle.sound_state.proofs.Common.{IsChecked, Geometry, Site, descriptor_count, SeatFields, occurs, AnchorFields, Stacked, next_in, Frames, Partials}
+use Rattle.sound_state.proofs.Common.{Continuation, Point, Idle, Block, Stack, Desc, event_of, next_of, plan_point_of, State, Step, holds_of, passed_by, held_by}
+use Rattle.sound_state.proofs.Common.{Lists, IsSo, recalls_of, bound_at, IsSoundWithoutCounts, IsSoundWith, callers_sum, is_bound, away_of, errand_away}
 use Rattle.hazard_parts.specs.declared.limits.TheConstants.{HELD_MOST}
 use Rattle.hazard_parts.specs.Points.{named_in}
 use Rattle.hazard_parts.specs.Retired.{first_unheld}
 use Rattle.hazard_parts.proofs.PickLemmas.{some-listed, some-free, named-here}
 use Rattle.errand_steps.specs.declared.reply.Reply.TheVariants as reply
 use Rattle.std.proofs.lemmas.List.Elements.{All-nil}
-use Rattle.heap_geometry.specs.declared.geometry.Geometry.{Geometry}
-use Rattle.word_plan.specs.declared.name.WordName.TheVariants as name
-use Rattle.word_plan.specs.declared.seat.Site.{Site}
-use Rattle.word_plan.specs.Counts.{descriptor_count}
-use Rattle.word_plan.specs.Seats.{SeatFields}
-use Rattle.word_plan.specs.Occurs.{occurs}
-use Rattle.packed_words.specs.Anchor.{AnchorFields}
+use Rattle.word_table.specs.declared.name.WordName.TheVariants as name
 use Rattle.superblock_parts.specs.declared.point.BlockPoint.TheVariants as block
-use Rattle.stack_parts.specs.Stacks.{Stacked, next_in}
-use Rattle.stack_parts.specs.declared.point.Pile.TheVariants.{Frames, Partials}
 use Rattle.stack_parts.specs.declared.point.StackPoint.TheVariants as stack
 use Rattle.hazard_parts.specs.declared.point.DescPoint.TheVariants as desc
-use Rattle.errand_steps.specs.declared.continuation.Continuation.{Continuation}
 use Rattle.errand_steps.specs.declared.continuation.Continuation.TheVariants as continuation
-use Rattle.errand_steps.specs.declared.point.Point.{Point}
-use Rattle.errand_steps.specs.declared.point.Point.TheVariants.{Idle, Block, Stack, Desc}
-use Rattle.errand_steps.specs.Events.{event_of}
-use Rattle.errand_steps.specs.Nexts.{next_of}
-use Rattle.errand_steps.specs.Points.{plan_point_of}
-use Rattle.errand_steps.specs.Steps.{State, Step}
-use Rattle.sound_state.specs.Holdings.{holds_of}
-use Rattle.sound_state.specs.Guards.{Guards, passed_by, held_by}
-use Rattle.sound_state.specs.Lists.{Lists}
-use Rattle.sound_state.specs.Recalls.{IsSo, recalls_of, bound_at}
-use Rattle.sound_state.specs.Sound.{IsSoundWithoutCounts, IsSoundWith}
-use Rattle.sound_state.specs.Sums.{callers_sum}
-use Rattle.sound_state.specs.Superblocks.{is_bound, away_of, errand_away}
+use Rattle.sound_state.specs.Guards.{Guards}
 use Rattle.sound_state.proofs.hazards.HazardLemmas.{store-hazard, read-hazard, plain-guards, leads-at, ends-at, picks-at}
 use Rattle.sound_state.proofs.quiet.QuietDescs.{reload_desc_head_other-sound}
 use Rattle.sound_state.proofs.shared.GuardEffects.{available-unretired, bound-unretired}
@@ -46,13 +27,12 @@ use Rattle.sound_state.proofs.shared.HasLemmas.{bound-away}
 use Rattle.sound_state.proofs.shared.PointLemmas.{fits-at, so-at, hazard-at, unread-at, noted-unread, retired-exists}
 use Rattle.sound_state.proofs.shared.ShownLemmas.{GuardsAnew}
 use Rattle.sound_state.proofs.shared.WordFacts.{name-below}
+use Rattle.sound_state.proofs.shared.KeepsSound.{KeepsSound, KeepsSoundWhere}
 
 -- the store of the name of a descriptor that was on top of the available ones
-pub store_hazard-sound :
-    (g : Geometry) (s : State) (caller : ℕ) (s' : State) (seat : SeatFields) (d : ℕ) (o : Continuation) → IsSoundWithoutCounts g s → caller < g.callers
-    → (s.errand caller).point ≡ Desc (desc.StoreHazard seat d) o → Step s caller s' → IsSoundWithoutCounts g s'
+pub store_hazard-sound : (seat : SeatFields) (d : ℕ) (o : Continuation) → KeepsSound (Desc (desc.StoreHazard seat d) o)
 unfolding plan_point_of next_of event_of holds_of recalls_of
-store_hazard-sound g s caller s' seat d o sound has stands step =
+store_hazard-sound seat d o g s caller s' sound has stands step =
     let p = Desc (desc.StoreHazard seat d) o in
     let q = Desc (desc.ReloadDescHead seat d) o in
     let fits = (fits-at g s sound.parts.0 caller p sound.parts.1 has stands).point in
@@ -75,10 +55,9 @@ top-occurs next d (x ∷ xs) stack =
     omega (arith, cond-true {A = ℕ} (x == d) 1 0 (eq-eqb x d here))
 
 pub reload_desc_head_same-sound :
-    (g : Geometry) (s : State) (caller : ℕ) (s' : State) (seat : SeatFields) (d : ℕ) (o : Continuation) → IsSoundWithoutCounts g s → caller < g.callers
-    → (s.errand caller).point ≡ Desc (desc.ReloadDescHead seat d) o → s.word name.DescHead ≡ d + 1 → Step s caller s' → IsSoundWithoutCounts g s'
+    (seat : SeatFields) (d : ℕ) (o : Continuation) → KeepsSoundWhere (Desc (desc.ReloadDescHead seat d) o) (λ s. s.word name.DescHead ≡ d + 1)
 unfolding plan_point_of next_of event_of holds_of recalls_of
-reload_desc_head_same-sound g s caller s' seat d o sound has stands same step =
+reload_desc_head_same-sound seat d o g s caller s' sound has stands same step =
     let yes_same = eq-eqb (s.word name.DescHead) (d + 1) same in
     let p = Desc (desc.ReloadDescHead seat d) o in
     let q = Desc (desc.LoadNextDesc seat d) o in
@@ -102,21 +81,17 @@ reload_desc_head_same-sound g s caller s' seat d o sound has stands same step =
     step
 
 -- the load of the head again
-pub reload_desc_head-sound :
-    (g : Geometry) (s : State) (caller : ℕ) (s' : State) (seat : SeatFields) (d : ℕ) (o : Continuation) → IsSoundWithoutCounts g s → caller < g.callers
-    → (s.errand caller).point ≡ Desc (desc.ReloadDescHead seat d) o → Step s caller s' → IsSoundWithoutCounts g s'
-reload_desc_head-sound g s caller s' seat d o sound has stands step =
+pub reload_desc_head-sound : (seat : SeatFields) (d : ℕ) (o : Continuation) → KeepsSound (Desc (desc.ReloadDescHead seat d) o)
+reload_desc_head-sound seat d o g s caller s' sound has stands step =
     elim (cases_eq (s.word name.DescHead) (d + 1)) [
-      | inl same ↦ reload_desc_head_same-sound g s caller s' seat d o sound has stands same step
-      | inr other ↦ reload_desc_head_other-sound g s caller s' seat d o sound has stands other step
+      | inl same ↦ reload_desc_head_same-sound seat d o g s caller s' sound has stands same step
+      | inr other ↦ reload_desc_head_other-sound seat d o g s caller s' sound has stands other step
     ]
 
 -- the descriptor is popped: the hazard word is cleared
-pub clear_after_pop-sound :
-    (g : Geometry) (s : State) (caller : ℕ) (s' : State) (seat : SeatFields) (d : ℕ) (o : Continuation) → IsSoundWithoutCounts g s → caller < g.callers
-    → (s.errand caller).point ≡ Desc (desc.ClearAfterPop seat d) o → Step s caller s' → IsSoundWithoutCounts g s'
+pub clear_after_pop-sound : (seat : SeatFields) (d : ℕ) (o : Continuation) → KeepsSound (Desc (desc.ClearAfterPop seat d) o)
 unfolding plan_point_of next_of event_of holds_of recalls_of
-clear_after_pop-sound g s caller s' seat d (continuation.Alloc words) sound has stands step =
+clear_after_pop-sound seat d (continuation.Alloc words) g s caller s' sound has stands step =
     let p = Desc (desc.ClearAfterPop seat d) (continuation.Alloc words) in
     let q = Stack (stack.LoadTop seat Frames) (continuation.TakeFrame words d) in
     let fits = (fits-at g s sound.parts.0 caller p sound.parts.1 has stands).point in
@@ -129,15 +104,13 @@ clear_after_pop-sound g s caller s' seat d (continuation.Alloc words) sound has 
       guards = plain-guards g s caller q (s.errand caller).retired 0 refl (λ e is guard. absurd guard) refl refl refl;
     })
     step
-clear_after_pop-sound g s caller s' seat d o sound has stands step =
+clear_after_pop-sound seat d o g s caller s' sound has stands step =
     let bad : ⊥ = cc ((fits-at g s sound.parts.0 caller (Desc (desc.ClearAfterPop seat d) o) sound.parts.1 has stands).goes) in absurd bad
 
 -- a free clears its hazard word and looks through the list
-pub clear_hazard_looks-sound :
-    (g : Geometry) (s : State) (caller : ℕ) (s' : State) (seat : SeatFields) → IsSoundWithoutCounts g s → caller < g.callers
-    → (s.errand caller).point ≡ Desc (desc.ClearHazard seat) continuation.Clear → Step s caller s' → IsSoundWithoutCounts g s'
+pub clear_hazard_looks-sound : (seat : SeatFields) → KeepsSound (Desc (desc.ClearHazard seat) continuation.Clear)
 unfolding plan_point_of next_of event_of holds_of recalls_of
-clear_hazard_looks-sound g s caller s' seat sound has stands step =
+clear_hazard_looks-sound seat g s caller s' sound has stands step =
     let p = Desc (desc.ClearHazard seat) continuation.Clear in
     let q = Stack (stack.LoadTop seat Partials) continuation.Clear in
     let fits = (fits-at g s sound.parts.0 caller p sound.parts.1 has stands).point in
@@ -152,11 +125,9 @@ clear_hazard_looks-sound g s caller s' seat sound has stands step =
     step
 
 -- a free clears its hazard word and ends
-pub clear_hazard_ends-sound :
-    (g : Geometry) (s : State) (caller : ℕ) (s' : State) (seat : SeatFields) → IsSoundWithoutCounts g s → caller < g.callers
-    → (s.errand caller).point ≡ Desc (desc.ClearHazard seat) continuation.EndFree → Step s caller s' → IsSoundWithoutCounts g s'
+pub clear_hazard_ends-sound : (seat : SeatFields) → KeepsSound (Desc (desc.ClearHazard seat) continuation.EndFree)
 unfolding plan_point_of next_of event_of holds_of recalls_of
-clear_hazard_ends-sound g s caller s' seat sound has stands step =
+clear_hazard_ends-sound seat g s caller s' sound has stands step =
     let p = Desc (desc.ClearHazard seat) continuation.EndFree in
     let fits = (fits-at g s sound.parts.0 caller p sound.parts.1 has stands).point in
     store-hazard g s caller s' p Idle 0 sound has stands (ends-at s caller p reply.Freed stands refl) (ap name.Hazard fits.number) refl (omega arith)
@@ -171,11 +142,9 @@ clear_hazard_ends-sound g s caller s' seat sound has stands step =
 
 -- a free stores the name of the descriptor whose superblock its push makes empty
 
-pub store_guard-sound :
-    (g : Geometry) (s : State) (caller : ℕ) (s' : State) (site : Site) (i : ℕ) (a : AnchorFields) (o : Continuation) → IsSoundWithoutCounts g s → caller < g.callers
-    → (s.errand caller).point ≡ Block (block.StoreGuard site i a) o → Step s caller s' → IsSoundWithoutCounts g s'
+pub store_guard-sound : (site : Site) (i : ℕ) (a : AnchorFields) (o : Continuation) → KeepsSound (Block (block.StoreGuard site i a) o)
 unfolding plan_point_of next_of event_of holds_of recalls_of
-store_guard-sound g s caller s' site i a o sound has stands step =
+store_guard-sound site i a o g s caller s' sound has stands step =
     let d = site.desc in
     let p = Block (block.StoreGuard site i a) o in
     let q = Block (block.LoadOwner site i a) o in
@@ -324,10 +293,8 @@ read-picks g s caller s' seat held i o (Some d) sound has stands last pick step 
     step
 
 -- the read of a hazard word
-pub read_hazard-sound :
-    (g : Geometry) (s : State) (caller : ℕ) (s' : State) (seat : SeatFields) (held : List ℕ) (i : ℕ) (o : Continuation) → IsSoundWithoutCounts g s
-    → caller < g.callers → (s.errand caller).point ≡ Desc (desc.ReadHazard seat held i) o → Step s caller s' → IsSoundWithoutCounts g s'
-read_hazard-sound g s caller s' seat held i o sound has stands step =
+pub read_hazard-sound : (seat : SeatFields) (held : List ℕ) (i : ℕ) (o : Continuation) → KeepsSound (Desc (desc.ReadHazard seat held i) o)
+read_hazard-sound seat held i o g s caller s' sound has stands step =
     elim (cases_Bool (nat_lt (i + 1) g.callers)) [
       | inl more ↦ read_hazard_next-sound g s caller s' seat held i o sound has stands (ltb-true (i + 1) g.callers more) step
       | inr none ↦

@@ -1,14 +1,9 @@
 -- A won install: the superblocks keep their installed-blocks in order.
-use Rattle.std.proofs.Common.{ℕ, ◌≡◌, ◌≢◌, ◌<◌, ◌+◌, refl, arith, ap, sym, subst, inl, inr, ◌∙◌}
-use Rattle.std.specs.Prelude.{◌==◌, IsTrue}
+use Rattle.std.proofs.Common.{ℕ, ◌≡◌, ◌≢◌, ◌<◌, ◌+◌, refl, arith, ap, sym, subst, inl, inr, ◌∙◌, ◌==◌, IsTrue}
 use Rattle.std.proofs.lemmas.Bool.{cases_eq, cond-false, ne_eqb}
-use Rattle.heap_geometry.specs.declared.geometry.Geometry.{Geometry}
-use Rattle.word_plan.specs.declared.seat.Site.{Site}
-use Rattle.errand_steps.specs.Errands.{ErrandFields}
-use Rattle.errand_steps.specs.Steps.{State}
-use Rattle.sound_state.specs.Lists.{Lists}
-use Rattle.sound_state.specs.Sound.{IsSoundWith}
-use Rattle.sound_state.specs.Superblocks.{Superblock, AreChained, IsChained, superblock_of, held_back, free_chain, is_there}
+use Rattle.sound_state.proofs.Common.{Geometry, Site, ErrandFields, State, Lists, IsSoundWith, Superblock, AreChained, IsChained, superblock_of, free_chain}
+use Rattle.sound_state.proofs.Common.{is_there}
+use Rattle.sound_state.specs.Superblocks.{held_back}
 use Rattle.sound_state.proofs.installs.InstallEffects.{Installs}
 use Rattle.sound_state.proofs.installs.InstallFacts.{installed-still, installed-anchor, installed-bound, installed-others, installed-one, installed-reserved, installed-back, installed-some, installed-here, installed-there}
 use Rattle.sound_state.proofs.shared.SuperblockEffects.{LieStill, BlockEffects, next-stays, size-stays, superblock-stays, live-after, rest-live, chained-after, same-chain-chained}
@@ -32,10 +27,10 @@ first-given b b' old anchor chain next size waits waited was now others =
     ])
 
 module _
-    (g : Geometry) (s : State) (l : Lists) (caller : ℕ) (at : Site) (words : ℕ) (e : ErrandFields) (s' : State)
+    {g : Geometry} {s : State} {l : Lists} {caller : ℕ} {at : Site} {words : ℕ} {e : ErrandFields} {s' : State}
     (h : Installs g s l caller at words e s') where
   installed-lie : LieStill s s'
-  installed-lie = installed-still g s l caller at words e s' h
+  installed-lie = installed-still h
 
   -- the first block alone becomes live
   installed-blocks : IsSoundWith g s l → BlockEffects g s l caller at 0 s'
@@ -43,26 +38,26 @@ module _
     site = h.site;
     bound = h.bound;
     located = h.located;
-    index = installed-some g s l caller at words e s' h old;
+    index = installed-some h old;
     still = installed-lie;
-    there = installed-there g s l caller at words e s' h;
+    there = installed-there h;
   }
 
   -- it is live instead of held back, and each chain stays
   installed-here-chained : IsSoundWith g s l → IsChained (superblock_of g s' at.desc)
   installed-here-chained old =
-      let back = installed-back g s l caller at words e s' h old in
+      let back = installed-back h old in
       let next = next-stays installed-lie g at.desc in
-      let anchor = installed-anchor g s l caller at words e s' h at.desc in
+      let anchor = installed-anchor h at.desc in
       first-given (superblock_of g s at.desc) (superblock_of g s' at.desc) (old.chained.chained at.desc h.site.desc h.bound) anchor
-      (rw (next, anchor, installed-reserved g s l caller at words e s' h at.desc) refl) next (size-stays installed-lie g at.desc)
-      (omega (arith, installed-one g s l caller at words e s' h, back.2)) back.2 back.1
-      (live-after (installed-blocks old) 0 ∙ ap is_there (installed-here g s l caller at words e s' h)) (rest-live (installed-blocks old))
+      (rw (next, anchor, installed-reserved h at.desc) refl) next (size-stays installed-lie g at.desc)
+      (omega (arith, installed-one h, back.2)) back.2 back.1
+      (live-after (installed-blocks old) 0 ∙ ap is_there (installed-here h)) (rest-live (installed-blocks old))
 
   -- all superblocks keep their installed-blocks in order
   pub installed-chained : IsSoundWith g s l → AreChained g s' l
   installed-chained old =
-      chained-after (installed-blocks old) old (λ d. subst IsTrue (installed-bound g s l caller at words e s' h d)) (λ bound. installed-here-chained old)
+      chained-after (installed-blocks old) old (λ d. subst IsTrue (installed-bound h d)) (λ bound. installed-here-chained old)
       (λ d differ.
-      superblock-stays installed-lie g d (installed-anchor g s l caller at words e s' h d) (installed-reserved g s l caller at words e s' h d)
-      (installed-others g s l caller at words e s' h d differ))
+      superblock-stays installed-lie g d (installed-anchor h d) (installed-reserved h d)
+      (installed-others h d differ))

@@ -1,26 +1,12 @@
 -- A won install: what it changes, and that everything else stays.
-use Rattle.std.proofs.Common.{ℕ, false, ◌≡◌, ◌<◌, ◌^◌, [], ◌∷◌, ◌++◌}
-use Rattle.std.specs.Prelude.{IsTrue}
-use Rattle.heap_geometry.specs.declared.geometry.Geometry.{Geometry}
+use Rattle.std.proofs.Common.{ℕ, false, ◌≡◌, ◌<◌, ◌^◌, [], ◌∷◌, ◌++◌, IsTrue}
+use Rattle.sound_state.proofs.Common.{Geometry, need_of, block_place, Null, Held, active_word, WordName, Site, IsSiteOf, active_name, Exists, Writes, new_credits}
+use Rattle.sound_state.proofs.Common.{ErrandFields, State, Moves, Holding, holds_of, Lists, IsLocated, bound_here, recalls_of, IsOwnErrand, anchor_for, is_bound}
 use Rattle.heap_geometry.specs.declared.need.Need.TheVariants as need
-use Rattle.heap_geometry.specs.Need.{need_of}
-use Rattle.heap_geometry.specs.Place.{block_place}
-use Rattle.packed_words.specs.declared.active.ActiveWord.TheVariants.{Null, Held}
-use Rattle.packed_words.specs.Active.{IsActiveWord, active_word}
-use Rattle.word_plan.specs.declared.name.WordName.{WordName}
-use Rattle.word_plan.specs.declared.seat.Site.{Site}
-use Rattle.word_plan.specs.Sites.{IsSiteOf, active_name}
-use Rattle.word_plan.specs.Table.{Exists}
-use Rattle.word_plan.specs.Words.{Writes}
-use Rattle.superblock_parts.specs.Anchors.{new_anchor, new_credits}
+use Rattle.packed_words.specs.Active.{IsActiveWord}
+use Rattle.superblock_parts.specs.Anchors.{new_anchor}
 use Rattle.pool_model.specs.declared.event.Event.TheVariants.{Alloc}
-use Rattle.errand_steps.specs.Errands.{ErrandFields}
-use Rattle.errand_steps.specs.Steps.{State, Moves}
-use Rattle.sound_state.specs.Holdings.{Holding, nothing, block_handed, holds_of}
-use Rattle.sound_state.specs.Lists.{Lists}
-use Rattle.sound_state.specs.Recalls.{IsLocated, bound_here, recalls_of}
-use Rattle.sound_state.specs.Sound.{IsOwnErrand}
-use Rattle.sound_state.specs.Superblocks.{anchor_for, is_bound}
+use Rattle.sound_state.specs.Holdings.{nothing, block_handed}
 use Rattle.sound_state.proofs.shared.MakingWeights.{installing_holds}
 use Rattle.sound_state.proofs.shared.TurnEffects.{StandsIn, StandsFramed}
 

@@ -1,23 +1,11 @@
 -- What a won install leaves, and how it changes the pool and what waits.
 use Rattle.std.proofs.Common.{ℕ, Some, None, ◌≡◌, ◌≢◌, ◌<◌, ◌+◌, refl, arith, ap, sym, subst, ◌∙◌}
-use Rattle.heap_geometry.specs.declared.geometry.Geometry.{Geometry}
-use Rattle.heap_geometry.specs.Need.{block_count_of}
-use Rattle.packed_words.specs.declared.active.ActiveWord.TheVariants.{Null, Held}
-use Rattle.packed_words.specs.Active.{IsActiveWord, active_word}
-use Rattle.packed_words.specs.Anchor.{anchor_of}
-use Rattle.word_plan.specs.declared.name.WordName.TheVariants as name
-use Rattle.word_plan.specs.declared.seat.Site.{Site}
-use Rattle.word_plan.specs.Sites.{active_name}
-use Rattle.word_plan.specs.Occurs.{occurs}
-use Rattle.superblock_parts.specs.Anchors.{new_credits}
-use Rattle.pool_model.specs.Pool.{block_at, fresh_block, pool_of}
-use Rattle.errand_steps.specs.Errands.{ErrandFields}
-use Rattle.errand_steps.specs.Steps.{State}
-use Rattle.sound_state.specs.Holdings.{on_its_way}
-use Rattle.sound_state.specs.Lists.{Lists}
-use Rattle.sound_state.specs.Sound.{IsSoundWith}
-use Rattle.sound_state.specs.Sums.{callers_sum}
-use Rattle.sound_state.specs.Superblocks.{IsChained, anchor_for, info_for, superblock_of, free_chain, is_bound, away_of, waiting_of, reserved_of, word_reserves, reserved_among, errand_keeps}
+use Rattle.sound_state.proofs.Common.{Geometry, block_count_of, Null, Held, active_word, anchor_of, Site, active_name, occurs, new_credits, block_at, pool_of}
+use Rattle.sound_state.proofs.Common.{ErrandFields, State, on_its_way, Lists, IsSoundWith, callers_sum, IsChained, anchor_for, info_for, superblock_of, free_chain}
+use Rattle.sound_state.proofs.Common.{is_bound, away_of, waiting_of, reserved_of, word_reserves, reserved_among, errand_keeps}
+use Rattle.packed_words.specs.Active.{IsActiveWord}
+use Rattle.word_table.specs.declared.name.WordName.TheVariants as name
+use Rattle.pool_model.specs.Pool.{fresh_block}
 use Rattle.sound_state.proofs.installs.InstallEffects.{Installs, installed_word, first_place, installed_holds}
 use Rattle.sound_state.proofs.shared.OverlapLemmas.{there-none}
 use Rattle.sound_state.proofs.shared.SumLemmas.{words-written}
@@ -40,7 +28,7 @@ credits-weigh d at fits =
 -- the first block is held back before, and live after; all other places are as they were
 
 module _
-    (g : Geometry) (s : State) (l : Lists) (caller : ℕ) (at : Site) (words : ℕ) (e : ErrandFields) (s' : State)
+    {g : Geometry} {s : State} {l : Lists} {caller : ℕ} {at : Site} {words : ℕ} {e : ErrandFields} {s' : State}
     (h : Installs g s l caller at words e s') where
   pub installed-holds : HoldingEffects g s caller (installing_holds at) (installed_holds at) e s'
   installed-holds = record { in_heap = h.in_heap; moves = h.moves; retired = h.retired; before = h.holds_before; after = h.holds_after }

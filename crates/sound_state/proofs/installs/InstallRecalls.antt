@@ -1,17 +1,10 @@
 -- A won install keeps what the callers remember.
-use Rattle.std.proofs.Common.{ℕ, ◌≢◌, ap, sym, subst, ◌∙◌}
+use Rattle.std.proofs.Common.{ℕ, ◌≢◌, ap, sym, subst, ◌∙◌, IsTrue}
 use Rattle.std.specs.List.{All}
-use Rattle.std.specs.Prelude.{IsTrue}
-use Rattle.heap_geometry.specs.declared.geometry.Geometry.{Geometry}
-use Rattle.word_plan.specs.declared.seat.Site.{Site}
-use Rattle.partial_parts.specs.Grants.{is_empty}
+use Rattle.sound_state.proofs.Common.{Geometry, Site, is_empty, own, ErrandFields, State, Lists, Recall, IsSo, bound_for, bound_at, pops, links, says}
+use Rattle.sound_state.proofs.Common.{IsSoundWithoutCounts, IsSoundWith}
 use Rattle.pool_model.specs.declared.event.Event.TheVariants.{Alloc}
-use Rattle.pool_model.specs.Histories.{own}
-use Rattle.errand_steps.specs.Errands.{ErrandFields}
-use Rattle.errand_steps.specs.Steps.{State}
-use Rattle.sound_state.specs.Lists.{Lists}
-use Rattle.sound_state.specs.Recalls.{Recall, IsPlain, IsRemembered, IsSo, bound_for, bound_at, pops, links, says}
-use Rattle.sound_state.specs.Sound.{IsSoundWithoutCounts, IsSoundWith}
+use Rattle.sound_state.specs.Recalls.{IsPlain, IsRemembered}
 use Rattle.sound_state.proofs.installs.InstallEffects.{Installs, first_place}
 use Rattle.sound_state.proofs.installs.InstallFacts.{installed-anchor, installed-bound, installed-reserved, installed-ways}
 use Rattle.sound_state.proofs.installs.InstallTies.{installed-still-owned}
@@ -20,7 +13,7 @@ use Rattle.sound_state.proofs.shared.RecallEffects.{IsSteadyWord, AreSteady, Lea
 
 -- an install that was won
 module _
-    (g : Geometry) (s : State) (l : Lists) (caller : ℕ) (at : Site) (words : ℕ) (e : ErrandFields) (s' : State)
+    {g : Geometry} {s : State} {l : Lists} {caller : ℕ} {at : Site} {words : ℕ} {e : ErrandFields} {s' : State}
     (h : Installs g s l caller at words e s') where
   -- the words of stacks, of descriptors and of the arena stay
   installed-words-steady : AreSteady s s'
@@ -31,17 +24,17 @@ module _
   installed-leaves sound old i ne = record {
     steady = installed-words-steady;
     events = ap (own i) h.history ∙ told-own i s.history (Alloc caller words (first_place at)) (λ same. ne (sym same));
-    owned = installed-still-owned g s l caller at words e s' h sound old i;
-    empty = λ d so. ap (λ x. is_empty x.state) (installed-anchor g s l caller at words e s' h d);
-    ways = λ d so. installed-ways g s l caller at words e s' h d;
+    owned = installed-still-owned h sound old i;
+    empty = λ d so. ap (λ x. is_empty x.state) (installed-anchor h d);
+    ways = λ d so. installed-ways h d;
   }
 
   installed-left : (i : ℕ) (r : Recall) → IsSo g s l i r → IsLeft g s l s' r
-  installed-left i (bound_for d c) so = subst IsTrue (sym (installed-bound g s l caller at words e s' h d))
-  installed-left i (bound_at d f c) so = subst IsTrue (sym (installed-bound g s l caller at words e s' h d))
+  installed-left i (bound_for d c) so = subst IsTrue (sym (installed-bound h d))
+  installed-left i (bound_at d f c) so = subst IsTrue (sym (installed-bound h d))
   installed-left i (pops d b) so =
-      popped-steady g s l s' installed-words-steady d b (installed-anchor g s l caller at words e s' h d) (installed-reserved g s l caller at words e s' h d)
-  installed-left i (links d b prefix) so = λ is. is ∙ ap (λ x. x.tag) (installed-anchor g s l caller at words e s' h d)
+      popped-steady g s l s' installed-words-steady d b (installed-anchor h d) (installed-reserved h d)
+  installed-left i (links d b prefix) so = λ is. is ∙ ap (λ x. x.tag) (installed-anchor h d)
   installed-left i (says n w) so = h.writes.elsewhere n (λ same. subst IsPlain same so.0)
   installed-left i r so = tt
 
@@ -49,6 +42,6 @@ module _
   installed-remembered sound old =
       remembered-left g s l caller e s' h.moves
       (subst (All (IsSo g s' l caller)) (sym h.recalls_after)
-      (here-so g s l s' installed-words-steady caller at (subst IsTrue (sym (installed-bound g s l caller at words e s' h at.desc)) h.bound) h.located))
+      (here-so g s l s' installed-words-steady caller at (subst IsTrue (sym (installed-bound h at.desc)) h.bound) h.located))
       (λ i has ne. installed-leaves sound old i ne)
       (λ i has ne k d lt. installed-left i _ (old.remembered.so i has k d lt)) old.remembered

@@ -1,31 +1,16 @@
 -- The step of a won install, and what it changes.
-use Rattle.std.proofs.Common.{ℕ, false, ◌≡◌, ◌<◌, ◌^◌, [], refl, arith, ap, sym, subst, ◌∙◌, inl}
+use Rattle.std.proofs.Common.{ℕ, false, ◌≡◌, ◌<◌, ◌^◌, [], refl, arith, ap, sym, subst, ◌∙◌, inl, IsTrue}
 use Rattle.std.proofs.lemmas.List.Elements.{All-head, All-tail}
-use Rattle.heap_geometry.specs.declared.geometry.Geometry.{Geometry}
-use Rattle.packed_words.specs.Active.{IsActiveWord, active_word}
-use Rattle.packed_words.specs.Anchor.{anchor_of, anchor_word}
-use Rattle.packed_words.specs.declared.active.ActiveWord.TheVariants.{Null, Held}
+use Rattle.sound_state.proofs.Common.{Geometry, active_word, anchor_of, anchor_word, Null, Held, Site, active_name, IsSiteOf, new_credits, Continuation, Point}
+use Rattle.sound_state.proofs.Common.{Block, event_of, next_of, asked, plan_point_of, State, Step, holds_of, Lists, IsSo, bound_here, bound_at, says, recalls_of}
+use Rattle.sound_state.proofs.Common.{IsLocated, IsSoundWithoutCounts, IsSoundWith, IsOwnErrand, anchor_for, is_bound}
+use Rattle.packed_words.specs.Active.{IsActiveWord}
 use Rattle.packed_words.specs.declared.widths.TheConstants.{CREDIT_BITS}
 use Rattle.packed_words.proofs.ActiveLemmas.{active-exact}
 use Rattle.packed_words.proofs.AnchorLemmas.{anchor_of-anchor_word}
-use Rattle.word_plan.specs.declared.name.WordName.TheVariants as name
-use Rattle.word_plan.specs.declared.seat.Site.{Site}
-use Rattle.word_plan.specs.Sites.{active_name, IsSiteOf}
-use Rattle.superblock_parts.specs.Anchors.{new_anchor, new_credits}
+use Rattle.word_table.specs.declared.name.WordName.TheVariants as name
+use Rattle.superblock_parts.specs.Anchors.{new_anchor}
 use Rattle.superblock_parts.specs.declared.point.BlockPoint.TheVariants as block
-use Rattle.errand_steps.specs.declared.continuation.Continuation.{Continuation}
-use Rattle.errand_steps.specs.declared.point.Point.{Point}
-use Rattle.errand_steps.specs.declared.point.Point.TheVariants.{Block}
-use Rattle.errand_steps.specs.Events.{event_of}
-use Rattle.errand_steps.specs.Nexts.{next_of}
-use Rattle.errand_steps.specs.Points.{asked, plan_point_of}
-use Rattle.errand_steps.specs.Steps.{State, Step}
-use Rattle.std.specs.Prelude.{IsTrue}
-use Rattle.sound_state.specs.Holdings.{holds_of}
-use Rattle.sound_state.specs.Lists.{Lists}
-use Rattle.sound_state.specs.Recalls.{IsSo, bound_here, bound_at, says, recalls_of, IsLocated}
-use Rattle.sound_state.specs.Sound.{IsSoundWithoutCounts, IsSoundWith, IsOwnErrand}
-use Rattle.sound_state.specs.Superblocks.{anchor_for, is_bound}
 use Rattle.sound_state.proofs.installs.InstallChains.{installed-chained}
 use Rattle.sound_state.proofs.installs.InstallEffects.{Installs, installed_word}
 use Rattle.sound_state.proofs.installs.InstallKept.{installed-kept, installed-stocked, installed-framed}
@@ -40,6 +25,7 @@ use Rattle.sound_state.proofs.shared.TurnEffects.{StandsIn, StandsFramed}
 use Rattle.sound_state.proofs.shared.WaitsAlone.{new_anchor-fits}
 use Rattle.sound_state.proofs.shared.WonEffects.{WonEffects, won-effects}
 use Rattle.sound_state.proofs.shared.WordFacts.{held-fits, seat-active}
+use Rattle.sound_state.proofs.shared.KeepsSound.{KeepsSoundWhere}
 
 -- the credits of a new superblock fit the word
 credits-few : (class : ℕ) → new_credits class < 2 ^ CREDIT_BITS
@@ -121,31 +107,29 @@ install-installs g s l caller s' at o sound is has here word step =
 
 -- the state after a won install is sound
 pub install_superblock-won :
-    (g : Geometry) (s : State) (caller : ℕ) (s' : State) (at : Site) (o : Continuation) → IsSoundWithoutCounts g s → caller < g.callers
-    → (s.errand caller).point ≡ Block (block.InstallSuperblock at) o → s.word (active_name at.seat) ≡ active_word Null → Step s caller s'
-    → IsSoundWithoutCounts g s'
-install_superblock-won g s caller s' at o sound has here word step =
+    (at : Site) (o : Continuation) → KeepsSoundWhere (Block (block.InstallSuperblock at) o) (λ s. s.word (active_name at.seat) ≡ active_word Null)
+install_superblock-won at o g s caller s' sound has here word step =
     let l = sound.parts.0 in
     let is = sound.parts.1 in
     let e = at_point (s.errand caller) (won_with (active_word Null)) (Block (block.StorePrefix at 0) o) in
     let h = install-installs g s l caller s' at o sound is has here word step in
     record {
       checked = sound.checked;
-      legal = installed-legal g s l caller at (asked o) e s' h sound is;
+      legal = installed-legal h sound is;
       parts = (
         l,
         record {
           words = h.below;
           errands = each-caller g (IsOwnErrand g) s.errand caller e s'.errand h.moves h.rule is.errands;
-          listed = installed-listed g s l caller at (asked o) e s' h is;
-          kept = installed-kept g s l caller at (asked o) e s' h is;
-          chained = installed-chained g s l caller at (asked o) e s' h is;
-          framed = installed-framed g s l caller at (asked o) e s' h is;
-          remembered = installed-remembered g s l caller at (asked o) e s' h sound is;
-          guarded = installed-guarded g s l caller at (asked o) e s' h is;
-          stocked = installed-stocked g s l caller at (asked o) e s' h is;
-          turned = installed-turned g s l caller at (asked o) e s' h sound is;
-          tied = installed-tied g s l caller at (asked o) e s' h sound is;
+          listed = installed-listed h is;
+          kept = installed-kept h is;
+          chained = installed-chained h is;
+          framed = installed-framed h is;
+          remembered = installed-remembered h sound is;
+          guarded = installed-guarded h is;
+          stocked = installed-stocked h is;
+          turned = installed-turned h sound is;
+          tied = installed-tied h sound is;
         },
       );
     }

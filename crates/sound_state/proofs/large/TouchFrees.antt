@@ -1,43 +1,30 @@
 -- A run that is freed.
-use Rattle.std.proofs.Common.{ℕ, false, None, ◌≡◌, ◌≢◌, ◌<◌, ◌≤◌, ◌+◌, ◌^◌, [], ◌∷◌, ◌++◌, refl, arith, ap, sym, subst, inl, inr, ◌∙◌}
-use Rattle.std.specs.Prelude.{◌⊎◌, Any, IsTrue}
+use Rattle.std.proofs.Common.{ℕ, false, None, ◌≡◌, ◌≢◌, ◌<◌, ◌≤◌, ◌+◌, ◌^◌, [], ◌∷◌, ◌++◌, refl, arith, ap, sym, subst, inl, inr, ◌∙◌, ◌⊎◌, Any, IsTrue}
 use Rattle.std.specs.Int.{bit_at}
 use Rattle.std.proofs.lemmas.Bool.{cases_eq, cases_lt, lt-leb}
 use Rattle.std.proofs.lemmas.Nat.{and_le_l}
 use Rattle.std.proofs.lemmas.List.Elements.{All-head}
-use Rattle.heap_geometry.specs.declared.geometry.Geometry.{Geometry}
+use Rattle.sound_state.proofs.Common.{Geometry, frame_of, Writes, block_at, pool_of, place-found, sound-of, Continuation, Point, Idle, Large, ErrandFields, event_of}
+use Rattle.sound_state.proofs.Common.{next_of, plan_point_of, State, Step, holds_of, Lists, IsOwned, IsSoundWithoutCounts, IsSoundWith, is_there, IsLive, IsTied}
 use Rattle.heap_geometry.specs.declared.need.Need.TheVariants as need
 use Rattle.heap_geometry.specs.Need.{usable_words}
-use Rattle.heap_geometry.specs.Place.{frame_of, unit_place}
-use Rattle.word_plan.specs.declared.name.WordName.TheVariants as name
-use Rattle.word_plan.specs.Words.{Writes}
+use Rattle.heap_geometry.specs.Place.{unit_place}
+use Rattle.word_table.specs.declared.name.WordName.TheVariants as name
 use Rattle.large_parts.specs.declared.point.LargePoint.TheVariants as large
-use Rattle.large_parts.specs.Fits.{IsRunAt}
+use Rattle.large_parts.specs.Points.{IsRunAt}
 use Rattle.large_parts.specs.Runs.{RunFields}
 use Rattle.large_parts.specs.Units.{IsInRun, other_bits, without_run}
 use Rattle.large_parts.proofs.UnitLemmas.{without_run-inside, without_run-outside, without_run-below}
 use Rattle.pool_model.specs.declared.event.Event.TheVariants.{Free}
 use Rattle.pool_model.specs.declared.owner.Owner.TheVariants.{Caller}
 use Rattle.pool_model.specs.Legal.{IsAllowed}
-use Rattle.pool_model.specs.Pool.{Block, block_at, without, pool_of}
+use Rattle.pool_model.specs.Pool.{Block, without}
 use Rattle.pool_model.proofs.HistoryLemmas.{pool_of-push}
-use Rattle.pool_model.proofs.PoolLemmas.{place-found, block_at-without_other, block_at-without_same}
-use Rattle.pool_model.proofs.WellFormedLemmas.{sound-of, sound-differ}
-use Rattle.errand_steps.specs.declared.continuation.Continuation.{Continuation}
-use Rattle.errand_steps.specs.declared.point.Point.{Point}
-use Rattle.errand_steps.specs.declared.point.Point.TheVariants.{Idle, Large}
+use Rattle.pool_model.proofs.PoolLemmas.{block_at-without_other, block_at-without_same}
+use Rattle.pool_model.proofs.WellFormedLemmas.{sound-differ}
 use Rattle.errand_steps.specs.declared.reply.Reply.TheVariants as reply
-use Rattle.errand_steps.specs.Errands.{ErrandFields}
-use Rattle.errand_steps.specs.Events.{event_of}
-use Rattle.errand_steps.specs.Nexts.{next_of}
-use Rattle.errand_steps.specs.Points.{plan_point_of}
-use Rattle.errand_steps.specs.Steps.{State, Step}
-use Rattle.sound_state.specs.Holdings.{holds_of, freed}
-use Rattle.sound_state.specs.Lists.{Lists}
-use Rattle.sound_state.specs.Recalls.{IsOwned}
-use Rattle.sound_state.specs.Sound.{IsSoundWithoutCounts, IsSoundWith}
-use Rattle.sound_state.specs.Superblocks.{is_there}
-use Rattle.sound_state.specs.Ties.{IsLive, IsTied, IsCovered}
+use Rattle.sound_state.specs.Holdings.{freed}
+use Rattle.sound_state.specs.Ties.{IsCovered}
 use Rattle.sound_state.proofs.shared.ListFacts.{any-one}
 use Rattle.sound_state.proofs.shared.OverlapLemmas.{live-apart}
 use Rattle.sound_state.proofs.shared.PointLemmas.{fits-at, frees-at}
@@ -49,6 +36,7 @@ use Rattle.sound_state.proofs.large.TouchSteps.{IsAsideEvent, TouchesAt, leaves-
 use Rattle.sound_state.proofs.shared.ShownLemmas.{Excepts}
 use Rattle.sound_state.proofs.shared.TieLemmas.{IsBareHanded, bare-owns, not-live, one-live, ties-but}
 use Rattle.sound_state.proofs.large.TouchTies.{large-aside, touched-desc, touched-sound}
+use Rattle.sound_state.proofs.shared.KeepsSound.{KeepsSound}
 
 -- a unit is one of a run's, or none
 pub cases_run : (first units i : ℕ) → IsInRun first units i ⊎ (IsInRun first units i → ⊥)
@@ -198,7 +186,7 @@ free-tied g s l caller place run o s' e h sound old stands fit w bare_after a ow
       shelf = λ k. w.elsewhere (name.Shelf k) (λ same. cc);
       small = λ p class b here live is. absurd (gone p b here live);
       large = λ p n b here live is. absurd (gone p b here live);
-      bound = λ p class b d ne live is its. touched-desc g s l caller e s' h p class d its;
+      bound = λ p class b d ne live is its. touched-desc h p class d its;
       units = λ unit has.
           let t = tied.units unit has in (
             free-uncovers g s s' place run unit l sound old fit w a of c t.0,
@@ -215,11 +203,9 @@ free-tied g s l caller place run o s' e h sound old stands fit w bare_after a ow
       frees = owns.1;
     }) tied
 
-pub free_run-sound :
-    (g : Geometry) (s : State) (caller : ℕ) (s' : State) (place : ℕ) (run : RunFields) (o : Continuation) → IsSoundWithoutCounts g s → caller < g.callers
-    → (s.errand caller).point ≡ Large (large.FreeRun place run) o → Step s caller s' → IsSoundWithoutCounts g s'
+pub free_run-sound : (place : ℕ) (run : RunFields) (o : Continuation) → KeepsSound (Large (large.FreeRun place run) o)
 unfolding holds_of
-free_run-sound g s caller s' place run o sound has stands step =
+free_run-sound place run o g s caller s' sound has stands step =
     let l = sound.parts.0 in
     let old = sound.parts.1 in
     let p : Point = Large (large.FreeRun place run) o in

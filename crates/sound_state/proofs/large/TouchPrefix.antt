@@ -1,42 +1,27 @@
 -- The prefix word of a run that is handed out.
-use Rattle.std.proofs.Common.{ℕ, None, Some, ◌≡◌, ◌≢◌, ◌<◌, ◌≤◌, ◌+◌, ◌*◌, ◌^◌, [], refl, arith, ap, sym, subst, inl, inr, ◌∙◌}
-use Rattle.std.specs.Prelude.{Any, IsTrue, slice_index_or}
+use Rattle.std.proofs.Common.{ℕ, None, Some, ◌≡◌, ◌≢◌, ◌<◌, ◌≤◌, ◌+◌, ◌*◌, ◌^◌, [], refl, arith, ap, sym, subst, inl, inr, ◌∙◌, Any, IsTrue, slice_index_or}
 use Rattle.std.specs.Int.{bit_at}
 use Rattle.std.proofs.lemmas.Bool.{cases_eq}
 use Rattle.std.proofs.lemmas.Nat.{pow_pos}
 use Rattle.std.proofs.lemmas.List.Elements.{All-head}
-use Rattle.heap_geometry.specs.declared.geometry.Geometry.{Geometry}
+use Rattle.sound_state.proofs.Common.{Geometry, block_count_of, block_place, WordName, Writes, block_at, pool_of, IsLegalWithoutCounts, place-found, sound-of}
+use Rattle.sound_state.proofs.Common.{Continuation, Point, Idle, Large, ErrandFields, event_of, next_of, plan_point_of, State, Step, holds_of, Lists, IsOwned}
+use Rattle.sound_state.proofs.Common.{IsSoundWithoutCounts, IsSoundWith, IsLive, IsTied}
 use Rattle.heap_geometry.specs.declared.need.Need.TheVariants as need
-use Rattle.heap_geometry.specs.Need.{block_count_of, usable_words}
-use Rattle.heap_geometry.specs.Place.{block_place, unit_place}
+use Rattle.heap_geometry.specs.Need.{usable_words}
+use Rattle.heap_geometry.specs.Place.{unit_place}
 use Rattle.heap_geometry.proofs.PlaceLemmas.{block-within}
 use Rattle.packed_words.specs.declared.prefix.Prefix.TheVariants as prefix
 use Rattle.packed_words.specs.Prefix.{prefix_word}
-use Rattle.word_plan.specs.declared.name.WordName.{WordName}
-use Rattle.word_plan.specs.declared.name.WordName.TheVariants as name
-use Rattle.word_plan.specs.Words.{Writes}
+use Rattle.word_table.specs.declared.name.WordName.TheVariants as name
 use Rattle.large_parts.specs.declared.point.LargePoint.TheVariants as large
-use Rattle.large_parts.specs.Fits.{IsRunAt}
+use Rattle.large_parts.specs.Points.{IsRunAt}
 use Rattle.large_parts.specs.Runs.{RunFields}
-use Rattle.pool_model.specs.Pool.{Block, block_at, pool_of}
+use Rattle.pool_model.specs.Pool.{Block}
 use Rattle.pool_model.specs.WellFormed.{IsWellFormed}
-use Rattle.pool_model.specs.Legal.{IsLegalWithoutCounts}
-use Rattle.pool_model.proofs.PoolLemmas.{every-found, place-found}
-use Rattle.pool_model.proofs.WellFormedLemmas.{sound-of}
-use Rattle.errand_steps.specs.declared.continuation.Continuation.{Continuation}
-use Rattle.errand_steps.specs.declared.point.Point.{Point}
-use Rattle.errand_steps.specs.declared.point.Point.TheVariants.{Idle, Large}
+use Rattle.pool_model.proofs.PoolLemmas.{every-found}
 use Rattle.errand_steps.specs.declared.reply.Reply.TheVariants as reply
-use Rattle.errand_steps.specs.Errands.{ErrandFields}
-use Rattle.errand_steps.specs.Events.{event_of}
-use Rattle.errand_steps.specs.Nexts.{next_of}
-use Rattle.errand_steps.specs.Points.{plan_point_of}
-use Rattle.errand_steps.specs.Steps.{State, Step}
-use Rattle.sound_state.specs.Holdings.{holds_of, run_handed}
-use Rattle.sound_state.specs.Lists.{Lists}
-use Rattle.sound_state.specs.Recalls.{IsOwned}
-use Rattle.sound_state.specs.Sound.{IsSoundWithoutCounts, IsSoundWith}
-use Rattle.sound_state.specs.Ties.{IsLive, IsTied}
+use Rattle.sound_state.specs.Holdings.{run_handed}
 use Rattle.sound_state.proofs.shared.ListFacts.{any-one, written-within}
 use Rattle.sound_state.proofs.shared.OverlapLemmas.{live-apart}
 use Rattle.sound_state.proofs.shared.PointLemmas.{fits-at, hands-at}
@@ -47,6 +32,7 @@ use Rattle.sound_state.proofs.large.TouchSteps.{TouchesAt, leaves-same, touched-
 use Rattle.sound_state.proofs.shared.ShownLemmas.{Excepts}
 use Rattle.sound_state.proofs.shared.TieLemmas.{IsBareHanded, bare-owns, one-live, ties-but}
 use Rattle.sound_state.proofs.large.TouchTies.{large-aside, touched-desc}
+use Rattle.sound_state.proofs.shared.KeepsSound.{KeepsSound}
 
 -- the place of a word of the arena
 abbrev pub arena_place : WordName → ℕ
@@ -158,7 +144,7 @@ prefix-tied g s l caller place run o s' e h sound old stands owned w past bare_a
           let same : need.Large n ≡ need.Large run.units = sym is ∙ needs p b here (was p b live) in
           let units : run.units ≡ n = cc in
           inr (ap (λ q. s'.word (name.Arena q)) here ∙ w.here ∙ run-prefix-word run.units ∙ ap (λ m. 2 * m + 1) units);
-      bound = λ p class b d ne live is its. touched-desc g s l caller e s' h p class d its;
+      bound = λ p class b d ne live is its. touched-desc h p class d its;
       units = λ unit has.
           let t = tied.units unit has in (
             λ bit.
@@ -183,11 +169,9 @@ prefix-tied g s l caller place run o s' e h sound old stands owned w past bare_a
       frees = owns.1;
     }) tied
 
-pub store_run_prefix-sound :
-    (g : Geometry) (s : State) (caller : ℕ) (s' : State) (place : ℕ) (run : RunFields) (o : Continuation) → IsSoundWithoutCounts g s → caller < g.callers
-    → (s.errand caller).point ≡ Large (large.StoreRunPrefix place run) o → Step s caller s' → IsSoundWithoutCounts g s'
+pub store_run_prefix-sound : (place : ℕ) (run : RunFields) (o : Continuation) → KeepsSound (Large (large.StoreRunPrefix place run) o)
 unfolding holds_of
-store_run_prefix-sound g s caller s' place run o sound has stands step =
+store_run_prefix-sound place run o g s caller s' sound has stands step =
     let l = sound.parts.0 in
     let old = sound.parts.1 in
     let p : Point = Large (large.StoreRunPrefix place run) o in
@@ -202,6 +186,6 @@ store_run_prefix-sound g s caller s' place run o sound has stands step =
       legal = subst (IsLegalWithoutCounts g) (sym t.history) sound.legal;
       parts = (
         l,
-        sound-touched g s l caller _ s' t.touches old (prefix-tied g s l caller place run o s' _ t.touches sound old stands owned t.word t.history idle-bare-handed),
+        sound-touched t.touches old (prefix-tied g s l caller place run o s' _ t.touches sound old stands owned t.word t.history idle-bare-handed),
       );
     }

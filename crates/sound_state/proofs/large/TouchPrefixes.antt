@@ -1,33 +1,18 @@
 -- A word of the arena that is no block's prefix word in a frame at work: what is remembered of superblocks stays where it changes.
-use Rattle.std.proofs.Common.{ℕ, ◌≡◌, ◌≢◌, ◌<◌, ◌+◌, [], ◌∷◌, arith, ap, sym, subst, refl, ◌∙◌}
+use Rattle.std.proofs.Common.{ℕ, ◌≡◌, ◌≢◌, ◌<◌, ◌+◌, [], ◌∷◌, arith, ap, sym, subst, refl, ◌∙◌, IsTrue}
 use Rattle.std.specs.List.{All, AllByRecursion}
-use Rattle.std.specs.Prelude.{IsTrue}
 use Rattle.std.proofs.lemmas.List.Elements.{All-from_recursion, recursion_from_All}
-use Rattle.heap_geometry.specs.declared.geometry.Geometry.{Geometry}
-use Rattle.heap_geometry.specs.Need.{block_count_of}
-use Rattle.packed_words.specs.Info.{info_of}
-use Rattle.packed_words.specs.Prefix.{link_of}
-use Rattle.word_plan.specs.declared.name.WordName.{WordName}
-use Rattle.word_plan.specs.declared.name.WordName.TheVariants as name
-use Rattle.word_plan.specs.declared.seat.Site.{Site}
-use Rattle.word_plan.specs.Counts.{descriptor_count}
-use Rattle.word_plan.specs.Occurs.{occurs}
-use Rattle.superblock_parts.specs.Chains.{chain_of, prefix_name, link_in}
-use Rattle.superblock_parts.specs.Fits.{FitsBlock}
+use Rattle.sound_state.proofs.Common.{Geometry, block_count_of, info_of, link_of, WordName, Site, descriptor_count, occurs, prefix_name, link_in, BlockPoint}
+use Rattle.sound_state.proofs.Common.{Continuation, Point, State, errand_frames, waiting, holds_of, Lists, IsSo, IsLocated, recalls_of, IsSoundWith, IsChained}
+use Rattle.sound_state.proofs.Common.{info_for, anchor_for, reserved_of, superblock_of, free_chain, is_bound, errand_keeps, kept_among}
+use Rattle.word_table.specs.declared.name.WordName.TheVariants as name
+use Rattle.superblock_parts.specs.Chains.{chain_of}
+use Rattle.superblock_parts.specs.Points.{FitsBlock}
 use Rattle.superblock_parts.proofs.ChainLemmas.{chain_of-same}
-use Rattle.superblock_parts.specs.declared.point.BlockPoint.{BlockPoint}
 use Rattle.superblock_parts.specs.declared.point.BlockPoint.TheVariants as block
-use Rattle.errand_steps.specs.declared.continuation.Continuation.{Continuation}
-use Rattle.errand_steps.specs.declared.point.Point.{Point}
 use Rattle.errand_steps.specs.declared.point.Point.TheVariants as point
-use Rattle.errand_steps.specs.Steps.{State}
-use Rattle.sound_state.specs.Frames.{errand_frames}
 use Rattle.sound_state.specs.Holdings as holding
-use Rattle.sound_state.specs.Holdings.{waiting, holds_of}
-use Rattle.sound_state.specs.Lists.{Lists}
-use Rattle.sound_state.specs.Recalls.{IsSo, IsLocated, recalls_of, block_recalls}
-use Rattle.sound_state.specs.Sound.{IsSoundWith}
-use Rattle.sound_state.specs.Superblocks.{IsChained, info_for, anchor_for, reserved_of, superblock_of, free_chain, is_bound, errand_keeps, kept_among}
+use Rattle.sound_state.specs.Recalls.{block_recalls}
 use Rattle.sound_state.proofs.shared.MakingWeights.{making-waits}
 use Rattle.sound_state.proofs.shared.PointLemmas.{fits-at, so-at}
 use Rattle.sound_state.proofs.large.TouchEffects.{IsAwayWord, Stays}

@@ -2,26 +2,12 @@
 use Rattle.std.proofs.Common.{ℕ, arith, ◌≡◌, ◌+◌, List, [], refl, ap}
 use Rattle.std.specs.List.{All, AllByRecursion}
 use Rattle.std.proofs.Math.Path.{fun_ext}
-use Rattle.heap_geometry.specs.declared.geometry.Geometry.{Geometry}
-use Rattle.packed_words.specs.Prefix.{link_of}
-use Rattle.word_plan.specs.declared.name.WordName.{WordName}
-use Rattle.word_plan.specs.declared.name.WordName.TheVariants as name
-use Rattle.word_plan.specs.Seats.{SeatFields}
-use Rattle.superblock_parts.specs.Chains.{chain_of, link_in}
-use Rattle.superblock_parts.specs.declared.point.BlockPoint.{BlockPoint}
-use Rattle.stack_parts.specs.declared.point.Pile.{Pile}
-use Rattle.stack_parts.specs.declared.point.Pile.TheVariants.{Frames, Partials}
-use Rattle.stack_parts.specs.declared.point.StackPoint.{StackPoint}
-use Rattle.stack_parts.specs.Piles.{next_name}
-use Rattle.hazard_parts.specs.declared.point.DescPoint.{DescPoint}
-use Rattle.partial_parts.specs.declared.point.PartialPoint.{PartialPoint}
-use Rattle.large_parts.specs.declared.point.LargePoint.{LargePoint}
-use Rattle.errand_steps.specs.declared.continuation.Continuation.{Continuation}
-use Rattle.errand_steps.specs.declared.point.Point.{Point}
+use Rattle.sound_state.proofs.Common.{Geometry, link_of, WordName, SeatFields, link_in, BlockPoint, Pile, Frames, Partials, StackPoint, next_name, DescPoint}
+use Rattle.sound_state.proofs.Common.{PartialPoint, LargePoint, Continuation, Point, State, Recall, recalls_of, pops, links, says, info_for, anchor_for, reserved_of}
+use Rattle.word_table.specs.declared.name.WordName.TheVariants as name
+use Rattle.superblock_parts.specs.Chains.{chain_of}
 use Rattle.errand_steps.specs.declared.point.Point.TheVariants as point
-use Rattle.errand_steps.specs.Steps.{State}
-use Rattle.sound_state.specs.Recalls.{Recall, recalls_of, block_recalls, continuation_recalls, stack_recalls, resumed_recalls, desc_recalls, partial_recalls, large_recalls, pops, links, says, made}
-use Rattle.sound_state.specs.Superblocks.{info_for, anchor_for, reserved_of}
+use Rattle.sound_state.specs.Recalls.{block_recalls, continuation_recalls, stack_recalls, resumed_recalls, desc_recalls, partial_recalls, large_recalls, made}
 use Rattle.sound_state.proofs.large.TouchEffects.{IsAwayWord, Stays}
 use Rattle.sound_state.proofs.shared.RecallTables.{for-each}
 

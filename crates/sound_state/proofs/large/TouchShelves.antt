@@ -1,42 +1,26 @@
 -- Won exchanges of a shelf's word keep the state sound.
-use Rattle.std.proofs.Common.{ℕ, true, None, Some, ◌≡◌, ◌≢◌, ◌<◌, ◌+◌, [], ◌∷◌, ◌++◌, refl, arith, ap, sym, subst, inl, inr, ◌∙◌}
-use Rattle.std.specs.Prelude.{◌==◌, slice_index_or}
+use Rattle.std.proofs.Common.{ℕ, true, None, Some, ◌≡◌, ◌≢◌, ◌<◌, ◌+◌, [], ◌∷◌, ◌++◌, refl, arith, ap, sym, subst, inl, inr, ◌∙◌, ◌==◌, slice_index_or}
 use Rattle.std.proofs.lemmas.Bool.{cases_eq, eq-eqb}
 use Rattle.std.proofs.lemmas.List.Elements.{All-head}
-use Rattle.heap_geometry.specs.declared.geometry.Geometry.{Geometry}
+use Rattle.sound_state.proofs.Common.{Geometry, Need, WordName, Writes, Event, block_at, pool_of, sound-of, Continuation, Point, Idle, Large, ErrandFields, event_of}
+use Rattle.sound_state.proofs.Common.{next_of, plan_point_of, State, Step, holds_of, Lists, IsSo, IsOwned, recalls_of, IsSoundWithoutCounts, IsSoundWith, is_there}
+use Rattle.sound_state.proofs.Common.{IsLive, IsTied}
 use Rattle.heap_geometry.specs.declared.limits.TheConstants.{SHELVES}
-use Rattle.heap_geometry.specs.declared.need.Need.{Need}
 use Rattle.packed_words.specs.declared.shelf.ShelfWord.TheVariants as shelf
 use Rattle.packed_words.specs.Shelf.{IsShelfWord, shelf_word}
 use Rattle.packed_words.proofs.ShelfLemmas.{shelf-exact}
-use Rattle.word_plan.specs.declared.name.WordName.{WordName}
-use Rattle.word_plan.specs.declared.name.WordName.TheVariants as name
-use Rattle.word_plan.specs.Words.{Writes}
+use Rattle.word_table.specs.declared.name.WordName.TheVariants as name
 use Rattle.large_parts.specs.declared.point.LargePoint.TheVariants as large
-use Rattle.pool_model.specs.declared.event.Event.{Event}
 use Rattle.pool_model.specs.declared.event.Event.TheVariants.{Put, Take, TakeNone}
 use Rattle.pool_model.specs.declared.owner.Owner.{Owner}
 use Rattle.pool_model.specs.declared.owner.Owner.TheVariants.{Caller, Shelf}
 use Rattle.pool_model.specs.Legal.{IsAllowed, IsEmptyShelf}
-use Rattle.pool_model.specs.Pool.{Block, Pool, block_at, handed_to, with_changed, pool_after, pool_of}
+use Rattle.pool_model.specs.Pool.{Block, Pool, handed_to, with_changed, pool_after}
 use Rattle.pool_model.proofs.HistoryLemmas.{pool_of-push}
 use Rattle.pool_model.proofs.PoolLemmas.{block_at-changed_other, block_at-changed_same}
-use Rattle.pool_model.proofs.WellFormedLemmas.{sound-of, separate-found}
-use Rattle.errand_steps.specs.declared.continuation.Continuation.{Continuation}
-use Rattle.errand_steps.specs.declared.point.Point.{Point}
-use Rattle.errand_steps.specs.declared.point.Point.TheVariants.{Idle, Large}
+use Rattle.pool_model.proofs.WellFormedLemmas.{separate-found}
 use Rattle.errand_steps.specs.declared.reply.Reply.TheVariants as reply
-use Rattle.errand_steps.specs.Errands.{ErrandFields}
-use Rattle.errand_steps.specs.Events.{event_of}
-use Rattle.errand_steps.specs.Nexts.{next_of}
-use Rattle.errand_steps.specs.Points.{plan_point_of}
-use Rattle.errand_steps.specs.Steps.{State, Step}
-use Rattle.sound_state.specs.Holdings.{holds_of}
-use Rattle.sound_state.specs.Lists.{Lists}
-use Rattle.sound_state.specs.Recalls.{IsSo, IsOwned, owns_all, recalls_of}
-use Rattle.sound_state.specs.Sound.{IsSoundWithoutCounts, IsSoundWith}
-use Rattle.sound_state.specs.Superblocks.{is_there}
-use Rattle.sound_state.specs.Ties.{IsLive, IsTied}
+use Rattle.sound_state.specs.Recalls.{owns_all}
 use Rattle.sound_state.proofs.shared.PointLemmas.{fits-at, so-at}
 use Rattle.sound_state.proofs.large.TouchEffects.{IsAsidePoint, Touches}
 use Rattle.sound_state.proofs.large.TouchSteps.{TouchesAt, leaves-event, stays-still, touched-step}
@@ -45,6 +29,7 @@ use Rattle.sound_state.proofs.shared.ShelfFacts.{shelved-block, empty-shelf}
 use Rattle.sound_state.proofs.shared.StepLemmas.{words-stay}
 use Rattle.sound_state.proofs.shared.TieLemmas.{IsBareHanded, one-live}
 use Rattle.sound_state.proofs.shared.WordFacts.{shelf-nothing}
+use Rattle.sound_state.proofs.shared.KeepsSound.{KeepsSoundWhere}
 
 -- a block is changed, and its place and its need stay
 pub record Changes (s s' : State) (at : ℕ) (a b : Block) : Type 0 where
@@ -113,7 +98,7 @@ handed-tied :
     → ((to ≡ Shelf k → ⊥) → word ≡ shelf_word shelf.Nothing) → IsTied g s' l
 handed-tied g s l caller k place word to s' e h old w bare_before bare_after b c from alone onto nothing =
     let others = λ (j : ℕ) (differ : j ≢ k). w.elsewhere (name.Shelf j) (λ same. differ (ap shelf_number same)) in
-    tied-touched g s l caller e s' h old (changes-places s s' place b (handed_to to b) c) bare_before bare_after
+    tied-touched h old (changes-places s s' place b (handed_to to b) c) bare_before bare_after
     (λ p x live. w.elsewhere (name.Arena p) (λ same. cc)) (w.elsewhere name.Units (λ same. cc))
     (λ j p x has_j live on.
     elim (cases_eq p place) [
@@ -208,10 +193,10 @@ put-tied g s l caller k place n s' e h old has w bare_before bare_after empty b 
     (λ j is. let same : j ≡ k = cc in (same, ap (λ m. shelf_word (shelf.Block place m)) (sym of))) (λ differ. absurd (differ refl))
 
 pub put_block-sound :
-    (g : Geometry) (s : State) (caller : ℕ) (s' : State) (k place : ℕ) (n : Need) (o : Continuation) → IsSoundWithoutCounts g s → caller < g.callers
-    → (s.errand caller).point ≡ Large (large.PutBlock k place n) o → s.word (name.Shelf k) ≡ shelf_word shelf.Nothing → Step s caller s' → IsSoundWithoutCounts g s'
+    (k place : ℕ) (n : Need) (o : Continuation)
+    → KeepsSoundWhere (Large (large.PutBlock k place n) o) (λ s. s.word (name.Shelf k) ≡ shelf_word shelf.Nothing)
 unfolding recalls_of
-put_block-sound g s caller s' k place n o sound has stands word step =
+put_block-sound k place n o g s caller s' sound has stands word step =
     let l = sound.parts.0 in
     let old = sound.parts.1 in
     let p : Point = Large (large.PutBlock k place n) o in
@@ -273,9 +258,9 @@ take-tied g s l caller k place s' e h sound old w bare_before bare_after b owned
     (λ j is. absurd (cc)) (λ differ. refl)
 
 pub take_block-sound :
-    (g : Geometry) (s : State) (caller : ℕ) (s' : State) (k place : ℕ) (n : Need) (o : Continuation) → IsSoundWithoutCounts g s → caller < g.callers
-    → (s.errand caller).point ≡ Large (large.TakeBlock k place n) o → s.word (name.Shelf k) ≡ shelf_word (shelf.Block place n) → Step s caller s' → IsSoundWithoutCounts g s'
-take_block-sound g s caller s' k place n o sound has stands word step =
+    (k place : ℕ) (n : Need) (o : Continuation)
+    → KeepsSoundWhere (Large (large.TakeBlock k place n) o) (λ s. s.word (name.Shelf k) ≡ shelf_word (shelf.Block place n))
+take_block-sound k place n o g s caller s' sound has stands word step =
     let l = sound.parts.0 in
     let old = sound.parts.1 in
     let p : Point = Large (large.TakeBlock k place n) o in
@@ -329,7 +314,7 @@ pub same-tied :
     → ((m : WordName) → s'.word m ≡ s.word m) → IsBareHanded (s.errand caller).point → IsBareHanded e.point
     → ((p : ℕ) → block_at p (pool_of s'.history) ≡ block_at p (pool_of s.history)) → IsTied g s' l
 same-tied g s l caller s' e h old words bare_before bare_after pool =
-    tied-touched g s l caller e s' h old
+    tied-touched h old
     (record { was = λ p x live. (x, sym (pool p) ∙ live, refl); still = λ p x live. (x, pool p ∙ live, refl) }) bare_before bare_after
     (λ p x live. words (name.Arena p)) (words name.Units)
     (λ j p x has_j live on. words (name.Shelf j) ∙ old.tied.shelved j p x has_j (sym (pool p) ∙ live) on)
@@ -337,9 +322,8 @@ same-tied g s l caller s' e h old words bare_before bare_after pool =
     (λ p i v x live written. words (name.Arena (p + 1 + i)) ∙ old.tied.contents p i v x (sym (pool p) ∙ live) written)
 
 pub confirm_nothing-sound :
-    (g : Geometry) (s : State) (caller : ℕ) (s' : State) (k : ℕ) (o : Continuation) → IsSoundWithoutCounts g s → caller < g.callers
-    → (s.errand caller).point ≡ Large (large.ConfirmNothing k) o → s.word (name.Shelf k) ≡ shelf_word shelf.Nothing → Step s caller s' → IsSoundWithoutCounts g s'
-confirm_nothing-sound g s caller s' k o sound has stands word step =
+    (k : ℕ) (o : Continuation) → KeepsSoundWhere (Large (large.ConfirmNothing k) o) (λ s. s.word (name.Shelf k) ≡ shelf_word shelf.Nothing)
+confirm_nothing-sound k o g s caller s' sound has stands word step =
     let l = sound.parts.0 in
     let old = sound.parts.1 in
     let p : Point = Large (large.ConfirmNothing k) o in

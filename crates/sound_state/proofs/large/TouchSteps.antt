@@ -1,34 +1,18 @@
 -- The step at a large block, a usable word or a shelf, and what it leaves.
-use Rattle.std.proofs.Common.{ℕ, false, Some, ◌≡◌, ◌≢◌, ◌<◌, ◌^◌, List, [], ◌∷◌, ◌++◌, refl, ap, sym, subst, ◌∙◌}
-use Rattle.std.specs.Prelude.{All, IsTrue, count_by}
-use Rattle.heap_geometry.specs.declared.geometry.Geometry.{Geometry}
-use Rattle.heap_geometry.specs.Need.{block_count_of}
-use Rattle.heap_geometry.specs.Place.{block_place}
-use Rattle.word_plan.specs.declared.name.WordName.{WordName}
-use Rattle.word_plan.specs.declared.name.WordName.TheVariants as name
-use Rattle.word_plan.specs.Actions.{name_of, after_action}
-use Rattle.word_plan.specs.Counts.{descriptor_count}
-use Rattle.word_plan.specs.Words.{Writes}
-use Rattle.superblock_parts.specs.Chains.{prefix_name}
-use Rattle.pool_model.specs.declared.event.Event.{Event}
+use Rattle.std.proofs.Common.{ℕ, false, Some, ◌≡◌, ◌≢◌, ◌<◌, ◌^◌, List, [], ◌∷◌, ◌++◌, refl, ap, sym, subst, ◌∙◌, All, IsTrue, count_by}
+use Rattle.sound_state.proofs.Common.{Geometry, block_count_of, block_place, WordName, name_of, after_action, descriptor_count, Writes, prefix_name, Event, own}
+use Rattle.sound_state.proofs.Common.{block_at, pool_of, Point, settle_of, raised, counts_lost, counts_cleared, event_of, next_of, plan_point_of, State, Step, Moves}
+use Rattle.sound_state.proofs.Common.{found_at, name_at, with_event, Lists, recalls_of, IsSoundWith, info_for, is_bound, is_there, gives_small, refuses_small}
+use Rattle.word_table.specs.declared.name.WordName.TheVariants as name
 use Rattle.pool_model.specs.declared.owner.Owner.TheVariants.{Caller}
-use Rattle.pool_model.specs.Histories.{own, caller_of}
+use Rattle.pool_model.specs.Histories.{caller_of}
 use Rattle.pool_model.specs.Legal.{IsAllowed}
-use Rattle.pool_model.specs.Pool.{Block, block_at, pool_after, pool_of}
+use Rattle.pool_model.specs.Pool.{Block, pool_after}
 use Rattle.pool_model.proofs.HistoryLemmas.{pool_of-push}
 use Rattle.pool_model.proofs.OwnerLemmas.{others-keep}
-use Rattle.errand_steps.specs.declared.point.Point.{Point}
-use Rattle.errand_steps.specs.Errands.{IsErrand, settle_of, raised, counts_lost, counts_cleared}
-use Rattle.errand_steps.specs.Events.{event_of}
-use Rattle.errand_steps.specs.Nexts.{next_of}
-use Rattle.errand_steps.specs.Points.{plan_point_of}
-use Rattle.errand_steps.specs.Steps.{State, Step, Moves, found_at, name_at, with_event}
+use Rattle.errand_steps.specs.Errands.{IsErrand}
 use Rattle.errand_steps.proofs.ErrandLemmas.{settle_errand}
-use Rattle.sound_state.specs.Lists.{Lists}
-use Rattle.sound_state.specs.Recalls.{recalls_of}
-use Rattle.sound_state.specs.Sound.{IsSoundWith}
-use Rattle.sound_state.specs.Superblocks.{info_for, is_bound, is_there}
-use Rattle.sound_state.specs.Turns.{gives_small, refuses_small, is_small_alloc, is_small_free}
+use Rattle.sound_state.specs.Turns.{is_small_alloc, is_small_free}
 use Rattle.sound_state.proofs.shared.EventFacts.{counted-not, told-own}
 use Rattle.sound_state.proofs.shared.StepLemmas.{at_point, words-below, found_from}
 use Rattle.sound_state.proofs.large.TouchEffects.{IsAwayWord, IsAsidePoint, Stays, Touches}

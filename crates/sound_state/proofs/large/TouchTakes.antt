@@ -7,15 +7,15 @@ use Rattle.std.proofs.lemmas.Bool.{cases_eq, cases_lt, lt-leb, le-leb, eq-eqb}
 use Rattle.std.proofs.lemmas.Nat.{pow_pos, or_lt}
 use Rattle.std.proofs.lemmas.Nat.Bits.{bit_at-lt}
 use Rattle.std.proofs.lemmas.List.Elements.{All-nil, All-cons}
-use Rattle.heap_geometry.specs.declared.geometry.Geometry.{Geometry}
+use Rattle.sound_state.proofs.Common.{Geometry, Need, need_of, Writes, block_at, pool_of, place-found, sound-of, Continuation, Point, Idle, Large, ErrandFields}
+use Rattle.sound_state.proofs.Common.{event_of, next_of, asked, plan_point_of, State, Step, holds_of, Lists, IsOwned, recalls_of, IsSoundWithoutCounts, IsSoundWith}
+use Rattle.sound_state.proofs.Common.{is_there, IsLive, IsTied}
 use Rattle.heap_geometry.specs.declared.limits.TheConstants.{SMALL_MOST}
-use Rattle.heap_geometry.specs.declared.need.Need.{Need}
 use Rattle.heap_geometry.specs.declared.need.Need.TheVariants as need
-use Rattle.heap_geometry.specs.Need.{IsNeed, need_of, usable_words}
+use Rattle.heap_geometry.specs.Need.{IsNeed, usable_words}
 use Rattle.heap_geometry.specs.Place.{IsApart, unit_place, run_span}
 use Rattle.heap_geometry.proofs.PlaceLemmas.{block-within}
-use Rattle.word_plan.specs.declared.name.WordName.TheVariants as name
-use Rattle.word_plan.specs.Words.{Writes}
+use Rattle.word_table.specs.declared.name.WordName.TheVariants as name
 use Rattle.large_parts.specs.declared.point.LargePoint.TheVariants as large
 use Rattle.large_parts.specs.Points.{first_wanted}
 use Rattle.large_parts.specs.Runs.{WantFields, RunFields}
@@ -25,28 +25,16 @@ use Rattle.large_parts.proofs.LowestLemmas.{first_run-exact}
 use Rattle.large_parts.proofs.UnitLemmas.{run_bits-mask, with_run-inside, with_run-outside, with_run-below}
 use Rattle.pool_model.specs.declared.event.Event.TheVariants.{Alloc, Refuse}
 use Rattle.pool_model.specs.Legal.{IsAllowed, IsClear, IsFree, IsRefusable}
-use Rattle.pool_model.specs.Pool.{Block, block_at, fresh_block, pool_of, span_of}
+use Rattle.pool_model.specs.Pool.{Block, fresh_block, span_of}
 use Rattle.pool_model.specs.WellFormed.{IsPlaceFor, IsWellFormed}
 use Rattle.pool_model.proofs.HistoryLemmas.{pool_of-push}
 use Rattle.pool_model.proofs.OwnerLemmas.{free-elsewhere}
-use Rattle.pool_model.proofs.PoolLemmas.{every-found, place-found, block_at-here, block_at-past}
-use Rattle.pool_model.proofs.WellFormedLemmas.{class_span, sound-of}
-use Rattle.errand_steps.specs.declared.continuation.Continuation.{Continuation}
-use Rattle.errand_steps.specs.declared.point.Point.{Point}
-use Rattle.errand_steps.specs.declared.point.Point.TheVariants.{Idle, Large}
+use Rattle.pool_model.proofs.PoolLemmas.{every-found, block_at-here, block_at-past}
+use Rattle.pool_model.proofs.WellFormedLemmas.{class_span}
 use Rattle.errand_steps.specs.declared.reply.Reply.TheVariants as reply
-use Rattle.errand_steps.specs.Errands.{ErrandFields}
-use Rattle.errand_steps.specs.Events.{event_of}
-use Rattle.errand_steps.specs.Nexts.{next_of}
 use Rattle.errand_steps.specs.Continuations.{IsRunFor}
-use Rattle.errand_steps.specs.Points.{asked, plan_point_of}
-use Rattle.errand_steps.specs.Steps.{State, Step}
-use Rattle.sound_state.specs.Holdings.{holds_of, run_handed}
-use Rattle.sound_state.specs.Lists.{Lists}
-use Rattle.sound_state.specs.Recalls.{IsOwned, recalls_of}
-use Rattle.sound_state.specs.Sound.{IsSoundWithoutCounts, IsSoundWith}
-use Rattle.sound_state.specs.Superblocks.{is_there}
-use Rattle.sound_state.specs.Ties.{IsLive, IsTied, IsCovered}
+use Rattle.sound_state.specs.Holdings.{run_handed}
+use Rattle.sound_state.specs.Ties.{IsCovered}
 use Rattle.sound_state.proofs.shared.PointLemmas.{fits-at}
 use Rattle.sound_state.proofs.large.TouchEffects.{Touches}
 use Rattle.sound_state.proofs.large.TouchFrees.{cases_run}
@@ -58,6 +46,7 @@ use Rattle.sound_state.proofs.shared.ShownLemmas.{Excepts}
 use Rattle.sound_state.proofs.shared.StepLemmas.{words-stay}
 use Rattle.sound_state.proofs.shared.TieLemmas.{IsBareHanded, excepts-none, none-written, one-live, ties-but}
 use Rattle.sound_state.proofs.large.TouchTies.{large-aside, touched-desc, touched-sound}
+use Rattle.sound_state.proofs.shared.KeepsSound.{KeepsSoundWhere}
 
 -- an allocation of units serves its words by as many
 run-asked : (n : ℕ) (o : Continuation) → IsRunFor n o → need_of (asked o) ≡ need.Large n
@@ -298,7 +287,7 @@ run-given-tied g s l caller words first n s' e h old bare hands frees w served w
           (record {
             caller = (caller, h.in_heap, subst (λ q. Excepts (s'.errand caller) q) (sym here) (subst (λ f. Excepts f stands) (sym h.moves.here) excepts));
           });
-      bound = λ p class b d ne live is its. touched-desc g s l caller e s' h p class d its;
+      bound = λ p class b d ne live is its. touched-desc h p class d its;
       units = λ unit has. let u = given-units g s s' l first n unit a old w served c has in (u.0, u.1);
       no_more_units =
           let most : 2 ^ (first + n) ≤ 2 ^ g.units = pow_mono within in
@@ -377,7 +366,5 @@ take-found :
 take-found g s caller s' w bits o None sound has stands word is step = refused-sound g s caller s' w bits o sound has stands word is step
 take-found g s caller s' w bits o (Some first) sound has stands word is step = given-sound g s caller s' w bits o first sound has stands word is step
 
-pub take_run-sound :
-    (g : Geometry) (s : State) (caller : ℕ) (s' : State) (w : WantFields) (bits : ℕ) (o : Continuation) → IsSoundWithoutCounts g s → caller < g.callers
-    → (s.errand caller).point ≡ Large (large.TakeRun w bits) o → s.word name.Units ≡ bits → Step s caller s' → IsSoundWithoutCounts g s'
-take_run-sound g s caller s' w bits o sound has stands word step = take-found g s caller s' w bits o (first_wanted w bits) sound has stands word refl step
+pub take_run-sound : (w : WantFields) (bits : ℕ) (o : Continuation) → KeepsSoundWhere (Large (large.TakeRun w bits) o) (λ s. s.word name.Units ≡ bits)
+take_run-sound w bits o g s caller s' sound has stands word step = take-found g s caller s' w bits o (first_wanted w bits) sound has stands word refl step

@@ -1,30 +1,18 @@
 -- After a step at a usable word or a shelf the words still show the pool of the events.
-use Rattle.std.proofs.Common.{ℕ, Some, ◌≡◌, ◌<◌, ◌+◌, ◌*◌, ◌^◌, [], ◌∷◌, ◌++◌, arith, ap, sym, subst, ◌∙◌}
-use Rattle.std.specs.Prelude.{◌⊎◌, All, IsTrue, slice_index_or, None}
+use Rattle.std.proofs.Common.{ℕ, Some, ◌≡◌, ◌<◌, ◌+◌, ◌*◌, ◌^◌, [], ◌∷◌, ◌++◌, arith, ap, sym, subst, ◌∙◌, ◌⊎◌, All, IsTrue, slice_index_or, None}
 use Rattle.std.specs.Int.{bit_at}
-use Rattle.heap_geometry.specs.declared.geometry.Geometry.{Geometry}
+use Rattle.sound_state.proofs.Common.{Geometry, frame_of, WordName, Event, IsLegalWithoutCounts, LargePoint, Continuation, Point, Large, ErrandFields, State}
+use Rattle.sound_state.proofs.Common.{holds_of, Lists, IsOwned, IsSoundWithoutCounts, IsSoundWith, IsTied, IsLive}
 use Rattle.heap_geometry.specs.declared.limits.TheConstants.{SHELVES}
-use Rattle.heap_geometry.specs.Place.{frame_of, unit_place}
+use Rattle.heap_geometry.specs.Place.{unit_place}
 use Rattle.packed_words.specs.declared.shelf.ShelfWord.TheVariants as shelf
 use Rattle.packed_words.specs.Shelf.{shelf_word}
-use Rattle.word_plan.specs.declared.name.WordName.{WordName}
-use Rattle.word_plan.specs.declared.name.WordName.TheVariants as name
+use Rattle.word_table.specs.declared.name.WordName.TheVariants as name
 use Rattle.pool_model.specs.declared.owner.Owner.TheVariants.{Shelf}
-use Rattle.pool_model.specs.declared.event.Event.{Event}
-use Rattle.pool_model.specs.Legal.{IsLegalEventWithoutCounts, IsLegalWithoutCounts}
+use Rattle.pool_model.specs.Legal.{IsLegalEventWithoutCounts}
 use Rattle.pool_model.specs.Pool.{Block}
 use Rattle.pool_model.proofs.HistoryLemmas.{EachAfter-push}
-use Rattle.large_parts.specs.declared.point.LargePoint.{LargePoint}
-use Rattle.errand_steps.specs.declared.continuation.Continuation.{Continuation}
-use Rattle.errand_steps.specs.declared.point.Point.{Point}
-use Rattle.errand_steps.specs.declared.point.Point.TheVariants.{Large}
-use Rattle.errand_steps.specs.Errands.{ErrandFields}
-use Rattle.errand_steps.specs.Steps.{State}
-use Rattle.sound_state.specs.Holdings.{holds_of}
-use Rattle.sound_state.specs.Lists.{Lists}
-use Rattle.sound_state.specs.Recalls.{IsOwned}
-use Rattle.sound_state.specs.Sound.{IsSoundWithoutCounts, IsSoundWith}
-use Rattle.sound_state.specs.Ties.{IsTied, IsLive, IsBlockOfDesc, IsExcepted}
+use Rattle.sound_state.specs.Ties.{IsBlockOfDesc, IsExcepted}
 use Rattle.sound_state.proofs.shared.CallerLemmas.{each-other}
 use Rattle.sound_state.proofs.shared.TieLemmas.{bare-owns, excepted-stays, excepts-none, tie-stays, IsBareHanded}
 use Rattle.sound_state.proofs.large.TouchEffects.{IsAsidePoint, Touches, sound-touched, touched-bound, located-touched, owned-touched}
@@ -35,64 +23,6 @@ pub record SamePlaces (s s' : State) : Type 0 where
   pub was : (p : ℕ) (b' : Block) → IsLive s' p b' → (b : Block) × IsLive s p b × (b'.need ≡ b.need)
   pub still : (p : ℕ) (b : Block) → IsLive s p b → (b' : Block) × IsLive s' p b' × (b'.need ≡ b.need)
 
--- the superblock of a small block is the same
-pub touched-desc :
-    (g : Geometry) (s : State) (l : Lists) (caller : ℕ) (e : ErrandFields) (s' : State) → Touches g s l caller e s' → (place class d : ℕ)
-    → IsBlockOfDesc g s l place class d → IsBlockOfDesc g s' l place class d
-touched-desc g s l caller e s' h place class d its = record {
-  exists = its.exists;
-  bound = subst IsTrue (sym (touched-bound g s l caller e s' h d)) its.bound;
-  located = located-touched g s l caller e s' h d (frame_of place) class its.located;
-}
-
--- the ties of a step that leaves the places, the prefix words and the units
-pub tied-touched :
-    (g : Geometry) (s : State) (l : Lists) (caller : ℕ) (e : ErrandFields) (s' : State) → Touches g s l caller e s' → IsSoundWith g s l
-    → SamePlaces s s' → IsBareHanded (s.errand caller).point → IsBareHanded e.point
-    → ((p : ℕ) (b : Block) → IsLive s p b → s'.word (name.Arena p) ≡ s.word (name.Arena p)) → s'.word name.Units ≡ s.word name.Units
-    → ((k place : ℕ) (b : Block) → k < SHELVES → IsLive s' place b → b.owner ≡ Shelf k → s'.word (name.Shelf k) ≡ shelf_word (shelf.Block place b.need))
-    → ((k : ℕ) → k < SHELVES → ((place : ℕ) (b : Block) → IsLive s' place b → b.owner ≡ Shelf k → ⊥) → s'.word (name.Shelf k) ≡ shelf_word shelf.Nothing)
-    → ((place i v : ℕ) (b : Block) → IsLive s' place b → slice_index_or b.contents i None ≡ Some v → s'.word (name.Arena (place + 1 + i)) ≡ v)
-    → IsTied g s' l
-tied-touched g s l caller e s' h old same bare_before bare_after prefixes units shelved bare contents =
-    let tied = old.tied in
-    let owns = bare-owns s' caller e.point bare_after in
-    let kept = λ (place w : ℕ) (b : Block) (live : IsLive s place b) (x : IsExcepted g s place ⊎ (s.word (name.Arena place) ≡ w)).
-    tie-stays g s s' place w
-    (excepted-stays g s caller e s' h.moves place (λ excepts. absurd (excepts-none (s.errand caller) place bare_before excepts)))
-    (prefixes place b live) x in
-    record {
-      small = λ place class b live is.
-          let old_b = same.was place b live in
-          let t = tied.small place class old_b.0 old_b.1 (sym old_b.2 ∙ is) in
-          (t.0, touched-desc g s l caller e s' h place class t.0 t.1, kept place (2 * t.0) old_b.0 old_b.1 t.2);
-      large = λ place n b live is.
-          let old_b = same.was place b live in
-          kept place (2 * n + 1) old_b.0 old_b.1 (tied.large place n old_b.0 old_b.1 (sym old_b.2 ∙ is));
-      units = λ unit has.
-          let t = tied.units unit has in (
-            λ bit.
-                let c = t.0 (ap (λ w. bit_at w unit) (sym units) ∙ bit) in
-                let new_b = same.still (unit_place g.frames c.1) c.0 c.3 in
-                (new_b.0, c.1, c.2, new_b.1, new_b.2 ∙ c.4, c.5, c.6),
-            λ c.
-                let old_b = same.was (unit_place g.frames c.1) c.0 c.3 in
-                ap (λ w. bit_at w unit) units ∙ t.1 (old_b.0, c.1, c.2, old_b.1, sym old_b.2 ∙ c.4, c.5, c.6),
-          );
-      no_more_units = subst (λ w. w < 2 ^ g.units) (sym units) tied.no_more_units;
-      shelved = shelved;
-      bare_shelf = bare;
-      contents = contents;
-      hands =
-          each-other g (λ i e. All (λ x. IsOwned s' i x.place x.need) (holds_of e.point).hands) s.errand caller e s'.errand h.moves
-          owns.0
-          (λ i has differ k d lt. owned-touched g s l caller e s' h i _ _ differ (tied.hands i has k d lt));
-      frees =
-          each-other g (λ i e. All (λ x. IsOwned s' i x.place x.need) (holds_of e.point).frees) s.errand caller e s'.errand h.moves
-          owns.1
-          (λ i has differ k d lt. owned-touched g s l caller e s' h i _ _ differ (tied.frees i has k d lt));
-    }
-
 -- a step that tells a legal event keeps the state sound where the words show the pool after it
 pub touched-sound :
     (g : Geometry) (s : State) (l : Lists) (caller : ℕ) (q : Point) (n : WordName) (new : ℕ) (event : Event) (s' : State) → IsSoundWithoutCounts g s
@@ -101,10 +31,66 @@ pub touched-sound :
 touched-sound g s l caller q n new event s' sound old legal t tied = record {
   checked = sound.checked;
   legal = subst (IsLegalWithoutCounts g) (sym t.history) (EachAfter-push (IsLegalEventWithoutCounts g) s.history event sound.legal legal);
-  parts = (l, sound-touched g s l caller _ s' t.touches old tied);
+  parts = (l, sound-touched t.touches old tied);
 }
 
 -- at a point of large blocks a caller reserves, keeps, guards and pushes nothing
 pub large-aside : (p : LargePoint) (o : Continuation) → IsAsidePoint (Large p o)
 unfolding holds_of
 large-aside p o = grind (arith)
+
+module _ {g : Geometry} {s : State} {l : Lists} {caller : ℕ} {e : ErrandFields} {s' : State} (h : Touches g s l caller e s') where
+  -- the superblock of a small block is the same
+  pub touched-desc : (place class d : ℕ) → IsBlockOfDesc g s l place class d → IsBlockOfDesc g s' l place class d
+  touched-desc place class d its = record {
+    exists = its.exists;
+    bound = subst IsTrue (sym (touched-bound h d)) its.bound;
+    located = located-touched h d (frame_of place) class its.located;
+  }
+
+  -- the ties of a step that leaves the places, the prefix words and the units
+  pub tied-touched :
+      IsSoundWith g s l → SamePlaces s s' → IsBareHanded (s.errand caller).point → IsBareHanded e.point
+      → ((p : ℕ) (b : Block) → IsLive s p b → s'.word (name.Arena p) ≡ s.word (name.Arena p)) → s'.word name.Units ≡ s.word name.Units
+      → ((k place : ℕ) (b : Block) → k < SHELVES → IsLive s' place b → b.owner ≡ Shelf k → s'.word (name.Shelf k) ≡ shelf_word (shelf.Block place b.need))
+      → ((k : ℕ) → k < SHELVES → ((place : ℕ) (b : Block) → IsLive s' place b → b.owner ≡ Shelf k → ⊥) → s'.word (name.Shelf k) ≡ shelf_word shelf.Nothing)
+      → ((place i v : ℕ) (b : Block) → IsLive s' place b → slice_index_or b.contents i None ≡ Some v → s'.word (name.Arena (place + 1 + i)) ≡ v)
+      → IsTied g s' l
+  tied-touched old same bare_before bare_after prefixes units shelved bare contents =
+      let tied = old.tied in
+      let owns = bare-owns s' caller e.point bare_after in
+      let kept = λ (place w : ℕ) (b : Block) (live : IsLive s place b) (x : IsExcepted g s place ⊎ (s.word (name.Arena place) ≡ w)).
+      tie-stays g s s' place w
+      (excepted-stays g s caller e s' h.moves place (λ excepts. absurd (excepts-none (s.errand caller) place bare_before excepts)))
+      (prefixes place b live) x in
+      record {
+        small = λ place class b live is.
+            let old_b = same.was place b live in
+            let t = tied.small place class old_b.0 old_b.1 (sym old_b.2 ∙ is) in
+            (t.0, touched-desc place class t.0 t.1, kept place (2 * t.0) old_b.0 old_b.1 t.2);
+        large = λ place n b live is.
+            let old_b = same.was place b live in
+            kept place (2 * n + 1) old_b.0 old_b.1 (tied.large place n old_b.0 old_b.1 (sym old_b.2 ∙ is));
+        units = λ unit has.
+            let t = tied.units unit has in (
+              λ bit.
+                  let c = t.0 (ap (λ w. bit_at w unit) (sym units) ∙ bit) in
+                  let new_b = same.still (unit_place g.frames c.1) c.0 c.3 in
+                  (new_b.0, c.1, c.2, new_b.1, new_b.2 ∙ c.4, c.5, c.6),
+              λ c.
+                  let old_b = same.was (unit_place g.frames c.1) c.0 c.3 in
+                  ap (λ w. bit_at w unit) units ∙ t.1 (old_b.0, c.1, c.2, old_b.1, sym old_b.2 ∙ c.4, c.5, c.6),
+            );
+        no_more_units = subst (λ w. w < 2 ^ g.units) (sym units) tied.no_more_units;
+        shelved = shelved;
+        bare_shelf = bare;
+        contents = contents;
+        hands =
+            each-other g (λ i e. All (λ x. IsOwned s' i x.place x.need) (holds_of e.point).hands) s.errand caller e s'.errand h.moves
+            owns.0
+            (λ i has differ k d lt. owned-touched h i _ _ differ (tied.hands i has k d lt));
+        frees =
+            each-other g (λ i e. All (λ x. IsOwned s' i x.place x.need) (holds_of e.point).frees) s.errand caller e s'.errand h.moves
+            owns.1
+            (λ i has differ k d lt. owned-touched h i _ _ differ (tied.frees i has k d lt));
+      }

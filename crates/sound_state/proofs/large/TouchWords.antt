@@ -4,40 +4,26 @@ use Rattle.std.specs.Prelude.{slice_index_or}
 use Rattle.std.proofs.lemmas.Bool.{cases_eq}
 use Rattle.std.proofs.lemmas.Nat.{pow_pos}
 use Rattle.std.proofs.lemmas.List.Elements.{All-head}
-use Rattle.heap_geometry.specs.declared.geometry.Geometry.{Geometry}
-use Rattle.heap_geometry.specs.declared.need.Need.{Need}
+use Rattle.sound_state.proofs.Common.{Geometry, Need, block_count_of, block_place, frame_of, frame_of-block_place, WordName, Writes, IsLegalWithoutCounts, block_at}
+use Rattle.sound_state.proofs.Common.{pool_of, place-found, sound-of, Continuation, Point, Idle, Large, ErrandFields, event_of, next_of, plan_point_of, State, Step}
+use Rattle.sound_state.proofs.Common.{waiting, holds_of, Lists, IsSo, IsOwned, recalls_of, IsSoundWithoutCounts, IsSoundWith, info_for, errand_keeps, IsLive, IsTied}
 use Rattle.heap_geometry.specs.declared.need.Need.TheVariants as need
-use Rattle.heap_geometry.specs.Need.{block_count_of, usable_words}
-use Rattle.heap_geometry.specs.Place.{block_place, frame_of}
-use Rattle.heap_geometry.proofs.PlaceLemmas.{block-within, frame_of-block_place, frame-apart}
-use Rattle.word_plan.specs.declared.name.WordName.{WordName}
-use Rattle.word_plan.specs.declared.name.WordName.TheVariants as name
-use Rattle.word_plan.specs.Counts.{arena_words}
-use Rattle.word_plan.specs.Words.{Writes}
+use Rattle.heap_geometry.specs.Need.{usable_words}
+use Rattle.heap_geometry.proofs.PlaceLemmas.{block-within, frame-apart}
+use Rattle.word_table.specs.declared.name.WordName.TheVariants as name
+use Rattle.word_table.specs.Counts.{arena_words}
 use Rattle.large_parts.specs.declared.point.LargePoint.TheVariants as large
 use Rattle.pool_model.specs.declared.event.Event.TheVariants.{Write}
 use Rattle.pool_model.specs.declared.owner.Owner.TheVariants.{Caller, Shelf}
-use Rattle.pool_model.specs.Legal.{IsAllowed, IsLegalEventWithoutCounts, IsLegalWithoutCounts}
-use Rattle.pool_model.specs.Pool.{Block, block_at, pool_of, written}
+use Rattle.pool_model.specs.Legal.{IsAllowed, IsLegalEventWithoutCounts}
+use Rattle.pool_model.specs.Pool.{Block, written}
 use Rattle.pool_model.specs.WellFormed.{IsPlaceFor, IsWellFormed}
 use Rattle.pool_model.proofs.HistoryLemmas.{EachAfter-push}
-use Rattle.pool_model.proofs.PoolLemmas.{every-found, place-found}
-use Rattle.pool_model.proofs.WellFormedLemmas.{class_span, sound-of}
-use Rattle.errand_steps.specs.declared.continuation.Continuation.{Continuation}
-use Rattle.errand_steps.specs.declared.point.Point.{Point}
-use Rattle.errand_steps.specs.declared.point.Point.TheVariants.{Idle, Large}
+use Rattle.pool_model.proofs.PoolLemmas.{every-found}
+use Rattle.pool_model.proofs.WellFormedLemmas.{class_span}
 use Rattle.errand_steps.specs.declared.reply.Reply.TheVariants as reply
-use Rattle.errand_steps.specs.Errands.{ErrandFields}
-use Rattle.errand_steps.specs.Events.{event_of}
-use Rattle.errand_steps.specs.Nexts.{next_of}
-use Rattle.errand_steps.specs.Points.{plan_point_of}
-use Rattle.errand_steps.specs.Steps.{State, Step}
-use Rattle.sound_state.specs.Holdings.{waiting, holds_of}
-use Rattle.sound_state.specs.Lists.{Lists}
-use Rattle.sound_state.specs.Recalls.{IsSo, IsOwned, owns, recalls_of}
-use Rattle.sound_state.specs.Sound.{IsSoundWithoutCounts, IsSoundWith}
-use Rattle.sound_state.specs.Superblocks.{info_for, errand_keeps}
-use Rattle.sound_state.specs.Ties.{IsLive, IsTied, IsBlockOfDesc}
+use Rattle.sound_state.specs.Recalls.{owns}
+use Rattle.sound_state.specs.Ties.{IsBlockOfDesc}
 use Rattle.sound_state.proofs.shared.PointLemmas.{fits-at, so-at}
 use Rattle.sound_state.proofs.large.TouchEffects.{IsAwayWord, IsAsidePoint, Touches, sound-touched}
 use Rattle.sound_state.proofs.shared.FrameLemmas.{one-in-frame, in-hand-waits}
@@ -48,6 +34,7 @@ use Rattle.sound_state.proofs.large.TouchSteps.{TouchesAt, leaves-event, touched
 use Rattle.sound_state.proofs.large.TouchTies.{tied-touched}
 use Rattle.sound_state.proofs.shared.TieLemmas.{IsBareHanded}
 use Rattle.sound_state.proofs.shared.WordFacts.{payload-uncut}
+use Rattle.sound_state.proofs.shared.KeepsSound.{KeepsSound}
 
 -- a usable word of a block isn't the first one of another block of its class, nor its own first one
 inside-block :
@@ -175,7 +162,7 @@ write-tied g s l caller place i value s' e h sound old w bare_before bare_after 
     let arena = λ (p : ℕ) (ne : p ≢ stands). w.elsewhere (name.Arena p) (λ same. ne (ap arena_place same)) in
     let formed : IsWellFormed g b = every-found (IsWellFormed g) place (pool_of s.history) b (sound-of g s.history sound.legal).each c.was in
     let is_changed = λ (p : ℕ) (x : Block) (here : p ≡ place) (live : IsLive s' p x). changed-is s s' place b (written i value b) c p x here live in
-    tied-touched g s l caller e s' h old (changes-places s s' place b (written i value b) c) bare_before bare_after
+    tied-touched h old (changes-places s s' place b (written i value b) c) bare_before bare_after
     (λ p x live.
     arena p
     (λ same.
@@ -227,11 +214,9 @@ write-tied g s l caller place i value s' e h sound old w bare_before bare_after 
     ])
 
 -- a store of a usable word keeps the state sound
-pub store_word-sound :
-    (g : Geometry) (s : State) (caller : ℕ) (s' : State) (place i value : ℕ) (o : Continuation) → IsSoundWithoutCounts g s → caller < g.callers
-    → (s.errand caller).point ≡ Large (large.StoreWord place i value) o → Step s caller s' → IsSoundWithoutCounts g s'
+pub store_word-sound : (place i value : ℕ) (o : Continuation) → KeepsSound (Large (large.StoreWord place i value) o)
 unfolding recalls_of
-store_word-sound g s caller s' place i value o sound has stands step =
+store_word-sound place i value o g s caller s' sound has stands step =
     let l = sound.parts.0 in
     let old = sound.parts.1 in
     let p : Point = Large (large.StoreWord place i value) o in
@@ -251,7 +236,7 @@ store_word-sound g s caller s' place i value o sound has stands step =
       legal = subst (IsLegalWithoutCounts g) (sym t.history) (EachAfter-push (IsLegalEventWithoutCounts g) s.history (Write caller place i value) sound.legal (has, allowed));
       parts = (
         l,
-        sound-touched g s l caller _ s' t.touches old
+        sound-touched t.touches old
             (write-tied g s l caller place i value s' _ t.touches sound old t.word (subst IsBareHanded (sym stands) (write-bare place i value o)) idle-bare-handed b
             owned.block.2 usable c),
       );

@@ -1,22 +1,11 @@
 -- A won pop: the frames stay where they are, and the superblocks keep their popped-blocks in order.
-use Rattle.std.proofs.Common.{ℕ, ◌≡◌, ◌≢◌, ◌<◌, ◌≤◌, ◌+◌, ◌-◌, ◌∷◌, refl, arith, ap, sym, subst, ◌∙◌}
-use Rattle.std.specs.Prelude.{IsTrue}
-use Rattle.heap_geometry.specs.declared.geometry.Geometry.{Geometry}
-use Rattle.packed_words.specs.Anchor.{AnchorFields}
-use Rattle.word_plan.specs.declared.seat.Site.{Site}
-use Rattle.word_plan.specs.Occurs.{occurs}
+use Rattle.std.proofs.Common.{ℕ, ◌≡◌, ◌≢◌, ◌<◌, ◌≤◌, ◌+◌, ◌-◌, ◌∷◌, refl, arith, ap, sym, subst, ◌∙◌, IsTrue}
+use Rattle.sound_state.proofs.Common.{Geometry, AnchorFields, Site, occurs, Share, Credit, LastCredit, Grant, ErrandFields, State, IsFramed, holds_before_pop, Lists}
+use Rattle.sound_state.proofs.Common.{IsSoundWithoutCounts, IsSoundWith, Superblock, AreChained, IsChained, superblock_of, anchor_for, reserved_of, free_chain}
+use Rattle.sound_state.proofs.Common.{is_there}
 use Rattle.superblock_parts.specs.Anchors.{taken_off, more_of}
 use Rattle.superblock_parts.specs.Chains.{chain_of}
-use Rattle.superblock_parts.specs.declared.point.Share.{Share}
-use Rattle.superblock_parts.specs.declared.point.Share.TheVariants.{Credit, LastCredit, Grant}
 use Rattle.superblock_parts.proofs.ChainLemmas.{chain_of-first, occurs-here, occurs-more}
-use Rattle.errand_steps.specs.Errands.{ErrandFields}
-use Rattle.errand_steps.specs.Steps.{State}
-use Rattle.sound_state.specs.Frames.{IsFramed}
-use Rattle.sound_state.specs.Holdings.{holds_before_pop}
-use Rattle.sound_state.specs.Lists.{Lists}
-use Rattle.sound_state.specs.Sound.{IsSoundWithoutCounts, IsSoundWith}
-use Rattle.sound_state.specs.Superblocks.{Superblock, AreChained, IsChained, superblock_of, anchor_for, reserved_of, free_chain, is_there}
 use Rattle.sound_state.proofs.pops.PopEffects.{Pops, popped_holds}
 use Rattle.sound_state.proofs.pops.PopFacts.{popped-holds, popped-write, popped-anchor, popped-waits, popped-bound, popped-reserved, popped-credits, popped-first, popped-here, popped-there}
 use Rattle.sound_state.proofs.shared.HoldingEffects.{framed-after}
@@ -60,18 +49,18 @@ first-goes b b' i old chain avail count waits next size here others =
     }
 
 module _
-    (g : Geometry) (s : State) (l : Lists) (caller : ℕ) (at : Site) (share : Share) (a : AnchorFields) (link words : ℕ) (e : ErrandFields)
-    (s' : State) (h : Pops g s l caller at share a link words e s') where
+    {g : Geometry} {s : State} {l : Lists} {caller : ℕ} {at : Site} {share : Share} {a : AnchorFields} {link words : ℕ} {e : ErrandFields}
+    {s' : State} (h : Pops g s l caller at share a link words e s') where
   popped-lie : LieStill s s'
-  popped-lie = anchor-still (popped-write g s l caller at share a link words e s' h)
+  popped-lie = anchor-still (popped-write h)
 
   -- each frame is in one place
   pub popped-framed : IsSoundWith g s l → IsFramed g s' l
   popped-framed old =
-      framed-after (popped-holds g s l caller at share a link words e s' h) l
+      framed-after (popped-holds h) l
       (λ f d.
-      let bound = popped-bound g s l caller at share a link words e s' h d in
-      let waits = popped-waits g s l caller at share a link words e s' h d in
+      let bound = popped-bound h d in
+      let waits = popped-waits h d in
       rw (bound, waits, info-stays popped-lie d) refl)
       (λ f. has-frames f at a.avail (more_of share a) ∙ sym (popping-no-frames f at.desc at.seat.class share)) old.framed
 
@@ -83,7 +72,7 @@ module _
     located = h.located;
     index = h.fits.avail;
     still = popped-lie;
-    there = popped-there g s l caller at share a link words e s' h;
+    there = popped-there h;
   }
 
   popped-count : (anchor_for s' at.desc).count + taken_off share a ≡ (anchor_for s at.desc).count
@@ -99,7 +88,7 @@ module _
       let k = (anchor_for s at.desc).count + reserved_of g s at.desc in
       let first : (anchor_for s at.desc).avail ≡ a.avail = ap (λ x. x.avail) h.before in
       let less : k - 1 ≡ (anchor_for s' at.desc).count + reserved_of g s' at.desc =
-      omega (arith, popped-count, popped-credits g s l caller at share a link words e s' h) in
+      omega (arith, popped-count, popped-credits h) in
       let goes : next a.avail ≡ (anchor_for s' at.desc).avail = h.next ∙ sym (ap (λ x. x.avail) h.after) in
       let rest : chain_of next (k - 1) (next a.avail) ≡ free_chain (superblock_of g s' at.desc) =
       ap (λ n. chain_of next n (next a.avail)) less
@@ -107,19 +96,19 @@ module _
       ∙ ap (λ f. chain_of f ((anchor_for s' at.desc).count + reserved_of g s' at.desc) (anchor_for s' at.desc).avail)
       (sym (next-stays popped-lie g at.desc)) in
       ap (chain_of next k) first
-      ∙ chain_of-first next k a.avail (omega (arith, popped-first g s l caller at share a link words e s' h)) ∙ ap (λ xs. a.avail ∷ xs) rest
+      ∙ chain_of-first next k a.avail (omega (arith, popped-first h)) ∙ ap (λ xs. a.avail ∷ xs) rest
 
   popped-here-chained : IsSoundWith g s l → IsChained (superblock_of g s' at.desc)
   popped-here-chained old =
       first-goes (superblock_of g s at.desc) (superblock_of g s' at.desc) a.avail (old.chained.chained at.desc h.site.desc h.bound) popped-chain
-      (ap (λ x. x.avail) h.after ∙ sym h.next) (omega (arith, popped-count)) (popped-waits g s l caller at share a link words e s' h at.desc)
+      (ap (λ x. x.avail) h.after ∙ sym h.next) (omega (arith, popped-count)) (popped-waits h at.desc)
       (next-stays popped-lie g at.desc) (size-stays popped-lie g at.desc)
-      (live-after popped-blocks a.avail ∙ ap is_there (popped-here g s l caller at share a link words e s' h)) (rest-live popped-blocks)
+      (live-after popped-blocks a.avail ∙ ap is_there (popped-here h)) (rest-live popped-blocks)
 
   -- all superblocks keep their popped-blocks in order
   pub popped-chained : IsSoundWithoutCounts g s → IsSoundWith g s l → AreChained g s' l
   popped-chained sound old =
-      chained-after popped-blocks old (λ d. subst IsTrue (popped-bound g s l caller at share a link words e s' h d)) (λ bound. popped-here-chained old)
+      chained-after popped-blocks old (λ d. subst IsTrue (popped-bound h d)) (λ bound. popped-here-chained old)
       (λ d differ.
-      superblock-stays popped-lie g d (popped-anchor g s l caller at share a link words e s' h d differ)
-      (popped-reserved g s l caller at share a link words e s' h d differ) (popped-waits g s l caller at share a link words e s' h d))
+      superblock-stays popped-lie g d (popped-anchor h d differ)
+      (popped-reserved h d differ) (popped-waits h d))

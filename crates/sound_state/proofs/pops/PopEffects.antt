@@ -1,25 +1,13 @@
 -- A won pop: what it changes, and that everything else stays.
-use Rattle.std.proofs.Common.{ℕ, true, false, ◌≡◌, ◌≢◌, ◌<◌, ◌+◌, ◌-◌, ◌^◌, [], ◌∷◌, ◌++◌}
-use Rattle.std.specs.Prelude.{IsTrue, if◌then◌else◌, nat_lt}
-use Rattle.heap_geometry.specs.declared.geometry.Geometry.{Geometry}
+use Rattle.std.proofs.Common.{ℕ, true, false, ◌≡◌, ◌≢◌, ◌<◌, ◌+◌, ◌-◌, ◌^◌, [], ◌∷◌, ◌++◌, IsTrue, if◌then◌else◌, nat_lt}
+use Rattle.sound_state.proofs.Common.{Geometry, need_of, block_place, AnchorFields, WordName, Site, IsSiteOf, Share, ErrandFields, State, Moves, Holding}
+use Rattle.sound_state.proofs.Common.{holds_before_pop, holds_of, Lists, IsLocated, bound_here, recalls_of, IsOwnErrand, anchor_for, is_bound, superblock_of}
 use Rattle.heap_geometry.specs.declared.need.Need.TheVariants as need
-use Rattle.heap_geometry.specs.Need.{need_of}
-use Rattle.heap_geometry.specs.Place.{block_place}
-use Rattle.packed_words.specs.Anchor.{AnchorFields}
-use Rattle.word_plan.specs.declared.name.WordName.{WordName}
-use Rattle.word_plan.specs.declared.name.WordName.TheVariants as name
-use Rattle.word_plan.specs.declared.seat.Site.{Site}
-use Rattle.word_plan.specs.Sites.{IsSiteOf, IsAnchorOf}
+use Rattle.word_table.specs.declared.name.WordName.TheVariants as name
+use Rattle.word_table.specs.Sites.{IsAnchorOf}
 use Rattle.superblock_parts.specs.Anchors.{taken_off, popped_state, more_of}
-use Rattle.superblock_parts.specs.declared.point.Share.{Share}
 use Rattle.pool_model.specs.declared.event.Event.TheVariants.{Alloc}
-use Rattle.errand_steps.specs.Errands.{ErrandFields}
-use Rattle.errand_steps.specs.Steps.{State, Moves}
-use Rattle.sound_state.specs.Holdings.{Holding, nothing, holds_before_pop, holds_after_pop, block_handed, holds_of}
-use Rattle.sound_state.specs.Lists.{Lists}
-use Rattle.sound_state.specs.Recalls.{IsLocated, bound_here, recalls_of}
-use Rattle.sound_state.specs.Sound.{IsOwnErrand}
-use Rattle.sound_state.specs.Superblocks.{anchor_for, is_bound, superblock_of}
+use Rattle.sound_state.specs.Holdings.{nothing, holds_after_pop, block_handed}
 use Rattle.sound_state.proofs.shared.TurnEffects.{StandsIn}
 
 -- what a caller holds after a pop, with so many blocks reserved beside the one that it popped

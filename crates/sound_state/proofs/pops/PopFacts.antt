@@ -1,29 +1,17 @@
 -- What a won pop leaves, and how it changes the pool and what is reserved.
-use Rattle.std.proofs.Common.{ℕ, false, Some, None, ◌≡◌, ◌≢◌, ◌<◌, ◌≤◌, ◌+◌, ◌-◌, refl, arith, ap, sym, subst, ◌∙◌}
-use Rattle.std.specs.Prelude.{◌==◌}
+use Rattle.std.proofs.Common.{ℕ, false, Some, None, ◌≡◌, ◌≢◌, ◌<◌, ◌≤◌, ◌+◌, ◌-◌, refl, arith, ap, sym, subst, ◌∙◌, ◌==◌}
 use Rattle.std.proofs.lemmas.Bool.{cond_both}
-use Rattle.heap_geometry.specs.declared.geometry.Geometry.{Geometry}
-use Rattle.heap_geometry.specs.Place.{block_place}
-use Rattle.packed_words.specs.Anchor.{AnchorFields}
-use Rattle.packed_words.specs.declared.anchor.State.TheVariants as phase
-use Rattle.partial_parts.specs.Grants.{is_empty}
-use Rattle.word_plan.specs.declared.name.WordName.{WordName}
-use Rattle.word_plan.specs.declared.name.WordName.TheVariants as name
-use Rattle.word_plan.specs.declared.seat.Site.{Site}
-use Rattle.word_plan.specs.Occurs.{occurs}
+use Rattle.sound_state.proofs.Common.{Geometry, block_place, AnchorFields, is_empty, WordName, Site, occurs, Share, Credit, LastCredit, Grant, block_at, pool_of}
+use Rattle.sound_state.proofs.Common.{ErrandFields, State, waiting, on_its_way, holds_before_pop, Status, reserving, Lists, IsSoundWithoutCounts, IsSoundWith}
+use Rattle.sound_state.proofs.Common.{words_sum, callers_sum, anchor_for, info_for, superblock_of, free_chain, is_bound, away_of, waiting_of, reserved_of}
+use Rattle.sound_state.proofs.Common.{word_reserves, errand_reserves, reserved_among, errand_keeps, kept_among}
+use Rattle.packed_words.specs.declared.anchor.AnchorState.TheVariants as phase
+use Rattle.word_table.specs.declared.name.WordName.TheVariants as name
 use Rattle.superblock_parts.specs.Anchors.{taken_off, popped_state, more_of}
 use Rattle.superblock_parts.specs.Chains.{chain_of}
-use Rattle.superblock_parts.specs.declared.point.Share.{Share}
-use Rattle.superblock_parts.specs.declared.point.Share.TheVariants.{Credit, LastCredit, Grant}
 use Rattle.superblock_parts.proofs.ChainLemmas.{chain_of-first, occurs-here}
-use Rattle.pool_model.specs.Pool.{block_at, fresh_block, pool_of}
-use Rattle.errand_steps.specs.Errands.{ErrandFields}
-use Rattle.errand_steps.specs.Steps.{State}
-use Rattle.sound_state.specs.Holdings.{waiting, on_its_way, holds_before_pop, Status, reserving}
-use Rattle.sound_state.specs.Lists.{Lists}
-use Rattle.sound_state.specs.Sound.{IsSoundWithoutCounts, IsSoundWith}
-use Rattle.sound_state.specs.Sums.{words_sum, callers_sum}
-use Rattle.sound_state.specs.Superblocks.{anchor_for, info_for, superblock_of, free_chain, is_bound, away_of, waiting_of, reserved_of, word_reserves, errand_reserves, reserved_among, errand_keeps, kept_among, same_status}
+use Rattle.pool_model.specs.Pool.{fresh_block}
+use Rattle.sound_state.specs.Superblocks.{same_status}
 use Rattle.sound_state.proofs.shared.HasLemmas.{bound-stands}
 use Rattle.sound_state.proofs.shared.OverlapLemmas.{free-unlive}
 use Rattle.sound_state.proofs.pops.PopEffects.{Pops, popped_holds, popped_place}
@@ -74,8 +62,8 @@ first-occurs next k i some =
     subst (λ xs. 0 < occurs i xs) (sym (chain_of-first next k i some)) (omega (arith, occurs-here i (chain_of next (k - 1) (next i))))
 
 module _
-    (g : Geometry) (s : State) (l : Lists) (caller : ℕ) (at : Site) (share : Share) (a : AnchorFields) (link words : ℕ) (e : ErrandFields)
-    (s' : State) (h : Pops g s l caller at share a link words e s') where
+    {g : Geometry} {s : State} {l : Lists} {caller : ℕ} {at : Site} {share : Share} {a : AnchorFields} {link words : ℕ} {e : ErrandFields}
+    {s' : State} (h : Pops g s l caller at share a link words e s') where
   pub popped-holds : HoldingEffects g s caller (holds_before_pop at.desc at.seat.class share) (popped_holds at a.avail (more_of share a)) e s'
   popped-holds = record { in_heap = h.in_heap; moves = h.moves; retired = h.retired; before = h.holds_before; after = h.holds_after }
 

@@ -1,23 +1,15 @@
 -- A won pop leaves each descriptor in one place, and as many out for each class.
-use Rattle.std.proofs.Common.{ℕ, ◌≡◌, ◌<◌, ◌≤◌, ◌+◌, ◌-◌, List, [], refl, arith, ap, sym, subst, inl, inr, ◌∙◌}
-use Rattle.std.specs.Prelude.{◌⊎◌, ◌==◌, All, if◌then◌else◌, nat_lt}
+use Rattle.std.proofs.Common.{ℕ, ◌≡◌, ◌<◌, ◌≤◌, ◌+◌, ◌-◌, List, [], refl, arith, ap, sym, subst, inl, inr, ◌∙◌, ◌⊎◌, ◌==◌, All, if◌then◌else◌, nat_lt}
 use Rattle.std.proofs.lemmas.Bool.{cases_eq, cases_lt, cond-true, cond-false, ne_eqb, lt-ltb, le-ltb}
 use Rattle.std.proofs.lemmas.List.Elements.{All-nil, All-cons, All-head}
-use Rattle.heap_geometry.specs.declared.geometry.Geometry.{Geometry}
-use Rattle.packed_words.specs.declared.anchor.State.{State as Phase}
-use Rattle.packed_words.specs.declared.anchor.State.TheVariants as phase
-use Rattle.packed_words.specs.Anchor.{AnchorFields}
-use Rattle.word_plan.specs.declared.seat.Site.{Site}
+use Rattle.sound_state.proofs.Common.{Geometry, AnchorFields, Site, Share, Credit, LastCredit, Grant, ErrandFields, State, Holding, Kept, reserving}
+use Rattle.sound_state.proofs.Common.{holds_before_pop, holds_of, IsKept, IsKeptAs, full_keeps, Lists, IsSoundWith, stock_among}
+use Rattle.packed_words.specs.declared.anchor.AnchorState.{AnchorState as Phase}
+use Rattle.packed_words.specs.declared.anchor.AnchorState.TheVariants as phase
 use Rattle.superblock_parts.specs.Anchors.{taken_off, popped_state, more_of}
-use Rattle.superblock_parts.specs.declared.point.Share.{Share}
-use Rattle.superblock_parts.specs.declared.point.Share.TheVariants.{Credit, LastCredit, Grant}
-use Rattle.errand_steps.specs.Errands.{ErrandFields}
-use Rattle.errand_steps.specs.Steps.{State}
-use Rattle.sound_state.specs.Holdings.{Holding, Kept, reserving, nothing, keep, block_handed, holds_before_pop, holds_after_pop, holds_of}
-use Rattle.sound_state.specs.Keepers.{IsKept, IsActive, IsKeptAs, full_keeps}
-use Rattle.sound_state.specs.Lists.{Lists}
-use Rattle.sound_state.specs.Sound.{IsSoundWith}
-use Rattle.sound_state.specs.Stock.{IsStocked, stock_among}
+use Rattle.sound_state.specs.Holdings.{nothing, keep, block_handed, holds_after_pop}
+use Rattle.sound_state.specs.Keepers.{IsActive}
+use Rattle.sound_state.specs.Stock.{IsStocked}
 use Rattle.sound_state.proofs.shared.KeptLemmas.{StaysKept, MovesAt, moved-kept, moved-stocked, state-goes}
 use Rattle.sound_state.proofs.shared.PointLemmas.{kept_places}
 use Rattle.sound_state.proofs.pops.PopEffects.{Pops, popped_anchor, popped_holds}
@@ -95,14 +87,6 @@ filled-keeps d c Credit a filled = elim filled [ ]
 filled-keeps d c LastCredit a filled = grind (arith)
 filled-keeps d c (Grant more) a filled = elim filled [ ]
 
-popped-active :
-    (g : Geometry) (s : State) (l : Lists) (caller : ℕ) (at : Site) (share : Share) (a : AnchorFields) (link words : ℕ) (e : ErrandFields)
-    (s' : State) → Pops g s l caller at share a link words e s' → IsKept g s l → IsReserving share → a.state ≡ phase.Active
-popped-active g s l caller at share a link words e s' h kept is =
-    ap (λ x. x.state) (sym h.before)
-    ∙ (reserving-active s at.desc at.seat.class share
-    (subst (λ x. All (λ k. IsKeptAs s k.status k.desc k.class) x.kept) h.holds_before (kept.errand caller h.in_heap)) is).state
-
 -- what the caller keeps after the pop is ACTIVE
 more-reserving : (share : Share) (a : AnchorFields) → 0 < more_of share a → IsReserving share
 more-reserving Credit a more = let none : ⊥ = omega (arith, more) in absurd none
@@ -130,76 +114,70 @@ popped-keeps s at i more active =
           (All-nil (λ (k : Kept). IsKeptAs s k.status k.desc k.class))
     ]
 
-popped-own :
-    (g : Geometry) (s : State) (l : Lists) (caller : ℕ) (at : Site) (share : Share) (a : AnchorFields) (link words : ℕ) (e : ErrandFields)
-    (s' : State) → Pops g s l caller at share a link words e s' → IsKept g s l → All (λ k. IsKeptAs s' k.status k.desc k.class) (holds_of e.point).kept
-popped-own g s l caller at share a link words e s' h kept =
-    subst (λ x. All (λ k. IsKeptAs s' k.status k.desc k.class) x.kept) (sym h.holds_after)
-    (popped-keeps s' at a.avail (more_of share a)
-    (λ more. record {
-      class = ap (λ x. x.class) (popped-info g s l caller at share a link words e s' h at.desc) ∙ h.located.class;
-      state =
-          ap (λ x. x.state) h.after ∙ more-stays share a more
-          ∙ popped-active g s l caller at share a link words e s' h kept (more-reserving share a more);
-    }))
+module _
+    {g : Geometry} {s : State} {l : Lists} {caller : ℕ} {at : Site} {share : Share} {a : AnchorFields} {link words : ℕ} {e : ErrandFields}
+    {s' : State} (h : Pops g s l caller at share a link words e s') where
+  popped-active : IsKept g s l → IsReserving share → a.state ≡ phase.Active
+  popped-active kept is =
+      ap (λ x. x.state) (sym h.before)
+      ∙ (reserving-active s at.desc at.seat.class share
+      (subst (λ x. All (λ k. IsKeptAs s k.status k.desc k.class) x.kept) h.holds_before (kept.errand caller h.in_heap)) is).state
 
--- it keeps the superblock in its state, or fills it, which it alone keeps
-popped-goes :
-    (g : Geometry) (s : State) (l : Lists) (caller : ℕ) (at : Site) (share : Share) (a : AnchorFields) (link words : ℕ) (e : ErrandFields)
-    (s' : State) → Pops g s l caller at share a link words e s' → IsKept g s l
-    → StaysKept s s' at.desc
-    ⊎ ((1 ≤ kept_places at.desc (holds_of (s.errand caller).point).kept)
-    × ((popped_anchor share a link).state ≡ phase.Full → (popped_anchor share a link).count ≡ 0))
-popped-goes g s l caller at share a link words e s' h kept =
-    elim (state-stays share a) [
-      | inl filled ↦
-          inr (
-            subst (λ x. 1 ≤ kept_places at.desc x.kept) (sym h.holds_before) (filled-keeps at.desc at.seat.class share a filled),
-            λ full. count-bare share a filled,
-          )
-      | inr stays ↦
-          inl
-          (state-goes s s' at.desc (popped-info g s l caller at share a link words e s' h at.desc)
-          (ap (λ x. x.state) h.after ∙ stays ∙ ap (λ x. x.state) (sym h.before))
-          (λ partial some.
-          let same = count-stays share a (popped-active g s l caller at share a link words e s' h kept) (ap (λ x. x.state) (sym h.before) ∙ partial) in
-          omega (arith, some, same, ap (λ x. x.count) h.after, ap (λ x. x.count) h.before))
-          (λ full. omega (arith, ap (λ x. x.count) h.after, ap (λ x. x.count) h.before, count-less share a)))
-    ]
+  popped-own : IsKept g s l → All (λ k. IsKeptAs s' k.status k.desc k.class) (holds_of e.point).kept
+  popped-own kept =
+      subst (λ x. All (λ k. IsKeptAs s' k.status k.desc k.class) x.kept) (sym h.holds_after)
+      (popped-keeps s' at a.avail (more_of share a)
+      (λ more. record {
+        class = ap (λ x. x.class) (popped-info h at.desc) ∙ h.located.class;
+        state =
+            ap (λ x. x.state) h.after ∙ more-stays share a more
+            ∙ popped-active kept (more-reserving share a more);
+      }))
 
-pops-move :
-    (g : Geometry) (s : State) (l : Lists) (caller : ℕ) (at : Site) (share : Share) (a : AnchorFields) (link words : ℕ) (e : ErrandFields)
-    (s' : State) → Pops g s l caller at share a link words e s' → IsKept g s l
-    → MovesAt g s l caller at.desc at.seat.class a (popped_anchor share a link) e s'
-pops-move g s l caller at share a link words e s' h kept =
-    let active = popped-active g s l caller at share a link words e s' h kept in
-    record {
-      in_heap = h.in_heap;
-      moves = h.moves;
-      exists = h.site.desc;
-      class = h.located.class;
-      before = h.before;
-      after = h.after;
-      elsewhere = h.elsewhere;
-      retired = h.retired;
-      places = λ d. rw (h.holds_before, h.holds_after) (popped-kept-weighs at share a d active);
-      stock = λ class.
-          rw (h.holds_before, h.holds_after)
-          (omega (arith, popped-stock-weighs at share a class active, h.stands_before.waits class, h.stands_after.waits class));
-      goes = popped-goes g s l caller at share a link words e s' h kept;
-      own = popped-own g s l caller at share a link words e s' h kept;
-    }
+  -- it keeps the superblock in its state, or fills it, which it alone keeps
+  popped-goes :
+      IsKept g s l
+      → StaysKept s s' at.desc
+      ⊎ ((1 ≤ kept_places at.desc (holds_of (s.errand caller).point).kept) × ((popped_anchor share a link).state ≡ phase.Full → (popped_anchor share a link).count ≡ 0))
+  popped-goes kept =
+      elim (state-stays share a) [
+        | inl filled ↦
+            inr (
+              subst (λ x. 1 ≤ kept_places at.desc x.kept) (sym h.holds_before) (filled-keeps at.desc at.seat.class share a filled),
+              λ full. count-bare share a filled,
+            )
+        | inr stays ↦
+            inl
+            (state-goes s s' at.desc (popped-info h at.desc)
+            (ap (λ x. x.state) h.after ∙ stays ∙ ap (λ x. x.state) (sym h.before))
+            (λ partial some.
+            let same = count-stays share a (popped-active kept) (ap (λ x. x.state) (sym h.before) ∙ partial) in
+            omega (arith, some, same, ap (λ x. x.count) h.after, ap (λ x. x.count) h.before))
+            (λ full. omega (arith, ap (λ x. x.count) h.after, ap (λ x. x.count) h.before, count-less share a)))
+      ]
 
-pub popped-kept :
-    (g : Geometry) (s : State) (l : Lists) (caller : ℕ) (at : Site) (share : Share) (a : AnchorFields) (link words : ℕ) (e : ErrandFields)
-    (s' : State) → Pops g s l caller at share a link words e s' → IsSoundWith g s l → IsKept g s' l
-popped-kept g s l caller at share a link words e s' h sound =
-    moved-kept g s l caller at.desc at.seat.class a (popped_anchor share a link) e s'
-    (pops-move g s l caller at share a link words e s' h sound.kept) sound.kept
+  pops-move : IsKept g s l → MovesAt g s l caller at.desc at.seat.class a (popped_anchor share a link) e s'
+  pops-move kept =
+      let active = popped-active kept in
+      record {
+        in_heap = h.in_heap;
+        moves = h.moves;
+        exists = h.site.desc;
+        class = h.located.class;
+        before = h.before;
+        after = h.after;
+        elsewhere = h.elsewhere;
+        retired = h.retired;
+        places = λ d. rw (h.holds_before, h.holds_after) (popped-kept-weighs at share a d active);
+        stock = λ class.
+            rw (h.holds_before, h.holds_after)
+            (omega (arith, popped-stock-weighs at share a class active, h.stands_before.waits class, h.stands_after.waits class));
+        goes = popped-goes kept;
+        own = popped-own kept;
+      }
 
-pub popped-stocked :
-    (g : Geometry) (s : State) (l : Lists) (caller : ℕ) (at : Site) (share : Share) (a : AnchorFields) (link words : ℕ) (e : ErrandFields)
-    (s' : State) → Pops g s l caller at share a link words e s' → IsSoundWith g s l → IsStocked g s' l
-popped-stocked g s l caller at share a link words e s' h sound =
-    moved-stocked g s l caller at.desc at.seat.class a (popped_anchor share a link) e s'
-    (pops-move g s l caller at share a link words e s' h sound.kept) sound.stocked
+  pub popped-kept : IsSoundWith g s l → IsKept g s' l
+  popped-kept sound = moved-kept (pops-move sound.kept) sound.kept
+
+  pub popped-stocked : IsSoundWith g s l → IsStocked g s' l
+  popped-stocked sound = moved-stocked (pops-move sound.kept) sound.stocked

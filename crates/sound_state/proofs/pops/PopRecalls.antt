@@ -1,24 +1,13 @@
 -- A won pop keeps what the callers remember.
-use Rattle.std.proofs.Common.{ℕ, ◌≡◌, ◌≢◌, ◌<◌, ◌≤◌, ◌+◌, arith, ap, sym, subst, inl, inr, ◌∙◌}
+use Rattle.std.proofs.Common.{ℕ, ◌≡◌, ◌≢◌, ◌<◌, ◌≤◌, ◌+◌, arith, ap, sym, subst, inl, inr, ◌∙◌, IsTrue}
 use Rattle.std.specs.List.{All}
-use Rattle.std.specs.Prelude.{IsTrue}
 use Rattle.std.proofs.lemmas.Bool.{cases_eq}
 use Rattle.std.proofs.lemmas.Option.{none-some}
-use Rattle.heap_geometry.specs.declared.geometry.Geometry.{Geometry}
-use Rattle.heap_geometry.specs.declared.need.Need.{Need}
-use Rattle.packed_words.specs.Anchor.{AnchorFields}
-use Rattle.word_plan.specs.declared.seat.Site.{Site}
-use Rattle.superblock_parts.specs.declared.point.Share.{Share}
+use Rattle.sound_state.proofs.Common.{Geometry, Need, AnchorFields, Site, Share, own, block_at, pool_of, ErrandFields, State, Lists, Recall, IsSo, IsOwned}
+use Rattle.sound_state.proofs.Common.{bound_for, bound_at, pops, links, says, IsSoundWithoutCounts, IsSoundWith, callers_sum, anchor_for, superblock_of, reserved_of}
+use Rattle.sound_state.proofs.Common.{reserved_among, errand_reserves}
 use Rattle.pool_model.specs.declared.event.Event.TheVariants.{Alloc}
-use Rattle.pool_model.specs.Histories.{own}
-use Rattle.pool_model.specs.Pool.{block_at, pool_of}
-use Rattle.errand_steps.specs.Errands.{ErrandFields}
-use Rattle.errand_steps.specs.Steps.{State}
-use Rattle.sound_state.specs.Lists.{Lists}
-use Rattle.sound_state.specs.Recalls.{Recall, IsPopped, IsRemembered, IsSo, IsOwned, bound_for, bound_at, pops, links, says}
-use Rattle.sound_state.specs.Sound.{IsSoundWithoutCounts, IsSoundWith}
-use Rattle.sound_state.specs.Sums.{callers_sum}
-use Rattle.sound_state.specs.Superblocks.{anchor_for, superblock_of, reserved_of, reserved_among, errand_reserves}
+use Rattle.sound_state.specs.Recalls.{IsPopped, IsRemembered}
 use Rattle.sound_state.proofs.shared.EventFacts.{told-own}
 use Rattle.sound_state.proofs.shared.RecallEffects.{IsSteadyWord, AreSteady, Leaves, IsLeft, popped-steady, here-so, remembered-left}
 use Rattle.sound_state.proofs.shared.RecallTables.{InstallsNone, IsBacked, backed-recalls}
@@ -29,8 +18,8 @@ use Rattle.sound_state.proofs.shared.WaitsAlone.{waits-alone}
 
 -- a pop that was won
 module _
-    (g : Geometry) (s : State) (l : Lists) (caller : ℕ) (at : Site) (share : Share) (a : AnchorFields) (link words : ℕ) (e : ErrandFields) (s' : State)
-    (h : Pops g s l caller at share a link words e s') where
+    {g : Geometry} {s : State} {l : Lists} {caller : ℕ} {at : Site} {share : Share} {a : AnchorFields} {link words : ℕ} {e : ErrandFields}
+    {s' : State} (h : Pops g s l caller at share a link words e s') where
   -- nobody pops from a superblock that waits to be installed
   popped-installed : IsSoundWith g s l → (i : ℕ) → i < g.callers → i ≢ caller → InstallsNone (s.errand i).point at.desc
   unfolding callers_sum
@@ -60,15 +49,15 @@ module _
               first = λ is. absurd (omega (arith, so.tag, popped-rises d same, is));
             }
         | inr ne ↦
-            popped-steady g s l s' popped-words-steady d b (popped-anchor g s l caller at share a link words e s' h d ne)
-            (popped-reserved g s l caller at share a link words e s' h d ne) so
+            popped-steady g s l s' popped-words-steady d b (popped-anchor h d ne)
+            (popped-reserved h d ne) so
       ]
 
   popped-tag : (d t : ℕ) → t ≤ (anchor_for s d).tag → t ≡ (anchor_for s' d).tag → t ≡ (anchor_for s d).tag
   popped-tag d t most is =
       elim (cases_eq d at.desc) [
         | inl same ↦ absurd (omega (arith, most, popped-rises d same, is))
-        | inr ne ↦ is ∙ ap (λ x. x.tag) (popped-anchor g s l caller at share a link words e s' h d ne)
+        | inr ne ↦ is ∙ ap (λ x. x.tag) (popped-anchor h d ne)
       ]
 
   -- who owned a block owns it still: the popped place was not live
@@ -77,11 +66,11 @@ module _
       let apart : place ≢ popped_place at a =
       λ same.
       none-some k.block.0
-      (sym (popped-none g s l caller at share a link words e s' h sound old) ∙ ap (λ p. block_at p (pool_of s.history)) (sym same) ∙ k.block.1) in
+      (sym (popped-none h sound old) ∙ ap (λ p. block_at p (pool_of s.history)) (sym same) ∙ k.block.1) in
       record {
         block = (
           k.block.0,
-          popped-there g s l caller at share a link words e s' h place apart ∙ k.block.1,
+          popped-there h place apart ∙ k.block.1,
           k.block.2,
           k.block.3,
         );
@@ -93,13 +82,13 @@ module _
     steady = popped-words-steady;
     events = ap (own i) h.history ∙ told-own i s.history (Alloc caller words (popped_place at a)) (λ same. ne (sym same));
     owned = popped-owned sound old i;
-    empty = λ d is. popped-empty g s l caller at share a link words e s' h d;
-    ways = λ d is. popped-ways g s l caller at share a link words e s' h d;
+    empty = λ d is. popped-empty h d;
+    ways = λ d is. popped-ways h d;
   }
 
   popped-left : (r : Recall) → IsBacked g s l at.desc r → IsLeft g s l s' r
-  popped-left (bound_for d c) backed = subst IsTrue (sym (popped-bound g s l caller at share a link words e s' h d))
-  popped-left (bound_at d f c) backed = subst IsTrue (sym (popped-bound g s l caller at share a link words e s' h d))
+  popped-left (bound_for d c) backed = subst IsTrue (sym (popped-bound h d))
+  popped-left (bound_at d f c) backed = subst IsTrue (sym (popped-bound h d))
   popped-left (pops d b) backed = popped-pops d b
   popped-left (links d b prefix) backed = popped-tag d b.tag backed.1
   popped-left (says n w) backed = h.elsewhere n backed
@@ -109,7 +98,7 @@ module _
   popped-remembered sound old =
       remembered-left g s l caller e s' h.moves
       (subst (All (IsSo g s' l caller)) (sym h.recalls_after)
-      (here-so g s l s' popped-words-steady caller at (subst IsTrue (sym (popped-bound g s l caller at share a link words e s' h at.desc)) h.bound) h.located))
+      (here-so g s l s' popped-words-steady caller at (subst IsTrue (sym (popped-bound h at.desc)) h.bound) h.located))
       (λ i has ne. popped-leaves sound old i ne)
       (λ i has ne k d lt.
       popped-left _

@@ -1,37 +1,22 @@
 -- The step of a won pop, and what it changes.
-use Rattle.std.proofs.Common.{ℕ, Bool, true, false, ◌≡◌, ◌<◌, ◌+◌, ◌^◌, ◌/◌, [], ◌∷◌, refl, arith, ap, sym, subst, inl, inr, ◌∙◌}
-use Rattle.std.specs.Prelude.{if◌then◌else◌, nat_lt}
+use Rattle.std.proofs.Common.{ℕ, Bool, true, false, ◌≡◌, ◌<◌, ◌+◌, ◌^◌, ◌/◌, [], ◌∷◌, refl, arith, ap, sym, subst, inl, inr, ◌∙◌, if◌then◌else◌, nat_lt}
 use Rattle.std.proofs.lemmas.Bool.{cases_eq}
 use Rattle.std.proofs.lemmas.List.Elements.{All-head, All-tail}
 use Rattle.std.proofs.lemmas.Nat.{mod_below, pow_pos}
 use Rattle.std.proofs.Math.Nat.{mod-eq_of_lt}
-use Rattle.heap_geometry.specs.declared.geometry.Geometry.{Geometry}
-use Rattle.packed_words.specs.Anchor.{AnchorFields, IsAnchor, anchor_of, anchor_word}
-use Rattle.packed_words.specs.Prefix.{link_of}
+use Rattle.sound_state.proofs.Common.{Geometry, AnchorFields, anchor_of, anchor_word, link_of, Site, BlockPoint, Share, Continuation, Point, Block, event_of}
+use Rattle.sound_state.proofs.Common.{next_of, asked, plan_point_of, State, Step, holds_of, Lists, IsSo, bound_here, bound_at, pops, links, recalls_of}
+use Rattle.sound_state.proofs.Common.{IsSoundWithoutCounts, IsSoundWith, IsOwnErrand, anchor_for}
+use Rattle.packed_words.specs.Anchor.{IsAnchor}
 use Rattle.packed_words.specs.declared.widths.TheConstants.{AVAIL_BITS, TAG_BITS}
 use Rattle.packed_words.proofs.AnchorLemmas.{anchor_of-anchor_word}
-use Rattle.word_plan.specs.declared.name.WordName.TheVariants as name
-use Rattle.word_plan.specs.declared.seat.Site.{Site}
+use Rattle.word_table.specs.declared.name.WordName.TheVariants as name
 use Rattle.superblock_parts.specs.Anchors.{popped, more_of}
 use Rattle.superblock_parts.specs.Points as points
-use Rattle.superblock_parts.specs.declared.point.BlockPoint.{BlockPoint}
 use Rattle.superblock_parts.specs.declared.point.BlockPoint.TheVariants as block
-use Rattle.superblock_parts.specs.declared.point.Share.{Share}
-use Rattle.errand_steps.specs.declared.next.Next.TheVariants.{At}
-use Rattle.errand_steps.specs.declared.continuation.Continuation.{Continuation}
-use Rattle.errand_steps.specs.declared.point.Point.{Point}
-use Rattle.errand_steps.specs.declared.point.Point.TheVariants.{Block}
-use Rattle.errand_steps.specs.Events.{event_of}
-use Rattle.errand_steps.specs.Nexts.{next_of, enter_block}
-use Rattle.errand_steps.specs.Points.{asked, plan_point_of}
-use Rattle.errand_steps.specs.Steps.{State, Step}
-use Rattle.word_plan.specs.declared.action.Action.TheVariants.{Cas}
+use Rattle.word_table.specs.declared.action.Action.TheVariants.{Cas}
 use Rattle.sound_state.specs.Holdings as hold
-use Rattle.sound_state.specs.Holdings.{nothing, holds_of, block_handed}
-use Rattle.sound_state.specs.Lists.{Lists}
-use Rattle.sound_state.specs.Recalls.{IsSo, bound_here, bound_at, pops, links, recalls_of}
-use Rattle.sound_state.specs.Sound.{IsSoundWithoutCounts, IsSoundWith, IsOwnErrand}
-use Rattle.sound_state.specs.Superblocks.{anchor_for}
+use Rattle.sound_state.specs.Holdings.{nothing, block_handed}
 use Rattle.sound_state.proofs.shared.PointLemmas.{fits-at, so-at, the-alloc, small-asked}
 use Rattle.sound_state.proofs.pops.PopEffects.{Pops, popped_anchor}
 use Rattle.sound_state.proofs.pops.PopChains.{popped-chained, popped-framed}
@@ -46,14 +31,11 @@ use Rattle.sound_state.proofs.shared.TagLemmas.{anchor-tags-below}
 use Rattle.sound_state.proofs.shared.CreditLemmas.{won_with}
 use Rattle.sound_state.proofs.shared.TurnEffects.{StandsIn}
 use Rattle.sound_state.proofs.shared.WonEffects.{AnchorWon, anchor-won}
+use Rattle.sound_state.proofs.shared.KeepsSound.{KeepsSound, KeepsSoundWhere}
 
 -- where a pop leads, by whether more blocks are reserved
 abbrev popped_point : Bool → Site → ℕ → ℕ → BlockPoint
 popped_point b at i more = if b then block.InstallCredits at i more else block.StorePrefix at i
-
-popped-enters : (b : Bool) (at : Site) (i more : ℕ) (o : Continuation) → enter_block (popped_point b at i more) o ≡ At (Block (popped_point b at i more) o)
-popped-enters true at i more o = refl
-popped-enters false at i more o = refl
 
 popped-point-holds :
     (b : Bool) (at : Site) (i more : ℕ) (o : Continuation)
@@ -117,7 +99,7 @@ pop-pops g s l caller s' at share a prefix o sound is has here word step =
     let won : AnchorWon g s caller p at.desc a new q s' =
     anchor-won g s l caller s' p at.desc a new q is has here word fit.point.anchor.fits fits_new
     (ap (λ x. Cas (name.Anchor at.desc) (anchor_word a) (anchor_word x)) uncut)
-    (inl (popped-enters (nat_lt 0 (more_of share a)) at a.avail (more_of share a) o)) step in
+    (inl refl) step in
     record {
       in_heap = has;
       moves = won.step.moves;
@@ -146,43 +128,39 @@ pop-pops g s l caller s' at share a prefix o sound is has here word step =
 
 -- the state after a won pop is sound
 pub pop_block-won :
-    (g : Geometry) (s : State) (caller : ℕ) (s' : State) (at : Site) (share : Share) (a : AnchorFields) (prefix : ℕ) (o : Continuation)
-    → IsSoundWithoutCounts g s → caller < g.callers
-    → (s.errand caller).point ≡ Block (block.PopBlock at share a prefix) o → s.word (name.Anchor at.desc) ≡ anchor_word a
-    → Step s caller s' → IsSoundWithoutCounts g s'
-pop_block-won g s caller s' at share a prefix o sound has here word step =
+    (at : Site) (share : Share) (a : AnchorFields) (prefix : ℕ) (o : Continuation)
+    → KeepsSoundWhere (Block (block.PopBlock at share a prefix) o) (λ s. s.word (name.Anchor at.desc) ≡ anchor_word a)
+pop_block-won at share a prefix o g s caller s' sound has here word step =
     let l = sound.parts.0 in
     let is = sound.parts.1 in
     let e = at_point (s.errand caller) (won_with (anchor_word a)) (Block (points.after_pop at a.avail (more_of share a)) o) in
     let h = pop-pops g s l caller s' at share a prefix o sound is has here word step in
     record {
       checked = sound.checked;
-      legal = popped-legal g s l caller at share a (link_of prefix) (asked o) e s' h sound is;
+      legal = popped-legal h sound is;
       parts = (
         l,
         record {
           words = h.below;
           errands = each-caller g (IsOwnErrand g) s.errand caller e s'.errand h.moves h.rule is.errands;
-          listed = popped-listed g s l caller at share a (link_of prefix) (asked o) e s' h is;
-          kept = popped-kept g s l caller at share a (link_of prefix) (asked o) e s' h is;
-          chained = popped-chained g s l caller at share a (link_of prefix) (asked o) e s' h sound is;
-          framed = popped-framed g s l caller at share a (link_of prefix) (asked o) e s' h is;
-          remembered = popped-remembered g s l caller at share a (link_of prefix) (asked o) e s' h sound is;
-          guarded = popped-guarded g s l caller at share a (link_of prefix) (asked o) e s' h is;
-          stocked = popped-stocked g s l caller at share a (link_of prefix) (asked o) e s' h is;
-          turned = popped-turned g s l caller at share a (link_of prefix) (asked o) e s' h sound is;
-          tied = popped-tied g s l caller at share a (link_of prefix) (asked o) e s' h sound is;
+          listed = popped-listed h is;
+          kept = popped-kept h is;
+          chained = popped-chained h sound is;
+          framed = popped-framed h is;
+          remembered = popped-remembered h sound is;
+          guarded = popped-guarded h is;
+          stocked = popped-stocked h is;
+          turned = popped-turned h sound is;
+          tied = popped-tied h sound is;
         },
       );
     }
 
 -- so it is after a pop, won or lost
 pub pop_block-sound :
-    (g : Geometry) (s : State) (caller : ℕ) (s' : State) (at : Site) (share : Share) (a : AnchorFields) (prefix : ℕ) (o : Continuation)
-    → IsSoundWithoutCounts g s → caller < g.callers
-    → (s.errand caller).point ≡ Block (block.PopBlock at share a prefix) o → Step s caller s' → IsSoundWithoutCounts g s'
-pop_block-sound g s caller s' at share a prefix o sound has here step =
+    (at : Site) (share : Share) (a : AnchorFields) (prefix : ℕ) (o : Continuation) → KeepsSound (Block (block.PopBlock at share a prefix) o)
+pop_block-sound at share a prefix o g s caller s' sound has here step =
     elim (cases_eq (s.word (name.Anchor at.desc)) (anchor_word a)) [
-      | inl is ↦ pop_block-won g s caller s' at share a prefix o sound has here is step
-      | inr other ↦ pop_block-lost g s caller s' at share a prefix o sound has here other step
+      | inl is ↦ pop_block-won at share a prefix o g s caller s' sound has here is step
+      | inr other ↦ pop_block-lost at share a prefix o g s caller s' sound has here other step
     ]

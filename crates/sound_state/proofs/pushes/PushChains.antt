@@ -1,22 +1,11 @@
 -- A won push: each frame stays in one place, and the superblocks keep their pushed-blocks in order.
-use Rattle.std.proofs.Common.{ℕ, Bool, true, false, ◌≡◌, ◌≢◌, ◌<◌, ◌+◌, ◌-◌, ◌∷◌, refl, arith, ap, sym, subst, inl, inr, ◌∙◌}
-use Rattle.std.specs.Prelude.{◌==◌, not, if◌then◌else◌, IsTrue}
+use Rattle.std.proofs.Common.{ℕ, Bool, true, false, ◌≡◌, ◌≢◌, ◌<◌, ◌+◌, ◌-◌, ◌∷◌, refl, arith, ap, sym, subst, inl, inr, ◌∙◌, ◌==◌, not, if◌then◌else◌, IsTrue}
 use Rattle.std.proofs.lemmas.Bool.{cases_eq}
-use Rattle.heap_geometry.specs.declared.geometry.Geometry.{Geometry}
-use Rattle.heap_geometry.specs.Need.{block_count_of}
-use Rattle.heap_geometry.specs.Place.{block_place}
-use Rattle.packed_words.specs.Anchor.{AnchorFields}
-use Rattle.word_plan.specs.Counts.{descriptor_count}
-use Rattle.word_plan.specs.declared.seat.Site.{Site}
-use Rattle.word_plan.specs.Occurs.{occurs}
+use Rattle.sound_state.proofs.Common.{Geometry, block_count_of, block_place, AnchorFields, descriptor_count, Site, occurs, ErrandFields, State, IsFramed}
+use Rattle.sound_state.proofs.Common.{fills_frame, Lists, IsSoundWithoutCounts, IsSoundWith, Superblock, AreChained, IsChained, superblock_of, anchor_for}
+use Rattle.sound_state.proofs.Common.{reserved_of, free_chain, live_at, is_there}
 use Rattle.superblock_parts.specs.Chains.{chain_of}
 use Rattle.superblock_parts.proofs.ChainLemmas.{chain_of-first}
-use Rattle.errand_steps.specs.Errands.{ErrandFields}
-use Rattle.errand_steps.specs.Steps.{State}
-use Rattle.sound_state.specs.Frames.{IsFramed, fills_frame}
-use Rattle.sound_state.specs.Lists.{Lists}
-use Rattle.sound_state.specs.Sound.{IsSoundWithoutCounts, IsSoundWith}
-use Rattle.sound_state.specs.Superblocks.{Superblock, AreChained, IsChained, superblock_of, anchor_for, reserved_of, free_chain, live_at, is_there}
 use Rattle.sound_state.proofs.pushes.PushEffects.{Outcome, stays, unfills, empties, IsOutcome, Pushes, pushed_anchor, pushed_holds}
 use Rattle.sound_state.proofs.pushes.PushFacts.{pushed-holds, pushed-write, pushed-info, pushed-anchor, pushed-waits, pushed-bound, pushed-bound-here, was-bound, pushed-reserved, pushed-gone, pushed-there, pushed-live, pushed-bare, makes_empty}
 use Rattle.sound_state.proofs.shared.HoldingEffects.{holdings-go}
@@ -76,10 +65,10 @@ bound-stays true is = let bad : false ≡ true = is in cc
 bound-stays false is = refl
 
 module _
-    (g : Geometry) (s : State) (l : Lists) (caller : ℕ) (at : Site) (i : ℕ) (stored : Bool) (a : AnchorFields) (out : Outcome)
-    (e : ErrandFields) (s' : State) (h : Pushes g s l caller at i stored a out e s') where
+    {g : Geometry} {s : State} {l : Lists} {caller : ℕ} {at : Site} {i : ℕ} {stored : Bool} {a : AnchorFields} {out : Outcome} {e : ErrandFields}
+    {s' : State} (h : Pushes g s l caller at i stored a out e s') where
   pushed-lie : LieStill s s'
-  pushed-lie = anchor-still (pushed-write g s l caller at i stored a out e s' h)
+  pushed-lie = anchor-still (pushed-write h)
 
   -- the freed block alone becomes free
   pushed-blocks : BlockEffects g s l caller at i s'
@@ -89,7 +78,7 @@ module _
     located = h.located;
     index = h.index;
     still = pushed-lie;
-    there = pushed-there g s l caller at i stored a out e s' h;
+    there = pushed-there h;
   }
 
   pub was-place : (j : ℕ) → (superblock_of g s at.desc).live j ≡ live_at s (block_place at.frame at.seat.class j)
@@ -99,7 +88,7 @@ module _
   pushed-chain stands =
       let next = (superblock_of g s at.desc).next in
       let k = (anchor_for s at.desc).count + reserved_of g s at.desc in
-      let reserved = pushed-reserved g s l caller at i stored a out e s' h at.desc in
+      let reserved = pushed-reserved h at.desc in
       let count : (anchor_for s' at.desc).count + reserved_of g s' at.desc ≡ k + 1 =
       omega (arith, ap (λ x. x.count) h.after, count-after out i a stands, ap (λ x. x.count) h.before, reserved) in
       let avail : (anchor_for s' at.desc).avail ≡ i = ap (λ x. x.avail) h.after ∙ avail-after out i a in
@@ -120,55 +109,56 @@ module _
       first-comes b (superblock_of g s' at.desc) i chained (pushed-chain stands) (omega (arith, h.index, size))
       (ap (λ x. x.avail) h.after ∙ avail-after out i a) (omega (arith, h.next, ap (λ x. x.avail) h.before, chained.avail))
       (omega (arith, ap (λ x. x.count) h.after, count-after out i a stands, count-room out at.seat.class stored a h.goes stands, size))
-      (pushed-waits g s l caller at i stored a out e s' h at.desc) (next-stays pushed-lie g at.desc) (size-stays pushed-lie g at.desc)
-      (pushed-live g s l caller at i stored a out e s' h)
-      (live-after pushed-blocks i ∙ ap is_there (pushed-gone g s l caller at i stored a out e s' h sound)) (rest-live pushed-blocks)
+      (pushed-waits h at.desc) (next-stays pushed-lie g at.desc) (size-stays pushed-lie g at.desc)
+      (pushed-live h)
+      (live-after pushed-blocks i ∙ ap is_there (pushed-gone h sound)) (rest-live pushed-blocks)
 
   -- all superblocks keep their pushed-blocks in order
   pub pushed-chained : IsSoundWithoutCounts g s → IsSoundWith g s l → AreChained g s' l
   pushed-chained sound old =
-      chained-after pushed-blocks old (was-bound g s l caller at i stored a out e s' h)
+      chained-after pushed-blocks old (was-bound h)
       (λ bound.
       pushed-here-chained sound old
-      (bound-stays (makes_empty out) (subst IsTrue (pushed-bound-here g s l caller at i stored a out e s' h) bound)))
+      (bound-stays (makes_empty out) (subst IsTrue (pushed-bound-here h) bound)))
       (λ d differ.
-      superblock-stays pushed-lie g d (pushed-anchor g s l caller at i stored a out e s' h d differ)
-      (pushed-reserved g s l caller at i stored a out e s' h d) (pushed-waits g s l caller at i stored a out e s' h d))
+      superblock-stays pushed-lie g d (pushed-anchor h d differ)
+      (pushed-reserved h d) (pushed-waits h d))
 
   -- a superblock that isn't made EMPTY fills_frame its frame as before
   fills-still : (f : ℕ) → makes_empty out ≡ false → fills_frame g s' l f at.desc ≡ fills_frame g s l f at.desc
   fills-still f stands =
-      let bound = pushed-bound-here g s l caller at i stored a out e s' h in
-      rw (bound, stands, h.bound, pushed-waits g s l caller at i stored a out e s' h at.desc, info-stays pushed-lie at.desc) refl
+      let bound = pushed-bound-here h in
+      rw (bound, stands, h.bound, pushed-waits h at.desc, info-stays pushed-lie at.desc) refl
 
 -- the frame of one that is goes to its caller's hand
 frame-goes :
     (g : Geometry) (s : State) (l : Lists) (caller : ℕ) (at : Site) (i : ℕ) (stored : Bool) (a : AnchorFields) (out : Outcome) (e : ErrandFields)
     (s' : State) → Pushes g s l caller at i stored a out e s' → IsSoundWith g s l → (f : ℕ)
     → occurs f (pushed_holds out at stored).frames + fills_frame g s' l f at.desc ≡ fills_frame g s l f at.desc
-frame-goes g s l caller at i stored a stays e s' h old f = omega (arith, fills-still g s l caller at i stored a stays e s' h f refl)
-frame-goes g s l caller at i stored a unfills e s' h old f = omega (arith, fills-still g s l caller at i stored a unfills e s' h f refl)
+frame-goes g s l caller at i stored a stays e s' h old f = omega (arith, fills-still h f refl)
+frame-goes g s l caller at i stored a unfills e s' h old f = omega (arith, fills-still h f refl)
 frame-goes g s l caller at i stored a empties e s' h old f =
     let bare = pushed-bare g s l caller at i stored a e s' h old in
-    let now : fills_frame g s' l f at.desc ≡ 0 = rw (pushed-bound-here g s l caller at i stored a empties e s' h) refl in
+    let now : fills_frame g s' l f at.desc ≡ 0 = rw (pushed-bound-here h) refl in
     let was : fills_frame g s l f at.desc ≡ (if at.frame == f then 1 else 0) = rw (h.bound, bare.waiting, h.located.frame) refl in
     omega (arith, now, was)
 
-pub pushed-framed :
-    (g : Geometry) (s : State) (l : Lists) (caller : ℕ) (at : Site) (i : ℕ) (stored : Bool) (a : AnchorFields) (out : Outcome) (e : ErrandFields)
-    (s' : State) → Pushes g s l caller at i stored a out e s' → IsSoundWith g s l → IsFramed g s' l
-pushed-framed g s l caller at i stored a out e s' h old = record {
-  once = λ f has.
-      let changed =
-      sum-change (descriptor_count g) (fills_frame g s l f) (fills_frame g s' l f) at.desc h.site.desc
-      (λ d lt ne.
-      let waits = pushed-waits g s l caller at i stored a out e s' h d in
-      rw (pushed-bound g s l caller at i stored a out e s' h d ne, waits, pushed-info g s l caller at i stored a out e s' h d) refl) in
-      omega (
-        arith,
-        holdings-go (pushed-holds g s l caller at i stored a out e s' h) (λ x. occurs f x.frames),
-        changed,
-        frame-goes g s l caller at i stored a out e s' h old f,
-        old.framed.once f has,
-      );
-}
+module _
+    {g : Geometry} {s : State} {l : Lists} {caller : ℕ} {at : Site} {i : ℕ} {stored : Bool} {a : AnchorFields} {out : Outcome} {e : ErrandFields}
+    {s' : State} (h : Pushes g s l caller at i stored a out e s') where
+  pub pushed-framed : IsSoundWith g s l → IsFramed g s' l
+  pushed-framed old = record {
+    once = λ f has.
+        let changed =
+        sum-change (descriptor_count g) (fills_frame g s l f) (fills_frame g s' l f) at.desc h.site.desc
+        (λ d lt ne.
+        let waits = pushed-waits h d in
+        rw (pushed-bound h d ne, waits, pushed-info h d) refl) in
+        omega (
+          arith,
+          holdings-go (pushed-holds h) (λ x. occurs f x.frames),
+          changed,
+          frame-goes g s l caller at i stored a out e s' h old f,
+          old.framed.once f has,
+        );
+  }

@@ -1,30 +1,15 @@
 -- A won push: what it changes, and that everything else stays.
-use Rattle.std.proofs.Common.{ℕ, Bool, true, None, ◌≡◌, ◌≢◌, ◌<◌, ◌≤◌, ◌+◌, ◌^◌, List, [], ◌∷◌, ◌++◌, length}
-use Rattle.std.specs.Prelude.{◌⊎◌, IsTrue, if◌then◌else◌}
-use Rattle.heap_geometry.specs.declared.geometry.Geometry.{Geometry}
+use Rattle.std.proofs.Common.{ℕ, Bool, true, None, ◌≡◌, ◌≢◌, ◌<◌, ◌≤◌, ◌+◌, ◌^◌, List, [], ◌∷◌, ◌++◌, length, ◌⊎◌, IsTrue, if◌then◌else◌}
+use Rattle.sound_state.proofs.Common.{Geometry, block_count_of, block_place, AnchorFields, WordName, Site, IsSiteOf, ErrandFields, spare_of, pushed_by, Point, State}
+use Rattle.sound_state.proofs.Common.{Moves, passed_by, held_by, Holding, partly_used, holds_of, Lists, Recall, IsLocated, IsOwned, emptied, recalls_of, IsOwnErrand}
+use Rattle.sound_state.proofs.Common.{turn_stage_of, waits_in, anchor_for, is_bound, superblock_of, pops_left}
 use Rattle.heap_geometry.specs.declared.need.Need.TheVariants as need
-use Rattle.heap_geometry.specs.Need.{block_count_of}
-use Rattle.heap_geometry.specs.Place.{block_place}
-use Rattle.packed_words.specs.declared.anchor.State.TheVariants as phase
-use Rattle.packed_words.specs.Anchor.{AnchorFields}
-use Rattle.word_plan.specs.declared.name.WordName.{WordName}
-use Rattle.word_plan.specs.declared.name.WordName.TheVariants as name
-use Rattle.word_plan.specs.declared.seat.Site.{Site}
-use Rattle.word_plan.specs.Sites.{IsSiteOf, IsAnchorOf}
+use Rattle.packed_words.specs.declared.anchor.AnchorState.TheVariants as phase
+use Rattle.word_table.specs.declared.name.WordName.TheVariants as name
+use Rattle.word_table.specs.Sites.{IsAnchorOf}
 use Rattle.pool_model.specs.declared.event.Event.TheVariants.{Free}
-use Rattle.errand_steps.specs.Errands.{ErrandFields}
-use Rattle.errand_steps.specs.Fits.{spare_of, pushed_by}
-use Rattle.errand_steps.specs.declared.point.Point.{Point}
-use Rattle.errand_steps.specs.Steps.{State, Moves}
-use Rattle.sound_state.specs.Guards.{passed_by, held_by}
-use Rattle.sound_state.specs.Holdings.{Holding, HazardState, nothing, keep, partly_used, clear, guarded, owned, pushing, if_stored, holds_of}
-use Rattle.sound_state.specs.Lists.{Lists}
-use Rattle.sound_state.specs.Recalls.{Recall, IsLocated, IsOwned, emptied, recalls_of}
-use Rattle.sound_state.specs.Sound.{IsOwnErrand}
-use Rattle.sound_state.specs.TurnStages.{turn_stage_of, out_of_turn}
-use Rattle.sound_state.specs.Stock.{waits_in}
-use Rattle.sound_state.specs.Superblocks.{anchor_for, is_bound, superblock_of}
-use Rattle.sound_state.specs.Turns.{pops_left}
+use Rattle.sound_state.specs.Holdings.{HazardState, nothing, keep, clear, guarded, owned, pushing, if_stored}
+use Rattle.sound_state.specs.TurnStages.{out_of_turn}
 
 -- what a push does to its superblock: it stays ACTIVE or partial, it was FULL and isn't any more, or it becomes EMPTY
 pub data Outcome : Type 0 where

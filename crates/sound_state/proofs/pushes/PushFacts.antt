@@ -1,25 +1,16 @@
 -- What a won push leaves, and how it changes the pool.
-use Rattle.std.proofs.Common.{ℕ, Bool, true, false, None, ◌≡◌, ◌≢◌, ◌<◌, ◌≤◌, refl, arith, ap, sym, subst, ◌∙◌}
-use Rattle.std.specs.Prelude.{◌==◌, ◌&&◌, not, IsTrue}
-use Rattle.heap_geometry.specs.declared.geometry.Geometry.{Geometry}
-use Rattle.heap_geometry.specs.Need.{block_count_of}
-use Rattle.packed_words.specs.Anchor.{AnchorFields}
-use Rattle.partial_parts.specs.Grants.{is_empty}
-use Rattle.word_plan.specs.declared.name.WordName.{WordName}
-use Rattle.word_plan.specs.declared.name.WordName.TheVariants as name
-use Rattle.word_plan.specs.declared.seat.Site.{Site}
+use Rattle.std.proofs.Common.{ℕ, Bool, true, false, None, ◌≡◌, ◌≢◌, ◌<◌, ◌≤◌, refl, arith, ap, sym, subst, ◌∙◌, ◌==◌, ◌&&◌, not, IsTrue}
+use Rattle.sound_state.proofs.Common.{Geometry, block_count_of, AnchorFields, is_empty, WordName, Site, block_at, pool_of, sound-of, ErrandFields, State, waiting}
+use Rattle.sound_state.proofs.Common.{on_its_way, Status, partly_used, Lists, IsSoundWithoutCounts, IsSoundWith, sum_below, words_sum, callers_sum, Superblock}
+use Rattle.sound_state.proofs.Common.{anchor_for, info_for, superblock_of, is_bound, is_there, away_of, waiting_of, reserved_of, word_reserves, reserved_among}
+use Rattle.sound_state.proofs.Common.{errand_keeps, kept_among}
+use Rattle.word_table.specs.declared.name.WordName.TheVariants as name
 use Rattle.pool_model.specs.declared.event.Event.TheVariants.{Free}
-use Rattle.pool_model.specs.Pool.{block_at, pool_of}
 use Rattle.pool_model.proofs.HistoryLemmas.{pool_of-push}
 use Rattle.pool_model.proofs.PoolLemmas.{block_at-without_other, block_at-without_same}
-use Rattle.pool_model.proofs.WellFormedLemmas.{sound-of, sound-differ}
-use Rattle.errand_steps.specs.Errands.{ErrandFields}
-use Rattle.errand_steps.specs.Steps.{State}
-use Rattle.sound_state.specs.Holdings.{waiting, on_its_way, Status, partly_used, pushing, if_stored}
-use Rattle.sound_state.specs.Lists.{Lists}
-use Rattle.sound_state.specs.Sound.{IsSoundWithoutCounts, IsSoundWith}
-use Rattle.sound_state.specs.Sums.{sum_below, words_sum, callers_sum}
-use Rattle.sound_state.specs.Superblocks.{Superblock, anchor_for, info_for, superblock_of, is_bound, is_there, away_of, waiting_of, reserved_of, word_reserves, reserved_among, errand_keeps, kept_among, same_status}
+use Rattle.pool_model.proofs.WellFormedLemmas.{sound-differ}
+use Rattle.sound_state.specs.Holdings.{pushing, if_stored}
+use Rattle.sound_state.specs.Superblocks.{same_status}
 use Rattle.sound_state.proofs.pushes.PushEffects.{Outcome, stays, unfills, empties, Pushes, pushed_anchor, pushed_holds, pushed_place}
 use Rattle.sound_state.proofs.shared.HasLemmas.{bound-stands}
 use Rattle.sound_state.proofs.shared.SumLemmas.{term-sum, two-terms}
@@ -62,8 +53,8 @@ pub record IsFreeBut (b : Superblock) (i : ℕ) : Type 0 where
   pub others : (j : ℕ) → j < b.size → j ≢ i → b.live j ≡ 0
 
 module _
-    (g : Geometry) (s : State) (l : Lists) (caller : ℕ) (at : Site) (i : ℕ) (stored : Bool) (a : AnchorFields) (out : Outcome)
-    (e : ErrandFields) (s' : State) (h : Pushes g s l caller at i stored a out e s') where
+    {g : Geometry} {s : State} {l : Lists} {caller : ℕ} {at : Site} {i : ℕ} {stored : Bool} {a : AnchorFields} {out : Outcome} {e : ErrandFields}
+    {s' : State} (h : Pushes g s l caller at i stored a out e s') where
   pub pushed-holds : HoldingEffects g s caller (pushing at i (if_stored stored at.desc)) (pushed_holds out at stored) e s'
   pushed-holds = record { in_heap = h.in_heap; moves = h.moves; retired = h.retired; before = h.holds_before; after = h.holds_after }
 
@@ -144,7 +135,7 @@ pub pushed-bare :
 pushed-bare g s l caller at i stored a e s' h old =
     let b = superblock_of g s at.desc in
     let all = tally b (old.chained.chained at.desc h.site.desc h.bound) in
-    let live = pushed-live g s l caller at i stored a empties e s' h in
+    let live = pushed-live h in
     let count : b.anchor.count ≡ a.count = ap (λ x. x.count) h.before in
     let size : b.size ≡ block_count_of at.seat.class = ap block_count_of h.located.class in
     let has : i < b.size = omega (arith, h.index, size) in

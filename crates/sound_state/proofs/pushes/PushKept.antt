@@ -1,21 +1,12 @@
 -- A won push leaves each descriptor in one place, and as many out for each class.
-use Rattle.std.proofs.Common.{ℕ, Bool, ◌≡◌, ◌≢◌, ◌+◌, [], refl, arith, ap, sym, subst, inl, inr, ◌∙◌}
-use Rattle.std.specs.Prelude.{◌==◌, All, if◌then◌else◌}
+use Rattle.std.proofs.Common.{ℕ, Bool, ◌≡◌, ◌≢◌, ◌+◌, [], refl, arith, ap, sym, subst, inl, inr, ◌∙◌, ◌==◌, All, if◌then◌else◌}
 use Rattle.std.proofs.lemmas.List.Elements.{All-nil, All-cons}
-use Rattle.heap_geometry.specs.declared.geometry.Geometry.{Geometry}
-use Rattle.packed_words.specs.declared.anchor.State.{State as Phase}
-use Rattle.packed_words.specs.declared.anchor.State.TheVariants as phase
-use Rattle.packed_words.specs.Anchor.{AnchorFields}
-use Rattle.word_plan.specs.declared.seat.Site.{Site}
-use Rattle.word_plan.proofs.SeatLemmas.{block_count_of-least}
-use Rattle.errand_steps.specs.Errands.{ErrandFields}
-use Rattle.errand_steps.specs.Steps.{State}
-use Rattle.sound_state.specs.Holdings.{Kept, partly_used}
-use Rattle.sound_state.specs.Keepers.{IsKept, IsPartlyUsed, IsKeptAs, full_keeps}
-use Rattle.sound_state.specs.Lists.{Lists}
-use Rattle.sound_state.specs.Sound.{IsSoundWith}
-use Rattle.sound_state.specs.Stock.{IsStocked, stock_among}
-use Rattle.sound_state.specs.Superblocks.{anchor_for}
+use Rattle.sound_state.proofs.Common.{Geometry, AnchorFields, Site, ErrandFields, State, Kept, partly_used, IsKept, IsPartlyUsed, IsKeptAs, full_keeps, Lists}
+use Rattle.sound_state.proofs.Common.{IsSoundWith, stock_among, anchor_for}
+use Rattle.packed_words.specs.declared.anchor.AnchorState.{AnchorState as Phase}
+use Rattle.packed_words.specs.declared.anchor.AnchorState.TheVariants as phase
+use Rattle.word_table.proofs.SeatLemmas.{block_count_of-least}
+use Rattle.sound_state.specs.Stock.{IsStocked}
 use Rattle.sound_state.proofs.shared.ActiveReserves.{active-reserves}
 use Rattle.sound_state.proofs.shared.KeptLemmas.{StaysKept, MovesAt, moved-kept, moved-stocked, state-goes}
 use Rattle.sound_state.proofs.shared.PointLemmas.{kept_places}
@@ -44,7 +35,7 @@ here-goes :
 here-goes g s l caller at i stored a stays e s' h old =
     let state : (anchor_for s' at.desc).state ≡ (anchor_for s at.desc).state = ap (λ x. x.state) h.after ∙ sym (ap (λ x. x.state) h.before) in
     let count : (anchor_for s' at.desc).count ≡ a.count + 1 = ap (λ x. x.count) h.after in
-    state-goes s s' at.desc (pushed-info g s l caller at i stored a stays e s' h at.desc) state (λ partial some. omega (arith, count))
+    state-goes s s' at.desc (pushed-info h at.desc) state (λ partial some. omega (arith, count))
     (λ is.
     let full : a.state ≡ phase.Full = sym (ap (λ x. x.state) h.before) ∙ is in
     elim h.goes.1 [
@@ -68,7 +59,7 @@ here-goes g s l caller at i stored a unfills e s' h old =
       full = λ is. let bad : phase.Partial ≡ phase.Full = sym (ap (λ x. x.state) h.after) ∙ is in cc;
     }
 here-goes g s l caller at i stored a empties e s' h old =
-    let info = pushed-info g s l caller at i stored a empties e s' h at.desc in
+    let info = pushed-info h at.desc in
     let now : (anchor_for s' at.desc).state ≡ phase.Empty = ap (λ x. x.state) h.after in
     record {
       partly = λ c k. record { class = ap (λ x. x.class) info ∙ k.class; state = inr now };
@@ -126,44 +117,38 @@ now-partly :
 now-partly g s l caller at i stored a stays e s' h is = absurd (cc)
 now-partly g s l caller at i stored a empties e s' h is = absurd (cc)
 now-partly g s l caller at i stored a unfills e s' h is = record {
-  class = ap (λ x. x.class) (pushed-info g s l caller at i stored a unfills e s' h at.desc) ∙ h.located.class;
+  class = ap (λ x. x.class) (pushed-info h at.desc) ∙ h.located.class;
   state = inl (ap (λ x. x.state) h.after, let count : (anchor_for s' at.desc).count ≡ a.count + 1 = ap (λ x. x.count) h.after in omega (arith, count));
 }
 
--- each descriptor still stands in one place, and as many are out for each class
-pushes-move :
-    (g : Geometry) (s : State) (l : Lists) (caller : ℕ) (at : Site) (i : ℕ) (stored : Bool) (a : AnchorFields) (out : Outcome) (e : ErrandFields)
-    (s' : State) → Pushes g s l caller at i stored a out e s' → IsSoundWith g s l
-    → MovesAt g s l caller at.desc at.seat.class a (pushed_anchor out i a) e s'
-pushes-move g s l caller at i stored a out e s' h old =
-    let bare = bare-full g s l caller at i stored a out e s' h old in
-    record {
-      in_heap = h.in_heap;
-      moves = h.moves;
-      exists = h.site.desc;
-      class = h.located.class;
-      before = h.before;
-      after = h.after;
-      elsewhere = h.elsewhere;
-      retired = h.retired;
-      places = λ d. rw (h.holds_before, h.holds_after) (omega (arith, pushed-kept-weighs out at i stored a d h.goes bare));
-      stock = λ class.
-          rw (h.holds_before, h.holds_after)
-          (omega (arith, pushed-stock-weighs out at i stored a class h.goes bare, h.stands_before.waits class, h.stands_after.waits class));
-      goes = inl (here-goes g s l caller at i stored a out e s' h old);
-      own =
-          subst (λ x. All (λ k. IsKeptAs s' k.status k.desc k.class) x.kept) (sym h.holds_after)
-          (holds-kept s' out at stored (now-partly g s l caller at i stored a out e s' h));
-    }
+module _
+    {g : Geometry} {s : State} {l : Lists} {caller : ℕ} {at : Site} {i : ℕ} {stored : Bool} {a : AnchorFields} {out : Outcome} {e : ErrandFields}
+    {s' : State} (h : Pushes g s l caller at i stored a out e s') where
+  -- each descriptor still stands in one place, and as many are out for each class
+  pushes-move : IsSoundWith g s l → MovesAt g s l caller at.desc at.seat.class a (pushed_anchor out i a) e s'
+  pushes-move old =
+      let bare = bare-full g s l caller at i stored a out e s' h old in
+      record {
+        in_heap = h.in_heap;
+        moves = h.moves;
+        exists = h.site.desc;
+        class = h.located.class;
+        before = h.before;
+        after = h.after;
+        elsewhere = h.elsewhere;
+        retired = h.retired;
+        places = λ d. rw (h.holds_before, h.holds_after) (omega (arith, pushed-kept-weighs out at i stored a d h.goes bare));
+        stock = λ class.
+            rw (h.holds_before, h.holds_after)
+            (omega (arith, pushed-stock-weighs out at i stored a class h.goes bare, h.stands_before.waits class, h.stands_after.waits class));
+        goes = inl (here-goes g s l caller at i stored a out e s' h old);
+        own =
+            subst (λ x. All (λ k. IsKeptAs s' k.status k.desc k.class) x.kept) (sym h.holds_after)
+            (holds-kept s' out at stored (now-partly g s l caller at i stored a out e s' h));
+      }
 
-pub pushed-kept :
-    (g : Geometry) (s : State) (l : Lists) (caller : ℕ) (at : Site) (i : ℕ) (stored : Bool) (a : AnchorFields) (out : Outcome) (e : ErrandFields)
-    (s' : State) → Pushes g s l caller at i stored a out e s' → IsSoundWith g s l → IsKept g s' l
-pushed-kept g s l caller at i stored a out e s' h old =
-    moved-kept g s l caller at.desc at.seat.class a (pushed_anchor out i a) e s' (pushes-move g s l caller at i stored a out e s' h old) old.kept
+  pub pushed-kept : IsSoundWith g s l → IsKept g s' l
+  pushed-kept old = moved-kept (pushes-move old) old.kept
 
-pub pushed-stocked :
-    (g : Geometry) (s : State) (l : Lists) (caller : ℕ) (at : Site) (i : ℕ) (stored : Bool) (a : AnchorFields) (out : Outcome) (e : ErrandFields)
-    (s' : State) → Pushes g s l caller at i stored a out e s' → IsSoundWith g s l → IsStocked g s' l
-pushed-stocked g s l caller at i stored a out e s' h old =
-    moved-stocked g s l caller at.desc at.seat.class a (pushed_anchor out i a) e s' (pushes-move g s l caller at i stored a out e s' h old) old.stocked
+  pub pushed-stocked : IsSoundWith g s l → IsStocked g s' l
+  pushed-stocked old = moved-stocked (pushes-move old) old.stocked

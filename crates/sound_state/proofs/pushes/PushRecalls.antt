@@ -1,28 +1,16 @@
 -- A won push keeps what the callers remember.
-use Rattle.std.proofs.Common.{ℕ, Bool, true, false, ◌≡◌, ◌≢◌, ◌<◌, ◌≤◌, [], ◌∷◌, arith, ap, sym, subst, inl, inr, ◌∙◌}
+use Rattle.std.proofs.Common.{ℕ, Bool, true, false, ◌≡◌, ◌≢◌, ◌<◌, ◌≤◌, [], ◌∷◌, arith, ap, sym, subst, inl, inr, ◌∙◌, not, IsTrue}
 use Rattle.std.specs.List.{All}
-use Rattle.std.specs.Prelude.{not, IsTrue}
 use Rattle.std.proofs.lemmas.Bool.{cases_eq, cases_Bool}
 use Rattle.std.proofs.lemmas.List.Elements.{All-nil, All-cons}
-use Rattle.heap_geometry.specs.declared.geometry.Geometry.{Geometry}
+use Rattle.sound_state.proofs.Common.{Geometry, block_count_of, block_place, AnchorFields, Site, occurs, is_empty, own, ErrandFields, State, on_its_way, holds_of}
+use Rattle.sound_state.proofs.Common.{Lists, Recall, IsLocated, IsSo, bound_for, bound_at, pops, links, says, emptied, IsSoundWith, sum_below, callers_sum}
+use Rattle.sound_state.proofs.Common.{anchor_for, superblock_of, free_chain, reserved_among, errand_reserves, errand_away, is_bound, away_of, errand_keeps, live_at}
+use Rattle.sound_state.proofs.Common.{is_there}
 use Rattle.heap_geometry.specs.declared.need.Need.TheVariants as need
-use Rattle.heap_geometry.specs.Need.{block_count_of}
-use Rattle.heap_geometry.specs.Place.{block_place}
-use Rattle.packed_words.specs.Anchor.{AnchorFields}
-use Rattle.word_plan.specs.declared.seat.Site.{Site}
-use Rattle.word_plan.specs.Occurs.{occurs}
 use Rattle.superblock_parts.proofs.ChainLemmas.{occurs-more}
-use Rattle.partial_parts.specs.Grants.{is_empty}
 use Rattle.pool_model.specs.declared.event.Event.TheVariants.{Free}
-use Rattle.pool_model.specs.Histories.{own}
-use Rattle.errand_steps.specs.Errands.{ErrandFields}
-use Rattle.errand_steps.specs.Steps.{State}
-use Rattle.sound_state.specs.Holdings.{on_its_way, holds_of}
-use Rattle.sound_state.specs.Lists.{Lists}
-use Rattle.sound_state.specs.Recalls.{Recall, IsPopped, IsLocated, IsEmptied, IsRemembered, IsSo, bound_for, bound_at, pops, links, says, emptied}
-use Rattle.sound_state.specs.Sound.{IsSoundWith}
-use Rattle.sound_state.specs.Sums.{sum_below, callers_sum}
-use Rattle.sound_state.specs.Superblocks.{anchor_for, superblock_of, free_chain, reserved_among, errand_reserves, errand_away, is_bound, away_of, errand_keeps, live_at, is_there}
+use Rattle.sound_state.specs.Recalls.{IsPopped, IsEmptied, IsRemembered}
 use Rattle.sound_state.proofs.shared.EventFacts.{told-own}
 use Rattle.sound_state.proofs.shared.HasLemmas.{bound-away}
 use Rattle.sound_state.proofs.shared.RecallEffects.{IsSteadyWord, AreSteady, Leaves, IsLeft, popped-steady, remembered-left}
@@ -62,10 +50,10 @@ none-owned g s l caller at i stored a empties e s' h old j ne is site k fits own
     let here : block_place site.frame site.seat.class k ≡ pushed_place at k =
     ap (λ f. block_place f site.seat.class k) frames ∙ ap (λ c. block_place at.frame c k) classes in
     let apart : k ≢ i =
-    λ one. owned-elsewhere g s l caller at i stored a empties e s' h j (block_place site.frame site.seat.class k) (need.Small site.seat.class) ne owned
+    λ one. owned-elsewhere h j (block_place site.frame site.seat.class k) (need.Small site.seat.class) ne owned
     (here ∙ ap (pushed_place at) one) in
     let there : (superblock_of g s at.desc).live k ≡ 1 =
-    was-place g s l caller at i stored a empties e s' h k ∙ ap (live_at s) (sym here) ∙ ap is_there owned.block.1 in
+    was-place h k ∙ ap (live_at s) (sym here) ∙ ap is_there owned.block.1 in
     let none = (pushed-bare g s l caller at i stored a e s' h old).others k (subst (λ c. k < block_count_of c) (sym its.class) fits.index) apart in
     let bad : ⊥ = omega (arith, there, none) in bad
 
@@ -83,14 +71,14 @@ own-recalls g s l caller at i stored a empties e s' h =
     let is : IsEmptied g s' l at.desc = record {
       state = ap (λ x. x.state) h.after;
       unavailable = omega (arith, none);
-      standing = omega (arith, pushed-ways g s l caller at i stored a empties e s' h at.desc, none, least);
+      standing = omega (arith, pushed-ways h at.desc, none, least);
     } in
     All-cons (IsSo g s' l caller) (emptied at.desc) [] is (All-nil (IsSo g s' l caller))
 
 -- a push that was won
 module _
-    (g : Geometry) (s : State) (l : Lists) (caller : ℕ) (at : Site) (i : ℕ) (stored : Bool) (a : AnchorFields) (out : Outcome) (e : ErrandFields) (s' : State)
-    (h : Pushes g s l caller at i stored a out e s') where
+    {g : Geometry} {s : State} {l : Lists} {caller : ℕ} {at : Site} {i : ℕ} {stored : Bool} {a : AnchorFields} {out : Outcome} {e : ErrandFields}
+    {s' : State} (h : Pushes g s l caller at i stored a out e s') where
   -- nobody pushes onto a superblock that waits to be installed
   pushed-installed : IsSoundWith g s l → (j : ℕ) → j < g.callers → InstallsNone (s.errand j).point at.desc
   pushed-installed old j has site o stands same =
@@ -99,7 +87,7 @@ module _
       subst (λ k. sum_below (superblock_of g s k).size (superblock_of g s k).live ≡ 0) same (waits-alone g s l j site o old has stands).1 in
       let size : b.size ≡ block_count_of at.seat.class = ap block_count_of h.located.class in
       let live : b.live i ≤ sum_below b.size b.live = term-sum b.size b.live i (omega (arith, h.index, size)) in
-      omega (arith, none, live, pushed-live g s l caller at i stored a out e s' h)
+      omega (arith, none, live, pushed-live h)
 
   -- what is bound stays so, but where it is made EMPTY
   bound-goes : (d : ℕ) → (makes_empty out ≡ true → d ≢ at.desc) → IsTrue (is_bound g s l d) → IsTrue (is_bound g s' l d)
@@ -109,9 +97,9 @@ module _
             elim (cases_Bool (makes_empty out)) [
               | inl is ↦ absurd (left is same)
               | inr stands ↦
-                  subst (λ k. IsTrue (is_bound g s' l k)) (sym same) (pushed-bound-here g s l caller at i stored a out e s' h ∙ ap not stands)
+                  subst (λ k. IsTrue (is_bound g s' l k)) (sym same) (pushed-bound-here h ∙ ap not stands)
             ]
-        | inr ne ↦ subst IsTrue (sym (pushed-bound g s l caller at i stored a out e s' h d ne)) was
+        | inr ne ↦ subst IsTrue (sym (pushed-bound h d ne)) was
       ]
 
   -- the words of stacks, of descriptors and of the arena stay
@@ -122,7 +110,7 @@ module _
   pops-goes :
       (d : ℕ) (b : AnchorFields) → (makes_empty out ≡ true → d ≢ at.desc) → IsPopped (superblock_of g s d) b → IsPopped (superblock_of g s' d) b
   pops-goes d b left so =
-      let tag = pushed-tag g s l caller at i stored a out e s' h d in
+      let tag = pushed-tag h d in
       elim (cases_eq d at.desc) [
         | inl same ↦
             elim (cases_Bool (makes_empty out)) [
@@ -130,7 +118,7 @@ module _
               | inr stands ↦
                   let chain : free_chain (superblock_of g s' d) ≡ i ∷ free_chain (superblock_of g s d) =
                   subst (λ k. free_chain (superblock_of g s' k) ≡ i ∷ free_chain (superblock_of g s k)) (sym same)
-                  (pushed-chain g s l caller at i stored a out e s' h stands) in
+                  (pushed-chain h stands) in
                   record {
                     tag = omega (arith, so.tag, tag);
                     first = λ is.
@@ -139,8 +127,8 @@ module _
                   }
             ]
         | inr ne ↦
-            popped-steady g s l s' pushed-words-steady d b (pushed-anchor g s l caller at i stored a out e s' h d ne)
-            (pushed-reserved g s l caller at i stored a out e s' h d) so
+            popped-steady g s l s' pushed-words-steady d b (pushed-anchor h d ne)
+            (pushed-reserved h d) so
       ]
 
   -- so a push leaves what the others remember
@@ -148,21 +136,21 @@ module _
   pushed-leaves j ne = record {
     steady = pushed-words-steady;
     events = ap (own j) h.history ∙ told-own j s.history (Free caller (pushed_place at i)) (λ same. ne (sym same));
-    owned = λ place n. pushed-still-owned g s l caller at i stored a out e s' h j place n ne;
+    owned = λ place n. pushed-still-owned h j place n ne;
     empty = λ d so.
         let apart : d ≢ at.desc =
         λ same.
         let is : is_empty (anchor_for s at.desc).state ≡ true = ap (λ k. is_empty (anchor_for s k).state) (sym same) ∙ ap is_empty so.state in
-        let bad : true ≡ false = sym is ∙ pushed-stood g s l caller at i stored a out e s' h in cc in
-        ap (λ x. is_empty x.state) (pushed-anchor g s l caller at i stored a out e s' h d apart);
-    ways = λ d so. pushed-ways g s l caller at i stored a out e s' h d;
+        let bad : true ≡ false = sym is ∙ pushed-stood h in cc in
+        ap (λ x. is_empty x.state) (pushed-anchor h d apart);
+    ways = λ d so. pushed-ways h d;
   }
 
   pushed-left : (r : Recall) → IsBacked g s l at.desc r → (makes_empty out ≡ true → IsUnbound at.desc r) → IsLeft g s l s' r
   pushed-left (bound_for d c) backed apart = bound-goes d apart
   pushed-left (bound_at d f c) backed apart = bound-goes d apart
   pushed-left (pops d b) backed apart = pops-goes d b apart
-  pushed-left (links d b prefix) backed apart = λ is. is ∙ pushed-tag g s l caller at i stored a out e s' h d
+  pushed-left (links d b prefix) backed apart = λ is. is ∙ pushed-tag h d
   pushed-left (says n w) backed apart = h.elsewhere n backed
   pushed-left r backed apart = tt
 

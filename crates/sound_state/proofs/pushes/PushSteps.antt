@@ -1,46 +1,31 @@
 -- The step of a won push, and what it changes.
-use Rattle.std.proofs.Common.{ℕ, Bool, true, false, ◌≡◌, ◌≢◌, ◌<◌, ◌≤◌, ◌+◌, ◌^◌, [], refl, arith, ap, sym, subst, inl, inr, ◌∙◌}
-use Rattle.std.specs.Prelude.{◌==◌, IsTrue, if◌then◌else◌}
+use Rattle.std.proofs.Common.{ℕ, Bool, true, false, ◌≡◌, ◌≢◌, ◌<◌, ◌≤◌, ◌+◌, ◌^◌, [], refl, arith, ap, sym, subst, inl, inr, ◌∙◌, ◌==◌, IsTrue, if◌then◌else◌}
 use Rattle.std.proofs.lemmas.Bool.{cases_eq, eq-eqb, ne_eqb}
 use Rattle.std.proofs.lemmas.List.Elements.{All-head, All-tail}
 use Rattle.std.proofs.Math.Nat.{mod-eq_of_lt}
-use Rattle.heap_geometry.specs.declared.geometry.Geometry.{Geometry}
+use Rattle.sound_state.proofs.Common.{Geometry, block_count_of, AnchorFields, anchor_of, anchor_word, link_of, is_empty, Site, prefix_name, link_in, Frames}
+use Rattle.sound_state.proofs.Common.{Continuation, Point, Idle, Block, Stack, Desc, Partial, ErrandFields, event_of, next_of, plan_point_of, State, Step, holds_of}
+use Rattle.sound_state.proofs.Common.{Lists, IsSo, IsOwned, bound_here, bound_at, says, recalls_of, IsSoundWith, IsChained, anchor_for, away_of, info_for}
+use Rattle.sound_state.proofs.Common.{superblock_of}
 use Rattle.heap_geometry.specs.declared.need.Need.TheVariants as need
-use Rattle.heap_geometry.specs.Need.{block_count_of}
-use Rattle.packed_words.specs.Anchor.{AnchorFields, IsAnchor, anchor_of, anchor_word}
-use Rattle.packed_words.specs.Prefix.{link_of}
-use Rattle.packed_words.specs.declared.anchor.State.{State as Phase}
-use Rattle.packed_words.specs.declared.anchor.State.TheVariants as phase
+use Rattle.packed_words.specs.Anchor.{IsAnchor}
+use Rattle.packed_words.specs.declared.anchor.AnchorState.{AnchorState as Phase}
+use Rattle.packed_words.specs.declared.anchor.AnchorState.TheVariants as phase
 use Rattle.packed_words.specs.declared.widths.TheConstants.{AVAIL_BITS, COUNT_BITS}
 use Rattle.packed_words.proofs.AnchorLemmas.{anchor_of-anchor_word}
-use Rattle.partial_parts.specs.Grants.{is_empty}
-use Rattle.word_plan.specs.declared.name.WordName.TheVariants as name
-use Rattle.word_plan.specs.declared.seat.Site.{Site}
-use Rattle.word_plan.proofs.SeatLemmas.{block_count_of-most}
+use Rattle.word_table.specs.declared.name.WordName.TheVariants as name
+use Rattle.word_table.proofs.SeatLemmas.{block_count_of-most}
 use Rattle.superblock_parts.specs.Anchors.{pushed, is_last}
-use Rattle.superblock_parts.specs.Chains.{prefix_name, link_in}
 use Rattle.superblock_parts.specs.Points as points
+use Rattle.superblock_parts.specs.declared.exit.BlockExit.TheVariants as block_exit
 use Rattle.superblock_parts.specs.declared.point.BlockPoint.TheVariants as block
-use Rattle.stack_parts.specs.declared.point.Pile.TheVariants.{Frames}
 use Rattle.stack_parts.specs.declared.point.StackPoint.TheVariants as stack
 use Rattle.hazard_parts.specs.declared.point.DescPoint.TheVariants as desc
 use Rattle.partial_parts.specs.declared.point.PartialPoint.TheVariants as partial
-use Rattle.errand_steps.specs.declared.continuation.Continuation.{Continuation}
 use Rattle.errand_steps.specs.declared.continuation.Continuation.TheVariants as continuation
-use Rattle.errand_steps.specs.declared.point.Point.{Point}
-use Rattle.errand_steps.specs.declared.point.Point.TheVariants.{Idle, Block, Stack, Desc, Partial}
 use Rattle.errand_steps.specs.declared.reply.Reply.TheVariants as reply
-use Rattle.errand_steps.specs.Errands.{ErrandFields}
-use Rattle.errand_steps.specs.Events.{event_of}
-use Rattle.errand_steps.specs.Nexts.{next_of, enter_block}
-use Rattle.errand_steps.specs.Points.{plan_point_of}
-use Rattle.errand_steps.specs.Steps.{State, Step}
-use Rattle.word_plan.specs.declared.action.Action.TheVariants.{Cas}
-use Rattle.sound_state.specs.Holdings.{holds_of}
-use Rattle.sound_state.specs.Lists.{Lists}
-use Rattle.sound_state.specs.Recalls.{IsSo, IsOwned, bound_here, bound_at, says, recalls_of}
-use Rattle.sound_state.specs.Sound.{IsSoundWith}
-use Rattle.sound_state.specs.Superblocks.{IsChained, anchor_for, away_of, info_for, superblock_of}
+use Rattle.errand_steps.specs.Nexts.{leave_block}
+use Rattle.word_table.specs.declared.action.Action.TheVariants.{Cas}
 use Rattle.sound_state.proofs.shared.HasLemmas.{bound-stands}
 use Rattle.sound_state.proofs.shared.PointLemmas.{fits-at, so-at, frees-at, the-free}
 use Rattle.sound_state.proofs.pushes.PushEffects.{Outcome, stays, unfills, empties, IsOutcome, Pushes, FreeStands, pushed_anchor, pushed_holds, pushed_recalls, pushed_place}
@@ -59,14 +44,14 @@ pushed_point empties at stored heap = Stack (stack.LoadTopToPush at.seat Frames 
 
 record LeadsByOutcome (at : Site) (i : ℕ) (a : AnchorFields) (stored : Bool) (heap : ℕ) (out : Outcome) : Type 0 where
   is : IsOutcome out at.seat.class stored a
-  next : LeadsTo (enter_block (points.after_push at a stored heap) continuation.Free) (pushed_point out at stored heap)
+  next : LeadsTo (leave_block (points.after_push at a stored heap) continuation.Free) (pushed_point out at stored heap)
   anchor : pushed at.seat.class i a ≡ pushed_anchor out i a
 
 -- a block's number has room
 avail-room : (class : ℕ) → block_count_of class ≤ 2 ^ AVAIL_BITS
 avail-room class = omega (arith, block_count_of-most class)
 
-finishes : (at : Site) (stored : Bool) → LeadsTo (enter_block (block.Pushed at.seat stored) continuation.Free) (ended stored at)
+finishes : (at : Site) (stored : Bool) → LeadsTo (leave_block (block_exit.Pushed at.seat stored) continuation.Free) (ended stored at)
 finishes at true = inl refl
 finishes at false = inr (reply.Freed, refl, refl)
 
@@ -183,7 +168,7 @@ push-pushes g s l caller s' at i a stored heap o is has here word step =
     let won : AnchorWon g s caller p at.desc a (pushed_anchor out i a) q s' =
     anchor-won g s l caller s' p at.desc a (pushed_anchor out i a) q is has here word fit.point.anchor.fits fits_new
     (ap (λ x. Cas (name.Anchor at.desc) (anchor_word a) (anchor_word x)) to.1.anchor)
-    (subst (λ r. LeadsTo (enter_block (points.after_push at a stored heap) r) q) (sym free) to.1.next) step in (
+    (subst (λ r. LeadsTo (leave_block (points.after_push at a stored heap) r) q) (sym free) to.1.next) step in (
       out,
       at_point (s.errand caller) (won_with (anchor_word a)) q,
       record {

@@ -1,83 +1,21 @@
 -- After a won push the words still show the pool of the events, and the events are legal.
-use Rattle.std.proofs.Common.{ℕ, Bool, true, ◌≡◌, ◌≢◌, ◌<◌, [], refl, arith, ap, sym, subst, inl, inr, ◌∙◌}
-use Rattle.std.specs.Prelude.{Any, IsTrue}
+use Rattle.std.proofs.Common.{ℕ, Bool, true, ◌≡◌, ◌≢◌, ◌<◌, [], refl, arith, ap, sym, subst, inl, inr, ◌∙◌, Any, IsTrue}
 use Rattle.std.proofs.lemmas.Bool.{cases_eq}
-use Rattle.heap_geometry.specs.declared.geometry.Geometry.{Geometry}
-use Rattle.heap_geometry.specs.declared.need.Need.{Need}
-use Rattle.heap_geometry.specs.declared.need.Need.TheVariants.{Small}
-use Rattle.heap_geometry.specs.Need.{block_count_of}
-use Rattle.heap_geometry.specs.Place.{frame_of}
-use Rattle.packed_words.specs.Anchor.{AnchorFields}
-use Rattle.word_plan.specs.declared.name.WordName.TheVariants as name
-use Rattle.word_plan.specs.declared.seat.Site.{Site}
+use Rattle.sound_state.proofs.Common.{Geometry, Need, Small, block_count_of, frame_of, AnchorFields, Site, IsLegalWithoutCounts, ErrandFields, State, Holding, Lists}
+use Rattle.sound_state.proofs.Common.{IsLocated, IsOwned, IsSoundWithoutCounts, IsSoundWith, superblock_of, is_bound, is_there, live_at, IsTied, IsLive}
+use Rattle.word_table.specs.declared.name.WordName.TheVariants as name
 use Rattle.pool_model.specs.declared.event.Event.TheVariants.{Free as Frees}
 use Rattle.pool_model.specs.declared.owner.Owner.TheVariants.{Caller}
-use Rattle.pool_model.specs.Legal.{IsLegalEventWithoutCounts, IsLegalWithoutCounts}
+use Rattle.pool_model.specs.Legal.{IsLegalEventWithoutCounts}
 use Rattle.pool_model.specs.Pool.{Block}
 use Rattle.pool_model.proofs.HistoryLemmas.{EachAfter-push}
-use Rattle.errand_steps.specs.Errands.{ErrandFields}
-use Rattle.errand_steps.specs.Steps.{State}
-use Rattle.sound_state.specs.Holdings.{Freed, Holding}
-use Rattle.sound_state.specs.Lists.{Lists}
-use Rattle.sound_state.specs.Recalls.{IsLocated, IsOwned}
-use Rattle.sound_state.specs.Sound.{IsSoundWithoutCounts, IsSoundWith}
-use Rattle.sound_state.specs.Superblocks.{superblock_of, is_bound, is_there, live_at}
-use Rattle.sound_state.specs.Ties.{IsTied, IsLive}
+use Rattle.sound_state.specs.Holdings.{Freed}
 use Rattle.sound_state.proofs.pushes.PushChains.{was-place}
 use Rattle.sound_state.proofs.pushes.PushEffects.{Outcome, stays, unfills, empties, Pushes, pushed_holds, pushed_place}
 use Rattle.sound_state.proofs.pushes.PushFacts.{pushed-info, pushed-bound, pushed-bound-here, pushed-gone, pushed-there, pushed-bare}
 use Rattle.sound_state.proofs.shared.ListFacts.{any-none, any-one}
 use Rattle.sound_state.proofs.shared.ShownLemmas.{Excepts}
 use Rattle.sound_state.proofs.shared.TieLemmas.{bare-owns, located-stays, not-live, one-live, owned-stays, small-but, small-lies}
-
--- who owns the freed block owns it, so its event is legal
-pub pushed-legal :
-    (g : Geometry) (s : State) (l : Lists) (caller : ℕ) (at : Site) (i : ℕ) (stored : Bool) (a : AnchorFields) (out : Outcome) (e : ErrandFields)
-    (s' : State) → Pushes g s l caller at i stored a out e s' → IsSoundWithoutCounts g s → IsLegalWithoutCounts g s'.history
-pushed-legal g s l caller at i stored a out e s' h sound =
-    subst (IsLegalWithoutCounts g) (sym h.history)
-    (EachAfter-push (IsLegalEventWithoutCounts g) s.history (Frees caller (pushed_place at i)) sound.legal
-    (h.in_heap, (h.owned.block.0, h.owned.block.1, h.owned.block.2)))
-
--- the freed block is its caller's, and small
-pub is-freed :
-    (g : Geometry) (s : State) (l : Lists) (caller : ℕ) (at : Site) (i : ℕ) (stored : Bool) (a : AnchorFields) (out : Outcome) (e : ErrandFields)
-    (s' : State) → Pushes g s l caller at i stored a out e s' → (place : ℕ) (b : Block) → IsLive s place b → place ≡ pushed_place at i
-    → (b.owner ≡ Caller caller) × (b.need ≡ Small at.seat.class)
-is-freed g s l caller at i stored a out e s' h place b live same =
-    let is = one-live s (pushed_place at i) place h.owned.block.0 b h.owned.block.1 same live in
-    (ap (λ (x : Block). x.owner) (sym is) ∙ h.owned.block.2, ap (λ (x : Block). x.need) (sym is) ∙ h.owned.block.3)
-
--- another caller's block is elsewhere, and still its own
-pub owned-elsewhere :
-    (g : Geometry) (s : State) (l : Lists) (caller : ℕ) (at : Site) (i : ℕ) (stored : Bool) (a : AnchorFields) (out : Outcome) (e : ErrandFields)
-    (s' : State) → Pushes g s l caller at i stored a out e s' → (j place : ℕ) (n : Need) → j ≢ caller → IsOwned s j place n → place ≢ pushed_place at i
-owned-elsewhere g s l caller at i stored a out e s' h j place n ne k same =
-    let mine = is-freed g s l caller at i stored a out e s' h place k.block.0 k.block.1 same in
-    let both : Caller j ≡ Caller caller = sym k.block.2 ∙ mine.0 in
-    ne (cc)
-
-pub pushed-still-owned :
-    (g : Geometry) (s : State) (l : Lists) (caller : ℕ) (at : Site) (i : ℕ) (stored : Bool) (a : AnchorFields) (out : Outcome) (e : ErrandFields)
-    (s' : State) → Pushes g s l caller at i stored a out e s' → (j place : ℕ) (n : Need) → j ≢ caller → IsOwned s j place n → IsOwned s' j place n
-pushed-still-owned g s l caller at i stored a out e s' h j place n ne k =
-    owned-stays s s' j place n
-    (λ b live.
-    pushed-there g s l caller at i stored a out e s' h place (owned-elsewhere g s l caller at i stored a out e s' h j place n ne k) ∙ live) k
-
--- who pushes hands out nothing, and frees one block: it excepts no other one
-pushed-excepts :
-    (g : Geometry) (s : State) (l : Lists) (caller : ℕ) (at : Site) (i : ℕ) (stored : Bool) (a : AnchorFields) (out : Outcome) (e : ErrandFields)
-    (s' : State) → Pushes g s l caller at i stored a out e s' → (place : ℕ) → place ≢ pushed_place at i → Excepts (s.errand caller) place
-    → Excepts e place
-pushed-excepts g s l caller at i stored a out e s' h place ne (inl some) =
-    absurd (any-none (λ x. x.place ≡ place) (subst (Any (λ x. x.place ≡ place)) (ap (λ (o : Holding). o.hands) h.holds_before) some))
-pushed-excepts g s l caller at i stored a out e s' h place ne (inr some) =
-    let its : Freed = record { place = pushed_place at i; need = Small at.seat.class; overwritten = true } in
-    let one =
-    any-one (λ (x : Freed). (x.place ≡ place) × IsTrue x.overwritten) its
-    (subst (Any (λ (x : Freed). (x.place ≡ place) × IsTrue x.overwritten)) (ap (λ (o : Holding). o.frees) h.holds_before) some) in
-    absurd (ne (sym one.0))
 
 -- no other block of a superblock that a push makes EMPTY is live
 pub no-other-live :
@@ -90,7 +28,7 @@ no-other-live g s l caller at i stored a e s' h sound old place class b live of 
     let apart : lies.0 ≢ i = λ is. differ (lies.2 ∙ ap (pushed_place at) is) in
     let within : lies.0 < (superblock_of g s at.desc).size = subst (λ c. lies.0 < block_count_of c) (sym h.located.class) lies.1 in
     let there : (superblock_of g s at.desc).live lies.0 ≡ 1 =
-    was-place g s l caller at i stored a empties e s' h lies.0 ∙ ap (live_at s) (sym lies.2) ∙ ap is_there live in
+    was-place h lies.0 ∙ ap (live_at s) (sym lies.2) ∙ ap is_there live in
     let none = (pushed-bare g s l caller at i stored a e s' h old).others lies.0 within apart in
     let bad : ⊥ = omega (arith, there, none) in bad
 
@@ -99,8 +37,8 @@ its-bound :
     (g : Geometry) (s : State) (l : Lists) (caller : ℕ) (at : Site) (i : ℕ) (stored : Bool) (a : AnchorFields) (out : Outcome) (e : ErrandFields)
     (s' : State) → Pushes g s l caller at i stored a out e s' → IsSoundWithoutCounts g s → IsSoundWith g s l → (place class : ℕ) (b : Block) → IsLive s place b
     → b.need ≡ Small class → IsLocated s at.desc (frame_of place) class → place ≢ pushed_place at i → IsTrue (is_bound g s' l at.desc)
-its-bound g s l caller at i stored a stays e s' h sound old place class b live of located ne = pushed-bound-here g s l caller at i stored a stays e s' h
-its-bound g s l caller at i stored a unfills e s' h sound old place class b live of located ne = pushed-bound-here g s l caller at i stored a unfills e s' h
+its-bound g s l caller at i stored a stays e s' h sound old place class b live of located ne = pushed-bound-here h
+its-bound g s l caller at i stored a unfills e s' h sound old place class b live of located ne = pushed-bound-here h
 its-bound g s l caller at i stored a empties e s' h sound old place class b live of located ne =
     absurd (no-other-live g s l caller at i stored a e s' h sound old place class b live of located ne)
 
@@ -115,47 +53,85 @@ pushed-frees stays at stored = refl
 pushed-frees unfills at stored = refl
 pushed-frees empties at stored = refl
 
--- the words still show the pool: only the freed block changes
-pub pushed-tied :
-    (g : Geometry) (s : State) (l : Lists) (caller : ℕ) (at : Site) (i : ℕ) (stored : Bool) (a : AnchorFields) (out : Outcome) (e : ErrandFields)
-    (s' : State) → Pushes g s l caller at i stored a out e s' → IsSoundWithoutCounts g s → IsSoundWith g s l → IsTied g s' l
-pushed-tied g s l caller at i stored a out e s' h sound old =
-    let gone = λ (place : ℕ) (b : Block) (same : place ≡ pushed_place at i) (live : IsLive s' place b).
-    not-live s' (pushed_place at i) place b (pushed-gone g s l caller at i stored a out e s' h sound) same live in
-    let owns =
-    bare-owns s' caller e.point
-    (record {
-      hands = ap (λ (o : Holding). o.hands) h.holds_after ∙ pushed-hands out at stored;
-      frees = ap (λ (o : Holding). o.frees) h.holds_after ∙ pushed-frees out at stored;
-    }) in
-    small-but g s l l caller at.seat.class (λ place. place ≡ pushed_place at i) e s'
-    (record {
-      moves = h.moves;
-      words = record {
-        arena = λ place. h.elsewhere (name.Arena place) (λ same. cc);
-        units = h.elsewhere name.Units (λ same. cc);
-        shelf = λ k. h.elsewhere (name.Shelf k) (λ same. cc);
-      };
-      either = λ place. cases_eq place (pushed_place at i);
-      there = pushed-there g s l caller at i stored a out e s' h;
-      before = λ place b same live.
-          let is = is-freed g s l caller at i stored a out e s' h place b live same in record { owner = is.0; need = is.1 };
-      after = λ place b same live. absurd (gone place b same live);
-      fresh = λ place k v b same live of. gone place b same live;
-      small = λ place c b same live of. absurd (gone place b same live);
-      bound = λ place c b d ne live of its. record {
-        exists = its.exists;
-        bound =
-            elim (cases_eq d at.desc) [
-              | inl same ↦
-                  subst (λ k. IsTrue (is_bound g s' l k)) (sym same)
-                  (its-bound g s l caller at i stored a out e s' h sound old place c b live of
-                  (subst (λ k. IsLocated s k (frame_of place) c) same its.located) ne)
-              | inr differ ↦ subst IsTrue (sym (pushed-bound g s l caller at i stored a out e s' h d differ)) its.bound
-            ];
-        located = located-stays s s' d (frame_of place) c (pushed-info g s l caller at i stored a out e s' h d) its.located;
-      };
-      excepts = pushed-excepts g s l caller at i stored a out e s' h;
-      hands = owns.0;
-      frees = owns.1;
-    }) old.tied
+module _
+    {g : Geometry} {s : State} {l : Lists} {caller : ℕ} {at : Site} {i : ℕ} {stored : Bool} {a : AnchorFields} {out : Outcome} {e : ErrandFields}
+    {s' : State} (h : Pushes g s l caller at i stored a out e s') where
+  -- who owns the freed block owns it, so its event is legal
+  pub pushed-legal : IsSoundWithoutCounts g s → IsLegalWithoutCounts g s'.history
+  pushed-legal sound =
+      subst (IsLegalWithoutCounts g) (sym h.history)
+      (EachAfter-push (IsLegalEventWithoutCounts g) s.history (Frees caller (pushed_place at i)) sound.legal
+      (h.in_heap, (h.owned.block.0, h.owned.block.1, h.owned.block.2)))
+
+  -- the freed block is its caller's, and small
+  pub is-freed : (place : ℕ) (b : Block) → IsLive s place b → place ≡ pushed_place at i → (b.owner ≡ Caller caller) × (b.need ≡ Small at.seat.class)
+  is-freed place b live same =
+      let is = one-live s (pushed_place at i) place h.owned.block.0 b h.owned.block.1 same live in
+      (ap (λ (x : Block). x.owner) (sym is) ∙ h.owned.block.2, ap (λ (x : Block). x.need) (sym is) ∙ h.owned.block.3)
+
+  -- another caller's block is elsewhere, and still its own
+  pub owned-elsewhere : (j place : ℕ) (n : Need) → j ≢ caller → IsOwned s j place n → place ≢ pushed_place at i
+  owned-elsewhere j place n ne k same =
+      let mine = is-freed place k.block.0 k.block.1 same in
+      let both : Caller j ≡ Caller caller = sym k.block.2 ∙ mine.0 in
+      ne (cc)
+
+  pub pushed-still-owned : (j place : ℕ) (n : Need) → j ≢ caller → IsOwned s j place n → IsOwned s' j place n
+  pushed-still-owned j place n ne k =
+      owned-stays s s' j place n
+      (λ b live.
+      pushed-there h place (owned-elsewhere j place n ne k) ∙ live) k
+
+  -- who pushes hands out nothing, and frees one block: it excepts no other one
+  pushed-excepts : (place : ℕ) → place ≢ pushed_place at i → Excepts (s.errand caller) place → Excepts e place
+  pushed-excepts place ne (inl some) =
+      absurd (any-none (λ x. x.place ≡ place) (subst (Any (λ x. x.place ≡ place)) (ap (λ (o : Holding). o.hands) h.holds_before) some))
+  pushed-excepts place ne (inr some) =
+      let its : Freed = record { place = pushed_place at i; need = Small at.seat.class; overwritten = true } in
+      let one =
+      any-one (λ (x : Freed). (x.place ≡ place) × IsTrue x.overwritten) its
+      (subst (Any (λ (x : Freed). (x.place ≡ place) × IsTrue x.overwritten)) (ap (λ (o : Holding). o.frees) h.holds_before) some) in
+      absurd (ne (sym one.0))
+
+  -- the words still show the pool: only the freed block changes
+  pub pushed-tied : IsSoundWithoutCounts g s → IsSoundWith g s l → IsTied g s' l
+  pushed-tied sound old =
+      let gone = λ (place : ℕ) (b : Block) (same : place ≡ pushed_place at i) (live : IsLive s' place b).
+      not-live s' (pushed_place at i) place b (pushed-gone h sound) same live in
+      let owns =
+      bare-owns s' caller e.point
+      (record {
+        hands = ap (λ (o : Holding). o.hands) h.holds_after ∙ pushed-hands out at stored;
+        frees = ap (λ (o : Holding). o.frees) h.holds_after ∙ pushed-frees out at stored;
+      }) in
+      small-but g s l l caller at.seat.class (λ place. place ≡ pushed_place at i) e s'
+      (record {
+        moves = h.moves;
+        words = record {
+          arena = λ place. h.elsewhere (name.Arena place) (λ same. cc);
+          units = h.elsewhere name.Units (λ same. cc);
+          shelf = λ k. h.elsewhere (name.Shelf k) (λ same. cc);
+        };
+        either = λ place. cases_eq place (pushed_place at i);
+        there = pushed-there h;
+        before = λ place b same live.
+            let is = is-freed place b live same in record { owner = is.0; need = is.1 };
+        after = λ place b same live. absurd (gone place b same live);
+        fresh = λ place k v b same live of. gone place b same live;
+        small = λ place c b same live of. absurd (gone place b same live);
+        bound = λ place c b d ne live of its. record {
+          exists = its.exists;
+          bound =
+              elim (cases_eq d at.desc) [
+                | inl same ↦
+                    subst (λ k. IsTrue (is_bound g s' l k)) (sym same)
+                    (its-bound g s l caller at i stored a out e s' h sound old place c b live of
+                    (subst (λ k. IsLocated s k (frame_of place) c) same its.located) ne)
+                | inr differ ↦ subst IsTrue (sym (pushed-bound h d differ)) its.bound
+              ];
+          located = located-stays s s' d (frame_of place) c (pushed-info h d) its.located;
+        };
+        excepts = pushed-excepts;
+        hands = owns.0;
+        frees = owns.1;
+      }) old.tied

@@ -3,38 +3,21 @@ use Rattle.std.proofs.Common.{ℕ, zero, suc, false, Some, ◌≡◌, ◌≢◌,
 use Rattle.std.specs.Prelude.{◌==◌, All, IsTrue, if◌then◌else◌}
 use Rattle.std.proofs.lemmas.Bool.{cond-true, cond-false, cases_eq}
 use Rattle.std.proofs.lemmas.List.Elements.{All-nil, All-cons, All-head}
-use Rattle.heap_geometry.specs.declared.geometry.Geometry.{Geometry}
-use Rattle.heap_geometry.specs.Geometry.{IsChecked}
-use Rattle.packed_words.specs.declared.active.ActiveWord.TheVariants.{Null, Held}
-use Rattle.packed_words.specs.Active.{IsActiveWord, active_word, active_of}
+use Rattle.sound_state.proofs.Common.{Geometry, IsChecked, Null, Held, active_word, active_of, Site, descriptor_count, SeatFields, active_name, Exists, Credit}
+use Rattle.sound_state.proofs.Common.{LastCredit, Continuation, Point, Block, At, event_of, next_of, plan_point_of, State, Step, Kept, holds_of, reserving, IsKeptAs}
+use Rattle.sound_state.proofs.Common.{word_keeps, Lists, IsSo, recalls_of, bound_for, IsSoundWithoutCounts, IsSoundWith, is_bound}
+use Rattle.packed_words.specs.Active.{IsActiveWord}
 use Rattle.packed_words.proofs.ActiveLemmas.{active-exact}
-use Rattle.word_plan.specs.declared.action.Action.TheVariants.{Cas}
-use Rattle.word_plan.specs.declared.seat.Site.{Site}
-use Rattle.word_plan.specs.Counts.{descriptor_count}
-use Rattle.word_plan.specs.Seats.{SeatFields, heap_of}
-use Rattle.word_plan.specs.Sites.{active_name}
-use Rattle.word_plan.specs.Table.{Exists}
+use Rattle.word_table.specs.declared.action.Action.TheVariants.{Cas}
+use Rattle.word_table.specs.Seats.{heap_of}
 use Rattle.superblock_parts.specs.declared.point.BlockPoint.TheVariants as block
-use Rattle.superblock_parts.specs.declared.point.Share.TheVariants.{Credit, LastCredit}
-use Rattle.errand_steps.specs.declared.continuation.Continuation.{Continuation}
-use Rattle.errand_steps.specs.declared.point.Point.{Point}
-use Rattle.errand_steps.specs.declared.point.Point.TheVariants.{Block}
-use Rattle.errand_steps.specs.declared.next.Next.TheVariants.{At}
-use Rattle.errand_steps.specs.Events.{event_of}
-use Rattle.errand_steps.specs.Nexts.{next_of}
-use Rattle.errand_steps.specs.Points.{plan_point_of}
-use Rattle.errand_steps.specs.Steps.{State, Step}
-use Rattle.sound_state.specs.Holdings.{Kept, holds_of, reserving}
-use Rattle.sound_state.specs.Keepers.{IsKeptAs, IsActive, word_keeps}
-use Rattle.sound_state.specs.Lists.{Lists}
-use Rattle.sound_state.specs.Recalls.{IsSo, recalls_of, bound_for}
-use Rattle.sound_state.specs.Sound.{IsSoundWithoutCounts, IsSoundWith}
-use Rattle.sound_state.specs.Superblocks.{is_bound}
+use Rattle.sound_state.specs.Keepers.{IsActive}
 use Rattle.sound_state.proofs.shared.PointLemmas.{alike-goes, fits-at, fits-now, so-at}
 use Rattle.sound_state.proofs.quiet.QuietExchanges.{lost-at}
 use Rattle.sound_state.proofs.quiet.QuietSteps.{leads-on}
 use Rattle.sound_state.proofs.shared.CreditLemmas.{actives-written, active-bound, word-keeps-away, won-at}
 use Rattle.sound_state.proofs.shared.WordFacts.{held-fits, held-said, held-not-zero, null-none, null-said, seat-active, held-desc}
+use Rattle.sound_state.proofs.shared.KeepsSound.{KeepsSound, KeepsSoundWhere}
 
 -- what was held in an active word that gives a credit
 credit-held :
@@ -58,11 +41,10 @@ credit-held g s l caller seat d credits o checked old has stands is =
 
 -- the last credit is taken: the word becomes null, and the caller keeps the descriptor
 take_credit-last :
-    (g : Geometry) (s : State) (caller : ℕ) (s' : State) (seat : SeatFields) (d : ℕ) (o : Continuation) → IsSoundWithoutCounts g s → caller < g.callers
-    → (s.errand caller).point ≡ Block (block.TakeCredit seat d 0) o → s.word (active_name seat) ≡ active_word (Held d 0) → Step s caller s'
-    → IsSoundWithoutCounts g s'
+    (seat : SeatFields) (d : ℕ) (o : Continuation)
+    → KeepsSoundWhere (Block (block.TakeCredit seat d 0) o) (λ s. s.word (active_name seat) ≡ active_word (Held d 0))
 unfolding plan_point_of next_of event_of holds_of recalls_of
-take_credit-last g s caller s' seat d o sound has stands is step =
+take_credit-last seat d o g s caller s' sound has stands is step =
     let p : Point = Block (block.TakeCredit seat d 0) o in
     let fit = credit-held g s sound.parts.0 caller seat d 0 o sound.checked sound.parts.1 has stands is in
     let null = null-said in
@@ -145,19 +127,18 @@ take_credit-more g s caller s' seat d credits o sound has stands is some_left st
 
 -- a credit is taken
 take_credit-won :
-    (g : Geometry) (s : State) (caller : ℕ) (s' : State) (seat : SeatFields) (d credits : ℕ) (o : Continuation) → IsSoundWithoutCounts g s → caller < g.callers
-    → (s.errand caller).point ≡ Block (block.TakeCredit seat d credits) o → s.word (active_name seat) ≡ active_word (Held d credits)
-    → Step s caller s' → IsSoundWithoutCounts g s'
-take_credit-won g s caller s' seat d zero o sound has stands is step = take_credit-last g s caller s' seat d o sound has stands is step
-take_credit-won g s caller s' seat d (suc left) o sound has stands is step = take_credit-more g s caller s' seat d (suc left) o sound has stands is (omega arith) step
+    (seat : SeatFields) (d credits : ℕ) (o : Continuation)
+    → KeepsSoundWhere (Block (block.TakeCredit seat d credits) o) (λ s. s.word (active_name seat) ≡ active_word (Held d credits))
+take_credit-won seat d zero o = take_credit-last seat d o
+take_credit-won seat d (suc left) o =
+    λ g s caller s' sound has stands is step.
+    take_credit-more g s caller s' seat d (suc left) o sound has stands is (omega arith) step
 
-pub take_credit-sound :
-    (g : Geometry) (s : State) (caller : ℕ) (s' : State) (seat : SeatFields) (d credits : ℕ) (o : Continuation) → IsSoundWithoutCounts g s → caller < g.callers
-    → (s.errand caller).point ≡ Block (block.TakeCredit seat d credits) o → Step s caller s' → IsSoundWithoutCounts g s'
+pub take_credit-sound : (seat : SeatFields) (d credits : ℕ) (o : Continuation) → KeepsSound (Block (block.TakeCredit seat d credits) o)
 unfolding plan_point_of next_of event_of holds_of recalls_of
-take_credit-sound g s caller s' seat d credits o sound has stands step =
+take_credit-sound seat d credits o g s caller s' sound has stands step =
     elim (cases_eq (s.word (active_name seat)) (active_word (Held d credits))) [
-      | inl is ↦ take_credit-won g s caller s' seat d credits o sound has stands is step
+      | inl is ↦ take_credit-won seat d credits o g s caller s' sound has stands is step
       | inr other ↦
           lost-at g s caller s' (Block (block.TakeCredit seat d credits) o) (active_name seat) _ _ sound has stands refl refl
           (leads-on g s caller _ _ 0 has stands (grind (arith))) other step
@@ -165,11 +146,10 @@ take_credit-sound g s caller s' seat d credits o sound has stands step =
 
 -- reserved blocks are offered: they and the descriptor go into the word
 install_credits-won :
-    (g : Geometry) (s : State) (caller : ℕ) (s' : State) (site : Site) (i more : ℕ) (o : Continuation) → IsSoundWithoutCounts g s → caller < g.callers
-    → (s.errand caller).point ≡ Block (block.InstallCredits site i more) o → s.word (active_name site.seat) ≡ active_word Null → Step s caller s'
-    → IsSoundWithoutCounts g s'
+    (site : Site) (i more : ℕ) (o : Continuation)
+    → KeepsSoundWhere (Block (block.InstallCredits site i more) o) (λ s. s.word (active_name site.seat) ≡ active_word Null)
 unfolding plan_point_of next_of event_of holds_of recalls_of
-install_credits-won g s caller s' site i more o sound has stands is step =
+install_credits-won site i more o g s caller s' sound has stands is step =
     let p : Point = Block (block.InstallCredits site i more) o in
     let d : ℕ = site.desc in
     let fit = (fits-now g s caller p sound has stands).point in
@@ -206,13 +186,11 @@ install_credits-won g s caller s' site i more o sound has stands is step =
     })
     is step
 
-pub install_credits-sound :
-    (g : Geometry) (s : State) (caller : ℕ) (s' : State) (site : Site) (i more : ℕ) (o : Continuation) → IsSoundWithoutCounts g s → caller < g.callers
-    → (s.errand caller).point ≡ Block (block.InstallCredits site i more) o → Step s caller s' → IsSoundWithoutCounts g s'
+pub install_credits-sound : (site : Site) (i more : ℕ) (o : Continuation) → KeepsSound (Block (block.InstallCredits site i more) o)
 unfolding plan_point_of next_of event_of holds_of recalls_of
-install_credits-sound g s caller s' site i more o sound has stands step =
+install_credits-sound site i more o g s caller s' sound has stands step =
     elim (cases_eq (s.word (active_name site.seat)) (active_word Null)) [
-      | inl is ↦ install_credits-won g s caller s' site i more o sound has stands is step
+      | inl is ↦ install_credits-won site i more o g s caller s' sound has stands is step
       | inr other ↦
           lost-at g s caller s' (Block (block.InstallCredits site i more) o) (active_name site.seat) _ _ sound has stands refl refl
           (leads-on g s caller _ _ 0 has stands (grind (arith))) other step

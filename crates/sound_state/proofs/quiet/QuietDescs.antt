@@ -1,44 +1,30 @@
 -- Steps at the available descriptors that keep the state sound.
-use Rattle.std.proofs.Common.{ℕ, Option, Some, None, ◌≡◌, ◌≢◌, ◌<◌, ◌+◌, [], ◌∷◌, refl, arith, sym}
-use Rattle.std.specs.Prelude.{All}
+use Rattle.std.proofs.Common.{ℕ, Option, Some, None, ◌≡◌, ◌≢◌, ◌<◌, ◌+◌, [], ◌∷◌, refl, arith, sym, All}
 use Rattle.std.proofs.lemmas.Bool.{ne_eqb}
 use Rattle.std.proofs.lemmas.List.Elements.{All-cons, All-tail}
-use Rattle.heap_geometry.specs.declared.geometry.Geometry.{Geometry}
-use Rattle.word_plan.specs.declared.name.WordName.TheVariants as name
-use Rattle.word_plan.specs.Seats.{SeatFields, desc_named}
-use Rattle.hazard_parts.specs.declared.point.DescPoint.{DescPoint}
+use Rattle.sound_state.proofs.Common.{Geometry, SeatFields, DescPoint, Continuation, At, Desc, event_of, next_of, plan_point_of, State, Step, holds_of, Lists}
+use Rattle.sound_state.proofs.Common.{recalls_of, IsSo, looked, noted, IsSoundWithoutCounts, IsSoundWith, waits_in}
+use Rattle.word_table.specs.declared.name.WordName.TheVariants as name
+use Rattle.word_table.specs.Seats.{desc_named}
 use Rattle.hazard_parts.specs.declared.point.DescPoint.TheVariants as desc
 use Rattle.hazard_parts.specs.Points.{link_in, after_head, after_next, after_top}
-use Rattle.errand_steps.specs.declared.continuation.Continuation.{Continuation}
-use Rattle.errand_steps.specs.declared.next.Next.TheVariants.{At}
-use Rattle.errand_steps.specs.declared.point.Point.TheVariants.{Desc}
-use Rattle.errand_steps.specs.Events.{event_of}
-use Rattle.errand_steps.specs.Nexts.{next_of, enter_desc}
-use Rattle.errand_steps.specs.Points.{plan_point_of}
-use Rattle.errand_steps.specs.Steps.{State, Step}
-use Rattle.sound_state.specs.Holdings.{holds_of}
-use Rattle.sound_state.specs.Lists.{Lists}
-use Rattle.sound_state.specs.Recalls.{recalls_of, IsSo, looked, noted}
-use Rattle.sound_state.specs.Sound.{IsSoundWithoutCounts, IsSoundWith}
-use Rattle.sound_state.specs.Stock.{waits_in}
 use Rattle.sound_state.proofs.quiet.QuietExchanges.{lost-at, lost-steady}
 use Rattle.sound_state.proofs.quiet.QuietSteps.{StepsSteadily, LeadsOn, LeadsQuietly, leads-on, quiet-at, steady-at}
 use Rattle.sound_state.proofs.shared.PointLemmas.{HoldsBlocks, blocks-go, none-kept-as, so-at, weigh-stays}
 use Rattle.sound_state.proofs.shared.WordFacts.{link-some}
+use Rattle.sound_state.proofs.shared.KeepsSound.{KeepsSound, KeepsSoundWhere}
 
 -- where the head leads
 head-leads :
-    (s : SeatFields) (o : Continuation) (d : Option ℕ) → LeadsOn (Desc (desc.LoadDescHead s) o) (enter_desc (after_head s d) o) 0
+    (s : SeatFields) (o : Continuation) (d : Option ℕ) → LeadsOn (Desc (desc.LoadDescHead s) o) (At (Desc (after_head s d) o)) 0
 unfolding holds_of recalls_of
 head-leads s o None = grind (arith)
 head-leads s o (Some d) = grind (arith)
 
 -- the load of the head, for a pop
-pub load_desc_head-sound :
-    (g : Geometry) (s : State) (caller : ℕ) (s' : State) (seat : SeatFields) (o : Continuation) → IsSoundWithoutCounts g s → caller < g.callers
-    → (s.errand caller).point ≡ Desc (desc.LoadDescHead seat) o → Step s caller s' → IsSoundWithoutCounts g s'
+pub load_desc_head-sound : (seat : SeatFields) (o : Continuation) → KeepsSound (Desc (desc.LoadDescHead seat) o)
 unfolding plan_point_of next_of event_of
-load_desc_head-sound g s caller s' seat o sound has stands step =
+load_desc_head-sound seat o g s caller s' sound has stands step =
     quiet-at g s caller s' (Desc (desc.LoadDescHead seat) o) sound has stands (record { event = refl; cleared = refl; word = refl })
     (leads-on g s caller _ _ 0 has stands (head-leads seat o (desc_named seat.geometry (s.word name.DescHead)))) step
 
@@ -46,7 +32,7 @@ load_desc_head-sound g s caller s' seat o sound has stands step =
 next-leads :
     (g : Geometry) (s : State) (caller : ℕ) (seat : SeatFields) (d : ℕ) (o : Continuation) (next : Option ℕ) → caller < g.callers
     → (s.errand caller).point ≡ Desc (desc.LoadNextDesc seat d) o → link_in seat.geometry (s.word (name.Next d)) ≡ next
-    → LeadsQuietly g s caller (Desc (desc.LoadNextDesc seat d) o) (enter_desc (after_next seat d next) o)
+    → LeadsQuietly g s caller (Desc (desc.LoadNextDesc seat d) o) (At (Desc (after_next seat d next) o))
 unfolding holds_of recalls_of
 next-leads g s caller seat d o None has stands is = leads-on g s caller _ _ 0 has stands (grind (arith))
 next-leads g s caller seat d o (Some next) has stands is = record {
@@ -58,11 +44,9 @@ next-leads g s caller seat d o (Some next) has stands is = record {
 }
 
 -- the load of that name
-pub load_next_desc-sound :
-    (g : Geometry) (s : State) (caller : ℕ) (s' : State) (seat : SeatFields) (d : ℕ) (o : Continuation) → IsSoundWithoutCounts g s → caller < g.callers
-    → (s.errand caller).point ≡ Desc (desc.LoadNextDesc seat d) o → Step s caller s' → IsSoundWithoutCounts g s'
+pub load_next_desc-sound : (seat : SeatFields) (d : ℕ) (o : Continuation) → KeepsSound (Desc (desc.LoadNextDesc seat d) o)
 unfolding plan_point_of next_of event_of
-load_next_desc-sound g s caller s' seat d o sound has stands step =
+load_next_desc-sound seat d o g s caller s' sound has stands step =
     quiet-at g s caller s' (Desc (desc.LoadNextDesc seat d) o) sound has stands (record { event = refl; cleared = refl; word = refl })
     (next-leads g s caller seat d o (link_in seat.geometry (s.word (name.Next d))) has stands refl) step
 
@@ -83,10 +67,9 @@ reads-again g s caller p seat o has stands blocks credits kept frames waits so =
 
 -- another descriptor is on top: the hazard word still names the one that was
 pub pop_desc_lost-sound :
-    (g : Geometry) (s : State) (caller : ℕ) (s' : State) (seat : SeatFields) (d next : ℕ) (o : Continuation) → IsSoundWithoutCounts g s → caller < g.callers
-    → (s.errand caller).point ≡ Desc (desc.PopDesc seat d next) o → s.word name.DescHead ≢ d + 1 → Step s caller s' → IsSoundWithoutCounts g s'
+    (seat : SeatFields) (d next : ℕ) (o : Continuation) → KeepsSoundWhere (Desc (desc.PopDesc seat d next) o) (λ s. s.word name.DescHead ≢ d + 1)
 unfolding plan_point_of next_of event_of holds_of recalls_of
-pop_desc_lost-sound g s caller s' seat d next o sound has stands lost step =
+pop_desc_lost-sound seat d next o g s caller s' sound has stands lost step =
     let p = desc.PopDesc seat d next in
     lost-steady g s caller s' (Desc p o) name.DescHead _ _ sound has stands refl refl
     (reads-again g s caller p seat o has stands (grind (arith)) refl refl refl (λ class. refl)
@@ -95,35 +78,31 @@ pop_desc_lost-sound g s caller s' seat d next o sound has stands lost step =
 -- where the head leads that is loaded for a push
 head-to-push-leads :
     (s : SeatFields) (d : ℕ) (o : Continuation) (top : Option ℕ)
-    → LeadsOn (Desc (desc.LoadHeadToPush s d) o) (enter_desc (after_top s d top) o) 0
+    → LeadsOn (Desc (desc.LoadHeadToPush s d) o) (At (Desc (after_top s d top) o)) 0
 unfolding holds_of recalls_of
 head-to-push-leads s d o None = grind (arith)
 head-to-push-leads s d o (Some top) = grind (arith)
 
 -- the load of the head, for a push
-pub load_head_to_push-sound :
-    (g : Geometry) (s : State) (caller : ℕ) (s' : State) (seat : SeatFields) (d : ℕ) (o : Continuation) → IsSoundWithoutCounts g s → caller < g.callers
-    → (s.errand caller).point ≡ Desc (desc.LoadHeadToPush seat d) o → Step s caller s' → IsSoundWithoutCounts g s'
+pub load_head_to_push-sound : (seat : SeatFields) (d : ℕ) (o : Continuation) → KeepsSound (Desc (desc.LoadHeadToPush seat d) o)
 unfolding plan_point_of next_of event_of
-load_head_to_push-sound g s caller s' seat d o sound has stands step =
+load_head_to_push-sound seat d o g s caller s' sound has stands step =
     quiet-at g s caller s' (Desc (desc.LoadHeadToPush seat d) o) sound has stands (record { event = refl; cleared = refl; word = refl })
     (leads-on g s caller _ _ 0 has stands (head-to-push-leads seat d o (link_in seat.geometry (s.word name.DescHead)))) step
 
 -- the head isn't what it was
 pub push_desc_lost-sound :
-    (g : Geometry) (s : State) (caller : ℕ) (s' : State) (seat : SeatFields) (d top : ℕ) (o : Continuation) → IsSoundWithoutCounts g s → caller < g.callers
-    → (s.errand caller).point ≡ Desc (desc.PushDesc seat d top) o → s.word name.DescHead ≢ top → Step s caller s' → IsSoundWithoutCounts g s'
+    (seat : SeatFields) (d top : ℕ) (o : Continuation) → KeepsSoundWhere (Desc (desc.PushDesc seat d top) o) (λ s. s.word name.DescHead ≢ top)
 unfolding plan_point_of next_of event_of holds_of recalls_of
-push_desc_lost-sound g s caller s' seat d top o sound has stands lost step =
+push_desc_lost-sound seat d top o g s caller s' sound has stands lost step =
     lost-at g s caller s' (Desc (desc.PushDesc seat d top) o) name.DescHead _ _ sound has stands refl refl
     (leads-on g s caller _ _ 1 has stands (grind (arith))) lost step
 
 -- the descriptor that the hazard word names isn't the top one any more
 pub reload_desc_head_other-sound :
-    (g : Geometry) (s : State) (caller : ℕ) (s' : State) (seat : SeatFields) (d : ℕ) (o : Continuation) → IsSoundWithoutCounts g s → caller < g.callers
-    → (s.errand caller).point ≡ Desc (desc.ReloadDescHead seat d) o → s.word name.DescHead ≢ d + 1 → Step s caller s' → IsSoundWithoutCounts g s'
+    (seat : SeatFields) (d : ℕ) (o : Continuation) → KeepsSoundWhere (Desc (desc.ReloadDescHead seat d) o) (λ s. s.word name.DescHead ≢ d + 1)
 unfolding plan_point_of next_of event_of holds_of recalls_of
-reload_desc_head_other-sound g s caller s' seat d o sound has stands other step =
+reload_desc_head_other-sound seat d o g s caller s' sound has stands other step =
     let no = ne_eqb (s.word name.DescHead) (d + 1) other in
     steady-at g s caller s' (Desc (desc.ReloadDescHead seat d) o) sound has stands (record { event = refl; cleared = refl; word = refl })
     (rw no (reads-again g s caller (desc.ReloadDescHead seat d) seat o has stands (grind (arith)) refl refl refl (λ class. refl)

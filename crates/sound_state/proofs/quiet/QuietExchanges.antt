@@ -1,30 +1,16 @@
 -- Exchanges that are lost: the word stays, and the caller reads again.
-use Rattle.std.proofs.Common.{ℕ, Bool, false, ◌≡◌, ◌≢◌, ◌<◌, refl, arith, ap, sym, subst, ◌∙◌, ne_eqb}
-use Rattle.std.specs.Prelude.{◌==◌}
+use Rattle.std.proofs.Common.{ℕ, Bool, false, ◌≡◌, ◌≢◌, ◌<◌, refl, arith, ap, sym, subst, ◌∙◌, ne_eqb, ◌==◌}
 use Rattle.std.proofs.lemmas.Bool.{cond-false}
-use Rattle.heap_geometry.specs.declared.geometry.Geometry.{Geometry}
-use Rattle.packed_words.specs.Anchor.{AnchorFields, anchor_word}
-use Rattle.word_plan.specs.declared.action.Action.TheVariants.{Cas}
-use Rattle.word_plan.specs.declared.name.WordName.{WordName}
-use Rattle.word_plan.specs.declared.name.WordName.TheVariants as name
-use Rattle.word_plan.specs.declared.seat.Site.{Site}
-use Rattle.word_plan.specs.Actions.{found_by, name_of}
+use Rattle.sound_state.proofs.Common.{Geometry, AnchorFields, anchor_word, WordName, Site, name_of, Share, Continuation, Point, Block, counts_cleared, event_of}
+use Rattle.sound_state.proofs.Common.{next_of, plan_point_of, State, Step, holds_of, recalls_of, IsSoundWithoutCounts}
+use Rattle.word_table.specs.declared.action.Action.TheVariants.{Cas}
+use Rattle.word_table.specs.declared.name.WordName.TheVariants as name
+use Rattle.word_table.specs.Actions.{found_by}
 use Rattle.superblock_parts.specs.declared.point.BlockPoint.TheVariants as block
-use Rattle.superblock_parts.specs.declared.point.Share.{Share}
-use Rattle.errand_steps.specs.declared.continuation.Continuation.{Continuation}
-use Rattle.errand_steps.specs.declared.point.Point.{Point}
-use Rattle.errand_steps.specs.declared.point.Point.TheVariants.{Block}
-use Rattle.errand_steps.specs.Errands.{counts_cleared}
-use Rattle.errand_steps.specs.Events.{event_of}
-use Rattle.errand_steps.specs.Nexts.{next_of}
-use Rattle.errand_steps.specs.Points.{plan_point_of}
-use Rattle.errand_steps.specs.Steps.{State, Step}
-use Rattle.sound_state.specs.Holdings.{holds_of}
-use Rattle.sound_state.specs.Recalls.{recalls_of}
-use Rattle.sound_state.specs.Sound.{IsSoundWithoutCounts}
 use Rattle.sound_state.proofs.quiet.QuietSteps.{StepsSteadily, LeadsQuietly, leads-on, quiet-steady, steady-at}
 use Rattle.sound_state.proofs.shared.CreditLemmas.{lost_with}
 use Rattle.sound_state.proofs.shared.StepLemmas.{found_from}
+use Rattle.sound_state.proofs.shared.KeepsSound.{KeepsSoundWhere}
 
 -- an exchange that is lost, and after which the caller weighs the same and may stand where it leads, keeps the state sound
 pub lost-steady :
@@ -54,30 +40,27 @@ lost-at g s caller s' p n expected new sound has stands plan cleared leads other
 
 -- a block is not popped
 pub pop_block-lost :
-    (g : Geometry) (s : State) (caller : ℕ) (s' : State) (site : Site) (share : Share) (a : AnchorFields) (prefix : ℕ) (o : Continuation)
-    → IsSoundWithoutCounts g s → caller < g.callers → (s.errand caller).point ≡ Block (block.PopBlock site share a prefix) o
-    → s.word (name.Anchor site.desc) ≢ anchor_word a → Step s caller s' → IsSoundWithoutCounts g s'
+    (site : Site) (share : Share) (a : AnchorFields) (prefix : ℕ) (o : Continuation)
+    → KeepsSoundWhere (Block (block.PopBlock site share a prefix) o) (λ s. s.word (name.Anchor site.desc) ≢ anchor_word a)
 unfolding plan_point_of next_of holds_of recalls_of
-pop_block-lost g s caller s' site share a prefix o sound has stands other step =
+pop_block-lost site share a prefix o g s caller s' sound has stands other step =
     lost-at g s caller s' (Block (block.PopBlock site share a prefix) o) (name.Anchor site.desc) _ _ sound has stands refl refl
     (leads-on g s caller _ _ 2 has stands (grind (arith))) other step
 
 -- reserved blocks are not given back
 pub return_credits-lost :
-    (g : Geometry) (s : State) (caller : ℕ) (s' : State) (site : Site) (i more : ℕ) (a : AnchorFields) (o : Continuation) → IsSoundWithoutCounts g s
-    → caller < g.callers → (s.errand caller).point ≡ Block (block.ReturnCredits site i more a) o
-    → s.word (name.Anchor site.desc) ≢ anchor_word a → Step s caller s' → IsSoundWithoutCounts g s'
+    (site : Site) (i more : ℕ) (a : AnchorFields) (o : Continuation)
+    → KeepsSoundWhere (Block (block.ReturnCredits site i more a) o) (λ s. s.word (name.Anchor site.desc) ≢ anchor_word a)
 unfolding plan_point_of next_of holds_of recalls_of
-return_credits-lost g s caller s' site i more a o sound has stands other step =
+return_credits-lost site i more a o g s caller s' sound has stands other step =
     lost-at g s caller s' (Block (block.ReturnCredits site i more a) o) (name.Anchor site.desc) _ _ sound has stands refl refl
     (leads-on g s caller _ _ 0 has stands (grind (arith))) other step
 
 -- a block is not pushed
 pub push_block-lost :
-    (g : Geometry) (s : State) (caller : ℕ) (s' : State) (site : Site) (i : ℕ) (a : AnchorFields) (stored : Bool) (heap : ℕ) (o : Continuation)
-    → IsSoundWithoutCounts g s → caller < g.callers → (s.errand caller).point ≡ Block (block.PushBlock site i a stored heap) o
-    → s.word (name.Anchor site.desc) ≢ anchor_word a → Step s caller s' → IsSoundWithoutCounts g s'
+    (site : Site) (i : ℕ) (a : AnchorFields) (stored : Bool) (heap : ℕ) (o : Continuation)
+    → KeepsSoundWhere (Block (block.PushBlock site i a stored heap) o) (λ s. s.word (name.Anchor site.desc) ≢ anchor_word a)
 unfolding plan_point_of next_of holds_of recalls_of
-push_block-lost g s caller s' site i a stored heap o sound has stands other step =
+push_block-lost site i a stored heap o g s caller s' sound has stands other step =
     lost-at g s caller s' (Block (block.PushBlock site i a stored heap) o) (name.Anchor site.desc) _ _ sound has stands refl refl
     (leads-on g s caller _ _ 1 has stands (grind (arith))) other step

@@ -1,19 +1,8 @@
 -- Points at which a caller holds the same: with a word that stays it weighs the same, and it may stand there.
-use Rattle.std.proofs.Common.{ℕ, ◌≡◌, ◌<◌, ap, sym, subst}
-use Rattle.std.specs.Prelude.{All, length}
-use Rattle.heap_geometry.specs.declared.geometry.Geometry.{Geometry}
-use Rattle.word_plan.specs.declared.name.WordName.{WordName}
-use Rattle.word_plan.specs.declared.name.WordName.TheVariants as name
-use Rattle.errand_steps.specs.declared.point.Point.{Point}
-use Rattle.errand_steps.specs.Fits.{spare_of, pushed_by}
-use Rattle.errand_steps.specs.Steps.{State}
-use Rattle.sound_state.specs.Guards.{IsHazard, IsGuard, passed_by, held_by}
-use Rattle.sound_state.specs.Holdings.{holds_of}
-use Rattle.sound_state.specs.Keepers.{IsKeptAs}
-use Rattle.sound_state.specs.Lists.{Lists}
-use Rattle.sound_state.specs.Recalls.{IsSo, IsOwned, recalls_of}
-use Rattle.sound_state.specs.Sound.{IsSoundWith}
-use Rattle.sound_state.specs.Stock.{waits_in}
+use Rattle.std.proofs.Common.{ℕ, ◌≡◌, ◌<◌, ap, sym, subst, All, length}
+use Rattle.sound_state.proofs.Common.{Geometry, WordName, Point, spare_of, pushed_by, State, IsHazard, IsGuard, passed_by, held_by, holds_of, IsKeptAs, Lists, IsSo}
+use Rattle.sound_state.proofs.Common.{IsOwned, recalls_of, IsSoundWith, waits_in}
+use Rattle.word_table.specs.declared.name.WordName.TheVariants as name
 use Rattle.sound_state.proofs.shared.PointLemmas.{WeighFrom, weigh-stays}
 use Rattle.sound_state.proofs.shared.StepLemmas.{PointGoes, TurnGoes, HoldsException}
 

@@ -1,42 +1,19 @@
 -- Steps that store what is to lie below an index that is about to be pushed.
-use Rattle.std.proofs.Common.{ℕ, Some, ◌≡◌, ◌≢◌, ◌<◌, ◌≤◌, ◌^◌, refl, arith, ap, sym, subst, inl, inr, ◌∙◌}
-use Rattle.std.specs.Prelude.{◌==◌, IfSome, Contains}
+use Rattle.std.proofs.Common.{ℕ, Some, ◌≡◌, ◌≢◌, ◌<◌, ◌≤◌, ◌^◌, refl, arith, ap, sym, subst, inl, inr, ◌∙◌, ◌==◌, IfSome, Contains}
 use Rattle.std.proofs.lemmas.Bool.{cases_eq, cond-true, eq-eqb}
 use Rattle.std.proofs.lemmas.List.Elements.{All-cons}
-use Rattle.heap_geometry.specs.declared.geometry.Geometry.{Geometry}
-use Rattle.heap_geometry.specs.declared.limits.TheConstants.{CLASSES}
-use Rattle.packed_words.specs.Head.{HeadFields}
-use Rattle.word_plan.specs.declared.name.WordName.{WordName}
-use Rattle.word_plan.specs.declared.name.WordName.TheVariants as name
-use Rattle.word_plan.specs.Actions.{name_of, after_action}
-use Rattle.word_plan.specs.Counts.{descriptor_count}
-use Rattle.word_plan.specs.Words.{Writes}
-use Rattle.word_plan.specs.Seats.{SeatFields}
-use Rattle.word_plan.proofs.NameLemmas.{cases_name}
-use Rattle.word_plan.proofs.CountLemmas.{descriptor_count_within}
-use Rattle.word_plan.specs.Occurs.{occurs}
-use Rattle.stack_parts.specs.declared.point.Pile.{Pile}
-use Rattle.stack_parts.specs.declared.point.Pile.TheVariants.{Frames, Partials}
+use Rattle.sound_state.proofs.Common.{Geometry, CLASSES, HeadFields, WordName, name_of, after_action, descriptor_count, Writes, SeatFields, cases_name, occurs, Pile}
+use Rattle.sound_state.proofs.Common.{Frames, Partials, next_name, Continuation, Point, Stack, Desc, pushed_by, ErrandFields, event_of, next_of, plan_point_of}
+use Rattle.sound_state.proofs.Common.{State, Step, errand_frames, partly_used, holds_of, errand_has, Lists, IsSo, recalls_of, says, IsSoundWithoutCounts}
+use Rattle.sound_state.proofs.Common.{IsSoundWith, callers_sum, kept_among}
+use Rattle.word_table.specs.declared.name.WordName.TheVariants as name
+use Rattle.word_table.proofs.CountLemmas.{descriptor_count_within}
 use Rattle.stack_parts.specs.declared.point.StackPoint.TheVariants as stack
-use Rattle.stack_parts.specs.Piles.{next_name, pile_limit}
+use Rattle.stack_parts.specs.Piles.{pile_limit}
 use Rattle.hazard_parts.specs.declared.point.DescPoint.TheVariants as desc
-use Rattle.errand_steps.specs.declared.continuation.Continuation.{Continuation}
-use Rattle.errand_steps.specs.declared.point.Point.{Point}
-use Rattle.errand_steps.specs.declared.point.Point.TheVariants.{Stack, Desc}
-use Rattle.errand_steps.specs.Fits.{pushed_by}
-use Rattle.errand_steps.specs.Errands.{ErrandFields, IsErrand}
-use Rattle.errand_steps.specs.Events.{event_of}
-use Rattle.errand_steps.specs.Nexts.{next_of}
-use Rattle.errand_steps.specs.Points.{plan_point_of}
-use Rattle.errand_steps.specs.Steps.{State, Step}
-use Rattle.sound_state.specs.Frames.{errand_frames}
-use Rattle.sound_state.specs.Holdings.{partly_used, pushed_too, holds_of}
-use Rattle.sound_state.specs.Keepers.{errand_has}
-use Rattle.sound_state.specs.Lists.{Lists}
-use Rattle.sound_state.specs.Recalls.{IsPlain, IsSo, recalls_of, resumed_recalls, tops_exist, says}
-use Rattle.sound_state.specs.Sound.{IsSoundWithoutCounts, IsSoundWith}
-use Rattle.sound_state.specs.Sums.{callers_sum}
-use Rattle.sound_state.specs.Superblocks.{kept_among}
+use Rattle.errand_steps.specs.Errands.{IsErrand}
+use Rattle.sound_state.specs.Holdings.{pushed_too}
+use Rattle.sound_state.specs.Recalls.{IsPlain, resumed_recalls, tops_exist}
 use Rattle.sound_state.proofs.shared.ListFacts.{contains-occurs}
 use Rattle.sound_state.proofs.stores.StoreFields.{IsLone, between, LoneKept}
 use Rattle.sound_state.proofs.stores.StoreReads.{IsLink, IsOfArena, IsOfDesc, lone-written, blocks-kept, places-stay, place-stays, IsLinkUnread, block-unread, place-unread, next-is_link, lone-kept}
@@ -44,6 +21,7 @@ use Rattle.sound_state.proofs.stores.StoreSteps.{store-sound}
 use Rattle.sound_state.proofs.shared.HasLemmas.{has-at, others-none}
 use Rattle.sound_state.proofs.shared.PointLemmas.{fits-at, so-at}
 use Rattle.sound_state.proofs.shared.SumLemmas.{term-sum}
+use Rattle.sound_state.proofs.shared.KeepsSound.{KeepsSound}
 
 -- who alone may store the link word: no list has the index, and no other caller has it
 abbrev pub IsUnlisted : Lists → WordName → Type 0
@@ -189,11 +167,9 @@ written-at s caller s' p stands step =
     stands step.word
 
 -- what is to lie below a descriptor that becomes available
-pub store_next_desc-sound :
-    (g : Geometry) (s : State) (caller : ℕ) (s' : State) (seat : SeatFields) (d top : ℕ) (o : Continuation) → IsSoundWithoutCounts g s → caller < g.callers
-    → (s.errand caller).point ≡ Desc (desc.StoreNextDesc seat d top) o → Step s caller s' → IsSoundWithoutCounts g s'
+pub store_next_desc-sound : (seat : SeatFields) (d top : ℕ) (o : Continuation) → KeepsSound (Desc (desc.StoreNextDesc seat d top) o)
 unfolding plan_point_of next_of event_of holds_of recalls_of
-store_next_desc-sound g s caller s' seat d top o sound has stands step =
+store_next_desc-sound seat d top o g s caller s' sound has stands step =
     let p = Desc (desc.StoreNextDesc seat d top) o in
     let q = Desc (desc.PushDesc seat d top) o in
     let w : Writes s.word (name.Next d) top s'.word = written-at s caller s' p stands step in
@@ -231,10 +207,9 @@ next-range g Partials i w most = most
 
 -- what is to lie below a frame or a partial superblock that is pushed
 pub store_below-sound :
-    (g : Geometry) (s : State) (caller : ℕ) (s' : State) (seat : SeatFields) (pile : Pile) (i : ℕ) (h : HeadFields) (o : Continuation) → IsSoundWithoutCounts g s
-    → caller < g.callers → (s.errand caller).point ≡ Stack (stack.StoreBelow seat pile i h) o → Step s caller s' → IsSoundWithoutCounts g s'
+    (seat : SeatFields) (pile : Pile) (i : ℕ) (h : HeadFields) (o : Continuation) → KeepsSound (Stack (stack.StoreBelow seat pile i h) o)
 unfolding plan_point_of next_of event_of holds_of recalls_of
-store_below-sound g s caller s' seat pile i h o sound has stands step =
+store_below-sound seat pile i h o g s caller s' sound has stands step =
     let p = Stack (stack.StoreBelow seat pile i h) o in
     let q = Stack (stack.PushTop seat pile i h) o in
     let n = next_name pile i in

@@ -4,63 +4,49 @@ use Rattle.std.specs.Prelude.{◌==◌, All, IsTrue}
 use Rattle.std.proofs.lemmas.Bool.{cond_both, cases_Bool, true≢false, ne_eqb, eq-eqb, cases_eq}
 use Rattle.std.proofs.lemmas.Bool.Decides.{nat_tests}
 use Rattle.std.proofs.lemmas.List.Elements.{All-nil, All-cons, All-tail}
-use Rattle.heap_geometry.specs.declared.geometry.Geometry.{Geometry}
-use Rattle.word_plan.specs.declared.name.WordName.TheVariants as name
-use Rattle.word_plan.specs.Counts.{descriptor_count}
-use Rattle.word_plan.specs.Words.{Writes}
-use Rattle.word_plan.proofs.CountLemmas.{descriptor_count_within}
-use Rattle.word_plan.specs.Seats.{SeatFields, heap_of, desc_named, info_in, anchor_in}
-use Rattle.word_plan.specs.Sites.{slot_name}
-use Rattle.heap_geometry.specs.Geometry.{IsChecked}
-use Rattle.heap_geometry.specs.declared.limits.TheConstants.{CLASSES}
-use Rattle.packed_words.specs.Anchor.{AnchorFields, anchor_word}
-use Rattle.packed_words.specs.Info.{InfoFields, info_of}
-use Rattle.word_plan.specs.declared.seat.Site.{Site}
-use Rattle.word_plan.specs.declared.name.WordName.{WordName}
-use Rattle.partial_parts.specs.declared.point.PartialPoint.{PartialPoint}
+use Rattle.sound_state.proofs.Common.{Geometry, descriptor_count, Writes, SeatFields, info_in, IsChecked, CLASSES, AnchorFields, anchor_word, info_of, Site}
+use Rattle.sound_state.proofs.Common.{WordName, PartialPoint, is_empty, Partials, Next, At, Continuation, ErrandFields, Partial, Stack, Desc, event_of, next_of}
+use Rattle.sound_state.proofs.Common.{plan_point_of, State, Step, Kept, holds_of, partly_used, IsKeptAs, IsPartlyUsed, Lists, recalls_of, IsSo, IsLocated, located}
+use Rattle.sound_state.proofs.Common.{emptied, IsSoundWithoutCounts, IsSoundWith, errand_keeps, kept_among, anchor_for, info_for, waits_in}
+use Rattle.word_table.specs.declared.name.WordName.TheVariants as name
+use Rattle.word_table.proofs.CountLemmas.{descriptor_count_within}
+use Rattle.word_table.specs.Seats.{heap_of, desc_named, anchor_in}
+use Rattle.word_table.specs.Sites.{slot_name}
+use Rattle.packed_words.specs.Info.{InfoFields}
+use Rattle.word_table.specs.declared.onward.Onward.{Onward}
+use Rattle.word_table.specs.declared.onward.Onward.TheVariants.{Stays, Leaves}
+use Rattle.partial_parts.specs.declared.exit.PartialExit.{PartialExit}
+use Rattle.partial_parts.specs.declared.exit.PartialExit.TheVariants as exit
 use Rattle.partial_parts.specs.declared.point.PartialPoint.TheVariants as partial
-use Rattle.partial_parts.specs.Grants.{is_empty}
 use Rattle.partial_parts.specs.Points.{after_slot, after_kept, after_taken_info, after_live, after_owner, slot_of, after_put}
-use Rattle.stack_parts.specs.declared.point.Pile.TheVariants.{Partials}
 use Rattle.stack_parts.specs.declared.point.StackPoint.TheVariants as stack
 use Rattle.hazard_parts.specs.declared.point.DescPoint.TheVariants as desc
 use Rattle.errand_steps.specs.Continuations.{fills}
-use Rattle.errand_steps.specs.declared.next.Next.{Next}
-use Rattle.errand_steps.specs.declared.next.Next.TheVariants.{At}
-use Rattle.errand_steps.specs.declared.continuation.Continuation.{Continuation}
 use Rattle.errand_steps.specs.declared.continuation.Continuation.TheVariants.{Alloc, Finish, GiveBlock, Free, Clear, ClearSecond, Retire}
-use Rattle.errand_steps.specs.Errands.{ErrandFields, point_after}
-use Rattle.errand_steps.specs.declared.point.Point.TheVariants.{Partial, Stack, Desc}
-use Rattle.errand_steps.specs.Events.{event_of}
-use Rattle.errand_steps.specs.Nexts.{next_of, enter_partial}
-use Rattle.errand_steps.specs.Points.{plan_point_of}
-use Rattle.errand_steps.specs.Steps.{State, Step}
-use Rattle.sound_state.specs.Holdings.{Kept, holds_of, continuation_holds, partly_used}
-use Rattle.sound_state.specs.Keepers.{IsKeptAs, IsPartlyUsed}
-use Rattle.sound_state.specs.Lists.{Lists}
-use Rattle.sound_state.specs.Recalls.{recalls_of, IsSo, IsEmptied, IsLocated, located, in_use, emptied}
-use Rattle.sound_state.specs.Sound.{IsSoundWithoutCounts, IsSoundWith}
-use Rattle.sound_state.specs.Superblocks.{errand_keeps, kept_among, anchor_for, info_for}
+use Rattle.errand_steps.specs.Errands.{point_after}
+use Rattle.errand_steps.specs.Nexts.{enter_partial, leave_partial}
+use Rattle.sound_state.specs.Holdings.{continuation_holds}
+use Rattle.sound_state.specs.Recalls.{IsEmptied, in_use}
 use Rattle.sound_state.proofs.quiet.QuietExchanges.{lost-at, lost-steady}
 use Rattle.sound_state.proofs.quiet.QuietPops.{anchor-said, info-said}
 use Rattle.sound_state.proofs.quiet.QuietSteps.{StepsSteadily, LeadsOn, LeadsQuietly, leads-on, quiet-at, steady-at}
-use Rattle.sound_state.specs.Stock.{waits_in}
 use Rattle.sound_state.proofs.shared.CreditLemmas.{won-at}
 use Rattle.sound_state.proofs.shared.PointLemmas.{HoldsAlike, HoldsBlocks, WeighFrom, alike-goes, blocks-go, fits-at, fits-now, kept-at, so-at, weigh-stays, step-from, slot-written, slot-emptied, keeps-too, none-kept-as, exists-at, keeps-alone}
 use Rattle.sound_state.proofs.shared.RecallEffects.{empty-is}
 use Rattle.sound_state.proofs.shared.ShownLemmas.{ActivesKept}
 use Rattle.sound_state.proofs.shared.StepLemmas.{LeadsOrEnds}
+use Rattle.sound_state.proofs.shared.KeepsSound.{KeepsSound, KeepsSoundWhere}
 
 -- where a slot leads
 kept-leads :
     (s : SeatFields) (need : ℕ) (d : Option ℕ)
-    → LeadsOn (Partial (partial.LoadSlot s) (Alloc need)) (enter_partial (after_kept s d) (Alloc need)) 0
+    → LeadsOn (Partial (partial.LoadSlot s) (Alloc need)) (At (Partial (after_kept s d) (Alloc need))) 0
 unfolding holds_of recalls_of
 kept-leads s need None = grind (arith)
 kept-leads s need (Some d) = grind (arith)
 
 empty-slot-leads :
-    (s : SeatFields) (need : ℕ) → LeadsOn (Partial (partial.LoadSlot s) (Alloc need)) (enter_partial (partial.SlotEmpty s) (Alloc need)) 0
+    (s : SeatFields) (need : ℕ) → LeadsOn (Partial (partial.LoadSlot s) (Alloc need)) (leave_partial (exit.SlotEmpty s) (Alloc need)) 0
 unfolding holds_of recalls_of
 empty-slot-leads s need = grind (arith)
 
@@ -68,25 +54,21 @@ slot-leads :
     (s : SeatFields) (need word : ℕ)
     → LeadsOn (Partial (partial.LoadSlot s) (Alloc need)) (enter_partial (after_slot s word) (Alloc need)) 0
 slot-leads s need word =
-    cond_both {A = PartialPoint} (word == 0) (partial.SlotEmpty s) (after_kept s (desc_named s.geometry word))
+    cond_both {A = Onward PartialPoint PartialExit} (word == 0) (Leaves (exit.SlotEmpty s)) (Stays (after_kept s (desc_named s.geometry word)))
     (λ p. LeadsOn (Partial (partial.LoadSlot s) (Alloc need)) (enter_partial p (Alloc need)) 0) (λ is. empty-slot-leads s need)
     (λ is. kept-leads s need (desc_named s.geometry word))
 
 -- the load of the slot
-pub load_slot-sound :
-    (g : Geometry) (s : State) (caller : ℕ) (s' : State) (seat : SeatFields) (need : ℕ) → IsSoundWithoutCounts g s → caller < g.callers
-    → (s.errand caller).point ≡ Partial (partial.LoadSlot seat) (Alloc need) → Step s caller s' → IsSoundWithoutCounts g s'
+pub load_slot-sound : (seat : SeatFields) (need : ℕ) → KeepsSound (Partial (partial.LoadSlot seat) (Alloc need))
 unfolding plan_point_of next_of event_of
-load_slot-sound g s caller s' seat need sound has stands step =
+load_slot-sound seat need g s caller s' sound has stands step =
     quiet-at g s caller s' (Partial (partial.LoadSlot seat) (Alloc need)) sound has stands (record { event = refl; cleared = refl; word = refl })
     (leads-on g s caller _ _ 0 has stands (slot-leads seat need (s.word (slot_name seat)))) step
 
 -- what stands in the slot is taken, and is the caller's then; or it isn't what it was
-pub take_slot-sound :
-    (g : Geometry) (s : State) (caller : ℕ) (s' : State) (seat : SeatFields) (d need : ℕ) → IsSoundWithoutCounts g s → caller < g.callers
-    → (s.errand caller).point ≡ Partial (partial.TakeSlot seat d) (Alloc need) → Step s caller s' → IsSoundWithoutCounts g s'
+pub take_slot-sound : (seat : SeatFields) (d need : ℕ) → KeepsSound (Partial (partial.TakeSlot seat d) (Alloc need))
 unfolding plan_point_of next_of event_of holds_of recalls_of
-take_slot-sound g s caller s' seat d need sound has stands step =
+take_slot-sound seat d need g s caller s' sound has stands step =
     elim (cases_eq (s.word (slot_name seat)) (d + 1)) [
       | inl there ↦
           let p = Partial (partial.TakeSlot seat d) (Alloc need) in
@@ -116,7 +98,7 @@ take_slot-sound g s caller s' seat d need sound has stands step =
 taken_info-leads :
     (g : Geometry) (s : State) (caller : ℕ) (seat : SeatFields) (d need : ℕ) (i : Option InfoFields) → caller < g.callers
     → (s.errand caller).point ≡ Partial (partial.LoadTakenInfo seat d) (Alloc need) → info_in seat.geometry (s.word (name.Info d)) ≡ i
-    → LeadsQuietly g s caller (Partial (partial.LoadTakenInfo seat d) (Alloc need)) (enter_partial (after_taken_info seat d i) (Alloc need))
+    → LeadsQuietly g s caller (Partial (partial.LoadTakenInfo seat d) (Alloc need)) (At (Partial (after_taken_info seat d i) (Alloc need)))
 unfolding holds_of recalls_of
 taken_info-leads g s caller seat d need None has stands is = leads-on g s caller _ _ 0 has stands (grind (arith))
 taken_info-leads g s caller seat d need (Some info) has stands is = record {
@@ -131,11 +113,9 @@ taken_info-leads g s caller seat d need (Some info) has stands is = record {
 }
 
 -- the load of its word
-pub load_taken_info-sound :
-    (g : Geometry) (s : State) (caller : ℕ) (s' : State) (seat : SeatFields) (d need : ℕ) → IsSoundWithoutCounts g s → caller < g.callers
-    → (s.errand caller).point ≡ Partial (partial.LoadTakenInfo seat d) (Alloc need) → Step s caller s' → IsSoundWithoutCounts g s'
+pub load_taken_info-sound : (seat : SeatFields) (d need : ℕ) → KeepsSound (Partial (partial.LoadTakenInfo seat d) (Alloc need))
 unfolding plan_point_of next_of event_of
-load_taken_info-sound g s caller s' seat d need sound has stands step =
+load_taken_info-sound seat d need g s caller s' sound has stands step =
     quiet-at g s caller s' (Partial (partial.LoadTakenInfo seat d) (Alloc need)) sound has stands (record { event = refl; cleared = refl; word = refl })
     (taken_info-leads g s caller seat d need (info_in seat.geometry (s.word (name.Info d))) has stands refl) step
 
@@ -144,7 +124,7 @@ live-leads :
     (g : Geometry) (s : State) (caller : ℕ) (site : Site) (need : ℕ) (a : Option AnchorFields) → caller < g.callers
     → (s.errand caller).point ≡ Partial (partial.LoadGrantAnchor site) (Alloc need) → anchor_in site.seat.class (s.word (name.Anchor site.desc)) ≡ a
     → is_empty (anchor_for s site.desc).state ≡ false → LeadsQuietly g s caller (Partial (partial.LoadGrantAnchor site) (Alloc need))
-    (enter_partial (after_live site a) (Alloc need))
+    (At (Partial (after_live site a) (Alloc need)))
 unfolding holds_of recalls_of
 live-leads g s caller site need None has stands is used = leads-on g s caller _ _ 0 has stands (grind (arith))
 live-leads g s caller site need (Some a) has stands is used = record {
@@ -159,48 +139,42 @@ live-leads g s caller site need (Some a) has stands is used = record {
 
 -- the load of the anchor, where it isn't EMPTY
 pub load_grant_anchor-sound :
-    (g : Geometry) (s : State) (caller : ℕ) (s' : State) (site : Site) (need : ℕ) → IsSoundWithoutCounts g s → caller < g.callers
-    → (s.errand caller).point ≡ Partial (partial.LoadGrantAnchor site) (Alloc need) → is_empty (anchor_for s site.desc).state ≡ false
-    → Step s caller s' → IsSoundWithoutCounts g s'
+    (site : Site) (need : ℕ)
+    → KeepsSoundWhere (Partial (partial.LoadGrantAnchor site) (Alloc need)) (λ s. is_empty (anchor_for s site.desc).state ≡ false)
 unfolding plan_point_of next_of event_of
-load_grant_anchor-sound g s caller s' site need sound has stands used step =
+load_grant_anchor-sound site need g s caller s' sound has stands used step =
     quiet-at g s caller s' (Partial (partial.LoadGrantAnchor site) (Alloc need)) sound has stands (record { event = refl; cleared = used; word = refl })
     (rw used (live-leads g s caller site need (anchor_in site.seat.class (s.word (name.Anchor site.desc))) has stands refl used)) step
 
 -- its anchor isn't what it was
 pub grant_lost-sound :
-    (g : Geometry) (s : State) (caller : ℕ) (s' : State) (site : Site) (a : AnchorFields) (need : ℕ) → IsSoundWithoutCounts g s → caller < g.callers
-    → (s.errand caller).point ≡ Partial (partial.Grant site a) (Alloc need) → s.word (name.Anchor site.desc) ≢ anchor_word a → Step s caller s'
-    → IsSoundWithoutCounts g s'
+    (site : Site) (a : AnchorFields) (need : ℕ)
+    → KeepsSoundWhere (Partial (partial.Grant site a) (Alloc need)) (λ s. s.word (name.Anchor site.desc) ≢ anchor_word a)
 unfolding plan_point_of next_of event_of holds_of recalls_of
-grant_lost-sound g s caller s' site a need sound has stands lost step =
+grant_lost-sound site a need g s caller s' sound has stands lost step =
     lost-at g s caller s' (Partial (partial.Grant site a) (Alloc need)) (name.Anchor site.desc) _ _ sound has stands refl refl
     (leads-on g s caller _ _ 1 has stands (grind (arith))) lost step
 
 -- where the word of a descriptor leads whose superblock became partial
 partial-owner-leads :
     (s : SeatFields) (d : ℕ) (stored : Bool) (i : Option InfoFields)
-    → LeadsOn (Partial (partial.LoadOwner s d) (Finish stored)) (enter_partial (after_owner s d i) (Finish stored)) 0
+    → LeadsOn (Partial (partial.LoadOwner s d) (Finish stored)) (At (Partial (after_owner s d i) (Finish stored))) 0
 unfolding holds_of recalls_of
 partial-owner-leads s d stored None = grind (arith)
 partial-owner-leads s d stored (Some info) = grind (arith)
 
 -- the load of its word
-pub load_partial_owner-sound :
-    (g : Geometry) (s : State) (caller : ℕ) (s' : State) (seat : SeatFields) (d : ℕ) (stored : Bool) → IsSoundWithoutCounts g s → caller < g.callers
-    → (s.errand caller).point ≡ Partial (partial.LoadOwner seat d) (Finish stored) → Step s caller s' → IsSoundWithoutCounts g s'
+pub load_partial_owner-sound : (seat : SeatFields) (d : ℕ) (stored : Bool) → KeepsSound (Partial (partial.LoadOwner seat d) (Finish stored))
 unfolding plan_point_of next_of event_of
-load_partial_owner-sound g s caller s' seat d stored sound has stands step =
+load_partial_owner-sound seat d stored g s caller s' sound has stands step =
     quiet-at g s caller s' (Partial (partial.LoadOwner seat d) (Finish stored)) sound has stands (record { event = refl; cleared = refl; word = refl })
     (leads-on g s caller _ _ 0 has stands (partial-owner-leads seat d stored (info_in seat.geometry (s.word (name.Info d))))) step
 
 -- the first superblock from the list isn't EMPTY
 pub load_first_listed-sound :
-    (g : Geometry) (s : State) (caller : ℕ) (s' : State) (seat : SeatFields) (d : ℕ) → IsSoundWithoutCounts g s → caller < g.callers
-    → (s.errand caller).point ≡ Partial (partial.LoadListedAnchor seat d) Clear → is_empty (anchor_for s d).state ≡ false → Step s caller s'
-    → IsSoundWithoutCounts g s'
+    (seat : SeatFields) (d : ℕ) → KeepsSoundWhere (Partial (partial.LoadListedAnchor seat d) Clear) (λ s. is_empty (anchor_for s d).state ≡ false)
 unfolding plan_point_of next_of event_of holds_of recalls_of
-load_first_listed-sound g s caller s' seat d sound has stands used step =
+load_first_listed-sound seat d g s caller s' sound has stands used step =
     quiet-at g s caller s' (Partial (partial.LoadListedAnchor seat d) Clear) sound has stands (record { event = refl; cleared = refl; word = refl })
     (rw used (leads-on g s caller _ _ 0 has stands (grind (arith)))) step
 
@@ -223,11 +197,9 @@ elsewhere-goes g s caller p seat d has stands same blocks waits = record {
 }
 
 -- whether the superblock that became EMPTY stands in the slot
-pub load_held_slot-sound :
-    (g : Geometry) (s : State) (caller : ℕ) (s' : State) (seat : SeatFields) (d heap : ℕ) → IsSoundWithoutCounts g s → caller < g.callers
-    → (s.errand caller).point ≡ Partial (partial.LoadHeldSlot seat d heap) Free → Step s caller s' → IsSoundWithoutCounts g s'
+pub load_held_slot-sound : (seat : SeatFields) (d heap : ℕ) → KeepsSound (Partial (partial.LoadHeldSlot seat d heap) Free)
 unfolding plan_point_of next_of event_of holds_of recalls_of
-load_held_slot-sound g s caller s' seat d heap sound has stands step =
+load_held_slot-sound seat d heap g s caller s' sound has stands step =
     elim (cases_eq (s.word (slot_of seat heap)) (d + 1)) [
       | inl there ↦
           let yes = eq-eqb (s.word (slot_of seat heap)) (d + 1) there in
@@ -241,11 +213,9 @@ load_held_slot-sound g s caller s' seat d heap sound has stands step =
     ]
 
 -- it is removed from there, and is the caller's then; or it isn't there any more
-pub remove_from_slot-sound :
-    (g : Geometry) (s : State) (caller : ℕ) (s' : State) (seat : SeatFields) (d heap : ℕ) → IsSoundWithoutCounts g s → caller < g.callers
-    → (s.errand caller).point ≡ Partial (partial.RemoveFromSlot seat d heap) Free → Step s caller s' → IsSoundWithoutCounts g s'
+pub remove_from_slot-sound : (seat : SeatFields) (d heap : ℕ) → KeepsSound (Partial (partial.RemoveFromSlot seat d heap) Free)
 unfolding plan_point_of next_of event_of holds_of recalls_of
-remove_from_slot-sound g s caller s' seat d heap sound has stands step =
+remove_from_slot-sound seat d heap g s caller s' sound has stands step =
     elim (cases_eq (s.word (slot_of seat heap)) (d + 1)) [
       | inl there ↦
           let p = Partial (partial.RemoveFromSlot seat d heap) Free in
@@ -302,7 +272,7 @@ record FillsSlot (seat : SeatFields) (d heap : ℕ) (o : Continuation) (n : Next
 
 -- the caller gives its block, or the free finishes: it ends where it stored no hazard word
 filled-leads :
-    (seat : SeatFields) (d heap : ℕ) (o : Continuation) → IsTrue (fills o) → FillsSlot seat d heap o (enter_partial (partial.SlotFilled seat) o)
+    (seat : SeatFields) (d heap : ℕ) (o : Continuation) → IsTrue (fills o) → FillsSlot seat d heap o (leave_partial (exit.SlotFilled seat) o)
 unfolding holds_of recalls_of
 filled-leads seat d heap (GiveBlock need e frame i) is = grind (arith)
 filled-leads seat d heap (Finish true) is = grind (arith)
@@ -311,13 +281,13 @@ filled-leads seat d heap o is = absurd (true≢false (sym is))
 
 -- so the state stays sound where the slot was empty
 put_slot_filled-sound :
-    (g : Geometry) (s : State) (caller : ℕ) (s' : State) (seat : SeatFields) (d heap : ℕ) (o : Continuation) → IsSoundWithoutCounts g s → caller < g.callers
-    → (s.errand caller).point ≡ Partial (partial.PutSlot seat d heap) o → s.word (slot_of seat heap) ≡ 0 → Step s caller s' → IsSoundWithoutCounts g s'
+    (seat : SeatFields) (d heap : ℕ) (o : Continuation)
+    → KeepsSoundWhere (Partial (partial.PutSlot seat d heap) o) (λ s. s.word (slot_of seat heap) ≡ 0)
 unfolding plan_point_of next_of event_of
-put_slot_filled-sound g s caller s' seat d heap o sound has stands bare step =
+put_slot_filled-sound seat d heap o g s caller s' sound has stands bare step =
     let p = Partial (partial.PutSlot seat d heap) o in
     let fills = filled-leads seat d heap o (fits-now g s caller p sound has stands).goes in
-    step-from g s caller s' p (enter_partial (partial.SlotFilled seat) o) fills.plain sound has stands
+    step-from g s caller s' p (leave_partial (exit.SlotFilled seat) o) fills.plain sound has stands
     (λ l old. record {
       next = rw bare refl;
       event = refl;
@@ -334,15 +304,14 @@ put_slot_filled-sound g s caller s' seat d heap o sound has stands bare step =
 -- another one stood there, which is the caller's now
 displaced-next :
     (g : Geometry) (seat : SeatFields) (d heap other : ℕ) → seat.geometry ≡ g → other < descriptor_count g
-    → after_put seat d heap (other + 1) ≡ partial.Displaced seat other
+    → after_put seat d heap (other + 1) ≡ Leaves (exit.Displaced seat other)
 displaced-next g seat d heap other same within = grind (arith, nat_tests)
 
 put_slot_displaced-sound :
-    (g : Geometry) (s : State) (caller : ℕ) (s' : State) (seat : SeatFields) (d heap other : ℕ) (o : Continuation) → IsSoundWithoutCounts g s → caller < g.callers
-    → (s.errand caller).point ≡ Partial (partial.PutSlot seat d heap) o → s.word (slot_of seat heap) ≡ other + 1 → Step s caller s'
-    → IsSoundWithoutCounts g s'
+    (seat : SeatFields) (d heap other : ℕ) (o : Continuation)
+    → KeepsSoundWhere (Partial (partial.PutSlot seat d heap) o) (λ s. s.word (slot_of seat heap) ≡ other + 1)
 unfolding plan_point_of next_of event_of holds_of recalls_of
-put_slot_displaced-sound g s caller s' seat d heap other o sound has stands there step =
+put_slot_displaced-sound seat d heap other o g s caller s' sound has stands there step =
     let p = Partial (partial.PutSlot seat d heap) o in
     let exists : (heap < g.heaps) × (seat.class < CLASSES) = exists-at g s caller p sound has stands in
     step-from g s caller s' p (At (Stack (stack.LoadTopToPush seat Partials other) o)) tt sound has stands
@@ -366,13 +335,11 @@ put_slot_displaced-sound g s caller s' seat d heap other o sound has stands ther
     step
 
 -- a superblock is put into a slot
-pub put_slot-sound :
-    (g : Geometry) (s : State) (caller : ℕ) (s' : State) (seat : SeatFields) (d heap : ℕ) (o : Continuation) → IsSoundWithoutCounts g s → caller < g.callers
-    → (s.errand caller).point ≡ Partial (partial.PutSlot seat d heap) o → Step s caller s' → IsSoundWithoutCounts g s'
-put_slot-sound g s caller s' seat d heap o sound has stands step =
+pub put_slot-sound : (seat : SeatFields) (d heap : ℕ) (o : Continuation) → KeepsSound (Partial (partial.PutSlot seat d heap) o)
+put_slot-sound seat d heap o g s caller s' sound has stands step =
     elim (cases_eq (s.word (slot_of seat heap)) 0) [
-      | inl bare ↦ put_slot_filled-sound g s caller s' seat d heap o sound has stands bare step
-      | inr held ↦ put_slot_displaced-sound g s caller s' seat d heap (s.word (slot_of seat heap) - 1) o sound has stands (omega (arith, held)) step
+      | inl bare ↦ put_slot_filled-sound seat d heap o g s caller s' sound has stands bare step
+      | inr held ↦ put_slot_displaced-sound seat d heap (s.word (slot_of seat heap) - 1) o g s caller s' sound has stands (omega (arith, held)) step
     ]
 
 -- the second superblock from the list is EMPTY: it is kept until the first one stands on the list again
@@ -401,11 +368,9 @@ keeps-listed e seat d first stands =
     (rw (eq-eqb d d refl) (omega arith))
 
 -- the second superblock from the list is EMPTY and is kept until the first one stands on the list again, or it isn't
-pub load_second-sound :
-    (g : Geometry) (s : State) (caller : ℕ) (s' : State) (seat : SeatFields) (d first : ℕ) → IsSoundWithoutCounts g s → caller < g.callers
-    → (s.errand caller).point ≡ Partial (partial.LoadListedAnchor seat d) (ClearSecond first) → Step s caller s' → IsSoundWithoutCounts g s'
+pub load_second-sound : (seat : SeatFields) (d first : ℕ) → KeepsSound (Partial (partial.LoadListedAnchor seat d) (ClearSecond first))
 unfolding plan_point_of next_of event_of holds_of recalls_of
-load_second-sound g s caller s' seat d first sound has stands step =
+load_second-sound seat d first g s caller s' sound has stands step =
     elim (cases_Bool (is_empty (anchor_for s d).state)) [
       | inl bare ↦
           let p = Partial (partial.LoadListedAnchor seat d) (ClearSecond first) in

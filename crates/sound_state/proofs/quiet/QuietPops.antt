@@ -1,34 +1,22 @@
 -- Loads on the way to a pop, and to the return of reserved blocks.
 use Rattle.std.proofs.Common.{ℕ, Option, Some, None, ◌≡◌, ◌<◌, ◌+◌, ◌-◌, [], ◌∷◌, refl, arith, ap, sym, subst}
 use Rattle.std.proofs.lemmas.List.Elements.{All-nil, All-cons, All-head, All-tail}
-use Rattle.heap_geometry.specs.declared.geometry.Geometry.{Geometry}
-use Rattle.packed_words.specs.Anchor.{AnchorFields, anchor_of}
-use Rattle.packed_words.specs.Info.{InfoFields, info_of}
-use Rattle.word_plan.specs.declared.name.WordName.TheVariants as name
-use Rattle.word_plan.specs.declared.seat.Site.{Site}
-use Rattle.word_plan.specs.Seats.{SeatFields, info_in, info_within, anchor_in}
-use Rattle.word_plan.specs.Occurs.{occurs}
-use Rattle.superblock_parts.specs.Chains.{chain_of, prefix_name}
+use Rattle.sound_state.proofs.Common.{Geometry, AnchorFields, anchor_of, info_of, Site, SeatFields, info_in, occurs, prefix_name, Share, Credit, LastCredit, Grant}
+use Rattle.sound_state.proofs.Common.{Continuation, At, Point, Block, event_of, next_of, plan_point_of, State, Step, holds_of, holds_before_pop, IsSo, IsLocated}
+use Rattle.sound_state.proofs.Common.{recalls_of, bound_for, bound_at, bound_here, pops, links, IsSoundWithoutCounts, callers_sum, info_for, info_or_zero}
+use Rattle.sound_state.proofs.Common.{anchor_for, superblock_of, free_chain, reserved_of, reserved_among, errand_reserves}
+use Rattle.packed_words.specs.Info.{InfoFields}
+use Rattle.word_table.specs.declared.name.WordName.TheVariants as name
+use Rattle.word_table.specs.Seats.{info_within, anchor_in}
+use Rattle.superblock_parts.specs.Chains.{chain_of}
 use Rattle.superblock_parts.specs.declared.point.BlockPoint.TheVariants as block
-use Rattle.superblock_parts.specs.declared.point.Share.{Share}
-use Rattle.superblock_parts.specs.declared.point.Share.TheVariants.{Credit, LastCredit, Grant}
 use Rattle.superblock_parts.specs.Points.{after_info, after_anchor, after_return_anchor}
 use Rattle.superblock_parts.proofs.ChainLemmas.{chain_of-first, occurs-here}
-use Rattle.errand_steps.specs.declared.continuation.Continuation.{Continuation}
-use Rattle.errand_steps.specs.declared.point.Point.{Point}
-use Rattle.errand_steps.specs.declared.point.Point.TheVariants.{Block}
-use Rattle.errand_steps.specs.Events.{event_of}
-use Rattle.errand_steps.specs.Nexts.{next_of, enter_block}
-use Rattle.errand_steps.specs.Points.{plan_point_of}
-use Rattle.errand_steps.specs.Steps.{State, Step}
-use Rattle.sound_state.specs.Holdings.{holds_of, holds_before_pop}
-use Rattle.sound_state.specs.Recalls.{IsSo, IsLocated, IsPopped, recalls_of, bound_for, bound_at, bound_here, pops, links}
-use Rattle.sound_state.specs.Sound.{IsSoundWithoutCounts}
-use Rattle.sound_state.specs.Sums.{callers_sum}
-use Rattle.sound_state.specs.Superblocks.{info_for, info_or_zero, anchor_for, superblock_of, free_chain, reserved_of, reserved_among, errand_reserves}
+use Rattle.sound_state.specs.Recalls.{IsPopped}
 use Rattle.sound_state.proofs.shared.PointLemmas.{so-at}
 use Rattle.sound_state.proofs.quiet.QuietSteps.{LeadsOn, LeadsQuietly, leads-on, quiet-at}
 use Rattle.sound_state.proofs.shared.SumLemmas.{term-sum}
+use Rattle.sound_state.proofs.shared.KeepsSound.{KeepsSound}
 
 -- a descriptor's word that the heap has is what it says
 pub info-said : (g : Geometry) (o : Option InfoFields) (info : InfoFields) → info_within g o ≡ Some info → info_or_zero o ≡ info
@@ -39,7 +27,7 @@ info-said g (Some i) info is = grind (arith)
 info-leads :
     (g : Geometry) (s : State) (caller : ℕ) (seat : SeatFields) (d : ℕ) (share : Share) (o : Continuation) (said : Option InfoFields) → caller < g.callers
     → (s.errand caller).point ≡ Block (block.LoadInfo seat d share) o → info_in seat.geometry (s.word (name.Info d)) ≡ said
-    → LeadsQuietly g s caller (Block (block.LoadInfo seat d share) o) (enter_block (after_info seat d share said) o)
+    → LeadsQuietly g s caller (Block (block.LoadInfo seat d share) o) (At (Block (after_info seat d share said) o))
 unfolding holds_of recalls_of
 info-leads g s caller seat d share o None has stands is = leads-on g s caller _ _ 0 has stands (grind (arith))
 info-leads g s caller seat d share o (Some info) has stands is = record {
@@ -53,11 +41,9 @@ info-leads g s caller seat d share o (Some info) has stands is = record {
 }
 
 -- the load of a descriptor's word
-pub load_info-sound :
-    (g : Geometry) (s : State) (caller : ℕ) (s' : State) (seat : SeatFields) (d : ℕ) (share : Share) (o : Continuation) → IsSoundWithoutCounts g s
-    → caller < g.callers → (s.errand caller).point ≡ Block (block.LoadInfo seat d share) o → Step s caller s' → IsSoundWithoutCounts g s'
+pub load_info-sound : (seat : SeatFields) (d : ℕ) (share : Share) (o : Continuation) → KeepsSound (Block (block.LoadInfo seat d share) o)
 unfolding plan_point_of next_of event_of
-load_info-sound g s caller s' seat d share o sound has stands step =
+load_info-sound seat d share o g s caller s' sound has stands step =
     quiet-at g s caller s' (Block (block.LoadInfo seat d share) o) sound has stands (record { event = refl; cleared = refl; word = refl })
     (info-leads g s caller seat d share o (info_in seat.geometry (s.word (name.Info d))) has stands refl) step
 
@@ -93,7 +79,7 @@ anchor-said class word a is = grind (arith, is)
 anchor-leads :
     (g : Geometry) (s : State) (caller : ℕ) (site : Site) (share : Share) (o : Continuation) (said : Option AnchorFields) → caller < g.callers
     → (s.errand caller).point ≡ Block (block.LoadAnchor site share) o → anchor_in site.seat.class (s.word (name.Anchor site.desc)) ≡ said
-    → LeadsQuietly g s caller (Block (block.LoadAnchor site share) o) (enter_block (after_anchor site share said) o)
+    → LeadsQuietly g s caller (Block (block.LoadAnchor site share) o) (At (Block (after_anchor site share said) o))
 unfolding holds_of recalls_of
 anchor-leads g s caller site share o None has stands is = leads-on g s caller _ _ 0 has stands (grind (arith))
 anchor-leads g s caller site share o (Some a) has stands is = record {
@@ -109,20 +95,16 @@ anchor-leads g s caller site share o (Some a) has stands is = record {
 }
 
 -- the load of an anchor for a pop
-pub load_anchor-sound :
-    (g : Geometry) (s : State) (caller : ℕ) (s' : State) (site : Site) (share : Share) (o : Continuation) → IsSoundWithoutCounts g s → caller < g.callers
-    → (s.errand caller).point ≡ Block (block.LoadAnchor site share) o → Step s caller s' → IsSoundWithoutCounts g s'
+pub load_anchor-sound : (site : Site) (share : Share) (o : Continuation) → KeepsSound (Block (block.LoadAnchor site share) o)
 unfolding plan_point_of next_of event_of
-load_anchor-sound g s caller s' site share o sound has stands step =
+load_anchor-sound site share o g s caller s' sound has stands step =
     quiet-at g s caller s' (Block (block.LoadAnchor site share) o) sound has stands (record { event = refl; cleared = refl; word = refl })
     (anchor-leads g s caller site share o (anchor_in site.seat.class (s.word (name.Anchor site.desc))) has stands refl) step
 
 -- the load of a link
-pub load_link-sound :
-    (g : Geometry) (s : State) (caller : ℕ) (s' : State) (site : Site) (share : Share) (a : AnchorFields) (o : Continuation) → IsSoundWithoutCounts g s
-    → caller < g.callers → (s.errand caller).point ≡ Block (block.LoadLink site share a) o → Step s caller s' → IsSoundWithoutCounts g s'
+pub load_link-sound : (site : Site) (share : Share) (a : AnchorFields) (o : Continuation) → KeepsSound (Block (block.LoadLink site share a) o)
 unfolding plan_point_of next_of event_of holds_of recalls_of
-load_link-sound g s caller s' site share a o sound has stands step =
+load_link-sound site share a o g s caller s' sound has stands step =
     let prefix : ℕ = s.word (prefix_name site.frame site.seat.class a.avail) in
     quiet-at g s caller s' (Block (block.LoadLink site share a) o) sound has stands (record { event = refl; cleared = refl; word = refl })
     (record {
@@ -140,16 +122,14 @@ load_link-sound g s caller s' site share a o sound has stands step =
 -- where an anchor leads that is read for a return
 return_anchor-leads :
     (site : Site) (i more : ℕ) (o : Continuation) (said : Option AnchorFields)
-    → LeadsOn (Block (block.LoadReturn site i more) o) (enter_block (after_return_anchor site i more said) o) 0
+    → LeadsOn (Block (block.LoadReturn site i more) o) (At (Block (after_return_anchor site i more said) o)) 0
 unfolding holds_of recalls_of
 return_anchor-leads site i more o None = grind (arith)
 return_anchor-leads site i more o (Some a) = grind (arith)
 
 -- the load of an anchor for a return
-pub load_return-sound :
-    (g : Geometry) (s : State) (caller : ℕ) (s' : State) (site : Site) (i more : ℕ) (o : Continuation) → IsSoundWithoutCounts g s → caller < g.callers
-    → (s.errand caller).point ≡ Block (block.LoadReturn site i more) o → Step s caller s' → IsSoundWithoutCounts g s'
+pub load_return-sound : (site : Site) (i more : ℕ) (o : Continuation) → KeepsSound (Block (block.LoadReturn site i more) o)
 unfolding plan_point_of next_of event_of
-load_return-sound g s caller s' site i more o sound has stands step =
+load_return-sound site i more o g s caller s' sound has stands step =
     quiet-at g s caller s' (Block (block.LoadReturn site i more) o) sound has stands (record { event = refl; cleared = refl; word = refl })
     (leads-on g s caller _ _ 0 has stands (return_anchor-leads site i more o (anchor_in site.seat.class (s.word (name.Anchor site.desc))))) step

@@ -1,59 +1,41 @@
 -- Loads on the way to a push: the prefix word, the anchor and the owner.
-use Rattle.std.proofs.Common.{ℕ, Bool, true, false, Option, Some, None, ◌≡◌, ◌<◌, ◌+◌, ◌*◌, ◌^◌, [], refl, arith, sym, subst}
-use Rattle.std.specs.Prelude.{nat_lt, IsTrue}
+use Rattle.std.proofs.Common.{ℕ, Bool, true, false, Option, Some, None, ◌≡◌, ◌<◌, ◌+◌, ◌*◌, ◌^◌, [], refl, arith, sym, subst, nat_lt, IsTrue}
 use Rattle.std.proofs.lemmas.Bool.{cond_both}
 use Rattle.std.proofs.lemmas.List.Elements.{All-nil, All-cons}
-use Rattle.heap_geometry.specs.declared.geometry.Geometry.{Geometry}
+use Rattle.sound_state.proofs.Common.{Geometry, block_place, frame_of, frame_of-block_place, AnchorFields, Site, descriptor_count, SeatFields, info_in, Continuation}
+use Rattle.sound_state.proofs.Common.{Point, Block, At, event_of, next_of, plan_point_of, State, Step, IsHazard, IsGuard, holds_of, Lists, IsSo, IsLocated, IsOwned}
+use Rattle.sound_state.proofs.Common.{recalls_of, bound_at, IsSoundWithoutCounts, IsSoundWith, is_bound}
 use Rattle.heap_geometry.specs.declared.need.Need.TheVariants as need
-use Rattle.heap_geometry.specs.Place.{block_place, frame_of}
-use Rattle.heap_geometry.proofs.PlaceLemmas.{frame_of-block_place}
 use Rattle.packed_words.specs.declared.prefix.Prefix.{Prefix}
 use Rattle.packed_words.specs.declared.prefix.Prefix.TheVariants.{Small, Large}
-use Rattle.packed_words.specs.Anchor.{AnchorFields}
 use Rattle.packed_words.specs.Fields.{Reads}
 use Rattle.packed_words.specs.Info.{InfoFields}
 use Rattle.packed_words.specs.Prefix.{IsPrefix, prefix_word, prefix_of}
 use Rattle.packed_words.proofs.ExactLemmas.{reads}
 use Rattle.packed_words.proofs.PrefixLemmas.{prefix-exact}
-use Rattle.word_plan.specs.declared.name.WordName.TheVariants as name
-use Rattle.word_plan.specs.declared.seat.Site.{Site}
-use Rattle.word_plan.specs.Counts.{descriptor_count}
-use Rattle.word_plan.specs.Seats.{SeatFields, info_in, anchor_in}
+use Rattle.word_table.specs.declared.name.WordName.TheVariants as name
+use Rattle.word_table.specs.Seats.{anchor_in}
 use Rattle.superblock_parts.specs.Anchors.{is_last}
 use Rattle.superblock_parts.specs.declared.point.BlockPoint.TheVariants as block
 use Rattle.superblock_parts.specs.Points.{after_prefix, after_push_anchor, after_owner}
-use Rattle.errand_steps.specs.declared.continuation.Continuation.{Continuation}
-use Rattle.errand_steps.specs.declared.point.Point.{Point}
-use Rattle.errand_steps.specs.declared.point.Point.TheVariants.{Block}
-use Rattle.errand_steps.specs.declared.next.Next.TheVariants.{At}
-use Rattle.errand_steps.specs.Events.{event_of}
-use Rattle.errand_steps.specs.Nexts.{next_of, enter_block}
-use Rattle.errand_steps.specs.Points.{plan_point_of}
-use Rattle.errand_steps.specs.Steps.{State, Step}
-use Rattle.sound_state.specs.Guards.{IsHazard, IsGuard}
-use Rattle.sound_state.specs.Holdings.{if_stored, Freed, holds_of}
-use Rattle.sound_state.specs.Lists.{Lists}
-use Rattle.sound_state.specs.Recalls.{IsSo, IsLocated, IsOwned, recalls_of, bound_at}
-use Rattle.sound_state.specs.Sound.{IsSoundWithoutCounts, IsSoundWith}
-use Rattle.sound_state.specs.Superblocks.{is_bound}
+use Rattle.sound_state.specs.Holdings.{if_stored, Freed}
 use Rattle.sound_state.proofs.quiet.QuietSteps.{StepsSteadily, LeadsOn, leads-on, quiet-at, quiet-steady, steady-at}
 use Rattle.sound_state.proofs.shared.OwnerLemmas.{begins-owned, prefix-ties, begins-free}
 use Rattle.sound_state.proofs.shared.PointLemmas.{blocks-go, fits-at, hazard-at, so-at, weigh-stays}
+use Rattle.sound_state.proofs.shared.KeepsSound.{KeepsSound}
 
 -- where the word of a guarded descriptor leads
 guarded-owner-leads :
     (site : Site) (i : ℕ) (a : AnchorFields) (o : Continuation) (said : Option InfoFields)
-    → LeadsOn (Block (block.LoadOwner site i a) o) (enter_block (after_owner site i a said) o) 0
+    → LeadsOn (Block (block.LoadOwner site i a) o) (At (Block (after_owner site i a said) o)) 0
 unfolding holds_of recalls_of
 guarded-owner-leads site i a o None = grind (arith)
 guarded-owner-leads site i a o (Some info) = grind (arith)
 
 -- the load of the owner
-pub load_guarded_owner-sound :
-    (g : Geometry) (s : State) (caller : ℕ) (s' : State) (site : Site) (i : ℕ) (a : AnchorFields) (o : Continuation) → IsSoundWithoutCounts g s
-    → caller < g.callers → (s.errand caller).point ≡ Block (block.LoadOwner site i a) o → Step s caller s' → IsSoundWithoutCounts g s'
+pub load_guarded_owner-sound : (site : Site) (i : ℕ) (a : AnchorFields) (o : Continuation) → KeepsSound (Block (block.LoadOwner site i a) o)
 unfolding plan_point_of next_of event_of
-load_guarded_owner-sound g s caller s' site i a o sound has stands step =
+load_guarded_owner-sound site i a o g s caller s' sound has stands step =
     quiet-at g s caller s' (Block (block.LoadOwner site i a) o) sound has stands (record { event = refl; cleared = refl; word = refl })
     (leads-on g s caller _ _ 0 has stands (guarded-owner-leads site i a o (info_in site.seat.geometry (s.word (name.Info site.desc))))) step
 
@@ -122,20 +104,18 @@ prefix-stays g s caller seat frame i o has stands = quiet-steady g s caller _ _ 
 prefix-said :
     (g : Geometry) (s : State) (caller : ℕ) (seat : SeatFields) (frame i : ℕ) (o : Continuation) (said : Option Prefix) → caller < g.callers
     → (s.errand caller).point ≡ Block (block.LoadPrefix seat frame i) o → prefix_of (s.word (name.Arena (block_place frame seat.class i))) ≡ said
-    → StepsSteadily g s caller (Block (block.LoadPrefix seat frame i) o) (enter_block (after_prefix seat frame i said) o)
+    → StepsSteadily g s caller (Block (block.LoadPrefix seat frame i) o) (At (Block (after_prefix seat frame i said) o))
 prefix-said g s caller seat frame i o None has stands is = prefix-stays g s caller seat frame i o has stands
 prefix-said g s caller seat frame i o (Some (Large units)) has stands is = prefix-stays g s caller seat frame i o has stands
 prefix-said g s caller seat frame i o (Some (Small d)) has stands is =
     cond_both (nat_lt d (descriptor_count seat.geometry)) (block.LoadPushAnchor (record { seat = seat; desc = d; frame = frame }) i false)
-    (block.LoadPrefix seat frame i) (λ q. StepsSteadily g s caller (Block (block.LoadPrefix seat frame i) o) (enter_block q o))
+    (block.LoadPrefix seat frame i) (λ q. StepsSteadily g s caller (Block (block.LoadPrefix seat frame i) o) (At (Block q o)))
     (λ exists. small-prefix-leads g s caller seat frame i o d has stands is) (λ none. prefix-stays g s caller seat frame i o has stands)
 
 -- the load of a prefix word
-pub load_prefix-sound :
-    (g : Geometry) (s : State) (caller : ℕ) (s' : State) (seat : SeatFields) (frame i : ℕ) (o : Continuation) → IsSoundWithoutCounts g s → caller < g.callers
-    → (s.errand caller).point ≡ Block (block.LoadPrefix seat frame i) o → Step s caller s' → IsSoundWithoutCounts g s'
+pub load_prefix-sound : (seat : SeatFields) (frame i : ℕ) (o : Continuation) → KeepsSound (Block (block.LoadPrefix seat frame i) o)
 unfolding plan_point_of next_of event_of
-load_prefix-sound g s caller s' seat frame i o sound has stands step =
+load_prefix-sound seat frame i o g s caller s' sound has stands step =
     steady-at g s caller s' (Block (block.LoadPrefix seat frame i) o) sound has stands (record { event = refl; cleared = refl; word = refl })
     (prefix-said g s caller seat frame i o (prefix_of (s.word (name.Arena (block_place frame seat.class i)))) has stands refl) step
 
@@ -165,20 +145,18 @@ push_anchor-last g s caller site i stored o a has stands =
 push_anchor-said :
     (g : Geometry) (s : State) (caller : ℕ) (site : Site) (i : ℕ) (stored : Bool) (o : Continuation) (said : Option AnchorFields) → caller < g.callers
     → (s.errand caller).point ≡ Block (block.LoadPushAnchor site i stored) o → StepsSteadily g s caller (Block (block.LoadPushAnchor site i stored) o)
-    (enter_block (after_push_anchor site i stored said) o)
+    (At (Block (after_push_anchor site i stored said) o))
 unfolding holds_of recalls_of
 push_anchor-said g s caller site i stored o None has stands = quiet-steady g s caller _ _ has stands (leads-on g s caller _ _ 0 has stands (grind (arith)))
 push_anchor-said g s caller site i stored o (Some a) has stands =
     cond_both (is_last site.seat.class a) (block.StoreGuard site i a) (block.StoreLink site i a stored 0)
-    (λ q. StepsSteadily g s caller (Block (block.LoadPushAnchor site i stored) o) (enter_block q o))
+    (λ q. StepsSteadily g s caller (Block (block.LoadPushAnchor site i stored) o) (At (Block q o)))
     (λ last. push_anchor-last g s caller site i stored o a has stands)
     (λ more. quiet-steady g s caller _ _ has stands (leads-on g s caller _ _ 0 has stands (grind (arith))))
 
 -- the load of an anchor for a push
-pub load_push_anchor-sound :
-    (g : Geometry) (s : State) (caller : ℕ) (s' : State) (site : Site) (i : ℕ) (stored : Bool) (o : Continuation) → IsSoundWithoutCounts g s → caller < g.callers
-    → (s.errand caller).point ≡ Block (block.LoadPushAnchor site i stored) o → Step s caller s' → IsSoundWithoutCounts g s'
+pub load_push_anchor-sound : (site : Site) (i : ℕ) (stored : Bool) (o : Continuation) → KeepsSound (Block (block.LoadPushAnchor site i stored) o)
 unfolding plan_point_of next_of event_of
-load_push_anchor-sound g s caller s' site i stored o sound has stands step =
+load_push_anchor-sound site i stored o g s caller s' sound has stands step =
     steady-at g s caller s' (Block (block.LoadPushAnchor site i stored) o) sound has stands (record { event = refl; cleared = refl; word = refl })
     (push_anchor-said g s caller site i stored o (anchor_in site.seat.class (s.word (name.Anchor site.desc))) has stands) step

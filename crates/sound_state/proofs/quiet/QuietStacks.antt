@@ -1,33 +1,24 @@
 -- Quiet steps at a stack: loads, and exchanges that are lost.
-use Rattle.std.proofs.Common.{ℕ, ◌≡◌, ◌≢◌, ◌<◌, ◌-◌, List, [], ◌∷◌, refl, arith}
-use Rattle.std.specs.Prelude.{◌==◌, nat_le, if◌then◌else◌}
+use Rattle.std.proofs.Common.{ℕ, ◌≡◌, ◌≢◌, ◌<◌, ◌-◌, List, [], ◌∷◌, refl, arith, ◌==◌, nat_le, if◌then◌else◌}
 use Rattle.std.proofs.lemmas.Bool.{cond_both, cond-true, eq-eqb, eqb-true, eqb-false}
 use Rattle.std.proofs.lemmas.List.Elements.{All-cons}
-use Rattle.heap_geometry.specs.declared.geometry.Geometry.{Geometry}
-use Rattle.packed_words.specs.Head.{HeadFields, head_word, head_of}
-use Rattle.word_plan.specs.Seats.{SeatFields}
-use Rattle.word_plan.specs.Occurs.{occurs}
-use Rattle.stack_parts.specs.declared.point.Pile.{Pile}
-use Rattle.stack_parts.specs.declared.point.StackPoint.{StackPoint}
+use Rattle.sound_state.proofs.Common.{Geometry, HeadFields, head_of, SeatFields, occurs, Pile, StackPoint, head_name, next_name, Stacked, next_in, Continuation, At}
+use Rattle.sound_state.proofs.Common.{Stack, event_of, next_of, plan_point_of, State, Step, holds_of, IsSo, recalls_of, IsSoundWithoutCounts}
+use Rattle.packed_words.specs.Head.{head_word}
+use Rattle.word_table.specs.declared.onward.Onward.TheVariants.{Stays, Leaves}
+use Rattle.stack_parts.specs.declared.exit.StackExit.TheVariants as exit
 use Rattle.stack_parts.specs.declared.point.StackPoint.TheVariants as stack
-use Rattle.stack_parts.specs.Piles.{head_name, next_name, pile_limit}
+use Rattle.stack_parts.specs.Piles.{pile_limit}
 use Rattle.stack_parts.specs.Points.{after_top, after_below}
-use Rattle.stack_parts.specs.Stacks.{Stacked, next_in}
-use Rattle.errand_steps.specs.declared.continuation.Continuation.{Continuation}
 use Rattle.errand_steps.specs.declared.continuation.Continuation.TheVariants.{Clear}
-use Rattle.errand_steps.specs.declared.point.Point.TheVariants.{Stack}
-use Rattle.errand_steps.specs.Events.{event_of}
-use Rattle.errand_steps.specs.Nexts.{next_of, enter_stack, found_empty}
-use Rattle.errand_steps.specs.Points.{plan_point_of}
-use Rattle.errand_steps.specs.Steps.{State, Step}
-use Rattle.sound_state.specs.Holdings.{holds_of}
-use Rattle.sound_state.specs.Recalls.{IsSo, list_of, continuation_recalls, recalls_of, tops, nexts, tops_exist}
-use Rattle.sound_state.specs.Sound.{IsSoundWithoutCounts}
+use Rattle.errand_steps.specs.Nexts.{enter_stack, found_empty}
+use Rattle.sound_state.specs.Recalls.{list_of, continuation_recalls, tops, nexts, tops_exist}
 use Rattle.sound_state.proofs.quiet.QuietExchanges.{lost-at}
 use Rattle.sound_state.proofs.quiet.QuietLemmas.{HoldsSame}
 use Rattle.sound_state.proofs.quiet.QuietSteps.{LeadsOn, LeadsQuietly, leads-on, quiet-at}
 use Rattle.sound_state.proofs.shared.PointLemmas.{fits-at, so-at}
 use Rattle.sound_state.proofs.shared.StackedLemmas.{top-exists, pile-exists, pile-stacked}
+use Rattle.sound_state.proofs.shared.KeepsSound.{KeepsSound, KeepsSoundWhere}
 
 -- an index on top of a stack is in its list
 top-listed : (next : ℕ → ℕ) (top : ℕ) (xs : List ℕ) → Stacked next top xs → top ≢ 0 → 0 < occurs (top - 1) xs
@@ -50,11 +41,9 @@ pops-same p q o same = record {
 }
 
 -- a head that is read for a push: its top exists
-pub load_top_to_push-sound :
-    (g : Geometry) (s : State) (caller : ℕ) (s' : State) (seat : SeatFields) (pile : Pile) (i : ℕ) (o : Continuation) → IsSoundWithoutCounts g s
-    → caller < g.callers → (s.errand caller).point ≡ Stack (stack.LoadTopToPush seat pile i) o → Step s caller s' → IsSoundWithoutCounts g s'
+pub load_top_to_push-sound : (seat : SeatFields) (pile : Pile) (i : ℕ) (o : Continuation) → KeepsSound (Stack (stack.LoadTopToPush seat pile i) o)
 unfolding plan_point_of next_of event_of holds_of recalls_of
-load_top_to_push-sound g s caller s' seat pile i o sound has stands step =
+load_top_to_push-sound seat pile i o g s caller s' sound has stands step =
     let p = stack.LoadTopToPush seat pile i in
     let h = head_of (s.word (head_name seat pile)) in
     quiet-at g s caller s' (Stack p o) sound has stands (record { event = refl; cleared = refl; word = refl })
@@ -75,13 +64,13 @@ below-leads-quietly :
     (g : Geometry) (s : State) (caller : ℕ) (seat : SeatFields) (pile : Pile) (h : HeadFields) (o : Continuation) → caller < g.callers
     → (s.errand caller).point ≡ Stack (stack.LoadBelow seat pile h) o
     → LeadsQuietly g s caller (Stack (stack.LoadBelow seat pile h) o)
-    (enter_stack (after_below seat pile h (s.word (next_name pile (h.top - 1)))) o)
+    (At (Stack (after_below seat pile h (s.word (next_name pile (h.top - 1)))) o))
 unfolding holds_of recalls_of
 below-leads-quietly g s caller seat pile h o has stands =
     let p = stack.LoadBelow seat pile h in
     let below = s.word (next_name pile (h.top - 1)) in
     let q = stack.PopTop seat pile h below in
-    cond_both (nat_le below (pile_limit seat.geometry pile)) q p (λ r. LeadsQuietly g s caller (Stack p o) (enter_stack r o))
+    cond_both (nat_le below (pile_limit seat.geometry pile)) q p (λ r. LeadsQuietly g s caller (Stack p o) (At (Stack r o)))
     (λ within. record {
       plain = tt;
       holds = pops-same p q o refl;
@@ -91,43 +80,38 @@ below-leads-quietly g s caller seat pile h o has stands =
     })
     (λ beyond. leads-on g s caller (Stack p o) _ 0 has stands (record { plain = tt; holds = pops-same p p o refl; recalls = refl }))
 
-pub load_below-sound :
-    (g : Geometry) (s : State) (caller : ℕ) (s' : State) (seat : SeatFields) (pile : Pile) (h : HeadFields) (o : Continuation) → IsSoundWithoutCounts g s
-    → caller < g.callers → (s.errand caller).point ≡ Stack (stack.LoadBelow seat pile h) o → Step s caller s' → IsSoundWithoutCounts g s'
+pub load_below-sound : (seat : SeatFields) (pile : Pile) (h : HeadFields) (o : Continuation) → KeepsSound (Stack (stack.LoadBelow seat pile h) o)
 unfolding plan_point_of next_of event_of
-load_below-sound g s caller s' seat pile h o sound has stands step =
+load_below-sound seat pile h o g s caller s' sound has stands step =
     quiet-at g s caller s' (Stack (stack.LoadBelow seat pile h) o) sound has stands (record { event = refl; cleared = refl; word = refl })
     (below-leads-quietly g s caller seat pile h o has stands) step
 
 -- a pop that is lost begins again
 pub pop_top_lost-sound :
-    (g : Geometry) (s : State) (caller : ℕ) (s' : State) (seat : SeatFields) (pile : Pile) (h : HeadFields) (below : ℕ) (o : Continuation)
-    → IsSoundWithoutCounts g s → caller < g.callers → (s.errand caller).point ≡ Stack (stack.PopTop seat pile h below) o
-    → s.word (head_name seat pile) ≢ head_word h → Step s caller s' → IsSoundWithoutCounts g s'
+    (seat : SeatFields) (pile : Pile) (h : HeadFields) (below : ℕ) (o : Continuation)
+    → KeepsSoundWhere (Stack (stack.PopTop seat pile h below) o) (λ s. s.word (head_name seat pile) ≢ head_word h)
 unfolding plan_point_of next_of event_of holds_of recalls_of
-pop_top_lost-sound g s caller s' seat pile h below o sound has stands lost step =
+pop_top_lost-sound seat pile h below o g s caller s' sound has stands lost step =
     let p = stack.PopTop seat pile h below in
     lost-at g s caller s' (Stack p o) (head_name seat pile) (head_word h) _ sound has stands refl refl
     (leads-on g s caller (Stack p o) _ 2 has stands (record { plain = tt; holds = pops-same p (stack.LoadTop seat pile) o refl; recalls = refl })) lost step
 
 -- so does the look whether the stack is still empty
 pub confirm_empty_lost-sound :
-    (g : Geometry) (s : State) (caller : ℕ) (s' : State) (seat : SeatFields) (pile : Pile) (h : HeadFields) (o : Continuation) → IsSoundWithoutCounts g s
-    → caller < g.callers → (s.errand caller).point ≡ Stack (stack.ConfirmEmpty seat pile h) o
-    → s.word (head_name seat pile) ≢ head_word h → Step s caller s' → IsSoundWithoutCounts g s'
+    (seat : SeatFields) (pile : Pile) (h : HeadFields) (o : Continuation)
+    → KeepsSoundWhere (Stack (stack.ConfirmEmpty seat pile h) o) (λ s. s.word (head_name seat pile) ≢ head_word h)
 unfolding plan_point_of next_of event_of holds_of recalls_of
-confirm_empty_lost-sound g s caller s' seat pile h o sound has stands lost step =
+confirm_empty_lost-sound seat pile h o g s caller s' sound has stands lost step =
     let p = stack.ConfirmEmpty seat pile h in
     lost-at g s caller s' (Stack p o) (head_name seat pile) (head_word h) _ sound has stands refl refl
     (leads-on g s caller (Stack p o) _ 0 has stands (record { plain = tt; holds = pops-same p (stack.LoadTop seat pile) o refl; recalls = refl })) lost step
 
 -- and a push that is lost
 pub push_top_lost-sound :
-    (g : Geometry) (s : State) (caller : ℕ) (s' : State) (seat : SeatFields) (pile : Pile) (i : ℕ) (h : HeadFields) (o : Continuation)
-    → IsSoundWithoutCounts g s → caller < g.callers → (s.errand caller).point ≡ Stack (stack.PushTop seat pile i h) o
-    → s.word (head_name seat pile) ≢ head_word h → Step s caller s' → IsSoundWithoutCounts g s'
+    (seat : SeatFields) (pile : Pile) (i : ℕ) (h : HeadFields) (o : Continuation)
+    → KeepsSoundWhere (Stack (stack.PushTop seat pile i h) o) (λ s. s.word (head_name seat pile) ≢ head_word h)
 unfolding plan_point_of next_of event_of holds_of recalls_of
-push_top_lost-sound g s caller s' seat pile i h o sound has stands lost step =
+push_top_lost-sound seat pile i h o g s caller s' sound has stands lost step =
     let p = stack.PushTop seat pile i h in
     lost-at g s caller s' (Stack p o) (head_name seat pile) (head_word h) _ sound has stands refl refl
     (leads-on g s caller (Stack p o) _ 2 has stands
@@ -151,11 +135,11 @@ top-leads-quietly g s caller seat pile o has stands goes =
     let p = stack.LoadTop seat pile in
     let h = head_of (s.word (head_name seat pile)) in
     let q = stack.LoadBelow seat pile h in
-    cond_both (h.top == 0) (stack.FoundEmpty seat pile h) (if nat_le h.top (pile_limit seat.geometry pile) then q else p)
+    cond_both (h.top == 0) (Leaves (exit.FoundEmpty seat pile h)) (Stays (if nat_le h.top (pile_limit seat.geometry pile) then q else p))
     (λ r. LeadsQuietly g s caller (Stack p o) (enter_stack r o))
     (λ empty. leads-on g s caller (Stack p o) _ 0 has stands (empty-stack-leads seat pile h o (λ is. goes is (eqb-true h.top 0 empty))))
     (λ some.
-    cond_both (nat_le h.top (pile_limit seat.geometry pile)) q p (λ r. LeadsQuietly g s caller (Stack p o) (enter_stack r o))
+    cond_both (nat_le h.top (pile_limit seat.geometry pile)) q p (λ r. LeadsQuietly g s caller (Stack p o) (At (Stack r o)))
     (λ within. record {
       plain = tt;
       holds = pops-same p q o refl;
@@ -173,10 +157,9 @@ top-leads-quietly g s caller seat pile o has stands goes =
     (λ beyond. leads-on g s caller (Stack p o) _ 0 has stands (record { plain = tt; holds = pops-same p p o refl; recalls = refl })))
 
 pub load_top-sound :
-    (g : Geometry) (s : State) (caller : ℕ) (s' : State) (seat : SeatFields) (pile : Pile) (o : Continuation) → IsSoundWithoutCounts g s
-    → caller < g.callers → (s.errand caller).point ≡ Stack (stack.LoadTop seat pile) o
-    → (o ≡ Clear → (head_of (s.word (head_name seat pile))).top ≢ 0) → Step s caller s' → IsSoundWithoutCounts g s'
+    (seat : SeatFields) (pile : Pile) (o : Continuation)
+    → KeepsSoundWhere (Stack (stack.LoadTop seat pile) o) (λ s. (o ≡ Clear → (head_of (s.word (head_name seat pile))).top ≢ 0))
 unfolding plan_point_of next_of event_of
-load_top-sound g s caller s' seat pile o sound has stands goes step =
+load_top-sound seat pile o g s caller s' sound has stands goes step =
     quiet-at g s caller s' (Stack (stack.LoadTop seat pile) o) sound has stands (record { event = refl; cleared = refl; word = refl })
     (top-leads-quietly g s caller seat pile o has stands goes) step

@@ -1,22 +1,9 @@
 -- Steps that leave their word, from a point that is known: they keep the state sound.
-use Rattle.std.proofs.Common.{ℕ, false, None, ◌≡◌, ◌<◌, ◌^◌, refl, sym, subst}
-use Rattle.std.specs.Prelude.{All, drop}
+use Rattle.std.proofs.Common.{ℕ, false, None, ◌≡◌, ◌<◌, ◌^◌, refl, sym, subst, All, drop}
 use Rattle.std.proofs.lemmas.List.Elements.{All-nil, All-drop}
-use Rattle.heap_geometry.specs.declared.geometry.Geometry.{Geometry}
-use Rattle.word_plan.specs.Actions.{name_of, after_action}
-use Rattle.errand_steps.specs.declared.next.Next.{Next}
-use Rattle.errand_steps.specs.declared.next.Next.TheVariants.{End}
-use Rattle.errand_steps.specs.declared.point.Point.{Point}
-use Rattle.errand_steps.specs.declared.point.Point.TheVariants.{Idle}
-use Rattle.errand_steps.specs.declared.reply.Reply.{Reply}
-use Rattle.errand_steps.specs.Errands.{point_after, counts_cleared}
-use Rattle.errand_steps.specs.Events.{event_of}
-use Rattle.errand_steps.specs.Nexts.{next_of}
-use Rattle.errand_steps.specs.Points.{plan_point_of}
-use Rattle.errand_steps.specs.Steps.{State, Step}
-use Rattle.sound_state.specs.Lists.{Lists}
-use Rattle.sound_state.specs.Recalls.{IsSo, recalls_of}
-use Rattle.sound_state.specs.Sound.{IsSoundWithoutCounts, IsSoundWith}
+use Rattle.sound_state.proofs.Common.{Geometry, name_of, after_action, Next, End, Point, Idle, Reply, counts_cleared, event_of, next_of, plan_point_of, State, Step}
+use Rattle.sound_state.proofs.Common.{Lists, IsSo, recalls_of, IsSoundWithoutCounts, IsSoundWith}
+use Rattle.errand_steps.specs.Errands.{point_after}
 use Rattle.sound_state.proofs.quiet.QuietLemmas.{HoldsSame, same-point-goes, same-stays}
 use Rattle.sound_state.proofs.shared.PointLemmas.{WeighFrom, so-at, stays-actives, step-from}
 use Rattle.sound_state.proofs.shared.StepLemmas.{LeadsOrEnds, PointGoes, found_from}

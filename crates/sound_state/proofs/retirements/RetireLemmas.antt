@@ -3,46 +3,23 @@ use Rattle.std.proofs.Common.{ℕ, Bool, true, false, None, ◌≡◌, ◌≢◌
 use Rattle.std.specs.Prelude.{◌==◌, ◌&&◌, ◌⊎◌, not, All}
 use Rattle.std.proofs.lemmas.Bool.{cases_eq, cases_Bool, cond-true, cond-false, leb-true}
 use Rattle.std.proofs.lemmas.List.Elements.{All-append, All-cons, All-nil}
-use Rattle.heap_geometry.specs.declared.geometry.Geometry.{Geometry}
-use Rattle.packed_words.specs.declared.anchor.State.TheVariants as phase
-use Rattle.packed_words.specs.Anchor.{AnchorFields, anchor_of}
-use Rattle.partial_parts.specs.Grants.{is_empty}
-use Rattle.word_plan.specs.declared.action.Found.{Found}
-use Rattle.word_plan.specs.declared.name.WordName.{WordName}
-use Rattle.word_plan.specs.declared.name.WordName.TheVariants as name
-use Rattle.word_plan.specs.Counts.{descriptor_count}
-use Rattle.word_plan.specs.Actions.{name_of, after_action}
-use Rattle.word_plan.specs.Seats.{SeatFields}
-use Rattle.word_plan.specs.Table.{Exists}
-use Rattle.word_plan.specs.Words.{Writes}
-use Rattle.word_plan.proofs.NameLemmas.{cases_name}
-use Rattle.word_plan.specs.Occurs.{occurs}
-use Rattle.pool_model.specs.declared.event.Event.{Event}
-use Rattle.pool_model.specs.Legal.{IsLegalWithoutCounts}
+use Rattle.sound_state.proofs.Common.{Geometry, AnchorFields, anchor_of, is_empty, Found, WordName, descriptor_count, name_of, after_action, SeatFields, Exists}
+use Rattle.sound_state.proofs.Common.{Writes, cases_name, occurs, Event, IsLegalWithoutCounts, At, End, Retire, Continuation, Point, Reply, Idle, Desc, ErrandFields}
+use Rattle.sound_state.proofs.Common.{settle_of, course_of, raised, counts_lost, counts_cleared, event_of, spare_of, next_of, plan_point_of, State, Step, Moves}
+use Rattle.sound_state.proofs.Common.{action_at, name_at, word_at, found_at, with_event, IsHazard, Status, holds_of, waiting, reserving, on_its_way, partly_used}
+use Rattle.sound_state.proofs.Common.{word_keeps, IsWithout, Lists, IsSo, recalls_of, IsSoundWithoutCounts, IsSoundWith, turn_stage_of, in_turn, is_unneeded}
+use Rattle.sound_state.proofs.Common.{waits_in, word_stock, sum_below, anchor_for, errand_keeps, errand_away, away_of, is_bound, word_reserves, emptied_out, one_if}
+use Rattle.sound_state.proofs.Common.{pops_left}
+use Rattle.packed_words.specs.declared.anchor.AnchorState.TheVariants as phase
+use Rattle.word_table.specs.declared.name.WordName.TheVariants as name
 use Rattle.hazard_parts.specs.declared.point.DescPoint.TheVariants as desc
-use Rattle.errand_steps.specs.declared.next.Next.TheVariants.{At, End, Retire}
-use Rattle.errand_steps.specs.declared.continuation.Continuation.{Continuation}
-use Rattle.errand_steps.specs.declared.point.Point.{Point}
-use Rattle.errand_steps.specs.declared.reply.Reply.{Reply}
-use Rattle.errand_steps.specs.declared.point.Point.TheVariants.{Idle, Desc}
-use Rattle.errand_steps.specs.Errands.{ErrandFields, settle_of, course_of, plan_of, raised, counts_won, counts_lost, counts_cleared, is_full, no_words}
-use Rattle.errand_steps.specs.Events.{event_of}
-use Rattle.errand_steps.specs.Fits.{spare_of}
-use Rattle.errand_steps.specs.Nexts.{next_of, resumed}
-use Rattle.errand_steps.specs.Points.{plan_point_of}
-use Rattle.errand_steps.specs.Steps.{State, Step, Moves, action_at, name_at, word_at, found_at, event_at, with_event}
+use Rattle.errand_steps.specs.Errands.{plan_of, counts_won, is_full, no_words}
+use Rattle.errand_steps.specs.Nexts.{resumed}
+use Rattle.errand_steps.specs.Steps.{event_at}
 use Rattle.errand_steps.proofs.PlanLemmas.{plan-exists}
-use Rattle.sound_state.specs.Guards.{IsHazard}
-use Rattle.sound_state.specs.Holdings.{HazardState, Status, clear, nothing, keep, holds_of, waiting, reserving, on_its_way, partly_used}
-use Rattle.sound_state.specs.Keepers.{word_keeps, IsWithout}
-use Rattle.sound_state.specs.Lists.{Lists}
-use Rattle.sound_state.specs.Recalls.{IsPlain, IsSo, recalls_of, resumed_recalls}
-use Rattle.sound_state.specs.Sound.{IsSoundWithoutCounts, IsSoundWith}
-use Rattle.sound_state.specs.TurnStages.{turn_stage_of, in_turn, lacks_frame, lacks_partial, lacks_answer, is_unneeded}
-use Rattle.sound_state.specs.Stock.{waits_in, word_stock}
-use Rattle.sound_state.specs.Sums.{sum_below}
-use Rattle.sound_state.specs.Superblocks.{anchor_for, errand_keeps, errand_away, away_of, is_bound, word_reserves}
-use Rattle.sound_state.specs.Turns.{emptied_out, one_if, pops_left}
+use Rattle.sound_state.specs.Holdings.{HazardState, clear, nothing, keep}
+use Rattle.sound_state.specs.Recalls.{IsPlain, resumed_recalls}
+use Rattle.sound_state.specs.TurnStages.{lacks_frame, lacks_partial, lacks_answer}
 use Rattle.sound_state.proofs.shared.AlikeLemmas.{sound-alike}
 use Rattle.sound_state.proofs.hazards.HazardLemmas.{hazard_caller, hazard-actives}
 use Rattle.sound_state.proofs.shared.ListFacts.{occurs-push}

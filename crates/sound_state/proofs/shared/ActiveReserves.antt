@@ -3,39 +3,20 @@ use Rattle.std.proofs.Common.{ℕ, Option, Some, None, ◌≡◌, ◌≢◌, ◌
 use Rattle.std.proofs.lemmas.Bool.{cases_eq, cond-false, ne_eqb}
 use Rattle.std.proofs.lemmas.List.Elements.{All-head, All-tail}
 use Rattle.std.specs.Prelude.{◌==◌, ◌&&◌, All, IsTrue, if◌then◌else◌}
-use Rattle.heap_geometry.specs.declared.geometry.Geometry.{Geometry}
-use Rattle.heap_geometry.specs.declared.limits.TheConstants.{CLASSES}
-use Rattle.packed_words.specs.Active.{active_of}
-use Rattle.packed_words.specs.declared.active.ActiveWord.TheVariants.{Null, Held}
-use Rattle.packed_words.specs.declared.active.ActiveWord.{ActiveWord}
-use Rattle.packed_words.specs.declared.anchor.State.TheVariants as phase
-use Rattle.word_plan.proofs.TableLemmas.{word_name-Exists}
-use Rattle.word_plan.specs.Counts.{descriptor_count, word_count}
-use Rattle.word_plan.specs.Table.{Exists, word_name}
-use Rattle.word_plan.specs.declared.name.WordName.TheVariants as name
-use Rattle.word_plan.specs.declared.name.WordName.{WordName}
-use Rattle.word_plan.specs.declared.seat.Site.{Site}
-use Rattle.word_plan.specs.Occurs.{occurs}
-use Rattle.superblock_parts.specs.Fits.{FitsBlock}
+use Rattle.sound_state.proofs.Common.{Geometry, CLASSES, active_of, Null, Held, ActiveWord, descriptor_count, word_count, Exists, word_name, WordName, Site, occurs}
+use Rattle.sound_state.proofs.Common.{BlockPoint, Credit, LastCredit, Grant, Share, StackPoint, DescPoint, PartialPoint, LargePoint, FitsPoint, State, Continuation}
+use Rattle.sound_state.proofs.Common.{Point, Holding, Kept, Status, reserving, waiting, partly_used, on_its_way, holds_before_pop, holds_of, IsKept, IsPartlyUsed}
+use Rattle.sound_state.proofs.Common.{IsKeptAs, errand_has, full_keeps, word_keeps, Lists, IsSoundWith, sum_below, words_sum, callers_sum, anchor_for, is_bound}
+use Rattle.sound_state.proofs.Common.{away_of, errand_away, errand_reserves, word_reserves, reserved_of, reserved_among, kept_among}
+use Rattle.packed_words.specs.declared.anchor.AnchorState.TheVariants as phase
+use Rattle.word_table.proofs.TableLemmas.{word_name-Exists}
+use Rattle.word_table.specs.declared.name.WordName.TheVariants as name
+use Rattle.superblock_parts.specs.Points.{FitsBlock}
 use Rattle.superblock_parts.specs.declared.point.BlockPoint.TheVariants as block
-use Rattle.superblock_parts.specs.declared.point.BlockPoint.{BlockPoint}
-use Rattle.superblock_parts.specs.declared.point.Share.TheVariants.{Credit, LastCredit, Grant}
-use Rattle.superblock_parts.specs.declared.point.Share.{Share}
-use Rattle.stack_parts.specs.declared.point.StackPoint.{StackPoint}
-use Rattle.hazard_parts.specs.declared.point.DescPoint.{DescPoint}
-use Rattle.partial_parts.specs.declared.point.PartialPoint.{PartialPoint}
-use Rattle.large_parts.specs.declared.point.LargePoint.{LargePoint}
-use Rattle.errand_steps.specs.Fits.{FitsPoint}
-use Rattle.errand_steps.specs.Steps.{State}
-use Rattle.errand_steps.specs.declared.continuation.Continuation.{Continuation}
 use Rattle.errand_steps.specs.declared.point.Point.TheVariants as point
-use Rattle.errand_steps.specs.declared.point.Point.{Point}
-use Rattle.sound_state.specs.Holdings.{Holding, Kept, Status, reserving, waiting, partly_used, on_its_way, holds_before_pop, holds_after_pop, holds_of, block_holds, stack_holds, desc_holds, partial_holds, large_holds}
-use Rattle.sound_state.specs.Keepers.{IsKept, IsPartlyUsed, IsKeptAs, errand_has, full_keeps, active_keeps, word_keeps}
-use Rattle.sound_state.specs.Lists.{Lists}
-use Rattle.sound_state.specs.Sound.{IsSoundWith}
-use Rattle.sound_state.specs.Sums.{sum_below, words_sum, callers_sum}
-use Rattle.sound_state.specs.Superblocks.{anchor_for, is_bound, away_of, errand_away, errand_reserves, word_reserves, offered, reserved_of, reserved_among, kept_among, same_status}
+use Rattle.sound_state.specs.Holdings.{holds_after_pop, block_holds, stack_holds, desc_holds, partial_holds, large_holds}
+use Rattle.sound_state.specs.Keepers.{active_keeps}
+use Rattle.sound_state.specs.Superblocks.{offered, same_status}
 use Rattle.sound_state.proofs.shared.HasLemmas.{bound-away}
 use Rattle.sound_state.proofs.shared.PointLemmas.{fits-at}
 use Rattle.sound_state.proofs.shared.SumLemmas.{sum-none, term-sum}

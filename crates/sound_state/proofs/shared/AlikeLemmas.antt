@@ -1,23 +1,11 @@
 -- A step that changes no superblock, no list and no event: a caller goes on, at most active words and slots change, and at most an EMPTY superblock's descriptor is retired.
 use Rattle.std.proofs.Common.{ℕ, ◌≡◌, ◌≢◌, ◌<◌, ◌≤◌, ◌+◌, ◌^◌, arith, sym, subst}
-use Rattle.heap_geometry.specs.declared.geometry.Geometry.{Geometry}
-use Rattle.word_plan.specs.declared.name.WordName.{WordName}
-use Rattle.word_plan.specs.declared.name.WordName.TheVariants as name
-use Rattle.word_plan.specs.Counts.{descriptor_count}
-use Rattle.stack_parts.specs.declared.point.Pile.TheVariants.{Partials}
-use Rattle.stack_parts.specs.Stacks.{Stacked, next_in}
-use Rattle.errand_steps.specs.Errands.{ErrandFields}
-use Rattle.errand_steps.specs.Steps.{State, Moves}
-use Rattle.sound_state.specs.Frames.{errand_frames}
-use Rattle.sound_state.specs.Holdings.{on_its_way}
+use Rattle.sound_state.proofs.Common.{Geometry, WordName, descriptor_count, Partials, Stacked, next_in, ErrandFields, State, Moves, errand_frames, on_its_way, Lists}
+use Rattle.sound_state.proofs.Common.{Recall, says, IsSoundWith, sum_below, callers_sum, reserved_of, waiting_of, is_bound, errand_keeps, emptied_out}
+use Rattle.word_table.specs.declared.name.WordName.TheVariants as name
 use Rattle.sound_state.specs.Keepers.{places_of}
-use Rattle.sound_state.specs.Lists.{Lists}
-use Rattle.sound_state.specs.Recalls.{Recall, IsPlain, says}
-use Rattle.sound_state.specs.Sound.{IsSoundWith}
+use Rattle.sound_state.specs.Recalls.{IsPlain}
 use Rattle.sound_state.specs.Stock.{IsStocked}
-use Rattle.sound_state.specs.Sums.{sum_below, callers_sum}
-use Rattle.sound_state.specs.Superblocks.{reserved_of, waiting_of, is_bound, errand_keeps}
-use Rattle.sound_state.specs.Turns.{emptied_out}
 use Rattle.sound_state.proofs.shared.ShownLemmas.{IsShown, StaysSo, ShowsSame, sound-but_one, sound-shown, MayGoOn, MayGuard, ActivesKept, IsSoundBut}
 
 -- the second state shows the same superblocks, lists and events as the first

@@ -1,15 +1,8 @@
 -- A descriptor has a superblock or not by the words alone: the stacks are one list each.
-use Rattle.std.proofs.Common.{ℕ, ◌+◌, subst}
-use Rattle.std.specs.Prelude.{◌==◌, ◌&&◌, not, IsTrue}
-use Rattle.heap_geometry.specs.declared.geometry.Geometry.{Geometry}
-use Rattle.word_plan.specs.Occurs.{occurs}
-use Rattle.partial_parts.specs.Grants.{is_empty}
-use Rattle.errand_steps.specs.Steps.{State}
+use Rattle.std.proofs.Common.{ℕ, ◌+◌, subst, ◌==◌, ◌&&◌, not, IsTrue}
+use Rattle.sound_state.proofs.Common.{Geometry, occurs, is_empty, State, Lists, IsSoundWith, IsSoundWithoutCounts, callers_sum, IsChained, anchor_for, errand_away}
+use Rattle.sound_state.proofs.Common.{is_bound, superblock_of}
 use Rattle.sound_state.specs.Consequences.{IsBound, AddsUp}
-use Rattle.sound_state.specs.Lists.{Lists}
-use Rattle.sound_state.specs.Sound.{IsSoundWith, IsSoundWithoutCounts}
-use Rattle.sound_state.specs.Sums.{callers_sum}
-use Rattle.sound_state.specs.Superblocks.{IsChained, anchor_for, errand_away, is_bound, superblock_of}
 use Rattle.sound_state.proofs.shared.StackedLemmas.{stacked-same}
 use Rattle.sound_state.proofs.shared.TallyLemmas.{tally}
 

@@ -1,9 +1,7 @@
 -- What holds of each caller after one of them has gone on.
 use Rattle.std.proofs.Common.{ℕ, ◌≢◌, ◌<◌, sym, subst, inl, inr}
 use Rattle.std.proofs.lemmas.Bool.{cases_eq}
-use Rattle.heap_geometry.specs.declared.geometry.Geometry.{Geometry}
-use Rattle.errand_steps.specs.Errands.{ErrandFields}
-use Rattle.errand_steps.specs.Steps.{Moves}
+use Rattle.sound_state.proofs.Common.{Geometry, ErrandFields, Moves}
 
 -- what holds of the new errand and of those of the others holds of each
 pub each-other :

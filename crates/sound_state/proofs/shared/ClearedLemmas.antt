@@ -1,11 +1,7 @@
 -- Cleared counts are at most the turns.
 use Rattle.std.proofs.Common.{ℕ, ◌<◌, ◌≤◌, ◌*◌, ◌^◌, arith, ap}
-use Rattle.heap_geometry.specs.declared.geometry.Geometry.{Geometry}
+use Rattle.sound_state.proofs.Common.{Geometry, State, Lists, IsSoundWith, IsSoundWithoutCounts, callers_sum}
 use Rattle.packed_words.specs.declared.widths.TheConstants.{TAG_BITS}
-use Rattle.errand_steps.specs.Steps.{State}
-use Rattle.sound_state.specs.Lists.{Lists}
-use Rattle.sound_state.specs.Sound.{IsSoundWith, IsSoundWithoutCounts}
-use Rattle.sound_state.specs.Sums.{callers_sum}
 use Rattle.sound_state.specs.Turns.{cleared_of, turns_of}
 use Rattle.sound_state.proofs.shared.SumLemmas.{sum-most, term-sum}
 use Rattle.sound_state.proofs.shared.TagLemmas.{small-freed, given-most, turns-most}

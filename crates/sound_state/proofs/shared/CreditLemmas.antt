@@ -1,33 +1,15 @@
 -- Exchanges that are won and lead on, and what the active words hold after a write of one.
-use Rattle.std.proofs.Common.{ℕ, true, false, Some, None, ◌≡◌, ◌<◌, ◌≤◌, ◌^◌, refl, arith, ap, sym, subst, inl, inr, ◌∙◌, eq-eqb}
-use Rattle.std.specs.Prelude.{◌==◌, IsTrue, IsSome}
+use Rattle.std.proofs.Common.{ℕ, true, false, Some, None, ◌≡◌, ◌<◌, ◌≤◌, ◌^◌, refl, arith, ap, sym, subst, inl, inr, ◌∙◌, eq-eqb, ◌==◌, IsTrue, IsSome}
 use Rattle.std.proofs.lemmas.Bool.{cond-true}
-use Rattle.heap_geometry.specs.declared.geometry.Geometry.{Geometry}
-use Rattle.packed_words.specs.declared.active.ActiveWord.TheVariants.{Held}
-use Rattle.packed_words.specs.Active.{active_of}
-use Rattle.word_plan.specs.declared.action.Action.TheVariants.{Cas}
-use Rattle.word_plan.specs.declared.action.Found.{Found}
-use Rattle.word_plan.specs.declared.name.WordName.{WordName}
-use Rattle.word_plan.specs.declared.name.WordName.TheVariants as name
-use Rattle.word_plan.specs.Actions.{name_of, after_action, found_by}
-use Rattle.word_plan.specs.Counts.{descriptor_count}
-use Rattle.word_plan.specs.Table.{Exists, word_index, word_name}
-use Rattle.word_plan.specs.Counts.{word_count}
-use Rattle.word_plan.specs.Words.{Writes}
-use Rattle.word_plan.proofs.NameLemmas.{cases_name}
-use Rattle.word_plan.proofs.TableLemmas.{word_index-within, word_name-word_index}
-use Rattle.errand_steps.specs.declared.point.Point.{Point}
-use Rattle.errand_steps.specs.declared.next.Next.TheVariants.{At}
-use Rattle.errand_steps.specs.Errands.{ErrandFields, counts_cleared}
-use Rattle.errand_steps.specs.Events.{event_of}
-use Rattle.errand_steps.specs.Nexts.{next_of}
-use Rattle.errand_steps.specs.Points.{plan_point_of}
-use Rattle.errand_steps.specs.Steps.{State, Step}
-use Rattle.sound_state.specs.Keepers.{IsKept, IsActive, word_keeps, errand_has}
-use Rattle.sound_state.specs.Lists.{Lists}
-use Rattle.sound_state.specs.Sound.{IsSoundWithoutCounts, IsSoundWith}
-use Rattle.sound_state.specs.Sums.{sum_below, words_sum, callers_sum}
-use Rattle.sound_state.specs.Superblocks.{is_bound, away_of, errand_away}
+use Rattle.sound_state.proofs.Common.{Geometry, Held, active_of, Found, WordName, name_of, after_action, descriptor_count, Exists, word_name, word_count, Writes}
+use Rattle.sound_state.proofs.Common.{cases_name, Point, At, ErrandFields, counts_cleared, event_of, next_of, plan_point_of, State, Step, IsKept, word_keeps}
+use Rattle.sound_state.proofs.Common.{errand_has, Lists, IsSoundWithoutCounts, IsSoundWith, sum_below, words_sum, callers_sum, is_bound, away_of, errand_away}
+use Rattle.word_table.specs.declared.action.Action.TheVariants.{Cas}
+use Rattle.word_table.specs.declared.name.WordName.TheVariants as name
+use Rattle.word_table.specs.Actions.{found_by}
+use Rattle.word_table.specs.Table.{word_index}
+use Rattle.word_table.proofs.TableLemmas.{word_index-within, word_name-word_index}
+use Rattle.sound_state.specs.Keepers.{IsActive}
 use Rattle.sound_state.proofs.shared.PointLemmas.{WeighFrom, step-from}
 use Rattle.sound_state.proofs.shared.ShownLemmas.{ActivesKept}
 use Rattle.sound_state.proofs.shared.StepLemmas.{PointGoes, found_from}

@@ -1,14 +1,11 @@
 -- Counts of events, and a caller's own events, after one event more.
-use Rattle.std.proofs.Common.{ℕ, Bool, false, cond, ◌≡◌, ◌≢◌, ◌+◌, List, [], ◌∷◌, ◌++◌, arith, ◌∙◌, append-nil, refl, ap, eq-eqb, append_assoc}
+use Rattle.std.proofs.Common.{ℕ, Bool, false, cond, ◌≡◌, ◌≢◌, ◌+◌, List, [], ◌∷◌, ◌++◌, arith, ◌∙◌, append-nil, refl, ap, eq-eqb, append_assoc, count_by}
 use Rattle.std.proofs.lemmas.Bool.{ne_eqb, cond-false}
 use Rattle.std.proofs.lemmas.List.Sums.{sum_by_push}
-use Rattle.std.specs.Prelude.{count_by}
-use Rattle.heap_geometry.specs.Need.{need_of}
-use Rattle.heap_geometry.specs.declared.need.Need.TheVariants.{Small}
+use Rattle.sound_state.proofs.Common.{need_of, Small, own, Event}
 use Rattle.pool_model.proofs.HistoryLemmas.{own-append}
-use Rattle.pool_model.specs.Histories.{own, caller_of, EndsWith}
+use Rattle.pool_model.specs.Histories.{caller_of, EndsWith}
 use Rattle.pool_model.specs.declared.event.Event.TheVariants.{Looked, Refuse}
-use Rattle.pool_model.specs.declared.event.Event.{Event}
 use Rattle.sound_state.specs.Recalls.{EndsRefused}
 
 -- counts of events after one more

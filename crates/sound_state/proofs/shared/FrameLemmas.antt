@@ -1,28 +1,16 @@
 -- No two superblocks lie in one frame, whether they wait to be installed or not.
-use Rattle.std.proofs.Common.{ℕ, Option, Some, None, ◌≡◌, ◌≢◌, ◌<◌, ◌≤◌, [], ◌∷◌, refl, arith, ap, sym, subst, inl, inr, ◌∙◌}
-use Rattle.std.specs.Prelude.{◌==◌, ◌&&◌, if◌then◌else◌, All, IsTrue, ◌⊎◌}
+use Rattle.std.proofs.Common.{ℕ, Option, Some, None, ◌≡◌, ◌≢◌, ◌<◌, ◌≤◌, [], ◌∷◌, refl, arith, ap, sym, subst, inl, inr, ◌∙◌, ◌==◌, ◌&&◌, if◌then◌else◌, All, IsTrue, ◌⊎◌}
 use Rattle.std.proofs.lemmas.Bool.{cases_eq, cond-true, cond-false, and_from, eq-eqb, ne_eqb}
 use Rattle.std.proofs.lemmas.List.Elements.{All-head, All-tail}
 use Rattle.std.proofs.lemmas.Option.{none-some}
-use Rattle.heap_geometry.specs.declared.geometry.Geometry.{Geometry}
-use Rattle.packed_words.specs.Anchor.{anchor_word}
-use Rattle.word_plan.specs.Counts.{descriptor_count}
-use Rattle.word_plan.specs.declared.name.WordName.TheVariants as name
-use Rattle.word_plan.specs.declared.seat.Site.{Site}
-use Rattle.word_plan.specs.Occurs.{occurs}
+use Rattle.sound_state.proofs.Common.{Geometry, anchor_word, descriptor_count, Site, occurs, BlockPoint, Point, State, errand_frames, fills_frame, waiting, holds_of}
+use Rattle.sound_state.proofs.Common.{Lists, IsSo, IsLocated, recalls_of, bound_at, bound_here, says, IsSoundWith, callers_sum, kept_among, errand_keeps, waiting_of}
+use Rattle.sound_state.proofs.Common.{is_bound, info_for}
+use Rattle.word_table.specs.declared.name.WordName.TheVariants as name
 use Rattle.superblock_parts.specs.Anchors.{new_anchor}
-use Rattle.superblock_parts.specs.declared.point.BlockPoint.{BlockPoint}
 use Rattle.superblock_parts.specs.declared.point.BlockPoint.TheVariants as block
-use Rattle.errand_steps.specs.declared.point.Point.{Point}
 use Rattle.errand_steps.specs.declared.point.Point.TheVariants as point
-use Rattle.errand_steps.specs.Steps.{State}
-use Rattle.sound_state.specs.Frames.{errand_frames, fills_frame}
-use Rattle.sound_state.specs.Holdings.{waiting, holds_of}
-use Rattle.sound_state.specs.Lists.{Lists}
-use Rattle.sound_state.specs.Recalls.{IsSo, IsLocated, recalls_of, block_recalls, bound_at, bound_here, says}
-use Rattle.sound_state.specs.Sound.{IsSoundWith}
-use Rattle.sound_state.specs.Sums.{callers_sum}
-use Rattle.sound_state.specs.Superblocks.{kept_among, errand_keeps, waiting_of, is_bound, info_for}
+use Rattle.sound_state.specs.Recalls.{block_recalls}
 use Rattle.sound_state.proofs.shared.SumLemmas.{some-term, term-sum, two-terms}
 
 -- the superblock that a caller is about to install

@@ -1,33 +1,23 @@
 -- A step that gives its caller a free block of a superblock: its event is legal, and the words still show the pool.
-use Rattle.std.proofs.Common.{ℕ, Some, None, ◌≡◌, ◌≢◌, ◌<◌, ◌≤◌, ◌*◌, [], ◌∷◌, ◌++◌, refl, arith, ap, sym, subst, inl, ◌∙◌}
-use Rattle.std.specs.Prelude.{◌⊎◌, All, Any, IsTrue, slice_index_or}
+use Rattle.std.proofs.Common.{ℕ, Some, None, ◌≡◌, ◌≢◌, ◌<◌, ◌≤◌, ◌*◌, [], ◌∷◌, ◌++◌, refl, arith, ap, sym, subst, inl, ◌∙◌, ◌⊎◌, All, Any, IsTrue, slice_index_or}
 use Rattle.std.proofs.lemmas.Bool.{cases_eq}
 use Rattle.std.proofs.lemmas.List.Elements.{All-nil, All-cons}
-use Rattle.heap_geometry.specs.declared.geometry.Geometry.{Geometry}
-use Rattle.heap_geometry.specs.declared.need.Need.{Need}
-use Rattle.heap_geometry.specs.declared.need.Need.TheVariants.{Small, Large, TooLarge}
-use Rattle.heap_geometry.specs.Need.{block_count_of, need_of, usable_words}
-use Rattle.heap_geometry.specs.Place.{block_place, frame_of}
-use Rattle.heap_geometry.proofs.PlaceLemmas.{frame_of-block_place}
-use Rattle.word_plan.specs.declared.name.WordName.TheVariants as name
-use Rattle.word_plan.specs.declared.seat.Site.{Site}
-use Rattle.word_plan.specs.Sites.{IsSiteOf}
+use Rattle.sound_state.proofs.Common.{Geometry, Need, Small, block_count_of, need_of, block_place, frame_of, frame_of-block_place, Site, IsSiteOf}
+use Rattle.sound_state.proofs.Common.{IsLegalWithoutCounts, block_at, pool_of, place-found, sound-of, ErrandFields, State, Moves, holds_of, Lists, IsLocated}
+use Rattle.sound_state.proofs.Common.{IsOwned, IsSoundWithoutCounts, IsSoundWith, info_for, is_bound, IsTied, IsLive}
+use Rattle.heap_geometry.specs.declared.need.Need.TheVariants.{Large, TooLarge}
+use Rattle.heap_geometry.specs.Need.{usable_words}
+use Rattle.word_table.specs.declared.name.WordName.TheVariants as name
 use Rattle.pool_model.specs.declared.event.Event.TheVariants.{Alloc}
-use Rattle.pool_model.specs.Legal.{IsLegalEventWithoutCounts, IsLegalWithoutCounts, IsFree, HoldsOnly}
-use Rattle.pool_model.specs.Pool.{Block, block_at, fresh_block, pool_of}
+use Rattle.pool_model.specs.Legal.{IsLegalEventWithoutCounts, IsFree, HoldsOnly}
+use Rattle.pool_model.specs.Pool.{Block, fresh_block}
 use Rattle.pool_model.specs.WellFormed.{IsPlaceFor, IsWellFormed}
 use Rattle.pool_model.proofs.FreeLemmas.{clear-block}
 use Rattle.pool_model.proofs.HistoryLemmas.{EachAfter-push}
-use Rattle.pool_model.proofs.PoolLemmas.{place-found, every-found}
-use Rattle.pool_model.proofs.WellFormedLemmas.{sound-of, large-frame}
-use Rattle.errand_steps.specs.Errands.{ErrandFields}
-use Rattle.errand_steps.specs.Steps.{State, Moves}
-use Rattle.sound_state.specs.Holdings.{Handed, block_handed, holds_of}
-use Rattle.sound_state.specs.Lists.{Lists}
-use Rattle.sound_state.specs.Recalls.{IsLocated, IsOwned}
-use Rattle.sound_state.specs.Sound.{IsSoundWithoutCounts, IsSoundWith}
-use Rattle.sound_state.specs.Superblocks.{info_for, is_bound}
-use Rattle.sound_state.specs.Ties.{IsTied, IsLive, IsBlockOfDesc, IsExcepted}
+use Rattle.pool_model.proofs.PoolLemmas.{every-found}
+use Rattle.pool_model.proofs.WellFormedLemmas.{large-frame}
+use Rattle.sound_state.specs.Holdings.{Handed, block_handed}
+use Rattle.sound_state.specs.Ties.{IsBlockOfDesc, IsExcepted}
 use Rattle.sound_state.proofs.shared.FrameLemmas.{one-in-frame}
 use Rattle.sound_state.proofs.shared.TieLemmas.{TieWords, IsSmallOf, IsBareHanded, excepts-none, located-stays, none-written, not-live, one-live, small-but}
 
@@ -55,123 +45,113 @@ pub record Gives (g : Geometry) (s : State) (l : Lists) (caller : ℕ) (at : Sit
   pub hands : (holds_of e.point).hands ≡ block_handed at i
   pub frees : (holds_of e.point).frees ≡ []
 
--- a live block of its frame is of its class
-class-there :
-    (g : Geometry) (s : State) (l : Lists) (caller : ℕ) (at : Site) (i words : ℕ) (e : ErrandFields) (s' : State)
-    → Gives g s l caller at i words e s' → IsSoundWithoutCounts g s → IsSoundWith g s l
-    → (place : ℕ) (b : Block) (n : Need) → IsLive s place b → b.need ≡ n → IsPlaceFor g n b.place → frame_of b.place ≡ at.frame
-    → b.need ≡ Small at.seat.class
-class-there g s l caller at i words e s' h sound old place b (Small class) live of placed here =
-    let tied = old.tied.small place class b live of in
-    let d : ℕ = tied.0 in
-    let its : IsBlockOfDesc g s l place class d = tied.1 in
-    let same : b.place ≡ place = place-found place (pool_of s.history) b live in
-    let frame : (info_for s d).frame ≡ at.frame = its.located.frame ∙ ap frame_of (sym same) ∙ here in
-    let one : d ≡ at.desc =
-    one-in-frame g s l at.frame d at.desc old h.site.frame its.exists h.site.desc its.bound h.bound frame h.located.frame in
-    let classes : class ≡ at.seat.class = sym its.located.class ∙ ap (λ k. (info_for s k).class) one ∙ h.located.class in
-    of ∙ ap Small classes
-class-there g s l caller at i words e s' h sound old place b (Large units) live of placed here =
-    let behind : g.frames ≤ frame_of b.place = large-frame g (Large units) units b.place refl placed in
-    let within : at.frame < g.frames = h.site.frame in
-    absurd (omega (arith, behind, within, here))
-class-there g s l caller at i words e s' h sound old place b TooLarge live of placed here = absurd placed
+module _
+    {g : Geometry} {s : State} {l : Lists} {caller : ℕ} {at : Site} {i words : ℕ} {e : ErrandFields} {s' : State}
+    (h : Gives g s l caller at i words e s') where
+  -- a live block of its frame is of its class
+  class-there :
+      IsSoundWithoutCounts g s → IsSoundWith g s l → (place : ℕ) (b : Block) (n : Need) → IsLive s place b → b.need ≡ n → IsPlaceFor g n b.place
+      → frame_of b.place ≡ at.frame → b.need ≡ Small at.seat.class
+  class-there sound old place b (Small class) live of placed here =
+      let tied = old.tied.small place class b live of in
+      let d : ℕ = tied.0 in
+      let its : IsBlockOfDesc g s l place class d = tied.1 in
+      let same : b.place ≡ place = place-found place (pool_of s.history) b live in
+      let frame : (info_for s d).frame ≡ at.frame = its.located.frame ∙ ap frame_of (sym same) ∙ here in
+      let one : d ≡ at.desc =
+      one-in-frame g s l at.frame d at.desc old h.site.frame its.exists h.site.desc its.bound h.bound frame h.located.frame in
+      let classes : class ≡ at.seat.class = sym its.located.class ∙ ap (λ k. (info_for s k).class) one ∙ h.located.class in
+      of ∙ ap Small classes
+  class-there sound old place b (Large units) live of placed here =
+      let behind : g.frames ≤ frame_of b.place = large-frame g (Large units) units b.place refl placed in
+      let within : at.frame < g.frames = h.site.frame in
+      absurd (omega (arith, behind, within, here))
+  class-there sound old place b TooLarge live of placed here = absurd placed
 
--- the block is free before, so its event is legal
-pub given-legal :
-    (g : Geometry) (s : State) (l : Lists) (caller : ℕ) (at : Site) (i words : ℕ) (e : ErrandFields) (s' : State)
-    → Gives g s l caller at i words e s' → IsSoundWithoutCounts g s → IsSoundWith g s l → IsLegalWithoutCounts g s'.history
-given-legal g s l caller at i words e s' h sound old =
-    let pool = sound-of g s.history sound.legal in
-    let only : HoldsOnly (pool_of s.history) at.frame at.seat.class =
-    λ place b found here.
-    let formed : IsWellFormed g b = every-found (IsWellFormed g) place (pool_of s.history) b pool.each found in
-    class-there g s l caller at i words e s' h sound old place b b.need found refl formed.place here in
-    let free : IsFree g (pool_of s.history) (Small at.seat.class) (place_in at i) = record {
-      frame = at.frame;
-      index = i;
-      in_heap = h.site.frame;
-      in_frame = h.index;
-      is_place = refl;
-      same_class = only;
-      clear = clear-block g (pool_of s.history) pool at.frame at.seat.class i h.site.frame h.index only h.none;
-    } in
-    subst (IsLegalWithoutCounts g) (sym h.history)
-    (EachAfter-push (IsLegalEventWithoutCounts g) s.history (Alloc caller words (place_in at i)) sound.legal
-    (h.in_heap, subst (λ n. IsFree g (pool_of s.history) n (place_in at i)) (sym h.small) free))
+  -- the block is free before, so its event is legal
+  pub given-legal : IsSoundWithoutCounts g s → IsSoundWith g s l → IsLegalWithoutCounts g s'.history
+  given-legal sound old =
+      let pool = sound-of g s.history sound.legal in
+      let only : HoldsOnly (pool_of s.history) at.frame at.seat.class =
+      λ place b found here.
+      let formed : IsWellFormed g b = every-found (IsWellFormed g) place (pool_of s.history) b pool.each found in
+      class-there sound old place b b.need found refl formed.place here in
+      let free : IsFree g (pool_of s.history) (Small at.seat.class) (place_in at i) = record {
+        frame = at.frame;
+        index = i;
+        in_heap = h.site.frame;
+        in_frame = h.index;
+        is_place = refl;
+        same_class = only;
+        clear = clear-block g (pool_of s.history) pool at.frame at.seat.class i h.site.frame h.index only h.none;
+      } in
+      subst (IsLegalWithoutCounts g) (sym h.history)
+      (EachAfter-push (IsLegalEventWithoutCounts g) s.history (Alloc caller words (place_in at i)) sound.legal
+      (h.in_heap, subst (λ n. IsFree g (pool_of s.history) n (place_in at i)) (sym h.small) free))
 
--- the block that is live there then is the fresh one, and small
-is-fresh :
-    (g : Geometry) (s : State) (l : Lists) (caller : ℕ) (at : Site) (i words : ℕ) (e : ErrandFields) (s' : State)
-    → Gives g s l caller at i words e s' → (place : ℕ) (b : Block) → place ≡ place_in at i → IsLive s' place b
-    → fresh_block caller words (place_in at i) ≡ b
-is-fresh g s l caller at i words e s' h place b same live =
-    one-live s' (place_in at i) place (fresh_block caller words (place_in at i)) b h.here same live
+  -- the block that is live there then is the fresh one, and small
+  is-fresh : (place : ℕ) (b : Block) → place ≡ place_in at i → IsLive s' place b → fresh_block caller words (place_in at i) ≡ b
+  is-fresh place b same live = one-live s' (place_in at i) place (fresh_block caller words (place_in at i)) b h.here same live
 
-fresh-small :
-    (g : Geometry) (s : State) (l : Lists) (caller : ℕ) (at : Site) (i words : ℕ) (e : ErrandFields) (s' : State)
-    → Gives g s l caller at i words e s' → (place : ℕ) (b : Block) → place ≡ place_in at i → IsLive s' place b → IsSmallOf caller at.seat.class b
-fresh-small g s l caller at i words e s' h place b same live =
-    let is = sym (is-fresh g s l caller at i words e s' h place b same live) in
-    record { owner = ap (λ (x : Block). x.owner) is; need = ap (λ (x : Block). x.need) is ∙ h.small }
+  fresh-small : (place : ℕ) (b : Block) → place ≡ place_in at i → IsLive s' place b → IsSmallOf caller at.seat.class b
+  fresh-small place b same live =
+      let is = sym (is-fresh place b same live) in
+      record { owner = ap (λ (x : Block). x.owner) is; need = ap (λ (x : Block). x.need) is ∙ h.small }
 
--- it is of its superblock, and excepted
-fresh-tied :
-    (g : Geometry) (s : State) (l : Lists) (caller : ℕ) (at : Site) (i words : ℕ) (e : ErrandFields) (s' : State)
-    → Gives g s l caller at i words e s' → (place c : ℕ) (b : Block) → place ≡ place_in at i → IsLive s' place b → b.need ≡ Small c
-    → (d : ℕ) × IsBlockOfDesc g s' l place c d × (IsExcepted g s' place ⊎ (s'.word (name.Arena place) ≡ 2 * d))
-fresh-tied g s l caller at i words e s' h place c b same live of =
-    let classes : Small at.seat.class ≡ Small c = sym (fresh-small g s l caller at i words e s' h place b same live).need ∙ of in
-    let class_same : at.seat.class ≡ c = cc in
-    let frame : frame_of place ≡ at.frame = ap frame_of same ∙ frame_of-block_place at.frame at.seat.class i h.index in
-    let hands : (holds_of (s'.errand caller).point).hands ≡ block_handed at i =
-    ap (λ (o : ErrandFields). (holds_of o.point).hands) h.moves.here ∙ h.hands in
-    let first : Handed = record { place = place_in at i; need = Small at.seat.class } in (
-      at.desc,
-      record {
-        exists = h.site.desc;
-        bound = subst IsTrue (sym (h.bounds at.desc)) h.bound;
-        located =
-            subst (λ c. IsLocated s' at.desc (frame_of place) c) class_same
-            (subst (λ f. IsLocated s' at.desc f at.seat.class) (sym frame)
-            (located-stays s s' at.desc at.frame at.seat.class (h.info at.desc) h.located));
-      },
-      inl (record {
-        caller = (
-          caller,
-          h.in_heap,
-          inl (subst (λ xs. Any (λ (x : Handed). x.place ≡ place) xs) (sym hands) (0, first, omega arith, refl, sym same)),
-        );
-      }),
-    )
+  -- it is of its superblock, and excepted
+  fresh-tied :
+      (place c : ℕ) (b : Block) → place ≡ place_in at i → IsLive s' place b → b.need ≡ Small c
+      → (d : ℕ) × IsBlockOfDesc g s' l place c d × (IsExcepted g s' place ⊎ (s'.word (name.Arena place) ≡ 2 * d))
+  fresh-tied place c b same live of =
+      let classes : Small at.seat.class ≡ Small c = sym (fresh-small place b same live).need ∙ of in
+      let class_same : at.seat.class ≡ c = cc in
+      let frame : frame_of place ≡ at.frame = ap frame_of same ∙ frame_of-block_place at.frame at.seat.class i h.index in
+      let hands : (holds_of (s'.errand caller).point).hands ≡ block_handed at i =
+      ap (λ (o : ErrandFields). (holds_of o.point).hands) h.moves.here ∙ h.hands in
+      let first : Handed = record { place = place_in at i; need = Small at.seat.class } in (
+        at.desc,
+        record {
+          exists = h.site.desc;
+          bound = subst IsTrue (sym (h.bounds at.desc)) h.bound;
+          located =
+              subst (λ c. IsLocated s' at.desc (frame_of place) c) class_same
+              (subst (λ f. IsLocated s' at.desc f at.seat.class) (sym frame)
+              (located-stays s s' at.desc at.frame at.seat.class (h.info at.desc) h.located));
+        },
+        inl (record {
+          caller = (
+            caller,
+            h.in_heap,
+            inl (subst (λ xs. Any (λ (x : Handed). x.place ≡ place) xs) (sym hands) (0, first, omega arith, refl, sym same)),
+          );
+        }),
+      )
 
--- the words still show the pool
-pub given-tied :
-    (g : Geometry) (s : State) (l : Lists) (caller : ℕ) (at : Site) (i words : ℕ) (e : ErrandFields) (s' : State)
-    → Gives g s l caller at i words e s' → IsSoundWith g s l → IsTied g s' l
-given-tied g s l caller at i words e s' h old =
-    small-but g s l l caller at.seat.class (λ place. place ≡ place_in at i) e s'
-    (record {
-      moves = h.moves;
-      words = h.tie_words;
-      either = λ place. cases_eq place (place_in at i);
-      there = h.there;
-      before = λ place b same live. absurd (not-live s (place_in at i) place b h.none same live);
-      after = fresh-small g s l caller at i words e s' h;
-      fresh = λ place k v b same live of.
-          none-written (usable_words (need_of words)) k v
-          (ap (λ (x : Block). slice_index_or x.contents k None) (is-fresh g s l caller at i words e s' h place b same live) ∙ of);
-      small = fresh-tied g s l caller at i words e s' h;
-      bound = λ place c b d ne live of its. record {
-        exists = its.exists;
-        bound = subst IsTrue (sym (h.bounds d)) its.bound;
-        located = located-stays s s' d (frame_of place) c (h.info d) its.located;
-      };
-      excepts = λ place ne excepts. absurd (excepts-none (s.errand caller) place h.bare excepts);
-      hands =
-          subst (All (λ x. IsOwned s' caller x.place x.need)) (sym h.hands)
-          (All-cons (λ x. IsOwned s' caller x.place x.need) (record { place = place_in at i; need = Small at.seat.class }) []
-          (record { block = (fresh_block caller words (place_in at i), h.here, refl, h.small) })
-          (All-nil (λ x. IsOwned s' caller x.place x.need)));
-      frees = subst (All (λ x. IsOwned s' caller x.place x.need)) (sym h.frees) (All-nil (λ x. IsOwned s' caller x.place x.need));
-    }) old.tied
+  -- the words still show the pool
+  pub given-tied : IsSoundWith g s l → IsTied g s' l
+  given-tied old =
+      small-but g s l l caller at.seat.class (λ place. place ≡ place_in at i) e s'
+      (record {
+        moves = h.moves;
+        words = h.tie_words;
+        either = λ place. cases_eq place (place_in at i);
+        there = h.there;
+        before = λ place b same live. absurd (not-live s (place_in at i) place b h.none same live);
+        after = fresh-small;
+        fresh = λ place k v b same live of.
+            none-written (usable_words (need_of words)) k v
+            (ap (λ (x : Block). slice_index_or x.contents k None) (is-fresh place b same live) ∙ of);
+        small = fresh-tied;
+        bound = λ place c b d ne live of its. record {
+          exists = its.exists;
+          bound = subst IsTrue (sym (h.bounds d)) its.bound;
+          located = located-stays s s' d (frame_of place) c (h.info d) its.located;
+        };
+        excepts = λ place ne excepts. absurd (excepts-none (s.errand caller) place h.bare excepts);
+        hands =
+            subst (All (λ x. IsOwned s' caller x.place x.need)) (sym h.hands)
+            (All-cons (λ x. IsOwned s' caller x.place x.need) (record { place = place_in at i; need = Small at.seat.class }) []
+            (record { block = (fresh_block caller words (place_in at i), h.here, refl, h.small) })
+            (All-nil (λ x. IsOwned s' caller x.place x.need)));
+        frees = subst (All (λ x. IsOwned s' caller x.place x.need)) (sym h.frees) (All-nil (λ x. IsOwned s' caller x.place x.need));
+      }) old.tied

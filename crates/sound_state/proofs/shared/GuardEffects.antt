@@ -1,23 +1,12 @@
 -- An effect after which its caller guards nothing new, pushes nothing and scans nothing keeps the guards.
-use Rattle.std.proofs.Common.{ℕ, Some, None, ◌≡◌, ◌<◌, ◌≤◌, ◌+◌, length, arith, sym, subst, ◌∙◌, Bool, true, false}
-use Rattle.std.specs.Prelude.{slice_index, Contains, IfSome}
+use Rattle.std.proofs.Common.{ℕ, Some, None, ◌≡◌, ◌<◌, ◌≤◌, ◌+◌, length, arith, sym, subst, ◌∙◌, Bool, true, false, slice_index, Contains, IfSome}
 use Rattle.std.proofs.lemmas.Option.{none-some}
-use Rattle.heap_geometry.specs.declared.geometry.Geometry.{Geometry}
-use Rattle.word_plan.specs.Counts.{descriptor_count}
-use Rattle.word_plan.specs.declared.name.WordName.TheVariants as name
-use Rattle.word_plan.specs.Occurs.{occurs}
+use Rattle.sound_state.proofs.Common.{Geometry, descriptor_count, occurs, DescPoint, ErrandFields, spare_of, pushed_by, State, Moves, IsGuarded, IsGuard, IsHazard}
+use Rattle.sound_state.proofs.Common.{passed_by, held_by, holds_of, errand_has, Lists, IsSoundWith, callers_sum, errand_away}
+use Rattle.word_table.specs.declared.name.WordName.TheVariants as name
 use Rattle.hazard_parts.specs.declared.point.DescPoint.TheVariants as desc
-use Rattle.hazard_parts.specs.declared.point.DescPoint.{DescPoint}
-use Rattle.errand_steps.specs.Errands.{ErrandFields}
-use Rattle.errand_steps.specs.Fits.{spare_of, pushed_by}
-use Rattle.errand_steps.specs.Steps.{State, Moves}
-use Rattle.sound_state.specs.Guards.{IsGuarded, Guards, IsGuard, IsHazard, passed_by, held_by}
-use Rattle.sound_state.specs.Holdings.{clear, holds_of}
-use Rattle.sound_state.specs.Keepers.{errand_has}
-use Rattle.sound_state.specs.Lists.{Lists}
-use Rattle.sound_state.specs.Sound.{IsSoundWith}
-use Rattle.sound_state.specs.Sums.{callers_sum}
-use Rattle.sound_state.specs.Superblocks.{errand_away}
+use Rattle.sound_state.specs.Guards.{Guards}
+use Rattle.sound_state.specs.Holdings.{clear}
 use Rattle.sound_state.proofs.shared.CallerLemmas.{each-other}
 use Rattle.sound_state.proofs.shared.ListFacts.{contains-occurs}
 use Rattle.sound_state.proofs.shared.ShownLemmas.{IsUnretired}
@@ -128,5 +117,4 @@ bound-unretired g s l d old none =
 -- whether hazard words are read at the point, or all are read
 abbrev pub scans : DescPoint → Bool
 scans (desc.ReadHazard s held at) = true
-scans (desc.Scanned s held) = true
 scans p = false

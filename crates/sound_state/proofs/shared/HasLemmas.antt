@@ -1,18 +1,10 @@
 -- What a caller keeps at its point, and that no other caller has it.
-use Rattle.std.proofs.Common.{ℕ, ◌≡◌, ◌≢◌, ◌<◌, ◌≤◌, ◌+◌, refl, arith, sym, subst, inl, inr, Bool, false}
-use Rattle.std.specs.Prelude.{◌==◌, if◌then◌else◌, IsTrue, ◌&&◌, not}
+use Rattle.std.proofs.Common.{ℕ, ◌≡◌, ◌≢◌, ◌<◌, ◌≤◌, ◌+◌, refl, arith, sym, subst, inl, inr, Bool, false, ◌==◌, if◌then◌else◌, IsTrue, ◌&&◌, not}
 use Rattle.std.proofs.lemmas.Bool.{cases_eq, eq-eqb}
-use Rattle.heap_geometry.specs.declared.geometry.Geometry.{Geometry}
-use Rattle.word_plan.specs.Counts.{descriptor_count}
-use Rattle.errand_steps.specs.declared.point.Point.{Point}
-use Rattle.errand_steps.specs.Errands.{ErrandFields}
-use Rattle.errand_steps.specs.Steps.{State}
-use Rattle.sound_state.specs.Holdings.{Status, reserving, waiting, partly_used, on_its_way, keep, holds_of}
-use Rattle.sound_state.specs.Keepers.{errand_has}
-use Rattle.sound_state.specs.Lists.{Lists}
-use Rattle.sound_state.specs.Sound.{IsSoundWith}
-use Rattle.sound_state.specs.Sums.{sum_below, callers_sum}
-use Rattle.sound_state.specs.Superblocks.{errand_keeps, errand_away, away_of, kept_among, same_status, is_bound}
+use Rattle.sound_state.proofs.Common.{Geometry, descriptor_count, Point, ErrandFields, State, Status, reserving, waiting, partly_used, on_its_way, holds_of}
+use Rattle.sound_state.proofs.Common.{errand_has, Lists, IsSoundWith, sum_below, callers_sum, errand_keeps, errand_away, away_of, kept_among, is_bound}
+use Rattle.sound_state.specs.Holdings.{keep}
+use Rattle.sound_state.specs.Superblocks.{same_status}
 use Rattle.sound_state.proofs.shared.SumLemmas.{sum-plus, sum-least, term-sum, two-terms}
 
 -- one that is kept in one state isn't in another

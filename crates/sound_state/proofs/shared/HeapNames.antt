@@ -1,14 +1,10 @@
 -- How many words of a class there are: one active word and one slot for each heap.
-use Rattle.std.proofs.Common.{ℕ, ◌≡◌, ◌<◌, ◌≤◌, refl, sym, ◌∙◌, ap, arith, inl, inr, ◌⊎◌}
-use Rattle.std.specs.Prelude.{◌==◌, if◌then◌else◌}
+use Rattle.std.proofs.Common.{ℕ, ◌≡◌, ◌<◌, ◌≤◌, refl, sym, ◌∙◌, ap, arith, inl, inr, ◌⊎◌, ◌==◌, if◌then◌else◌}
 use Rattle.std.proofs.lemmas.Bool.{cases_eq, cond-true, cond-false, eq-eqb, ne_eqb}
-use Rattle.heap_geometry.specs.declared.geometry.Geometry.{Geometry}
-use Rattle.word_plan.specs.declared.name.WordName.{WordName}
-use Rattle.word_plan.specs.declared.name.WordName.TheVariants as name
-use Rattle.word_plan.specs.Counts.{word_count}
-use Rattle.word_plan.specs.Table.{Exists, word_name, word_index}
-use Rattle.word_plan.proofs.TableLemmas.{word_name-Exists, word_index-word_name}
-use Rattle.sound_state.specs.Sums.{sum_below}
+use Rattle.sound_state.proofs.Common.{Geometry, WordName, word_count, Exists, word_name, sum_below}
+use Rattle.word_table.specs.declared.name.WordName.TheVariants as name
+use Rattle.word_table.specs.Table.{word_index}
+use Rattle.word_table.proofs.TableLemmas.{word_name-Exists, word_index-word_name}
 use Rattle.sound_state.proofs.shared.SumLemmas.{sum-most, sum-least, sum-swap, sum-once, term-sum}
 
 -- 1 where a word is an active word of the class; where it is a slot of it

@@ -1,16 +1,8 @@
 -- Weights that only the words which hold a superblock have.
 use Rattle.std.proofs.Common.{ℕ, Bool, true, false, ◌≡◌, ◌≢◌, Some, refl, arith, ap, ◌∙◌, inl, inr}
 use Rattle.std.proofs.lemmas.Bool.{cases_Bool}
-use Rattle.heap_geometry.specs.declared.geometry.Geometry.{Geometry}
-use Rattle.packed_words.specs.declared.active.ActiveWord.TheVariants.{Null}
-use Rattle.packed_words.specs.Active.{active_of}
-use Rattle.word_plan.specs.declared.name.WordName.{WordName}
-use Rattle.word_plan.specs.declared.name.WordName.TheVariants as name
-use Rattle.word_plan.specs.Table.{Exists}
-use Rattle.sound_state.specs.Keepers.{word_keeps}
-use Rattle.sound_state.specs.Stock.{word_stock}
-use Rattle.sound_state.specs.Sums.{words_sum}
-use Rattle.sound_state.specs.Superblocks.{word_reserves}
+use Rattle.sound_state.proofs.Common.{Geometry, Null, active_of, WordName, Exists, word_keeps, word_stock, words_sum, word_reserves}
+use Rattle.word_table.specs.declared.name.WordName.TheVariants as name
 use Rattle.sound_state.proofs.shared.SumLemmas.{words-none, words-one}
 
 -- an active word or a slot

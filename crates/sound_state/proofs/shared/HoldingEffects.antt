@@ -1,17 +1,8 @@
 -- What an effect changes of what the callers hold, where one caller goes on that holds something else after it.
 use Rattle.std.proofs.Common.{ℕ, ◌≡◌, ◌<◌, ◌+◌, arith, ap}
-use Rattle.heap_geometry.specs.declared.geometry.Geometry.{Geometry}
-use Rattle.word_plan.specs.Counts.{descriptor_count}
-use Rattle.word_plan.specs.Occurs.{occurs}
-use Rattle.errand_steps.specs.Errands.{ErrandFields}
-use Rattle.errand_steps.specs.Steps.{State, Moves}
-use Rattle.sound_state.specs.Frames.{IsFramed, fills_frame}
-use Rattle.sound_state.specs.Holdings.{Holding, waiting, on_its_way, holds_of}
-use Rattle.sound_state.specs.Lists.{Lists}
-use Rattle.sound_state.specs.Sums.{callers_sum}
-use Rattle.sound_state.specs.Superblocks.{away_of, waiting_of, errand_reserves, reserved_among, errand_keeps, errand_away, kept_among}
-use Rattle.sound_state.specs.Keepers.{errand_has}
-use Rattle.sound_state.specs.Stock.{stock_among, waits_in, errand_stock}
+use Rattle.sound_state.proofs.Common.{Geometry, descriptor_count, occurs, ErrandFields, State, Moves, IsFramed, fills_frame, Holding, waiting, on_its_way, holds_of}
+use Rattle.sound_state.proofs.Common.{Lists, callers_sum, away_of, waiting_of, errand_reserves, reserved_among, errand_keeps, errand_away, kept_among, errand_has}
+use Rattle.sound_state.proofs.Common.{stock_among, waits_in, errand_stock}
 use Rattle.sound_state.proofs.shared.SumLemmas.{sum-same, callers-moved}
 use Rattle.sound_state.proofs.shared.PointLemmas.{kept_places}
 

@@ -1,9 +1,6 @@
 -- How often descriptors are among those that a caller keeps.
-use Rattle.std.proofs.Common.{ℕ, ◌≡◌, ◌≤◌, ◌+◌, List, [], ◌∷◌, length, refl, arith}
-use Rattle.std.specs.Prelude.{◌==◌, if◌then◌else◌}
-use Rattle.sound_state.specs.Holdings.{Kept, reserving, waiting, partly_used, on_its_way}
-use Rattle.sound_state.specs.Superblocks.{kept_among}
-use Rattle.sound_state.specs.Sums.{sum_below}
+use Rattle.std.proofs.Common.{ℕ, ◌≡◌, ◌≤◌, ◌+◌, List, [], ◌∷◌, length, refl, arith, ◌==◌, if◌then◌else◌}
+use Rattle.sound_state.proofs.Common.{Kept, reserving, waiting, partly_used, on_its_way, kept_among, sum_below}
 use Rattle.sound_state.proofs.shared.SumLemmas.{sum-none, sum-once, sum-plus}
 
 -- how often d is among the kept descriptors

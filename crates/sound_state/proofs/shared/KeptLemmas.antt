@@ -1,29 +1,16 @@
 -- Each descriptor stands in one place, and as many are out for each class, after a step that changes one anchor or none.
-use Rattle.std.proofs.Common.{ℕ, ◌≡◌, ◌≢◌, ◌<◌, ◌≤◌, ◌+◌, List, [], ◌∷◌, refl, arith, ap, sym, subst, inl, inr, ◌∙◌}
-use Rattle.std.specs.Prelude.{◌⊎◌, ◌==◌, All, IsSome, if◌then◌else◌}
+use Rattle.std.proofs.Common.{ℕ, ◌≡◌, ◌≢◌, ◌<◌, ◌≤◌, ◌+◌, List, [], ◌∷◌, refl, arith, ap, sym, subst, inl, inr, ◌∙◌, ◌⊎◌, ◌==◌, All, IsSome, if◌then◌else◌}
 use Rattle.std.proofs.lemmas.Bool.{cases_eq, cond-true, cond-false, eq-eqb, ne_eqb}
 use Rattle.std.proofs.lemmas.List.Elements.{All-nil, All-cons, All-head, All-tail}
-use Rattle.heap_geometry.specs.declared.geometry.Geometry.{Geometry}
-use Rattle.heap_geometry.specs.declared.limits.TheConstants.{CLASSES}
-use Rattle.packed_words.specs.Active.{active_of}
-use Rattle.packed_words.specs.Info.{info_of}
-use Rattle.packed_words.specs.declared.anchor.State.TheVariants as phase
-use Rattle.packed_words.specs.Anchor.{AnchorFields, anchor_of}
-use Rattle.word_plan.specs.Counts.{descriptor_count, word_count}
-use Rattle.word_plan.specs.Table.{word_name}
-use Rattle.word_plan.specs.declared.name.WordName.{WordName}
-use Rattle.word_plan.specs.declared.name.WordName.TheVariants as name
-use Rattle.word_plan.proofs.NameLemmas.{cases_name}
-use Rattle.word_plan.specs.Occurs.{occurs}
+use Rattle.sound_state.proofs.Common.{Geometry, CLASSES, active_of, info_of, AnchorFields, anchor_of, descriptor_count, word_count, word_name, WordName, cases_name}
+use Rattle.sound_state.proofs.Common.{occurs, ErrandFields, State, Moves, Kept, Status, reserving, waiting, partly_used, on_its_way, holds_of, IsKept, IsPartlyUsed}
+use Rattle.sound_state.proofs.Common.{IsWithout, IsKeptAs, errand_has, full_keeps, word_keeps, Lists, errand_stock, full_stock, word_stock, sum_below, words_sum}
+use Rattle.sound_state.proofs.Common.{callers_sum, anchor_for, info_for, info_or_zero}
+use Rattle.packed_words.specs.declared.anchor.AnchorState.TheVariants as phase
+use Rattle.word_table.specs.declared.name.WordName.TheVariants as name
 use Rattle.superblock_parts.proofs.ChainLemmas.{occurs-here, occurs-more}
-use Rattle.errand_steps.specs.Errands.{ErrandFields}
-use Rattle.errand_steps.specs.Steps.{State, Moves}
-use Rattle.sound_state.specs.Holdings.{Kept, Status, reserving, waiting, partly_used, on_its_way, holds_of}
-use Rattle.sound_state.specs.Keepers.{IsKept, IsPartlyUsed, IsActive, IsWithout, IsKeptAs, places_of, errand_has, full_keeps, active_keeps, word_keeps}
-use Rattle.sound_state.specs.Lists.{Lists}
-use Rattle.sound_state.specs.Stock.{IsStocked, errand_stock, full_stock, word_stock}
-use Rattle.sound_state.specs.Sums.{sum_below, words_sum, callers_sum}
-use Rattle.sound_state.specs.Superblocks.{anchor_for, info_for, info_or_zero}
+use Rattle.sound_state.specs.Keepers.{IsActive, places_of, active_keeps}
+use Rattle.sound_state.specs.Stock.{IsStocked}
 use Rattle.sound_state.proofs.shared.CallerLemmas.{each-other}
 use Rattle.sound_state.proofs.shared.CreditLemmas.{word-sum}
 use Rattle.sound_state.proofs.shared.PointLemmas.{kept_places}
@@ -219,139 +206,133 @@ pub record MovesAt (g : Geometry) (s : State) (l : Lists) (caller x c : ℕ) (a 
   pub goes : StaysKept s s' x ⊎ ((1 ≤ kept_places x (holds_of (s.errand caller).point).kept) × (b.state ≡ phase.Full → b.count ≡ 0))
   pub own : All (λ k. IsKeptAs s' k.status k.desc k.class) (holds_of e.point).kept
 
-moved-info :
-    (g : Geometry) (s : State) (l : Lists) (caller x c : ℕ) (a b : AnchorFields) (e : ErrandFields) (s' : State) → MovesAt g s l caller x c a b e s'
-    → (d : ℕ) → info_for s' d ≡ info_for s d
-moved-info g s l caller x c a b e s' h d = ap (λ w. info_or_zero (info_of w)) (h.elsewhere (name.Info d) (λ same. cc))
-
-moved-anchor :
-    (g : Geometry) (s : State) (l : Lists) (caller x c : ℕ) (a b : AnchorFields) (e : ErrandFields) (s' : State) → MovesAt g s l caller x c a b e s'
-    → (d : ℕ) → d ≢ x → anchor_for s' d ≡ anchor_for s d
-moved-anchor g s l caller x c a b e s' h d differ = ap anchor_of (h.elsewhere (name.Anchor d) (λ same. differ (ap anchor_number same)))
-
--- what is FULL changes at x alone
-moved-full :
-    (g : Geometry) (s : State) (l : Lists) (caller x c : ℕ) (a b : AnchorFields) (e : ErrandFields) (s' : State) → MovesAt g s l caller x c a b e s'
-    → (d : ℕ)
-    → full_keeps (anchor_for s' d).state + (if x == d then full_keeps a.state else 0)
-    ≡ full_keeps (anchor_for s d).state + (if x == d then full_keeps b.state else 0)
-moved-full g s l caller x c a b e s' h d =
-    elim (cases_eq x d) [
-      | inl here ↦
-          let after : full_keeps (anchor_for s' d).state ≡ full_keeps b.state =
-          ap (λ k. full_keeps (anchor_for s' k).state) (sym here) ∙ ap (λ y. full_keeps y.state) h.after in
-          let before : full_keeps (anchor_for s d).state ≡ full_keeps a.state =
-          ap (λ k. full_keeps (anchor_for s k).state) (sym here) ∙ ap (λ y. full_keeps y.state) h.before in
-          omega (
-            arith,
-            after,
-            before,
-            cond-true {A = ℕ} (x == d) (full_keeps a.state) 0 (eq-eqb x d here),
-            cond-true {A = ℕ} (x == d) (full_keeps b.state) 0 (eq-eqb x d here),
-          )
-      | inr other ↦
-          omega (
-            arith,
-            ap (λ y. full_keeps y.state) (moved-anchor g s l caller x c a b e s' h d (λ same. other (sym same))),
-            cond-false {A = ℕ} (x == d) (full_keeps a.state) 0 (ne_eqb x d other),
-            cond-false {A = ℕ} (x == d) (full_keeps b.state) 0 (ne_eqb x d other),
-          )
-    ]
-
--- each descriptor stands in as many places, so in one, in the state that belongs there
-pub moved-kept :
-    (g : Geometry) (s : State) (l : Lists) (caller x c : ℕ) (a b : AnchorFields) (e : ErrandFields) (s' : State) → MovesAt g s l caller x c a b e s'
-    → IsKept g s l → IsKept g s' l
-moved-kept g s l caller x c a b e s' h kept =
-    let words = λ (d : ℕ). words-but g (word_keeps d) s.word s'.word (name.Anchor x) h.elsewhere (λ w. refl) in
-    let active = λ (heap class : ℕ). h.elsewhere (name.Active heap class) (λ same. cc) in
-    let slot = λ (heap class : ℕ). h.elsewhere (name.Slot heap class) (λ same. cc) in
-    places-kept g s l caller e s'
-    (record {
-      in_heap = h.in_heap;
-      moves = h.moves;
-      places = λ d.
-          let now : errand_has d e ≡ occurs d (s.errand caller).retired + kept_places d (holds_of e.point).kept =
-          omega (arith, ap (occurs d) h.retired) in
-          let was : errand_has d (s.errand caller) ≡ occurs d (s.errand caller).retired + kept_places d (holds_of (s.errand caller).point).kept =
-          omega arith in
-          omega (
-            arith,
-            now,
-            was,
-            callers-moved g (errand_has d) s.errand caller e s'.errand h.in_heap h.moves,
-            words d,
-            h.places d,
-            moved-full g s l caller x c a b e s' h d,
-          );
-      actives = record {
-        active_words = λ heap class has_heap has_class.
-            subst (λ w. IsSome (active_of w)) (sym (active heap class)) (kept.active_words heap class has_heap has_class);
-        slot_words = λ heap class has_heap has_class.
-            subst (λ w. w ≤ descriptor_count g) (sym (slot heap class)) (kept.slot_words heap class has_heap has_class);
-        active = λ heap class d credits has_heap has_class is.
-            kept.active heap class d credits has_heap has_class (ap active_of (sym (active heap class)) ∙ is);
-        slot = λ heap class d has_heap has_class is. kept.slot heap class d has_heap has_class (sym (slot heap class) ∙ is);
-      };
-      goes = λ d.
-          elim (cases_eq d x) [
-            | inr other ↦ inl (same-stays-kept s s' d (moved-info g s l caller x c a b e s' h d) (moved-anchor g s l caller x c a b e s' h d other))
-            | inl same ↦
-                elim h.goes [
-                  | inl goes ↦ inl (subst (StaysKept s s') (sym same) goes)
-                  | inr keeps ↦
-                      let alone = has-alone g s l caller x kept h.in_heap h.exists keeps.0 in
-                      inr (subst (ChangesAlone g s l caller s') (sym same) (record {
-                        alone = alone;
-                        words = words x ∙ alone.words;
-                        full = λ is. ap (λ y. y.count) h.after ∙ keeps.1 (sym (ap (λ y. y.state) h.after) ∙ is);
-                      }))
-                ]
-          ];
-      retired = h.retired;
-      own = h.own;
-    }) kept
-
--- and as many are out for each class
-pub moved-stocked :
-    (g : Geometry) (s : State) (l : Lists) (caller x c : ℕ) (a b : AnchorFields) (e : ErrandFields) (s' : State) → MovesAt g s l caller x c a b e s'
-    → IsStocked g s l → IsStocked g s' l
-moved-stocked g s l caller x c a b e s' h stocked = record {
-  most = λ class has.
-      let elsewhere : (d : ℕ) → d < descriptor_count g → d ≢ x → full_stock s' class d ≡ full_stock s class d =
-      λ d lt other. rw (moved-info g s l caller x c a b e s' h d, moved-anchor g s l caller x c a b e s' h d other) refl in
-      let after : full_stock s' class x ≡ (if c == class then full_keeps b.state else 0) =
-      rw (moved-info g s l caller x c a b e s' h x, h.class, h.after) refl in
-      let before : full_stock s class x ≡ (if c == class then full_keeps a.state else 0) = rw (h.class, h.before) refl in
-      omega (
-        arith,
-        stocked.most class has,
-        after,
-        before,
-        callers-moved g (errand_stock class) s.errand caller e s'.errand h.in_heap h.moves,
-        words-but g (word_stock class) s.word s'.word (name.Anchor x) h.elsewhere (λ w. refl),
-        sum-change (descriptor_count g) (full_stock s class) (full_stock s' class) x h.exists elsewhere,
-        h.stock class,
-      );
-}
-
 -- two states whose descriptors say the same
 pub record SameDescs (s s' : State) : Type 0 where
   pub info : (d : ℕ) → info_for s' d ≡ info_for s d
   pub anchor : (d : ℕ) → anchor_for s' d ≡ anchor_for s d
 
-pub descs-go : (s s' : State) → SameDescs s s' → (d : ℕ) → StaysKept s s' d
-descs-go s s' h d = same-stays-kept s s' d (h.info d) (h.anchor d)
+module _
+    {g : Geometry} {s : State} {l : Lists} {caller x c : ℕ} {a b : AnchorFields} {e : ErrandFields} {s' : State}
+    (h : MovesAt g s l caller x c a b e s') where
+  moved-info : (d : ℕ) → info_for s' d ≡ info_for s d
+  moved-info d = ap (λ w. info_or_zero (info_of w)) (h.elsewhere (name.Info d) (λ same. cc))
 
--- so each descriptor is in the same state
-pub active-same : (s s' : State) → SameDescs s s' → (d c : ℕ) → IsActive s d c → IsActive s' d c
-active-same s s' h d = (descs-go s s' h d).active
+  moved-anchor : (d : ℕ) → d ≢ x → anchor_for s' d ≡ anchor_for s d
+  moved-anchor d differ = ap anchor_of (h.elsewhere (name.Anchor d) (λ same. differ (ap anchor_number same)))
 
-pub kept_as-same : (s s' : State) → SameDescs s s' → (status : Status) (d c : ℕ) → IsKeptAs s status d c → IsKeptAs s' status d c
-kept_as-same s s' h status d c = kept-goes s s' status d c (descs-go s s' h d)
+  -- what is FULL changes at x alone
+  moved-full :
+      (d : ℕ)
+      → full_keeps (anchor_for s' d).state + (if x == d then full_keeps a.state else 0) ≡ full_keeps (anchor_for s d).state + (if x == d then full_keeps b.state else 0)
+  moved-full d =
+      elim (cases_eq x d) [
+        | inl here ↦
+            let after : full_keeps (anchor_for s' d).state ≡ full_keeps b.state =
+            ap (λ k. full_keeps (anchor_for s' k).state) (sym here) ∙ ap (λ y. full_keeps y.state) h.after in
+            let before : full_keeps (anchor_for s d).state ≡ full_keeps a.state =
+            ap (λ k. full_keeps (anchor_for s k).state) (sym here) ∙ ap (λ y. full_keeps y.state) h.before in
+            omega (
+              arith,
+              after,
+              before,
+              cond-true {A = ℕ} (x == d) (full_keeps a.state) 0 (eq-eqb x d here),
+              cond-true {A = ℕ} (x == d) (full_keeps b.state) 0 (eq-eqb x d here),
+            )
+        | inr other ↦
+            omega (
+              arith,
+              ap (λ y. full_keeps y.state) (moved-anchor d (λ same. other (sym same))),
+              cond-false {A = ℕ} (x == d) (full_keeps a.state) 0 (ne_eqb x d other),
+              cond-false {A = ℕ} (x == d) (full_keeps b.state) 0 (ne_eqb x d other),
+            )
+      ]
 
-pub partly-same : (s s' : State) → SameDescs s s' → (d c : ℕ) → IsPartlyUsed s d c → IsPartlyUsed s' d c
-partly-same s s' h d = (descs-go s s' h d).partly
+  -- each descriptor stands in as many places, so in one, in the state that belongs there
+  pub moved-kept : IsKept g s l → IsKept g s' l
+  moved-kept kept =
+      let words = λ (d : ℕ). words-but g (word_keeps d) s.word s'.word (name.Anchor x) h.elsewhere (λ w. refl) in
+      let active = λ (heap class : ℕ). h.elsewhere (name.Active heap class) (λ same. cc) in
+      let slot = λ (heap class : ℕ). h.elsewhere (name.Slot heap class) (λ same. cc) in
+      places-kept g s l caller e s'
+      (record {
+        in_heap = h.in_heap;
+        moves = h.moves;
+        places = λ d.
+            let now : errand_has d e ≡ occurs d (s.errand caller).retired + kept_places d (holds_of e.point).kept =
+            omega (arith, ap (occurs d) h.retired) in
+            let was : errand_has d (s.errand caller) ≡ occurs d (s.errand caller).retired + kept_places d (holds_of (s.errand caller).point).kept =
+            omega arith in
+            omega (
+              arith,
+              now,
+              was,
+              callers-moved g (errand_has d) s.errand caller e s'.errand h.in_heap h.moves,
+              words d,
+              h.places d,
+              moved-full d,
+            );
+        actives = record {
+          active_words = λ heap class has_heap has_class.
+              subst (λ w. IsSome (active_of w)) (sym (active heap class)) (kept.active_words heap class has_heap has_class);
+          slot_words = λ heap class has_heap has_class.
+              subst (λ w. w ≤ descriptor_count g) (sym (slot heap class)) (kept.slot_words heap class has_heap has_class);
+          active = λ heap class d credits has_heap has_class is.
+              kept.active heap class d credits has_heap has_class (ap active_of (sym (active heap class)) ∙ is);
+          slot = λ heap class d has_heap has_class is. kept.slot heap class d has_heap has_class (sym (slot heap class) ∙ is);
+        };
+        goes = λ d.
+            elim (cases_eq d x) [
+              | inr other ↦ inl (same-stays-kept s s' d (moved-info d) (moved-anchor d other))
+              | inl same ↦
+                  elim h.goes [
+                    | inl goes ↦ inl (subst (StaysKept s s') (sym same) goes)
+                    | inr keeps ↦
+                        let alone = has-alone g s l caller x kept h.in_heap h.exists keeps.0 in
+                        inr (subst (ChangesAlone g s l caller s') (sym same) (record {
+                          alone = alone;
+                          words = words x ∙ alone.words;
+                          full = λ is. ap (λ y. y.count) h.after ∙ keeps.1 (sym (ap (λ y. y.state) h.after) ∙ is);
+                        }))
+                  ]
+            ];
+        retired = h.retired;
+        own = h.own;
+      }) kept
 
-pub without-same : (s s' : State) → SameDescs s s' → (d : ℕ) → IsWithout s d → IsWithout s' d
-without-same s s' h d = (descs-go s s' h d).without
+  -- and as many are out for each class
+  pub moved-stocked : IsStocked g s l → IsStocked g s' l
+  moved-stocked stocked = record {
+    most = λ class has.
+        let elsewhere : (d : ℕ) → d < descriptor_count g → d ≢ x → full_stock s' class d ≡ full_stock s class d =
+        λ d lt other. rw (moved-info d, moved-anchor d other) refl in
+        let after : full_stock s' class x ≡ (if c == class then full_keeps b.state else 0) =
+        rw (moved-info x, h.class, h.after) refl in
+        let before : full_stock s class x ≡ (if c == class then full_keeps a.state else 0) = rw (h.class, h.before) refl in
+        omega (
+          arith,
+          stocked.most class has,
+          after,
+          before,
+          callers-moved g (errand_stock class) s.errand caller e s'.errand h.in_heap h.moves,
+          words-but g (word_stock class) s.word s'.word (name.Anchor x) h.elsewhere (λ w. refl),
+          sum-change (descriptor_count g) (full_stock s class) (full_stock s' class) x h.exists elsewhere,
+          h.stock class,
+        );
+  }
+
+module _ {s s' : State} (h : SameDescs s s') where
+  pub descs-go : (d : ℕ) → StaysKept s s' d
+  descs-go d = same-stays-kept s s' d (h.info d) (h.anchor d)
+
+  -- so each descriptor is in the same state
+  pub active-same : (d c : ℕ) → IsActive s d c → IsActive s' d c
+  active-same d = (descs-go d).active
+
+  pub kept_as-same : (status : Status) (d c : ℕ) → IsKeptAs s status d c → IsKeptAs s' status d c
+  kept_as-same status d c = kept-goes s s' status d c (descs-go d)
+
+  pub partly-same : (d c : ℕ) → IsPartlyUsed s d c → IsPartlyUsed s' d c
+  partly-same d = (descs-go d).partly
+
+  pub without-same : (d : ℕ) → IsWithout s d → IsWithout s' d
+  without-same d = (descs-go d).without

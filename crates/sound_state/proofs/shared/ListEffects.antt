@@ -1,14 +1,8 @@
 -- An effect that changes no head and no next word keeps the lists.
-use Rattle.std.proofs.Common.{ℕ, ◌≡◌, ◌≢◌, ◌<◌, ◌≤◌, List, sym, subst}
+use Rattle.std.proofs.Common.{ℕ, ◌≡◌, ◌≢◌, ◌<◌, ◌≤◌, List, sym, subst, All}
 use Rattle.std.proofs.Math.Path.{fun_ext}
-use Rattle.std.specs.Prelude.{All}
-use Rattle.heap_geometry.specs.declared.geometry.Geometry.{Geometry}
-use Rattle.word_plan.specs.declared.name.WordName.{WordName}
-use Rattle.word_plan.specs.declared.name.WordName.TheVariants as name
-use Rattle.word_plan.specs.Counts.{descriptor_count}
-use Rattle.stack_parts.specs.declared.point.Pile.TheVariants.{Frames, Partials}
-use Rattle.stack_parts.specs.Stacks.{Stacked, next_in}
-use Rattle.sound_state.specs.Lists.{Lists, IsListed}
+use Rattle.sound_state.proofs.Common.{Geometry, WordName, descriptor_count, Frames, Partials, Stacked, next_in, Lists, IsListed}
+use Rattle.word_table.specs.declared.name.WordName.TheVariants as name
 
 -- the word is a head or a next word
 abbrev pub IsListWord : WordName → Type 0

@@ -5,7 +5,7 @@ use Rattle.std.proofs.lemmas.List.Elements.{All-nil, All-cons, All-head, All-tai
 use Rattle.std.proofs.lemmas.Option.{none-some}
 use Rattle.std.specs.List.{AllByRecursion}
 use Rattle.std.specs.Prelude.{Any, slice_index_or, ◌==◌, if◌then◌else◌, Contains, All}
-use Rattle.word_plan.specs.Occurs.{occurs}
+use Rattle.word_table.specs.Occurs.{occurs}
 use Rattle.superblock_parts.proofs.ChainLemmas.{occurs-here, occurs-more}
 
 -- no element of an empty list has anything, and the one of a list of one what some element has

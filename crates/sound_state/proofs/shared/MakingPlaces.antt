@@ -1,27 +1,14 @@
 -- A frame of which a superblock is in the making: no superblock lies there, and no block is live.
-use Rattle.std.proofs.Common.{ℕ, ◌≡◌, ◌≢◌, ◌<◌, ◌≤◌, arith, ap, sym, subst, inl, inr, ◌∙◌}
+use Rattle.std.proofs.Common.{ℕ, ◌≡◌, ◌≢◌, ◌<◌, ◌≤◌, arith, ap, sym, subst, inl, inr, ◌∙◌, IsTrue}
 use Rattle.std.proofs.lemmas.Bool.{cases_eq}
-use Rattle.std.specs.Prelude.{IsTrue}
-use Rattle.heap_geometry.specs.Place.{frame_of}
-use Rattle.heap_geometry.specs.declared.geometry.Geometry.{Geometry}
-use Rattle.heap_geometry.specs.declared.need.Need.TheVariants.{Small, Large, TooLarge}
-use Rattle.heap_geometry.specs.declared.need.Need.{Need}
-use Rattle.word_plan.specs.Counts.{descriptor_count}
-use Rattle.word_plan.specs.declared.seat.Site.{Site}
-use Rattle.word_plan.specs.Occurs.{occurs}
-use Rattle.pool_model.proofs.PoolLemmas.{place-found}
+use Rattle.sound_state.proofs.Common.{frame_of, Geometry, Small, Need, descriptor_count, Site, occurs, place-found, pool_of, State, Point, errand_frames}
+use Rattle.sound_state.proofs.Common.{fills_frame, waiting, holds_of, Lists, IsSoundWith, IsSoundWithoutCounts, callers_sum, info_for, is_bound, errand_keeps}
+use Rattle.sound_state.proofs.Common.{kept_among, IsLive}
+use Rattle.heap_geometry.specs.declared.need.Need.TheVariants.{Large, TooLarge}
 use Rattle.pool_model.proofs.WellFormedLemmas.{large-frame}
-use Rattle.pool_model.specs.Pool.{Block, pool_of}
+use Rattle.pool_model.specs.Pool.{Block}
 use Rattle.pool_model.specs.WellFormed.{IsPlaceFor}
-use Rattle.errand_steps.specs.Steps.{State}
-use Rattle.errand_steps.specs.declared.point.Point.{Point}
-use Rattle.sound_state.specs.Frames.{errand_frames, fills_frame}
-use Rattle.sound_state.specs.Holdings.{waiting, making, holds_of}
-use Rattle.sound_state.specs.Lists.{Lists}
-use Rattle.sound_state.specs.Sound.{IsSoundWith, IsSoundWithoutCounts}
-use Rattle.sound_state.specs.Sums.{callers_sum}
-use Rattle.sound_state.specs.Superblocks.{info_for, is_bound, errand_keeps, kept_among}
-use Rattle.sound_state.specs.Ties.{IsLive}
+use Rattle.sound_state.specs.Holdings.{making}
 use Rattle.sound_state.proofs.shared.FrameLemmas.{held-or-filled}
 use Rattle.sound_state.proofs.shared.MakingWeights.{making-waits}
 use Rattle.sound_state.proofs.shared.OverlapLemmas.{formed-at}

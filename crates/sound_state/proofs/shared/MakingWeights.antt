@@ -1,12 +1,9 @@
 -- What a caller holds of a superblock that it makes, and of one that waits to be installed.
-use Rattle.std.proofs.Common.{ℕ, false, ◌≡◌, ◌≢◌, ◌+◌, [], ◌∷◌, refl, arith, sym}
-use Rattle.std.specs.Prelude.{◌==◌, if◌then◌else◌}
+use Rattle.std.proofs.Common.{ℕ, false, ◌≡◌, ◌≢◌, ◌+◌, [], ◌∷◌, refl, arith, sym, ◌==◌, if◌then◌else◌}
 use Rattle.std.proofs.lemmas.Bool.{cond-true, cond-false, eq-eqb, ne_eqb}
-use Rattle.word_plan.specs.declared.seat.Site.{Site}
-use Rattle.superblock_parts.specs.Anchors.{new_credits}
-use Rattle.sound_state.specs.Holdings.{Holding, Status, nothing, making, waiting, on_its_way, reserve, keep}
-use Rattle.sound_state.specs.Superblocks.{same_status, reserved_among, kept_among}
-use Rattle.sound_state.specs.Stock.{stock_among}
+use Rattle.sound_state.proofs.Common.{Site, new_credits, Holding, Status, waiting, on_its_way, reserved_among, kept_among, stock_among}
+use Rattle.sound_state.specs.Holdings.{nothing, making, reserve, keep}
+use Rattle.sound_state.specs.Superblocks.{same_status}
 use Rattle.sound_state.proofs.shared.PointLemmas.{kept_places}
 
 -- 1 where it is the descriptor at hand

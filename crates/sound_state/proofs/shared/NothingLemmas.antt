@@ -1,28 +1,16 @@
 -- A caller that goes on to a point at which it holds nothing.
-use Rattle.std.proofs.Common.{ℕ, None, ◌≡◌, ◌<◌, ◌≤◌, ◌+◌, ◌^◌, List, length, refl, arith, sym, subst, inl, inr, ◌∙◌}
-use Rattle.std.specs.Prelude.{All, count_by, slice_index}
+use Rattle.std.proofs.Common.{ℕ, None, ◌≡◌, ◌<◌, ◌≤◌, ◌+◌, ◌^◌, List, length, refl, arith, sym, subst, inl, inr, ◌∙◌, All, count_by, slice_index}
 use Rattle.std.proofs.lemmas.Grind.{common_steps}
 use Rattle.std.proofs.lemmas.List.Elements.{All-nil}
 use Rattle.std.proofs.lemmas.Option.{none-some}
-use Rattle.heap_geometry.specs.declared.geometry.Geometry.{Geometry}
-use Rattle.word_plan.specs.declared.action.Found.{Found}
-use Rattle.word_plan.specs.Seats.{SeatFields}
+use Rattle.sound_state.proofs.Common.{Geometry, Found, SeatFields, Continuation, Point, Idle, Desc, ErrandFields, settle_of, counts_lost, spare_of, pushed_by, State}
+use Rattle.sound_state.proofs.Common.{IsHazard, IsGuard, passed_by, held_by, Kept, holds_of, IsWithout, IsKeptAs, Lists, IsSo, IsOwned, recalls_of, IsOwnErrand}
+use Rattle.sound_state.proofs.Common.{waits_in, gives_small, refuses_small}
 use Rattle.hazard_parts.specs.declared.point.DescPoint.TheVariants as desc
-use Rattle.errand_steps.specs.declared.continuation.Continuation.{Continuation}
-use Rattle.errand_steps.specs.declared.point.Point.{Point}
-use Rattle.errand_steps.specs.declared.point.Point.TheVariants.{Idle, Desc}
-use Rattle.errand_steps.specs.Errands.{ErrandFields, settle_of, counts_lost, no_words}
-use Rattle.errand_steps.specs.Fits.{spare_of, pushed_by}
-use Rattle.errand_steps.specs.Steps.{State}
+use Rattle.errand_steps.specs.Errands.{no_words}
 use Rattle.errand_steps.proofs.ErrandLemmas.{settle_errand}
-use Rattle.sound_state.specs.Guards.{IsHazard, IsGuard, passed_by, held_by}
-use Rattle.sound_state.specs.Holdings.{HazardState, Kept, nothing, holds_of}
-use Rattle.sound_state.specs.Keepers.{IsWithout, IsKeptAs}
-use Rattle.sound_state.specs.Lists.{Lists}
-use Rattle.sound_state.specs.Recalls.{IsSo, IsOwned, recalls_of}
-use Rattle.sound_state.specs.Sound.{IsOwnErrand}
-use Rattle.sound_state.specs.Stock.{waits_in}
-use Rattle.sound_state.specs.Turns.{gives_small, refuses_small, turn_open, turn_unframed, turn_unlisted, turn_unanswered, errand_discards, errand_pops}
+use Rattle.sound_state.specs.Holdings.{HazardState, nothing}
+use Rattle.sound_state.specs.Turns.{turn_open, turn_unframed, turn_unlisted, turn_unanswered, errand_discards, errand_pops}
 use Rattle.sound_state.proofs.shared.ShownLemmas.{Excepts, IsSaidAt, MayGoOn, MayGuard}
 use Rattle.sound_state.proofs.shared.StepLemmas.{HoldsException, raised-below}
 

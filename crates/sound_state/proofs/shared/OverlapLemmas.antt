@@ -1,24 +1,15 @@
 -- Live blocks and free blocks are apart.
-use Rattle.std.proofs.Common.{ℕ, ◌≡◌, ◌≢◌, ◌<◌, Option, Some, None, refl, sym, ◌∙◌, ap, subst, arith}
-use Rattle.std.specs.Prelude.{IsTrue}
-use Rattle.heap_geometry.specs.declared.geometry.Geometry.{Geometry}
-use Rattle.heap_geometry.specs.declared.need.Need.{Need}
-use Rattle.heap_geometry.specs.declared.need.Need.TheVariants.{Small}
-use Rattle.heap_geometry.specs.Need.{block_count_of}
-use Rattle.heap_geometry.specs.Place.{IsApart, block_place, frame_of}
-use Rattle.heap_geometry.proofs.PlaceLemmas.{frame_of-block_place}
-use Rattle.word_plan.specs.Counts.{descriptor_count}
-use Rattle.word_plan.specs.Occurs.{occurs}
-use Rattle.pool_model.specs.Pool.{Block, block_at, span_of, pool_of}
+use Rattle.std.proofs.Common.{ℕ, ◌≡◌, ◌≢◌, ◌<◌, Option, Some, None, refl, sym, ◌∙◌, ap, subst, arith, IsTrue}
+use Rattle.sound_state.proofs.Common.{Geometry, Need, Small, block_count_of, block_place, frame_of, frame_of-block_place, descriptor_count, occurs, block_at}
+use Rattle.sound_state.proofs.Common.{pool_of, place-found, sound-of, State, Lists, IsSoundWith, IsSoundWithoutCounts, IsChained, info_for, is_bound, is_there}
+use Rattle.sound_state.proofs.Common.{live_at, superblock_of, free_chain, IsLive}
+use Rattle.heap_geometry.specs.Place.{IsApart}
+use Rattle.pool_model.specs.Pool.{Block, span_of}
 use Rattle.pool_model.specs.WellFormed.{IsPlaceFor, IsWellFormed}
-use Rattle.pool_model.proofs.PoolLemmas.{place-found, every-found}
-use Rattle.pool_model.proofs.WellFormedLemmas.{sound-of, separate-found}
-use Rattle.errand_steps.specs.Steps.{State}
+use Rattle.pool_model.proofs.PoolLemmas.{every-found}
+use Rattle.pool_model.proofs.WellFormedLemmas.{separate-found}
 use Rattle.sound_state.specs.Consequences.{IsTaken}
-use Rattle.sound_state.specs.Lists.{Lists}
-use Rattle.sound_state.specs.Sound.{IsSoundWith, IsSoundWithoutCounts}
-use Rattle.sound_state.specs.Superblocks.{IsChained, info_for, is_bound, is_there, live_at, superblock_of, free_chain}
-use Rattle.sound_state.specs.Ties.{IsLive, IsBlockOfDesc}
+use Rattle.sound_state.specs.Ties.{IsBlockOfDesc}
 
 pub live-apart : (g : Geometry) (s : State) → IsSoundWithoutCounts g s → (p q : ℕ) (a b : Block) → IsLive s p a → IsLive s q b → p ≢ q
     → IsApart (span_of a) (span_of b)

@@ -1,25 +1,16 @@
 -- Who owns a block.
-use Rattle.std.proofs.Common.{ℕ, ◌≡◌, ◌≢◌, ap, inl, inr, Option, Some, None, ◌∙◌, ◌<◌, sym, subst, false, ◌*◌, []}
+use Rattle.std.proofs.Common.{ℕ, ◌≡◌, ◌≢◌, ap, inl, inr, Option, Some, None, ◌∙◌, ◌<◌, sym, subst, false, ◌*◌, [], ◌⊎◌, All, IsTrue}
 use Rattle.std.proofs.lemmas.Bool.{cases_eq}
 use Rattle.std.proofs.lemmas.List.Elements.{All-head}
-use Rattle.std.specs.Prelude.{◌⊎◌, All, IsTrue}
-use Rattle.heap_geometry.specs.Place.{block_place}
-use Rattle.heap_geometry.specs.declared.geometry.Geometry.{Geometry}
+use Rattle.sound_state.proofs.Common.{block_place, Geometry, Need, SeatFields, block_at, pool_of, State, Continuation, Block, Holding, holds_of, Lists, IsOwned}
+use Rattle.sound_state.proofs.Common.{IsSoundWith}
 use Rattle.heap_geometry.specs.declared.need.Need.TheVariants as need
-use Rattle.heap_geometry.specs.declared.need.Need.{Need}
-use Rattle.word_plan.specs.Seats.{SeatFields}
-use Rattle.word_plan.specs.declared.name.WordName.TheVariants as name
+use Rattle.word_table.specs.declared.name.WordName.TheVariants as name
 use Rattle.superblock_parts.specs.declared.point.BlockPoint.TheVariants as block
-use Rattle.pool_model.specs.Pool.{Block as Live, block_at, pool_of}
+use Rattle.pool_model.specs.Pool.{Block as Live}
 use Rattle.pool_model.specs.declared.owner.Owner.TheVariants.{Caller, Shelf}
 use Rattle.pool_model.specs.declared.owner.Owner.{Owner}
-use Rattle.errand_steps.specs.Steps.{State}
-use Rattle.errand_steps.specs.declared.continuation.Continuation.{Continuation}
-use Rattle.errand_steps.specs.declared.point.Point.TheVariants.{Block}
-use Rattle.sound_state.specs.Holdings.{Handed, Freed, Holding, holds_of}
-use Rattle.sound_state.specs.Lists.{Lists}
-use Rattle.sound_state.specs.Recalls.{IsOwned}
-use Rattle.sound_state.specs.Sound.{IsSoundWith}
+use Rattle.sound_state.specs.Holdings.{Handed, Freed}
 use Rattle.sound_state.specs.Ties.{IsExcepted, IsBlockOfDesc}
 use Rattle.sound_state.proofs.shared.ListFacts.{any-none, any-one}
 use Rattle.sound_state.proofs.shared.StepLemmas.{HoldsException}

@@ -2,44 +2,20 @@
 use Rattle.std.proofs.Common.{ℕ, false, None, ◌≡◌, ◌<◌, ◌≤◌, ◌+◌, ◌^◌, List, [], ◌∷◌, refl, arith, ap, sym, subst, inl, inr, ◌∙◌, ◌≢◌, length-set, get_or-set_other}
 use Rattle.std.specs.Prelude.{All, Any, Contains, IsSome, IsTrue, length, slice_index, slice_set}
 use Rattle.std.proofs.lemmas.List.Elements.{All-nil, All-cons, All-tail, All-contains}
-use Rattle.heap_geometry.specs.Need.{need_of}
-use Rattle.heap_geometry.specs.declared.geometry.Geometry.{Geometry}
+use Rattle.sound_state.proofs.Common.{need_of, Geometry, active_of, SeatFields, Found, WordName, name_of, after_action, descriptor_count, Exists, Writes, cases_name}
+use Rattle.sound_state.proofs.Common.{Site, occurs, Continuation, Next, Desc, Point, ErrandFields, counts_cleared, event_of, FitsPoint, spare_of, pushed_by, next_of}
+use Rattle.sound_state.proofs.Common.{asked, plan_point_of, State, Step, action_at, name_at, word_at, found_at, IsHazard, IsGuard, passed_by, held_by, Kept}
+use Rattle.sound_state.proofs.Common.{holds_of, on_its_way, waiting, reserving, partly_used, IsKeptAs, IsPartlyUsed, errand_has, word_keeps, Lists, IsSo, IsOwned}
+use Rattle.sound_state.proofs.Common.{recalls_of, IsSoundWithoutCounts, IsSoundWith, waits_in, word_stock, stock_among, sum_below, callers_sum, errand_keeps}
+use Rattle.sound_state.proofs.Common.{word_reserves, reserved_among, kept_among}
 use Rattle.heap_geometry.specs.declared.need.Need.TheVariants as need
-use Rattle.packed_words.specs.Active.{active_of}
-use Rattle.word_plan.specs.Seats.{SeatFields}
-use Rattle.word_plan.specs.declared.action.Found.{Found}
-use Rattle.word_plan.specs.declared.name.WordName.{WordName}
-use Rattle.word_plan.specs.declared.name.WordName.TheVariants as name
-use Rattle.word_plan.specs.Actions.{name_of, after_action}
-use Rattle.word_plan.specs.Counts.{descriptor_count}
-use Rattle.word_plan.specs.Table.{Exists}
-use Rattle.word_plan.specs.Words.{Writes}
-use Rattle.word_plan.proofs.NameLemmas.{cases_name}
-use Rattle.word_plan.specs.declared.seat.Site.{Site}
-use Rattle.word_plan.specs.Occurs.{occurs}
+use Rattle.word_table.specs.declared.name.WordName.TheVariants as name
 use Rattle.hazard_parts.specs.declared.point.DescPoint.TheVariants as desc
-use Rattle.errand_steps.specs.declared.continuation.Continuation.{Continuation}
 use Rattle.errand_steps.specs.declared.continuation.Continuation.TheVariants as continuation
-use Rattle.errand_steps.specs.declared.next.Next.{Next}
-use Rattle.errand_steps.specs.declared.point.Point.TheVariants.{Desc}
-use Rattle.errand_steps.specs.declared.point.Point.{Point}
-use Rattle.errand_steps.specs.Errands.{ErrandFields, point_after, counts_cleared}
-use Rattle.errand_steps.specs.Events.{event_of}
-use Rattle.errand_steps.specs.Fits.{FitsPoint, spare_of, pushed_by, FitsContinuation}
-use Rattle.errand_steps.specs.Nexts.{next_of}
+use Rattle.errand_steps.specs.Errands.{point_after}
+use Rattle.errand_steps.specs.Fits.{FitsContinuation}
 use Rattle.errand_steps.specs.Continuations.{is_alloc, is_free}
-use Rattle.errand_steps.specs.Points.{asked, plan_point_of}
-use Rattle.errand_steps.specs.Steps.{State, Step, action_at, name_at, word_at, found_at}
 use Rattle.errand_steps.proofs.PlanLemmas.{plan-exists}
-use Rattle.sound_state.specs.Guards.{IsHazard, IsGuard, passed_by, held_by}
-use Rattle.sound_state.specs.Holdings.{Kept, holds_of, on_its_way, waiting, reserving, partly_used}
-use Rattle.sound_state.specs.Keepers.{IsKeptAs, IsPartlyUsed, errand_has, word_keeps}
-use Rattle.sound_state.specs.Lists.{Lists}
-use Rattle.sound_state.specs.Recalls.{IsSo, IsOwned, recalls_of}
-use Rattle.sound_state.specs.Sound.{IsSoundWithoutCounts, IsSoundWith}
-use Rattle.sound_state.specs.Stock.{waits_in, word_stock, stock_among}
-use Rattle.sound_state.specs.Sums.{sum_below, callers_sum}
-use Rattle.sound_state.specs.Superblocks.{errand_keeps, word_reserves, reserved_among, kept_among}
 use Rattle.sound_state.proofs.shared.ShownLemmas.{ActivesKept}
 use Rattle.sound_state.proofs.shared.StepLemmas.{LeadsOrEnds, PointGoes, TurnGoes, actives-stay, at_point, found_from, goes-guards, goes-stands, settle-next, step-most, words-stay}
 use Rattle.sound_state.proofs.shared.SumLemmas.{sum-plus, sum-least, term-sum}

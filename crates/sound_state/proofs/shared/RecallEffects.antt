@@ -1,37 +1,18 @@
 -- What an effect on superblocks leaves of what other callers remember.
-use Rattle.std.proofs.Common.{ℕ, true, ◌≡◌, ◌≢◌, ◌<◌, ◌≤◌, ◌-◌, [], refl, arith, ap, sym, subst, ◌∙◌}
+use Rattle.std.proofs.Common.{ℕ, true, ◌≡◌, ◌≢◌, ◌<◌, ◌≤◌, [], refl, arith, ap, sym, subst, ◌∙◌, IsTrue}
 use Rattle.std.proofs.Math.Path.{fun_ext}
 use Rattle.std.specs.List.{All}
-use Rattle.std.specs.Prelude.{IsTrue}
 use Rattle.std.proofs.lemmas.List.Elements.{All-nil, All-cons}
-use Rattle.heap_geometry.specs.declared.geometry.Geometry.{Geometry}
-use Rattle.heap_geometry.specs.declared.need.Need.{Need}
-use Rattle.packed_words.specs.declared.anchor.State.{State as Phase}
-use Rattle.packed_words.specs.declared.anchor.State.TheVariants as phase
-use Rattle.packed_words.specs.Anchor.{AnchorFields}
-use Rattle.packed_words.specs.Head.{head_of}
-use Rattle.packed_words.specs.Info.{info_of}
-use Rattle.packed_words.specs.Prefix.{link_of}
-use Rattle.word_plan.specs.declared.name.WordName.{WordName}
-use Rattle.word_plan.specs.declared.name.WordName.TheVariants as name
-use Rattle.word_plan.specs.declared.seat.Site.{Site}
-use Rattle.word_plan.specs.Seats.{SeatFields}
-use Rattle.word_plan.specs.Occurs.{occurs}
-use Rattle.superblock_parts.specs.Chains.{link_in, prefix_name}
-use Rattle.stack_parts.specs.declared.point.Pile.{Pile}
-use Rattle.stack_parts.specs.declared.point.Pile.TheVariants.{Frames, Partials}
-use Rattle.stack_parts.specs.Piles.{head_name, next_name}
-use Rattle.partial_parts.specs.Grants.{is_empty}
-use Rattle.pool_model.specs.declared.event.Event.TheVariants.{Looked}
-use Rattle.pool_model.specs.Histories.{own, EndsWith}
-use Rattle.errand_steps.specs.Errands.{ErrandFields}
-use Rattle.errand_steps.specs.Steps.{State, Moves}
-use Rattle.sound_state.specs.Holdings.{on_its_way}
-use Rattle.sound_state.specs.Lists.{Lists}
-use Rattle.sound_state.specs.Recalls.{Recall, EndsRefused, IsPopped, IsLocated, IsEmptied, IsRemembered, IsSo, IsOwned, bound_here, recalls_of, bound_for, located, bound_at, pops, links, tops, nexts, tops_exist, says, made, in_use, emptied, noted, owns, owns_all, looked, refused}
-use Rattle.sound_state.specs.Sums.{callers_sum}
-use Rattle.sound_state.specs.Superblocks.{Superblock, info_or_zero, anchor_for, info_for, superblock_of, free_chain, reserved_of, is_bound, errand_keeps}
+use Rattle.sound_state.proofs.Common.{Geometry, Need, AnchorFields, head_of, info_of, link_of, WordName, Site, SeatFields, occurs, link_in, prefix_name, Pile}
+use Rattle.sound_state.proofs.Common.{Frames, Partials, head_name, next_name, is_empty, own, ErrandFields, State, Moves, on_its_way, Lists, Recall, IsLocated, IsSo}
+use Rattle.sound_state.proofs.Common.{IsOwned, bound_here, recalls_of, bound_for, bound_at, pops, links, says, callers_sum}
+use Rattle.sound_state.proofs.Common.{Superblock, info_or_zero, anchor_for, info_for, superblock_of, free_chain, reserved_of, is_bound, errand_keeps}
+use Rattle.packed_words.specs.declared.anchor.AnchorState.{AnchorState as Phase}
+use Rattle.packed_words.specs.declared.anchor.AnchorState.TheVariants as phase
+use Rattle.word_table.specs.declared.name.WordName.TheVariants as name
+use Rattle.sound_state.specs.Recalls.{IsPopped, IsEmptied, IsRemembered}
 use Rattle.sound_state.proofs.shared.CallerLemmas.{each-other}
+use Rattle.sound_state.proofs.shared.RecallFrame.{Part, PartStays, part_of, so-stays, bindings, places, chains, stacks, link_words, availables, events, single, constant}
 
 -- a word of a stack, of where a superblock lies, or of the arena
 abbrev pub IsSteadyWord : WordName → Type 0
@@ -73,6 +54,13 @@ IsLeft g s l s' (pops d a) = IsPopped (superblock_of g s d) a → IsPopped (supe
 IsLeft g s l s' (links d a prefix) = a.tag ≡ (anchor_for s' d).tag → a.tag ≡ (anchor_for s d).tag
 IsLeft g s l s' (says n w) = s'.word n ≡ s.word n
 IsLeft g s l s' r = Unit {0}
+
+-- bindings, chains and single words may change, the other parts don't
+abbrev IsLeftPart : Part → Type 0
+IsLeftPart bindings = ⊥
+IsLeftPart chains = ⊥
+IsLeftPart single = ⊥
+IsLeftPart p = Unit {0}
 
 -- EMPTY is one state
 pub empty-is : (p : Phase) → is_empty p ≡ true → p ≡ phase.Empty
@@ -123,36 +111,37 @@ module _ (g : Geometry) (s : State) (l : Lists) (s' : State) (steady : AreSteady
 
 -- and what is remembered stays so
 module _ (g : Geometry) (s : State) (l : Lists) (s' : State) (i : ℕ) (h : Leaves g s l s' i) where
+  -- the parts that stay all the same
+  left-part : (p : Part) → IsLeftPart p → PartStays g s l s' l i p
+  left-part places kept = λ d. (ap (λ x. x.frame) (info-steady g s l s' h.steady d), ap (λ x. x.class) (info-steady g s l s' h.steady d))
+  left-part stacks kept =
+      λ seat p. record {
+        tag = ap (λ w. (head_of w).tag) (h.steady (head_name seat p) (steady-head seat p));
+        list = refl;
+        next = λ k. h.steady (next_name p k) (steady-next p k);
+      }
+  left-part link_words kept = λ f c k. h.steady (prefix_name f c k) tt
+  left-part availables kept =
+      λ d. record {
+        emptied = λ so. record {
+          state = empty-is (anchor_for s' d).state (h.empty d so ∙ ap is_empty so.state);
+          unavailable = so.unavailable;
+          standing = h.ways d so ∙ so.standing;
+        };
+        on = λ on. on;
+        next = h.steady (name.Next d) tt;
+      }
+  left-part events kept = record { own_events = h.events; owned = h.owned }
+  left-part constant kept = tt
+  left-part p kept = absurd kept
+
   so-left : (r : Recall) → IsLeft g s l s' r → IsSo g s l i r → IsSo g s' l i r
   so-left (bound_for d c) left so = (left so.0, ap (λ x. x.class) (info-steady g s l s' h.steady d) ∙ so.1)
-  so-left (located d f c) left so = located-steady g s l s' h.steady d f c so
   so-left (bound_at d f c) left so = (left so.0, located-steady g s l s' h.steady d f c so.1)
   so-left (pops d a) left so = left so
   so-left (links d a prefix) left so = λ is. ap (λ f. f a.avail) (links-steady g s l s' h.steady d) ∙ so (left is)
-  so-left (tops seat p head) left so =
-      let same = h.steady (head_name seat p) (steady-head seat p) in
-      record {
-        tag = subst (λ w. head.tag ≤ (head_of w).tag) (sym same) so.tag;
-        top = λ is. so.top (is ∙ ap (λ w. (head_of w).tag) same);
-      }
-  so-left (nexts seat p head below) left so =
-      λ is.
-      h.steady (next_name p (head.top - 1)) (steady-next p (head.top - 1))
-      ∙ so (is ∙ ap (λ w. (head_of w).tag) (h.steady (head_name seat p) (steady-head seat p)))
-  so-left (tops_exist seat p head) left so = so
   so-left (says n w) left so = (so.0, left ∙ so.1)
-  so-left (made f c blocks) left so = λ k below. h.steady (prefix_name f c k) tt ∙ so k below
-  so-left (in_use a) left so = so
-  so-left (emptied d) left so = record {
-    state = empty-is (anchor_for s' d).state (h.empty d so ∙ ap is_empty so.state);
-    unavailable = so.unavailable;
-    standing = h.ways d so ∙ so.standing;
-  }
-  so-left (noted d next) left so = λ on. h.steady (name.Next d) tt ∙ so on
-  so-left (owns place k) left so = (so.0, h.owned place so.0 so.1, so.2)
-  so-left (owns_all place n) left so = h.owned place n so
-  so-left (looked c) left so = subst (λ past. EndsWith past (Looked i c)) (sym h.events) so
-  so-left (refused c) left so = subst (λ past. EndsRefused past i c) (sym h.events) so
+  so-left r left so = so-stays g s l s' l i r (left-part (part_of r) tt) so
 
 -- and so is all, where what the caller that went on remembers is
 pub remembered-left :

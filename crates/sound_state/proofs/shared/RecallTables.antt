@@ -1,45 +1,26 @@
 -- What callers remember, by the points at which they stand.
-use Rattle.std.proofs.Common.{ℕ, ◌≡◌, ◌≢◌, ◌<◌, ◌≤◌, ◌+◌, List, [], ◌∷◌, refl, arith, ap, subst}
+use Rattle.std.proofs.Common.{ℕ, ◌≡◌, ◌≢◌, ◌<◌, ◌≤◌, ◌+◌, List, [], ◌∷◌, refl, arith, ap, subst, IsTrue}
 use Rattle.std.specs.List.{All, AllByRecursion}
-use Rattle.std.specs.Prelude.{IsTrue}
 use Rattle.std.proofs.lemmas.List.Elements.{All-head, All-from_recursion, recursion_from_All}
-use Rattle.heap_geometry.specs.declared.geometry.Geometry.{Geometry}
-use Rattle.heap_geometry.specs.declared.need.Need.TheVariants.{Small}
-use Rattle.heap_geometry.specs.Place.{block_place}
-use Rattle.word_plan.specs.declared.name.WordName.TheVariants as name
-use Rattle.word_plan.specs.declared.seat.Site.{Site}
-use Rattle.word_plan.specs.Seats.{SeatFields}
-use Rattle.superblock_parts.specs.Anchors.{new_credits}
-use Rattle.superblock_parts.specs.Fits.{IsBlockOf, FitsBlock}
-use Rattle.superblock_parts.specs.declared.point.BlockPoint.{BlockPoint}
+use Rattle.sound_state.proofs.Common.{Geometry, Small, block_place, Site, SeatFields, new_credits, BlockPoint, Share, Credit, LastCredit, Grant, Pile, Frames}
+use Rattle.sound_state.proofs.Common.{Partials, StackPoint, next_name, DescPoint, PartialPoint, LargePoint, Continuation, Point, FitsPoint, State, holds_before_pop}
+use Rattle.sound_state.proofs.Common.{holds_of, Lists, Recall, IsSo, IsOwned, recalls_of, bound_for, bound_at, pops, links, says, IsSoundWith, anchor_for, is_bound}
+use Rattle.sound_state.proofs.Common.{reserved_among, errand_reserves}
+use Rattle.word_table.specs.declared.name.WordName.TheVariants as name
+use Rattle.superblock_parts.specs.Points.{IsBlockOf, FitsBlock}
 use Rattle.superblock_parts.specs.declared.point.BlockPoint.TheVariants as block
-use Rattle.superblock_parts.specs.declared.point.Share.{Share}
-use Rattle.superblock_parts.specs.declared.point.Share.TheVariants.{Credit, LastCredit, Grant}
-use Rattle.stack_parts.specs.declared.point.Pile.{Pile}
-use Rattle.stack_parts.specs.declared.point.Pile.TheVariants.{Frames, Partials}
-use Rattle.stack_parts.specs.declared.point.StackPoint.{StackPoint}
 use Rattle.stack_parts.specs.declared.point.StackPoint.TheVariants as stack
-use Rattle.stack_parts.specs.Piles.{next_name}
 use Rattle.stack_parts.specs.Points.{seat_of_stack}
-use Rattle.hazard_parts.specs.declared.point.DescPoint.{DescPoint}
 use Rattle.hazard_parts.specs.declared.point.DescPoint.TheVariants as desc
-use Rattle.partial_parts.specs.declared.point.PartialPoint.{PartialPoint}
 use Rattle.partial_parts.specs.declared.point.PartialPoint.TheVariants as partial
 use Rattle.partial_parts.specs.Points.{seat_of_partial}
-use Rattle.large_parts.specs.declared.point.LargePoint.{LargePoint}
-use Rattle.errand_steps.specs.declared.continuation.Continuation.{Continuation}
 use Rattle.errand_steps.specs.declared.continuation.Continuation.TheVariants as continuation
-use Rattle.errand_steps.specs.declared.point.Point.{Point}
 use Rattle.errand_steps.specs.declared.point.Point.TheVariants as point
-use Rattle.errand_steps.specs.Fits.{FitsContinuation, FitsPoint}
+use Rattle.errand_steps.specs.Fits.{FitsContinuation}
 use Rattle.errand_steps.specs.Continuations.{clears, goes_desc}
 use Rattle.errand_steps.specs.Points.{site_of}
-use Rattle.errand_steps.specs.Steps.{State}
-use Rattle.sound_state.specs.Holdings.{Handed, Freed, reserve, holds_before_pop, holds_of, block_holds, continuation_holds, stack_holds, partial_holds}
-use Rattle.sound_state.specs.Lists.{Lists}
-use Rattle.sound_state.specs.Recalls.{Recall, IsSo, IsOwned, block_recalls, continuation_recalls, stack_recalls, resumed_recalls, desc_recalls, partial_recalls, large_recalls, recalls_of, bound_for, bound_at, pops, links, says}
-use Rattle.sound_state.specs.Sound.{IsSoundWith}
-use Rattle.sound_state.specs.Superblocks.{anchor_for, is_bound, reserved_among, errand_reserves}
+use Rattle.sound_state.specs.Holdings.{Handed, Freed, reserve, block_holds, continuation_holds, stack_holds, partial_holds}
+use Rattle.sound_state.specs.Recalls.{block_recalls, continuation_recalls, stack_recalls, resumed_recalls, desc_recalls, partial_recalls, large_recalls}
 use Rattle.sound_state.proofs.shared.PointLemmas.{fits-at}
 use Rattle.sound_state.proofs.shared.SuperblockEffects.{anchor_number}
 
@@ -195,7 +176,6 @@ module _ (g : Geometry) (s : State) (l : Lists) (i d : ℕ) (off : OwnsNone g s 
   apart-stack (stack.StoreBelow seat Partials k h) o fit hands so = (tt, apart-continuation seat o fit hands so.1)
   apart-stack (stack.PushTop seat Frames k h) o fit hands so = (tt, (tt, apart-continuation seat o fit hands so.1.1))
   apart-stack (stack.PushTop seat Partials k h) o fit hands so = (tt, (tt, apart-continuation seat o fit hands so.1.1))
-  apart-stack p o fit hands so = grind (arith)
 
   -- at the descriptors or the hazard words; no block is handed out after a clear
   apart-cleared : (seat : SeatFields) (o : Continuation) → IsTrue (clears o) → AllByRecursion (IsUnbound d) (continuation_recalls seat o)

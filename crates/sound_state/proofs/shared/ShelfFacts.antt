@@ -1,29 +1,22 @@
 -- What lies on a shelf is what its word says.
-use Rattle.std.proofs.Common.{ℕ, Some, ◌≡◌, ◌≢◌, ◌<◌, ◌+◌, [], ◌∷◌, arith, sym, subst, inl, inr, ◌∙◌}
+use Rattle.std.proofs.Common.{ℕ, Some, ◌≡◌, ◌≢◌, ◌<◌, ◌+◌, [], ◌∷◌, arith, sym, subst, inl, inr, ◌∙◌, ◌⊎◌}
 use Rattle.std.proofs.lemmas.Nat.{pow_pos}
-use Rattle.std.specs.Prelude.{◌⊎◌}
 use Rattle.heap_geometry.proofs.PlaceLemmas.{block-within}
-use Rattle.heap_geometry.specs.Geometry.{IsChecked}
+use Rattle.sound_state.proofs.Common.{IsChecked, Geometry, Need, sound-of, block_at, pool_of, State, Lists, IsSoundWithoutCounts, IsSoundWith, IsLive}
 use Rattle.heap_geometry.specs.Need.{IsNeed}
-use Rattle.heap_geometry.specs.declared.geometry.Geometry.{Geometry}
 use Rattle.heap_geometry.specs.declared.limits.TheConstants.{SHELVES}
 use Rattle.heap_geometry.specs.declared.need.Need.TheVariants as need
-use Rattle.heap_geometry.specs.declared.need.Need.{Need}
 use Rattle.packed_words.proofs.ShelfLemmas.{shelf-exact}
 use Rattle.packed_words.specs.Shelf.{IsShelfWord, shelf_word}
 use Rattle.packed_words.specs.declared.shelf.ShelfWord.TheVariants as shelf
 use Rattle.packed_words.specs.declared.shelf.TheConstants.{MAX_ARENA_WORDS}
-use Rattle.word_plan.specs.declared.name.WordName.TheVariants as name
+use Rattle.word_table.specs.declared.name.WordName.TheVariants as name
 use Rattle.pool_model.proofs.PoolLemmas.{Every, every-each, every-found}
-use Rattle.pool_model.proofs.WellFormedLemmas.{sound-of, sound-differ, found-itself}
+use Rattle.pool_model.proofs.WellFormedLemmas.{sound-differ, found-itself}
 use Rattle.pool_model.specs.Legal.{IsEmptyShelf}
-use Rattle.pool_model.specs.Pool.{Block, Pool, block_at, pool_of}
+use Rattle.pool_model.specs.Pool.{Block, Pool}
 use Rattle.pool_model.specs.WellFormed.{IsWellFormed, IsPlaceFor}
 use Rattle.pool_model.specs.declared.owner.Owner.TheVariants.{Shelf}
-use Rattle.errand_steps.specs.Steps.{State}
-use Rattle.sound_state.specs.Lists.{Lists}
-use Rattle.sound_state.specs.Sound.{IsSoundWithoutCounts, IsSoundWith}
-use Rattle.sound_state.specs.Ties.{IsLive}
 use Rattle.sound_state.proofs.shared.OwnerLemmas.{is-shelf}
 
 -- a shelf's word with a block isn't that of an empty one

@@ -1,56 +1,33 @@
 -- A step after which a state shows the same superblocks and events, and the same lists but for the available descriptors, is sound if it was.
-use Rattle.std.proofs.Common.{ℕ, Some, ◌≡◌, ◌≢◌, ◌<◌, ◌≤◌, ◌+◌, ◌^◌, ◌-◌, ◌*◌, List, length, refl, arith, ap, sym, subst, inl, inr, ◌∙◌}
+use Rattle.std.proofs.Common.{ℕ, Some, ◌≡◌, ◌≢◌, ◌<◌, ◌≤◌, ◌+◌, ◌^◌, ◌*◌, List, length, refl, arith, ap, sym, subst, inl, inr, ◌∙◌}
 use Rattle.std.proofs.Math.Path.{fun_ext}
 use Rattle.std.specs.Prelude.{◌⊎◌, slice_index, All, Any, Contains, IsTrue, IsSome, count_by}
 use Rattle.std.specs.Int.{bit_at}
 use Rattle.std.proofs.lemmas.Bool.{cases_eq}
-use Rattle.heap_geometry.specs.declared.geometry.Geometry.{Geometry}
-use Rattle.heap_geometry.specs.declared.limits.TheConstants.{CLASSES}
-use Rattle.heap_geometry.specs.declared.need.Need.{Need}
+use Rattle.sound_state.proofs.Common.{free_chain, Geometry, CLASSES, Need, block_count_of, block_place, frame_of, AnchorFields, anchor_of, Held, active_of, head_of}
+use Rattle.sound_state.proofs.Common.{info_of, link_of, WordName, descriptor_count, info_in, prefix_name, link_in, Pile, Frames, Partials, head_name, next_name}
+use Rattle.sound_state.proofs.Common.{Stacked, next_in, SeatFields, occurs, own, block_at, pool_of, Point, ErrandFields, spare_of, pushed_by, State, Moves, IsFramed}
+use Rattle.sound_state.proofs.Common.{errand_frames, fills_frame, IsGuarded, IsGuard, IsHazard, passed_by, held_by, Status, reserving, waiting, partly_used}
+use Rattle.sound_state.proofs.Common.{on_its_way, holds_of, IsKept, IsPartlyUsed, IsWithout, IsKeptAs, Lists, IsListed, Recall, IsLocated, IsSo, IsOwned, recalls_of}
+use Rattle.sound_state.proofs.Common.{says, emptied, noted, IsSoundWith, IsOwnErrand, sum_below, callers_sum}
+use Rattle.sound_state.proofs.Common.{Superblock, AreChained, IsChained, info_or_zero, live_at, is_there, anchor_for, info_for, superblock_of, reserved_of}
+use Rattle.sound_state.proofs.Common.{waiting_of, is_bound, errand_keeps, IsTied, IsLive, IsTurned, gives_small, refuses_small, emptied_out}
 use Rattle.heap_geometry.specs.declared.need.Need.TheVariants as need
-use Rattle.heap_geometry.specs.Need.{block_count_of}
-use Rattle.heap_geometry.specs.Place.{block_place, frame_of, unit_place}
-use Rattle.packed_words.specs.Anchor.{AnchorFields, anchor_of}
-use Rattle.packed_words.specs.declared.active.ActiveWord.TheVariants.{Held}
-use Rattle.packed_words.specs.Active.{active_of}
-use Rattle.packed_words.specs.declared.anchor.State.TheVariants as phase
-use Rattle.packed_words.specs.Head.{HeadFields, head_of}
-use Rattle.packed_words.specs.Info.{info_of}
-use Rattle.packed_words.specs.Prefix.{link_of}
-use Rattle.word_plan.specs.declared.name.WordName.{WordName}
-use Rattle.word_plan.specs.declared.name.WordName.TheVariants as name
-use Rattle.word_plan.specs.Counts.{descriptor_count}
-use Rattle.word_plan.specs.Seats.{info_in}
-use Rattle.superblock_parts.specs.Chains.{prefix_name, link_in}
-use Rattle.stack_parts.specs.declared.point.Pile.{Pile}
-use Rattle.stack_parts.specs.declared.point.Pile.TheVariants.{Frames, Partials}
-use Rattle.stack_parts.specs.Piles.{head_name, next_name}
-use Rattle.stack_parts.specs.Stacks.{Stacked, next_in}
-use Rattle.word_plan.specs.Seats.{SeatFields}
-use Rattle.word_plan.specs.Occurs.{occurs}
-use Rattle.pool_model.specs.declared.event.Event.TheVariants.{Looked}
-use Rattle.pool_model.specs.Histories.{own, EndsWith}
-use Rattle.pool_model.specs.Pool.{Block, block_at, pool_of}
-use Rattle.errand_steps.specs.declared.point.Point.{Point}
-use Rattle.errand_steps.specs.Errands.{ErrandFields}
-use Rattle.errand_steps.specs.Fits.{spare_of, pushed_by}
-use Rattle.errand_steps.specs.Steps.{State, Moves}
-use Rattle.sound_state.specs.Frames.{IsFramed, errand_frames, fills_frame}
-use Rattle.sound_state.specs.Guards.{IsGuarded, Guards, IsGuard, IsHazard, passed_by, held_by}
-use Rattle.sound_state.specs.Holdings.{Status, reserving, waiting, partly_used, on_its_way, holds_of}
-use Rattle.sound_state.specs.Keepers.{IsKept, IsPartlyUsed, IsActive, IsWithout, IsKeptAs, places_of}
-use Rattle.sound_state.specs.Lists.{Lists, IsListed}
-use Rattle.sound_state.specs.Recalls.{Recall, EndsRefused, IsPopped, IsPlain, IsLocated, IsTopStill, IsRemembered, IsSo, IsOwned, recalls_of, list_of, bound_for, located, bound_at, pops, links, tops, nexts, tops_exist, says, made, in_use, emptied, noted, owns, owns_all, looked, refused}
-use Rattle.sound_state.specs.Sound.{IsSoundWith, IsOwnErrand}
+use Rattle.heap_geometry.specs.Place.{unit_place}
+use Rattle.packed_words.specs.declared.anchor.AnchorState.TheVariants as phase
+use Rattle.word_table.specs.declared.name.WordName.TheVariants as name
+use Rattle.pool_model.specs.Pool.{Block}
+use Rattle.sound_state.specs.Guards.{Guards}
+use Rattle.sound_state.specs.Keepers.{IsActive, places_of}
+use Rattle.sound_state.specs.Recalls.{IsPlain, IsRemembered, list_of}
 use Rattle.sound_state.specs.Stock.{IsStocked}
-use Rattle.sound_state.specs.Sums.{sum_below, callers_sum}
-use Rattle.sound_state.specs.Superblocks.{Superblock, AreChained, IsChained, info_or_zero, live_at, is_there, anchor_for, info_for, superblock_of, reserved_of, waiting_of, is_bound, errand_keeps}
-use Rattle.sound_state.specs.Ties.{IsTied, IsLive, IsExcepted, IsBlockOfDesc}
-use Rattle.sound_state.specs.Turns.{IsTurned, gives_small, refuses_small, turn_open, turn_unframed, turn_unlisted, turn_unanswered, errand_discards, errand_pops, emptied_out}
+use Rattle.sound_state.specs.Ties.{IsExcepted, IsBlockOfDesc}
+use Rattle.sound_state.specs.Turns.{turn_open, turn_unframed, turn_unlisted, turn_unanswered, errand_discards, errand_pops}
 use Rattle.sound_state.proofs.shared.CallerLemmas.{each-other}
 use Rattle.sound_state.proofs.shared.ListEffects.{IsListWord, listed-anew}
 use Rattle.sound_state.proofs.shared.SumLemmas.{sum-same}
 use Rattle.sound_state.proofs.shared.TurnEffects.{IsTurnedBut, head-tag, no-event, turned-but, turned-from}
+use Rattle.sound_state.proofs.shared.RecallFrame.{Part, PartStays, part_of, so-stays, bindings, places, chains, stacks, link_words, availables, events, single, constant}
 
 pub same-superblock :
     (a a' : AnchorFields) (r r' w w' : ℕ) (n n' v v' : ℕ → ℕ) (z z' : ℕ) → a' ≡ a → r' ≡ r → w' ≡ w → n' ≡ n → v' ≡ v → z' ≡ z
@@ -173,6 +150,12 @@ StaysSo l ys s s' (emptied d) = occurs d ys ≤ occurs d l.available
 StaysSo l ys s s' (noted d next) = occurs d ys ≤ occurs d l.available
 StaysSo l ys s s' (says n w) = IsPlain n → s'.word n ≡ s.word n
 StaysSo l ys s s' r = Unit {0}
+
+-- the available descriptors and single words may change, the other parts don't
+abbrev IsShownPart : Part → Type 0
+IsShownPart availables = ⊥
+IsShownPart single = ⊥
+IsShownPart p = Unit {0}
 
 -- a caller goes on in a state that shows the same superblocks and events, and the same lists but for the available descriptors
 pub record ShowsSame (g : Geometry) (s : State) (l : Lists) (caller : ℕ) (e : ErrandFields) (s' : State) (ys : List ℕ) : Type 0 where
@@ -309,43 +292,33 @@ module _ (g : Geometry) (s : State) (l : Lists) (caller : ℕ) (e : ErrandFields
   next-shown Frames i = go.word (name.FrameNext i) tt
   next-shown Partials i = go.word (name.Next i) tt
 
-  top-shown : (seat : SeatFields) (p : Pile) (head : HeadFields)
-      → IsTopStill s l seat p head → IsTopStill s' (with_available l ys) seat p head
-  top-shown seat p head k =
-      let same : head_of (s'.word (head_name seat p)) ≡ head_of (s.word (head_name seat p)) = ap head_of (head-shown seat p) in
-      record {
-        tag = subst (λ x. head.tag ≤ x.tag) (sym same) k.tag;
-        top = λ is. subst (λ xs. 0 < occurs (head.top - 1) xs) (sym (pile-list-stays l ys seat p)) (k.top (is ∙ ap (λ x. x.tag) same));
+  -- the parts that stay all the same
+  shown-part : (i : ℕ) (p : Part) → IsShownPart p → PartStays g s l s' (with_available l ys) i p
+  shown-part i bindings kept = λ d bound. (subst IsTrue (sym (go.bound d)) bound, (ap (λ x. x.frame) (info-shown d), ap (λ x. x.class) (info-shown d)))
+  shown-part i places kept = λ d. (ap (λ x. x.frame) (info-shown d), ap (λ x. x.class) (info-shown d))
+  shown-part i chains kept =
+      λ d. record {
+        tag = ap (λ x. x.tag) (anchor-shown d);
+        chain = ap free_chain (superblock-shown d);
+        next = ap (λ b. b.next) (superblock-shown d);
       }
+  shown-part i stacks kept =
+      λ seat p. record { tag = ap (λ w. (head_of w).tag) (head-shown seat p); list = pile-list-stays l ys seat p; next = next-shown p }
+  shown-part i link_words kept = λ f c k. go.word (prefix_name f c k) tt
+  shown-part i events kept = record { own_events = ap (own i) go.history; owned = owned-shown i }
+  shown-part i constant kept = tt
+  shown-part i p kept = absurd kept
 
   -- what is remembered stays so
   so-shown : (i : ℕ) (r : Recall) → StaysSo l ys s s' r → IsSo g s l i r → IsSo g s' (with_available l ys) i r
-  so-shown i (bound_for d c) of so =
-      (subst IsTrue (sym (go.bound d)) so.0, ap (λ x. x.class) (info-shown d) ∙ so.1)
-  so-shown i (located d f c) of so = located-shown d f c so
-  so-shown i (bound_at d f c) of so =
-      (subst IsTrue (sym (go.bound d)) so.0, located-shown d f c so.1)
-  so-shown i (pops d a) of so = subst (λ b. IsPopped b a) (sym (superblock-shown d)) so
-  so-shown i (links d a prefix) of so =
-      let b = superblock-shown d in
-      λ is. ap (λ x. x.next a.avail) b ∙ so (is ∙ ap (λ x. x.tag) (anchor-shown d))
-  so-shown i (tops seat p head) of so = top-shown seat p head so
-  so-shown i (nexts seat p head below) of so =
-      λ is. next-shown p (head.top - 1) ∙ so (is ∙ ap (λ w. (head_of w).tag) (head-shown seat p))
-  so-shown i (tops_exist seat p head) of so = so
   so-shown i (says n w) of so = (so.0, of so.0 ∙ so.1)
-  so-shown i (made f c blocks) of so = λ k below. go.word (prefix_name f c k) tt ∙ so k below
-  so-shown i (in_use a) of so = so
   so-shown i (emptied d) of so = record {
     state = ap (λ a. a.state) (anchor-shown d) ∙ so.state;
     unavailable = omega (arith, so.unavailable, of);
     standing = omega (arith, go.ways d so.unavailable, so.standing);
   }
   so-shown i (noted d next) of so = λ on. go.word (name.Next d) tt ∙ so (omega (arith, on, of))
-  so-shown i (owns place k) of so = (so.0, owned-shown i place so.0 so.1, so.2)
-  so-shown i (owns_all place n) of so = owned-shown i place n so
-  so-shown i (looked c) of so = subst (λ e. EndsWith (own i e) (Looked i c)) (sym go.history) so
-  so-shown i (refused c) of so = subst (λ e. EndsRefused (own i e) i c) (sym go.history) so
+  so-shown i r of so = so-stays g s l s' (with_available l ys) i r (shown-part i (part_of r) tt) so
 
   listed-shown : IsListed g s.word l → IsListed g s'.word (with_available l ys)
   listed-shown = listed-anew g s.word s'.word l ys (λ n is differ. go.word n (list-shown n is differ)) go.stacked go.exist

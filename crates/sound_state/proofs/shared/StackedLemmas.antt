@@ -1,19 +1,9 @@
 -- A stack is one list, of indexes that exist.
-use Rattle.std.proofs.Common.{ℕ, ◌≡◌, List, [], ◌∷◌, refl, ◌∙◌, sym, ap, subst, arith, ◌+◌, ◌<◌, ◌≤◌}
+use Rattle.std.proofs.Common.{ℕ, ◌≡◌, List, [], ◌∷◌, refl, ◌∙◌, sym, ap, subst, arith, ◌+◌, ◌<◌, ◌≤◌, ◌==◌, All}
 use Rattle.std.proofs.lemmas.Bool.{cond-true, eq-eqb}
 use Rattle.std.proofs.lemmas.List.Elements.{All-head}
-use Rattle.std.specs.Prelude.{◌==◌, All}
-use Rattle.heap_geometry.specs.declared.geometry.Geometry.{Geometry}
-use Rattle.heap_geometry.specs.declared.limits.TheConstants.{CLASSES}
-use Rattle.packed_words.specs.Head.{head_of}
-use Rattle.word_plan.specs.Seats.{SeatFields}
-use Rattle.word_plan.specs.Occurs.{occurs}
-use Rattle.stack_parts.specs.Piles.{head_name, pile_limit}
-use Rattle.stack_parts.specs.Stacks.{Stacked, next_in}
-use Rattle.stack_parts.specs.declared.point.Pile.TheVariants.{Frames, Partials}
-use Rattle.stack_parts.specs.declared.point.Pile.{Pile}
-use Rattle.errand_steps.specs.Steps.{State}
-use Rattle.sound_state.specs.Lists.{Lists, IsListed}
+use Rattle.sound_state.proofs.Common.{Geometry, CLASSES, head_of, SeatFields, occurs, head_name, Stacked, next_in, Frames, Partials, Pile, State, Lists, IsListed}
+use Rattle.stack_parts.specs.Piles.{pile_limit}
 use Rattle.sound_state.specs.Recalls.{list_of}
 
 -- a stack is one list

@@ -1,37 +1,17 @@
 -- A step that leads from one point to another, and changes nothing that is shown, keeps the state sound.
-use Rattle.std.proofs.Common.{ℕ, Bool, false, None, ◌≡◌, ◌≢◌, ◌<◌, ◌≤◌, ◌+◌, ◌^◌, List, length, refl, arith, ap, sym, subst, inl, inr, ◌∙◌}
-use Rattle.std.specs.Prelude.{◌⊎◌, All, Any, IsSome, IsTrue}
-use Rattle.heap_geometry.specs.declared.geometry.Geometry.{Geometry}
-use Rattle.word_plan.specs.declared.action.Found.{Found}
-use Rattle.word_plan.specs.declared.name.WordName.{WordName}
-use Rattle.word_plan.specs.declared.name.WordName.TheVariants as name
-use Rattle.packed_words.specs.Active.{active_of}
-use Rattle.word_plan.specs.Actions.{name_of, after_action, found_by}
-use Rattle.word_plan.specs.Counts.{descriptor_count}
-use Rattle.word_plan.specs.Table.{Exists}
-use Rattle.word_plan.specs.Words.{Writes}
-use Rattle.word_plan.proofs.NameLemmas.{cases_name}
-use Rattle.pool_model.specs.Legal.{IsLegalWithoutCounts}
-use Rattle.errand_steps.specs.declared.next.Next.{Next}
-use Rattle.errand_steps.specs.declared.next.Next.TheVariants.{At, End}
-use Rattle.errand_steps.specs.declared.point.Point.{Point}
-use Rattle.errand_steps.specs.declared.point.Point.TheVariants.{Idle}
-use Rattle.errand_steps.specs.declared.reply.Reply.{Reply}
-use Rattle.errand_steps.specs.Errands.{ErrandFields, IsErrand, point_after, settle_of, course_of, plan_of, raised, counts_won, counts_lost, counts_cleared}
-use Rattle.errand_steps.specs.Fits.{spare_of, pushed_by}
-use Rattle.errand_steps.specs.Nexts.{next_of}
-use Rattle.errand_steps.specs.Points.{plan_point_of}
-use Rattle.errand_steps.specs.Steps.{State, Step, Moves, action_at, name_at, word_at, found_at, event_at, with_event}
+use Rattle.std.proofs.Common.{ℕ, Bool, false, None, ◌≡◌, ◌≢◌, ◌<◌, ◌≤◌, ◌+◌, ◌^◌, List, length, refl, arith, ap, sym, subst, inl, inr, ◌∙◌, ◌⊎◌, All, Any, IsSome, IsTrue}
+use Rattle.sound_state.proofs.Common.{Geometry, Found, WordName, active_of, name_of, after_action, descriptor_count, Exists, Writes, cases_name}
+use Rattle.sound_state.proofs.Common.{IsLegalWithoutCounts, Next, At, End, Point, Idle, Reply, ErrandFields, settle_of, course_of, raised, counts_lost}
+use Rattle.sound_state.proofs.Common.{counts_cleared, spare_of, pushed_by, next_of, plan_point_of, State, Step, Moves, action_at, name_at, word_at, found_at}
+use Rattle.sound_state.proofs.Common.{with_event, IsGuarded, IsGuard, IsHazard, passed_by, held_by, Holding, holds_of, IsKept, IsKeptAs, Lists, IsSo, IsOwned}
+use Rattle.sound_state.proofs.Common.{recalls_of, IsSoundWithoutCounts, IsSoundWith, turn_stage_of, in_turn, is_unneeded, one_if, pops_left}
+use Rattle.word_table.specs.declared.name.WordName.TheVariants as name
+use Rattle.word_table.specs.Actions.{found_by}
+use Rattle.errand_steps.specs.Errands.{IsErrand, point_after, plan_of, counts_won}
+use Rattle.errand_steps.specs.Steps.{event_at}
 use Rattle.errand_steps.proofs.ErrandLemmas.{settle_errand}
 use Rattle.errand_steps.proofs.PlanLemmas.{plan-exists}
-use Rattle.sound_state.specs.Guards.{IsGuarded, IsGuard, IsHazard, passed_by, held_by}
-use Rattle.sound_state.specs.Holdings.{Holding, holds_of}
-use Rattle.sound_state.specs.Keepers.{IsKept, IsKeptAs}
-use Rattle.sound_state.specs.Lists.{Lists}
-use Rattle.sound_state.specs.Recalls.{IsSo, IsOwned, recalls_of}
-use Rattle.sound_state.specs.Sound.{IsSoundWithoutCounts, IsSoundWith}
-use Rattle.sound_state.specs.TurnStages.{turn_stage_of, in_turn, lacks_frame, lacks_partial, lacks_answer, is_unneeded}
-use Rattle.sound_state.specs.Turns.{one_if, pops_left}
+use Rattle.sound_state.specs.TurnStages.{lacks_frame, lacks_partial, lacks_answer}
 use Rattle.sound_state.proofs.shared.AlikeLemmas.{sound-alike}
 use Rattle.sound_state.proofs.shared.ShownLemmas.{MayGoOn, MayGuard, ActivesKept}
 use Rattle.sound_state.proofs.shared.WeighLemmas.{WeighMost, weigh-alike, weigh-emptied}

@@ -2,34 +2,16 @@
 use Rattle.std.proofs.Common.{ℕ, Option, Some, None, ◌≡◌, ◌<◌, ◌≤◌, ◌+◌, ◌*◌, List, [], ◌∷◌, length, refl, sym, ◌∙◌, ap, subst, arith, inl, inr}
 use Rattle.std.specs.Prelude.{◌==◌, ◌-◌, ◌&&◌, if◌then◌else◌, All}
 use Rattle.std.proofs.lemmas.Bool.{cases_eq, cond-true, cond-false, eq-eqb, ne_eqb}
-use Rattle.heap_geometry.specs.declared.geometry.Geometry.{Geometry}
-use Rattle.heap_geometry.specs.declared.limits.TheConstants.{CLASSES}
-use Rattle.packed_words.specs.declared.active.ActiveWord.{ActiveWord}
-use Rattle.packed_words.specs.declared.active.ActiveWord.TheVariants.{Null, Held}
-use Rattle.packed_words.specs.Active.{active_of}
-use Rattle.packed_words.specs.Info.{InfoFields, info_of}
-use Rattle.word_plan.specs.declared.name.WordName.{WordName}
-use Rattle.word_plan.specs.declared.name.WordName.TheVariants as name
-use Rattle.word_plan.specs.Counts.{descriptor_count, word_count}
-use Rattle.word_plan.specs.Seats.{SeatFields}
-use Rattle.word_plan.specs.Table.{Exists, word_name}
-use Rattle.word_plan.specs.Occurs.{occurs}
-use Rattle.stack_parts.specs.declared.point.Pile.TheVariants.{Partials}
-use Rattle.stack_parts.specs.Stacks.{Stacked, next_in}
+use Rattle.sound_state.proofs.Common.{Geometry, CLASSES, ActiveWord, Null, Held, active_of, info_of, WordName, descriptor_count, word_count, SeatFields, Exists}
+use Rattle.sound_state.proofs.Common.{word_name, occurs, Partials, Stacked, next_in, Continuation, Point, FitsPoint, spare_of, ErrandFields, State, Kept, holds_of}
+use Rattle.sound_state.proofs.Common.{word_keeps, full_keeps, errand_has, Lists, word_stock, full_stock, errand_stock, stock_among, waits_in, IsSoundWith}
+use Rattle.sound_state.proofs.Common.{IsSoundWithoutCounts, sum_below, words_sum, callers_sum, anchor_for, info_for, info_or_zero}
+use Rattle.packed_words.specs.Info.{InfoFields}
+use Rattle.word_table.specs.declared.name.WordName.TheVariants as name
 use Rattle.hazard_parts.specs.declared.point.DescPoint.TheVariants as desc
-use Rattle.errand_steps.specs.declared.continuation.Continuation.{Continuation}
-use Rattle.errand_steps.specs.declared.point.Point.{Point}
 use Rattle.errand_steps.specs.declared.point.Point.TheVariants as point
-use Rattle.errand_steps.specs.Fits.{FitsPoint, spare_of}
-use Rattle.errand_steps.specs.Errands.{ErrandFields}
-use Rattle.errand_steps.specs.Steps.{State}
-use Rattle.sound_state.specs.Holdings.{Kept, holds_of}
-use Rattle.sound_state.specs.Keepers.{active_keeps, word_keeps, full_keeps, errand_has, places_of}
-use Rattle.sound_state.specs.Lists.{Lists}
-use Rattle.sound_state.specs.Stock.{word_stock, full_stock, stock_of, errand_stock, stock_among, waits_in}
-use Rattle.sound_state.specs.Sound.{IsSoundWith, IsSoundWithoutCounts}
-use Rattle.sound_state.specs.Sums.{sum_below, words_sum, callers_sum}
-use Rattle.sound_state.specs.Superblocks.{anchor_for, info_for, info_or_zero}
+use Rattle.sound_state.specs.Keepers.{active_keeps, places_of}
+use Rattle.sound_state.specs.Stock.{stock_of}
 use Rattle.sound_state.proofs.shared.HolderLemmas.{zero-active}
 use Rattle.sound_state.proofs.shared.KeptCounts.{named_among, named-most, kept-named}
 use Rattle.sound_state.proofs.shared.WeightSums.{words-together}

@@ -1,17 +1,9 @@
 -- Sums over the numbers below a bound, over the words and over the callers.
-use Rattle.std.proofs.Common.{ℕ, zero, suc, ◌≡◌, ◌≢◌, ◌<◌, ◌≤◌, ◌+◌, ◌*◌, List, [], ◌∷◌, length, refl, arith, inl, inr, subst, ap, sym, ◌∙◌}
-use Rattle.std.specs.Prelude.{◌==◌, if◌then◌else◌}
+use Rattle.std.proofs.Common.{ℕ, zero, suc, ◌≡◌, ◌≢◌, ◌<◌, ◌≤◌, ◌+◌, ◌*◌, List, [], ◌∷◌, length, refl, arith, inl, inr, subst, ap, sym, ◌∙◌, ◌==◌, if◌then◌else◌}
 use Rattle.std.proofs.lemmas.Bool.{cases_eq, cond-true, cond-false, eq-eqb, ne_eqb}
-use Rattle.heap_geometry.specs.declared.geometry.Geometry.{Geometry}
-use Rattle.word_plan.specs.declared.name.WordName.{WordName}
-use Rattle.word_plan.specs.Counts.{word_count}
-use Rattle.word_plan.specs.Table.{Exists, word_index, word_name}
-use Rattle.word_plan.specs.Words.{Writes}
-use Rattle.word_plan.proofs.TableLemmas.{word_index-within, word_name-word_index, word_index-word_name}
-use Rattle.word_plan.specs.Occurs.{occurs}
-use Rattle.errand_steps.specs.Errands.{ErrandFields}
-use Rattle.errand_steps.specs.Steps.{Moves}
-use Rattle.sound_state.specs.Sums.{sum_below, words_sum, callers_sum}
+use Rattle.sound_state.proofs.Common.{Geometry, WordName, word_count, Exists, word_name, Writes, occurs, ErrandFields, Moves, sum_below, words_sum, callers_sum}
+use Rattle.word_table.specs.Table.{word_index}
+use Rattle.word_table.proofs.TableLemmas.{word_index-within, word_name-word_index, word_index-word_name}
 
 -- equal terms, equal sums
 pub sum-same : (n : ℕ) (f f' : ℕ → ℕ) → ((j : ℕ) → j < n → f' j ≡ f j) → sum_below n f' ≡ sum_below n f

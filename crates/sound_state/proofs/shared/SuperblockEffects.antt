@@ -1,37 +1,20 @@
 -- What an effect leaves of superblocks that all lie where they did, with the links that they had.
-use Rattle.std.proofs.Common.{ℕ, Some, ◌≡◌, ◌≢◌, ◌<◌, ◌+◌, [], ◌∷◌, ◌++◌, List, refl, arith, ap, sym, subst, inl, inr, ◌∙◌}
+use Rattle.std.proofs.Common.{ℕ, Some, ◌≡◌, ◌≢◌, ◌<◌, ◌+◌, [], ◌∷◌, ◌++◌, List, refl, arith, ap, sym, subst, inl, inr, ◌∙◌, ◌==◌, if◌then◌else◌, IsTrue, IsSome}
 use Rattle.std.proofs.Math.Path.{fun_ext}
-use Rattle.std.specs.Prelude.{◌==◌, if◌then◌else◌, IsTrue, IsSome}
 use Rattle.std.proofs.lemmas.Bool.{cases_eq}
-use Rattle.heap_geometry.specs.declared.geometry.Geometry.{Geometry}
-use Rattle.heap_geometry.specs.Need.{block_count_of}
-use Rattle.heap_geometry.specs.Place.{block_place, frame_of, index_of}
-use Rattle.heap_geometry.proofs.PlaceLemmas.{frame_of-block_place, index_of-block_place}
-use Rattle.packed_words.specs.Anchor.{AnchorFields, anchor_of}
-use Rattle.packed_words.specs.Info.{info_of}
-use Rattle.packed_words.specs.Prefix.{link_of}
-use Rattle.word_plan.specs.declared.name.WordName.{WordName}
-use Rattle.word_plan.specs.declared.name.WordName.TheVariants as name
-use Rattle.word_plan.specs.declared.seat.Site.{Site}
-use Rattle.word_plan.specs.Counts.{descriptor_count, word_count}
-use Rattle.word_plan.specs.Seats.{info_in}
-use Rattle.word_plan.specs.Sites.{IsSiteOf}
-use Rattle.word_plan.specs.Table.{word_name}
-use Rattle.word_plan.proofs.NameLemmas.{cases_name}
-use Rattle.word_plan.specs.Occurs.{occurs}
+use Rattle.sound_state.proofs.Common.{Geometry, block_count_of, block_place, frame_of, frame_of-block_place, AnchorFields, anchor_of, info_of, link_of, WordName}
+use Rattle.sound_state.proofs.Common.{Site, descriptor_count, word_count, info_in, IsSiteOf, word_name, cases_name, occurs, link_in, prefix_name, Event, block_at}
+use Rattle.sound_state.proofs.Common.{pool_of, State, Lists, IsLocated, IsSoundWith, words_sum, Superblock, AreChained, IsChained, anchor_for, info_for}
+use Rattle.sound_state.proofs.Common.{info_or_zero, superblock_of, free_chain, is_bound, is_there, live_at, reserved_of, waiting_of}
+use Rattle.heap_geometry.specs.Place.{index_of}
+use Rattle.heap_geometry.proofs.PlaceLemmas.{index_of-block_place}
+use Rattle.word_table.specs.declared.name.WordName.TheVariants as name
 use Rattle.superblock_parts.proofs.ChainLemmas.{occurs-here}
-use Rattle.superblock_parts.specs.Chains.{link_in, prefix_name}
-use Rattle.pool_model.specs.declared.event.Event.{Event}
 use Rattle.pool_model.specs.declared.event.Event.TheVariants.{Alloc}
-use Rattle.pool_model.specs.Pool.{block_at, fresh_block, pool_of}
+use Rattle.pool_model.specs.Pool.{fresh_block}
 use Rattle.pool_model.proofs.HistoryLemmas.{pool_of-push}
 use Rattle.pool_model.proofs.PoolLemmas.{block_at-here, block_at-past}
-use Rattle.errand_steps.specs.Steps.{State}
-use Rattle.sound_state.specs.Lists.{Lists}
-use Rattle.sound_state.specs.Recalls.{IsLocated}
-use Rattle.sound_state.specs.Sound.{IsSoundWith}
-use Rattle.sound_state.specs.Sums.{words_sum}
-use Rattle.sound_state.specs.Superblocks.{Superblock, AreChained, IsChained, anchor_for, info_for, info_or_zero, superblock_of, free_chain, held_back, is_bound, is_there, live_at, reserved_of, waiting_of}
+use Rattle.sound_state.specs.Superblocks.{held_back}
 use Rattle.sound_state.proofs.shared.FrameLemmas.{bound-apart}
 use Rattle.sound_state.proofs.shared.ListFacts.{occurs-past}
 use Rattle.sound_state.proofs.shared.SumLemmas.{sum-same}

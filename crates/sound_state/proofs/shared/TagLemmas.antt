@@ -4,32 +4,21 @@ use Rattle.std.specs.Prelude.{sum_by, count_by, nat_le}
 use Rattle.std.proofs.lemmas.Bool.{cases_eq, cases_lt, lt-leb, le-leb, cond_both}
 use Rattle.std.proofs.lemmas.Nat.{mul-le}
 use Rattle.std.proofs.lemmas.List.Sums.{sum_by-cons, sum_by_push}
-use Rattle.heap_geometry.specs.declared.geometry.Geometry.{Geometry}
-use Rattle.heap_geometry.specs.declared.limits.TheConstants.{CLASSES, MAX_CALLERS, MAX_TURNS, SMALL_MOST, LARGE_MOST}
-use Rattle.heap_geometry.specs.declared.need.Need.{Need}
-use Rattle.heap_geometry.specs.declared.need.Need.TheVariants.{Small, Large, TooLarge}
-use Rattle.heap_geometry.specs.Geometry.{IsChecked}
-use Rattle.heap_geometry.specs.Need.{need_of}
-use Rattle.heap_geometry.specs.Place.{frame_of}
+use Rattle.sound_state.proofs.Common.{Geometry, CLASSES, Need, Small, IsChecked, need_of, frame_of, head_of, descriptor_count, Event, block_at, pool_of}
+use Rattle.sound_state.proofs.Common.{IsLegalWithoutCounts, State, Lists, IsSoundWith, IsSoundWithoutCounts, sum_below, callers_sum, anchor_for, gives_small}
+use Rattle.heap_geometry.specs.declared.limits.TheConstants.{MAX_CALLERS, MAX_TURNS, SMALL_MOST, LARGE_MOST}
+use Rattle.heap_geometry.specs.declared.need.Need.TheVariants.{Large, TooLarge}
 use Rattle.packed_words.specs.declared.widths.TheConstants.{TAG_BITS}
-use Rattle.packed_words.specs.Head.{head_of}
-use Rattle.word_plan.specs.declared.name.WordName.TheVariants as name
-use Rattle.word_plan.specs.Counts.{descriptor_count}
+use Rattle.word_table.specs.declared.name.WordName.TheVariants as name
 use Rattle.pool_model.specs.declared.owner.Owner.TheVariants.{Caller, Shelf}
-use Rattle.pool_model.specs.declared.event.Event.{Event}
 use Rattle.pool_model.specs.declared.event.Event.TheVariants.{Alloc, Looked, Refuse, Free, Write, Put, Take, TakeNone}
 use Rattle.pool_model.specs.Histories.{caller_of}
-use Rattle.pool_model.specs.Pool.{Block, Pool, block_at, fresh_block, written, handed_to, without, with_changed, pool_after, pool_of}
-use Rattle.pool_model.specs.Legal.{IsFree, IsAllowed, IsLegalEventWithoutCounts, IsLegalWithoutCounts}
+use Rattle.pool_model.specs.Pool.{Block, Pool, fresh_block, written, handed_to, without, with_changed, pool_after}
+use Rattle.pool_model.specs.Legal.{IsFree, IsAllowed, IsLegalEventWithoutCounts}
 use Rattle.pool_model.proofs.PoolLemmas.{block_at-past}
 use Rattle.pool_model.proofs.HistoryLemmas.{kept, pool_of-push}
 use Rattle.pool_model.proofs.WellFormedLemmas.{free-place, large-frame}
-use Rattle.errand_steps.specs.Steps.{State}
-use Rattle.sound_state.specs.Lists.{Lists}
-use Rattle.sound_state.specs.Sound.{IsSoundWith, IsSoundWithoutCounts}
-use Rattle.sound_state.specs.Sums.{sum_below, callers_sum}
-use Rattle.sound_state.specs.Superblocks.{anchor_for}
-use Rattle.sound_state.specs.Turns.{gives_small, is_small_alloc, is_small_free, turn_unframed, turns_of, cleared_of}
+use Rattle.sound_state.specs.Turns.{is_small_alloc, is_small_free, turn_unframed, turns_of, cleared_of}
 use Rattle.sound_state.proofs.shared.SumLemmas.{sum-same, sum-plus, sum-most, sum-least, term-sum}
 
 -- each small allocation is one of its caller's

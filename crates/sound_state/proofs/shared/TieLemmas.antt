@@ -4,27 +4,16 @@ use Rattle.std.specs.Prelude.{◌⊎◌, ◌↔◌, All, Any, IsTrue, replicate,
 use Rattle.std.specs.Int.{bit_at}
 use Rattle.std.proofs.lemmas.List.Elements.{All-nil}
 use Rattle.std.proofs.lemmas.Option.{none-some}
-use Rattle.heap_geometry.specs.declared.geometry.Geometry.{Geometry}
-use Rattle.heap_geometry.specs.declared.need.Need.{Need}
-use Rattle.heap_geometry.specs.declared.need.Need.TheVariants.{Small, Large}
-use Rattle.heap_geometry.specs.Need.{block_count_of}
-use Rattle.heap_geometry.specs.Place.{block_place, frame_of, unit_place}
-use Rattle.heap_geometry.proofs.PlaceLemmas.{frame_of-block_place}
-use Rattle.word_plan.specs.declared.name.WordName.TheVariants as name
+use Rattle.sound_state.proofs.Common.{Geometry, Need, Small, block_count_of, block_place, frame_of, frame_of-block_place, block_at, pool_of, place-found, sound-of}
+use Rattle.sound_state.proofs.Common.{Point, ErrandFields, State, Moves, holds_of, Lists, IsLocated, IsOwned, IsSoundWithoutCounts, info_for, IsTied, IsLive}
+use Rattle.heap_geometry.specs.declared.need.Need.TheVariants.{Large}
+use Rattle.heap_geometry.specs.Place.{unit_place}
+use Rattle.word_table.specs.declared.name.WordName.TheVariants as name
 use Rattle.pool_model.specs.declared.owner.Owner.TheVariants.{Caller, Shelf}
-use Rattle.pool_model.specs.Pool.{Block, block_at, pool_of}
+use Rattle.pool_model.specs.Pool.{Block}
 use Rattle.pool_model.specs.WellFormed.{IsPlaceFor, IsWellFormed}
-use Rattle.pool_model.proofs.PoolLemmas.{place-found, every-found}
-use Rattle.pool_model.proofs.WellFormedLemmas.{sound-of}
-use Rattle.errand_steps.specs.declared.point.Point.{Point}
-use Rattle.errand_steps.specs.Errands.{ErrandFields}
-use Rattle.errand_steps.specs.Steps.{State, Moves}
-use Rattle.sound_state.specs.Holdings.{holds_of}
-use Rattle.sound_state.specs.Lists.{Lists}
-use Rattle.sound_state.specs.Recalls.{IsLocated, IsOwned}
-use Rattle.sound_state.specs.Sound.{IsSoundWithoutCounts}
-use Rattle.sound_state.specs.Superblocks.{info_for}
-use Rattle.sound_state.specs.Ties.{IsTied, IsLive, IsBlockOfDesc, IsExcepted, IsCovered}
+use Rattle.pool_model.proofs.PoolLemmas.{every-found}
+use Rattle.sound_state.specs.Ties.{IsBlockOfDesc, IsExcepted, IsCovered}
 use Rattle.sound_state.proofs.shared.CallerLemmas.{each-other}
 use Rattle.sound_state.proofs.shared.ListFacts.{any-none}
 use Rattle.sound_state.proofs.shared.ShownLemmas.{Excepts}

@@ -1,12 +1,9 @@
 -- Sums over the callers as sums over a list of their errands.
-use Rattle.std.proofs.Common.{ℕ, ◌≡◌, ◌<◌, ◌+◌, inl, inr, List, [], ◌∷◌, refl, sym, ap, ◌∙◌, arith, eq-eqb, ne_eqb}
-use Rattle.std.specs.Prelude.{◌==◌, All, sum_by, if◌then◌else◌}
+use Rattle.std.proofs.Common.{ℕ, ◌≡◌, ◌<◌, ◌+◌, inl, inr, List, [], ◌∷◌, refl, sym, ap, ◌∙◌, arith, eq-eqb, ne_eqb, ◌==◌, All, sum_by, if◌then◌else◌}
 use Rattle.std.proofs.lemmas.Bool.{cases_eq}
 use Rattle.std.proofs.lemmas.List.Elements.{All-head, All-tail}
 use Rattle.std.proofs.lemmas.List.Sums.{sum_by-cons}
-use Rattle.heap_geometry.specs.declared.geometry.Geometry.{Geometry}
-use Rattle.errand_steps.specs.Errands.{ErrandFields}
-use Rattle.sound_state.specs.Sums.{sum_below, callers_sum}
+use Rattle.sound_state.proofs.Common.{Geometry, ErrandFields, sum_below, callers_sum}
 use Rattle.sound_state.specs.Totals.{AreAllErrands}
 use Rattle.sound_state.proofs.shared.SumLemmas.{sum-one, sum-plus, sum-none, sum-same}
 

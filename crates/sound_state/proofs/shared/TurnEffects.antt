@@ -3,27 +3,14 @@ use Rattle.std.proofs.Common.{ℕ, Bool, true, false, cond, ◌≡◌, ◌≢◌
 use Rattle.std.specs.Prelude.{count_by, nat_le}
 use Rattle.std.proofs.lemmas.Bool.{le-leb, eq-eqb, ne_eqb, cases_lt, lt-leb}
 use Rattle.std.proofs.lemmas.List.Sums.{sum_by_push}
-use Rattle.heap_geometry.specs.Need.{need_of}
-use Rattle.heap_geometry.specs.declared.geometry.Geometry.{Geometry}
-use Rattle.heap_geometry.specs.declared.limits.TheConstants.{CLASSES, SMALL_MOST, LARGE_MOST}
-use Rattle.heap_geometry.specs.Place.{frame_of}
-use Rattle.heap_geometry.specs.declared.need.Need.TheVariants.{Small}
-use Rattle.packed_words.specs.Head.{head_of}
-use Rattle.word_plan.specs.declared.name.WordName.TheVariants as name
-use Rattle.word_plan.specs.Counts.{descriptor_count}
-use Rattle.pool_model.specs.declared.event.Event.{Event}
+use Rattle.sound_state.proofs.Common.{need_of, Geometry, CLASSES, frame_of, Small, head_of, descriptor_count, Event, ErrandFields, spare_of, pushed_by, State, Moves}
+use Rattle.sound_state.proofs.Common.{Point, passed_by, held_by, Lists, turn_stage_of, in_turn, is_unneeded, waits_in, sum_below, callers_sum, anchor_for, IsTurned}
+use Rattle.sound_state.proofs.Common.{gives_small, refuses_small, one_if, emptied_out, pops_left}
+use Rattle.heap_geometry.specs.declared.limits.TheConstants.{SMALL_MOST, LARGE_MOST}
+use Rattle.word_table.specs.declared.name.WordName.TheVariants as name
 use Rattle.pool_model.specs.declared.event.Event.TheVariants.{Alloc, Free}
-use Rattle.errand_steps.specs.Errands.{ErrandFields}
-use Rattle.errand_steps.specs.Fits.{spare_of, pushed_by}
-use Rattle.errand_steps.specs.Steps.{State, Moves}
-use Rattle.errand_steps.specs.declared.point.Point.{Point}
-use Rattle.sound_state.specs.Guards.{passed_by, held_by}
-use Rattle.sound_state.specs.Lists.{Lists}
-use Rattle.sound_state.specs.TurnStages.{TurnStage, frame_taken, turn_stage_of, is_turn, in_turn, lacks_frame, lacks_partial, lacks_answer, is_unneeded, out_of_turn}
-use Rattle.sound_state.specs.Stock.{waits_in}
-use Rattle.sound_state.specs.Sums.{sum_below, callers_sum}
-use Rattle.sound_state.specs.Superblocks.{anchor_for}
-use Rattle.sound_state.specs.Turns.{IsTurned, gives_small, refuses_small, is_small_alloc, is_small_free, one_if, turn_open, turn_unframed, turn_unlisted, turn_unanswered, errand_discards, errand_pops, turns_of, cleared_of, emptied_out, pops_left, all_turns, all_cleared, all_emptied, small_frees, pops_to_come}
+use Rattle.sound_state.specs.TurnStages.{TurnStage, frame_taken, is_turn, lacks_frame, lacks_partial, lacks_answer, out_of_turn}
+use Rattle.sound_state.specs.Turns.{is_small_alloc, is_small_free, turn_open, turn_unframed, turn_unlisted, turn_unanswered, errand_discards, errand_pops, turns_of, cleared_of, all_turns, all_cleared, all_emptied, small_frees, pops_to_come}
 use Rattle.sound_state.proofs.shared.CallerLemmas.{each-other}
 use Rattle.sound_state.proofs.shared.SumLemmas.{callers-moved, sum-same}
 

@@ -1,20 +1,8 @@
 -- A descriptor on its way stands nowhere else.
-use Rattle.std.proofs.Common.{ℕ, Bool, ◌≡◌, ◌<◌, ◌≤◌, arith, sym, subst, inl, inr}
+use Rattle.std.proofs.Common.{ℕ, Bool, ◌≡◌, ◌<◌, ◌≤◌, arith, sym, subst, inl, inr, ◌==◌, ◌&&◌, IsTrue}
 use Rattle.std.proofs.lemmas.Bool.{cases_eq}
-use Rattle.std.specs.Prelude.{◌==◌, ◌&&◌, IsTrue}
-use Rattle.heap_geometry.specs.declared.geometry.Geometry.{Geometry}
-use Rattle.heap_geometry.specs.declared.limits.TheConstants.{CLASSES}
-use Rattle.word_plan.specs.Counts.{descriptor_count}
-use Rattle.word_plan.specs.Table.{Exists}
-use Rattle.word_plan.specs.declared.name.WordName.{WordName}
-use Rattle.word_plan.specs.Occurs.{occurs}
-use Rattle.errand_steps.specs.Steps.{State}
-use Rattle.sound_state.specs.Holdings.{Status, reserving, waiting, partly_used, on_its_way}
-use Rattle.sound_state.specs.Keepers.{errand_has, word_keeps, full_keeps}
-use Rattle.sound_state.specs.Lists.{Lists}
-use Rattle.sound_state.specs.Sound.{IsSoundWith}
-use Rattle.sound_state.specs.Sums.{callers_sum}
-use Rattle.sound_state.specs.Superblocks.{anchor_for, is_bound, away_of, errand_away, errand_keeps}
+use Rattle.sound_state.proofs.Common.{Geometry, CLASSES, descriptor_count, Exists, WordName, occurs, State, Status, reserving, waiting, partly_used, on_its_way}
+use Rattle.sound_state.proofs.Common.{errand_has, word_keeps, full_keeps, Lists, IsSoundWith, callers_sum, anchor_for, is_bound, away_of, errand_away, errand_keeps}
 use Rattle.sound_state.proofs.shared.CreditLemmas.{word-sum}
 use Rattle.sound_state.proofs.shared.HasLemmas.{others-none}
 use Rattle.sound_state.proofs.shared.SumLemmas.{term-sum}

@@ -1,25 +1,15 @@
 -- A superblock that waits to be installed has all its blocks reserved or held back.
 use Rattle.std.proofs.Common.{ℕ, ◌≡◌, ◌<◌, ◌+◌, ◌-◌, arith, ap, ◌∙◌}
 use Rattle.std.proofs.lemmas.List.Elements.{recursion_from_All}
-use Rattle.heap_geometry.specs.Need.{block_count_of}
-use Rattle.heap_geometry.specs.declared.geometry.Geometry.{Geometry}
+use Rattle.sound_state.proofs.Common.{block_count_of, Geometry, anchor_of, Site, new_credits, ErrandFields, State, Continuation, Point, waiting, holds_of, Lists}
+use Rattle.sound_state.proofs.Common.{IsSo, recalls_of, IsSoundWith, sum_below, callers_sum, anchor_for, info_for, superblock_of, reserved_of, reserved_among}
+use Rattle.sound_state.proofs.Common.{errand_reserves, errand_keeps}
 use Rattle.packed_words.proofs.AnchorLemmas.{anchor_of-anchor_word}
-use Rattle.packed_words.specs.Anchor.{IsAnchor, anchor_of}
-use Rattle.word_plan.proofs.SeatLemmas.{block_count_of-most}
-use Rattle.word_plan.specs.declared.seat.Site.{Site}
-use Rattle.superblock_parts.specs.Anchors.{new_anchor, new_credits}
+use Rattle.packed_words.specs.Anchor.{IsAnchor}
+use Rattle.word_table.proofs.SeatLemmas.{block_count_of-most}
+use Rattle.superblock_parts.specs.Anchors.{new_anchor}
 use Rattle.superblock_parts.specs.declared.point.BlockPoint.TheVariants as block
-use Rattle.errand_steps.specs.Errands.{ErrandFields}
-use Rattle.errand_steps.specs.Steps.{State}
-use Rattle.errand_steps.specs.declared.continuation.Continuation.{Continuation}
 use Rattle.errand_steps.specs.declared.point.Point.TheVariants as point
-use Rattle.errand_steps.specs.declared.point.Point.{Point}
-use Rattle.sound_state.specs.Holdings.{waiting, holds_of}
-use Rattle.sound_state.specs.Lists.{Lists}
-use Rattle.sound_state.specs.Recalls.{IsSo, recalls_of}
-use Rattle.sound_state.specs.Sound.{IsSoundWith}
-use Rattle.sound_state.specs.Sums.{sum_below, callers_sum}
-use Rattle.sound_state.specs.Superblocks.{anchor_for, info_for, superblock_of, reserved_of, reserved_among, errand_reserves, errand_keeps}
 use Rattle.sound_state.proofs.shared.PointLemmas.{fits-at, so-at}
 use Rattle.sound_state.proofs.shared.SumLemmas.{term-sum}
 use Rattle.sound_state.proofs.shared.TallyLemmas.{tally}

@@ -1,25 +1,10 @@
 -- A step whose word and errand weigh together what they weighed before changes nothing that is shown.
 use Rattle.std.proofs.Common.{ℕ, ◌≡◌, ◌<◌, ◌≤◌, ◌+◌, refl, arith, ap, sym, subst, inl, inr, ◌∙◌}
-use Rattle.heap_geometry.specs.declared.geometry.Geometry.{Geometry}
-use Rattle.packed_words.specs.Anchor.{anchor_of}
-use Rattle.packed_words.specs.Info.{info_of}
-use Rattle.word_plan.specs.declared.name.WordName.{WordName}
-use Rattle.word_plan.specs.declared.name.WordName.TheVariants as name
-use Rattle.word_plan.specs.Counts.{descriptor_count}
-use Rattle.word_plan.specs.Table.{Exists}
-use Rattle.word_plan.specs.Words.{Writes}
-use Rattle.word_plan.proofs.NameLemmas.{cases_name}
-use Rattle.errand_steps.specs.Errands.{ErrandFields}
-use Rattle.errand_steps.specs.Steps.{State, Moves}
-use Rattle.sound_state.specs.Frames.{errand_frames}
-use Rattle.sound_state.specs.Holdings.{waiting, on_its_way}
-use Rattle.sound_state.specs.Keepers.{word_keeps, errand_has, full_keeps}
-use Rattle.sound_state.specs.Lists.{Lists}
+use Rattle.sound_state.proofs.Common.{Geometry, anchor_of, info_of, WordName, descriptor_count, Exists, Writes, cases_name, ErrandFields, State, Moves}
+use Rattle.sound_state.proofs.Common.{errand_frames, waiting, on_its_way, word_keeps, errand_has, full_keeps, Lists, word_stock, errand_stock, full_stock, sum_below}
+use Rattle.sound_state.proofs.Common.{info_or_zero, word_reserves, errand_reserves, errand_keeps, errand_away, away_of, is_bound, emptied_out}
+use Rattle.word_table.specs.declared.name.WordName.TheVariants as name
 use Rattle.sound_state.specs.Recalls.{IsPlain}
-use Rattle.sound_state.specs.Stock.{word_stock, errand_stock, full_stock}
-use Rattle.sound_state.specs.Sums.{sum_below}
-use Rattle.sound_state.specs.Superblocks.{info_or_zero, word_reserves, errand_reserves, errand_keeps, errand_away, away_of, is_bound}
-use Rattle.sound_state.specs.Turns.{emptied_out}
 use Rattle.sound_state.proofs.shared.AlikeLemmas.{Alike}
 use Rattle.sound_state.proofs.shared.SumLemmas.{words-written, callers-moved, sum-same}
 

@@ -1,12 +1,7 @@
 -- Sums over the words and over the callers, compared word by word and caller by caller.
 use Rattle.std.proofs.Common.{ℕ, ◌≡◌, ◌<◌, ◌≤◌, ◌+◌, ◌*◌, arith}
-use Rattle.heap_geometry.specs.declared.geometry.Geometry.{Geometry}
-use Rattle.word_plan.specs.declared.name.WordName.{WordName}
-use Rattle.word_plan.specs.Counts.{word_count}
-use Rattle.word_plan.specs.Table.{Exists, word_name}
-use Rattle.word_plan.proofs.TableLemmas.{word_name-Exists}
-use Rattle.errand_steps.specs.Errands.{ErrandFields}
-use Rattle.sound_state.specs.Sums.{sum_below, words_sum, callers_sum}
+use Rattle.sound_state.proofs.Common.{Geometry, WordName, word_count, Exists, word_name, ErrandFields, sum_below, words_sum, callers_sum}
+use Rattle.word_table.proofs.TableLemmas.{word_name-Exists}
 use Rattle.sound_state.proofs.shared.SumLemmas.{sum-least, sum-swap, sum-most-but, some-term, term-sum}
 
 -- where each word weighs at least as much by a second weight, all do

@@ -1,30 +1,16 @@
 -- What a step changes, where its point is known, what it finds and where it leads; and what an exchange changes that is won.
-use Rattle.std.proofs.Common.{ℕ, ◌≡◌, ◌≢◌, ◌<◌, ◌^◌, refl, ap, sym, subst, inl, inr, ◌∙◌}
-use Rattle.std.specs.Prelude.{◌⊎◌, ◌==◌}
+use Rattle.std.proofs.Common.{ℕ, ◌≡◌, ◌≢◌, ◌<◌, ◌^◌, refl, ap, sym, subst, inl, inr, ◌∙◌, ◌⊎◌, ◌==◌}
 use Rattle.std.proofs.lemmas.Bool.{cond-true, eq-eqb}
-use Rattle.heap_geometry.specs.declared.geometry.Geometry.{Geometry}
-use Rattle.packed_words.specs.Anchor.{AnchorFields, IsAnchor, anchor_of, anchor_word}
+use Rattle.sound_state.proofs.Common.{Geometry, AnchorFields, anchor_of, anchor_word, Found, WordName, name_of, after_action, Writes, Next, Reply, At, End, Point}
+use Rattle.sound_state.proofs.Common.{Idle, ErrandFields, settle_of, counts_lost, counts_cleared, raised, event_of, next_of, plan_point_of, State, Step, Moves}
+use Rattle.sound_state.proofs.Common.{found_at, name_at, with_event, Lists, IsSoundWith, IsOwnErrand, anchor_for}
+use Rattle.packed_words.specs.Anchor.{IsAnchor}
 use Rattle.packed_words.proofs.AnchorLemmas.{anchor_of-anchor_word, anchor_word-below}
-use Rattle.word_plan.specs.declared.action.Action.TheVariants.{Cas}
-use Rattle.word_plan.specs.declared.action.Found.{Found}
-use Rattle.word_plan.specs.declared.name.WordName.{WordName}
-use Rattle.word_plan.specs.declared.name.WordName.TheVariants as name
-use Rattle.word_plan.specs.Actions.{name_of, after_action, found_by}
-use Rattle.word_plan.specs.Words.{Writes}
-use Rattle.errand_steps.specs.declared.next.Next.{Next}
-use Rattle.errand_steps.specs.declared.reply.Reply.{Reply}
-use Rattle.errand_steps.specs.declared.next.Next.TheVariants.{At, End}
-use Rattle.errand_steps.specs.declared.point.Point.{Point}
-use Rattle.errand_steps.specs.declared.point.Point.TheVariants.{Idle}
-use Rattle.errand_steps.specs.Errands.{ErrandFields, IsErrand, settle_of, counts_lost, counts_cleared, raised}
-use Rattle.errand_steps.specs.Events.{event_of}
-use Rattle.errand_steps.specs.Nexts.{next_of}
-use Rattle.errand_steps.specs.Points.{plan_point_of}
-use Rattle.errand_steps.specs.Steps.{State, Step, Moves, found_at, name_at, with_event}
+use Rattle.word_table.specs.declared.action.Action.TheVariants.{Cas}
+use Rattle.word_table.specs.declared.name.WordName.TheVariants as name
+use Rattle.word_table.specs.Actions.{found_by}
+use Rattle.errand_steps.specs.Errands.{IsErrand}
 use Rattle.errand_steps.proofs.ErrandLemmas.{settle_errand}
-use Rattle.sound_state.specs.Lists.{Lists}
-use Rattle.sound_state.specs.Sound.{IsSoundWith, IsOwnErrand}
-use Rattle.sound_state.specs.Superblocks.{anchor_for}
 use Rattle.sound_state.proofs.shared.CreditLemmas.{won_with}
 use Rattle.sound_state.proofs.shared.StepLemmas.{at_point, found_from, settle-at, settle-end, words-below, raised-below}
 

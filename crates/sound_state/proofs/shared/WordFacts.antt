@@ -1,24 +1,19 @@
 -- What single words say: active words, next words, shelves, descriptors and the names of the arena.
-use Rattle.std.proofs.Common.{ℕ, false, Some, ◌≡◌, ◌<◌, ◌+◌, ◌*◌, ◌^◌, refl, arith, ap, ne_eqb, Option, None, ◌%◌, sym, subst}
-use Rattle.std.specs.Prelude.{◌==◌, IsSome}
-use Rattle.heap_geometry.specs.Geometry.{IsChecked}
-use Rattle.heap_geometry.specs.declared.geometry.Geometry.{Geometry}
+use Rattle.std.proofs.Common.{ℕ, false, Some, ◌≡◌, ◌<◌, ◌+◌, ◌*◌, ◌^◌, refl, arith, ap, ne_eqb, Option, None, ◌%◌, sym, subst, ◌==◌, IsSome}
+use Rattle.sound_state.proofs.Common.{IsChecked, Geometry, active_word, active_of, Null, Held, descriptor_count, SeatFields, active_name, IsSiteOf, Exists, Site}
+use Rattle.sound_state.proofs.Common.{info_or_zero}
 use Rattle.packed_words.proofs.ActiveLemmas.{active-exact}
-use Rattle.packed_words.specs.Active.{IsActiveWord, active_word, active_of}
+use Rattle.packed_words.specs.Active.{IsActiveWord}
 use Rattle.packed_words.specs.Info.{InfoFields, IsInfo}
 use Rattle.packed_words.specs.Shelf.{shelf_word}
-use Rattle.packed_words.specs.declared.active.ActiveWord.TheVariants.{Null, Held}
 use Rattle.packed_words.specs.declared.shelf.ShelfWord.TheVariants as shelf
 use Rattle.packed_words.specs.declared.widths.TheConstants.{CREDIT_BITS}
-use Rattle.word_plan.proofs.CountLemmas.{descriptor_count_within}
-use Rattle.word_plan.proofs.SeatLemmas.{heap_of-within}
-use Rattle.word_plan.specs.Counts.{descriptor_count, arena_words}
-use Rattle.word_plan.specs.Seats.{SeatFields, heap_of, info_within}
-use Rattle.word_plan.specs.Sites.{IsSeatOf, active_name, info_at, IsSiteOf}
-use Rattle.word_plan.specs.Table.{Exists}
-use Rattle.word_plan.specs.declared.seat.Site.{Site}
+use Rattle.word_table.proofs.CountLemmas.{descriptor_count_within}
+use Rattle.word_table.proofs.SeatLemmas.{heap_of-within}
+use Rattle.word_table.specs.Counts.{arena_words}
+use Rattle.word_table.specs.Seats.{heap_of, info_within}
+use Rattle.word_table.specs.Sites.{IsSeatOf, info_at}
 use Rattle.hazard_parts.specs.Points.{link_in}
-use Rattle.sound_state.specs.Superblocks.{info_or_zero}
 
 -- the numbers of an active word fit, and it says them
 pub held-fits : (g : Geometry) (d credits : ℕ) → IsChecked g → d < descriptor_count g → credits < 2 ^ CREDIT_BITS → IsActiveWord (Held d credits)

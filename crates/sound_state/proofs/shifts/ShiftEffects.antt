@@ -1,26 +1,12 @@
 -- A step that moves blocks of a superblock between its count and what is reserved: what it changes, and that everything else stays.
-use Rattle.std.proofs.Common.{ℕ, Bool, false, ◌≡◌, ◌≢◌, ◌<◌, ◌≤◌, ◌+◌, ◌^◌}
-use Rattle.std.specs.Prelude.{◌==◌, IsTrue, if◌then◌else◌, All}
-use Rattle.heap_geometry.specs.declared.geometry.Geometry.{Geometry}
-use Rattle.heap_geometry.specs.Need.{block_count_of}
-use Rattle.packed_words.specs.Anchor.{AnchorFields}
-use Rattle.packed_words.specs.declared.anchor.State.TheVariants as phase
-use Rattle.partial_parts.specs.Grants.{is_empty}
-use Rattle.word_plan.specs.declared.name.WordName.{WordName}
-use Rattle.word_plan.specs.declared.name.WordName.TheVariants as name
-use Rattle.word_plan.specs.declared.seat.Site.{Site}
-use Rattle.word_plan.specs.Sites.{IsSiteOf}
-use Rattle.word_plan.specs.Occurs.{occurs}
-use Rattle.errand_steps.specs.Errands.{ErrandFields}
-use Rattle.errand_steps.specs.Steps.{State, Moves}
-use Rattle.sound_state.specs.Holdings.{waiting, on_its_way, clear, holds_of}
-use Rattle.sound_state.specs.Keepers.{IsKeptAs, full_keeps}
-use Rattle.sound_state.specs.Lists.{Lists}
-use Rattle.sound_state.specs.Recalls.{IsLocated, bound_here, recalls_of}
-use Rattle.sound_state.specs.Sound.{IsOwnErrand}
-use Rattle.sound_state.specs.TurnStages.{turn_stage_of, lacks_partial}
-use Rattle.sound_state.specs.Stock.{stock_among}
-use Rattle.sound_state.specs.Superblocks.{anchor_for, is_bound, reserved_among, kept_among}
+use Rattle.std.proofs.Common.{ℕ, Bool, false, ◌≡◌, ◌≢◌, ◌<◌, ◌≤◌, ◌+◌, ◌^◌, ◌==◌, IsTrue, if◌then◌else◌, All}
+use Rattle.sound_state.proofs.Common.{Geometry, block_count_of, AnchorFields, is_empty, WordName, Site, IsSiteOf, occurs, ErrandFields, State, Moves, waiting}
+use Rattle.sound_state.proofs.Common.{on_its_way, holds_of, IsKeptAs, full_keeps, Lists, IsLocated, bound_here, recalls_of, IsOwnErrand, turn_stage_of, stock_among}
+use Rattle.sound_state.proofs.Common.{anchor_for, is_bound, reserved_among, kept_among}
+use Rattle.packed_words.specs.declared.anchor.AnchorState.TheVariants as phase
+use Rattle.word_table.specs.declared.name.WordName.TheVariants as name
+use Rattle.sound_state.specs.Holdings.{clear}
+use Rattle.sound_state.specs.TurnStages.{lacks_partial}
 use Rattle.sound_state.proofs.shared.PointLemmas.{kept_places}
 use Rattle.sound_state.proofs.shared.TurnEffects.{StandsIn}
 

@@ -1,28 +1,16 @@
 -- What a step leaves that moves blocks between the count and what is reserved.
-use Rattle.std.proofs.Common.{ℕ, ◌≡◌, ◌≢◌, ◌<◌, ◌+◌, refl, arith, ap, sym, subst, ◌∙◌}
-use Rattle.std.specs.Prelude.{◌==◌, IsTrue}
-use Rattle.heap_geometry.specs.declared.geometry.Geometry.{Geometry}
-use Rattle.heap_geometry.specs.Need.{block_count_of}
-use Rattle.packed_words.specs.Anchor.{AnchorFields}
-use Rattle.partial_parts.specs.Grants.{is_empty}
-use Rattle.word_plan.specs.declared.name.WordName.{WordName}
-use Rattle.word_plan.specs.declared.name.WordName.TheVariants as name
-use Rattle.word_plan.specs.declared.seat.Site.{Site}
-use Rattle.errand_steps.specs.Errands.{ErrandFields}
-use Rattle.errand_steps.specs.Steps.{State}
-use Rattle.sound_state.specs.Frames.{IsFramed}
-use Rattle.sound_state.specs.Holdings.{on_its_way, holds_of}
-use Rattle.sound_state.specs.Lists.{Lists}
-use Rattle.sound_state.specs.Sound.{IsSoundWith}
-use Rattle.sound_state.specs.Sums.{words_sum, callers_sum}
-use Rattle.sound_state.specs.Superblocks.{AreChained, IsChained, anchor_for, info_for, superblock_of, free_chain, is_bound, away_of, waiting_of, reserved_of, word_reserves, errand_keeps}
+use Rattle.std.proofs.Common.{ℕ, ◌≡◌, ◌≢◌, ◌<◌, ◌+◌, refl, arith, ap, sym, subst, ◌∙◌, ◌==◌, IsTrue}
+use Rattle.sound_state.proofs.Common.{Geometry, block_count_of, AnchorFields, is_empty, WordName, Site, ErrandFields, State, IsFramed, on_its_way, holds_of, Lists}
+use Rattle.sound_state.proofs.Common.{IsSoundWith, words_sum, callers_sum, AreChained, IsChained, anchor_for, info_for, superblock_of, free_chain, is_bound, away_of}
+use Rattle.sound_state.proofs.Common.{waiting_of, reserved_of, word_reserves, errand_keeps}
+use Rattle.word_table.specs.declared.name.WordName.TheVariants as name
 use Rattle.sound_state.proofs.shared.HasLemmas.{bound-stands}
 use Rattle.sound_state.proofs.shared.HoldingEffects.{HoldingEffects, waits-go, ways-go, credits-go, away-goes, framed-after}
 use Rattle.sound_state.proofs.shared.SuperblockEffects.{of-each, LieStill, AnchorEffects, anchor-still, anchors-stay, field-stays, weights-stay, info-stays, infos-stay, next-stays, size-stays, live-stays, same-chain-chained, held-same}
 use Rattle.sound_state.proofs.shifts.ShiftEffects.{Shifts}
 
 module _
-    (g : Geometry) (s : State) (l : Lists) (caller : ℕ) (at : Site) (a b : AnchorFields) (e : ErrandFields) (s' : State)
+    {g : Geometry} {s : State} {l : Lists} {caller : ℕ} {at : Site} {a b : AnchorFields} {e : ErrandFields} {s' : State}
     (h : Shifts g s l caller at a b e s') where
   shifted-holds : HoldingEffects g s caller (holds_of (s.errand caller).point) (holds_of e.point) e s'
   shifted-holds = record { in_heap = h.in_heap; moves = h.moves; retired = h.retired; before = refl; after = refl }

@@ -1,19 +1,9 @@
 -- A step that moves blocks between the count and what is reserved keeps what the callers remember, and so the state sound.
-use Rattle.std.proofs.Common.{ℕ, ◌≡◌, ◌≢◌, ◌<◌, arith, ap, sym, subst, ◌∙◌}
+use Rattle.std.proofs.Common.{ℕ, ◌≡◌, ◌≢◌, ◌<◌, arith, ap, sym, subst, ◌∙◌, IsTrue}
 use Rattle.std.specs.List.{All}
-use Rattle.std.specs.Prelude.{IsTrue}
-use Rattle.heap_geometry.specs.declared.geometry.Geometry.{Geometry}
-use Rattle.packed_words.specs.Anchor.{AnchorFields}
-use Rattle.word_plan.specs.declared.seat.Site.{Site}
-use Rattle.pool_model.specs.Histories.{own}
-use Rattle.pool_model.specs.Legal.{IsLegalWithoutCounts}
-use Rattle.errand_steps.specs.Errands.{ErrandFields}
-use Rattle.errand_steps.specs.Steps.{State}
-use Rattle.sound_state.specs.Keepers.{errand_has}
-use Rattle.sound_state.specs.Lists.{Lists}
-use Rattle.sound_state.specs.Recalls.{Recall, IsRemembered, IsSo, bound_for, bound_at, pops, links, says}
-use Rattle.sound_state.specs.Sound.{IsSoundWithoutCounts, IsSoundWith, IsOwnErrand}
-use Rattle.sound_state.specs.Superblocks.{superblock_of}
+use Rattle.sound_state.proofs.Common.{Geometry, AnchorFields, Site, own, IsLegalWithoutCounts, ErrandFields, State, errand_has, Lists, Recall, IsSo, bound_for}
+use Rattle.sound_state.proofs.Common.{bound_at, pops, links, says, IsSoundWithoutCounts, IsSoundWith, IsOwnErrand, superblock_of}
+use Rattle.sound_state.specs.Recalls.{IsRemembered}
 use Rattle.sound_state.proofs.shared.RecallEffects.{IsSteadyWord, Leaves, IsLeft, popped-same, here-so, remembered-left}
 use Rattle.sound_state.proofs.shared.RecallTables.{InstallsNone, IsBacked, backed-recalls}
 use Rattle.sound_state.proofs.shared.ShownLemmas.{each-caller}
@@ -25,13 +15,13 @@ use Rattle.sound_state.proofs.shifts.ShiftTurns.{shifted-owned, shifted-listed, 
 
 -- a shift
 module _
-    (g : Geometry) (s : State) (l : Lists) (caller : ℕ) (at : Site) (a b : AnchorFields) (e : ErrandFields) (s' : State)
+    {g : Geometry} {s : State} {l : Lists} {caller : ℕ} {at : Site} {a b : AnchorFields} {e : ErrandFields} {s' : State}
     (h : Shifts g s l caller at a b e s') where
   -- nobody else waits to install its superblock
   shifted-installed : IsSoundWith g s l → (i : ℕ) → i < g.callers → i ≢ caller → InstallsNone (s.errand i).point at.desc
   shifted-installed old i has ne site o stands same =
       let none : errand_has site.desc (s.errand i) ≡ 0 =
-      subst (λ k. errand_has k (s.errand i) ≡ 0) (sym same) ((shifted-alone g s l caller at a b e s' h old.kept).others i has ne) in
+      subst (λ k. errand_has k (s.errand i) ≡ 0) (sym same) ((shifted-alone h old.kept).others i has ne) in
       omega (arith, none, install-waits (s.errand i) site o stands)
 
   -- so it leaves what the others remember
@@ -39,17 +29,17 @@ module _
   shifted-leaves i = record {
     steady = λ n is. h.elsewhere n (λ same. subst IsSteadyWord same is);
     events = ap (own i) h.history;
-    owned = shifted-owned g s l caller at a b e s' h i;
-    empty = λ d so. shifted-empty g s l caller at a b e s' h d;
-    ways = λ d so. shifted-ways g s l caller at a b e s' h d;
+    owned = shifted-owned h i;
+    empty = λ d so. shifted-empty h d;
+    ways = λ d so. shifted-ways h d;
   }
 
   shifted-left : (r : Recall) → IsBacked g s l at.desc r → IsLeft g s l s' r
-  shifted-left (bound_for d c) backed = subst IsTrue (sym (shifted-bound g s l caller at a b e s' h d))
-  shifted-left (bound_at d f c) backed = subst IsTrue (sym (shifted-bound g s l caller at a b e s' h d))
+  shifted-left (bound_for d c) backed = subst IsTrue (sym (shifted-bound h d))
+  shifted-left (bound_at d f c) backed = subst IsTrue (sym (shifted-bound h d))
   shifted-left (pops d x) backed =
-      popped-same (superblock_of g s d) (superblock_of g s' d) x (shifted-tag g s l caller at a b e s' h d) (shifted-chain g s l caller at a b e s' h d)
-  shifted-left (links d x prefix) backed = λ is. is ∙ shifted-tag g s l caller at a b e s' h d
+      popped-same (superblock_of g s d) (superblock_of g s' d) x (shifted-tag h d) (shifted-chain h d)
+  shifted-left (links d x prefix) backed = λ is. is ∙ shifted-tag h d
   shifted-left (says n w) backed = h.elsewhere n backed
   shifted-left r backed = tt
 
@@ -57,7 +47,7 @@ module _
   shifted-remembered old =
       remembered-left g s l caller e s' h.moves
       (subst (All (IsSo g s' l caller)) (sym h.recalls_after)
-      (here-so g s l s' (shifted-leaves caller).steady caller at (subst IsTrue (sym (shifted-bound g s l caller at a b e s' h at.desc)) h.bound) h.located))
+      (here-so g s l s' (shifted-leaves caller).steady caller at (subst IsTrue (sym (shifted-bound h at.desc)) h.bound) h.located))
       (λ i has ne. shifted-leaves i)
       (λ i has ne k d lt.
       shifted-left _
@@ -68,15 +58,15 @@ module _
   shifted-with old = record {
     words = h.below;
     errands = each-caller g (IsOwnErrand g) s.errand caller e s'.errand h.moves h.rule old.errands;
-    listed = shifted-listed g s l caller at a b e s' h old;
-    kept = shifted-kept g s l caller at a b e s' h old;
-    chained = shifted-chained g s l caller at a b e s' h old;
-    framed = shifted-framed g s l caller at a b e s' h old;
+    listed = shifted-listed h old;
+    kept = shifted-kept h old;
+    chained = shifted-chained h old;
+    framed = shifted-framed h old;
     remembered = shifted-remembered old;
-    guarded = shifted-guarded g s l caller at a b e s' h old;
-    stocked = shifted-stocked g s l caller at a b e s' h old;
-    turned = shifted-turned g s l caller at a b e s' h old;
-    tied = shifted-tied g s l caller at a b e s' h old;
+    guarded = shifted-guarded h old;
+    stocked = shifted-stocked h old;
+    turned = shifted-turned h old;
+    tied = shifted-tied h old;
   }
 
   pub shifted-sound : IsSoundWithoutCounts g s → IsSoundWith g s l → IsSoundWithoutCounts g s'

@@ -4,45 +4,32 @@ use Rattle.std.specs.Prelude.{◌==◌, IsTrue, if◌then◌else◌, nat_lt, All
 use Rattle.std.proofs.lemmas.Bool.{cases_eq, cases_lt, cond-true, eq-eqb, lt-ltb}
 use Rattle.std.proofs.lemmas.List.Elements.{All-nil, All-cons, All-head, All-tail}
 use Rattle.std.proofs.Math.Nat.{mod-eq_of_lt}
-use Rattle.heap_geometry.specs.declared.geometry.Geometry.{Geometry}
-use Rattle.heap_geometry.specs.declared.need.Need.{Need}
+use Rattle.sound_state.proofs.Common.{Geometry, Need, block_count_of, block_place, AnchorFields, anchor_of, anchor_word, info_of, is_empty, Site, occurs, Grant}
+use Rattle.sound_state.proofs.Common.{Continuation, Point, Block, Partial, event_of, next_of, asked, plan_point_of, State, Step, Kept, reserving, waiting}
+use Rattle.sound_state.proofs.Common.{partly_used, on_its_way, holds_before_pop, holds_of, Status, IsPartlyUsed, IsKeptAs, full_keeps, Lists, IsLocated, IsOwned}
+use Rattle.sound_state.proofs.Common.{IsSo, bound_at, located, recalls_of, IsSoundWithoutCounts, IsSoundWith, turn_stage_of, stock_among, sum_below, callers_sum}
+use Rattle.sound_state.proofs.Common.{Superblock, IsChained, anchor_for, info_for, info_or_zero, superblock_of, live_at, is_there, is_bound, away_of, reserved_among}
+use Rattle.sound_state.proofs.Common.{errand_reserves, errand_keeps, kept_among}
 use Rattle.heap_geometry.specs.declared.need.Need.TheVariants as need
-use Rattle.heap_geometry.specs.Need.{block_count_of}
-use Rattle.heap_geometry.specs.Place.{block_place}
-use Rattle.packed_words.specs.Anchor.{AnchorFields, IsAnchor, anchor_of, anchor_word}
-use Rattle.packed_words.specs.Info.{info_of}
-use Rattle.packed_words.specs.declared.anchor.State.{State as Phase}
-use Rattle.packed_words.specs.declared.anchor.State.TheVariants as phase
+use Rattle.packed_words.specs.Anchor.{IsAnchor}
+use Rattle.packed_words.specs.declared.anchor.AnchorState.{AnchorState as Phase}
+use Rattle.packed_words.specs.declared.anchor.AnchorState.TheVariants as phase
 use Rattle.packed_words.specs.declared.widths.TheConstants.{COUNT_BITS}
 use Rattle.packed_words.proofs.AnchorLemmas.{anchor_of-anchor_word}
 use Rattle.partial_parts.specs.declared.point.PartialPoint.TheVariants as partial
-use Rattle.partial_parts.specs.Grants.{grant_more, granted, granted_state, is_empty}
-use Rattle.word_plan.specs.declared.action.Action.TheVariants.{Cas}
-use Rattle.word_plan.specs.declared.name.WordName.TheVariants as name
-use Rattle.word_plan.specs.declared.seat.Site.{Site}
-use Rattle.word_plan.specs.Seats.{heap_of}
-use Rattle.word_plan.proofs.SeatLemmas.{block_count_of-most}
-use Rattle.word_plan.specs.Occurs.{occurs}
+use Rattle.partial_parts.specs.Grants.{grant_more, granted, granted_state}
+use Rattle.word_table.specs.declared.action.Action.TheVariants.{Cas}
+use Rattle.word_table.specs.declared.name.WordName.TheVariants as name
+use Rattle.word_table.specs.Seats.{heap_of}
+use Rattle.word_table.proofs.SeatLemmas.{block_count_of-most}
 use Rattle.superblock_parts.specs.Anchors.{returned}
 use Rattle.superblock_parts.specs.declared.point.BlockPoint.TheVariants as block
-use Rattle.superblock_parts.specs.declared.point.Share.TheVariants.{Grant}
-use Rattle.errand_steps.specs.declared.continuation.Continuation.{Continuation}
 use Rattle.errand_steps.specs.declared.continuation.Continuation.TheVariants as continuation
-use Rattle.errand_steps.specs.declared.point.Point.{Point}
-use Rattle.errand_steps.specs.declared.point.Point.TheVariants.{Block, Partial}
-use Rattle.errand_steps.specs.Events.{event_of}
-use Rattle.errand_steps.specs.Nexts.{next_of}
-use Rattle.errand_steps.specs.Points.{asked, plan_point_of}
-use Rattle.errand_steps.specs.Steps.{State, Step}
-use Rattle.sound_state.specs.Holdings.{Handed, Kept, reserving, waiting, partly_used, on_its_way, keep, holds_before_pop, holds_after_pop, holds_of, Status}
-use Rattle.sound_state.specs.Keepers.{IsActive, IsPartlyUsed, IsKeptAs, full_keeps}
-use Rattle.sound_state.specs.Lists.{Lists}
-use Rattle.sound_state.specs.Recalls.{IsLocated, IsOwned, IsSo, bound_at, located, in_use, recalls_of}
-use Rattle.sound_state.specs.Sound.{IsSoundWithoutCounts, IsSoundWith}
-use Rattle.sound_state.specs.TurnStages.{turn_stage_of, lacks_partial}
-use Rattle.sound_state.specs.Stock.{stock_among}
-use Rattle.sound_state.specs.Sums.{sum_below, callers_sum}
-use Rattle.sound_state.specs.Superblocks.{Superblock, IsChained, anchor_for, info_for, info_or_zero, superblock_of, live_at, is_there, is_bound, away_of, reserved_among, errand_reserves, errand_keeps, kept_among, same_status}
+use Rattle.sound_state.specs.Holdings.{Handed, keep, holds_after_pop}
+use Rattle.sound_state.specs.Keepers.{IsActive}
+use Rattle.sound_state.specs.Recalls.{in_use}
+use Rattle.sound_state.specs.TurnStages.{lacks_partial}
+use Rattle.sound_state.specs.Superblocks.{same_status}
 use Rattle.sound_state.proofs.quiet.QuietExchanges.{return_credits-lost}
 use Rattle.sound_state.proofs.quiet.QuietPartials.{grant_lost-sound}
 use Rattle.sound_state.proofs.shared.HasLemmas.{keeps-near, kept-itself}
@@ -56,6 +43,7 @@ use Rattle.sound_state.proofs.shared.CreditLemmas.{won_with}
 use Rattle.sound_state.proofs.shared.TallyLemmas.{tally}
 use Rattle.sound_state.proofs.shared.SuperblockEffects.{located-live}
 use Rattle.sound_state.proofs.shared.WonEffects.{AnchorWon, anchor-won}
+use Rattle.sound_state.proofs.shared.KeepsSound.{KeepsSound, KeepsSoundWhere}
 
 -- a superblock with a live block has fewer free blocks than blocks
 live-fewer : (b : Superblock) (i : ℕ) → IsChained b → i < b.size → b.live i ≡ 1 → b.anchor.count + b.reserved < b.size
@@ -224,14 +212,12 @@ return-shifts g s l caller s' site i more a o old has here word step =
 
 -- reserved blocks are returned
 pub return_credits_won-sound :
-    (g : Geometry) (s : State) (caller : ℕ) (s' : State) (site : Site) (i more : ℕ) (a : AnchorFields) (o : Continuation) → IsSoundWithoutCounts g s
-    → caller < g.callers → (s.errand caller).point ≡ Block (block.ReturnCredits site i more a) o
-    → s.word (name.Anchor site.desc) ≡ anchor_word a → Step s caller s' → IsSoundWithoutCounts g s'
-return_credits_won-sound g s caller s' site i more a o sound has here word step =
+    (site : Site) (i more : ℕ) (a : AnchorFields) (o : Continuation)
+    → KeepsSoundWhere (Block (block.ReturnCredits site i more a) o) (λ s. s.word (name.Anchor site.desc) ≡ anchor_word a)
+return_credits_won-sound site i more a o g s caller s' sound has here word step =
     let l : Lists = sound.parts.0 in
     let old : IsSoundWith g s l = sound.parts.1 in
-    shifted-sound g s l caller site a (with_returned more a) (at_point (s.errand caller) (won_with (anchor_word a)) (puts_away site i o)) s'
-    (return-shifts g s l caller s' site i more a o old has here word step) sound old
+    shifted-sound (return-shifts g s l caller s' site i more a o old has here word step) sound old
 
 -- before and after a grant, by whether more than one block is granted
 abbrev grant_keeps : ℕ → ℕ → Bool → List Kept
@@ -405,34 +391,27 @@ grant-shifts g s l caller s' site a words old has here word step =
 
 -- blocks of a partial superblock are granted
 pub grant_won-sound :
-    (g : Geometry) (s : State) (caller : ℕ) (s' : State) (site : Site) (a : AnchorFields) (o : Continuation) → IsSoundWithoutCounts g s → caller < g.callers
-    → (s.errand caller).point ≡ Partial (partial.Grant site a) o → s.word (name.Anchor site.desc) ≡ anchor_word a → Step s caller s'
-    → IsSoundWithoutCounts g s'
-grant_won-sound g s caller s' site a o sound has here word step =
+    (site : Site) (a : AnchorFields) (o : Continuation)
+    → KeepsSoundWhere (Partial (partial.Grant site a) o) (λ s. s.word (name.Anchor site.desc) ≡ anchor_word a)
+grant_won-sound site a o g s caller s' sound has here word step =
     let l : Lists = sound.parts.0 in
     let old : IsSoundWith g s l = sound.parts.1 in
     let alloc : o ≡ continuation.Alloc (asked o) = the-alloc o (fits-at g s l caller (Partial (partial.Grant site a) o) old has here).goes in
     let stands : (s.errand caller).point ≡ Partial (partial.Grant site a) (continuation.Alloc (asked o)) =
     here ∙ ap (λ o. Partial (partial.Grant site a) o) alloc in
-    shifted-sound g s l caller site a (granted a)
-    (at_point (s.errand caller) (won_with (anchor_word a)) (Block (block.LoadAnchor site (Grant (grant_more a.count))) (continuation.Alloc (asked o)))) s'
-    (grant-shifts g s l caller s' site a (asked o) old has stands word step) sound old
+    shifted-sound (grant-shifts g s l caller s' site a (asked o) old has stands word step) sound old
 
 -- so it is after both, won or lost
-pub return_credits-sound :
-    (g : Geometry) (s : State) (caller : ℕ) (s' : State) (site : Site) (i more : ℕ) (a : AnchorFields) (o : Continuation) → IsSoundWithoutCounts g s
-    → caller < g.callers → (s.errand caller).point ≡ Block (block.ReturnCredits site i more a) o → Step s caller s' → IsSoundWithoutCounts g s'
-return_credits-sound g s caller s' site i more a o sound has here step =
+pub return_credits-sound : (site : Site) (i more : ℕ) (a : AnchorFields) (o : Continuation) → KeepsSound (Block (block.ReturnCredits site i more a) o)
+return_credits-sound site i more a o g s caller s' sound has here step =
     elim (cases_eq (s.word (name.Anchor site.desc)) (anchor_word a)) [
-      | inl is ↦ return_credits_won-sound g s caller s' site i more a o sound has here is step
-      | inr other ↦ return_credits-lost g s caller s' site i more a o sound has here other step
+      | inl is ↦ return_credits_won-sound site i more a o g s caller s' sound has here is step
+      | inr other ↦ return_credits-lost site i more a o g s caller s' sound has here other step
     ]
 
-pub grant-sound :
-    (g : Geometry) (s : State) (caller : ℕ) (s' : State) (site : Site) (a : AnchorFields) (need : ℕ) → IsSoundWithoutCounts g s → caller < g.callers
-    → (s.errand caller).point ≡ Partial (partial.Grant site a) (continuation.Alloc need) → Step s caller s' → IsSoundWithoutCounts g s'
-grant-sound g s caller s' site a need sound has here step =
+pub grant-sound : (site : Site) (a : AnchorFields) (need : ℕ) → KeepsSound (Partial (partial.Grant site a) (continuation.Alloc need))
+grant-sound site a need g s caller s' sound has here step =
     elim (cases_eq (s.word (name.Anchor site.desc)) (anchor_word a)) [
-      | inl is ↦ grant_won-sound g s caller s' site a (continuation.Alloc need) sound has here is step
-      | inr other ↦ grant_lost-sound g s caller s' site a need sound has here other step
+      | inl is ↦ grant_won-sound site a (continuation.Alloc need) g s caller s' sound has here is step
+      | inr other ↦ grant_lost-sound site a need g s caller s' sound has here other step
     ]

@@ -1,30 +1,15 @@
 -- A step that takes the first index off a stack, or puts one in front: what it changes, and that everything else stays.
-use Rattle.std.proofs.Common.{ℕ, Some, length, ◌≡◌, ◌<◌, ◌≤◌, ◌+◌, ◌^◌}
-use Rattle.std.specs.Prelude.{◌⊎◌, slice_index, count_by, All}
-use Rattle.heap_geometry.specs.declared.geometry.Geometry.{Geometry}
-use Rattle.heap_geometry.specs.declared.limits.TheConstants.{CLASSES}
-use Rattle.packed_words.specs.declared.anchor.State.TheVariants as phase
-use Rattle.packed_words.specs.Head.{head_of}
-use Rattle.word_plan.specs.declared.name.WordName.{WordName}
-use Rattle.word_plan.specs.declared.name.WordName.TheVariants as name
-use Rattle.word_plan.specs.Seats.{SeatFields}
-use Rattle.word_plan.specs.Occurs.{occurs}
-use Rattle.stack_parts.specs.declared.point.Pile.{Pile}
-use Rattle.stack_parts.specs.Piles.{head_name}
-use Rattle.errand_steps.specs.Errands.{ErrandFields}
-use Rattle.errand_steps.specs.Fits.{spare_of, pushed_by}
-use Rattle.errand_steps.specs.Steps.{State, Moves}
-use Rattle.sound_state.specs.Frames.{errand_frames}
-use Rattle.sound_state.specs.Guards.{IsGuard, IsHazard, passed_by, held_by}
-use Rattle.sound_state.specs.Holdings.{on_its_way, holds_of}
-use Rattle.sound_state.specs.Keepers.{IsPartlyUsed, IsWithout, IsKeptAs, places_of}
-use Rattle.sound_state.specs.Lists.{Lists, IsListed}
-use Rattle.sound_state.specs.Recalls.{IsSo, IsOwned, list_of, recalls_of}
-use Rattle.sound_state.specs.Sound.{IsOwnErrand}
+use Rattle.std.proofs.Common.{ℕ, Some, length, ◌≡◌, ◌<◌, ◌≤◌, ◌+◌, ◌^◌, ◌⊎◌, slice_index, count_by, All}
+use Rattle.sound_state.proofs.Common.{Geometry, CLASSES, head_of, WordName, SeatFields, occurs, Pile, head_name, ErrandFields, spare_of, pushed_by, State, Moves}
+use Rattle.sound_state.proofs.Common.{errand_frames, IsGuard, IsHazard, passed_by, held_by, on_its_way, holds_of, IsPartlyUsed, IsWithout, IsKeptAs, Lists, IsListed}
+use Rattle.sound_state.proofs.Common.{IsSo, IsOwned, recalls_of, IsOwnErrand, callers_sum, anchor_for, reserved_of, waiting_of, errand_keeps, errand_away}
+use Rattle.sound_state.proofs.Common.{gives_small, refuses_small}
+use Rattle.packed_words.specs.declared.anchor.AnchorState.TheVariants as phase
+use Rattle.word_table.specs.declared.name.WordName.TheVariants as name
+use Rattle.sound_state.specs.Keepers.{places_of}
+use Rattle.sound_state.specs.Recalls.{list_of}
 use Rattle.sound_state.specs.Stock.{stock_of}
-use Rattle.sound_state.specs.Sums.{callers_sum}
-use Rattle.sound_state.specs.Superblocks.{anchor_for, reserved_of, waiting_of, errand_keeps, errand_away}
-use Rattle.sound_state.specs.Turns.{gives_small, refuses_small, turn_open, turn_unanswered, errand_discards, turn_unframed, turn_unlisted, errand_pops}
+use Rattle.sound_state.specs.Turns.{turn_open, turn_unanswered, errand_discards, turn_unframed, turn_unlisted, errand_pops}
 use Rattle.sound_state.proofs.shared.ShownLemmas.{Excepts}
 
 -- the word is no head of a tagged stack

@@ -4,48 +4,27 @@ use Rattle.std.specs.Prelude.{◌==◌, ◌⊎◌, slice_index, replicate, All, 
 use Rattle.std.proofs.lemmas.Bool.{cases_eq, cond-false, eq-eqb, leb-true, ne_eqb}
 use Rattle.std.proofs.lemmas.List.{length-append}
 use Rattle.std.proofs.lemmas.List.Elements.{All-append, All-nil, All-cons, All-head}
-use Rattle.heap_geometry.specs.declared.geometry.Geometry.{Geometry}
-use Rattle.packed_words.specs.Head.{HeadFields, IsHead, head_of, head_word}
+use Rattle.sound_state.proofs.Common.{Geometry, HeadFields, head_of, WordName, SeatFields, Writes, Pile, Frames, Partials, head_name, Retire, Continuation, Point}
+use Rattle.sound_state.proofs.Common.{Idle, Block, Stack, Desc, Found, name_of, after_action, cases_name, occurs, ErrandFields, settle_of, course_of, raised}
+use Rattle.sound_state.proofs.Common.{counts_lost, counts_cleared, spare_of, pushed_by, event_of, next_of, plan_point_of, State, Step, found_at, name_at, Kept}
+use Rattle.sound_state.proofs.Common.{Status, holds_of, waiting, partly_used, on_its_way, IsGuard, IsHazard, passed_by, held_by, turn_stage_of, in_turn, is_unneeded}
+use Rattle.sound_state.proofs.Common.{anchor_for, kept_among, reserved_among, one_if, pops_left, IsKeptAs, IsWithout, Lists, IsSo, IsOwned, emptied, recalls_of}
+use Rattle.sound_state.proofs.Common.{IsSoundWithoutCounts, IsSoundWith, waits_in, stock_among}
+use Rattle.packed_words.specs.Head.{IsHead, head_word}
 use Rattle.packed_words.proofs.HeadLemmas.{head_of-head_word}
-use Rattle.word_plan.specs.declared.name.WordName.{WordName}
-use Rattle.word_plan.specs.declared.name.WordName.TheVariants as name
-use Rattle.word_plan.specs.Seats.{SeatFields}
-use Rattle.word_plan.specs.Words.{Writes}
+use Rattle.word_table.specs.declared.name.WordName.TheVariants as name
 use Rattle.superblock_parts.specs.declared.point.BlockPoint.TheVariants as block
-use Rattle.stack_parts.specs.declared.point.Pile.{Pile}
-use Rattle.stack_parts.specs.declared.point.Pile.TheVariants.{Frames, Partials}
 use Rattle.stack_parts.specs.declared.point.StackPoint.TheVariants as stack
-use Rattle.stack_parts.specs.Piles.{head_name}
 use Rattle.hazard_parts.specs.declared.point.DescPoint.TheVariants as desc
-use Rattle.errand_steps.specs.declared.next.Next.TheVariants.{Retire}
-use Rattle.errand_steps.specs.declared.continuation.Continuation.{Continuation}
 use Rattle.errand_steps.specs.declared.continuation.Continuation.TheVariants as continuation
-use Rattle.errand_steps.specs.declared.point.Point.{Point}
-use Rattle.errand_steps.specs.declared.point.Point.TheVariants.{Idle, Block, Stack, Desc}
-use Rattle.word_plan.specs.declared.action.Found.{Found}
-use Rattle.word_plan.specs.Actions.{name_of, after_action}
-use Rattle.word_plan.proofs.NameLemmas.{cases_name}
-use Rattle.word_plan.specs.Occurs.{occurs}
 use Rattle.hazard_parts.specs.declared.limits.TheConstants.{HELD_MOST}
-use Rattle.packed_words.specs.declared.anchor.State.TheVariants as phase
-use Rattle.errand_steps.specs.Errands.{ErrandFields, IsErrand, settle_of, course_of, plan_of, raised, one_more, is_full, is_spent, no_words, counts_won, counts_lost, counts_cleared}
-use Rattle.errand_steps.specs.Fits.{spare_of, pushed_by}
+use Rattle.packed_words.specs.declared.anchor.AnchorState.TheVariants as phase
+use Rattle.errand_steps.specs.Errands.{IsErrand, plan_of, one_more, is_full, is_spent, no_words, counts_won}
 use Rattle.errand_steps.proofs.ErrandLemmas.{settle_errand}
-use Rattle.errand_steps.specs.Events.{event_of}
-use Rattle.errand_steps.specs.Nexts.{next_of}
 use Rattle.errand_steps.specs.Continuations.{pushes}
-use Rattle.errand_steps.specs.Points.{plan_point_of}
-use Rattle.errand_steps.specs.Steps.{State, Step, found_at, name_at}
-use Rattle.sound_state.specs.Holdings.{Kept, Status, clear, keep, continuation_holds, holds_of, waiting, partly_used, on_its_way}
-use Rattle.sound_state.specs.Guards.{IsGuard, IsHazard, passed_by, held_by}
-use Rattle.sound_state.specs.TurnStages.{turn_stage_of, in_turn, lacks_frame, lacks_partial, lacks_answer, is_unneeded}
-use Rattle.sound_state.specs.Superblocks.{anchor_for, kept_among, reserved_among}
-use Rattle.sound_state.specs.Turns.{one_if, pops_left}
-use Rattle.sound_state.specs.Keepers.{IsKeptAs, IsWithout}
-use Rattle.sound_state.specs.Lists.{Lists}
-use Rattle.sound_state.specs.Recalls.{IsSo, IsOwned, emptied, list_of, recalls_of, resumed_recalls}
-use Rattle.sound_state.specs.Sound.{IsSoundWithoutCounts, IsSoundWith}
-use Rattle.sound_state.specs.Stock.{waits_in, stock_among}
+use Rattle.sound_state.specs.Holdings.{clear, keep, continuation_holds}
+use Rattle.sound_state.specs.TurnStages.{lacks_frame, lacks_partial, lacks_answer}
+use Rattle.sound_state.specs.Recalls.{list_of, resumed_recalls}
 use Rattle.sound_state.proofs.shared.ListFacts.{occurs-push}
 use Rattle.sound_state.proofs.shared.PointLemmas.{kept_places, fits-at, kept-at}
 use Rattle.sound_state.proofs.quiet.QuietStacks.{push_top_lost-sound}
@@ -53,6 +32,7 @@ use Rattle.sound_state.proofs.stacks.StackEffects.{MayStand}
 use Rattle.sound_state.proofs.stacks.StackSteps.{AreKept, head_pushed, pushes-on, keeps-less, in-hand, holds-true, push_going_on-sound}
 use Rattle.sound_state.proofs.stacks.StackShifts.{Exchanges, ErrandsBalanced, exchanges-sound, HoldsMore, Balanced, with_list, more-balanced, balance-back}
 use Rattle.sound_state.proofs.shared.StepLemmas.{raised-least, raised-below, found_from}
+use Rattle.sound_state.proofs.shared.KeepsSound.{KeepsSound, KeepsSoundWhere}
 
 -- no word is read yet
 unread-none : (n i : ℕ) → slice_index (replicate n 0) i ≡ 0
@@ -401,10 +381,9 @@ discard-exchanges g s l caller seat i h words d sound old has stands word =
     ]
 
 pub push_discard_won-sound :
-    (g : Geometry) (s : State) (caller : ℕ) (s' : State) (seat : SeatFields) (i : ℕ) (h : HeadFields) (words d : ℕ) → IsSoundWithoutCounts g s
-    → caller < g.callers → (s.errand caller).point ≡ Stack (stack.PushTop seat Frames i h) (continuation.Discard words d)
-    → s.word name.FrameHead ≡ head_word h → Step s caller s' → IsSoundWithoutCounts g s'
-push_discard_won-sound g s caller s' seat i h words d sound has stands word step =
+    (seat : SeatFields) (i : ℕ) (h : HeadFields) (words d : ℕ)
+    → KeepsSoundWhere (Stack (stack.PushTop seat Frames i h) (continuation.Discard words d)) (λ s. s.word name.FrameHead ≡ head_word h)
+push_discard_won-sound seat i h words d g s caller s' sound has stands word step =
     exchanges-sound g s caller s' seat Frames (head_pushed i h) sound has
     (λ l old.
     let to = discard-exchanges g s l caller seat i h words d sound old has stands word in
@@ -447,10 +426,9 @@ retire-exchanges g s l caller seat i h d sound old has stands word =
     ]
 
 pub push_retire_won-sound :
-    (g : Geometry) (s : State) (caller : ℕ) (s' : State) (seat : SeatFields) (i : ℕ) (h : HeadFields) (d : ℕ) → IsSoundWithoutCounts g s
-    → caller < g.callers → (s.errand caller).point ≡ Stack (stack.PushTop seat Partials i h) (continuation.Retire d)
-    → s.word (name.ListHead seat.class) ≡ head_word h → Step s caller s' → IsSoundWithoutCounts g s'
-push_retire_won-sound g s caller s' seat i h d sound has stands word step =
+    (seat : SeatFields) (i : ℕ) (h : HeadFields) (d : ℕ)
+    → KeepsSoundWhere (Stack (stack.PushTop seat Partials i h) (continuation.Retire d)) (λ s. s.word (name.ListHead seat.class) ≡ head_word h)
+push_retire_won-sound seat i h d g s caller s' sound has stands word step =
     exchanges-sound g s caller s' seat Partials (head_pushed i h) sound has
     (λ l old.
     let to = retire-exchanges g s l caller seat i h d sound old has stands word in
@@ -462,9 +440,9 @@ push-top-won :
     → pushes pile o ≡ true → IsSoundWithoutCounts g s → caller < g.callers → (s.errand caller).point ≡ Stack (stack.PushTop seat pile i h) o
     → s.word (head_name seat pile) ≡ head_word h → Step s caller s' → IsSoundWithoutCounts g s'
 push-top-won g s caller s' seat Frames i h (continuation.Discard words d) is sound has stands word step =
-    push_discard_won-sound g s caller s' seat i h words d sound has stands word step
+    push_discard_won-sound seat i h words d g s caller s' sound has stands word step
 push-top-won g s caller s' seat Partials i h (continuation.Retire d) is sound has stands word step =
-    push_retire_won-sound g s caller s' seat i h d sound has stands word step
+    push_retire_won-sound seat i h d g s caller s' sound has stands word step
 push-top-won g s caller s' seat Partials i h (continuation.Discard words d) is sound has stands word step = absurd (cc)
 push-top-won g s caller s' seat Frames i h (continuation.Retire d) is sound has stands word step = absurd (cc)
 push-top-won g s caller s' seat pile i h o is sound has stands word step =
@@ -472,20 +450,17 @@ push-top-won g s caller s' seat pile i h o is sound has stands word step =
 
 -- a won push onto a stack
 pub push_top_won-sound :
-    (g : Geometry) (s : State) (caller : ℕ) (s' : State) (seat : SeatFields) (pile : Pile) (i : ℕ) (h : HeadFields) (o : Continuation)
-    → IsSoundWithoutCounts g s → caller < g.callers → (s.errand caller).point ≡ Stack (stack.PushTop seat pile i h) o
-    → s.word (head_name seat pile) ≡ head_word h → Step s caller s' → IsSoundWithoutCounts g s'
-push_top_won-sound g s caller s' seat pile i h o sound has stands word step =
+    (seat : SeatFields) (pile : Pile) (i : ℕ) (h : HeadFields) (o : Continuation)
+    → KeepsSoundWhere (Stack (stack.PushTop seat pile i h) o) (λ s. s.word (head_name seat pile) ≡ head_word h)
+push_top_won-sound seat pile i h o g s caller s' sound has stands word step =
     let fit = fits-at g s sound.parts.0 caller (Stack (stack.PushTop seat pile i h) o) sound.parts.1 has stands in
     push-top-won g s caller s' seat pile i h o (holds-true (pushes pile o) fit.goes) sound has stands word step
 
 -- won or lost
 pub push_top-sound :
-    (g : Geometry) (s : State) (caller : ℕ) (s' : State) (seat : SeatFields) (pile : Pile) (i : ℕ) (h : HeadFields) (o : Continuation)
-    → IsSoundWithoutCounts g s → caller < g.callers → (s.errand caller).point ≡ Stack (stack.PushTop seat pile i h) o → Step s caller s'
-    → IsSoundWithoutCounts g s'
-push_top-sound g s caller s' seat pile i h o sound has stands step =
+    (seat : SeatFields) (pile : Pile) (i : ℕ) (h : HeadFields) (o : Continuation) → KeepsSound (Stack (stack.PushTop seat pile i h) o)
+push_top-sound seat pile i h o g s caller s' sound has stands step =
     elim (cases_eq (s.word (head_name seat pile)) (head_word h)) [
-      | inl won ↦ push_top_won-sound g s caller s' seat pile i h o sound has stands won step
-      | inr lost ↦ push_top_lost-sound g s caller s' seat pile i h o sound has stands lost step
+      | inl won ↦ push_top_won-sound seat pile i h o g s caller s' sound has stands won step
+      | inr lost ↦ push_top_lost-sound seat pile i h o g s caller s' sound has stands lost step
     ]

@@ -1,43 +1,20 @@
 -- The lists and what a caller holds, where an index goes from a stack to its hand or back; and the step that does it.
-use Rattle.std.proofs.Common.{ℕ, false, None, ◌≡◌, ◌≢◌, ◌<◌, ◌≤◌, ◌+◌, List, ◌∷◌, length, refl, arith, ap, sym, subst, inl, inr, ◌∙◌}
-use Rattle.std.specs.Prelude.{◌==◌, ◌⊎◌, All, if◌then◌else◌}
+use Rattle.std.proofs.Common.{ℕ, false, None, ◌≡◌, ◌≢◌, ◌<◌, ◌≤◌, ◌+◌, List, ◌∷◌, length, refl, arith, ap, sym, subst, inl, inr, ◌∙◌, ◌==◌, ◌⊎◌, All, if◌then◌else◌}
 use Rattle.std.proofs.lemmas.Bool.{cases_eq, cond-true, cond-false, eq-eqb, ne_eqb}
-use Rattle.heap_geometry.specs.declared.geometry.Geometry.{Geometry}
-use Rattle.heap_geometry.specs.declared.limits.TheConstants.{CLASSES}
-use Rattle.packed_words.specs.Anchor.{anchor_of}
-use Rattle.packed_words.specs.declared.anchor.State.TheVariants as phase
-use Rattle.packed_words.specs.Head.{HeadFields, IsHead, head_of, head_word}
-use Rattle.packed_words.specs.Info.{info_of}
+use Rattle.sound_state.proofs.Common.{Geometry, CLASSES, anchor_of, HeadFields, head_of, info_of, WordName, name_of, after_action, descriptor_count, SeatFields}
+use Rattle.sound_state.proofs.Common.{Writes, cases_name, occurs, Pile, Frames, Partials, head_name, IsLegalWithoutCounts, Point, ErrandFields, settle_of}
+use Rattle.sound_state.proofs.Common.{counts_cleared, raised, event_of, next_of, plan_point_of, State, Step, Moves, found_at, name_at, with_event, errand_frames}
+use Rattle.sound_state.proofs.Common.{Holding, Kept, holds_of, waiting, partly_used, on_its_way, IsPartlyUsed, word_keeps, errand_has, full_keeps, Lists, IsListed}
+use Rattle.sound_state.proofs.Common.{IsSoundWithoutCounts, IsSoundWith, turn_stage_of, word_stock, errand_stock, full_stock, stock_among, waits_in, sum_below}
+use Rattle.sound_state.proofs.Common.{anchor_for, info_or_zero, word_reserves, errand_reserves, errand_keeps, errand_away, kept_among, reserved_among, one_if}
+use Rattle.sound_state.proofs.Common.{pops_left}
+use Rattle.packed_words.specs.declared.anchor.AnchorState.TheVariants as phase
+use Rattle.packed_words.specs.Head.{IsHead, head_word}
 use Rattle.packed_words.proofs.HeadLemmas.{head_of-head_word, head_word-below}
-use Rattle.word_plan.specs.declared.name.WordName.{WordName}
-use Rattle.word_plan.specs.declared.name.WordName.TheVariants as name
-use Rattle.word_plan.specs.Actions.{name_of, after_action}
-use Rattle.word_plan.specs.Counts.{descriptor_count}
-use Rattle.word_plan.specs.Seats.{SeatFields}
-use Rattle.word_plan.specs.Words.{Writes}
-use Rattle.word_plan.proofs.NameLemmas.{cases_name}
-use Rattle.word_plan.specs.Occurs.{occurs}
-use Rattle.stack_parts.specs.declared.point.Pile.{Pile}
-use Rattle.stack_parts.specs.declared.point.Pile.TheVariants.{Frames, Partials}
-use Rattle.stack_parts.specs.Piles.{head_name}
-use Rattle.pool_model.specs.Legal.{IsLegalWithoutCounts}
-use Rattle.errand_steps.specs.declared.point.Point.{Point}
-use Rattle.errand_steps.specs.Errands.{ErrandFields, settle_of, counts_cleared, raised}
-use Rattle.errand_steps.specs.Events.{event_of}
-use Rattle.errand_steps.specs.Nexts.{next_of}
-use Rattle.errand_steps.specs.Points.{plan_point_of}
-use Rattle.errand_steps.specs.Steps.{State, Step, Moves, found_at, name_at, with_event}
-use Rattle.sound_state.specs.Frames.{errand_frames}
-use Rattle.sound_state.specs.Holdings.{Holding, Kept, holds_of, waiting, partly_used, on_its_way}
-use Rattle.sound_state.specs.Keepers.{IsPartlyUsed, word_keeps, errand_has, full_keeps}
-use Rattle.sound_state.specs.Lists.{Lists, IsListed}
+use Rattle.word_table.specs.declared.name.WordName.TheVariants as name
 use Rattle.sound_state.specs.Recalls.{list_of}
-use Rattle.sound_state.specs.Sound.{IsSoundWithoutCounts, IsSoundWith}
-use Rattle.sound_state.specs.TurnStages.{turn_stage_of, lacks_frame, lacks_partial}
-use Rattle.sound_state.specs.Stock.{word_stock, errand_stock, full_stock, stock_among, waits_in}
-use Rattle.sound_state.specs.Sums.{sum_below}
-use Rattle.sound_state.specs.Superblocks.{anchor_for, info_or_zero, word_reserves, errand_reserves, errand_keeps, errand_away, kept_among, reserved_among}
-use Rattle.sound_state.specs.Turns.{turn_unframed, turn_unlisted, errand_pops, one_if, pops_left}
+use Rattle.sound_state.specs.TurnStages.{lacks_frame, lacks_partial}
+use Rattle.sound_state.specs.Turns.{turn_unframed, turn_unlisted, errand_pops}
 use Rattle.sound_state.proofs.shared.PointLemmas.{kept_places}
 use Rattle.sound_state.proofs.shared.ShownLemmas.{MayGoOn}
 use Rattle.sound_state.proofs.shared.WonEffects.{settle-leads, LeadsTo}
@@ -436,8 +413,7 @@ exchanges-sound g s caller s' seat pile new sound has h step =
       legal = subst (IsLegalWithoutCounts g) (sym past) sound.legal;
       parts = (
         found.0,
-        restacked-sound g s l caller found.1 s' found.0
-            (exchanges-restacks g s l caller s' seat pile new found.1 found.0 old has found.2 step) old,
+        restacked-sound (exchanges-restacks g s l caller s' seat pile new found.1 found.0 old has found.2 step) old,
       );
     }
 

@@ -1,47 +1,28 @@
 -- The steps of a won pop from a stack and of a won push onto one.
-use Rattle.std.proofs.Common.{ℕ, Bool, true, false, ◌≡◌, ◌≢◌, ◌<◌, ◌≤◌, ◌+◌, ◌-◌, ◌^◌, List, [], ◌∷◌, refl, arith, ap, sym, subst, inl, inr, ◌∙◌}
-use Rattle.std.specs.Prelude.{◌==◌, ◌⊎◌, All, IsTrue}
+use Rattle.std.proofs.Common.{ℕ, Bool, true, false, ◌≡◌, ◌≢◌, ◌<◌, ◌≤◌, ◌+◌, ◌-◌, ◌^◌, List, [], ◌∷◌, refl, arith, ap, sym, subst, inl, inr, ◌∙◌, ◌==◌, ◌⊎◌, All, IsTrue}
 use Rattle.std.proofs.lemmas.Bool.{cases_eq, cond-true, cond-false, eq-eqb, ne_eqb}
 use Rattle.std.proofs.lemmas.List.Elements.{All-nil, All-cons, All-head, All-tail}
 use Rattle.std.proofs.Math.Nat.{mod-eq_of_lt}
 use Rattle.std.proofs.Math.Path.{fun_ext}
-use Rattle.heap_geometry.specs.declared.geometry.Geometry.{Geometry}
-use Rattle.heap_geometry.specs.declared.limits.TheConstants.{CLASSES}
-use Rattle.heap_geometry.specs.Geometry.{IsChecked}
+use Rattle.sound_state.proofs.Common.{Geometry, CLASSES, IsChecked, HeadFields, head_of, WordName, descriptor_count, SeatFields, Writes, occurs, Pile, Frames}
+use Rattle.sound_state.proofs.Common.{Partials, head_name, next_name, Stacked, next_in, At, Continuation, Point, Idle, Block, Stack, Desc, Partial, event_of}
+use Rattle.sound_state.proofs.Common.{next_of, plan_point_of, State, Step, Holding, Kept, holds_of, partly_used, IsKeptAs, IsPartlyUsed, Lists, IsListed, IsSo}
+use Rattle.sound_state.proofs.Common.{recalls_of, says, IsSoundWithoutCounts, IsSoundWith, waits_in}
 use Rattle.packed_words.specs.declared.widths.TheConstants.{TOP_BITS, HEAD_TAG_BITS}
-use Rattle.packed_words.specs.Head.{HeadFields, IsHead, head_of, head_word}
+use Rattle.packed_words.specs.Head.{IsHead, head_word}
 use Rattle.packed_words.proofs.HeadLemmas.{head_of-head_word}
-use Rattle.word_plan.specs.declared.name.WordName.{WordName}
-use Rattle.word_plan.specs.declared.name.WordName.TheVariants as name
-use Rattle.word_plan.specs.Counts.{descriptor_count}
-use Rattle.word_plan.specs.Seats.{SeatFields}
-use Rattle.word_plan.specs.Words.{Writes}
-use Rattle.word_plan.proofs.CountLemmas.{descriptor_count_within}
-use Rattle.word_plan.specs.Occurs.{occurs}
+use Rattle.word_table.specs.declared.name.WordName.TheVariants as name
+use Rattle.word_table.proofs.CountLemmas.{descriptor_count_within}
 use Rattle.superblock_parts.specs.declared.point.BlockPoint.TheVariants as block
-use Rattle.stack_parts.specs.declared.point.Pile.{Pile}
-use Rattle.stack_parts.specs.declared.point.Pile.TheVariants.{Frames, Partials}
 use Rattle.stack_parts.specs.declared.point.StackPoint.TheVariants as stack
-use Rattle.stack_parts.specs.Piles.{head_name, next_name, pile_limit, popped_head, pushed_head}
-use Rattle.stack_parts.specs.Stacks.{Stacked, next_in}
+use Rattle.stack_parts.specs.Piles.{pile_limit, popped_head, pushed_head}
 use Rattle.hazard_parts.specs.declared.point.DescPoint.TheVariants as desc
 use Rattle.partial_parts.specs.declared.point.PartialPoint.TheVariants as partial
-use Rattle.errand_steps.specs.declared.next.Next.TheVariants.{At}
-use Rattle.errand_steps.specs.declared.continuation.Continuation.{Continuation}
 use Rattle.errand_steps.specs.declared.continuation.Continuation.TheVariants as continuation
-use Rattle.errand_steps.specs.declared.point.Point.{Point}
-use Rattle.errand_steps.specs.declared.point.Point.TheVariants.{Idle, Block, Stack, Desc, Partial}
-use Rattle.errand_steps.specs.Events.{event_of}
-use Rattle.errand_steps.specs.Nexts.{next_of, popped, put_away}
+use Rattle.errand_steps.specs.Nexts.{popped, put_away}
 use Rattle.errand_steps.specs.Continuations.{pops, pushes}
-use Rattle.errand_steps.specs.Points.{plan_point_of, site_of}
-use Rattle.errand_steps.specs.Steps.{State, Step}
-use Rattle.sound_state.specs.Holdings.{Holding, Kept, holds_of, partly_used}
-use Rattle.sound_state.specs.Keepers.{IsKeptAs, IsPartlyUsed}
-use Rattle.sound_state.specs.Lists.{Lists, IsListed}
-use Rattle.sound_state.specs.Recalls.{IsSo, list_of, continuation_recalls, recalls_of, nexts, tops, tops_exist, says, made}
-use Rattle.sound_state.specs.Sound.{IsSoundWithoutCounts, IsSoundWith}
-use Rattle.sound_state.specs.Stock.{waits_in}
+use Rattle.errand_steps.specs.Points.{site_of}
+use Rattle.sound_state.specs.Recalls.{list_of, continuation_recalls, nexts, tops, tops_exist, made}
 use Rattle.sound_state.proofs.shared.PointLemmas.{HoldsAlike, alike-goes, fits-at, kept-at, so-at}
 use Rattle.sound_state.proofs.quiet.QuietStacks.{pop_top_lost-sound}
 use Rattle.sound_state.proofs.shared.StackedLemmas.{pile-stacked, pile-exists}
@@ -50,6 +31,7 @@ use Rattle.sound_state.proofs.stacks.StackEffects.{IsNoHead}
 use Rattle.sound_state.proofs.stacks.StackShifts.{NewList, HoldsMore, OneMore, PaysForTag, with_list, more-popped, more-pushed, more-balanced, balance-back, shifts-sound, list_class, no-head-apart, list-elsewhere}
 use Rattle.sound_state.proofs.shared.StepLemmas.{TurnGoes}
 use Rattle.sound_state.proofs.shared.TagLemmas.{frame-tag-below, list-tags-below}
+use Rattle.sound_state.proofs.shared.KeepsSound.{KeepsSound, KeepsSoundWhere}
 
 -- the tag of a stack's head has room
 pub tag-room :
@@ -286,23 +268,20 @@ holds-true b is = grind (arith, is)
 
 -- a won pop from a stack
 pub pop_top_won-sound :
-    (g : Geometry) (s : State) (caller : ℕ) (s' : State) (seat : SeatFields) (pile : Pile) (h : HeadFields) (below : ℕ) (o : Continuation)
-    → IsSoundWithoutCounts g s → caller < g.callers → (s.errand caller).point ≡ Stack (stack.PopTop seat pile h below) o
-    → s.word (head_name seat pile) ≡ head_word h → Step s caller s' → IsSoundWithoutCounts g s'
-pop_top_won-sound g s caller s' seat pile h below o sound has stands word step =
+    (seat : SeatFields) (pile : Pile) (h : HeadFields) (below : ℕ) (o : Continuation)
+    → KeepsSoundWhere (Stack (stack.PopTop seat pile h below) o) (λ s. s.word (head_name seat pile) ≡ head_word h)
+pop_top_won-sound seat pile h below o g s caller s' sound has stands word step =
     let fit = fits-at g s sound.parts.0 caller (Stack (stack.PopTop seat pile h below) o) sound.parts.1 has stands in
     pop-leads-sound g s caller s' seat pile h below o (popped_to seat h o) (pop-leads seat pile h below o (holds-true (pops pile o) fit.goes))
     sound has stands word step
 
 -- won or lost
 pub pop_top-sound :
-    (g : Geometry) (s : State) (caller : ℕ) (s' : State) (seat : SeatFields) (pile : Pile) (h : HeadFields) (below : ℕ) (o : Continuation)
-    → IsSoundWithoutCounts g s → caller < g.callers → (s.errand caller).point ≡ Stack (stack.PopTop seat pile h below) o → Step s caller s'
-    → IsSoundWithoutCounts g s'
-pop_top-sound g s caller s' seat pile h below o sound has stands step =
+    (seat : SeatFields) (pile : Pile) (h : HeadFields) (below : ℕ) (o : Continuation) → KeepsSound (Stack (stack.PopTop seat pile h below) o)
+pop_top-sound seat pile h below o g s caller s' sound has stands step =
     elim (cases_eq (s.word (head_name seat pile)) (head_word h)) [
-      | inl won ↦ pop_top_won-sound g s caller s' seat pile h below o sound has stands won step
-      | inr lost ↦ pop_top_lost-sound g s caller s' seat pile h below o sound has stands lost step
+      | inl won ↦ pop_top_won-sound seat pile h below o g s caller s' sound has stands won step
+      | inr lost ↦ pop_top_lost-sound seat pile h below o g s caller s' sound has stands lost step
     ]
 
 -- where a won push leads, and what the caller holds and remembers there

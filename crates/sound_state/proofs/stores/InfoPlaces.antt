@@ -1,28 +1,16 @@
 -- Who alone may store what a descriptor says: the caller that keeps it, partly used or on its way.
-use Rattle.std.proofs.Common.{ℕ, Some, ◌≡◌, ◌≢◌, ◌<◌, ◌≤◌, ◌+◌, ◌^◌, List, [], ◌∷◌, arith, ap, sym, subst, inl, inr, ◌∙◌}
+use Rattle.std.proofs.Common.{ℕ, Some, ◌≡◌, ◌≢◌, ◌<◌, ◌≤◌, ◌+◌, ◌^◌, List, [], ◌∷◌, arith, ap, sym, subst, inl, inr, ◌∙◌, ◌==◌, ◌&&◌, if◌then◌else◌, IsTrue, IsSome}
 use Rattle.std.specs.List.{AllByRecursion}
-use Rattle.std.specs.Prelude.{◌==◌, ◌&&◌, if◌then◌else◌, IsTrue, IsSome}
 use Rattle.std.proofs.lemmas.Bool.{cases_eq, cond-true, eq-eqb}
 use Rattle.std.proofs.lemmas.List.Elements.{All-from_recursion}
-use Rattle.heap_geometry.specs.declared.geometry.Geometry.{Geometry}
-use Rattle.packed_words.specs.declared.active.ActiveWord.TheVariants.{Held}
-use Rattle.packed_words.specs.Active.{active_of}
-use Rattle.word_plan.specs.declared.name.WordName.{WordName}
-use Rattle.word_plan.specs.declared.name.WordName.TheVariants as name
-use Rattle.word_plan.specs.declared.seat.Site.{Site}
-use Rattle.word_plan.specs.Counts.{descriptor_count}
-use Rattle.word_plan.specs.Seats.{info_in}
-use Rattle.word_plan.specs.Words.{Writes}
-use Rattle.word_plan.specs.Occurs.{occurs}
+use Rattle.sound_state.proofs.Common.{Geometry, Held, active_of, WordName, Site, descriptor_count, info_in, Writes, occurs, Continuation, State, Kept, Status}
+use Rattle.sound_state.proofs.Common.{reserving, waiting, partly_used, on_its_way, holds_of, word_keeps, full_keeps, Lists, IsSoundWith, anchor_for, is_bound}
+use Rattle.sound_state.proofs.Common.{kept_among}
+use Rattle.word_table.specs.declared.name.WordName.TheVariants as name
 use Rattle.superblock_parts.specs.declared.point.BlockPoint.TheVariants as block
-use Rattle.errand_steps.specs.declared.continuation.Continuation.{Continuation}
 use Rattle.errand_steps.specs.declared.point.Point.TheVariants as point
-use Rattle.errand_steps.specs.Steps.{State}
-use Rattle.sound_state.specs.Holdings.{Kept, Status, reserving, waiting, partly_used, on_its_way, holds_of}
-use Rattle.sound_state.specs.Keepers.{active_keeps, word_keeps, full_keeps}
-use Rattle.sound_state.specs.Lists.{Lists}
-use Rattle.sound_state.specs.Sound.{IsSoundWith}
-use Rattle.sound_state.specs.Superblocks.{anchor_for, is_bound, kept_among, same_status}
+use Rattle.sound_state.specs.Keepers.{active_keeps}
+use Rattle.sound_state.specs.Superblocks.{same_status}
 use Rattle.sound_state.proofs.shared.ListFacts.{all-occurring}
 use Rattle.sound_state.proofs.shared.UnplacedLemmas.{IsUnplaced}
 use Rattle.sound_state.proofs.stores.StoreFields.{IsPlaceKept, IsKeptStill, PlacesKept, LoneKept}

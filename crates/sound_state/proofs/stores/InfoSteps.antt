@@ -1,35 +1,18 @@
 -- Steps that store what a descriptor says.
-use Rattle.std.proofs.Common.{ℕ, true, Some, ◌≡◌, ◌≢◌, ◌<◌, ◌≤◌, [], ◌∷◌, refl, arith, ap, sym, subst, ◌∙◌}
-use Rattle.std.specs.Prelude.{IsSome, nat_lt}
+use Rattle.std.proofs.Common.{ℕ, true, Some, ◌≡◌, ◌≢◌, ◌<◌, ◌≤◌, [], ◌∷◌, refl, arith, ap, sym, subst, ◌∙◌, IsSome, nat_lt}
 use Rattle.std.proofs.lemmas.Bool.{lt-ltb}
 use Rattle.std.proofs.lemmas.List.Elements.{All-cons, All-head}
-use Rattle.heap_geometry.specs.declared.geometry.Geometry.{Geometry}
-use Rattle.heap_geometry.specs.Geometry.{IsChecked}
-use Rattle.heap_geometry.specs.Need.{block_count_of}
-use Rattle.packed_words.specs.Info.{InfoFields, info_word, info_of}
+use Rattle.sound_state.proofs.Common.{Geometry, IsChecked, block_count_of, info_of, WordName, Site, descriptor_count, info_in, IsSiteOf, Writes, Continuation, Point}
+use Rattle.sound_state.proofs.Common.{Block, Partial, event_of, next_of, plan_point_of, State, Step, partly_used, on_its_way, holds_of, errand_has, Lists, IsSo}
+use Rattle.sound_state.proofs.Common.{IsLocated, recalls_of, located, says, IsSoundWithoutCounts, IsSoundWith, info_or_zero, errand_keeps, kept_among}
+use Rattle.packed_words.specs.Info.{InfoFields, info_word}
 use Rattle.packed_words.proofs.InfoLemmas.{info-exact}
-use Rattle.word_plan.specs.declared.name.WordName.{WordName}
-use Rattle.word_plan.specs.declared.name.WordName.TheVariants as name
-use Rattle.word_plan.specs.declared.seat.Site.{Site}
-use Rattle.word_plan.specs.Counts.{descriptor_count}
-use Rattle.word_plan.specs.Seats.{info_in, info_within}
-use Rattle.word_plan.specs.Sites.{info_at, IsSiteOf}
-use Rattle.word_plan.specs.Words.{Writes}
+use Rattle.word_table.specs.declared.name.WordName.TheVariants as name
+use Rattle.word_table.specs.Seats.{info_within}
+use Rattle.word_table.specs.Sites.{info_at}
 use Rattle.superblock_parts.specs.declared.point.BlockPoint.TheVariants as block
 use Rattle.partial_parts.specs.declared.point.PartialPoint.TheVariants as partial
-use Rattle.errand_steps.specs.declared.continuation.Continuation.{Continuation}
-use Rattle.errand_steps.specs.declared.point.Point.{Point}
-use Rattle.errand_steps.specs.declared.point.Point.TheVariants.{Block, Partial}
-use Rattle.errand_steps.specs.Events.{event_of}
-use Rattle.errand_steps.specs.Nexts.{next_of}
-use Rattle.errand_steps.specs.Points.{plan_point_of}
-use Rattle.errand_steps.specs.Steps.{State, Step}
-use Rattle.sound_state.specs.Holdings.{partly_used, on_its_way, holds_of}
-use Rattle.sound_state.specs.Keepers.{errand_has}
-use Rattle.sound_state.specs.Lists.{Lists}
-use Rattle.sound_state.specs.Recalls.{IsSo, IsLocated, recalls_of, located, says, made}
-use Rattle.sound_state.specs.Sound.{IsSoundWithoutCounts, IsSoundWith}
-use Rattle.sound_state.specs.Superblocks.{info_or_zero, errand_keeps, kept_among}
+use Rattle.sound_state.specs.Recalls.{made}
 use Rattle.sound_state.proofs.shared.UnplacedLemmas.{way-unplaced, IsUnplaced}
 use Rattle.sound_state.proofs.shared.WordFacts.{site-heap, site-info}
 use Rattle.sound_state.proofs.stores.StoreFields.{between, IsPlaceKept}
@@ -39,6 +22,7 @@ use Rattle.sound_state.proofs.stores.InfoPlaces.{info_number, places-elsewhere, 
 use Rattle.sound_state.proofs.shared.PointLemmas.{fits-at, so-at}
 use Rattle.sound_state.proofs.quiet.QuietLinks.{written-at}
 use Rattle.sound_state.proofs.shared.HasLemmas.{kept-itself, keeps-at, has-at, only-one}
+use Rattle.sound_state.proofs.shared.KeepsSound.{KeepsSound}
 
 within-some : (g : Geometry) (i : InfoFields) → i.frame < g.frames → i.heap < g.heaps → IsSome (info_within g (Some i))
 within-some g i in_frames in_heaps =
@@ -64,11 +48,9 @@ anchor-apart g s l caller d i at o old has has_i exists mine elsewhere stands sa
     elsewhere (subst (λ k. (s.errand k).point ≡ Block (block.StoreAnchor at) o) (only-one g s l caller i d old has has_i exists mine his) stands)
 
 -- the processor heap of a partial superblock that was taken
-pub store_owner-sound :
-    (g : Geometry) (s : State) (caller : ℕ) (s' : State) (site : Site) (o : Continuation) → IsSoundWithoutCounts g s → caller < g.callers
-    → (s.errand caller).point ≡ Partial (partial.StoreOwner site) o → Step s caller s' → IsSoundWithoutCounts g s'
+pub store_owner-sound : (site : Site) (o : Continuation) → KeepsSound (Partial (partial.StoreOwner site) o)
 unfolding plan_point_of next_of event_of holds_of recalls_of
-store_owner-sound g s caller s' site o sound has at step =
+store_owner-sound site o g s caller s' sound has at step =
     let p = Partial (partial.StoreOwner site) o in
     let q = Partial (partial.LoadGrantAnchor site) o in
     let d = site.desc in
@@ -123,11 +105,9 @@ unplaced-unread g s l i d new words' (Partial (partial.Grant at x) o) has stands
 unplaced-unread g s l i d new words' p has stands w free anchor = tt
 
 -- what the descriptor of a new superblock says
-pub store_info-sound :
-    (g : Geometry) (s : State) (caller : ℕ) (s' : State) (site : Site) (o : Continuation) → IsSoundWithoutCounts g s → caller < g.callers
-    → (s.errand caller).point ≡ Block (block.StoreInfo site) o → Step s caller s' → IsSoundWithoutCounts g s'
+pub store_info-sound : (site : Site) (o : Continuation) → KeepsSound (Block (block.StoreInfo site) o)
 unfolding plan_point_of next_of event_of holds_of recalls_of
-store_info-sound g s caller s' site o sound has at step =
+store_info-sound site o g s caller s' sound has at step =
     let p = Block (block.StoreInfo site) o in
     let q = Block (block.StoreAnchor site) o in
     let d = site.desc in

@@ -1,36 +1,21 @@
 -- Who alone may store a word of the arena: the owner of the live block whose prefix it is, or the maker of the superblock in which it lies.
-use Rattle.std.proofs.Common.{ℕ, true, Some, None, ◌≡◌, ◌≢◌, ◌<◌, ◌≤◌, ◌+◌, ◌^◌, length, refl, arith, ap, sym, subst, inl, inr, ◌∙◌}
-use Rattle.std.specs.Prelude.{IsTrue, slice_index_or}
+use Rattle.std.proofs.Common.{ℕ, true, Some, None, ◌≡◌, ◌≢◌, ◌<◌, ◌≤◌, ◌+◌, ◌^◌, length, refl, arith, ap, sym, subst, inl, inr, ◌∙◌, IsTrue, slice_index_or}
 use Rattle.std.proofs.lemmas.Bool.{cases_eq}
 use Rattle.std.proofs.lemmas.Option.{none-some}
-use Rattle.heap_geometry.specs.declared.geometry.Geometry.{Geometry}
-use Rattle.heap_geometry.specs.declared.need.Need.{Need}
-use Rattle.heap_geometry.specs.declared.need.Need.TheVariants.{Small, Large, TooLarge}
-use Rattle.heap_geometry.specs.Need.{block_count_of, usable_words}
-use Rattle.heap_geometry.specs.Place.{block_place, frame_of}
-use Rattle.heap_geometry.proofs.PlaceLemmas.{frame_of-block_place, block-within}
-use Rattle.word_plan.specs.declared.name.WordName.{WordName}
-use Rattle.word_plan.specs.declared.name.WordName.TheVariants as name
-use Rattle.word_plan.specs.declared.seat.Site.{Site}
-use Rattle.word_plan.specs.Counts.{descriptor_count}
-use Rattle.word_plan.specs.Words.{Writes}
-use Rattle.word_plan.specs.Occurs.{occurs}
-use Rattle.superblock_parts.specs.Chains.{prefix_name}
+use Rattle.sound_state.proofs.Common.{Geometry, Need, Small, block_count_of, block_place, frame_of, frame_of-block_place, WordName, Site, descriptor_count, Writes}
+use Rattle.sound_state.proofs.Common.{occurs, prefix_name, block_at, pool_of, place-found, Point, FitsPoint, State, holds_of, Lists, IsOwned, IsSoundWith}
+use Rattle.sound_state.proofs.Common.{IsSoundWithoutCounts, info_for, is_bound, superblock_of, free_chain, IsLive}
+use Rattle.heap_geometry.specs.declared.need.Need.TheVariants.{Large, TooLarge}
+use Rattle.heap_geometry.specs.Need.{usable_words}
+use Rattle.heap_geometry.proofs.PlaceLemmas.{block-within}
+use Rattle.word_table.specs.declared.name.WordName.TheVariants as name
 use Rattle.superblock_parts.specs.declared.point.BlockPoint.TheVariants as block
-use Rattle.pool_model.specs.Pool.{Block, block_at, pool_of}
+use Rattle.pool_model.specs.Pool.{Block}
 use Rattle.pool_model.specs.WellFormed.{IsPlaceFor, IsWellFormed}
-use Rattle.pool_model.proofs.PoolLemmas.{place-found}
 use Rattle.pool_model.proofs.WellFormedLemmas.{small-frame, large-frame, class_span}
-use Rattle.errand_steps.specs.declared.point.Point.{Point}
 use Rattle.errand_steps.specs.declared.point.Point.TheVariants as point
-use Rattle.errand_steps.specs.Fits.{FitsPoint}
-use Rattle.errand_steps.specs.Steps.{State}
-use Rattle.sound_state.specs.Holdings.{making, holds_of}
-use Rattle.sound_state.specs.Lists.{Lists}
-use Rattle.sound_state.specs.Recalls.{IsOwned}
-use Rattle.sound_state.specs.Sound.{IsSoundWith, IsSoundWithoutCounts}
-use Rattle.sound_state.specs.Superblocks.{info_for, is_bound, superblock_of, free_chain}
-use Rattle.sound_state.specs.Ties.{IsLive, IsExcepted}
+use Rattle.sound_state.specs.Holdings.{making}
+use Rattle.sound_state.specs.Ties.{IsExcepted}
 use Rattle.sound_state.proofs.shared.ListFacts.{written-within}
 use Rattle.sound_state.proofs.shared.MakingPlaces.{IsMaking, is-making, making-unbound, making-alone, live-unmade, small-unmade}
 use Rattle.sound_state.proofs.shared.OverlapLemmas.{live-apart, free-unlive, formed-at}

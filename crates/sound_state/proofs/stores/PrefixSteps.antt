@@ -3,49 +3,25 @@ use Rattle.std.proofs.Common.{ℕ, Bool, true, false, Option, Some, None, ◌≡
 use Rattle.std.specs.Prelude.{All, Any, IsTrue, nat_lt, if◌then◌else◌}
 use Rattle.std.proofs.lemmas.Bool.{cases_eq, cases_Bool, ltb-false}
 use Rattle.std.proofs.lemmas.List.Elements.{All-nil, All-cons, All-head}
-use Rattle.heap_geometry.specs.declared.geometry.Geometry.{Geometry}
-use Rattle.heap_geometry.specs.declared.need.Need.{Need}
+use Rattle.sound_state.proofs.Common.{Geometry, Need, block_count_of, block_place, frame_of, frame_of-block_place, AnchorFields, WordName, Found, Site}
+use Rattle.sound_state.proofs.Common.{descriptor_count, Writes, prefix_name, BlockPoint, IsLegalWithoutCounts, At, End, Continuation, Point, Idle, Block, Reply}
+use Rattle.sound_state.proofs.Common.{settle_of, raised, counts_cleared, counts_lost, event_of, next_of, plan_point_of, State, Step, Moves, name_at, word_at}
+use Rattle.sound_state.proofs.Common.{found_at, with_event, holds_of, Lists, IsSo, IsOwned, IsLocated, recalls_of, bound_here, bound_at, says, IsSoundWithoutCounts}
+use Rattle.sound_state.proofs.Common.{IsSoundWith, waits_in, is_bound, IsLive}
 use Rattle.heap_geometry.specs.declared.need.Need.TheVariants as need
-use Rattle.heap_geometry.specs.Need.{block_count_of}
-use Rattle.heap_geometry.specs.Place.{block_place, frame_of}
-use Rattle.heap_geometry.proofs.PlaceLemmas.{frame_of-block_place}
-use Rattle.packed_words.specs.Anchor.{AnchorFields}
 use Rattle.packed_words.specs.declared.prefix.Prefix.TheVariants.{Small}
 use Rattle.packed_words.specs.Prefix.{prefix_word}
-use Rattle.word_plan.specs.declared.name.WordName.{WordName}
-use Rattle.word_plan.specs.declared.name.WordName.TheVariants as name
-use Rattle.word_plan.specs.declared.action.Found.{Found}
-use Rattle.word_plan.specs.declared.seat.Site.{Site}
-use Rattle.word_plan.specs.Counts.{descriptor_count}
-use Rattle.word_plan.specs.Words.{Writes}
-use Rattle.word_plan.proofs.CountLemmas.{descriptor_count_within}
-use Rattle.word_plan.proofs.SeatLemmas.{block_count_of-most}
+use Rattle.word_table.specs.declared.name.WordName.TheVariants as name
+use Rattle.word_table.proofs.CountLemmas.{descriptor_count_within}
+use Rattle.word_table.proofs.SeatLemmas.{block_count_of-most}
 use Rattle.superblock_parts.specs.Anchors.{new_link}
-use Rattle.superblock_parts.specs.Chains.{prefix_name}
 use Rattle.superblock_parts.specs.Points.{after_link}
 use Rattle.superblock_parts.proofs.ChainLemmas.{prefix_name-apart}
-use Rattle.superblock_parts.specs.declared.point.BlockPoint.{BlockPoint}
 use Rattle.superblock_parts.specs.declared.point.BlockPoint.TheVariants as block
-use Rattle.pool_model.specs.Legal.{IsLegalWithoutCounts}
 use Rattle.pool_model.specs.Pool.{Block as Live}
-use Rattle.errand_steps.specs.declared.next.Next.TheVariants.{At, End}
-use Rattle.errand_steps.specs.declared.continuation.Continuation.{Continuation}
-use Rattle.errand_steps.specs.declared.point.Point.{Point}
-use Rattle.errand_steps.specs.declared.point.Point.TheVariants.{Idle, Block}
-use Rattle.errand_steps.specs.declared.reply.Reply.{Reply}
 use Rattle.errand_steps.specs.declared.reply.Reply.TheVariants as reply
-use Rattle.errand_steps.specs.Errands.{settle_of, raised, counts_cleared, counts_lost}
-use Rattle.errand_steps.specs.Events.{event_of}
-use Rattle.errand_steps.specs.Nexts.{next_of, enter_block}
-use Rattle.errand_steps.specs.Points.{plan_point_of}
-use Rattle.errand_steps.specs.Steps.{State, Step, Moves, name_at, word_at, found_at, with_event}
-use Rattle.sound_state.specs.Holdings.{Handed, Freed, block_holds, making, holds_of}
-use Rattle.sound_state.specs.Lists.{Lists}
-use Rattle.sound_state.specs.Recalls.{IsSo, IsOwned, IsLocated, AreMade, block_recalls, recalls_of, bound_here, bound_at, says, made}
-use Rattle.sound_state.specs.Sound.{IsSoundWithoutCounts, IsSoundWith}
-use Rattle.sound_state.specs.Stock.{waits_in}
-use Rattle.sound_state.specs.Superblocks.{is_bound}
-use Rattle.sound_state.specs.Ties.{IsLive}
+use Rattle.sound_state.specs.Holdings.{Handed, Freed, block_holds, making}
+use Rattle.sound_state.specs.Recalls.{AreMade, block_recalls, made}
 use Rattle.sound_state.proofs.shared.FrameLemmas.{one-in-frame}
 use Rattle.sound_state.proofs.shared.AlikeLemmas.{sound-alike}
 use Rattle.sound_state.proofs.shared.ListFacts.{any-none, any-one}
@@ -61,16 +37,17 @@ use Rattle.sound_state.proofs.quiet.QuietLemmas.{HoldsSame}
 use Rattle.sound_state.proofs.quiet.QuietLinks.{written-at}
 use Rattle.sound_state.proofs.shared.StepLemmas.{HoldsException, TurnGoes, at_point, settle-end, raised-least, found_from, actives-stay}
 use Rattle.sound_state.proofs.shared.WeighLemmas.{WeighAlike, weigh-alike, alike-most, WeighMost, weigh-emptied}
+use Rattle.sound_state.proofs.shared.KeepsSound.{KeepsSound}
 
 the-one : {X : Type 0} (P : X → Type 0) (x : X) → P x → Any P (x ∷ [])
 the-one P x is = (0, x, omega arith, refl, is)
 
 -- the link of a block that is freed
 pub store_link-sound :
-    (g : Geometry) (s : State) (caller : ℕ) (s' : State) (site : Site) (i : ℕ) (a : AnchorFields) (guarded : Bool) (heap : ℕ) (o : Continuation)
-    → IsSoundWithoutCounts g s → caller < g.callers → (s.errand caller).point ≡ Block (block.StoreLink site i a guarded heap) o → Step s caller s' → IsSoundWithoutCounts g s'
+    (site : Site) (i : ℕ) (a : AnchorFields) (guarded : Bool) (heap : ℕ) (o : Continuation)
+    → KeepsSound (Block (block.StoreLink site i a guarded heap) o)
 unfolding plan_point_of next_of event_of holds_of recalls_of
-store_link-sound g s caller s' site i a guarded heap o sound has stands step =
+store_link-sound site i a guarded heap o g s caller s' sound has stands step =
     let p = Block (block.StoreLink site i a guarded heap) o in
     let q = Block (block.PushBlock site i a guarded heap) o in
     let place = block_place site.frame site.seat.class i in
@@ -225,11 +202,9 @@ unfolding prefix_word
 small-prefix d = omega arith
 
 -- the prefix word of a block that is handed out
-pub store_prefix-sound :
-    (g : Geometry) (s : State) (caller : ℕ) (s' : State) (site : Site) (i : ℕ) (o : Continuation) → IsSoundWithoutCounts g s → caller < g.callers
-    → (s.errand caller).point ≡ Block (block.StorePrefix site i) o → Step s caller s' → IsSoundWithoutCounts g s'
+pub store_prefix-sound : (site : Site) (i : ℕ) (o : Continuation) → KeepsSound (Block (block.StorePrefix site i) o)
 unfolding plan_point_of next_of event_of holds_of recalls_of
-store_prefix-sound g s caller s' site i o sound has stands step =
+store_prefix-sound site i o g s caller s' sound has stands step =
     let p = Block (block.StorePrefix site i) o in
     let class = site.seat.class in
     let place = block_place site.frame class i in
@@ -285,18 +260,18 @@ links-made-more s f c i n so_far one most k below =
 link_block-to :
     (g : Geometry) (s : State) (caller : ℕ) (s' : State) (site : Site) (i : ℕ) (o : Continuation) (q : BlockPoint) (n : ℕ) → IsSoundWithoutCounts g s
     → caller < g.callers → (s.errand caller).point ≡ Block (block.LinkBlock site i) o → Step s caller s'
-    → after_link site i ≡ q → enter_block q o ≡ At (Block q o) → block_holds q ≡ making site
+    → after_link site i ≡ q → block_holds q ≡ making site
     → block_recalls q ≡ made site.frame site.seat.class n ∷ [] → n ≤ i + 1 → HoldsSame (Block (block.LinkBlock site i) o) (Block q o)
     → IsSoundWithoutCounts g s'
 unfolding plan_point_of next_of event_of holds_of recalls_of
-link_block-to g s caller s' site i o q n sound has stands step leads enters holds recalls most same =
+link_block-to g s caller s' site i o q n sound has stands step leads holds recalls most same =
     let p = Block (block.LinkBlock site i) o in
     let f = site.frame in
     let c = site.seat.class in
     let place = block_place f c i in
     let w : Writes s.word (name.Arena place) (new_link c i) s'.word = written-at s caller s' p stands step in
     let fit = (fits-at g s sound.parts.0 caller p sound.parts.1 has stands).point in
-    let leads_on : next_of p (found_from s p) ≡ At (Block q o) = ap (λ r. enter_block r o) leads ∙ enters in
+    let leads_on : next_of p (found_from s p) ≡ At (Block q o) = ap (λ r. At (Block r o)) leads in
     store-sound g s caller s' p (Block q o) (name.Arena place) (new_link c i) sound has stands
     (record {
       stores = record { plan = refl; next = λ x. leads_on; event = λ x. refl; lost = λ x. refl; cleared = λ x. refl };
@@ -316,17 +291,15 @@ link_block-to g s caller s' site i o q n sound has stands step leads enters hold
     })
     step
 
-pub link_block-sound :
-    (g : Geometry) (s : State) (caller : ℕ) (s' : State) (site : Site) (i : ℕ) (o : Continuation) → IsSoundWithoutCounts g s
-    → caller < g.callers → (s.errand caller).point ≡ Block (block.LinkBlock site i) o → Step s caller s' → IsSoundWithoutCounts g s'
+pub link_block-sound : (site : Site) (i : ℕ) (o : Continuation) → KeepsSound (Block (block.LinkBlock site i) o)
 unfolding holds_of
-link_block-sound g s caller s' site i o sound has stands step =
+link_block-sound site i o g s caller s' sound has stands step =
     elim (cases_Bool (nat_lt (i + 1) (block_count_of site.seat.class))) [
       | inl more ↦
           link_block-to g s caller s' site i o (block.LinkBlock site (i + 1)) (i + 1) sound has stands step
-          (ap (λ b. if b then block.LinkBlock site (i + 1) else block.StoreInfo site) more) refl refl refl (omega arith) (grind (arith))
+          (ap (λ b. if b then block.LinkBlock site (i + 1) else block.StoreInfo site) more) refl refl (omega arith) (grind (arith))
       | inr last ↦
           link_block-to g s caller s' site i o (block.StoreInfo site) (block_count_of site.seat.class) sound has stands step
-          (ap (λ b. if b then block.LinkBlock site (i + 1) else block.StoreInfo site) last) refl refl refl
+          (ap (λ b. if b then block.LinkBlock site (i + 1) else block.StoreInfo site) last) refl refl
           (omega (arith, ltb-false (i + 1) (block_count_of site.seat.class) last)) (grind (arith))
     ]

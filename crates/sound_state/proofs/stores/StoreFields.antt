@@ -1,45 +1,25 @@
 -- A store into a link, a word of the arena or what a descriptor says keeps the state sound where what is read of that word stays.
 use Rattle.std.proofs.Common.{ℕ, Bool, true, false, Some, None, ◌≡◌, ◌<◌, ◌≤◌, ◌+◌, ◌^◌, ◌-◌, ◌*◌, refl, arith, ap, sym, subst, inl, inr, ◌∙◌}
 use Rattle.std.specs.Prelude.{◌⊎◌, ◌==◌, ◌&&◌, if◌then◌else◌, All, IsTrue, IsSome, slice_index_or}
-use Rattle.heap_geometry.specs.declared.geometry.Geometry.{Geometry}
-use Rattle.heap_geometry.specs.declared.limits.TheConstants.{CLASSES}
-use Rattle.heap_geometry.specs.Need.{block_count_of}
-use Rattle.heap_geometry.specs.Place.{block_place, frame_of}
-use Rattle.heap_geometry.specs.declared.need.Need.{Need}
-use Rattle.packed_words.specs.declared.active.ActiveWord.TheVariants.{Held}
-use Rattle.packed_words.specs.Active.{active_of}
-use Rattle.packed_words.specs.Anchor.{AnchorFields}
-use Rattle.packed_words.specs.Head.{HeadFields, head_of}
-use Rattle.packed_words.specs.Info.{info_of}
-use Rattle.packed_words.specs.Prefix.{link_of}
-use Rattle.word_plan.specs.declared.name.WordName.{WordName}
-use Rattle.word_plan.specs.declared.name.WordName.TheVariants as name
-use Rattle.word_plan.specs.Counts.{descriptor_count}
-use Rattle.word_plan.specs.Seats.{SeatFields, info_in}
-use Rattle.word_plan.specs.Occurs.{occurs}
-use Rattle.superblock_parts.specs.Chains.{link_in, prefix_name}
+use Rattle.sound_state.proofs.Common.{Geometry, CLASSES, block_count_of, block_place, frame_of, Need, Held, active_of, AnchorFields, HeadFields, head_of, info_of}
+use Rattle.sound_state.proofs.Common.{link_of, WordName, descriptor_count, SeatFields, info_in, occurs, link_in, prefix_name, Pile, Frames, Partials, next_in}
+use Rattle.sound_state.proofs.Common.{head_name, next_name, State, IsFramed, fills_frame, IsGuarded, Status, reserving, waiting, partly_used, on_its_way, holds_of}
+use Rattle.sound_state.proofs.Common.{IsKept, IsPartlyUsed, IsKeptAs, word_keeps, errand_has, full_keeps, Lists, IsListed, Recall, IsLocated, IsSo, IsOwned}
+use Rattle.sound_state.proofs.Common.{recalls_of, located, pops, links, says, emptied, noted, IsSoundWith, word_stock, full_stock}
+use Rattle.sound_state.proofs.Common.{sum_below, words_sum, callers_sum, Superblock, AreChained, IsChained, info_or_zero, anchor_for, info_for, live_at}
+use Rattle.sound_state.proofs.Common.{superblock_of, free_chain, is_bound, waiting_of, word_reserves, errand_reserves, IsTied, IsLive, IsTurned}
+use Rattle.word_table.specs.declared.name.WordName.TheVariants as name
 use Rattle.superblock_parts.proofs.ChainLemmas.{chain_of-same}
-use Rattle.stack_parts.specs.declared.point.Pile.{Pile}
-use Rattle.stack_parts.specs.declared.point.Pile.TheVariants.{Frames, Partials}
-use Rattle.stack_parts.specs.Stacks.{next_in}
-use Rattle.stack_parts.specs.Piles.{head_name, next_name}
 use Rattle.pool_model.specs.Pool.{Block}
-use Rattle.errand_steps.specs.Steps.{State}
-use Rattle.sound_state.specs.Frames.{IsFramed, fills_frame}
-use Rattle.sound_state.specs.Guards.{IsGuarded, Guards}
-use Rattle.sound_state.specs.Holdings.{Status, reserving, waiting, partly_used, on_its_way, holds_of}
-use Rattle.sound_state.specs.Keepers.{IsKept, IsPartlyUsed, IsActive, IsKeptAs, word_keeps, errand_has, full_keeps}
-use Rattle.sound_state.specs.Lists.{Lists, IsListed}
-use Rattle.sound_state.specs.Recalls.{Recall, IsPopped, IsLocated, IsTopStill, IsSo, IsOwned, recalls_of, bound_for, located, bound_at, pops, links, tops, nexts, tops_exist, says, made, in_use, emptied, noted, owns, owns_all, looked, refused}
-use Rattle.sound_state.specs.Sound.{IsSoundWith}
-use Rattle.sound_state.specs.Stock.{IsStocked, word_stock, full_stock}
-use Rattle.sound_state.specs.Sums.{sum_below, words_sum, callers_sum}
-use Rattle.sound_state.specs.Superblocks.{Superblock, AreChained, IsChained, info_or_zero, anchor_for, info_for, live_at, superblock_of, free_chain, is_bound, waiting_of, word_reserves, errand_reserves}
-use Rattle.sound_state.specs.Ties.{IsTied, IsLive, IsExcepted}
-use Rattle.sound_state.specs.Turns.{IsTurned}
+use Rattle.sound_state.specs.Guards.{Guards}
+use Rattle.sound_state.specs.Keepers.{IsActive}
+use Rattle.sound_state.specs.Recalls.{IsPopped, IsTopStill, tops, nexts, made}
+use Rattle.sound_state.specs.Stock.{IsStocked}
+use Rattle.sound_state.specs.Ties.{IsExcepted}
 use Rattle.sound_state.proofs.shared.HolderLemmas.{IsHolderWeight, keeps-holder, reserves-holder, stock-holder}
 use Rattle.sound_state.proofs.shared.StackedLemmas.{stacked-agrees}
 use Rattle.sound_state.proofs.shared.SumLemmas.{sum-same}
+use Rattle.sound_state.proofs.shared.RecallFrame.{Part, PartStays, part_of, so-stays, bindings, events, constant}
 
 -- a word that a caller stores alone
 abbrev pub IsLone : WordName → Type 0
@@ -91,6 +71,13 @@ IsStillSaid g s l w (says n v) = with_lone w s.word n ≡ s.word n
 IsStillSaid g s l w (made f c blocks) = (i : ℕ) → i < blocks → w (prefix_name f c i) ≡ s.word (prefix_name f c i)
 IsStillSaid g s l w (noted d next) = 0 < occurs d l.available → w (name.Next d) ≡ s.word (name.Next d)
 IsStillSaid g s l w r = Unit {0}
+
+-- what is bound and what was told don't change, and what is read of the words that are stored alone is said apart
+abbrev IsBetweenPart : Part → Type 0
+IsBetweenPart bindings = Unit {0}
+IsBetweenPart events = Unit {0}
+IsBetweenPart constant = Unit {0}
+IsBetweenPart p = ⊥
 
 -- the links of what is listed are what they were, and the others are in range
 pub record LinksKept (g : Geometry) (s : State) (l : Lists) (w : WordName → ℕ) : Type 0 where
@@ -240,13 +227,20 @@ next-between :
 next-between g s l w i seat Frames h below still so = λ is. still is ∙ so is
 next-between g s l w i seat Partials h below still so = λ is. still is ∙ so is
 
+-- what is bound, and the caller's events and blocks, stay all the same
+between-part :
+    (g : Geometry) (s : State) (l : Lists) (w : WordName → ℕ) (i : ℕ) → ((d : ℕ) → IsTrue (is_bound g s l d) → IsPlaceKept s w d) → (p : Part)
+    → IsBetweenPart p → PartStays g s l (between s w) l i p
+between-part g s l w i kept bindings stays = λ d bound. (bound, kept d bound)
+between-part g s l w i kept events stays = record { own_events = refl; owned = owned-between s w i }
+between-part g s l w i kept constant stays = tt
+between-part g s l w i kept p stays = absurd stays
+
 -- what is remembered stays so
 so-between :
     (g : Geometry) (s : State) (l : Lists) (w : WordName → ℕ) (i : ℕ) (r : Recall)
     → ((d : ℕ) → IsTrue (is_bound g s l d) → IsPlaceKept s w d) → IsStillSaid g s l w r → IsSo g s l i r → IsSo g (between s w) l i r
-so-between g s l w i (bound_for d c) kept still so = (so.0, (kept d so.0).1 ∙ so.1)
 so-between g s l w i (located d f c) kept still so = located-between s w d f c still so
-so-between g s l w i (bound_at d f c) kept still so = (so.0, located-between s w d f c (kept d so.0) so.1)
 so-between g s l w i (pops d x) kept still so =
     subst (λ b. IsPopped b x) (sym (superblock-between g s w d still.0))
     (popped-next (links_of s w d) (superblock_of g s d) x (kept-links g s w d still.1) so)
@@ -254,16 +248,11 @@ so-between g s l w i (links d x prefix) kept still so =
     λ is. ap (λ b. b.next x.avail) (superblock-between g s w d still.0) ∙ ap link_of (still.1 is) ∙ so is
 so-between g s l w i (tops seat p head) kept still so = top-between s l w seat p head so
 so-between g s l w i (nexts seat p head below) kept still so = next-between g s l w i seat p head below still so
-so-between g s l w i (tops_exist seat p head) kept still so = so
 so-between g s l w i (says n v) kept still so = (so.0, still ∙ so.1)
 so-between g s l w i (made f c blocks) kept still so = λ k below. still k below ∙ so k below
-so-between g s l w i (in_use x) kept still so = so
 so-between g s l w i (emptied d) kept still so = record { state = so.state; unavailable = so.unavailable; standing = so.standing }
 so-between g s l w i (noted d next) kept still so = λ on. still on ∙ so on
-so-between g s l w i (owns place k) kept still so = (so.0, owned-between s w i place so.0 so.1, so.2)
-so-between g s l w i (owns_all place n) kept still so = owned-between s w i place n so
-so-between g s l w i (looked c) kept still so = so
-so-between g s l w i (refused c) kept still so = so
+so-between g s l w i r kept still so = so-stays g s l (between s w) l i r (between-part g s l w i kept (part_of r) tt) so
 
 listed-between :
     (g : Geometry) (s : State) (l : Lists) (w : WordName → ℕ) → LinksKept g s l w → IsListed g s.word l → IsListed g (with_lone w s.word) l

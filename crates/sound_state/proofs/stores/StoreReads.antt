@@ -1,44 +1,19 @@
 -- A store into a word that its caller stores alone keeps what is read of the other words, and what every caller remembers but for that word.
-use Rattle.std.proofs.Common.{ℕ, ◌≡◌, ◌≢◌, ◌<◌, ◌≤◌, ◌+◌, ◌^◌, ◌-◌, refl, arith, ap, sym, subst, inl, inr, ◌∙◌}
+use Rattle.std.proofs.Common.{ℕ, ◌≡◌, ◌≢◌, ◌<◌, ◌≤◌, ◌+◌, ◌^◌, ◌-◌, refl, arith, ap, sym, subst, inl, inr, ◌∙◌, IsSome}
 use Rattle.std.specs.List.{AllByRecursion}
-use Rattle.std.specs.Prelude.{IsSome}
 use Rattle.std.proofs.lemmas.List.Elements.{All-from_recursion, recursion_from_All}
-use Rattle.heap_geometry.specs.declared.geometry.Geometry.{Geometry}
-use Rattle.heap_geometry.specs.declared.limits.TheConstants.{CLASSES}
-use Rattle.heap_geometry.specs.Need.{block_count_of}
-use Rattle.packed_words.specs.Info.{info_of}
-use Rattle.word_plan.specs.declared.name.WordName.{WordName}
-use Rattle.word_plan.specs.declared.name.WordName.TheVariants as name
-use Rattle.word_plan.specs.declared.seat.Site.{Site}
-use Rattle.word_plan.specs.Counts.{descriptor_count}
-use Rattle.word_plan.specs.Seats.{SeatFields, info_in}
-use Rattle.word_plan.specs.Words.{Writes}
-use Rattle.word_plan.specs.Occurs.{occurs}
-use Rattle.superblock_parts.specs.Chains.{prefix_name}
-use Rattle.superblock_parts.specs.Fits.{FitsBlock}
-use Rattle.superblock_parts.specs.declared.point.BlockPoint.{BlockPoint}
+use Rattle.sound_state.proofs.Common.{Geometry, CLASSES, block_count_of, info_of, WordName, Site, descriptor_count, SeatFields, info_in, Writes, occurs, prefix_name}
+use Rattle.sound_state.proofs.Common.{BlockPoint, Pile, Frames, Partials, StackPoint, next_name, DescPoint, PartialPoint, LargePoint, Continuation, Point, FitsPoint}
+use Rattle.sound_state.proofs.Common.{State, Status, on_its_way, Lists, IsSo, recalls_of, IsSoundWith, info_or_zero}
+use Rattle.word_table.specs.declared.name.WordName.TheVariants as name
+use Rattle.superblock_parts.specs.Points.{FitsBlock}
 use Rattle.superblock_parts.specs.declared.point.BlockPoint.TheVariants as block
-use Rattle.stack_parts.specs.declared.point.Pile.{Pile}
-use Rattle.stack_parts.specs.declared.point.Pile.TheVariants.{Frames, Partials}
-use Rattle.stack_parts.specs.declared.point.StackPoint.{StackPoint}
 use Rattle.stack_parts.specs.declared.point.StackPoint.TheVariants as stack
-use Rattle.stack_parts.specs.Fits.{FitsStack}
-use Rattle.stack_parts.specs.Piles.{next_name}
-use Rattle.hazard_parts.specs.declared.point.DescPoint.{DescPoint}
+use Rattle.stack_parts.specs.Points.{FitsStack}
 use Rattle.hazard_parts.specs.declared.point.DescPoint.TheVariants as desc
-use Rattle.partial_parts.specs.declared.point.PartialPoint.{PartialPoint}
 use Rattle.partial_parts.specs.declared.point.PartialPoint.TheVariants as partial
-use Rattle.large_parts.specs.declared.point.LargePoint.{LargePoint}
-use Rattle.errand_steps.specs.declared.continuation.Continuation.{Continuation}
-use Rattle.errand_steps.specs.declared.point.Point.{Point}
 use Rattle.errand_steps.specs.declared.point.Point.TheVariants as point
-use Rattle.errand_steps.specs.Fits.{FitsPoint}
-use Rattle.errand_steps.specs.Steps.{State}
-use Rattle.sound_state.specs.Holdings.{Status, on_its_way}
-use Rattle.sound_state.specs.Lists.{Lists}
-use Rattle.sound_state.specs.Recalls.{IsSo, IsTopStill, recalls_of, continuation_recalls, stack_recalls, resumed_recalls, desc_recalls, block_recalls, partial_recalls, large_recalls, list_of}
-use Rattle.sound_state.specs.Sound.{IsSoundWith}
-use Rattle.sound_state.specs.Superblocks.{info_or_zero}
+use Rattle.sound_state.specs.Recalls.{IsTopStill, continuation_recalls, stack_recalls, resumed_recalls, desc_recalls, block_recalls, partial_recalls, large_recalls, list_of}
 use Rattle.sound_state.proofs.shared.PointLemmas.{fits-at}
 use Rattle.sound_state.proofs.shared.StepLemmas.{words-below}
 use Rattle.sound_state.proofs.stores.StoreFields.{IsLone, with_lone, IsPlaceKept, IsKeptStill, IsStillSaid, LinksKept, PlacesKept, BlocksKept, LoneKept}
@@ -233,7 +208,6 @@ said-stack g s l w i n (stack.ConfirmEmpty seat pile head) o h fits so off = sai
 said-stack g s l w i n (stack.LoadTopToPush seat pile j) o h fits so off = said-continuation g s l w seat o
 said-stack g s l w i n (stack.StoreBelow seat pile j head) o h fits so off = (tt, said-continuation g s l w seat o)
 said-stack g s l w i n (stack.PushTop seat pile j head) o h fits so off = (h.others (next_name pile j) off.link, (tt, said-continuation g s l w seat o))
-said-stack g s l w i n p o h fits so off = tt
 
 said-resumed :
     (g : Geometry) (s : State) (l : Lists) (w : WordName → ℕ) (seat : SeatFields) (o : Continuation)

@@ -1,22 +1,11 @@
 -- A step that stores a word which its caller stores alone is a quiet step from the state in between.
-use Rattle.std.proofs.Common.{ℕ, false, None, ◌≡◌, ◌<◌, refl, ap, sym, subst, ◌∙◌}
-use Rattle.std.specs.Prelude.{All}
-use Rattle.heap_geometry.specs.declared.geometry.Geometry.{Geometry}
-use Rattle.word_plan.specs.declared.action.Action.TheVariants.{Store}
-use Rattle.word_plan.specs.declared.name.WordName.{WordName}
-use Rattle.word_plan.specs.Actions.{name_of, after_action, found_by}
-use Rattle.word_plan.specs.Words.{Writes}
-use Rattle.errand_steps.specs.declared.next.Next.{Next}
-use Rattle.errand_steps.specs.declared.next.Next.TheVariants.{At}
-use Rattle.errand_steps.specs.declared.point.Point.{Point}
-use Rattle.errand_steps.specs.Errands.{ErrandFields, plan_of, settle_of, course_of, counts_lost, counts_cleared}
-use Rattle.errand_steps.specs.Events.{event_of}
-use Rattle.errand_steps.specs.Nexts.{next_of}
-use Rattle.errand_steps.specs.Points.{plan_point_of}
-use Rattle.errand_steps.specs.Steps.{State, Step, Moves, word_at, with_event}
-use Rattle.sound_state.specs.Lists.{Lists}
-use Rattle.sound_state.specs.Recalls.{IsSo, recalls_of}
-use Rattle.sound_state.specs.Sound.{IsSoundWithoutCounts, IsSoundWith}
+use Rattle.std.proofs.Common.{ℕ, false, None, ◌≡◌, ◌<◌, refl, ap, sym, subst, ◌∙◌, All}
+use Rattle.sound_state.proofs.Common.{Geometry, WordName, name_of, after_action, Writes, Next, At, Point, ErrandFields, settle_of, course_of, counts_lost}
+use Rattle.sound_state.proofs.Common.{counts_cleared, event_of, next_of, plan_point_of, State, Step, Moves, word_at, with_event, Lists, IsSo, recalls_of}
+use Rattle.sound_state.proofs.Common.{IsSoundWithoutCounts, IsSoundWith}
+use Rattle.word_table.specs.declared.action.Action.TheVariants.{Store}
+use Rattle.word_table.specs.Actions.{found_by}
+use Rattle.errand_steps.specs.Errands.{plan_of}
 use Rattle.sound_state.proofs.quiet.QuietLemmas.{HoldsSame}
 use Rattle.sound_state.proofs.quiet.QuietSteps.{LeadsQuietly, quiet-at}
 use Rattle.sound_state.proofs.stores.StoreFields.{IsLone, between, LoneKept, sound-between}

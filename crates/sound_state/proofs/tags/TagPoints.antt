@@ -1,45 +1,28 @@
 -- What the step from each point does to the tag in an anchor's word.
-use Rattle.std.proofs.Common.{ℕ, Bool, false, ◌≡◌, ◌<◌, ◌≤◌, ◌+◌, ◌%◌, ◌^◌, refl, arith, ap, inl, inr, ◌∙◌}
-use Rattle.std.specs.Prelude.{◌⊎◌, ◌==◌, ◌&&◌, if◌then◌else◌}
+use Rattle.std.proofs.Common.{ℕ, Bool, false, ◌≡◌, ◌<◌, ◌≤◌, ◌+◌, ◌%◌, ◌^◌, refl, arith, ap, inl, inr, ◌∙◌, ◌⊎◌, ◌==◌, ◌&&◌, if◌then◌else◌}
 use Rattle.std.proofs.lemmas.Bool.{cases_eq, cond_both, eq-eqb, ne_eqb}
-use Rattle.heap_geometry.specs.declared.geometry.Geometry.{Geometry}
-use Rattle.packed_words.specs.declared.anchor.State.TheVariants as phase
+use Rattle.sound_state.proofs.Common.{Geometry, AnchorFields, anchor_of, anchor_word, name_of, after_action, link_of, BlockPoint, Share, Pile, Frames, Partials}
+use Rattle.sound_state.proofs.Common.{StackPoint, head_name, next_name, DescPoint, LargePoint, PartialPoint, SeatFields, Point, FitsPoint, plan_point_of, on_its_way}
+use Rattle.sound_state.proofs.Common.{holds_of, kept_among, one_if}
+use Rattle.packed_words.specs.declared.anchor.AnchorState.TheVariants as phase
 use Rattle.packed_words.specs.declared.widths.TheConstants.{AVAIL_BITS, COUNT_BITS, TAG_BITS}
-use Rattle.packed_words.specs.Anchor.{AnchorFields, IsAnchor, anchor_of, anchor_word}
+use Rattle.packed_words.specs.Anchor.{IsAnchor}
 use Rattle.packed_words.proofs.AnchorLemmas.{anchor_of-anchor_word}
-use Rattle.word_plan.specs.declared.action.Action.{Action}
-use Rattle.word_plan.specs.declared.name.WordName.TheVariants as name
-use Rattle.word_plan.specs.Actions.{name_of, after_action, is_won}
-use Rattle.packed_words.specs.Prefix.{link_of}
+use Rattle.word_table.specs.declared.action.Action.{Action}
+use Rattle.word_table.specs.declared.name.WordName.TheVariants as name
+use Rattle.word_table.specs.Actions.{is_won}
 use Rattle.superblock_parts.specs.Anchors.{is_last, popped, pushed, pushed_state, returned}
-use Rattle.superblock_parts.specs.Fits.{FitsBlock}
-use Rattle.superblock_parts.specs.Points.{plan_block_of}
-use Rattle.superblock_parts.specs.declared.point.BlockPoint.{BlockPoint}
+use Rattle.superblock_parts.specs.Points.{FitsBlock, plan_block_of}
 use Rattle.superblock_parts.specs.declared.point.BlockPoint.TheVariants as block
-use Rattle.superblock_parts.specs.declared.point.Share.{Share}
-use Rattle.stack_parts.specs.declared.point.Pile.{Pile}
-use Rattle.stack_parts.specs.declared.point.Pile.TheVariants.{Frames, Partials}
-use Rattle.stack_parts.specs.declared.point.StackPoint.{StackPoint}
-use Rattle.stack_parts.specs.Piles.{head_name, next_name}
 use Rattle.stack_parts.specs.Points.{plan_stack_of}
-use Rattle.hazard_parts.specs.declared.point.DescPoint.{DescPoint}
 use Rattle.hazard_parts.specs.Points.{plan_desc_of}
-use Rattle.large_parts.specs.declared.point.LargePoint.{LargePoint}
 use Rattle.large_parts.specs.Points.{plan_large_of}
-use Rattle.partial_parts.specs.Fits.{FitsPartial}
+use Rattle.partial_parts.specs.Points.{FitsPartial, plan_partial_of}
 use Rattle.partial_parts.specs.Grants.{granted}
-use Rattle.partial_parts.specs.Points.{plan_partial_of}
-use Rattle.partial_parts.specs.declared.point.PartialPoint.{PartialPoint}
 use Rattle.partial_parts.specs.declared.point.PartialPoint.TheVariants as partial
-use Rattle.word_plan.specs.Seats.{SeatFields}
-use Rattle.errand_steps.specs.declared.point.Point.{Point}
 use Rattle.errand_steps.specs.declared.point.Point.TheVariants as point
-use Rattle.errand_steps.specs.Fits.{FitsPoint}
-use Rattle.errand_steps.specs.Points.{plan_point_of}
-use Rattle.sound_state.specs.Holdings.{on_its_way, block_holds, holds_of}
-use Rattle.sound_state.specs.Superblocks.{kept_among}
+use Rattle.sound_state.specs.Holdings.{block_holds}
 use Rattle.sound_state.specs.Tags.{pops_block, pops_at}
-use Rattle.sound_state.specs.Turns.{one_if}
 use Rattle.sound_state.proofs.shared.SuperblockEffects.{anchor_number}
 
 -- the tag in an anchor's word

@@ -1,13 +1,9 @@
 -- What moves of any callers do to the tag of a superblock.
 use Rattle.std.proofs.Common.{ℕ, ◌≡◌, ◌≢◌, ◌<◌, ◌+◌, List, [], ◌∷◌, arith, ap}
-use Rattle.heap_geometry.specs.declared.geometry.Geometry.{Geometry}
-use Rattle.packed_words.specs.Anchor.{anchor_of}
-use Rattle.word_plan.specs.declared.name.WordName.TheVariants as name
-use Rattle.errand_steps.specs.Steps.{State}
+use Rattle.sound_state.proofs.Common.{Geometry, anchor_of, State, IsSoundWithoutCounts, anchor_for}
+use Rattle.word_table.specs.declared.name.WordName.TheVariants as name
 use Rattle.sound_state.specs.Consequences.{IsBound}
 use Rattle.sound_state.specs.Runs.{Move, begins, steps, Moved}
-use Rattle.sound_state.specs.Sound.{IsSoundWithoutCounts}
-use Rattle.sound_state.specs.Superblocks.{anchor_for}
 use Rattle.sound_state.specs.Tags.{pops_in, ReachesBound}
 use Rattle.sound_state.proofs.ReachLemmas.{move-sound}
 use Rattle.sound_state.proofs.tags.TagSteps.{tag-stepped}

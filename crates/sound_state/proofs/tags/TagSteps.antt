@@ -1,18 +1,10 @@
 -- What a step does to the tag of a superblock.
-use Rattle.std.proofs.Common.{ℕ, ◌≡◌, ◌≢◌, ◌<◌, ◌+◌, refl, arith, ap, sym, inl, inr, ◌∙◌}
-use Rattle.std.specs.Prelude.{◌&&◌}
-use Rattle.heap_geometry.specs.declared.geometry.Geometry.{Geometry}
-use Rattle.packed_words.specs.Anchor.{anchor_of}
-use Rattle.word_plan.specs.declared.name.WordName.TheVariants as name
-use Rattle.word_plan.specs.Actions.{after_action, is_won}
-use Rattle.word_plan.proofs.NameLemmas.{cases_name}
-use Rattle.errand_steps.specs.Points.{plan_point_of}
-use Rattle.errand_steps.specs.Steps.{State, Step, name_at}
+use Rattle.std.proofs.Common.{ℕ, ◌≡◌, ◌≢◌, ◌<◌, ◌+◌, refl, arith, ap, sym, inl, inr, ◌∙◌, ◌&&◌}
+use Rattle.sound_state.proofs.Common.{Geometry, anchor_of, after_action, cases_name, plan_point_of, State, Step, name_at, IsSoundWithoutCounts, anchor_for, one_if}
+use Rattle.word_table.specs.declared.name.WordName.TheVariants as name
+use Rattle.word_table.specs.Actions.{is_won}
 use Rattle.sound_state.specs.Consequences.{IsBound}
-use Rattle.sound_state.specs.Sound.{IsSoundWithoutCounts}
-use Rattle.sound_state.specs.Superblocks.{anchor_for}
 use Rattle.sound_state.specs.Tags.{pops_at, pops_from}
-use Rattle.sound_state.specs.Turns.{one_if}
 use Rattle.sound_state.proofs.shared.BoundLemmas.{bound-with}
 use Rattle.sound_state.proofs.shared.PointLemmas.{fits-now}
 use Rattle.sound_state.proofs.shared.TagLemmas.{anchor-tags-below}

@@ -1,28 +1,15 @@
 -- A step that leaves all words and tells a look or a refusal.
 use Rattle.std.proofs.Common.{ℕ, Some, ◌≡◌, ◌<◌, ◌≤◌, ◌+◌, ◌*◌, ◌^◌, [], ◌∷◌, ◌++◌, refl, arith, ap, sym, subst, ◌∙◌}
-use Rattle.heap_geometry.specs.declared.geometry.Geometry.{Geometry}
-use Rattle.heap_geometry.specs.declared.limits.TheConstants.{CLASSES}
-use Rattle.packed_words.specs.Anchor.{anchor_of}
-use Rattle.packed_words.specs.Info.{info_of}
-use Rattle.word_plan.specs.declared.name.WordName.{WordName}
-use Rattle.word_plan.specs.declared.name.WordName.TheVariants as name
-use Rattle.word_plan.specs.Counts.{descriptor_count}
-use Rattle.word_plan.specs.Actions.{after_action}
-use Rattle.pool_model.specs.declared.event.Event.{Event}
+use Rattle.sound_state.proofs.Common.{Geometry, CLASSES, anchor_of, info_of, WordName, descriptor_count, after_action, Event, IsLegalWithoutCounts, ErrandFields}
+use Rattle.sound_state.proofs.Common.{settle_of, State, Step, Moves, action_at, name_at, word_at, found_at, with_event, errand_frames, waiting, on_its_way}
+use Rattle.sound_state.proofs.Common.{word_keeps, errand_has, full_keeps, Lists, IsSoundWith, IsSoundWithoutCounts, word_stock, full_stock, errand_stock, sum_below}
+use Rattle.sound_state.proofs.Common.{info_or_zero, word_reserves, errand_reserves, errand_keeps, errand_away, away_of, emptied_out}
+use Rattle.word_table.specs.declared.name.WordName.TheVariants as name
 use Rattle.pool_model.specs.Histories.{caller_of}
-use Rattle.pool_model.specs.Legal.{IsAllowed, IsLegalEventWithoutCounts, IsLegalWithoutCounts}
+use Rattle.pool_model.specs.Legal.{IsAllowed, IsLegalEventWithoutCounts}
 use Rattle.pool_model.proofs.HistoryLemmas.{EachAfter-push}
-use Rattle.errand_steps.specs.Errands.{ErrandFields, settle_of}
-use Rattle.errand_steps.specs.Steps.{State, Step, Moves, action_at, name_at, word_at, found_at, event_at, with_event}
-use Rattle.sound_state.specs.Frames.{errand_frames}
-use Rattle.sound_state.specs.Holdings.{waiting, on_its_way}
-use Rattle.sound_state.specs.Keepers.{word_keeps, errand_has, full_keeps}
-use Rattle.sound_state.specs.Lists.{Lists}
-use Rattle.sound_state.specs.Sound.{IsSoundWith, IsSoundWithoutCounts}
-use Rattle.sound_state.specs.Stock.{word_stock, full_stock, stock_of, errand_stock}
-use Rattle.sound_state.specs.Sums.{sum_below}
-use Rattle.sound_state.specs.Superblocks.{info_or_zero, word_reserves, errand_reserves, errand_keeps, errand_away, away_of}
-use Rattle.sound_state.specs.Turns.{emptied_out}
+use Rattle.errand_steps.specs.Steps.{event_at}
+use Rattle.sound_state.specs.Stock.{stock_of}
 use Rattle.sound_state.proofs.shared.AlikeLemmas.{Alike, sound-but}
 use Rattle.sound_state.proofs.shared.ShownLemmas.{MayGoOn, MayGuard, IsSoundBut}
 use Rattle.sound_state.proofs.shared.StepLemmas.{actives-stay, words-stay}

@@ -1,52 +1,33 @@
 -- A look that finds no partial superblock, and a refusal for want of a frame, keep the state sound.
-use Rattle.sound_state.specs.TurnStages.{turn_stage_of, in_turn, lacks_frame, lacks_partial, lacks_answer, is_unneeded}
+use Rattle.sound_state.proofs.Common.{turn_stage_of, in_turn, is_unneeded, Geometry, Small, need_of, HeadFields, head_of, Found, name_of, after_action, SeatFields}
+use Rattle.sound_state.proofs.Common.{Pile, Frames, Partials, head_name, next_in, own, At, Retire, Continuation, Point, Idle, Stack, Desc, ErrandFields, settle_of}
+use Rattle.sound_state.proofs.Common.{raised, counts_lost, counts_cleared, event_of, FitsPoint, spare_of, next_of, plan_point_of, State, Step, action_at, name_at}
+use Rattle.sound_state.proofs.Common.{word_at, found_at, IsHazard, Status, holds_of, waiting, reserving, on_its_way, partly_used, IsWithout, IsKeptAs, Lists, IsSo}
+use Rattle.sound_state.proofs.Common.{IsOwned, recalls_of, looked, IsSoundWithoutCounts, IsSoundWith, errand_stock, one_if, pops_left, gives_small, refuses_small}
+use Rattle.sound_state.specs.TurnStages.{lacks_frame, lacks_partial, lacks_answer}
 use Rattle.sound_state.proofs.quiet.QuietStacks.{confirm_empty_lost-sound}
 use Rattle.std.proofs.Common.{ℕ, true, false, cond, Some, ◌≡◌, ◌<◌, ◌≤◌, ◌+◌, ◌^◌, List, [], ◌∷◌, ◌++◌, refl, arith, ap, sym, subst, inl, inr, ◌∙◌, eq-eqb, ne_eqb}
 use Rattle.std.specs.Prelude.{◌==◌, if◌then◌else◌, All, IsTrue, count_by, nat_le}
 use Rattle.std.proofs.lemmas.Bool.{cases_eq, cases_Bool, cond-true, cond-false}
 use Rattle.std.proofs.lemmas.Option.{none-some}
 use Rattle.std.proofs.lemmas.List.Elements.{All-cons, All-nil}
-use Rattle.heap_geometry.specs.declared.geometry.Geometry.{Geometry}
 use Rattle.heap_geometry.specs.declared.limits.TheConstants.{SMALL_MOST}
-use Rattle.heap_geometry.specs.declared.need.Need.TheVariants.{Small}
-use Rattle.heap_geometry.specs.Need.{need_of}
-use Rattle.packed_words.specs.Head.{HeadFields, head_of, head_word}
+use Rattle.packed_words.specs.Head.{head_word}
 use Rattle.packed_words.proofs.HeadLemmas.{head_of-head_word}
-use Rattle.word_plan.specs.declared.action.Found.{Found}
-use Rattle.word_plan.specs.declared.name.WordName.TheVariants as name
-use Rattle.word_plan.specs.Actions.{name_of, after_action}
-use Rattle.word_plan.specs.Seats.{SeatFields}
-use Rattle.stack_parts.specs.declared.point.Pile.{Pile}
-use Rattle.stack_parts.specs.declared.point.Pile.TheVariants.{Frames, Partials}
+use Rattle.word_table.specs.declared.name.WordName.TheVariants as name
 use Rattle.stack_parts.specs.declared.point.StackPoint.TheVariants as stack
-use Rattle.stack_parts.specs.Fits.{IsBare}
-use Rattle.stack_parts.specs.Piles.{head_name}
-use Rattle.stack_parts.specs.Stacks.{next_in}
+use Rattle.stack_parts.specs.Points.{IsBare}
 use Rattle.hazard_parts.specs.declared.point.DescPoint.TheVariants as desc
 use Rattle.pool_model.specs.declared.event.Event.TheVariants.{Looked, Refuse}
-use Rattle.pool_model.specs.Histories.{own}
 use Rattle.pool_model.specs.Legal.{IsRefusable}
-use Rattle.errand_steps.specs.declared.next.Next.TheVariants.{At, Retire}
-use Rattle.errand_steps.specs.declared.continuation.Continuation.{Continuation}
 use Rattle.errand_steps.specs.declared.continuation.Continuation.TheVariants as continuation
-use Rattle.errand_steps.specs.declared.point.Point.{Point}
-use Rattle.errand_steps.specs.declared.point.Point.TheVariants.{Idle, Stack, Desc}
 use Rattle.errand_steps.specs.declared.reply.Reply.TheVariants as reply
-use Rattle.errand_steps.specs.Errands.{ErrandFields, settle_of, raised, counts_lost, counts_cleared, is_full, no_words}
-use Rattle.errand_steps.specs.Events.{event_of}
-use Rattle.errand_steps.specs.Fits.{FitsPoint, spare_of}
-use Rattle.errand_steps.specs.Nexts.{next_of}
+use Rattle.errand_steps.specs.Errands.{is_full, no_words}
 use Rattle.errand_steps.specs.Continuations.{confirms}
-use Rattle.errand_steps.specs.Points.{plan_point_of}
-use Rattle.errand_steps.specs.Steps.{State, Step, action_at, name_at, word_at, found_at, event_at}
-use Rattle.sound_state.specs.Guards.{IsHazard}
-use Rattle.sound_state.specs.Holdings.{Status, clear, holds_of, waiting, reserving, on_its_way, partly_used}
-use Rattle.sound_state.specs.Keepers.{IsWithout, IsKeptAs}
-use Rattle.sound_state.specs.Lists.{Lists}
-use Rattle.sound_state.specs.Recalls.{IsSo, IsOwned, recalls_of, looked, refused}
-use Rattle.sound_state.specs.Sound.{IsSoundWithoutCounts, IsSoundWith}
-use Rattle.sound_state.specs.Stock.{errand_stock}
-use Rattle.sound_state.specs.Turns.{one_if, pops_left, gives_small, refuses_small, turn_unanswered}
+use Rattle.errand_steps.specs.Steps.{event_at}
+use Rattle.sound_state.specs.Holdings.{clear}
+use Rattle.sound_state.specs.Recalls.{refused}
+use Rattle.sound_state.specs.Turns.{turn_unanswered}
 use Rattle.sound_state.proofs.shared.EventFacts.{counted-not, told-counts, refused-ends}
 use Rattle.sound_state.proofs.shared.ListFacts.{occurs-push}
 use Rattle.sound_state.proofs.shared.ShownLemmas.{MayGoOn, MayGuard, IsSoundBut}
@@ -60,6 +41,7 @@ use Rattle.sound_state.proofs.shared.PointLemmas.{fits-at, so-at}
 use Rattle.sound_state.proofs.retirements.RetireLemmas.{Lets, retired_at, retired-may, settle-full, settle-resumed-end}
 use Rattle.sound_state.proofs.shared.StepLemmas.{PointStands, raised-least, TurnGoes, at_point, settle-at, may-after, found_from}
 use Rattle.sound_state.proofs.tellings.TellLemmas.{IsTold, told_state, told-but, told-ends}
+use Rattle.sound_state.proofs.shared.KeepsSound.{KeepsSound, KeepsSoundWhere}
 
 -- where the caller remembers nothing, and was answered as often as before, all of the state is sound
 but-whole :
@@ -209,11 +191,10 @@ bare-list g s l caller seat h old fits same =
 
 -- a look that finds no partial superblock
 pub confirm_no_partial-sound :
-    (g : Geometry) (s : State) (caller : ℕ) (s' : State) (seat : SeatFields) (h : HeadFields) (words : ℕ) → IsSoundWithoutCounts g s
-    → caller < g.callers → (s.errand caller).point ≡ Stack (stack.ConfirmEmpty seat Partials h) (continuation.Alloc words)
-    → s.word (name.ListHead seat.class) ≡ head_word h → Step s caller s' → IsSoundWithoutCounts g s'
+    (seat : SeatFields) (h : HeadFields) (words : ℕ)
+    → KeepsSoundWhere (Stack (stack.ConfirmEmpty seat Partials h) (continuation.Alloc words)) (λ s. s.word (name.ListHead seat.class) ≡ head_word h)
 unfolding plan_point_of next_of event_of holds_of recalls_of
-confirm_no_partial-sound g s caller s' seat h words sound has stands same step =
+confirm_no_partial-sound seat h words g s caller s' sound has stands same step =
     let p = looking seat h words in
     let q = waiting_one seat words in
     let e = s.errand caller in
@@ -364,11 +345,10 @@ refused-tells g s l caller x q words d class old has word after still small to t
 
 -- a refusal for want of a frame
 pub confirm_no_frame-sound :
-    (g : Geometry) (s : State) (caller : ℕ) (s' : State) (seat : SeatFields) (h : HeadFields) (words d : ℕ) → IsSoundWithoutCounts g s
-    → caller < g.callers → (s.errand caller).point ≡ Stack (stack.ConfirmEmpty seat Frames h) (continuation.TakeFrame words d)
-    → s.word name.FrameHead ≡ head_word h → Step s caller s' → IsSoundWithoutCounts g s'
+    (seat : SeatFields) (h : HeadFields) (words d : ℕ)
+    → KeepsSoundWhere (Stack (stack.ConfirmEmpty seat Frames h) (continuation.TakeFrame words d)) (λ s. s.word name.FrameHead ≡ head_word h)
 unfolding plan_point_of next_of event_of recalls_of
-confirm_no_frame-sound g s caller s' seat h words d sound has stands same step =
+confirm_no_frame-sound seat h words d g s caller s' sound has stands same step =
     let p = refusing seat h words d in
     let e = s.errand caller in
     let x = found_at s caller in
@@ -419,27 +399,24 @@ confirm_empty-cases :
     → IsSoundWithoutCounts g s → caller < g.callers → (s.errand caller).point ≡ Stack (stack.ConfirmEmpty seat pile h) o
     → s.word (head_name seat pile) ≡ head_word h → Step s caller s' → IsSoundWithoutCounts g s'
 confirm_empty-cases g s caller s' seat Partials h (continuation.Alloc words) goes sound has stands same step =
-    confirm_no_partial-sound g s caller s' seat h words sound has stands same step
+    confirm_no_partial-sound seat h words g s caller s' sound has stands same step
 confirm_empty-cases g s caller s' seat Frames h (continuation.TakeFrame words d) goes sound has stands same step =
-    confirm_no_frame-sound g s caller s' seat h words d sound has stands same step
+    confirm_no_frame-sound seat h words d g s caller s' sound has stands same step
 confirm_empty-cases g s caller s' seat pile h o goes sound has stands same step = absurd (cc)
 
 pub confirm_empty_won-sound :
-    (g : Geometry) (s : State) (caller : ℕ) (s' : State) (seat : SeatFields) (pile : Pile) (h : HeadFields) (o : Continuation) → IsSoundWithoutCounts g s
-    → caller < g.callers → (s.errand caller).point ≡ Stack (stack.ConfirmEmpty seat pile h) o
-    → s.word (head_name seat pile) ≡ head_word h → Step s caller s' → IsSoundWithoutCounts g s'
-confirm_empty_won-sound g s caller s' seat pile h o sound has stands same step =
+    (seat : SeatFields) (pile : Pile) (h : HeadFields) (o : Continuation)
+    → KeepsSoundWhere (Stack (stack.ConfirmEmpty seat pile h) o) (λ s. s.word (head_name seat pile) ≡ head_word h)
+confirm_empty_won-sound seat pile h o g s caller s' sound has stands same step =
     let fits : FitsPoint g caller (Stack (stack.ConfirmEmpty seat pile h) o) =
     fits-at g s sound.parts.0 caller (Stack (stack.ConfirmEmpty seat pile h) o) sound.parts.1 has stands in
     confirm_empty-cases g s caller s' seat pile h o fits.goes sound has stands same step
 
 -- won or lost
 pub confirm_empty-sound :
-    (g : Geometry) (s : State) (caller : ℕ) (s' : State) (seat : SeatFields) (pile : Pile) (h : HeadFields) (o : Continuation)
-    → IsSoundWithoutCounts g s → caller < g.callers → (s.errand caller).point ≡ Stack (stack.ConfirmEmpty seat pile h) o → Step s caller s'
-    → IsSoundWithoutCounts g s'
-confirm_empty-sound g s caller s' seat pile h o sound has stands step =
+    (seat : SeatFields) (pile : Pile) (h : HeadFields) (o : Continuation) → KeepsSound (Stack (stack.ConfirmEmpty seat pile h) o)
+confirm_empty-sound seat pile h o g s caller s' sound has stands step =
     elim (cases_eq (s.word (head_name seat pile)) (head_word h)) [
-      | inl won ↦ confirm_empty_won-sound g s caller s' seat pile h o sound has stands won step
-      | inr lost ↦ confirm_empty_lost-sound g s caller s' seat pile h o sound has stands lost step
+      | inl won ↦ confirm_empty_won-sound seat pile h o g s caller s' sound has stands won step
+      | inr lost ↦ confirm_empty_lost-sound seat pile h o g s caller s' sound has stands lost step
     ]

@@ -2,29 +2,16 @@
 use Rattle.std.proofs.Common.{ℕ, Bool, true, false, Option, Some, None, ◌≡◌, ◌<◌, ◌≤◌, ◌+◌, ◌*◌, [], length, refl, sym, ◌∙◌, ap, arith, inl, inr}
 use Rattle.std.specs.Prelude.{◌==◌, ◌&&◌, not, if◌then◌else◌, IsSome}
 use Rattle.std.proofs.lemmas.Bool.{cases_eq, cases_Bool, cond-true, cond-false, eq-eqb, ne_eqb}
-use Rattle.heap_geometry.specs.declared.geometry.Geometry.{Geometry}
-use Rattle.packed_words.specs.declared.active.ActiveWord.{ActiveWord}
-use Rattle.packed_words.specs.declared.active.ActiveWord.TheVariants.{Null, Held}
-use Rattle.packed_words.specs.Active.{active_of}
-use Rattle.packed_words.specs.declared.anchor.State.{State as Phase}
-use Rattle.packed_words.specs.declared.anchor.State.TheVariants as phase
-use Rattle.packed_words.specs.Info.{info_of}
-use Rattle.partial_parts.specs.Grants.{is_empty}
-use Rattle.word_plan.specs.declared.name.WordName.{WordName}
-use Rattle.word_plan.specs.declared.name.WordName.TheVariants as name
-use Rattle.word_plan.specs.Counts.{descriptor_count, word_count}
-use Rattle.word_plan.specs.Table.{Exists, word_name}
-use Rattle.word_plan.proofs.TableLemmas.{word_name-Exists}
-use Rattle.errand_steps.specs.declared.point.Point.{Point}
-use Rattle.errand_steps.specs.Steps.{State}
-use Rattle.sound_state.specs.Frames.{fills_frame}
-use Rattle.sound_state.specs.Holdings.{waiting, holds_of}
-use Rattle.sound_state.specs.Keepers.{active_keeps, word_keeps, full_keeps, errand_has}
-use Rattle.sound_state.specs.Lists.{Lists}
-use Rattle.sound_state.specs.Stock.{word_stock, full_stock, stock_of, errand_stock, stock_among, waits_in}
-use Rattle.sound_state.specs.Sound.{IsSoundWith}
-use Rattle.sound_state.specs.Sums.{sum_below, words_sum, callers_sum}
-use Rattle.sound_state.specs.Superblocks.{anchor_for, info_for, errand_keeps, errand_away, away_of, waiting_of, is_bound}
+use Rattle.sound_state.proofs.Common.{Geometry, ActiveWord, Null, Held, active_of, info_of, is_empty, WordName, descriptor_count, word_count, Exists, word_name}
+use Rattle.sound_state.proofs.Common.{Point, State, fills_frame, waiting, holds_of, word_keeps, full_keeps, errand_has, Lists, word_stock, full_stock, errand_stock}
+use Rattle.sound_state.proofs.Common.{stock_among, waits_in, IsSoundWith, sum_below, words_sum, callers_sum, anchor_for, info_for, errand_keeps, errand_away}
+use Rattle.sound_state.proofs.Common.{away_of, waiting_of, is_bound}
+use Rattle.packed_words.specs.declared.anchor.AnchorState.{AnchorState as Phase}
+use Rattle.packed_words.specs.declared.anchor.AnchorState.TheVariants as phase
+use Rattle.word_table.specs.declared.name.WordName.TheVariants as name
+use Rattle.word_table.proofs.TableLemmas.{word_name-Exists}
+use Rattle.sound_state.specs.Keepers.{active_keeps}
+use Rattle.sound_state.specs.Stock.{stock_of}
 use Rattle.sound_state.proofs.shared.HeapNames.{slot_one, slots-most}
 use Rattle.sound_state.proofs.shared.RecallEffects.{empty-is}
 use Rattle.sound_state.proofs.shared.WeightSums.{words-least}

@@ -1,28 +1,20 @@
 -- An event that leaves the pool and counts no block keeps the state sound, but for what its caller remembers and how often it was answered.
-use Rattle.std.proofs.Common.{ℕ, Bool, false, ◌≡◌, ◌≢◌, ◌≤◌, ◌+◌, ◌*◌, List, [], ◌∷◌, ◌++◌, refl, arith, ap, sym, subst, inl, inr, ◌∙◌, eq-eqb}
-use Rattle.std.specs.Prelude.{◌⊎◌, count_by}
-use Rattle.heap_geometry.specs.declared.geometry.Geometry.{Geometry}
-use Rattle.heap_geometry.specs.declared.need.Need.{Need}
+use Rattle.std.proofs.Common.{ℕ, Bool, false, ◌≡◌, ◌≢◌, ◌≤◌, ◌+◌, ◌*◌, List, [], ◌∷◌, ◌++◌, refl, arith, ap, sym, subst, inl, inr, ◌∙◌, eq-eqb, ◌⊎◌, count_by}
+use Rattle.sound_state.proofs.Common.{Geometry, Need, Event, own, block_at, pool_of, State, IsGuarded, Status, reserving, waiting, partly_used, on_its_way, IsKept}
+use Rattle.sound_state.proofs.Common.{IsPartlyUsed, IsKeptAs, Lists, Recall, IsOwned, IsSo}
+use Rattle.sound_state.proofs.Common.{IsSoundWith, IsChained, superblock_of, IsLive, IsTied, IsTurned, gives_small, refuses_small}
 use Rattle.heap_geometry.specs.Place.{unit_place}
-use Rattle.word_plan.specs.declared.name.WordName.TheVariants as name
-use Rattle.pool_model.specs.declared.event.Event.{Event}
-use Rattle.pool_model.specs.declared.event.Event.TheVariants.{Looked}
-use Rattle.pool_model.specs.Histories.{own, caller_of, EndsWith}
-use Rattle.pool_model.specs.Pool.{Pool, Block, block_at, pool_of, pool_after}
+use Rattle.word_table.specs.declared.name.WordName.TheVariants as name
+use Rattle.pool_model.specs.Histories.{caller_of, EndsWith}
+use Rattle.pool_model.specs.Pool.{Pool, Block, pool_after}
 use Rattle.pool_model.proofs.HistoryLemmas.{pool_of-push, own-append}
-use Rattle.errand_steps.specs.Steps.{State}
-use Rattle.sound_state.specs.Guards.{IsGuarded}
-use Rattle.sound_state.specs.Holdings.{Status, reserving, waiting, partly_used, on_its_way}
-use Rattle.sound_state.specs.Keepers.{IsKept, IsPartlyUsed, IsActive, IsKeptAs}
-use Rattle.sound_state.specs.Lists.{Lists}
-use Rattle.sound_state.specs.Recalls.{Recall, EndsRefused, IsOwned, IsPopped, IsSo, bound_for, located, bound_at, pops, links, tops, nexts, tops_exist, says, made, in_use, emptied, noted, owns, owns_all, looked, refused}
-use Rattle.sound_state.specs.Sound.{IsSoundWith}
-use Rattle.sound_state.specs.Superblocks.{IsChained, superblock_of}
-use Rattle.sound_state.specs.Ties.{IsLive, IsExcepted, IsTied}
-use Rattle.sound_state.specs.Turns.{IsTurned, gives_small, refuses_small, is_small_alloc, is_small_free}
+use Rattle.sound_state.specs.Keepers.{IsActive}
+use Rattle.sound_state.specs.Ties.{IsExcepted}
+use Rattle.sound_state.specs.Turns.{is_small_alloc, is_small_free}
 use Rattle.sound_state.proofs.shared.EventFacts.{counted-not, told-own, told-counts}
 use Rattle.sound_state.proofs.shared.ShownLemmas.{IsSoundBut}
 use Rattle.sound_state.proofs.shared.TurnEffects.{IsTurnedBut}
+use Rattle.sound_state.proofs.shared.RecallFrame.{Part, PartStays, part_of, so-stays, bindings, places, chains, stacks, link_words, availables, events, single, constant}
 
 -- an event of the caller that leaves the pool; it gives no small block and frees none
 pub record IsTold (g : Geometry) (caller : ℕ) (event : Event) : Type 0 where
@@ -58,29 +50,33 @@ told-owned g s caller event h i place n k = record {
   block = (k.block.0, ap (block_at place) (told-pool g s caller event h) ∙ k.block.1, k.block.2, k.block.3);
 }
 
--- what another caller remembers stays so
+-- no part of the state that another caller's recalls read changes
+told-part :
+    (g : Geometry) (s : State) (l : Lists) (caller : ℕ) (event : Event) → IsTold g caller event → (i : ℕ) → i ≢ caller → (p : Part)
+    → PartStays g s l (told_state s event) l i p
+told-part g s l caller event h i differ bindings = λ d bound. (bound, (refl, refl))
+told-part g s l caller event h i differ places = λ d. (refl, refl)
+told-part g s l caller event h i differ chains = λ d. record { tag = refl; chain = refl; next = refl }
+told-part g s l caller event h i differ stacks = λ seat p. record { tag = refl; list = refl; next = λ k. refl }
+told-part g s l caller event h i differ link_words = λ f c k. refl
+told-part g s l caller event h i differ availables =
+    λ d. record {
+      emptied = λ so. record { state = so.state; unavailable = so.unavailable; standing = so.standing };
+      on = λ on. on;
+      next = refl;
+    }
+told-part g s l caller event h i differ events = record {
+  own_events = told-own i s.history event (λ e. differ (sym e ∙ h.number));
+  owned = told-owned g s caller event h i;
+}
+told-part g s l caller event h i differ single = λ n plain. refl
+told-part g s l caller event h i differ constant = tt
+
+-- so what another caller remembers stays so
 told-so :
     (g : Geometry) (s : State) (l : Lists) (caller : ℕ) (event : Event) → IsTold g caller event → (i : ℕ) → i ≢ caller → (r : Recall) → IsSo g s l i r
     → IsSo g (told_state s event) l i r
-told-so g s l caller event h i differ (bound_for d c) so = so
-told-so g s l caller event h i differ (located d f c) so = record { frame = so.frame; class = so.class }
-told-so g s l caller event h i differ (bound_at d f c) so = (so.0, record { frame = so.1.frame; class = so.1.class })
-told-so g s l caller event h i differ (pops d a) so = subst (λ b. IsPopped b a) (sym (told-superblock g s caller event h d)) so
-told-so g s l caller event h i differ (links d a prefix) so = so
-told-so g s l caller event h i differ (tops seat p head) so = record { tag = so.tag; top = so.top }
-told-so g s l caller event h i differ (nexts seat p head below) so = so
-told-so g s l caller event h i differ (tops_exist seat p head) so = so
-told-so g s l caller event h i differ (says n w) so = so
-told-so g s l caller event h i differ (made f c blocks) so = so
-told-so g s l caller event h i differ (in_use a) so = so
-told-so g s l caller event h i differ (emptied d) so = record { state = so.state; unavailable = so.unavailable; standing = so.standing }
-told-so g s l caller event h i differ (noted d next) so = so
-told-so g s l caller event h i differ (owns place k) so = (so.0, told-owned g s caller event h i place so.0 so.1, so.2)
-told-so g s l caller event h i differ (owns_all place n) so = told-owned g s caller event h i place n so
-told-so g s l caller event h i differ (looked c) so =
-    subst (λ e. EndsWith e (Looked i c)) (sym (told-own i s.history event (λ e. differ (sym e ∙ h.number)))) so
-told-so g s l caller event h i differ (refused c) so =
-    subst (λ e. EndsRefused e i c) (sym (told-own i s.history event (λ e. differ (sym e ∙ h.number)))) so
+told-so g s l caller event h i differ r = so-stays g s l (told_state s event) l i r (told-part g s l caller event h i differ (part_of r))
 
 -- each descriptor stands where it stood
 partly-told : (s : State) (event : Event) (d c : ℕ) → IsPartlyUsed s d c → IsPartlyUsed (told_state s event) d c

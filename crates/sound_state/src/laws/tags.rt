@@ -2,7 +2,7 @@
 
 ghost use Rattle.std.specs.Prelude.{ℕ, List, ◌≡◌, ◌≢◌, ◌<◌, ◌+◌};
 ghost use Rattle.heap_geometry.specs.declared.geometry.Geometry.{Geometry};
-ghost use Rattle.word_plan.specs.declared.name.WordName.TheVariants as name;
+ghost use Rattle.word_table.specs.declared.name.WordName.TheVariants as name;
 ghost use Rattle.errand_steps.specs.Steps.{State, Step};
 ghost use Rattle.sound_state.specs.Consequences.{IsBound};
 ghost use Rattle.sound_state.specs.Runs.{Move};

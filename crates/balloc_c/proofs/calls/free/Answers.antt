@@ -1,7 +1,7 @@
 use Rattle.std.proofs.Common.{rules, ◌≡◌, Some, sym, ◌∙◌}
 use Rattle.errand_steps.specs.Begins.{IsIdle}
 use Rattle.balloc_c.specs.Slots.{block_at}
-use Rattle.balloc_c.specs.Numbers.{Loses, named}
+use Rattle.balloc_c.specs.Numbers.{NamesOneLess, named}
 use Rattle.balloc_c.proofs.Slots.{held-at}
 use Rattle.live_heap.specs.declared.answers.FreeAnswer.TheVariants as free_answer
 use Rattle.balloc_c.specs.Through.{IsFree}
@@ -40,7 +40,7 @@ returns-in-Freed-clause-answers c =
     let is : block_at t.slots.items index ≡ Some block = sym c.set.ensures.value ∙ c.unwrap-block.ensures in
     let idle : IsIdle s.pass.errand = search rules in
     let names : named t c.args.number ≡ Some block = c.in-Some.ensures.found.2 ∙ is in
-    let loses : Loses t c.args.number c.retire.new.self =
+    let loses : NamesOneLess t c.args.number c.retire.new.self =
     loses-at t c.retire.new.self c.set.new.self.slots.items index c.args.number c.in-Some.ensures.found.1 c.in-Some.ensures.found.3
     c.in-Some.ensures.found.0 c.set.ensures.slots c.retire.ensures in
     let told : IsFree s block free_answer.Freed c.free.new.self =
@@ -68,7 +68,7 @@ returns-in-Busy-clause-answers c =
     let is : block_at t.slots.items index ≡ Some block = sym c.set.ensures.value ∙ c.unwrap-block.ensures in
     let idle : IsIdle s.pass.errand = search rules in
     let names : named t c.args.number ≡ Some block = c.in-Some.ensures.found.2 ∙ is in
-    let loses : Loses t c.args.number c.retire.new.self =
+    let loses : NamesOneLess t c.args.number c.retire.new.self =
     loses-at t c.retire.new.self c.set.new.self.slots.items index c.args.number c.in-Some.ensures.found.1 c.in-Some.ensures.found.3
     c.in-Some.ensures.found.0 c.set.ensures.slots c.retire.ensures in
     let told : IsFree s block free_answer.Busy c.free.new.self =

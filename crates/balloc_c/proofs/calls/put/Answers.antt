@@ -1,7 +1,7 @@
 use Rattle.std.proofs.Common.{arith, rules, ◌≡◌, ◌<◌, Some, refl, sym, ◌∙◌}
 use Rattle.errand_steps.specs.Begins.{IsIdle}
 use Rattle.balloc_c.specs.Slots.{block_at}
-use Rattle.balloc_c.specs.Numbers.{Loses, named}
+use Rattle.balloc_c.specs.Numbers.{NamesOneLess, named}
 use Rattle.balloc_c.proofs.Slots.{held-at}
 use Rattle.heap_geometry.specs.declared.limits.TheConstants.{SHELVES}
 use Rattle.balloc_c.proofs.MadeCalls.{back-tends, full-answers, gone-tends, loses-at, put-answers}
@@ -39,7 +39,7 @@ returns-in-Ok-clause-answers c =
     let is : block_at t.slots.items index ≡ Some block = sym c.set.ensures.value ∙ c.unwrap-block.ensures in
     let idle : IsIdle s.pass.errand = search rules in
     let names : named t c.args.number ≡ Some block = c.in-Some.ensures.found.2 ∙ is in
-    let loses : Loses t c.args.number c.retire.new.self =
+    let loses : NamesOneLess t c.args.number c.retire.new.self =
     loses-at t c.retire.new.self c.set.new.self.slots.items index c.args.number c.in-Some.ensures.found.1 c.in-Some.ensures.found.3
     c.in-Some.ensures.found.0 c.set.ensures.slots c.retire.ensures in
     let has : c.args.shelf < SHELVES = omega (arith, c.if-shelf-ge-SHELVES.false) in

@@ -5,6 +5,7 @@ use Rattle.std.specs.Arc.{arc_value}
 use Rattle.live_heap.specs.declared.heap.Heap.{Heap}
 use Rattle.live_heap.specs.declared.pass.Pass.{Pass}
 use Rattle.live_heap.specs.Passes.{AreFrom, IsFresh}
+use Rattle.shared_heap.specs.declared.shared.SharedHeap.{SharedHeap}
 use Rattle.block_cache.specs.declared.cache.Cache.{Cache}
 use Rattle.block_cache.specs.Caches.{cached_in}
 use Rattle.balloc_c.specs.Opened.{HoldNew, IsNew}
@@ -14,27 +15,28 @@ use Rattle.balloc_c.proofs.opening.give_all.Goals as goal
 pub loop-pass-init : goal.loop-pass-init
 loop-pass-init c =
     let rest : c.in_ok-heap.made.items ≡ c.into_iter-pass-iterator.result.rest.items = search rules in
+    let same : (arc_value c.in_ok-heap-2.heap).heap ≡ c.in_ok-heap.heap = ap (λ (shared : SharedHeap). shared.heap) c.in_ok-heap-2.ensures.ok ∙ c.in_ok-shared.ensures in
     record {
       can_next = tt;
       is_finite = tt;
       left =
-          subst (λ (l : List Pass). AreFrom (arc_value c.in_ok-heap-2.heap) 0 l) rest
-          (subst (λ (h : Heap). AreFrom h 0 c.in_ok-heap.made.items) (sym c.in_ok-heap-2.ensures.ok) c.in_ok-heap.ensures.passes.0);
+          subst (λ (l : List Pass). AreFrom (arc_value c.in_ok-heap-2.heap).heap 0 l) rest
+          (subst (λ (h : Heap). AreFrom h 0 c.in_ok-heap.made.items) (sym same) c.in_ok-heap.ensures.passes.0);
       count = omega (arith, ap length rest, c.in_ok-heap.ensures.passes.1, c.requires.callers);
       given = λ number low. absurd (omega (arith, low));
     }
 
 pub cached-requires-clause-fresh : goal.cached-requires-clause-fresh
 cached-requires-clause-fresh c =
-    let h = arc_value c.in_ok-heap-2.heap in
+    let h = (arc_value c.in_ok-heap-2.heap).heap in
     let i = c.loop-pass.invariant in
     let rest : c.loop-pass.pass-iterator.rest.items ≡ c.in-Some.pass ∷ c.next.new.self.rest.items = search rules in
     let left = subst (λ (l : List Pass). AreFrom h c.loop-pass.number l) rest i.left in
-    subst (λ (k : Heap). IsFresh k c.in-Some.pass) (sym c.deref.ensures) left.0
+    subst (λ (k : Heap). IsFresh k c.in-Some.pass) (sym (c.heap-own.ensures ∙ ap (λ (shared : SharedHeap). shared.heap) c.deref.ensures)) left.0
 
 pub loop-pass-preserved : goal.loop-pass-preserved
 loop-pass-preserved c =
-    let h = arc_value c.in_ok-heap-2.heap in
+    let h = (arc_value c.in_ok-heap-2.heap).heap in
     let i = c.loop-pass.invariant in
     let rest : c.loop-pass.pass-iterator.rest.items ≡ c.in-Some.pass ∷ c.next.new.self.rest.items = search rules in
     let left = subst (λ (l : List Pass). AreFrom h c.loop-pass.number l) rest i.left in
@@ -42,7 +44,7 @@ loop-pass-preserved c =
     let new = c.in_ok-cache.ensures.new in
     let pass : made.result.cache.pass ≡ c.in-Some.pass = ap (λ (k : Cache). k.pass) made.ensures.parts.1 ∙ new.0 in
     let hand : IsNew h c.loop-pass.number c.args.depth made.result = record {
-      heap = made.ensures.parts.0 ∙ c.in_ok-share.ensures;
+      heap = ap (λ (shared : SharedHeap). shared.heap) (made.ensures.parts.0 ∙ c.in_ok-share.ensures);
       fresh = subst (IsFresh h) (sym pass) left.0;
       caller = ap (λ (p : Pass). p.errand.caller) pass ∙ left.1;
       blocks = made.ensures.parts.2;
@@ -69,11 +71,11 @@ loop-pass-preserved c =
 
 pub returns : goal.returns
 returns c =
-    let h = arc_value c.in_ok-heap-2.heap in
+    let h = (arc_value c.in_ok-heap-2.heap).heap in
     let i = c.loop-pass.invariant in
     let all : c.loop-pass.number ≡ c.args.geometry.callers =
     omega (arith, c.in-None.ensures.steps.0, c.loop-pass.pass-iterator.rest.ok.0, i.count, c.loop-pass.auto.passes, c.requires.callers) in (
       h,
-      ap (λ (heap : Heap). heap.layout) c.in_ok-heap-2.ensures.ok ∙ c.in_ok-heap.ensures.heap,
+      ap (λ (shared : SharedHeap). shared.heap.layout) c.in_ok-heap-2.ensures.ok ∙ ap (λ (heap : Heap). heap.layout) c.in_ok-shared.ensures ∙ c.in_ok-heap.ensures.heap,
       subst (λ (n : ℕ). HoldNew h c.args.depth n c.loop-pass.passes) all i.given,
     )

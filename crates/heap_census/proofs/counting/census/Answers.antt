@@ -2,7 +2,7 @@ use Rattle.std.proofs.Common.{ℕ, ap, arith, ◌∙◌}
 use Rattle.std.specs.Prelude.{◌==◌, if◌then◌else◌}
 use Rattle.std.specs.Int.{bit_at}
 use Rattle.heap_geometry.specs.declared.geometry.Geometry.{Geometry}
-use Rattle.word_plan.specs.declared.name.WordName.TheVariants as name
+use Rattle.word_table.specs.declared.name.WordName.TheVariants as name
 use Rattle.sound_state.specs.Sums.{sum_below}
 use Rattle.heap_census.specs.Census.{closed_state}
 use Rattle.heap_census.proofs.RestLemmas.{closed-checked, closed-rests}

@@ -2,8 +2,8 @@ use Rattle.std.proofs.Common.{◌≡◌, ◌≤◌, ◌+◌, ◌*◌, ◌^◌, a
 use Rattle.std.proofs.lemmas.Nat.{mul-le}
 use Rattle.heap_geometry.specs.declared.limits.TheConstants.{MAX_HEAPS}
 use Rattle.heap_geometry.specs.Need.{block_count_of}
-use Rattle.word_plan.specs.declared.limits.TheConstants.{MAX_DESCRIPTORS}
-use Rattle.word_plan.specs.Counts.{descriptor_count}
+use Rattle.word_table.specs.declared.limits.TheConstants.{MAX_DESCRIPTORS}
+use Rattle.word_table.specs.Counts.{descriptor_count}
 use Rattle.heap_census.specs.Census.{closed_state}
 use Rattle.heap_census.proofs.ClassLemmas.{IsTallied, class-count, class-within}
 use Rattle.heap_census.proofs.RestLemmas.{closed-checked, count-most, few-descriptors, offers-most}

@@ -1,7 +1,7 @@
 use Rattle.std.proofs.Common.{◌+◌, length, ap, ◌∙◌}
 use Rattle.std.specs.Prelude.{if◌then◌else◌}
 use Rattle.heap_geometry.specs.declared.limits.TheConstants.{CLASSES}
-use Rattle.word_plan.specs.Counts.{descriptor_count}
+use Rattle.word_table.specs.Counts.{descriptor_count}
 use Rattle.sound_state.specs.Sums.{sum_below}
 use Rattle.sound_state.proofs.shared.SumLemmas.{sum-same}
 use Rattle.heap_census.specs.Census.{closed_state, has_class, superblocks_of}

@@ -1,7 +1,7 @@
 use Rattle.std.proofs.Common.{◌≤◌, ap, arith}
 use Rattle.heap_geometry.specs.declared.geometry.Geometry.{Geometry}
 use Rattle.heap_geometry.specs.declared.limits.TheConstants.{MAX_HEAPS}
-use Rattle.word_plan.specs.Counts.{descriptor_count}
+use Rattle.word_table.specs.Counts.{descriptor_count}
 use Rattle.heap_census.specs.Census.{closed_state}
 use Rattle.heap_census.proofs.RestLemmas.{closed-checked, count-most, few-descriptors, offers-most}
 use Rattle.heap_census.proofs.TallyLemmas.{actives-room}

@@ -1,6 +1,6 @@
 use Rattle.std.proofs.Common.{None, ◌≡◌}
 use Rattle.packed_words.specs.Info.{info_of}
-use Rattle.word_plan.specs.declared.name.WordName.TheVariants as name
+use Rattle.word_table.specs.declared.name.WordName.TheVariants as name
 use Rattle.heap_census.specs.Census.{closed_state}
 use Rattle.heap_census.proofs.RestLemmas.{info-there}
 use Rattle.heap_census.proofs.tallies.class_of.Goals as goal

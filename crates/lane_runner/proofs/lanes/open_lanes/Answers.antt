@@ -3,7 +3,7 @@ use Rattle.std.proofs.lemmas.List.{length-map}
 use Rattle.trace_text.specs.declared.trace.Op.{Op}
 use Rattle.trace_text.specs.Traces.{IsOp}
 use Rattle.lane_outcomes.proofs.LanesLemmas.{lane-each}
-use Rattle.lane_steps.specs.States.{IsNew}
+use Rattle.trace_lane.specs.States.{IsNew}
 use Rattle.lane_runner.proofs.DrivenLemmas.{lane-is, new-all, new-more, new-none}
 use Rattle.lane_runner.proofs.lanes.open_lanes.Goals as goal
 

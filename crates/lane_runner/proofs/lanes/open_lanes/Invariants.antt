@@ -1,5 +1,5 @@
 use Rattle.std.proofs.Common.{take}
-use Rattle.lane_steps.specs.States.{AreNew}
+use Rattle.trace_lane.specs.States.{AreNew}
 use Rattle.lane_runner.proofs.lanes.open_lanes.Given as goal
 
 abbrev pub invariant-loop-lane : goal.invariant-loop-lane

@@ -1,5 +1,5 @@
 use Rattle.std.proofs.Common.{◌+◌, if◌then◌else◌, Bool, false, Ok, ap, subst}
-use Rattle.lane_steps.specs.Advances.{AdvancesOn}
+use Rattle.trace_lane.specs.Advances.{AdvancesOn}
 use Rattle.lane_runner.proofs.RunLemmas.{ran-none, next-ran}
 use Rattle.lane_runner.proofs.RunMeasures.{advance-falls}
 use Rattle.lane_runner.proofs.StopLemmas.{on-err}

@@ -1,10 +1,10 @@
 use Rattle.std.proofs.Common.{rules, ℕ, ◌∙◌, sym, ap, subst}
-use Rattle.step_core.specs.Cores.{OwnsAfter}
+use Rattle.step_machine.specs.Cores.{OwnsAfter}
 use Rattle.live_heap.specs.declared.block.Block.{Block}
 use Rattle.live_heap.specs.declared.heap.Heap.{Heap}
 use Rattle.live_heap.specs.declared.pass.Pass.{Pass}
 use Rattle.live_heap.specs.Passes.{seen}
-use Rattle.lane_steps.specs.Made.{HoldsBlocks}
+use Rattle.trace_lane.specs.Made.{HoldsBlocks}
 use Rattle.lane_runner.proofs.WholeLaws.{whole-holds, whole-run}
 use Rattle.lane_runner.proofs.run_lanes.run_lane.Goals as goal
 

@@ -1,4 +1,4 @@
-use Rattle.large_parts.proofs.FitLemmas.{plan-exists, settle-fits}
+use Rattle.large_parts.proofs.PointLemmas.{plan-exists, settle-fits}
 use Rattle.large_parts.proofs.laws.points_fit.Goals as goal
 
 pub returns-clause-names : goal.returns-clause-names

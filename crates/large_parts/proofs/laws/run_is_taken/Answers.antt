@@ -1,4 +1,4 @@
-use Rattle.large_parts.proofs.FitLemmas.{take-step}
+use Rattle.large_parts.proofs.PointLemmas.{take-step}
 use Rattle.large_parts.proofs.UnitLemmas.{with_run-inside, with_run-outside, with_run-below}
 use Rattle.large_parts.proofs.laws.run_is_taken.Goals as goal
 

@@ -1,8 +1,8 @@
 use Rattle.std.proofs.Common.{◌≡◌, arith, ap, ◌∙◌, subst}
 use Rattle.errand_steps.specs.Openings.{opening}
 use Rattle.heap_geometry.specs.declared.geometry.Geometry.{Geometry}
-use Rattle.word_plan.specs.Counts.{descriptor_count}
-use Rattle.word_plan.specs.declared.name.WordName.TheVariants.{Next, FrameNext}
+use Rattle.word_table.specs.Counts.{descriptor_count}
+use Rattle.word_table.specs.declared.name.WordName.TheVariants.{Next, FrameNext}
 use Rattle.live_heap.specs.Linked.{AreLinked}
 use Rattle.live_heap.proofs.Linked.{frame-linked, is-opened, next-linked}
 use Rattle.live_heap.proofs.opened.first_words.Goals as goal

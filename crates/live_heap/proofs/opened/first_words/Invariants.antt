@@ -1,5 +1,5 @@
 use Rattle.live_heap.specs.Linked.{AreLinked}
-use Rattle.word_plan.specs.Counts.{descriptor_count}
+use Rattle.word_table.specs.Counts.{descriptor_count}
 use Rattle.live_heap.proofs.opened.first_words.Given as goal
 
 abbrev pub invariant-loop-desc : goal.invariant-loop-desc

@@ -1,5 +1,4 @@
-use Rattle.partial_parts.proofs.FitLemmas.{plan-exists, settle-fits}
-use Rattle.partial_parts.proofs.SeatLemmas.{settle-seat}
+use Rattle.partial_parts.proofs.PointLemmas.{plan-exists, settle-fits, settle-seat}
 use Rattle.partial_parts.proofs.laws.points_fit.Goals as goal
 
 pub returns-clause-names : goal.returns-clause-names

@@ -3,7 +3,7 @@ use Rattle.live_heap.specs.declared.pass.Pass.{Pass}
 use Rattle.live_heap.specs.Contents.{owned_in}
 use Rattle.typed_store.specs.Passings.{Rests}
 use Rattle.typed_store.proofs.PassLemmas.{rests-on}
-use Rattle.store_runner.specs.Ends.{Keeps}
+use Rattle.store_runner.specs.Ends.{IsSpelled}
 use Rattle.store_runner.proofs.KeepLemmas.{store-keeps}
 use Rattle.std.proofs.Common.{[], ◌∷◌}
 use Rattle.store_runner.proofs.script.read_back.Goals as goal
@@ -17,7 +17,7 @@ returns-clause-rests c =
 
 pub returns-clause-keeps : goal.returns-clause-keeps
 returns-clause-keeps c = λ pairs words has are.
-    subst (λ (p : Pass). Keeps (owned_in p) pairs words) (sym c.close.ensures)
+    subst (λ (p : Pass). IsSpelled (owned_in p) pairs words) (sym c.close.ensures)
     (store-keeps c.args.heap.now c.record.new.self pairs words c.record.ensures.ready
     (c.record.ensures.list pairs (c.list.ensures.list pairs has))
     (c.record.ensures.records (words ∷ []) (c.list.ensures.records (words ∷ []) are)))

@@ -3,7 +3,7 @@ use Rattle.std.specs.Fmt.{decimal}
 use Rattle.std.specs.List.{flat_map, range_with_len}
 use Rattle.pool_model.specs.Pool.{Block, live_words, pool_of}
 use Rattle.trace_text.specs.Text.{line}
-use Rattle.command_parts.specs.Command.{piping_words}
+use Rattle.command_line.specs.Command.{piping_words}
 use Rattle.pipe_runner.specs.Runs.{IsPipeRun}
 use Rattle.trace_commands.specs.Pipes.{sender_line}
 use Rattle.trace_commands.proofs.piped.pipe.Goals as goal

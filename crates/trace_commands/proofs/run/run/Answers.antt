@@ -1,5 +1,5 @@
 use Rattle.std.proofs.Common.{Err, ap, inl, inr, lit<, refl, rules}
-use Rattle.command_parts.specs.Command.{has_input}
+use Rattle.command_line.specs.Command.{has_input}
 use Rattle.trace_commands.proofs.RunLemmas.{known-stop, reported-answers, refused-answers, stop-answers}
 use Rattle.trace_commands.proofs.run.run.Goals as goal
 

@@ -1,6 +1,6 @@
 use Rattle.std.proofs.Common.{◌≡◌, ◌≤◌, ◌*◌, ◌^◌}
 use Rattle.sound_state.specs.Sums.{sum_below}
-use Rattle.step_core.specs.Cores.{errand_at}
+use Rattle.step_machine.specs.Cores.{errand_at}
 use Rattle.trace_commands.proofs.steps.cleared_in.Given as goal
 
 abbrev pub invariant-loop-caller : goal.invariant-loop-caller

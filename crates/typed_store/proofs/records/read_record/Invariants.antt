@@ -1,14 +1,14 @@
 use Rattle.std.proofs.Common.{ℕ, ◌≡◌, ◌<◌, List, length}
 use Rattle.std.specs.List.{slice_get}
 use Rattle.std.specs.Vec.{vec_capacity, vec_len}
-use Rattle.typed_store.specs.Passings.{Reads}
+use Rattle.typed_store.specs.Passings.{KeepsWords}
 use Rattle.typed_store.specs.Records.{IsRecord}
 use Rattle.typed_store.proofs.records.read_record.Given as goal
 
 -- whatever record stands there, so many of its words are read
 abbrev pub invariant-loop-i : goal.invariant-loop-i
 invariant-loop-i l = record {
-  reads : Reads l.heap l.fn.pass l.pass;
+  reads : KeepsWords l.heap l.fn.pass l.pass;
   room : (vec_len l.words ≡ l.i) × (vec_capacity l.words ≡ l.count);
   long : length l.words.items ≡ l.i;
   each : (words : List ℕ) → IsRecord l.fn.pass l.block words

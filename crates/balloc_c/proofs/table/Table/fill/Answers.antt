@@ -1,6 +1,6 @@
 use Rattle.std.proofs.Common.{ℕ, ◌≡◌, Some, List, sym, ap, ◌∙◌, subst}
 use Rattle.balloc_c.specs.declared.table.Slot.{Slot}
-use Rattle.balloc_c.specs.Numbers.{Gains}
+use Rattle.balloc_c.specs.Numbers.{NamesOneMore}
 use Rattle.balloc_c.specs.Slots.{set_block}
 use Rattle.balloc_c.proofs.Numbers.{gains-set}
 use Rattle.balloc_c.proofs.table.Table.fill.Goals as goal
@@ -11,5 +11,5 @@ returns-clause-gains c =
     let u = c.set.new.self in
     let slots : u.slots.items ≡ set_block t.slots.items c.args.index (Some c.args.block) =
     c.set.ensures.slots ∙ ap (λ (l : List Slot). set_block l c.args.index (Some c.args.block)) c.unspare.ensures in
-    subst (λ (n : ℕ). Gains t n c.args.block u) (sym c.number.ensures)
+    subst (λ (n : ℕ). NamesOneMore t n c.args.block u) (sym c.number.ensures)
     (gains-set t u c.args.index c.args.block c.requires.small c.requires.vacant slots)

@@ -7,12 +7,12 @@ use Rattle.live_heap.specs.Answers.{TakeTells}
 use Rattle.block_pipe.specs.declared.note.Note.{Note}
 use Rattle.block_pipe.specs.declared.pipe.Pipe.{Pipe}
 use Rattle.block_pipe.specs.declared.receiver.Receiver.{Receiver}
-use Rattle.block_pipe.specs.Answers.{Serves, note_of}
+use Rattle.block_pipe.specs.Answers.{HasComeTo, note_of}
 use Rattle.block_pipe.specs.Ends.{ComesTo, IsNextIn, IsReceiver, popped_by}
 use Rattle.block_pipe.proofs.receiver.Receiver.recv.Goals as goal
 
 -- a receiver that has come to a note keeps it, and it is the last one popped
-served : (pipe : Pipe) (r t : Receiver) (note : Note) → IsReceiver pipe t → t.kept ≡ Some note → ComesTo pipe r note t → Serves pipe r note t
+served : (pipe : Pipe) (r t : Receiver) (note : Note) → IsReceiver pipe t → t.kept ≡ Some note → ComesTo pipe r note t → HasComeTo pipe r note t
 served pipe r t note is kept comes =
     let last : (before : List Note) × (popped_by t ≡ before ++ note ∷ []) × IsNextIn pipe before note =
     subst (λ (o : Option Note). IfSome o (λ n. (before : List Note) × (popped_by t ≡ before ++ n ∷ []) × IsNextIn pipe before n)) kept is.last in
@@ -49,11 +49,11 @@ returns-then-place-note-clause-tells g c =
     let note = c.in-Some.note in
     let s = served pipe r t note c.note.ensures.of c.in-Some.ensures.kept c.in-Some.ensures.note in
     let u : Receiver = record t { kept = None } in
-    let serves : Serves pipe r note u = record { comes = s.comes; before = s.before; last = s.last; next = s.next } in
+    let serves : HasComeTo pipe r note u = record { comes = s.comes; before = s.before; last = s.last; next = s.next } in
     let place : note.place ≡ block.place = sym c.if-place-note.true ∙ c.place.ensures in
     let same : note ≡ note_of pipe note.sender note.seq block.place =
     λ i. record { sender = note.sender; seq = note.seq; shelf = s.next.shelf i; place = place i } in (
-      subst (λ (n : Note). Serves pipe r n u) same serves,
+      subst (λ (n : Note). HasComeTo pipe r n u) same serves,
       refl,
       subst (λ (k : ℕ). TakeTells c.args.pass.now k (taken.Got block) c.take.new.pass) s.next.shelf c.in-Got.ensures.tells,
     )

@@ -5,7 +5,7 @@ use Rattle.block_pipe.specs.declared.pipe.Pipe.{Pipe}
 use Rattle.block_pipe.specs.declared.rule.Known.{Known}
 use Rattle.block_pipe.specs.declared.sender.Sender.{Sender}
 use Rattle.block_pipe.specs.Ends.{IsNextIn, IsSender, pushed_by}
-use Rattle.block_pipe.specs.Notes.{IsNext, StandsFor, of_sender}
+use Rattle.block_pipe.specs.Notes.{MayComeNext, StandsFor, of_sender}
 use Rattle.block_pipe.proofs.NoteMoves.{of-same, sends, stands-learn}
 use Rattle.block_pipe.proofs.sender.Sender.flush.Goals as goal
 
@@ -24,7 +24,7 @@ push_as-requires-clause-rule g c =
     let v = view s.end in
     let next = next-of c.args.pipe.now s note r c.in-Some.is in
     let stands : StandsFor v note.sender = (omega (arith, next.0, r.from), omega (arith, next.0, r.until)) in (
-      sends _ s.end.id v note r.set stands (subst₂ (λ (m n : ℕ). IsNext m n v.sent note) (sym r.senders) (sym r.shelves) next.1),
+      sends _ s.end.id v note r.set stands (subst₂ (λ (m n : ℕ). MayComeNext m n v.sent note) (sym r.senders) (sym r.shelves) next.1),
       stands-learn s.end.id v,
     )
 

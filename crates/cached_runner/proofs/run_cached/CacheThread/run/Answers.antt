@@ -1,7 +1,7 @@
 use Rattle.std.proofs.Common.{◌≡◌, ◌<◌, ◌^◌, length, ap, ◌∙◌, subst}
 use Rattle.trace_text.specs.declared.trace.Op.{Op}
 use Rattle.std.specs.Prelude.{List}
-use Rattle.lane_steps.specs.Paths.{FirstPassed}
+use Rattle.trace_lane.specs.Paths.{FirstPassed}
 use Rattle.lane_runner.specs.Running.{operations_in}
 use Rattle.cached_runner.specs.Threads.{HasRunThrough}
 use Rattle.cached_runner.proofs.run_cached.CacheThread.run.Goals as goal

@@ -5,10 +5,10 @@ use lib.ListN.{get_elem?}
 use Rattle.std.specs.Slots.{slots_items}
 use Rattle.placed_words.specs.Places.{words_at}
 use Rattle.placed_words.proofs.WordsLemmas.{at-words_at}
-use Rattle.word_plan.proofs.TableLemmas.{word_index-within}
-use Rattle.word_plan.specs.Table.{Exists, word_index}
-use Rattle.word_plan.specs.Words.{word_in}
-use Rattle.word_plan.proofs.WordLemmas.{word_in-there}
+use Rattle.word_table.proofs.TableLemmas.{word_index-within}
+use Rattle.word_table.specs.Table.{Exists, word_index}
+use Rattle.word_table.specs.Words.{word_in}
+use Rattle.word_table.proofs.WordLemmas.{word_in-there}
 use Rattle.live_heap.specs.Endings.{ClosedFields}
 use Rattle.live_heap.proofs.closed.Closed.word.Goals as goal
 

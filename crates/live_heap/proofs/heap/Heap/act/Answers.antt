@@ -1,7 +1,7 @@
 use Rattle.std.proofs.Common.{ap, ◌∙◌, sym, subst, refl}
-use Rattle.word_plan.specs.declared.action.Action.{Action}
-use Rattle.word_plan.specs.Actions.{name_of, found_by}
-use Rattle.word_plan.specs.Table.{Exists}
+use Rattle.word_table.specs.declared.action.Action.{Action}
+use Rattle.word_table.specs.Actions.{name_of, found_by}
+use Rattle.word_table.specs.Table.{Exists}
 use Rattle.errand_steps.specs.Errands.{ErrandFields, answer_of, settle_of}
 use Rattle.errand_steps.proofs.BlindLemmas.{errand-blind, answer-blind}
 use Rattle.live_heap.proofs.Moves.{may-load, may-store, may-exchange, may-swap, may-and}

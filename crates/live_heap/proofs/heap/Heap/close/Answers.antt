@@ -5,7 +5,7 @@ use Rattle.placed_words.specs.Places.{words_at}
 use Rattle.heap_geometry.specs.declared.geometry.Geometry.{Geometry}
 use Rattle.live_heap.specs.declared.view.View.{View}
 use Rattle.live_heap.specs.Endings.{HasAccesses, HasTakenIn, IsCounted, IsResting, closed_with}
-use Rattle.live_heap.specs.Rule.{Kept}
+use Rattle.live_heap.specs.Rule.{KeptTable}
 use Rattle.live_heap.proofs.Ending.{IsLast, last-accesses, last-rests, last-counted, last-taken}
 use Rattle.live_heap.proofs.Gathering.{idle-at}
 use Rattle.live_heap.proofs.heap.Heap.close.Goals as goal
@@ -18,7 +18,7 @@ last c =
     let f = c.close_with.ensures.values.2 in
     let s = f.0 in
     let seat = c.gather-seat.result.seat in
-    let kept : Kept g (words_at g s.words) s.views = subst (λ (k : Geometry). Kept k (words_at k s.words) s.views) c.args.self.laid.2 f.1.0.1 in
+    let kept : KeptTable g (words_at g s.words) s.views = subst (λ (k : Geometry). KeptTable k (words_at k s.words) s.views) c.args.self.laid.2 f.1.0.1 in
     subst (λ (ws : List ℕ). IsLast g (words_at g ws) seat.me.0) f.2
     (record { views = s.views; id = seat.id; kept = kept; at = f.1.1; all = c.gather-seat.ensures.all })
 

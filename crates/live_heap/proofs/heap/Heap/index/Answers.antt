@@ -1,4 +1,4 @@
-use Rattle.word_plan.proofs.TableLemmas.{word_index-within}
+use Rattle.word_table.proofs.TableLemmas.{word_index-within}
 use Rattle.live_heap.proofs.heap.Heap.index.Goals as goal
 
 pub returns-clause-number : goal.returns-clause-number

@@ -1,7 +1,7 @@
 use Rattle.std.proofs.Common.{◌<◌, ◌+◌, subst, sym}
-use Rattle.word_plan.specs.Table.{word_index}
-use Rattle.word_plan.specs.declared.name.WordName.TheVariants.{Arena}
-use Rattle.word_plan.proofs.TableLemmas.{word_index-within}
+use Rattle.word_table.specs.Table.{word_index}
+use Rattle.word_table.specs.declared.name.WordName.TheVariants.{Arena}
+use Rattle.word_table.proofs.TableLemmas.{word_index-within}
 use Rattle.placed_words.specs.Places.{placed_count}
 use Rattle.placed_words.proofs.KindLemmas.{start-place}
 use Rattle.placed_words.proofs.PlaceLemmas.{place-within}

@@ -1,5 +1,5 @@
 use Rattle.std.proofs.Common.{◌<◌, ◌+◌, refl, subst}
-use Rattle.word_plan.specs.Counts.{arena_words}
+use Rattle.word_table.specs.Counts.{arena_words}
 use Rattle.errand_steps.specs.Calls.{Call, begun_by, read}
 use Rattle.live_heap.specs.declared.answers.Ending.TheVariants as ending
 use Rattle.live_heap.specs.declared.answers.Step.TheVariants as step

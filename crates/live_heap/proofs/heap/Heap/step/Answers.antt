@@ -1,8 +1,8 @@
 use Rattle.std.proofs.Common.{ap, sym, ◌∙◌, subst}
-use Rattle.word_plan.specs.Actions.{name_of}
-use Rattle.word_plan.specs.Table.{Exists}
+use Rattle.word_table.specs.Actions.{name_of}
+use Rattle.word_table.specs.Table.{Exists}
 use Rattle.errand_steps.specs.Errands.{ErrandFields}
-use Rattle.step_core.proofs.MomentAnswers.{settle-caller}
+use Rattle.step_machine.proofs.MomentAnswers.{settle-caller}
 use Rattle.live_heap.specs.declared.pass.Pass.{Pass}
 use Rattle.live_heap.specs.Answers.{GivesBack, IsAnswerable}
 use Rattle.live_heap.proofs.Begun.{of-laid}

@@ -1,7 +1,7 @@
 use Rattle.std.proofs.Common.{ap, sym, subst, ◌∙◌, refl}
-use Rattle.word_plan.specs.declared.action.Action.{Action}
-use Rattle.word_plan.specs.Actions.{name_of}
-use Rattle.word_plan.specs.Table.{Exists}
+use Rattle.word_table.specs.declared.action.Action.{Action}
+use Rattle.word_table.specs.Actions.{name_of}
+use Rattle.word_table.specs.Table.{Exists}
 use Rattle.errand_steps.specs.Begins.{IsBusy}
 use Rattle.errand_steps.specs.Errands.{plan_of}
 use Rattle.errand_steps.proofs.PlanLemmas.{plan-exists}

@@ -1,6 +1,6 @@
 use Rattle.std.proofs.Common.{◌+◌, sym, subst, ◌∙◌}
-use Rattle.word_plan.specs.declared.name.WordName.TheVariants.{Arena}
-use Rattle.word_plan.proofs.TableLemmas.{word_index-within}
+use Rattle.word_table.specs.declared.name.WordName.TheVariants.{Arena}
+use Rattle.word_table.proofs.TableLemmas.{word_index-within}
 use Rattle.placed_words.proofs.KindLemmas.{start-place}
 use Rattle.errand_steps.specs.Calls.{begun_by, write}
 use Rattle.errand_steps.specs.Errands.{ErrandFields}

@@ -1,5 +1,5 @@
 use Rattle.std.proofs.Common.{◌<◌, ◌+◌, arith, subst}
-use Rattle.word_plan.specs.Counts.{arena_words}
+use Rattle.word_table.specs.Counts.{arena_words}
 use Rattle.errand_steps.specs.Calls.{Call, begun_by, write}
 use Rattle.live_heap.specs.declared.answers.Ending.TheVariants as ending
 use Rattle.live_heap.specs.declared.pass.Pass.{Pass}

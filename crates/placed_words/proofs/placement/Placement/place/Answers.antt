@@ -1,5 +1,5 @@
-use Rattle.word_plan.proofs.TableLemmas.{word_index-within}
-use Rattle.word_plan.specs.Table.{word_index}
+use Rattle.word_table.proofs.TableLemmas.{word_index-within}
+use Rattle.word_table.specs.Table.{word_index}
 use Rattle.placed_words.proofs.PlaceLemmas.{place-within}
 use Rattle.placed_words.proofs.KindLemmas.{known-fits, known-place}
 use Rattle.placed_words.proofs.placement.Placement.place.Goals as goal

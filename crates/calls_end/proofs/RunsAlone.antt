@@ -1,0 +1,156 @@
+-- What a caller's own turns come to, however many there are.
+use Rattle.std.proofs.Common.{ℕ, zero, suc, ◌≡◌, ◌<◌, ◌≤◌, ◌+◌, ◌*◌, ◌^◌, arith, ap, sym, subst, inl, inr, ◌∙◌, ◌-◌, replicate}
+use Rattle.std.proofs.lemmas.Bool.{cases_Bool, true≢false}
+use Rattle.sound_state.proofs.Common.{Geometry, descriptor_count, counts_lost, counts_cleared, State, Step, found_at, IsSound, in_turn, one_if}
+use Rattle.heap_geometry.specs.declared.limits.TheConstants.{CALL_STEPS}
+use Rattle.word_table.proofs.CountLemmas.{descriptor_count_within}
+use Rattle.errand_steps.specs.Begins.{IsIdle}
+use Rattle.errand_steps.specs.Points.{is_idle}
+use Rattle.errand_steps.specs.Steps.{Run}
+use Rattle.calls_end.specs.Alone.{stale_words, empty_for, emptied_for, class_at, clearings, alone_left}
+use Rattle.calls_end.specs.StepsLeft.{steps_left}
+use Rattle.sound_state.proofs.CountedLemmas.{without-counts, steps-counted}
+use Rattle.calls_end.proofs.AloneLemmas.{alone-falls, alone-stale, step-there}
+use Rattle.calls_end.proofs.EmptiedLemmas.{cond-most, clearings-fall}
+use Rattle.calls_end.proofs.RunsShort.{most-left, raised-one, step-counts}
+use Rattle.calls_end.proofs.LeftSteps.{steps-go_on}
+use Rattle.calls_end.proofs.StaleMost.{stale-most}
+use Rattle.sound_state.proofs.shared.StepLemmas.{raised-least, raised-most, raised-by}
+use Rattle.sound_state.proofs.shared.SumLemmas.{sum-most}
+use Rattle.sound_state.proofs.shared.TagLemmas.{cleared-below}
+use Rattle.sound_state.proofs.shared.TurnEffects.{one_if-most}
+
+-- so many steps of a caller lead from the first state to the second: what it lost and cleared, and what is left
+pub record LeadsAlone (g : Geometry) (s : State) (caller n : ℕ) (s' : State) : Type 0 where
+  pub left : n + alone_left g s' caller ≤ alone_left g s caller
+  pub lost : (s.errand caller).lost ≤ (s'.errand caller).lost
+  pub met : (s'.errand caller).lost + stale_words g s' caller ≤ (s.errand caller).lost + stale_words g s caller
+  pub cleared : (s.errand caller).cleared ≤ (s'.errand caller).cleared
+  pub emptied : (s'.errand caller).cleared + clearings g s' caller ≤ (s.errand caller).cleared + clearings g s caller
+  pub few :
+      (s'.errand caller).lost + 1 < 2 ^ 64
+      → n + CALL_STEPS * ((s.errand caller).lost + (s.errand caller).cleared) + steps_left g (s'.errand caller).point
+      ≤ CALL_STEPS * ((s'.errand caller).lost + (s'.errand caller).cleared) + steps_left g (s.errand caller).point
+
+-- no steps
+stays-alone : (g : Geometry) (s : State) (caller : ℕ) → LeadsAlone g s caller 0 s
+stays-alone g s caller = record {
+  left = omega arith;
+  lost = omega arith;
+  met = omega arith;
+  cleared = omega arith;
+  emptied = omega arith;
+  few = λ room. omega arith;
+}
+
+-- some, and then some more
+then-alone :
+    (g : Geometry) (s : State) (caller n : ℕ) (t : State) (m : ℕ) (s' : State) → LeadsAlone g s caller n t → LeadsAlone g t caller m s'
+    → LeadsAlone g s caller (n + m) s'
+then-alone g s caller n t m s' a b = record {
+  left = omega (arith, a.left, b.left);
+  lost = omega (arith, a.lost, b.lost);
+  met = omega (arith, a.met, b.met);
+  cleared = omega (arith, a.cleared, b.cleared);
+  emptied = omega (arith, a.emptied, b.emptied);
+  few = λ room. let early : (t.errand caller).lost + 1 < 2 ^ 64 = omega (arith, room, b.lost) in omega (arith, a.few early, b.few room);
+}
+
+-- one step
+step-alone : (g : Geometry) (s : State) (caller : ℕ) (s' : State) → IsSound g s → caller < g.callers → Step s caller s' → LeadsAlone g s caller 1 s'
+step-alone g s caller s' sound has step =
+    let e = s.errand caller in
+    let plain = without-counts g s sound in
+    let after = steps-counted g s caller s' sound has step in
+    let b = counts_lost e.point (found_at s caller) in
+    let c = counts_cleared e.point (found_at s caller) in
+    let counts = step-counts s caller s' step in
+    let cleared : (s'.errand caller).cleared ≡ e.cleared + one_if c =
+    counts.1 ∙ raised-by c e.cleared (cleared-below g s plain caller has) in
+    let most = most-left g s' caller after has in
+    record {
+      left = omega (arith, alone-falls g s caller s' sound has step);
+      lost = omega (arith, counts.0, raised-least b e.lost (sound.parts.1.errands caller has).lost);
+      met = omega (arith, counts.0, raised-most b e.lost, alone-stale g s caller s' sound has step);
+      cleared = omega (arith, cleared);
+      emptied = omega (arith, cleared, clearings-fall g s caller s' plain (without-counts g s' after) has step);
+      few = λ room.
+          let up : (s'.errand caller).lost ≡ e.lost + one_if b = counts.0 ∙ raised-one b e.lost (omega (arith, room, counts.0)) in
+          elim (steps-go_on g s caller s' plain has step) [
+            | inl loses ↦ omega (arith, up, cleared, most, ap one_if loses)
+            | inr rest ↦
+                elim rest [ inl clears ↦ omega (arith, up, cleared, most, ap one_if clears) | inr fewer ↦ omega (arith, up, cleared, fewer) ]
+          ];
+    }
+
+-- any turns
+pub runs-alone :
+    (g : Geometry) (turns : ℕ) (s : State) (caller n : ℕ) (s' : State) → IsSound g s → caller < g.callers → Run s (replicate turns caller) n s'
+    → LeadsAlone g s caller n s'
+runs-alone g zero s caller n s' sound has run =
+    subst (λ t. LeadsAlone g s caller n t) (sym run.1) (subst (λ k. LeadsAlone g s caller k s) (sym run.0) (stays-alone g s caller))
+runs-alone g (suc turns) s caller n s' sound has (t, first, others, turn, run, total) =
+    elim turn [
+      | inl idle ↦
+          let here : Run s (replicate turns caller) others s' = subst (λ u. Run u (replicate turns caller) others s') idle.2 run in
+          let same : others ≡ n = omega (arith, total, idle.1) in
+          subst (λ k. LeadsAlone g s caller k s') same (runs-alone g turns s caller others s' sound has here)
+      | inr one ↦
+          let same : 1 + others ≡ n = omega (arith, total, one.1) in
+          subst (λ k. LeadsAlone g s caller k s') same
+          (then-alone g s caller 1 t others s' (step-alone g s caller t sound has one.0)
+          (runs-alone g turns t caller others s' (steps-counted g s caller t sound has one.0) has run))
+    ]
+
+-- a caller that is in no call stays so
+pub idle-stays :
+    (turns : ℕ) (s : State) (caller n : ℕ) (s' : State) → IsIdle (s.errand caller) → Run s (replicate turns caller) n s' → IsIdle (s'.errand caller)
+idle-stays zero s caller n s' idle run = subst (λ t. IsIdle (t.errand caller)) (sym run.1) idle
+idle-stays (suc turns) s caller n s' idle (t, first, others, turn, run, total) =
+    elim turn [
+      | inl none ↦ idle-stays turns s caller others s' idle (subst (λ u. Run u (replicate turns caller) others s') none.2 run)
+      | inr one ↦ absurd (true≢false (sym idle ∙ one.0.busy))
+    ]
+
+-- as many turns as are left end its call
+pub ends-alone :
+    (g : Geometry) (turns : ℕ) (s : State) (caller n : ℕ) (s' : State) → IsSound g s → caller < g.callers → alone_left g s caller ≤ turns
+    → Run s (replicate turns caller) n s' → IsIdle (s'.errand caller)
+ends-alone g zero s caller n s' sound has left run =
+    subst (λ t. IsIdle (t.errand caller)) (sym run.1)
+    (elim (cases_Bool (is_idle (s.errand caller).point)) [
+      | inl idle ↦ idle
+      | inr busy ↦ let (t, step) = step-there s caller busy in absurd (omega (arith, left, alone-falls g s caller t sound has step))
+    ])
+ends-alone g (suc turns) s caller n s' sound has left (t, first, others, turn, run, total) =
+    elim turn [
+      | inl idle ↦ idle-stays turns s caller others s' idle.0 (subst (λ u. Run u (replicate turns caller) others s') idle.2 run)
+      | inr one ↦
+          ends-alone g turns t caller others s' (steps-counted g s caller t sound has one.0) has
+          (omega (arith, left, alone-falls g s caller t sound has one.0)) run
+    ]
+
+-- fewer than a call's steps, and as many more for each stale word and each superblock to clear
+pub alone-most :
+    (g : Geometry) (s : State) (caller : ℕ) → IsSound g s → caller < g.callers
+    → alone_left g s caller < CALL_STEPS * (1 + stale_words g s caller + clearings g s caller)
+alone-most g s caller sound has = omega (arith, most-left g s caller sound has)
+
+-- so many steps fit a count
+clearings-most : (g : Geometry) (s : State) (caller : ℕ) → clearings g s caller ≤ descriptor_count g
+clearings-most g s caller =
+    let each : emptied_for g s (class_at (s.errand caller).point) ≤ descriptor_count g * 1 =
+    sum-most (descriptor_count g) (empty_for g s (class_at (s.errand caller).point)) 1 (λ d lt. one_if-most _) in
+    omega (arith, each, cond-most (in_turn (s.errand caller).point) (emptied_for g s (class_at (s.errand caller).point)))
+
+pub alone-below : (g : Geometry) (s : State) (caller : ℕ) → IsSound g s → caller < g.callers → alone_left g s caller < 2 ^ 64
+alone-below g s caller sound has =
+    omega (arith, alone-most g s caller sound has, stale-most g s caller, clearings-most g s caller, descriptor_count_within g sound.checked)
+
+-- and for each exchange that was lost and each superblock that was cleared
+pub leads-few :
+    (g : Geometry) (s : State) (caller n : ℕ) (s' : State) → IsSound g s → caller < g.callers → LeadsAlone g s caller n s'
+    → (s'.errand caller).lost + 1 < 2 ^ 64
+    → n < CALL_STEPS * (1 + ((s'.errand caller).lost - (s.errand caller).lost) + ((s'.errand caller).cleared - (s.errand caller).cleared))
+leads-few g s caller n s' sound has leads room =
+    omega (arith, most-left g s caller sound has, leads.lost, leads.cleared, leads.few room)

@@ -1,0 +1,138 @@
+-- A step of a caller makes no word stale for it, and one that is lost finds a stale word, which is stale no more.
+use Rattle.std.proofs.Common.{ℕ, Bool, true, false, ◌≡◌, ◌≢◌, ◌<◌, ◌≤◌, ◌+◌, refl, arith, ap, sym, subst, inl, inr, ◌∙◌, ◌==◌, not, if◌then◌else◌, [], Any}
+use Rattle.std.specs.List.{list_any}
+use Rattle.std.proofs.lemmas.Bool.{cases_eq, cases_Bool, cond-true, cond-false, eq-eqb, ne_eqb, and_parts, and_from, true≢false}
+use Rattle.std.proofs.lemmas.List.Folds.{Any-from_list_any, list_any-from_Any}
+use Rattle.sound_state.proofs.Common.{Geometry, WordName, word_count, Exists, word_name, cases_name, counts_lost, settle_of, State, Step, action_at, name_at}
+use Rattle.sound_state.proofs.Common.{word_at, found_at, sum_below, one_if}
+use Rattle.word_table.specs.Table.{word_index}
+use Rattle.word_table.proofs.TableLemmas.{word_index-within, word_index-word_name, word_name-word_index}
+use Rattle.calls_end.specs.Alone.{is_stale_by, is_stale, stale_words}
+use Rattle.lost_exchanges.specs.Expectations.{Expected, expects_of}
+use Rattle.lost_exchanges.specs.Wins.{same_name}
+use Rattle.sound_state.proofs.shared.SumLemmas.{sum-change, sum-least, sum-none}
+use Rattle.lost_exchanges.proofs.ExpectLemmas.{some-all}
+use Rattle.lost_exchanges.proofs.NoteLemmas.{ExpectsAfter}
+use Rattle.lost_exchanges.proofs.SameNames.{same-name-is, same-name-one}
+use Rattle.lost_exchanges.proofs.WinDefs.{LosesOn, MayExpect}
+
+-- a word that is stale after the step: by something that the caller carries or sees
+stale-after :
+    (s : State) (caller : ℕ) (s' : State) (m : WordName) → Step s caller s' → ExpectsAfter s caller → is_stale s' caller m ≡ true
+    → (e : Expected) × MayExpect (s.errand caller).point (action_at s caller) (found_at s caller) e × (e.word ≡ m) × (s'.word m ≢ e.value)
+stale-after s caller s' m step expects stale =
+    let q = (settle_of (s.errand caller) (found_at s caller)).point in
+    let some : Any (λ e. is_stale_by s' m e ≡ true) (expects_of q) =
+    subst (λ f. Any (λ e. is_stale_by s' m e ≡ true) (expects_of f.point)) step.errand.here
+    (Any-from_list_any (is_stale_by s' m) (expects_of (s'.errand caller).point) stale) in
+    let (e, may, is) =
+    some-all (MayExpect (s.errand caller).point (action_at s caller) (found_at s caller)) (λ e. is_stale_by s' m e ≡ true) (expects_of q) expects some in
+    let both = and_parts (same_name e.word m) (not (s'.word m == e.value)) is in
+    (e, may, same-name-is e.word m both.0, λ same. absurd (grind (arith, both.1, same)))
+
+-- something that is expected of the word and differs makes it stale
+stale-by :
+    (s : State) (caller : ℕ) (m : WordName) → Any (λ e. (e.word ≡ m) × (s.word m ≢ e.value)) (expects_of (s.errand caller).point)
+    → is_stale s caller m ≡ true
+stale-by s caller m (k, e, lt, at, (word, differs)) =
+    list_any-from_Any (is_stale_by s m) (expects_of (s.errand caller).point) (
+      k,
+      e,
+      lt,
+      at,
+      and_from (same_name e.word m) (not (s.word m == e.value)) (same-name-one e.word m word)
+          (ap not (ne_eqb (s.word m) e.value differs)),
+    )
+
+-- no other word becomes stale
+stale-apart :
+    (s : State) (caller : ℕ) (s' : State) (m : WordName) → Step s caller s' → ExpectsAfter s caller → m ≢ name_at s caller → is_stale s' caller m ≡ true
+    → is_stale s caller m ≡ true
+stale-apart s caller s' m step expects apart stale =
+    let (e, may, word, differs) = stale-after s caller s' m step expects stale in
+    elim may [
+      | inl carried ↦
+          let (k, x, lt, stands, same) = carried.0 in
+          stale-by s caller m
+          (k, x, lt, stands, (ap (λ y. y.word) same ∙ word, λ is. differs (step.word.elsewhere m apart ∙ is ∙ ap (λ y. y.value) same)))
+      | inr seen ↦ absurd (apart (sym word ∙ seen.word))
+    ]
+
+-- the step's word is stale no more
+pub stale-here :
+    (s : State) (caller : ℕ) (s' : State) → Step s caller s' → ExpectsAfter s caller → is_stale s' caller (name_at s caller) ≡ false
+stale-here s caller s' step expects =
+    elim (cases_Bool (is_stale s' caller (name_at s caller))) [
+      | inl stale ↦
+          let (e, may, word, differs) = stale-after s caller s' (name_at s caller) step expects stale in
+          elim may [ inl carried ↦ absurd (carried.1 word) | inr seen ↦ absurd (differs (step.word.here ∙ seen.value)) ]
+      | inr isnt ↦ isnt
+    ]
+
+-- so none becomes stale
+pub stale-kept :
+    (s : State) (caller : ℕ) (s' : State) (m : WordName) → Step s caller s' → ExpectsAfter s caller → is_stale s' caller m ≡ true → is_stale s caller m ≡ true
+stale-kept s caller s' m step expects stale =
+    elim (cases_name m (name_at s caller)) [
+      | inl here ↦ absurd (true≢false (sym (ap (is_stale s' caller) (sym here) ∙ stale) ∙ stale-here s caller s' step expects))
+      | inr apart ↦ stale-apart s caller s' m step expects apart stale
+    ]
+
+-- a step that counts as lost finds its word stale
+pub lost-met :
+    (s : State) (caller : ℕ) → LosesOn (s.errand caller).point (word_at s caller) → counts_lost (s.errand caller).point (found_at s caller) ≡ true
+    → is_stale s caller (name_at s caller) ≡ true
+lost-met s caller loses lost = stale-by s caller (name_at s caller) (loses lost)
+
+lost-stale :
+    (s : State) (caller : ℕ) → LosesOn (s.errand caller).point (word_at s caller)
+    → one_if (counts_lost (s.errand caller).point (found_at s caller)) ≤ one_if (is_stale s caller (name_at s caller))
+lost-stale s caller loses =
+    elim (cases_Bool (counts_lost (s.errand caller).point (found_at s caller))) [
+      | inl lost ↦
+          let stale : is_stale s caller (name_at s caller) ≡ true = lost-met s caller loses lost in
+          omega (arith, ap one_if lost, ap one_if stale)
+      | inr isnt ↦ omega (arith, ap one_if isnt)
+    ]
+
+one-least : (a b : Bool) → (a ≡ true → b ≡ true) → one_if a ≤ one_if b
+one-least true b follows = omega (arith, ap one_if (follows refl))
+one-least false b follows = omega arith
+
+-- so the stale words grow by none, and are one fewer after a lost step
+pub stale-falls :
+    (g : Geometry) (s : State) (caller : ℕ) (s' : State) → Exists g (name_at s caller) → Step s caller s' → ExpectsAfter s caller
+    → LosesOn (s.errand caller).point (word_at s caller)
+    → stale_words g s' caller + one_if (counts_lost (s.errand caller).point (found_at s caller)) ≤ stale_words g s caller
+stale-falls g s caller s' exists step expects loses =
+    let n = name_at s caller in
+    let i = word_index g n in
+    let before = λ (k : ℕ). one_if (is_stale s caller (word_name g k)) in
+    let after = λ (k : ℕ). one_if (is_stale s' caller (word_name g k)) in
+    let middle = λ (k : ℕ). if k == i then 0 else before k in
+    let within : i < word_count g = word_index-within g n exists in
+    let back : word_name g i ≡ n = word_name-word_index g n exists in
+    let here : before i ≡ one_if (is_stale s caller n) = ap (λ m. one_if (is_stale s caller m)) back in
+    let none : after i ≡ 0 = ap (λ m. one_if (is_stale s' caller m)) back ∙ ap one_if (stale-here s caller s' step expects) in
+    let changed : sum_below (word_count g) middle + before i ≡ sum_below (word_count g) before + middle i =
+    sum-change (word_count g) before middle i within (λ j lt ne. cond-false {A = ℕ} (j == i) 0 (before j) (ne_eqb j i ne)) in
+    let zero_here : middle i ≡ 0 = cond-true {A = ℕ} (i == i) 0 (before i) (eq-eqb i i refl) in
+    let least : sum_below (word_count g) after ≤ sum_below (word_count g) middle =
+    sum-least (word_count g) after middle
+    (λ k lt.
+    elim (cases_eq k i) [
+      | inl same ↦ omega (arith, ap after same, none)
+      | inr differ ↦
+          let apart : word_name g k ≢ n = λ is. differ (sym (word_index-word_name g k lt) ∙ ap (word_index g) is) in
+          omega (
+            arith,
+            cond-false {A = ℕ} (k == i) 0 (before k) (ne_eqb k i differ),
+            one-least (is_stale s' caller (word_name g k)) (is_stale s caller (word_name g k)) (stale-apart s caller s' (word_name g k) step expects apart),
+          )
+    ]) in
+    omega (arith, changed, zero_here, least, here, lost-stale s caller loses)
+
+-- who expects nothing has no stale word
+pub none-stale : (g : Geometry) (s : State) (caller : ℕ) → expects_of (s.errand caller).point ≡ [] → stale_words g s caller ≡ 0
+none-stale g s caller none =
+    sum-none (word_count g) (λ k. one_if (is_stale s caller (word_name g k))) (λ k lt. ap (λ es. one_if (list_any (is_stale_by s (word_name g k)) es)) none)

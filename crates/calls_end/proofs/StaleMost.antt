@@ -1,0 +1,72 @@
+-- No more than two words are ever stale for a caller: a caller expects no more.
+use Rattle.std.proofs.Common.{ℕ, Bool, true, false, ◌≡◌, ◌<◌, ◌≤◌, ◌+◌, List, [], ◌∷◌, length, refl, arith, ap, inl, inr, ◌∙◌, ◌==◌, ◌||◌, if◌then◌else◌}
+use Rattle.std.specs.List.{list_any}
+use Rattle.std.proofs.lemmas.Bool.{cases_Bool, cond-true, eq-eqb}
+use Rattle.sound_state.proofs.Common.{Geometry, word_count, word_name, BlockPoint, StackPoint, DescPoint, PartialPoint, LargePoint, Continuation, Point, Idle, Block}
+use Rattle.sound_state.proofs.Common.{Stack, Desc, Partial, Large, State, sum_below, one_if}
+use Rattle.word_table.specs.Table.{word_index}
+use Rattle.word_table.proofs.TableLemmas.{word_index-word_name}
+use Rattle.calls_end.specs.Alone.{is_stale_by, stale_words}
+use Rattle.lost_exchanges.specs.Expectations.{Expected, expects_of, block_expects, stack_expects, desc_expects, partial_expects, large_expects}
+use Rattle.lost_exchanges.specs.Wins.{same_name}
+use Rattle.sound_state.proofs.shared.SumLemmas.{sum-none, sum-least, sum-plus, sum-once}
+use Rattle.sound_state.proofs.shared.TurnEffects.{one_if-most}
+use Rattle.lost_exchanges.proofs.SameNames.{same-name-is}
+
+either-most : (a b : Bool) → one_if (a || b) ≤ one_if a + one_if b
+either-most true b = omega arith
+either-most false b = omega arith
+
+-- a word of the table has one number
+name-once : (g : Geometry) (s : State) (e : Expected) (k : ℕ) → k < word_count g
+    → one_if (is_stale_by s (word_name g k) e) ≤ (if word_index g e.word == k then 1 else 0)
+name-once g s e k lt =
+    elim (cases_Bool (same_name e.word (word_name g k))) [
+      | inl same ↦
+          let is : word_index g e.word ≡ k = ap (word_index g) (same-name-is e.word (word_name g k) same) ∙ word_index-word_name g k lt in
+          let one : (if word_index g e.word == k then 1 else 0) ≡ 1 = cond-true {A = ℕ} (word_index g e.word == k) 1 0 (eq-eqb (word_index g e.word) k is) in
+          omega (arith, one, one_if-most (is_stale_by s (word_name g k) e))
+      | inr differ ↦ let none : one_if (is_stale_by s (word_name g k) e) ≡ 0 = rw differ refl in omega (arith, none)
+    ]
+
+-- so as many are stale as are expected, at most
+stale-by-most :
+    (g : Geometry) (s : State) (es : List Expected) → sum_below (word_count g) (λ k. one_if (list_any (is_stale_by s (word_name g k)) es)) ≤ length es
+stale-by-most g s [] = omega (arith, sum-none (word_count g) (λ k. 0) (λ k lt. refl))
+stale-by-most g s (e ∷ es) =
+    let n = word_count g in
+    let one = λ (k : ℕ). one_if (is_stale_by s (word_name g k) e) in
+    let rest = λ (k : ℕ). one_if (list_any (is_stale_by s (word_name g k)) es) in
+    let first : sum_below n one ≤ sum_below n (λ k. if word_index g e.word == k then 1 else 0) =
+    sum-least n one (λ k. if word_index g e.word == k then 1 else 0) (λ k lt. name-once g s e k lt) in
+    let both : sum_below n (λ k. one_if (list_any (is_stale_by s (word_name g k)) (e ∷ es))) ≤ sum_below n (λ k. one k + rest k) =
+    sum-least n (λ k. one_if (list_any (is_stale_by s (word_name g k)) (e ∷ es))) (λ k. one k + rest k)
+    (λ k lt. either-most (is_stale_by s (word_name g k) e) (list_any (is_stale_by s (word_name g k)) es)) in
+    omega (arith, first, both, sum-once n (word_index g e.word), sum-plus n one rest, stale-by-most g s es)
+
+block-few : (p : BlockPoint) → length (block_expects p) ≤ 2
+block-few p = grind (arith)
+
+stack-few : (p : StackPoint) (o : Continuation) → length (stack_expects p o) ≤ 2
+stack-few p o = grind (arith)
+
+desc-few : (p : DescPoint) (o : Continuation) → length (desc_expects p o) ≤ 2
+desc-few p o = grind (arith)
+
+partial-few : (p : PartialPoint) (o : Continuation) → length (partial_expects p o) ≤ 2
+partial-few p o = grind (arith)
+
+large-few : (p : LargePoint) → length (large_expects p) ≤ 2
+large-few p = grind (arith)
+
+expects-few : (p : Point) → length (expects_of p) ≤ 2
+unfolding expects_of
+expects-few Idle = omega arith
+expects-few (Block p o) = block-few p
+expects-few (Stack p o) = stack-few p o
+expects-few (Desc p o) = desc-few p o
+expects-few (Partial p o) = partial-few p o
+expects-few (Large p o) = large-few p
+
+pub stale-most : (g : Geometry) (s : State) (caller : ℕ) → stale_words g s caller ≤ 2
+stale-most g s caller = omega (arith, stale-by-most g s (expects_of (s.errand caller).point), expects-few (s.errand caller).point)

@@ -1,0 +1,422 @@
+-- A step of a turn puts no descriptor back to the superblocks whose superblock is EMPTY, and makes none EMPTY.
+use Rattle.std.proofs.Common.{ℕ, Some, true, false, ◌≡◌, ◌≢◌, ◌<◌, ◌≤◌, ◌+◌, [], ◌∷◌, refl, arith, ap, sym, subst, inl, inr, ◌∙◌, ◌==◌, if◌then◌else◌, Contains, IfSome}
+use Rattle.std.proofs.Math.Path.{fun_ext}
+use Rattle.std.proofs.lemmas.Bool.{cases_eq, true≢false, eq-eqb, ne_eqb, cond-true, cond-false}
+use Rattle.std.proofs.lemmas.List.Elements.{All-head}
+use Rattle.sound_state.proofs.Common.{Geometry, AnchorFields, anchor_of, anchor_word, info_of, Found, WordName, Site, after_action, SeatFields, IsSiteOf}
+use Rattle.sound_state.proofs.Common.{Writes, cases_name, occurs, BlockPoint, Share, Partials, Stacked, next_in, DescPoint, is_empty}
+use Rattle.sound_state.proofs.Common.{PartialPoint, Next, At, End, Retire, Pick, Unlist, Continuation, Point, Block, Desc, Partial, ErrandFields, settle_of}
+use Rattle.sound_state.proofs.Common.{course_of, FitsPoint, pushed_by, next_of, plan_point_of, asked, State, Step, name_at, word_at, found_at, on_its_way, holds_of}
+use Rattle.sound_state.proofs.Common.{Lists, IsSo, noted, looked, located, says, recalls_of, IsSoundWithoutCounts, IsSoundWith, in_turn, anchor_for, info_for}
+use Rattle.sound_state.proofs.Common.{info_or_zero, errand_away, errand_keeps, away_of, kept_among, errand_has, callers_sum}
+use Rattle.packed_words.specs.Info.{info_word}
+use Rattle.packed_words.proofs.AnchorLemmas.{anchor_of-anchor_word}
+use Rattle.packed_words.proofs.InfoLemmas.{info-exact}
+use Rattle.word_table.specs.declared.name.WordName.TheVariants as name
+use Rattle.word_table.specs.Sites.{info_at}
+use Rattle.superblock_parts.specs.Anchors.{new_anchor}
+use Rattle.superblock_parts.specs.declared.point.BlockPoint.TheVariants as block
+use Rattle.stack_parts.proofs.StackLemmas.{stacked-one, stacked-off}
+use Rattle.hazard_parts.specs.declared.point.DescPoint.TheVariants as desc
+use Rattle.hazard_parts.specs.Retired.{without}
+use Rattle.partial_parts.specs.declared.point.PartialPoint.TheVariants as partial
+use Rattle.errand_steps.specs.declared.next.Next.TheVariants.{Turn}
+use Rattle.errand_steps.specs.declared.continuation.Continuation.TheVariants as continuation
+use Rattle.errand_steps.specs.Errands.{point_after, after_turn, after_list, list_after}
+use Rattle.sound_state.specs.Holdings.{making}
+use Rattle.sound_state.specs.Recalls.{resumed_recalls}
+use Rattle.sound_state.proofs.shared.HasLemmas.{keeps-at, kept-itself, ways-one}
+use Rattle.sound_state.proofs.descriptors.DescPushes.{occurs-without}
+use Rattle.sound_state.proofs.descriptors.DescSteps.{first-of}
+use Rattle.calls_end.proofs.TurnWords.{tells, writes_told, told-stays, next_ways, puts_out, point-ways, none-unlisted, pushes_desc, quiet-points}
+use Rattle.sound_state.proofs.pops.PopFacts.{popped-empty}
+use Rattle.sound_state.proofs.pops.PopSteps.{pop-pops}
+use Rattle.sound_state.proofs.quiet.QuietLinks.{written-at, retired-has}
+use Rattle.sound_state.proofs.shared.ListFacts.{occurs-push}
+use Rattle.sound_state.proofs.shared.PointLemmas.{fits-at, so-at, the-alloc}
+use Rattle.sound_state.proofs.shared.StepLemmas.{found_from}
+use Rattle.sound_state.proofs.shared.SumLemmas.{callers-moved, term-sum}
+use Rattle.sound_state.proofs.shared.WaitsAlone.{new_anchor-fits}
+use Rattle.sound_state.proofs.shared.WordFacts.{site-info}
+use Rattle.sound_state.proofs.shifts.ShiftSteps.{grant-shifts}
+
+-- what a step leaves of what is EMPTY and out
+pub record LeavesOut (g : Geometry) (s : State) (l : Lists) (s' : State) (l' : Lists) : Type 0 where
+  pub empty : (d : ℕ) → is_empty (anchor_for s' d).state ≡ true → is_empty (anchor_for s d).state ≡ true
+  pub class : (d : ℕ) → away_of g s' l' d ≡ 0 → (info_for s' d).class ≡ (info_for s d).class
+  pub away : (d : ℕ) → is_empty (anchor_for s' d).state ≡ true → away_of g s l d ≤ away_of g s' l' d
+
+-- the errand after a step, by what follows the step
+abbrev pub away_after : ErrandFields → Next → ℕ → ℕ
+away_after e n d =
+    occurs d (list_after e.retired n) + kept_among on_its_way d (holds_of (point_after (after_turn e (after_list e n)))).kept
+
+pub next-away :
+    (e : ErrandFields) (n : Next) (d ways : ℕ) → ((seat : SeatFields) (k : ℕ) (o : Continuation) → n ≢ Unlist seat k o) → ways ≤ next_ways d n
+    → occurs d e.retired + ways ≤ away_after e n d
+next-away e (At q) d ways listed least = omega (arith, least)
+next-away e (End r) d ways listed least = omega (arith, least)
+next-away e (Turn seat words) d ways listed least = omega (arith, least)
+next-away e (Retire seat k o) d ways listed least = omega (arith, least, occurs-push d k e.retired)
+next-away e (Pick seat held o) d ways listed least = omega (arith, least)
+next-away e (Unlist seat k o) d ways listed least = absurd (listed seat k o refl)
+
+-- a caller has a descriptor away as often as before
+errand-keeps :
+    (g : Geometry) (caller : ℕ) (e : ErrandFields) (x : Found) (d : ℕ) → FitsPoint g caller e.point → puts_out e.point ≡ false
+    → in_turn e.point ≡ true → ((seat : SeatFields) (k : ℕ) (o : Continuation) → next_of e.point x ≢ Unlist seat k o)
+    → errand_away d e ≤ errand_away d (settle_of e x)
+unfolding settle_of course_of
+errand-keeps g caller e x d fits out turn listed =
+    next-away e (next_of e.point x) d (kept_among on_its_way d (holds_of e.point).kept) listed (point-ways g caller e.point x d fits out turn)
+
+-- a word that is written as it was leaves all words
+lost-same : (words : WordName → ℕ) (n : WordName) (new : ℕ) (m : WordName) (words' : WordName → ℕ) → Writes words n new words' → new ≡ words n → words' m ≡ words m
+lost-same words n new m words' w same =
+    elim (cases_name m n) [ inl is ↦ ap words' is ∙ w.here ∙ same ∙ ap words (sym is) | inr differ ↦ w.elsewhere m differ ]
+
+-- a superblock in the making has one descriptor
+making-elsewhere : (site : Site) (d : ℕ) → d ≢ site.desc → kept_among on_its_way d (making site).kept ≡ 0
+making-elsewhere site d differ = grind (arith, differ)
+
+-- the next words below it stay
+nexts-same : (s s' : State) (new_head : ℕ) → Writes s.word name.DescHead new_head s'.word → next_in s'.word Partials ≡ next_in s.word Partials
+nexts-same s s' new_head w = fun_ext (λ d. w.elsewhere (name.Next d) (λ same. cc))
+
+-- a step of a turn, and the lists before and after it
+module _
+    (g : Geometry) (s : State) (l : Lists) (caller : ℕ) (s' : State) (l' : Lists) (sound : IsSoundWithoutCounts g s) (old : IsSoundWith g s l)
+    (new : IsSoundWith g s' l') (has : caller < g.callers) (turn : in_turn (s.errand caller).point ≡ true) (step : Step s caller s') where
+  -- the same, at a point that is known
+  at-keeps :
+      (p : Point) (d : ℕ) → (s.errand caller).point ≡ p → puts_out p ≡ false → pushes_desc p ≡ false
+      → errand_away d (s.errand caller) ≤ errand_away d (settle_of (s.errand caller) (found_at s caller))
+  at-keeps p d stands out other =
+      let q = (s.errand caller).point in
+      let fits = fits-at g s l caller q old has refl in
+      errand-keeps g caller (s.errand caller) (found_at s caller) d fits (ap puts_out stands ∙ out) turn
+      (λ seat k o. none-unlisted g caller q (found_at s caller) seat k o fits turn (ap pushes_desc stands ∙ other))
+
+  -- the available ones are the same where the head and the next words are
+  available-same :
+      s'.word name.DescHead ≡ s.word name.DescHead → ((d : ℕ) → s'.word (name.Next d) ≡ s.word (name.Next d)) → l'.available ≡ l.available
+  available-same head nexts =
+      let same : next_in s'.word Partials ≡ next_in s.word Partials = fun_ext nexts in
+      let stack : Stacked (next_in s.word Partials) (s.word name.DescHead) l'.available =
+      subst (λ f. Stacked f (s.word name.DescHead) l'.available) same
+      (subst (λ t. Stacked (next_in s'.word Partials) t l'.available) head new.listed.available) in
+      stacked-one (next_in s.word Partials) (s.word name.DescHead) l'.available l.available stack old.listed.available
+
+  -- a descriptor is away as often as before, where the list and the caller have it no less
+  away-least :
+      (d : ℕ)
+      → occurs d l.available + errand_away d (s.errand caller) ≤ occurs d l'.available + errand_away d (settle_of (s.errand caller) (found_at s caller))
+      → away_of g s l d ≤ away_of g s' l' d
+  away-least d least =
+      omega (arith, least, callers-moved g (errand_away d) s.errand caller (settle_of (s.errand caller) (found_at s caller)) s'.errand has step.errand)
+
+  -- what a step leaves that writes at most anchors
+  leaves :
+      s'.word name.DescHead ≡ s.word name.DescHead → ((d : ℕ) → s'.word (name.Next d) ≡ s.word (name.Next d))
+      → ((d : ℕ) → s'.word (name.Info d) ≡ s.word (name.Info d))
+      → ((d : ℕ) → is_empty (anchor_for s' d).state ≡ true → is_empty (anchor_for s d).state ≡ true)
+      → ((d : ℕ) → is_empty (anchor_for s' d).state ≡ true → errand_away d (s.errand caller) ≤ errand_away d (settle_of (s.errand caller) (found_at s caller)))
+      → LeavesOut g s l s' l'
+  leaves head nexts infos empties least = record {
+    empty = empties;
+    class = λ d none. ap (λ w. (info_or_zero (info_of w)).class) (infos d);
+    away = λ d is.
+        away-least d (omega (arith, ap (occurs d) (available-same head nexts), least d is));
+  }
+
+  -- a step that writes none of these words
+  quiet-leaves : writes_told (s.errand caller).point ≡ false → LeavesOut g s l s' l'
+  quiet-leaves none =
+      let p = (s.errand caller).point in
+      let fits = fits-at g s l caller p old has refl in
+      let quiet = quiet-points p none in
+      let still : (m : WordName) → tells m ≡ true → s'.word m ≡ s.word m =
+      λ m told.
+      elim (cases_name m (name_at s caller)) [
+        | inl is ↦
+            ap s'.word is ∙ step.word.here ∙ told-stays g caller p (word_at s caller) fits turn none (ap tells (sym is) ∙ told) ∙ ap s.word (sym is)
+        | inr differ ↦ step.word.elsewhere m differ
+      ] in
+      leaves (still name.DescHead refl) (λ d. still (name.Next d) refl) (λ d. still (name.Info d) refl)
+      (λ d is. ap (λ w. is_empty (anchor_of w).state) (sym (still (name.Anchor d) refl)) ∙ is)
+      (λ d is.
+      errand-keeps g caller (s.errand caller) (found_at s caller) d fits quiet.0 turn
+      (λ seat k o. none-unlisted g caller p (found_at s caller) seat k o fits turn quiet.1))
+
+  -- a pop leaves each superblock EMPTY or not
+  pop-leaves :
+      (at : Site) (share : Share) (a : AnchorFields) (prefix : ℕ) (o : Continuation)
+      → (s.errand caller).point ≡ Block (block.PopBlock at share a prefix) o → LeavesOut g s l s' l'
+  unfolding plan_point_of
+  pop-leaves at share a prefix o stands =
+      let p = Block (block.PopBlock at share a prefix) o in
+      let w : Writes s.word (name.Anchor at.desc) (after_action (plan_point_of p) (s.word (name.Anchor at.desc))) s'.word = written-at s caller s' p stands step in
+      leaves (w.elsewhere name.DescHead (λ same. cc)) (λ d. w.elsewhere (name.Next d) (λ same. cc))
+      (λ d. w.elsewhere (name.Info d) (λ same. cc))
+      (λ d is.
+      elim (cases_eq (s.word (name.Anchor at.desc)) (anchor_word a)) [
+        | inl won ↦
+            sym (popped-empty (pop-pops g s l caller s' at share a prefix o sound old has stands won step) d) ∙ is
+        | inr lost ↦
+            ap (λ v. is_empty (anchor_of v).state)
+            (sym (lost-same s.word (name.Anchor at.desc) _ (name.Anchor d) s'.word w
+            (cond-false {A = ℕ} (s.word (name.Anchor at.desc) == anchor_word a) _ _ (ne_eqb _ _ lost)))) ∙ is
+      ])
+      (λ d is. at-keeps p d stands refl refl)
+
+  -- a grant leaves one in use
+  grant-leaves :
+      (site : Site) (a : AnchorFields) (o : Continuation) → (s.errand caller).point ≡ Partial (partial.Grant site a) o → LeavesOut g s l s' l'
+  unfolding plan_point_of
+  grant-leaves site a o stands =
+      let p = Partial (partial.Grant site a) o in
+      let w : Writes s.word (name.Anchor site.desc) (after_action (plan_point_of p) (s.word (name.Anchor site.desc))) s'.word = written-at s caller s' p stands step in
+      let fits = fits-at g s l caller p old has stands in
+      let now : (s.errand caller).point ≡ Partial (partial.Grant site a) (continuation.Alloc (asked o)) =
+      stands ∙ ap (Partial (partial.Grant site a)) (the-alloc o fits.goes) in
+      leaves (w.elsewhere name.DescHead (λ same. cc)) (λ d. w.elsewhere (name.Next d) (λ same. cc))
+      (λ d. w.elsewhere (name.Info d) (λ same. cc))
+      (λ d is.
+      elim (cases_eq (s.word (name.Anchor site.desc)) (anchor_word a)) [
+        | inl won ↦
+            let h = grant-shifts g s l caller s' site a (asked o) old has now won step in
+            elim (cases_eq d site.desc) [
+              | inl same ↦ absurd (true≢false (sym is ∙ ap (λ k. is_empty (anchor_for s' k).state) same ∙ ap (λ x. is_empty x.state) h.after ∙ h.in_use))
+              | inr differ ↦ ap (λ v. is_empty (anchor_of v).state) (sym (h.elsewhere (name.Anchor d) (λ same. differ (cc)))) ∙ is
+            ]
+        | inr lost ↦
+            ap (λ v. is_empty (anchor_of v).state)
+            (sym (lost-same s.word (name.Anchor site.desc) _ (name.Anchor d) s'.word w
+            (cond-false {A = ℕ} (s.word (name.Anchor site.desc) == anchor_word a) _ _ (ne_eqb _ _ lost))))
+            ∙ is
+      ])
+      (λ d is. at-keeps p d stands refl refl)
+
+  -- the processor heap of a superblock that was taken, whose class stays
+  owner-leaves : (site : Site) (o : Continuation) → (s.errand caller).point ≡ Partial (partial.StoreOwner site) o → LeavesOut g s l s' l'
+  unfolding plan_point_of recalls_of
+  owner-leaves site o stands =
+      let p = Partial (partial.StoreOwner site) o in
+      let w : Writes s.word (name.Info site.desc) (info_word (info_at site)) s'.word = written-at s caller s' p stands step in
+      let fits = fits-at g s l caller p old has stands in
+      let fit : IsSiteOf g caller site = fits.point in
+      let lies = All-head (IsSo g s l caller) (located site.desc site.frame site.seat.class) [] (so-at g s l caller p old has stands) in
+      let back : info_of (s'.word (name.Info site.desc)) ≡ Some (info_at site) =
+      ap info_of w.here ∙ info-exact.back (info_at site) (site-info g caller site sound.checked fit) in
+      let anchors : (d : ℕ) → s'.word (name.Anchor d) ≡ s.word (name.Anchor d) = λ d. w.elsewhere (name.Anchor d) (λ same. cc) in
+      let avail = available-same (w.elsewhere name.DescHead (λ same. cc)) (λ d. w.elsewhere (name.Next d) (λ same. cc)) in
+      record {
+        empty = λ d is. ap (λ v. is_empty (anchor_of v).state) (sym (anchors d)) ∙ is;
+        class = λ d none.
+            elim (cases_eq d site.desc) [
+              | inl same ↦
+                  subst (λ k. (info_for s' k).class ≡ (info_for s k).class) (sym same) (ap (λ i. (info_or_zero i).class) back ∙ sym lies.class)
+              | inr differ ↦ ap (λ v. (info_or_zero (info_of v)).class) (w.elsewhere (name.Info d) (λ same. differ (cc)))
+            ];
+        away = λ d is.
+            away-least d
+            (omega (arith, ap (occurs d) avail, at-keeps p d stands refl refl));
+      }
+
+  -- what the descriptor of a new superblock says, which is on its way
+  info-leaves : (site : Site) (o : Continuation) → (s.errand caller).point ≡ Block (block.StoreInfo site) o → LeavesOut g s l s' l'
+  unfolding plan_point_of holds_of callers_sum
+  info-leaves site o stands =
+      let p = Block (block.StoreInfo site) o in
+      let w : Writes s.word (name.Info site.desc) (info_word (info_at site)) s'.word = written-at s caller s' p stands step in
+      let anchors : (d : ℕ) → s'.word (name.Anchor d) ≡ s.word (name.Anchor d) = λ d. w.elsewhere (name.Anchor d) (λ same. cc) in
+      let avail = available-same (w.elsewhere name.DescHead (λ same. cc)) (λ d. w.elsewhere (name.Next d) (λ same. cc)) in
+      let least : (d : ℕ) → away_of g s l d ≤ away_of g s' l' d =
+      λ d. away-least d (omega (arith, ap (occurs d) avail, at-keeps p d stands refl refl)) in
+      let way : 1 ≤ errand_keeps on_its_way site.desc (s.errand caller) =
+      keeps-at (s.errand caller) p on_its_way site.desc stands (kept-itself on_its_way site.desc site.seat.class) in
+      record {
+        empty = λ d is. ap (λ v. is_empty (anchor_of v).state) (sym (anchors d)) ∙ is;
+        class = λ d none.
+            elim (cases_eq d site.desc) [
+              | inl same ↦
+                  let there : away_of g s' l' site.desc ≡ 0 = subst (λ k. away_of g s' l' k ≡ 0) same none in
+                  let mine : errand_away site.desc (s.errand caller) ≤ callers_sum g (errand_away site.desc) s.errand =
+                  term-sum g.callers (λ i. errand_away site.desc (s.errand i)) caller has in
+                  absurd (let no : ⊥ = omega (arith, there, least site.desc, mine, way) in no)
+              | inr differ ↦ ap (λ v. (info_or_zero (info_of v)).class) (w.elsewhere (name.Info d) (λ same. differ (cc)))
+            ];
+        away = λ d is. least d;
+      }
+
+  -- the anchor of a new superblock, which is in use then
+  anchor-leaves : (site : Site) (o : Continuation) → (s.errand caller).point ≡ Block (block.StoreAnchor site) o → LeavesOut g s l s' l'
+  unfolding plan_point_of holds_of next_of settle_of course_of
+  anchor-leaves site o stands =
+      let p = Block (block.StoreAnchor site) o in
+      let e = s.errand caller in
+      let w : Writes s.word (name.Anchor site.desc) (anchor_word (new_anchor site.seat.class)) s'.word = written-at s caller s' p stands step in
+      let here : anchor_for s' site.desc ≡ new_anchor site.seat.class =
+      ap anchor_of w.here ∙ anchor_of-anchor_word (new_anchor site.seat.class) (new_anchor-fits site.seat.class) in
+      let used : (d : ℕ) → is_empty (anchor_for s' d).state ≡ true → d ≢ site.desc =
+      λ d is same. true≢false (sym is ∙ ap (λ k. is_empty (anchor_for s' k).state) same ∙ ap (λ x. is_empty x.state) here) in
+      leaves (w.elsewhere name.DescHead (λ same. cc)) (λ d. w.elsewhere (name.Next d) (λ same. cc))
+      (λ d. w.elsewhere (name.Info d) (λ same. cc))
+      (λ d is. ap (λ v. is_empty (anchor_of v).state) (sym (w.elsewhere (name.Anchor d) (λ same. used d is (cc)))) ∙ is)
+      (λ d is.
+      let none : kept_among on_its_way d (holds_of e.point).kept ≡ 0 =
+      ap (λ q. kept_among on_its_way d (holds_of q).kept) stands ∙ making-elsewhere site d (used d is) in
+      let next : next_of e.point (found_at s caller) ≡ At (Block (block.InstallSuperblock site) o) = ap (λ q. next_of q (found_at s caller)) stands in
+      let least : occurs d e.retired + 0 ≤ away_after e (next_of e.point (found_at s caller)) d =
+      next-away e (next_of e.point (found_at s caller)) d 0
+      (λ seat k b is. let bad : At (Block (block.InstallSuperblock site) o) ≡ Unlist seat k b = sym next ∙ is in cc) (omega arith) in
+      omega (arith, none, least))
+
+  -- a link below a retired descriptor, which is not available
+  next-leaves :
+      (seat : SeatFields) (k top : ℕ) (o : Continuation) → (s.errand caller).point ≡ Desc (desc.StoreNextDesc seat k top) o → LeavesOut g s l s' l'
+  unfolding plan_point_of callers_sum
+  next-leaves seat k top o stands =
+      let p = Desc (desc.StoreNextDesc seat k top) o in
+      let w : Writes s.word (name.Next k) top s'.word = written-at s caller s' p stands step in
+      let fits = fits-at g s l caller p old has stands in
+      let mine : 1 ≤ errand_has k (s.errand caller) = retired-has (s.errand caller) p k (old.errands caller has).rule stands refl in
+      let all : errand_has k (s.errand caller) ≤ callers_sum g (errand_has k) s.errand = term-sum g.callers (λ i. errand_has k (s.errand i)) caller has in
+      let off : occurs k l.available ≡ 0 = omega (arith, old.kept.once k fits.point.desc.desc, mine, all) in
+      let kept : Stacked (next_in s'.word Partials) (s.word name.DescHead) l.available =
+      stacked-off s.word s'.word top Partials (s.word name.DescHead) k l.available w off old.listed.available in
+      let stack : Stacked (next_in s'.word Partials) (s.word name.DescHead) l'.available =
+      subst (λ t. Stacked (next_in s'.word Partials) t l'.available) (w.elsewhere name.DescHead (λ same. cc)) new.listed.available in
+      let avail : l'.available ≡ l.available = stacked-one (next_in s'.word Partials) (s.word name.DescHead) l'.available l.available stack kept in
+      record {
+        empty = λ d is. ap (λ v. is_empty (anchor_of v).state) (sym (w.elsewhere (name.Anchor d) (λ same. cc))) ∙ is;
+        class = λ d none. ap (λ v. (info_or_zero (info_of v)).class) (w.elsewhere (name.Info d) (λ same. cc));
+        away = λ d is.
+            away-least d
+            (omega (arith, ap (occurs d) avail, at-keeps p d stands refl refl));
+      }
+
+  -- where only the head of the available ones may change
+  head-leaves :
+      (new_head : ℕ) → Writes s.word name.DescHead new_head s'.word
+      → ((d : ℕ) → occurs d l.available + errand_away d (s.errand caller)
+      ≤ occurs d l'.available + errand_away d (settle_of (s.errand caller) (found_at s caller)))
+      → LeavesOut g s l s' l'
+  head-leaves new_head w least = record {
+    empty = λ d is. ap (λ v. is_empty (anchor_of v).state) (sym (w.elsewhere (name.Anchor d) (λ same. cc))) ∙ is;
+    class = λ d none. ap (λ v. (info_or_zero (info_of v)).class) (w.elsewhere (name.Info d) (λ same. cc));
+    away = λ d is. away-least d (least d);
+  }
+
+  -- the top one is taken: the caller has it on its way
+  pop_desc-leaves :
+      (seat : SeatFields) (k below : ℕ) (o : Continuation) → (s.errand caller).point ≡ Desc (desc.PopDesc seat k below) o → LeavesOut g s l s' l'
+  unfolding plan_point_of holds_of recalls_of next_of settle_of course_of
+  pop_desc-leaves seat k below o stands =
+      let p = Desc (desc.PopDesc seat k below) o in
+      let e = s.errand caller in
+      let w = written-at s caller s' p stands step in
+      let nexts = nexts-same s s' _ w in
+      elim (cases_eq (s.word name.DescHead) (k + 1)) [
+        | inl won ↦
+            let is_won : (s.word name.DescHead == k + 1) ≡ true = eq-eqb (s.word name.DescHead) (k + 1) won in
+            let stack : Stacked (next_in s.word Partials) (k + 1) l.available =
+            subst (λ t. Stacked (next_in s.word Partials) t l.available) won old.listed.available in
+            let (ys, is, rest) = first-of (next_in s.word Partials) k l.available stack in
+            let on : 0 < occurs k l.available =
+            subst (λ zs. 0 < occurs k zs) (sym is) (omega (arith, cond-true {A = ℕ} (k == k) 1 0 (eq-eqb k k refl))) in
+            let link : s.word (name.Next k) ≡ below =
+            All-head (IsSo g s l caller) (noted k below) (looked seat.class ∷ []) (so-at g s l caller p old has stands) on in
+            let head : s'.word name.DescHead ≡ s.word (name.Next k) = w.here ∙ rw is_won (sym link) in
+            let after : Stacked (next_in s.word Partials) (s.word (name.Next k)) l'.available =
+            subst (λ f. Stacked f (s.word (name.Next k)) l'.available) nexts
+            (subst (λ t. Stacked (next_in s'.word Partials) t l'.available) head new.listed.available) in
+            let same : l'.available ≡ ys = stacked-one (next_in s.word Partials) (s.word (name.Next k)) l'.available ys after rest in
+            let q = Desc (desc.ClearAfterPop seat k) o in
+            let next : next_of e.point (found_at s caller) ≡ At q =
+            subst (λ r. next_of r (found_from s r) ≡ At q) (sym stands) (rw is_won refl) in
+            head-leaves _ w
+            (λ d.
+            let none : kept_among on_its_way d (holds_of e.point).kept ≡ 0 = ap (λ r. kept_among on_its_way d (holds_of r).kept) stands in
+            let mine : away_after e (next_of e.point (found_at s caller)) d ≡ occurs d e.retired + (if k == d then 1 else 0) =
+            ap (λ n. away_after e n d) next ∙ ap (λ n. occurs d e.retired + n) (ways-one d k seat.class) in
+            omega (arith, none, mine, ap (occurs d) is, ap (occurs d) same))
+        | inr lost ↦
+            let head : s'.word name.DescHead ≡ s.word name.DescHead = w.here ∙ cond-false {A = ℕ} (s.word name.DescHead == k + 1) _ _ (ne_eqb _ _ lost) in
+            let avail = available-same head (λ d. w.elsewhere (name.Next d) (λ same. cc)) in
+            head-leaves _ w
+            (λ d. omega (arith, ap (occurs d) avail, at-keeps p d stands refl refl))
+      ]
+
+  -- a retired one is put in front
+  push_desc-leaves :
+      (seat : SeatFields) (k top : ℕ) (o : Continuation) → (s.errand caller).point ≡ Desc (desc.PushDesc seat k top) o → LeavesOut g s l s' l'
+  unfolding plan_point_of holds_of recalls_of next_of settle_of course_of
+  push_desc-leaves seat k top o stands =
+      let p = Desc (desc.PushDesc seat k top) o in
+      let e = s.errand caller in
+      let w = written-at s caller s' p stands step in
+      let nexts = nexts-same s s' _ w in
+      let none : (d : ℕ) → kept_among on_its_way d (holds_of e.point).kept ≡ 0 = λ d. ap (λ r. kept_among on_its_way d (holds_of r).kept) stands in
+      elim (cases_eq (s.word name.DescHead) top) [
+        | inl won ↦
+            let is_won : (s.word name.DescHead == top) ≡ true = eq-eqb (s.word name.DescHead) top won in
+            let link : s.word (name.Next k) ≡ top =
+            (All-head (IsSo g s l caller) (says (name.Next k) top) (resumed_recalls seat o) (so-at g s l caller p old has stands)).1 in
+            let head : s'.word name.DescHead ≡ k + 1 = w.here ∙ rw is_won refl in
+            let after : Stacked (next_in s.word Partials) (k + 1) l'.available =
+            subst (λ f. Stacked f (k + 1) l'.available) nexts
+            (subst (λ t. Stacked (next_in s'.word Partials) t l'.available) head new.listed.available) in
+            let stack : Stacked (next_in s.word Partials) (k + 1) (k ∷ l.available) =
+            (refl, subst (λ t. Stacked (next_in s.word Partials) t l.available) (won ∙ sym link) old.listed.available) in
+            let same : l'.available ≡ k ∷ l.available =
+            stacked-one (next_in s.word Partials) (k + 1) l'.available (k ∷ l.available) after stack in
+            let listed : Contains e.retired k =
+            subst (λ r. IfSome r (λ j. Contains e.retired j)) (ap pushed_by stands) (old.errands caller has).rule.pushed in
+            let next : next_of e.point (found_at s caller) ≡ Unlist seat k o =
+            subst (λ r. next_of r (found_from s r) ≡ Unlist seat k o) (sym stands) (rw is_won refl) in
+            head-leaves _ w
+            (λ d.
+            let mine : occurs d (without k e.retired) ≤ away_after e (next_of e.point (found_at s caller)) d =
+            subst (λ n. occurs d (without k e.retired) ≤ away_after e n d) (sym next) (omega arith) in
+            omega (arith, none d, mine, ap (occurs d) same, occurs-without k d e.retired listed))
+        | inr lost ↦
+            let is_lost : (s.word name.DescHead == top) ≡ false = ne_eqb (s.word name.DescHead) top lost in
+            let head : s'.word name.DescHead ≡ s.word name.DescHead = w.here ∙ cond-false {A = ℕ} (s.word name.DescHead == top) _ _ is_lost in
+            let avail = available-same head (λ d. w.elsewhere (name.Next d) (λ same. cc)) in
+            let q = Desc (desc.LoadHeadToPush seat k) o in
+            let next : next_of e.point (found_at s caller) ≡ At q =
+            subst (λ r. next_of r (found_from s r) ≡ At q) (sym stands) (rw is_lost refl) in
+            head-leaves _ w
+            (λ d.
+            let mine : occurs d e.retired ≤ away_after e (next_of e.point (found_at s caller)) d =
+            subst (λ n. occurs d e.retired ≤ away_after e n d) (sym next) (omega arith) in
+            omega (arith, none d, mine, ap (occurs d) avail))
+      ]
+
+  -- so does every step of a turn
+  block-leaves-out : (p : BlockPoint) (o : Continuation) → (s.errand caller).point ≡ Block p o → LeavesOut g s l s' l'
+  block-leaves-out (block.PopBlock at share a prefix) o stands = pop-leaves at share a prefix o stands
+  block-leaves-out (block.StoreInfo site) o stands = info-leaves site o stands
+  block-leaves-out (block.StoreAnchor site) o stands = anchor-leaves site o stands
+  block-leaves-out p o stands = quiet-leaves (ap writes_told stands)
+
+  desc-leaves-out : (p : DescPoint) (o : Continuation) → (s.errand caller).point ≡ Desc p o → LeavesOut g s l s' l'
+  desc-leaves-out (desc.PopDesc seat k below) o stands = pop_desc-leaves seat k below o stands
+  desc-leaves-out (desc.StoreNextDesc seat k top) o stands = next-leaves seat k top o stands
+  desc-leaves-out (desc.PushDesc seat k top) o stands = push_desc-leaves seat k top o stands
+  desc-leaves-out p o stands = quiet-leaves (ap writes_told stands)
+
+  partial-leaves-out : (p : PartialPoint) (o : Continuation) → (s.errand caller).point ≡ Partial p o → LeavesOut g s l s' l'
+  partial-leaves-out (partial.Grant site a) o stands = grant-leaves site a o stands
+  partial-leaves-out (partial.StoreOwner site) o stands = owner-leaves site o stands
+  partial-leaves-out p o stands = quiet-leaves (ap writes_told stands)
+
+  point-leaves-out : (p : Point) → (s.errand caller).point ≡ p → LeavesOut g s l s' l'
+  point-leaves-out (Block p o) stands = block-leaves-out p o stands
+  point-leaves-out (Desc p o) stands = desc-leaves-out p o stands
+  point-leaves-out (Partial p o) stands = partial-leaves-out p o stands
+  point-leaves-out p stands = quiet-leaves (ap writes_told stands)
+
+  pub step-leaves-out : LeavesOut g s l s' l'
+  step-leaves-out = point-leaves-out (s.errand caller).point refl

@@ -1,5 +1,0 @@
-use Rattle.std.proofs.Common.{rules}
-use Rattle.errand_steps.proofs.enter.partials.enter_partial.Goals as goal
-
-pub returns-in-Removed : goal.returns-in-Removed
-returns-in-Removed c = search rules

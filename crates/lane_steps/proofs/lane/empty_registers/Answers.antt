@@ -1,6 +1,0 @@
-use Rattle.std.proofs.Common.{ℕ, ◌≡◌, None, replicate, ap, ◌∙◌, arith}
-use Rattle.trace_text.specs.declared.limits.TheConstants.{REGISTERS}
-use Rattle.lane_steps.proofs.lane.empty_registers.Goals as goal
-
-pub returns : goal.returns
-returns g c = let all : c.loop.counter ≡ REGISTERS = omega arith in c.loop.invariant ∙ ap (λ (n : ℕ). replicate n None) all

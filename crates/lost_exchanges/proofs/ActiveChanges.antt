@@ -1,0 +1,75 @@
+-- Which steps change an active word, and what a caller's point says of its installs.
+use Rattle.std.proofs.Common.{ℕ, true, false, ◌≡◌, ◌≢◌, ◌≤◌, refl, arith, sym, inl, inr, ◌∙◌, ◌⊎◌, ◌-◌, ◌&&◌, IsTrue}
+use Rattle.std.proofs.lemmas.Bool.{cases_eq, eq-eqb, ne_eqb}
+use Rattle.sound_state.proofs.Common.{Null, Held, active_word, WordName, Found, name_of, after_action, active_name, BlockPoint, new_credits, Point, plan_point_of}
+use Rattle.sound_state.proofs.Common.{turn_stage_of, is_unneeded, one_if}
+use Rattle.word_table.specs.declared.name.WordName.TheVariants as name
+use Rattle.word_table.specs.declared.action.Action.TheVariants.{Cas}
+use Rattle.word_table.specs.Actions.{found_by}
+use Rattle.superblock_parts.specs.declared.point.BlockPoint.TheVariants as block
+use Rattle.superblock_parts.specs.Points.{plan_block_of, credit_taken}
+use Rattle.errand_steps.specs.declared.point.Point.TheVariants as point
+use Rattle.errand_steps.specs.Errands.{counts_won}
+use Rattle.lost_exchanges.specs.Installs.{IsActiveName}
+use Rattle.sound_state.specs.TurnStages.{is_seeking}
+use Rattle.lost_exchanges.specs.Wins.{offers, is_offer, is_between}
+use Rattle.lost_exchanges.proofs.WinDefs.{found_in}
+
+-- a held active word isn't null
+held-not-null : (d credits : ℕ) → active_word (Held d credits) ≢ active_word Null
+unfolding active_word
+held-not-null d credits is = absurd (omega (arith, is))
+
+-- the change of an active word to one that isn't null: it wasn't null, or the step is an offer that was won
+abbrev pub ChangesActive : Point → ℕ → Type 0
+ChangesActive p v =
+    IsActiveName (name_of (plan_point_of p)) → after_action (plan_point_of p) v ≢ active_word Null
+    → (v ≢ active_word Null) ⊎ (IsTrue (offers p) × (counts_won (plan_point_of p) (found_in p v) ≡ true))
+
+-- an exchange of null for a held one
+install-changes :
+    (v new : ℕ) (n : WordName) → new ≢ active_word Null
+    → (v ≢ active_word Null) ⊎ (IsTrue true × (counts_won (Cas n (active_word Null) new) (found_by (Cas n (active_word Null) new) v) ≡ true))
+install-changes v new n held =
+    elim (cases_eq v (active_word Null)) [
+      | inl is ↦ inr (refl, rw (eq-eqb v (active_word Null) is, ne_eqb (active_word Null) new (λ same. held (sym same))) refl)
+      | inr differs ↦ inl differs
+    ]
+
+-- an exchange of a held one: it wasn't null
+take-changes :
+    (v d credits : ℕ) → after_action (Cas (name.Active 0 0) (active_word (Held d credits)) (credit_taken d credits)) v ≢ active_word Null
+    → v ≢ active_word Null
+take-changes v d credits some =
+    elim (cases_eq v (active_word (Held d credits))) [
+      | inl is ↦ λ null. held-not-null d credits (sym is ∙ null)
+      | inr differs ↦ λ null. some (rw (ne_eqb v (active_word (Held d credits)) differs) null)
+    ]
+
+-- in a superblock
+block-changes :
+    (p : BlockPoint) (v : ℕ) → IsActiveName (name_of (plan_block_of p)) → after_action (plan_block_of p) v ≢ active_word Null
+    → (v ≢ active_word Null) ⊎ (IsTrue (is_offer p) × (counts_won (plan_block_of p) (found_by (plan_block_of p) v) ≡ true))
+block-changes (block.LoadActive s) v is some = inl some
+block-changes (block.TakeCredit s d credits) v is some = inl (take-changes v d credits some)
+block-changes (block.InstallCredits at i more) v is some = install-changes v _ (active_name at.seat) (held-not-null at.desc (more - 1))
+block-changes (block.InstallSuperblock at) v is some = install-changes v _ (active_name at.seat) (held-not-null at.desc (new_credits at.seat.class))
+block-changes p v is some = absurd is
+
+-- at each point
+pub active-change : (p : Point) (v : ℕ) → ChangesActive p v
+unfolding plan_point_of
+active-change (point.Block p o) v is some = block-changes p v is some
+active-change p v is some = absurd (grind (arith, is))
+
+-- what counts as won of an offer was won
+pub install-won : (p : Point) (x : Found) → one_if (offers p && counts_won (plan_point_of p) x) ≤ one_if (offers p && x.won)
+unfolding plan_point_of
+install-won p x = grind (arith)
+
+-- who discards a superblock seeks one, and who seeks one isn't between turns
+pub discards-seeks : (p : Point) → IsTrue (is_unneeded (turn_stage_of p)) → IsTrue (is_seeking (turn_stage_of p))
+discards-seeks p is = grind (arith)
+
+pub seeks-inside : (p : Point) → IsTrue (is_seeking (turn_stage_of p)) → is_between p ≡ false
+seeks-inside p is = grind (arith)

@@ -1,0 +1,71 @@
+-- What a point says of the superblock that its caller seeks.
+use Rattle.std.proofs.Common.{ℕ, true, false, cond, Option, Some, None, ◌≡◌, ◌≢◌, [], refl, arith, sym, ◌⊎◌, ◌&&◌, ◌==◌, not, All, IsTrue}
+use Rattle.std.proofs.lemmas.Bool.{true≢false, eq-eqb, eqb-true}
+use Rattle.std.proofs.lemmas.List.Elements.{All-head}
+use Rattle.sound_state.proofs.Common.{Null, active_word, Found, name_of, BlockPoint, Continuation, Point, plan_point_of, turn_stage_of, is_unneeded, one_if}
+use Rattle.superblock_parts.specs.declared.point.BlockPoint.TheVariants as block
+use Rattle.errand_steps.specs.declared.point.Point.TheVariants as point
+use Rattle.lost_exchanges.specs.Expectations.{Expected, expects_of}
+use Rattle.lost_exchanges.specs.Installs.{IsActiveName}
+use Rattle.sound_state.specs.TurnStages.{is_seeking}
+use Rattle.lost_exchanges.specs.Wins.{found_none_by}
+use Rattle.lost_exchanges.proofs.WinDefs.{looks_active, offers_new, found_in}
+
+-- who loads the active word expects nothing, and neither offers nor discards a superblock
+pub record LooksOnly (p : Point) : Type 0 where
+  pub expects : expects_of p ≡ []
+  pub offer : offers_new p ≡ false
+  pub discards : one_if (is_unneeded (turn_stage_of p)) ≡ 0
+
+pub looks-only : (p : Point) → IsTrue (looks_active p) → LooksOnly p
+unfolding expects_of
+looks-only p looks = grind (arith, looks)
+
+-- what it notes: that it found none active; else what it had noted
+pub found_none-looks :
+    (p : Point) (x : Found) (wins : ℕ) (old : Option ℕ) → IsTrue (looks_active p) → x.value ≡ active_word Null
+    → found_none_by p x wins old ≡ Some wins
+found_none-looks p x wins old looks null = grind (arith, looks, null, eq-eqb)
+
+pub found_none-seeks : (p : Point) (x : Found) (wins : ℕ) (old : Option ℕ) → IsTrue (is_seeking (turn_stage_of p)) → found_none_by p x wins old ≡ old
+found_none-seeks p x wins old seeks = grind (arith, seeks)
+
+-- at such a load
+found_none-load :
+    (v wins n : ℕ) → cond (v == active_word Null) (Some wins) None ≡ Some n → (n ≡ wins) × (v ≡ active_word Null)
+found_none-load v wins n is = grind (arith, is, eqb-true)
+
+-- at each point
+pub found_none-from :
+    (p : Point) (x : Found) (wins : ℕ) (old : Option ℕ) (n : ℕ) → found_none_by p x wins old ≡ Some n
+    → (old ≡ Some n) ⊎ (IsTrue (looks_active p) × (n ≡ wins) × (x.value ≡ active_word Null))
+found_none-from p x wins old n is = grind (arith, is, found_none-load)
+
+-- a superblock that it offered in vain: it expected none to be active there, and one is
+pub record LosesNew (p : Point) (v : ℕ) (P : Expected → Type 0) : Type 0 where
+  pub active : IsActiveName (name_of (plan_point_of p))
+  pub some : v ≢ active_word Null
+  pub discards : one_if (is_unneeded (turn_stage_of p)) ≡ 0
+  pub expected : P (record { word = name_of (plan_point_of p); value = active_word Null })
+
+-- the exchange was lost
+not-null : (v : ℕ) → not (v == active_word Null) ≡ true → v ≢ active_word Null
+not-null v lost is = absurd (grind (arith, lost, is))
+
+loses-block :
+    (p : BlockPoint) (o : Continuation) (v : ℕ) (P : Expected → Type 0)
+    → IsTrue (offers_new (point.Block p o) && not (found_in (point.Block p o) v).won)
+    → All P (expects_of (point.Block p o)) → LosesNew (point.Block p o) v P
+unfolding expects_of plan_point_of
+loses-block (block.InstallSuperblock at) o v P lost all = record {
+  active = tt;
+  some = not-null v lost;
+  discards = refl;
+  expected = All-head P _ [] all;
+}
+loses-block p o v P lost all = absurd (true≢false (sym lost))
+
+pub loses-new :
+    (p : Point) (v : ℕ) (P : Expected → Type 0) → IsTrue (offers_new p && not (found_in p v).won) → All P (expects_of p) → LosesNew p v P
+loses-new (point.Block p o) v P lost all = loses-block p o v P lost all
+loses-new p v P lost all = absurd (true≢false (sym lost))

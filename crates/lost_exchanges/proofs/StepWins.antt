@@ -1,0 +1,144 @@
+-- What a step adds to the wins, and what its caller notes then.
+use Rattle.std.proofs.Common.{ℕ, Bool, true, false, Option, Some, None, ◌≡◌, ◌≢◌, ◌≤◌, ◌+◌, List, [], ◌∷◌, ◌++◌, length, refl, arith, ap, sym, subst, inl, inr, ◌∙◌, length-append, append-nil}
+use Rattle.std.specs.Prelude.{◌==◌, ◌&&◌, not, if◌then◌else◌, count_by, option_to_list, All}
+use Rattle.std.proofs.lemmas.Bool.{cases_Bool, cond-true, cond-false, eq-eqb, ne_eqb, eqb-true, and_from, and_left, and_right, true≢false}
+use Rattle.std.proofs.lemmas.List.Elements.{All-cons, All-nil}
+use Rattle.word_table.specs.declared.action.Action.{Action}
+use Rattle.word_table.specs.declared.action.Action.TheVariants.{Load, Store, Cas, Swap, And}
+use Rattle.sound_state.proofs.Common.{WordName, after_action, State, action_at, name_at, found_at}
+use Rattle.word_table.specs.Actions.{found_by}
+use Rattle.errand_steps.specs.Errands.{counts_won, is_lost_exchange}
+use Rattle.lost_exchanges.specs.Contention.{is_against}
+use Rattle.lost_exchanges.specs.Wins.{Win, Wins, same_name, offers, win_at, win_list_after, note_at, is_self_exchange, wins_after}
+use Rattle.lost_exchanges.proofs.CountLemmas.{count-one, count-other}
+use Rattle.lost_exchanges.proofs.SameNames.{same-name-one, same-name-differs}
+
+-- whether the action is a store
+abbrev pub IsStore : Action → Type 0
+IsStore (Store name new) = Unit {0}
+IsStore a = ⊥
+
+-- an action that isn't a store, and wins nothing, leaves its word
+pub word-stays : (a : Action) (v : ℕ) → counts_won a (found_by a v) ≡ false → (IsStore a → ⊥) → after_action a v ≡ v
+word-stays (Load name) v won store = refl
+word-stays (Store name new) v won store = absurd (store tt)
+word-stays (Cas name expected new) v won store =
+    elim (cases_Bool (v == expected)) [
+      | inl is ↦
+          elim (cases_Bool (expected == new)) [
+            | inl same ↦ cond-true (v == expected) new v is ∙ (sym (eqb-true expected new same) ∙ sym (eqb-true v expected is))
+            | inr differ ↦ let wins : ((v == expected) && not (expected == new)) ≡ true = rw (is, differ) refl in absurd (true≢false (sym wins ∙ won))
+          ]
+      | inr isnt ↦ cond-false (v == expected) new v isnt
+    ]
+word-stays (Swap name new) v won store = absurd (true≢false won)
+word-stays (And name mask) v won store = absurd (true≢false won)
+
+-- what the caller wins by its step, where it wins
+abbrev pub the_win : State → ℕ → Win
+the_win s caller = record { caller = caller; word = name_at s caller; install = offers (s.errand caller).point }
+
+pub win-some : (s : State) (caller : ℕ) → counts_won (action_at s caller) (found_at s caller) ≡ true → win_at s caller ≡ Some (the_win s caller)
+win-some s caller won = cond-true (counts_won (action_at s caller) (found_at s caller)) (Some (the_win s caller)) None won
+
+pub win-none : (s : State) (caller : ℕ) → counts_won (action_at s caller) (found_at s caller) ≡ false → win_at s caller ≡ None
+win-none s caller none = cond-false (counts_won (action_at s caller) (found_at s caller)) (Some (the_win s caller)) None none
+
+-- so the list stays, or has one more
+pub list-stays :
+    (s : State) (caller : ℕ) (list : List Win) → counts_won (action_at s caller) (found_at s caller) ≡ false → win_list_after s caller list ≡ list
+list-stays s caller list none = ap (λ o. list ++ option_to_list o) (win-none s caller none) ∙ append-nil list
+
+pub list-longer :
+    (s : State) (caller : ℕ) (list : List Win) → counts_won (action_at s caller) (found_at s caller) ≡ true
+    → length (win_list_after s caller list) ≡ length list + 1
+list-longer s caller list won =
+    ap (λ o. length (list ++ option_to_list o)) (win-some s caller won) ∙ length-append list (the_win s caller ∷ [])
+
+pub list-least : (s : State) (caller : ℕ) (list : List Win) → length list ≤ length (win_list_after s caller list)
+list-least s caller list = omega (arith, length-append list (option_to_list (win_at s caller)))
+
+-- what holds of what it wins, if anything, holds of each such win
+pub all-win : (P : Win → Type 0) (s : State) (caller : ℕ) → P (the_win s caller) → All P (option_to_list (win_at s caller))
+all-win P s caller h =
+    elim (cases_Bool (counts_won (action_at s caller) (found_at s caller))) [
+      | inl won ↦ subst (λ o. All P (option_to_list o)) (sym (win-some s caller won)) (All-cons P (the_win s caller) [] h (All-nil P))
+      | inr none ↦ subst (λ o. All P (option_to_list o)) (sym (win-none s caller none)) (All-nil P)
+    ]
+
+-- where its win isn't of a kind, it adds none of that kind
+pub no-count :
+    (p : Win → Bool) (s : State) (caller : ℕ) → p (the_win s caller) ≡ false → count_by p (option_to_list (win_at s caller)) ≡ 0
+no-count p s caller h =
+    elim (cases_Bool (counts_won (action_at s caller) (found_at s caller))) [
+      | inl won ↦ ap (λ o. count_by p (option_to_list o)) (win-some s caller won) ∙ count-other p (the_win s caller) h
+      | inr none ↦ ap (λ o. count_by p (option_to_list o)) (win-none s caller none)
+    ]
+
+-- where it wins nothing, it adds none of any kind
+pub no-won :
+    (p : Win → Bool) (s : State) (caller : ℕ) → counts_won (action_at s caller) (found_at s caller) ≡ false
+    → count_by p (option_to_list (win_at s caller)) ≡ 0
+no-won p s caller none = ap (λ o. count_by p (option_to_list o)) (win-none s caller none)
+
+-- where it wins, and its win is of the kind, it adds one
+pub one-count :
+    (p : Win → Bool) (s : State) (caller : ℕ) → counts_won (action_at s caller) (found_at s caller) ≡ true → p (the_win s caller) ≡ true
+    → count_by p (option_to_list (win_at s caller)) ≡ 1
+one-count p s caller won h = ap (λ o. count_by p (option_to_list o)) (win-some s caller won) ∙ count-one p (the_win s caller) h
+
+-- its win isn't against itself, nor against anyone on another word; on its word it is against every other caller
+pub against-own : (s : State) (caller : ℕ) (m : WordName) → is_against caller m (the_win s caller) ≡ false
+against-own s caller m = rw (eq-eqb caller caller refl) refl
+
+pub against-apart : (s : State) (caller i : ℕ) (m : WordName) → m ≢ name_at s caller → is_against i m (the_win s caller) ≡ false
+against-apart s caller i m differ =
+    and_right (not (caller == i)) (same_name (name_at s caller) m) (same-name-differs (name_at s caller) m (λ is. differ (sym is)))
+
+pub against-other :
+    (s : State) (caller i : ℕ) (m : WordName) → i ≢ caller → m ≡ name_at s caller → is_against i m (the_win s caller) ≡ true
+against-other s caller i m other is =
+    and_from (not (caller == i)) (same_name (name_at s caller) m) (ap not (ne_eqb caller i (λ same. other (sym same))))
+    (same-name-one (name_at s caller) m (sym is))
+
+-- the notes of other callers, and of other words, stay
+pub noted-others :
+    (s : State) (caller : ℕ) (w : Wins) (i : ℕ) (m : WordName) → i ≢ caller → (wins_after s caller w).noted i m ≡ w.noted i m
+noted-others s caller w i m other =
+    cond-false ((i == caller) && same_name m (name_at s caller)) (note_at s caller (length (win_list_after s caller w.list)) (w.noted caller m)) (w.noted i m)
+    (and_left (i == caller) (same_name m (name_at s caller)) (ne_eqb i caller other))
+
+pub noted-apart :
+    (s : State) (caller : ℕ) (w : Wins) (i : ℕ) (m : WordName) → m ≢ name_at s caller → (wins_after s caller w).noted i m ≡ w.noted i m
+noted-apart s caller w i m differ =
+    cond-false ((i == caller) && same_name m (name_at s caller)) (note_at s caller (length (win_list_after s caller w.list)) (w.noted caller m)) (w.noted i m)
+    (and_right (i == caller) (same_name m (name_at s caller)) (same-name-differs m (name_at s caller) differ))
+
+-- the caller notes its word
+pub noted-own :
+    (s : State) (caller : ℕ) (w : Wins) (m : WordName) → m ≡ name_at s caller
+    → (wins_after s caller w).noted caller m ≡ note_at s caller (length (win_list_after s caller w.list)) (w.noted caller m)
+noted-own s caller w m is =
+    cond-true ((caller == caller) && same_name m (name_at s caller)) (note_at s caller (length (win_list_after s caller w.list)) (w.noted caller m)) (w.noted caller m)
+    (and_from (caller == caller) (same_name m (name_at s caller)) (eq-eqb caller caller refl) (same-name-one m (name_at s caller) is))
+
+-- of a load, a store and a change that it won it notes all wins; of an exchange that it lost none
+pub note-seen :
+    (s : State) (caller wins : ℕ) (old : Option ℕ) → is_lost_exchange (action_at s caller) (found_at s caller) ≡ false → is_self_exchange (action_at s caller) ≡ false
+    → note_at s caller wins old ≡ Some wins
+note-seen s caller wins old kept new =
+    cond-false (is_lost_exchange (action_at s caller) (found_at s caller)) None (if is_self_exchange (action_at s caller) then old else Some wins) kept
+    ∙ cond-false (is_self_exchange (action_at s caller)) old (Some wins) new
+
+pub note-lost :
+    (s : State) (caller wins : ℕ) (old : Option ℕ) → is_lost_exchange (action_at s caller) (found_at s caller) ≡ true → note_at s caller wins old ≡ None
+note-lost s caller wins old lost =
+    cond-true (is_lost_exchange (action_at s caller) (found_at s caller)) None (if is_self_exchange (action_at s caller) then old else Some wins) lost
+
+-- of an exchange of a number for itself what it had noted
+pub note-confirmed :
+    (s : State) (caller wins : ℕ) (old : Option ℕ) → is_lost_exchange (action_at s caller) (found_at s caller) ≡ false → is_self_exchange (action_at s caller) ≡ true
+    → note_at s caller wins old ≡ old
+note-confirmed s caller wins old kept same =
+    cond-false (is_lost_exchange (action_at s caller) (found_at s caller)) None (if is_self_exchange (action_at s caller) then old else Some wins) kept
+    ∙ cond-true (is_self_exchange (action_at s caller)) old (Some wins) same

@@ -1,0 +1,113 @@
+-- What a step does to what its caller expects, and to its turn: the statements that the points owe.
+use Rattle.std.proofs.Common.{ℕ, Bool, true, false, ◌≡◌, ◌≢◌, ◌≤◌, ◌+◌, List, [], ◌⊎◌, ◌&&◌, not, All, Any, Option, Some, None, IsTrue}
+use Rattle.sound_state.proofs.Common.{Null, active_word, Found, WordName, name_of, after_action, BlockPoint, Event, Next, At, End, Retire, Pick, Unlist, Point}
+use Rattle.sound_state.proofs.Common.{counts_lost, event_of, next_of, plan_point_of, turn_stage_of, is_unneeded, one_if, gives_small, refuses_small}
+use Rattle.word_table.specs.declared.action.Action.{Action}
+use Rattle.word_table.specs.Actions.{found_by}
+use Rattle.superblock_parts.specs.declared.point.BlockPoint.TheVariants as block
+use Rattle.errand_steps.specs.declared.next.Next.TheVariants.{Turn}
+use Rattle.errand_steps.specs.declared.point.Point.TheVariants as point
+use Rattle.errand_steps.specs.Errands.{is_lost_exchange}
+use Rattle.lost_exchanges.specs.Expectations.{Expected, expects_of, continuation_expects}
+use Rattle.sound_state.specs.TurnStages.{continuation_turn_stage, is_turn, lacks_answer, is_seeking, is_offering}
+use Rattle.lost_exchanges.specs.Wins.{is_self_exchange, offers}
+
+-- what a caller expected before, of another word than that of the step
+abbrev pub IsCarried : Point → WordName → Expected → Type 0
+IsCarried p n e = Any (λ x. x ≡ e) (expects_of p) × (e.word ≢ n)
+
+-- what it sees or leaves in the word of the step, by a load, a store or a change that it won
+pub record IsSeen (a : Action) (x : Found) (e : Expected) : Type 0 where
+  pub word : e.word ≡ name_of a
+  pub value : after_action a x.value ≡ e.value
+  pub kept : is_lost_exchange a x ≡ false
+  pub noted : is_self_exchange a ≡ false
+
+abbrev pub MayExpect : Point → Action → Found → Expected → Type 0
+MayExpect p a x e = IsCarried p (name_of a) e ⊎ IsSeen a x e
+
+-- what a caller expects where it goes on, whatever its retired list says
+abbrev pub next_expects : Next → List Expected
+next_expects (At p) = expects_of p
+next_expects (End r) = []
+next_expects (Turn s need) = []
+next_expects (Retire s d o) = continuation_expects s o
+next_expects (Pick s held o) = continuation_expects s o
+next_expects (Unlist s d o) = continuation_expects s o
+
+-- 1 where it has no answer yet there; where its new superblock wasn't needed; where it found none active
+abbrev pub next_unanswered : Next → ℕ
+next_unanswered (At p) = one_if (lacks_answer (turn_stage_of p))
+next_unanswered (End r) = 0
+next_unanswered (Turn s need) = 1
+next_unanswered (Retire s d o) = one_if (lacks_answer (continuation_turn_stage o))
+next_unanswered (Pick s held o) = one_if (lacks_answer (continuation_turn_stage o))
+next_unanswered (Unlist s d o) = one_if (lacks_answer (continuation_turn_stage o))
+
+abbrev pub next_discards : Next → ℕ
+next_discards (At p) = one_if (is_unneeded (turn_stage_of p))
+next_discards (End r) = 0
+next_discards (Turn s need) = 1
+next_discards (Retire s d o) = one_if (is_unneeded (continuation_turn_stage o))
+next_discards (Pick s held o) = one_if (is_unneeded (continuation_turn_stage o))
+next_discards (Unlist s d o) = one_if (is_unneeded (continuation_turn_stage o))
+
+abbrev pub next_seeks : Next → Bool
+next_seeks (At p) = is_seeking (turn_stage_of p)
+next_seeks (End r) = false
+next_seeks (Turn s need) = false
+next_seeks (Retire s d o) = is_turn (continuation_turn_stage o)
+next_seeks (Pick s held o) = is_turn (continuation_turn_stage o)
+next_seeks (Unlist s d o) = is_turn (continuation_turn_stage o)
+
+abbrev pub next_offers : Next → ℕ
+next_offers (At p) = one_if (is_offering (turn_stage_of p))
+next_offers n = 0
+
+-- the caller loads the active word
+abbrev pub looks_active : Point → Bool
+looks_active (point.Block (block.LoadActive s) o) = true
+looks_active p = false
+
+-- it offers a new superblock
+abbrev pub is_new_offer : BlockPoint → Bool
+is_new_offer (block.InstallSuperblock at) = true
+is_new_offer p = false
+
+abbrev pub offers_new : Point → Bool
+offers_new (point.Block p o) = is_new_offer p
+offers_new p = false
+
+-- what a point's step finds, where its word is v
+abbrev pub found_in : Point → ℕ → Found
+found_in p v = found_by (plan_point_of p) v
+
+-- the step carries or sees all that its caller expects after it
+abbrev pub ExpectsOn : Point → ℕ → Type 0
+ExpectsOn p v = All (MayExpect p (plan_point_of p) (found_in p v)) (next_expects (next_of p (found_in p v)))
+
+-- a step that counts as lost finds another word than its caller expects there
+abbrev pub LosesOn : Point → ℕ → Type 0
+LosesOn p v =
+    counts_lost p (found_in p v) ≡ true
+    → Any (λ e. (e.word ≡ name_of (plan_point_of p)) × (v ≢ e.value)) (expects_of p)
+
+-- 1 where the event gives this caller a small block, and where it refuses one
+abbrev pub given_by : ℕ → Option Event → ℕ
+given_by caller None = 0
+given_by caller (Some e) = one_if (gives_small caller e)
+
+abbrev pub refused_by : ℕ → Option Event → ℕ
+refused_by caller None = 0
+refused_by caller (Some e) = one_if (refuses_small caller e)
+
+-- what a step does to its caller's turn that finds v, is won or isn't, adds this event and leads there
+pub record TurnsTo (caller : ℕ) (p : Point) (v : ℕ) (won : Bool) (e : Option Event) (n : Next) : Type 0 where
+  pub unanswered : one_if (lacks_answer (turn_stage_of p)) ≤ given_by caller e + refused_by caller e + next_unanswered n
+  pub discards : next_discards n ≤ one_if (is_unneeded (turn_stage_of p)) + one_if (offers_new p && not won)
+  pub offers : next_offers n + one_if (offers p && won) ≤ one_if (is_offering (turn_stage_of p)) + given_by caller e
+  pub seeks : IsTrue (next_seeks n) → IsTrue (is_seeking (turn_stage_of p)) ⊎ (IsTrue (looks_active p) × (v ≡ active_word Null))
+
+-- the same, with what the step finds where its word is v
+abbrev pub TurnsOn : ℕ → Point → ℕ → Type 0
+TurnsOn caller p v = TurnsTo caller p v (found_in p v).won (event_of caller p (found_in p v)) (next_of p (found_in p v))

@@ -1,0 +1,97 @@
+-- Every step keeps what was won, noted and lost.
+use Rattle.std.proofs.Common.{ℕ, true, ◌≡◌, ◌≢◌, ◌<◌, ◌≤◌, ◌+◌, ◌-◌, ◌*◌, ◌^◌, List, [], ◌∷◌, arith, subst, refl, ◌==◌, not, Any}
+use Rattle.std.proofs.lemmas.List.Elements.{All-nil}
+use Rattle.sound_state.proofs.Common.{Geometry, WordName, name_of, Exists, Point, Idle, Block, Stack, Desc, Partial, Large, counts_lost, FitsPoint, next_of}
+use Rattle.sound_state.proofs.Common.{plan_point_of, State, Step, action_at, name_at, word_at, found_at, IsSound, IsSoundWithoutCounts, one_if}
+use Rattle.errand_steps.specs.Errands.{counts_won}
+use Rattle.errand_steps.proofs.PlanLemmas.{plan-exists}
+use Rattle.lost_exchanges.specs.Contention.{IsDirty, dirty_pairs}
+use Rattle.lost_exchanges.specs.Expectations.{Expected, expects_of}
+use Rattle.lost_exchanges.specs.Wins.{Wins, wins_after}
+use Rattle.lost_exchanges.specs.Won.{IsWon}
+use Rattle.sound_state.proofs.CountedLemmas.{without-counts}
+use Rattle.sound_state.proofs.shared.PointLemmas.{exists-at, fits-at}
+use Rattle.lost_exchanges.proofs.BlockExpects.{block-expects}
+use Rattle.lost_exchanges.proofs.ContendLemmas.{pairs-after, step-contended, was-dirty}
+use Rattle.lost_exchanges.proofs.DescExpects.{desc-expects}
+use Rattle.lost_exchanges.proofs.ExpectLemmas.{any-first, lost-differs}
+use Rattle.lost_exchanges.proofs.InstallWins.{step-installed}
+use Rattle.lost_exchanges.proofs.LargeExpects.{large-expects}
+use Rattle.lost_exchanges.proofs.NoteLemmas.{ExpectsAfter, step-noted}
+use Rattle.lost_exchanges.proofs.PartialExpects.{partial-expects}
+use Rattle.lost_exchanges.proofs.SettleExpects.{expects-settled}
+use Rattle.lost_exchanges.proofs.StackExpects.{stack-expects}
+use Rattle.lost_exchanges.proofs.StoreLemmas.{stores-unexpected}
+use Rattle.lost_exchanges.proofs.WinDefs.{ExpectsOn, LosesOn, MayExpect, found_in}
+
+-- what a caller expects after a step it carries or sees
+expects-on : (g : Geometry) (caller : ℕ) (p : Point) (v : ℕ) → FitsPoint g caller p → v < 2 ^ 64 → ExpectsOn p v
+unfolding next_of expects_of
+expects-on g caller Idle v fits below = All-nil (MayExpect Idle (plan_point_of Idle) (found_in Idle v))
+expects-on g caller (Block p o) v fits below = block-expects p o v below
+expects-on g caller (Stack p o) v fits below = stack-expects p o v below
+expects-on g caller (Desc p o) v fits below = desc-expects g caller p o v fits
+expects-on g caller (Partial p o) v fits below = partial-expects g caller p o v fits below
+expects-on g caller (Large p o) v fits below = large-expects p o v below
+
+-- the first of these is of the word, and expects another number there
+abbrev FirstDiffers : WordName → ℕ → List Expected → Type 0
+FirstDiffers n v [] = ⊥
+FirstDiffers n v (e ∷ es) = (e.word ≡ n) × (not (v == e.value) ≡ true)
+
+first-differs : (n : WordName) (v : ℕ) (es : List Expected) → FirstDiffers n v es → Any (λ e. (e.word ≡ n) × (v ≢ e.value)) es
+first-differs n v [] none = absurd none
+first-differs n v (e ∷ es) is = any-first (λ e. (e.word ≡ n) × (v ≢ e.value)) e es (is.0, lost-differs v e.value is.1)
+
+-- such is what is expected where a step counts as lost
+lost-expects :
+    (p : Point) (v : ℕ) → counts_lost p (found_in p v) ≡ true → FirstDiffers (name_of (plan_point_of p)) v (expects_of p)
+unfolding plan_point_of expects_of
+lost-expects p v lost = grind (arith, lost)
+
+-- what it loses it expected otherwise
+pub loses-on : (p : Point) (v : ℕ) → LosesOn p v
+loses-on p v lost = first-differs (name_of (plan_point_of p)) v (expects_of p) (lost-expects p v lost)
+
+-- the errand after a step expects what its caller carries or sees
+pub expects-after : (g : Geometry) (s : State) (caller : ℕ) → IsSoundWithoutCounts g s → caller < g.callers → ExpectsAfter s caller
+expects-after g s caller sound has =
+    let e = s.errand caller in
+    let own = sound.parts.1.errands caller has in
+    expects-settled e (found_at s caller) (MayExpect e.point (action_at s caller) (found_at s caller))
+    (expects-on e.geometry e.caller e.point (word_at s caller) own.rule.point (sound.parts.1.words (name_at s caller)))
+
+-- so a step keeps what was won and noted, and what that bounds
+pub steps-won :
+    (g : Geometry) (s : State) (w : Wins) (caller : ℕ) (s' : State) → IsSoundWithoutCounts g s → IsWon g s w → caller < g.callers → Step s caller s'
+    → IsWon g s' (wins_after s caller w)
+steps-won g s w caller s' sound won has step =
+    let l = sound.parts.0 in
+    let old = sound.parts.1 in
+    let e = s.errand caller in
+    let own = old.errands caller has in
+    let expects = expects-after g s caller sound has in
+    let exists : Exists g (name_at s caller) =
+    subst (λ h. Exists h (name_at s caller)) own.geometry
+    (plan-exists e.geometry e.caller e.point own.rule.geometry own.rule.caller own.rule.point) in
+    record {
+      noted =
+          step-noted g s caller s' w has step expects (λ other has_other differ. stores-unexpected g s l caller other old has has_other differ) won.noted;
+      contended = step-contended g s caller s' w has exists step (loses-on e.point (word_at s caller)) won.noted won.contended;
+      installed = step-installed g s w caller s' has (fits-at g s l caller e.point old has refl) step won.installed expects;
+    }
+
+-- the pair of who loses was dirty
+pub lost-dirty :
+    (g : Geometry) (s : State) (w : Wins) (caller : ℕ) → IsWon g s w → caller < g.callers → counts_lost (s.errand caller).point (found_at s caller) ≡ true
+    → IsDirty w caller (name_at s caller)
+lost-dirty g s w caller won has lost = was-dirty g s caller w has won.noted (loses-on (s.errand caller).point (word_at s caller)) lost
+
+-- and so the dirty pairs change with what is won and lost
+pub step-pairs :
+    (g : Geometry) (s : State) (w : Wins) (caller : ℕ) → IsSound g s → IsWon g s w → caller < g.callers
+    → dirty_pairs g (wins_after s caller w) + one_if (counts_lost (s.errand caller).point (found_at s caller))
+    ≤ dirty_pairs g w + (g.callers - 1) * one_if (counts_won (action_at s caller) (found_at s caller))
+step-pairs g s w caller sound won has =
+    let p = (s.errand caller).point in
+    pairs-after g s caller w has (exists-at g s caller p (without-counts g s sound) has refl) (loses-on p (word_at s caller)) won.noted

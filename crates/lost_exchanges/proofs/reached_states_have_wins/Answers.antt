@@ -1,0 +1,17 @@
+use Rattle.errand_steps.specs.Openings.{opening, installed}
+use Rattle.lost_exchanges.specs.Wins.{no_wins}
+use Rattle.sound_state.proofs.beginnings.OpeningLemmas.{opening-sound}
+use Rattle.sound_state.proofs.beginnings.InstalledLemmas.{installed-sound}
+use Rattle.lost_exchanges.proofs.FirstWins.{first-won}
+use Rattle.lost_exchanges.proofs.MadeLemmas.{made-won}
+use Rattle.lost_exchanges.proofs.reached_states_have_wins.Goals as goal
+
+pub returns-clause-opening : goal.returns-clause-opening
+returns-clause-opening c =
+    λ g s moves after w checked first made.
+    made-won g s no_wins moves after w (opening-sound g s checked first) (first-won g (opening g) s first) made
+
+pub returns-clause-installed : goal.returns-clause-installed
+returns-clause-installed c =
+    λ g class s moves after w checked has first made.
+    made-won g s no_wins moves after w (installed-sound g class s checked has first) (first-won g (installed g class) s first) made

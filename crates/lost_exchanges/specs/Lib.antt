@@ -1,0 +1,6 @@
+pub mod Contention
+pub mod Expectations
+pub mod Installs
+pub mod Made
+pub mod Wins
+pub mod Won

@@ -1,7 +1,0 @@
-use Rattle.std.proofs.Common.{ℕ, ◌<◌, ◌≤◌}
-use Rattle.pool_model.specs.Search.{IsMarked}
-use Rattle.pool_model.proofs.plain.marks.is_gap.Given as goal
-
--- no number so far is marked
-abbrev pub invariant-loop-k : goal.invariant-loop-k
-invariant-loop-k l = (j : ℕ) → l.first ≤ j → j < l.k → ¬ IsMarked l.marks j

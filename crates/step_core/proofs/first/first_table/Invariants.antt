@@ -1,6 +1,0 @@
-use Rattle.step_core.specs.Firsts.{IsTable}
-use Rattle.step_core.specs.Openings.{first_words}
-use Rattle.step_core.proofs.first.first_table.Given as goal
-
-abbrev pub invariant-loop-index : goal.invariant-loop-index
-invariant-loop-index l = IsTable l.layout (first_words l.layout l.installed) l.index l.words.items

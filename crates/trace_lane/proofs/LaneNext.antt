@@ -1,0 +1,310 @@
+-- An advance of a lane, part after part.
+use Rattle.std.proofs.Common.{ℕ, suc, true, false, ◌≡◌, ◌≢◌, ◌<◌, ◌+◌, ◌-◌, ◌%◌, ◌^◌, ◌∷◌, List, [], Option, Some, None, length, min, drop, refl, sym, ap}
+use Rattle.std.proofs.Common.{◌∙◌, subst, arith, get_or, drop-cons, below_more}
+use Rattle.heap_geometry.specs.declared.geometry.Geometry.{Geometry}
+use Rattle.heap_geometry.specs.Need.{need_of}
+use Rattle.pool_model.specs.declared.event.Event.{Event}
+use Rattle.errand_steps.specs.Begins.{IsBusy}
+use Rattle.errand_steps.specs.Errands.{ErrandFields}
+use Rattle.errand_steps.specs.Calls.{alloc, free, write, read, put, take}
+use Rattle.call_events.proofs.EndLemmas.{way-busy}
+use Rattle.sound_state.specs.Runs.{steps}
+use Rattle.step_machine.specs.Cores.{CoreFields, IsCore, errand_at}
+use Rattle.step_machine.specs.Moments.{HasSeenMore, IsServed}
+use Rattle.trace_text.specs.declared.trace.Op.{Op}
+use Rattle.trace_text.specs.declared.trace.Op.TheVariants as op
+use Rattle.lane_engine.specs.Engines.{machine_at}
+use Rattle.lane_engine.specs.declared.stepped.Stepped.{Stepped}
+use Rattle.lane_engine.specs.declared.grip.Grip.{Grip}
+use Rattle.lane_engine.specs.Machines.{MovesCore, grip_need, grip_place}
+use Rattle.lane_engine.specs.Told.{HasStepped}
+use Rattle.step_machine.proofs.MomentLemmas.{core-served, same-seen}
+use Rattle.lane_outcomes.specs.declared.registers.Held.{Held}
+use Rattle.lane_outcomes.specs.declared.outcome.Outcome.{Outcome}
+use Rattle.lane_outcomes.specs.Lane.{Position}
+use Rattle.trace_lane.specs.Advances.{AdvancesOn, GoesOnBy, BeginsOperation, IsAtHand, MayAnswer, MayBeginOperation}
+use Rattle.trace_lane.specs.declared.lane.LaneState.{LaneState}
+use Rattle.trace_lane.specs.declared.stage.OperationStage.{OperationStage}
+use Rattle.trace_lane.specs.declared.stage.OperationStage.TheVariants as stage
+use Rattle.trace_lane.specs.Lanes.{IsAt}
+use Rattle.trace_lane.specs.Operations.{IsDoing}
+use Rattle.trace_lane.specs.Paths.{FirstPassed, HasAdvanced, begun_count}
+use Rattle.trace_lane.specs.States.{IsLaneOf, IsLaneOn, StandsOn, progress_on}
+use Rattle.trace_lane.proofs.AdvanceLemmas.{advance-none, advance-then}
+use Rattle.trace_lane.proofs.ScriptLemmas.{here-below}
+use Rattle.trace_lane.proofs.PartAdvances.{calls-kept, part-begins, part-steps}
+
+-- where an operation is under way its caller is busy
+doing-busy :
+    (caller : ℕ) (events : List Event) (e : ErrandFields) (position : Position) (registers : List (Option Held)) (operation : Op) (at : OperationStage)
+    (added : List Event) → IsDoing caller events e.point position registers operation at added → IsBusy e
+doing-busy caller pool e position registers (op.Alloc r need v) stage.Calling added doing = way-busy caller (alloc need) e.point added doing.3
+doing-busy caller pool e position registers (op.Alloc r need v) (stage.Filling i) added doing =
+    way-busy caller (write doing.0.place doing.4.writing.need i ((v + i) % 2 ^ 64)) e.point [] doing.4.writing.under_way
+doing-busy caller pool e position registers (op.Alloc r need v) stage.Between added doing = absurd doing
+doing-busy caller pool e position registers (op.Alloc r need v) (stage.Summing i total) added doing = absurd doing
+doing-busy caller pool e position registers (op.Alloc r need v) (stage.Copying from i w) added doing = absurd doing
+doing-busy caller pool e position registers (op.Alloc r need v) stage.Releasing added doing = absurd doing
+doing-busy caller pool e position registers (op.Free r) stage.Calling added doing = way-busy caller (free doing.held.place doing.need) e.point added doing.under_way
+doing-busy caller pool e position registers (op.Free r) stage.Between added doing = absurd doing
+doing-busy caller pool e position registers (op.Free r) (stage.Filling i) added doing = absurd doing
+doing-busy caller pool e position registers (op.Free r) (stage.Summing i total) added doing = absurd doing
+doing-busy caller pool e position registers (op.Free r) (stage.Copying from i w) added doing = absurd doing
+doing-busy caller pool e position registers (op.Free r) stage.Releasing added doing = absurd doing
+doing-busy caller pool e position registers (op.Fill r v) (stage.Filling i) added doing =
+    way-busy caller (write doing.0.place doing.3.need i ((v + i) % 2 ^ 64)) e.point [] doing.3.under_way
+doing-busy caller pool e position registers (op.Fill r v) stage.Between added doing = absurd doing
+doing-busy caller pool e position registers (op.Fill r v) stage.Calling added doing = absurd doing
+doing-busy caller pool e position registers (op.Fill r v) (stage.Summing i total) added doing = absurd doing
+doing-busy caller pool e position registers (op.Fill r v) (stage.Copying from i w) added doing = absurd doing
+doing-busy caller pool e position registers (op.Fill r v) stage.Releasing added doing = absurd doing
+doing-busy caller pool e position registers (op.Check r) (stage.Summing i total) added doing =
+    way-busy caller (read doing.0.place doing.3.need i) e.point [] doing.3.under_way
+doing-busy caller pool e position registers (op.Check r) stage.Between added doing = absurd doing
+doing-busy caller pool e position registers (op.Check r) stage.Calling added doing = absurd doing
+doing-busy caller pool e position registers (op.Check r) (stage.Filling i) added doing = absurd doing
+doing-busy caller pool e position registers (op.Check r) (stage.Copying from i w) added doing = absurd doing
+doing-busy caller pool e position registers (op.Check r) stage.Releasing added doing = absurd doing
+doing-busy caller pool e position registers (op.Put r shelf) stage.Calling added doing =
+    way-busy caller (put doing.held.place doing.need shelf) e.point added doing.under_way
+doing-busy caller pool e position registers (op.Put r shelf) stage.Between added doing = absurd doing
+doing-busy caller pool e position registers (op.Put r shelf) (stage.Filling i) added doing = absurd doing
+doing-busy caller pool e position registers (op.Put r shelf) (stage.Summing i total) added doing = absurd doing
+doing-busy caller pool e position registers (op.Put r shelf) (stage.Copying from i w) added doing = absurd doing
+doing-busy caller pool e position registers (op.Put r shelf) stage.Releasing added doing = absurd doing
+doing-busy caller pool e position registers (op.Take r shelf) stage.Calling added doing = way-busy caller (take shelf) e.point added doing.2
+doing-busy caller pool e position registers (op.Take r shelf) stage.Between added doing = absurd doing
+doing-busy caller pool e position registers (op.Take r shelf) (stage.Filling i) added doing = absurd doing
+doing-busy caller pool e position registers (op.Take r shelf) (stage.Summing i total) added doing = absurd doing
+doing-busy caller pool e position registers (op.Take r shelf) (stage.Copying from i w) added doing = absurd doing
+doing-busy caller pool e position registers (op.Take r shelf) stage.Releasing added doing = absurd doing
+doing-busy caller pool e position registers (op.Resize r need) stage.Calling added doing = way-busy caller (alloc need) e.point added doing.under_way
+doing-busy caller pool e position registers (op.Resize r need) (stage.Copying old i None) added doing =
+    way-busy caller (read old.place old.need i) e.point [] doing.under_way
+doing-busy caller pool e position registers (op.Resize r need) (stage.Copying old i (Some word)) added doing =
+    way-busy caller (write doing.new.place (need_of need) i word) e.point [] doing.under_way
+doing-busy caller pool e position registers (op.Resize r need) stage.Releasing added doing =
+    way-busy caller (free doing.old.place doing.old.need) e.point doing.part doing.under_way
+doing-busy caller pool e position registers (op.Resize r need) stage.Between added doing = absurd doing
+doing-busy caller pool e position registers (op.Resize r need) (stage.Filling i) added doing = absurd doing
+doing-busy caller pool e position registers (op.Resize r need) (stage.Summing i total) added doing = absurd doing
+
+-- which counts as begun
+pub count-under : (results : List Outcome) (at : OperationStage) → at ≢ stage.Between → begun_count results at ≡ length results + 1
+count-under results stage.Between not = absurd (not refl)
+count-under results stage.Calling not = omega arith
+count-under results (stage.Filling i) not = omega arith
+count-under results (stage.Summing i total) not = omega arith
+count-under results (stage.Copying old i None) not = omega arith
+count-under results (stage.Copying old i (Some word)) not = omega arith
+count-under results stage.Releasing not = omega arith
+
+-- an operation of the script is under way
+pub record IsUnder (e : ErrandFields) (operations : List Op) : Type 0 where
+  pub operation : Op
+  pub rest : List Op
+  pub next : operations ≡ operation ∷ rest
+  pub busy : IsBusy e
+
+under-at :
+    (caller : ℕ) (events : List Event) (e : ErrandFields) (position : Position) (registers : List (Option Held)) (operations : List Op) (at : OperationStage)
+    (added : List Event) → at ≢ stage.Between → IsAt caller events e position registers operations at added → IsUnder e operations
+under-at caller events e position registers operations stage.Between added not stands = absurd (not refl)
+under-at caller events e position registers operations stage.Calling added not (o, rest, next, doing) =
+    record { operation = o; rest = rest; next = next; busy = doing-busy caller events e position registers o stage.Calling added doing }
+under-at caller events e position registers operations (stage.Filling i) added not (o, rest, next, doing) =
+    record { operation = o; rest = rest; next = next; busy = doing-busy caller events e position registers o (stage.Filling i) added doing }
+under-at caller events e position registers operations (stage.Summing i total) added not (o, rest, next, doing) =
+    record { operation = o; rest = rest; next = next; busy = doing-busy caller events e position registers o (stage.Summing i total) added doing }
+under-at caller events e position registers operations (stage.Copying old i word) added not (o, rest, next, doing) =
+    record { operation = o; rest = rest; next = next; busy = doing-busy caller events e position registers o (stage.Copying old i word) added doing }
+under-at caller events e position registers operations stage.Releasing added not (o, rest, next, doing) =
+    record { operation = o; rest = rest; next = next; busy = doing-busy caller events e position registers o stage.Releasing added doing }
+
+-- a list from one of its elements on
+pub next-op :
+    (operations : List Op) (results : List Outcome) (k : ℕ) (d : Op) → length results ≡ k → k < length operations
+    → IsAtHand operations results (get_or operations k d)
+next-op operations results k d here below =
+    (drop (suc k) operations, ap (λ n. drop n operations) here ∙ drop-cons operations k d below)
+
+-- so many operations begun, and one more
+pub passed-more :
+    (passed : ℕ → ℕ → Type 0) (caller count : ℕ) → FirstPassed passed caller count → passed caller (min count (2 ^ 32 - 1))
+    → FirstPassed passed caller (count + 1)
+passed-more passed caller count before last = below_more (λ k. passed caller (min k (2 ^ 32 - 1))) count before last
+
+-- a lane that is not between two operations
+lane-under :
+    (c : CoreFields) (operations : List Op) (lane : LaneState Grip) → IsLaneOn c operations lane → lane.stage ≢ stage.Between
+    → IsUnder (errand_at c.errands lane.caller) (drop (length lane.outcomes.items) operations)
+lane-under c operations lane stands not =
+    let l = stands.stands in
+    under-at lane.caller c.events (errand_at c.errands lane.caller) l.position _ (drop (length lane.outcomes.items) operations) lane.stage l.added not
+    l.stands
+
+-- a lane stands on a machine that its calls and steps have made of another one
+stands-after :
+    (c after : CoreFields) (operations : List Op) (lane new : LaneState Grip) → StandsOn c operations lane → IsCore after
+    → after.geometry ≡ c.geometry → new.caller ≡ lane.caller
+    → IsLaneOf (machine_at after lane.caller) operations new → StandsOn after operations new
+stands-after c after operations lane new on core heap same stands =
+    record {
+      core = core;
+      has = subst (λ k. k < after.geometry.callers) (sym same) (subst (λ (g : Geometry). lane.caller < g.callers) (sym heap) on.has);
+      stands = subst (λ k. IsLaneOf (machine_at after k) operations new) (sym same) stands;
+    }
+
+-- a lane between two operations begins the next one
+pub before-next :
+    (c : CoreFields) (operations : List Op) (lane : LaneState Grip) (operation : Op) → StandsOn c operations lane → lane.stage ≡ stage.Between
+    → IsAtHand operations lane.outcomes.items operation → MayBeginOperation operation c operations lane
+before-next c operations lane operation on between next =
+    record { next = next; between = between; stands = on.stands; served = core-served c lane.caller on.core on.has }
+
+-- so it does with the operation at this place, where it has as many outcomes
+pub next-ready :
+    (c : CoreFields) (operations : List Op) (lane : LaneState Grip) (k : ℕ) (d : Op) → StandsOn c operations lane → lane.stage ≡ stage.Between
+    → length lane.outcomes.items ≡ k → k < length operations → MayBeginOperation (get_or operations k d) c operations lane
+next-ready c operations lane k d on between here below =
+    before-next c operations lane (get_or operations k d) on between (next-op operations lane.outcomes.items k d here below)
+
+-- the gate was told of the operation's number
+pub gate-number :
+    (passed : ℕ → ℕ → Type 0) (mid caller number op count : ℕ) → mid ≡ caller → number ≡ min op (2 ^ 32 - 1) → count ≡ op → passed mid number
+    → passed caller (min count (2 ^ 32 - 1))
+gate-number passed mid caller number op count same is here told =
+    subst (λ k. passed k (min count (2 ^ 32 - 1))) same
+    (subst (passed mid) (is ∙ ap (λ n. min n (2 ^ 32 - 1)) (sym here)) told)
+
+-- a machine's step of the lane's caller, and what it told
+pub record HasMade (t u : CoreFields) (lane : LaneState Grip) (told : Stepped Grip) : Type 0 where
+  pub rule : IsCore u
+  pub geometry : u.geometry ≡ t.geometry
+  pub busy :
+      IsBusy (errand_at t.errands lane.caller)
+      → HasStepped grip_place grip_need (errand_at t.errands lane.caller) (errand_at u.errands lane.caller) t.events u.events told
+  pub moves : IsBusy (errand_at t.errands lane.caller) → MovesCore t (steps lane.caller) u
+  pub others :
+      (other : ℕ) → other ≢ lane.caller
+      → (errand_at u.errands other ≡ errand_at t.errands other) × HasSeenMore other t.events u.events
+
+module _ (passed : ℕ → ℕ → Type 0) (operations : List Op) where
+  -- nothing has begun
+  pub onward-none : (c : CoreFields) (lane : LaneState Grip) → StandsOn c operations lane → AdvancesOn passed operations c c lane lane false
+  onward-none c lane stands =
+      record {
+        geometry = refl;
+        caller = refl;
+        stands = stands;
+        others = λ other ne. (refl, same-seen other c.events c.events refl);
+        advanced = advance-none c lane.caller operations (progress_on lane);
+        gate = λ h. h;
+      }
+
+  -- one more operation
+  pub onward-more :
+      (s t u : CoreFields) (lane mid after : LaneState Grip) (operation : Op) → AdvancesOn passed operations s t lane mid false → IsCore u
+      → MayBeginOperation operation t operations mid → BeginsOperation operation t u mid after → passed lane.caller (min (length mid.outcomes.items) (2 ^ 32 - 1))
+      → AdvancesOn passed operations s u lane after false
+  onward-more s t u lane mid after operation so core before goes last =
+      let k : mid.caller ≡ lane.caller = so.caller in
+      let gone = goes.gone_on [] operations before in
+      let kept = calls-kept mid.caller goes.begun t u goes.called in
+      record {
+        geometry = kept.geometry ∙ so.geometry;
+        caller = goes.same_caller ∙ k;
+        stands = stands-after t u operations mid after so.stands core kept.geometry goes.same_caller gone.stands;
+        others = λ other ne.
+            let stood = so.others other ne in
+            (kept.others other (λ is. ne (is ∙ k)) ∙ stood.0, subst (HasSeenMore other s.events) (sym kept.no_event) stood.1);
+        advanced =
+            advance-then s t u lane.caller operations (progress_on lane) (progress_on mid) (progress_on after) false so.advanced
+            (subst (λ c. HasAdvanced t u c operations (progress_on mid) (progress_on after) false) k
+            (part-begins t u mid after _ goes [] operations before));
+        gate = λ first.
+            let here : begun_count mid.outcomes.items mid.stage ≡ length mid.outcomes.items =
+            ap (λ a. begun_count mid.outcomes.items a) before.between ∙ omega arith in
+            subst (FirstPassed passed lane.caller) (sym gone.count)
+            (passed-more passed lane.caller (length mid.outcomes.items) (subst (FirstPassed passed lane.caller) here (so.gate first)) last);
+      }
+
+  -- the operation at this place: what is so when it has begun
+  pub record HasNext (s t u : CoreFields) (lane mid after : LaneState Grip) : Type 0 where
+    pub so : AdvancesOn passed operations s u lane after false
+    pub no_event : u.events ≡ t.events
+    pub count : begun_count after.outcomes.items after.stage ≡ length mid.outcomes.items + 1
+
+  pub onward-next :
+      (s t u : CoreFields) (lane mid after : LaneState Grip) (k number : ℕ) (d : Op) → AdvancesOn passed operations s t lane mid false → IsCore u
+      → mid.stage ≡ stage.Between → length mid.outcomes.items ≡ k → k < length operations → BeginsOperation (get_or operations k d) t u mid after
+      → number ≡ min k (2 ^ 32 - 1) → passed mid.caller number → HasNext s t u lane mid after
+  onward-next s t u lane mid after k number d so core between here below goes number_is told =
+      let ready = next-ready t operations mid k d so.stands between here below in
+      record {
+        so =
+            onward-more s t u lane mid after (get_or operations k d) so core ready goes
+            (gate-number passed mid.caller lane.caller number k (length mid.outcomes.items) so.caller number_is here told);
+        no_event = (calls-kept mid.caller goes.begun t u goes.called).no_event;
+        count = (goes.gone_on [] operations ready).count;
+      }
+
+  -- and then a step, of the operation that is under way
+  pub step-told :
+      (s t u : CoreFields) (lane mid : LaneState Grip) (told : Stepped Grip) (k : ℕ) (d : Op) → AdvancesOn passed operations s t lane mid false
+      → mid.stage ≢ stage.Between → HasMade t u mid told
+      → length mid.outcomes.items ≡ k → MayAnswer (get_or operations k d) told u t.events operations mid
+  step-told s t u lane mid told k d so not made here =
+      let on = so.stands in
+      let under = lane-under t operations mid on.stands not in
+      let below = here-below operations under.rest mid.outcomes.items under.operation under.next in
+      record {
+        next = next-op operations mid.outcomes.items k d here (subst (λ n. n < length operations) here below);
+        e = errand_at t.errands mid.caller;
+        stood = subst (λ g. IsLaneOf (record (machine_at t mid.caller) { geometry = g }) operations mid) (sym made.geometry) on.stands;
+        stepped = made.busy under.busy;
+        served =
+            subst (λ g. IsServed g mid.caller (errand_at t.errands mid.caller) t.events) (sym made.geometry)
+            (core-served t mid.caller on.core on.has);
+        still_served = core-served u mid.caller made.rule (subst (λ (g : Geometry). mid.caller < g.callers) (sym made.geometry) on.has);
+      }
+
+  -- which is answered
+  pub onward-steps :
+      (s t u v : CoreFields) (lane mid after : LaneState Grip) (told : Stepped Grip) (k : ℕ) (d : Op) → AdvancesOn passed operations s t lane mid false
+      → t.events ≡ s.events → mid.stage ≢ stage.Between → HasMade t u mid told
+      → length mid.outcomes.items ≡ k → GoesOnBy (get_or operations k d) told u v mid after → IsCore v
+      → AdvancesOn passed operations s v lane after true
+  onward-steps s t u v lane mid after told k d so same not made here goes core =
+      let operation = get_or operations k d in
+      let ready = step-told s t u lane mid told k d so not made here in
+      let k : mid.caller ≡ lane.caller = so.caller in
+      let step = made.moves (lane-under t operations mid so.stands.stands not).busy in
+      let gone = goes.gone_on t.events operations ready in
+      let kept = calls-kept mid.caller goes.begun u v goes.called in
+      record {
+        geometry = kept.geometry ∙ step.heap ∙ so.geometry;
+        caller = goes.same_caller ∙ k;
+        stands = stands-after t v operations mid after so.stands core (kept.geometry ∙ step.heap) goes.same_caller gone.stands;
+        others = λ other ne.
+            let mine : other ≢ mid.caller = λ is. ne (is ∙ k) in
+            let stepped = made.others other mine in (
+              kept.others other mine ∙ stepped.0 ∙ (so.others other ne).0,
+              subst (λ b. HasSeenMore other b v.events) same (subst (HasSeenMore other t.events) (sym kept.no_event) stepped.1),
+            );
+        advanced =
+            advance-then s t v lane.caller operations (progress_on lane) (progress_on mid) (progress_on after) true so.advanced
+            (subst (λ c. HasAdvanced t v c operations (progress_on mid) (progress_on after) true) k
+            (part-steps u v mid after t _ step goes operations ready));
+        gate = λ first.
+            let count : begun_count mid.outcomes.items mid.stage ≡ length mid.outcomes.items + 1 =
+            count-under mid.outcomes.items mid.stage not in
+            subst (FirstPassed passed lane.caller) (count ∙ sym gone.count) (so.gate first);
+      }
+
+-- where the lane is between two operations again, one more has its outcome
+pub begun-more :
+    (before after : List Outcome) (at : OperationStage) (op : ℕ) → at ≡ stage.Between → begun_count after at ≡ length before + 1 → length before ≡ op
+    → length after ≡ op + 1
+begun-more before after at op between count here =
+    let now : begun_count after stage.Between ≡ length before + 1 = ap (λ a. begun_count after a) (sym between) ∙ count in omega arith

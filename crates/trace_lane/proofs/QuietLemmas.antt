@@ -1,0 +1,118 @@
+-- A caller's block is as it was behind events of which its own leave it alone.
+use Rattle.std.proofs.Common.{ℕ, zero, suc, Bool, true, false, eqb, ◌≡◌, ◌≢◌, ◌∷◌, ◌++◌, List, [], Some, refl, sym, ◌∙◌, subst, inl, inr, append-nil}
+use Rattle.std.proofs.lemmas.Bool.{cases_Bool, cases_eq, eq-eqb}
+use Rattle.heap_geometry.specs.declared.geometry.Geometry.{Geometry}
+use Rattle.heap_geometry.specs.declared.need.Need.{Need}
+use Rattle.heap_geometry.specs.declared.need.Need.TheVariants.{Small, Large, TooLarge}
+use Rattle.heap_geometry.specs.Need.{need_of}
+use Rattle.pool_model.specs.declared.event.Event.{Event}
+use Rattle.pool_model.specs.declared.event.Event.TheVariants.{Alloc, Looked, Refuse, Free, Write, Put, Take, TakeNone}
+use Rattle.pool_model.specs.declared.owner.Owner.TheVariants.{Caller, Shelf}
+use Rattle.pool_model.specs.Calls.{IsGiving, IsRefusing, looks}
+use Rattle.pool_model.specs.Histories.{caller_of, own}
+use Rattle.pool_model.specs.Legal.{IsAllowed, IsLegalWithoutCounts}
+use Rattle.pool_model.specs.Pool.{Block, block_at, handed_to, fresh_block, pool_after, pool_of, written}
+use Rattle.pool_model.proofs.HistoryLemmas.{pool_of-push, push-append}
+use Rattle.pool_model.proofs.OwnerLemmas.{free-elsewhere, others-keep, owner-one}
+use Rattle.pool_model.proofs.PoolLemmas.{block_at-past, block_at-without_other, block_at-changed_other}
+use Rattle.errand_steps.specs.Calls.{alloc}
+use Rattle.call_events.specs.Stages.{StageOfCall, asking, asking_run, refused, given}
+use Rattle.call_events.specs.UnderWay.{HasLooked, SoFar}
+
+-- the event neither gives the block at this place away nor writes into it; none of the events does
+abbrev pub Quiet : ℕ → Event → Type 0
+Quiet place (Free caller at) = place ≢ at
+Quiet place (Put caller at shelf) = place ≢ at
+Quiet place (Write caller at i v) = place ≢ at
+Quiet place event = Unit {0}
+
+abbrev pub AllQuiet : ℕ → List Event → Type 0
+AllQuiet place [] = Unit {0}
+AllQuiet place (event ∷ events) = Quiet place event × AllQuiet place events
+
+pub quiet-append : (place : ℕ) (events more : List Event) → AllQuiet place (events ++ more) → AllQuiet place more
+quiet-append place [] more h = h
+quiet-append place (event ∷ events) more h = quiet-append place events more h.1
+
+-- one event of the caller's
+own-quiet :
+    (g : Geometry) (before : List Event) (event : Event) (caller place : ℕ) (block : Block) → IsAllowed g before event → Quiet place event
+    → block_at place (pool_of before) ≡ Some block → block.owner ≡ Caller caller
+    → block_at place (pool_after (pool_of before) event) ≡ Some block
+own-quiet g before (Alloc by need at) caller place block allowed quiet found owned =
+    block_at-past place (fresh_block by need at) (pool_of before) (free-elsewhere g (pool_of before) by need at place block allowed found) ∙ found
+own-quiet g before (Looked by class) caller place block allowed quiet found owned = found
+own-quiet g before (Refuse by need) caller place block allowed quiet found owned = found
+own-quiet g before (Free by at) caller place block allowed quiet found owned = block_at-without_other at place (pool_of before) quiet ∙ found
+own-quiet g before (Write by at i v) caller place block allowed quiet found owned =
+    block_at-changed_other at place (written i v) (pool_of before) (λ b. refl) quiet ∙ found
+own-quiet g before (Put by at shelf) caller place block allowed quiet found owned =
+    block_at-changed_other at place (handed_to (Shelf shelf)) (pool_of before) (λ b. refl) quiet ∙ found
+own-quiet g before (Take by shelf at) caller place block allowed quiet found owned =
+    let differ : place ≢ at =
+    owner-one (pool_of before) (Caller caller) (Shelf shelf) at place block allowed.0 found owned (λ e. let s : Shelf shelf ≡ Caller caller = e in cc) in
+    block_at-changed_other at place (handed_to (Caller by)) (pool_of before) (λ b. refl) differ ∙ found
+own-quiet g before (TakeNone by shelf) caller place block allowed quiet found owned = found
+
+-- the first event's part of a caller's events, and the others'
+own-first : (caller place : ℕ) (event : Event) (rest : List Event) → AllQuiet place (own caller (event ∷ rest))
+    → (caller_of event ≡ caller → Quiet place event) × AllQuiet place (own caller rest)
+own-first caller place event rest quiet =
+    elim (cases_Bool (eqb (caller_of event) caller)) [
+      | inl hers ↦ let s : AllQuiet place (event ∷ own caller rest) = rw hers at quiet in (λ is. s.0, s.1)
+      | inr other ↦ (λ is. absurd (let t : false ≡ true = sym other ∙ eq-eqb (caller_of event) caller is in cc), rw other at quiet)
+    ]
+
+-- a caller's block stays as it is
+pub quiet-keeps :
+    (g : Geometry) (before rest : List Event) (caller place : ℕ) (block : Block) → IsLegalWithoutCounts g (before ++ rest)
+    → AllQuiet place (own caller rest) → block_at place (pool_of before) ≡ Some block → block.owner ≡ Caller caller
+    → block_at place (pool_of (before ++ rest)) ≡ Some block
+quiet-keeps g before [] caller place block legal quiet found owned = rw (append-nil before) found
+quiet-keeps g before (event ∷ rest) caller place block legal quiet found owned =
+    let whole : (before ++ event ∷ []) ++ rest ≡ before ++ event ∷ rest = push-append before rest event in
+    let parts = own-first caller place event rest quiet in
+    let allowed : IsAllowed g before event = (legal before rest event refl).1 in
+    let after : block_at place (pool_after (pool_of before) event) ≡ Some block =
+    elim (cases_eq (caller_of event) caller) [
+      | inl hers ↦ own-quiet g before event caller place block allowed (parts.0 hers) found owned
+      | inr other ↦ others-keep g before event caller place block allowed other found owned
+    ] in
+    subst (λ (h : List Event). block_at place (pool_of h) ≡ Some block) whole
+    (quiet-keeps g (before ++ event ∷ []) rest caller place block (subst (IsLegalWithoutCounts g) (sym whole) legal) parts.1
+    (rw (pool_of-push before event) after) owned)
+
+-- the events of an allocation leave every block alone
+quiet-looks : (place caller class count : ℕ) (events : List Event) → AllQuiet place events → AllQuiet place (looks caller class count ++ events)
+quiet-looks place caller class zero events h = h
+quiet-looks place caller class (suc count) events h = (tt, quiet-looks place caller class count events h)
+
+quiet-as : (place : ℕ) (events other : List Event) → events ≡ other → AllQuiet place other → AllQuiet place events
+quiet-as place events other same h = subst (AllQuiet place) (sym same) h
+
+only-looks : (place caller class count : ℕ) → AllQuiet place (looks caller class count)
+only-looks place caller class zero = tt
+only-looks place caller class (suc count) = (tt, only-looks place caller class count)
+
+quiet-looked : (place caller class : ℕ) (looked : Bool) (events : List Event) → HasLooked caller class looked events → AllQuiet place events
+quiet-looked place caller class false events h = quiet-as place events _ h.1 (only-looks place caller class h.0)
+quiet-looked place caller class true events h = quiet-as place events _ h.1 (only-looks place caller class (suc h.0))
+
+pub quiet-giving : (place caller need at : ℕ) (n : Need) (events : List Event) → IsGiving caller need at n events → AllQuiet place events
+quiet-giving place caller need at (Small class) events h =
+    quiet-as place events _ h.1 (quiet-looks place caller class h.0 (Alloc caller need at ∷ []) (tt, tt))
+quiet-giving place caller need at (Large units) events h = quiet-as place events (Alloc caller need at ∷ []) h (tt, tt)
+quiet-giving place caller need at TooLarge events h = absurd h
+
+quiet-refusing : (place caller need : ℕ) (n : Need) (events : List Event) → IsRefusing caller need n events → AllQuiet place events
+quiet-refusing place caller need (Small class) events h =
+    quiet-as place events _ h.1 (quiet-looks place caller class (suc h.0) (Refuse caller need ∷ []) (tt, tt))
+quiet-refusing place caller need (Large units) events h = quiet-as place events (Refuse caller need ∷ []) h (tt, tt)
+quiet-refusing place caller need TooLarge events h = absurd h
+
+pub quiet-asking : (place caller n : ℕ) (stage : StageOfCall) (events : List Event) → SoFar caller (alloc n) stage events → AllQuiet place events
+quiet-asking place caller n (asking words class looked) events h = quiet-looked place caller class looked events h.2
+quiet-asking place caller n (asking_run words units) events h = quiet-as place events [] h.2 tt
+quiet-asking place caller n refused events h = quiet-refusing place caller n (need_of n) events h
+quiet-asking place caller n (given at need) events h = quiet-giving place caller n at (need_of n) events h.1
+quiet-asking place caller n stage events h = absurd h

@@ -1,0 +1,35 @@
+use Rattle.std.proofs.Common.{rules, ◌≡◌, true}
+use Rattle.trace_lane.proofs.LaneNext.{onward-steps, step-told}
+use Rattle.trace_lane.proofs.lane.LaneState+Grip.advance.Goals as goal
+
+pub step-requires : goal.step-requires
+step-requires g c = record { serves = (c.begin_next.ensures.advanced.stands.core, c.begin_next.ensures.advanced.stands.has) }
+
+pub answer-requires-clause-ready : goal.answer-requires-clause-ready
+answer-requires-clause-ready g c = (
+  c.begin_next.new.core.events,
+  c.args.operations.now,
+  step-told (g.G.Gate.passed c.args.gate.now) c.args.operations.now c.args.core.now c.begin_next.new.core c.step.new.core c.args.self.now
+      c.begin_next.new.self c.in_ok-told.told c.len-op.result _ c.begin_next.ensures.advanced
+      (λ e. let yes : c.is_between.result ≡ true = c.is_between.ensures.1 e in cc)
+      (record {
+        rule = c.in_ok-told.ensures.rule;
+        geometry = c.in_ok-told.ensures.geometry;
+        busy = c.in_ok-told.ensures.busy;
+        moves = c.in_ok-told.ensures.moved;
+        others = c.in_ok-told.ensures.others;
+      }) (search rules),
+)
+
+pub returns-clause-advanced : goal.returns-clause-advanced
+returns-clause-advanced g c =
+    onward-steps (g.G.Gate.passed c.args.gate.now) c.args.operations.now c.args.core.now c.begin_next.new.core c.step.new.core c.answer.new.core
+    c.args.self.now c.begin_next.new.self c.answer.new.self c.in_ok-told.told c.len-op.result _ c.begin_next.ensures.advanced
+    c.begin_next.ensures.events (λ e. let yes : c.is_between.result ≡ true = c.is_between.ensures.1 e in cc)
+    (record {
+      rule = c.in_ok-told.ensures.rule;
+      geometry = c.in_ok-told.ensures.geometry;
+      busy = c.in_ok-told.ensures.busy;
+      moves = c.in_ok-told.ensures.moved;
+      others = c.in_ok-told.ensures.others;
+    }) (search rules) c.answer.ensures.answered c.steps.ensures.rule

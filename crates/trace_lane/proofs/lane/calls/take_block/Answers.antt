@@ -1,0 +1,50 @@
+use Rattle.std.proofs.Common.{◌++◌, ◌∷◌, [], refl, ◌∙◌}
+use Rattle.errand_steps.specs.declared.reply.Reply.TheVariants as reply
+use Rattle.errand_steps.specs.Calls.{take}
+use Rattle.call_events.specs.Made.{answered}
+use Rattle.call_events.proofs.MadeLemmas.{leads-more}
+use Rattle.trace_lane.proofs.MadeLemmas.{leads-keep, leave-misses, misses-more}
+use Rattle.trace_lane.proofs.lane.calls.take_block.Goals as goal
+
+pub returns-in-Got-clause-made : goal.returns-in-Got-clause-made
+returns-in-Got-clause-made g c =
+    let m = c.loop.invariant.missed in (
+      m.0,
+      m.1,
+      leads-more g.C.Calls.maker.called c.args.calls.now c.loop.calls c.take.new.self m.0 (take c.args.shelf)
+          (reply.Got (g.B.Token.place_of c.in-Got.block) (g.B.Token.need_of c.in-Got.block)) m.2 c.in-Got.ensures.called,
+    )
+
+pub returns-in-Empty-clause-made : goal.returns-in-Empty-clause-made
+returns-in-Empty-clause-made g c =
+    let m = c.loop.invariant.missed in
+    (m.0, m.1, leads-more g.C.Calls.maker.called c.args.calls.now c.loop.calls c.take.new.self m.0 (take c.args.shelf) reply.Empty m.2 c.in-Empty.ensures.called)
+
+pub loop-preserved : goal.loop-preserved
+loop-preserved g c =
+    let m = c.loop.invariant.missed in
+    let t = c.in-Missed.ensures.called in
+    record {
+      can_next = tt;
+      is_finite = tt;
+      stands = c.take.ensures.stands;
+      base = c.take.ensures.base ∙ c.loop.invariant.base;
+      missed = (
+        m.0 ++ answered (take c.args.shelf) (reply.Missed t.0 t.1) ∷ [],
+        misses-more c.args.shelf m.0 t.0 t.1 m.1,
+        leads-more g.C.Calls.maker.called c.args.calls.now c.loop.calls c.take.new.self m.0 (take c.args.shelf) (reply.Missed t.0 t.1) m.2 t.2,
+      );
+    }
+
+pub returns-in-Got-clause-got : goal.returns-in-Got-clause-got
+returns-in-Got-clause-got g c =
+    let m = c.loop.invariant.missed in
+    let place = g.B.Token.place_of c.in-Got.block in
+    let need = g.B.Token.need_of c.in-Got.block in
+    let one = c.in-Got.ensures.called in (
+      c.calls_keep_blocks.ensures.hands c.loop.calls c.take.new.self (take c.args.shelf) (reply.Got place need) place need one (refl, refl),
+      λ other had owned.
+          c.calls_keep_blocks.ensures.apart c.loop.calls c.take.new.self (take c.args.shelf) (reply.Got place need) place other need had one (refl, refl)
+          (leads-keep g.C.Calls.maker.called g.C.Calls.maker.owns c.calls_keep_blocks.ensures.keeps c.args.calls.now c.loop.calls m.0 other had m.2
+          (leave-misses other c.args.shelf m.0 m.1) owned),
+    )

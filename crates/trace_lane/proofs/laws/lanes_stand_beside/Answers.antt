@@ -1,0 +1,5 @@
+use Rattle.trace_lane.proofs.BesideLemmas.{lane-beside}
+use Rattle.trace_lane.proofs.laws.lanes_stand_beside.Goals as goal
+
+pub returns : goal.returns
+returns c = lane-beside

@@ -1,0 +1,154 @@
+-- The whole calls that a lane has made: those of its operations with their outcomes, in the script's order, each with its answer.
+use Rattle.std.specs.Prelude.{ℕ, ◌≡◌, ◌≢◌, ◌<◌, ◌%◌, ◌^◌, ◌∷◌, ◌++◌, List, [], Option, Some, None, map, sum, length, min, drop, vec_capacity}
+use Rattle.std.specs.List.{slice_index_or}
+use Rattle.heap_geometry.specs.declared.need.Need.{Need}
+use Rattle.heap_geometry.specs.Need.{need_of, usable_words}
+use Rattle.errand_steps.specs.declared.reply.Reply.{Reply}
+use Rattle.errand_steps.specs.declared.reply.Reply.TheVariants as reply
+use Rattle.errand_steps.specs.Calls.{Call, alloc, free, put, take}
+use Rattle.trace_text.specs.declared.limits.TheConstants.{REGISTERS}
+use Rattle.trace_text.specs.declared.trace.Op.{Op}
+use Rattle.trace_text.specs.declared.trace.Op.TheVariants as op
+use Rattle.call_events.specs.Made.{LeadsBy, Made, answered, found_from, wrote}
+use Rattle.lane_engine.specs.Whole.{Maker, copied}
+use Rattle.lane_outcomes.specs.declared.registers.Held.{Held}
+use Rattle.lane_outcomes.specs.declared.outcome.Outcome.{Outcome}
+use Rattle.lane_outcomes.specs.declared.outcome.Outcome.TheVariants as outcome
+use Rattle.lane_outcomes.specs.Lane.{held_in, registers_after}
+use Rattle.trace_lane.specs.declared.lane.LaneState.{LaneState}
+use Rattle.trace_lane.specs.declared.stage.OperationStage.TheVariants as stage
+use Rattle.trace_lane.specs.Paths.{held_blocks}
+use Rattle.trace_lane.specs.Scripts.{registers_from}
+
+-- calls without their answers
+abbrev pub calls_made : List Made → List Call
+calls_made made = map (λ m. m.call) made
+
+-- takes that missed the shelf's block
+abbrev pub AreMisses : ℕ → List Made → Type 0
+AreMisses shelf [] = Unit {0}
+AreMisses shelf (made ∷ rest) =
+    (expected : ℕ) × (found : ℕ) × (made ≡ answered (take shelf) (reply.Missed expected found)) × AreMisses shelf rest
+
+-- calls on the block of a full register, with the need that it was given or taken with
+abbrev pub OnBlock : Option Held → (Held → Need → Type 0) → Type 0
+OnBlock None P = ⊥
+OnBlock (Some held) P = (held.words ≡ usable_words held.need) × P held held.need
+
+-- an operation on a register of this kind is skipped: an allocation and a take where it is full, any other where it is empty
+abbrev pub Skips : Option Held → Op → Type 0
+Skips (Some held) (op.Alloc r need v) = Unit {0}
+Skips (Some held) (op.Take r shelf) = Unit {0}
+Skips None (op.Free r) = Unit {0}
+Skips None (op.Fill r v) = Unit {0}
+Skips None (op.Check r) = Unit {0}
+Skips None (op.Put r shelf) = Unit {0}
+Skips None (op.Resize r need) = Unit {0}
+Skips register operation = ⊥
+
+-- the register that an operation is on
+abbrev pub register_of : Op → ℕ
+register_of (op.Alloc r need v) = r
+register_of (op.Free r) = r
+register_of (op.Fill r v) = r
+register_of (op.Check r) = r
+register_of (op.Put r shelf) = r
+register_of (op.Take r shelf) = r
+register_of (op.Resize r need) = r
+
+-- the whole calls of an operation with its outcome, where its register held this
+abbrev pub MadeFor : Option Held → Op → Outcome → List Made → Type 0
+MadeFor held operation outcome.Skipped made = Skips held operation × (made ≡ [])
+MadeFor None (op.Alloc r need v) (outcome.Given words place) made =
+    (words ≡ usable_words (need_of need))
+    × (made ≡ answered (alloc need) (reply.Given place (need_of need)) ∷ wrote place (need_of need) v words)
+MadeFor None (op.Alloc r need v) outcome.Refused made = made ≡ answered (alloc need) reply.Refused ∷ []
+MadeFor None (op.Alloc r need v) outcome.Spent made = made ≡ answered (alloc need) reply.Spent ∷ []
+MadeFor held (op.Free r) outcome.Freed made = OnBlock held (λ held need. made ≡ answered (free held.place need) reply.Freed ∷ [])
+MadeFor held (op.Fill r v) outcome.Filled made = OnBlock held (λ held need. made ≡ wrote held.place need v held.words)
+MadeFor held (op.Check r) (outcome.Sum total) made =
+    OnBlock held (λ held need. (words : List ℕ) × (length words ≡ held.words) × (total ≡ sum words % 2 ^ 64) × (made ≡ found_from held.place need 0 words))
+MadeFor held (op.Put r shelf) outcome.Put made = OnBlock held (λ held need. made ≡ answered (put held.place need shelf) reply.Put ∷ [])
+MadeFor held (op.Put r shelf) outcome.ShelfFull made =
+    OnBlock held (λ held need. (found : ℕ) × (made ≡ answered (put held.place need shelf) (reply.Full found) ∷ []))
+MadeFor None (op.Take r shelf) (outcome.Took words place need) made =
+    (misses : List Made) × AreMisses shelf misses × (words ≡ usable_words need)
+    × (made ≡ misses ++ answered (take shelf) (reply.Got place need) ∷ [])
+MadeFor None (op.Take r shelf) outcome.ShelfEmpty made =
+    (misses : List Made) × AreMisses shelf misses × (made ≡ misses ++ answered (take shelf) reply.Empty ∷ [])
+MadeFor (Some held) (op.Resize r need) (outcome.Kept words place) made =
+    (need_of need ≡ held.need) × (words ≡ held.words) × (place ≡ held.place) × (made ≡ [])
+MadeFor (Some held) (op.Resize r need) (outcome.Resized words place) made =
+    (need_of need ≢ held.need) × (words ≡ usable_words (need_of need)) × (held.words ≡ usable_words held.need)
+    × (read : List ℕ) × (length read ≡ min held.words words)
+    × (made
+    ≡ answered (alloc need) (reply.Given place (need_of need))
+    ∷ copied held.place held.need place (need_of need) read words ++ answered (free held.place held.need) reply.Freed ∷ [])
+MadeFor (Some held) (op.Resize r need) outcome.Refused made =
+    (need_of need ≢ held.need) × (made ≡ answered (alloc need) reply.Refused ∷ [])
+MadeFor (Some held) (op.Resize r need) outcome.Spent made =
+    (need_of need ≢ held.need) × (made ≡ answered (alloc need) reply.Spent ∷ [])
+MadeFor held operation result made = ⊥
+
+module _ {S : Type 0} (called : S → Call → Reply → S → Type 0) where
+  -- an operation with its outcome led from one state to another
+  abbrev pub OneMade : List (Option Held) → Op → Outcome → S → S → Type 0
+  OneMade registers operation result before after =
+      (made : List Made) × MadeFor (held_in registers (register_of operation)) operation result made × LeadsBy called before made after
+
+  -- so did operations with these outcomes, from these registers on
+  abbrev pub AllMade : List (Option Held) → List Op → List Outcome → S → S → Type 0
+  AllMade registers operations [] before after = after ≡ before
+  AllMade registers [] (result ∷ results) before after = ⊥
+  AllMade registers (operation ∷ operations) (result ∷ results) before after =
+      (next : S) × OneMade registers operation result before next
+      × AllMade (registers_after registers operation result) operations results next after
+
+-- the registers hold blocks of the caller's, and no two the same one
+pub record HoldsBlocks {B : Type 0} (place_of : B → ℕ) (need_of : B → Need) (owns : ℕ → Need → Type 0) (registers : List (Option B)) : Type 0 where
+  pub size : length registers ≡ REGISTERS
+  pub owned : (r : ℕ) (block : B) → slice_index_or registers r None ≡ Some block → owns (place_of block) (need_of block)
+  pub once :
+      (r q : ℕ) (block other : B) → slice_index_or registers r None ≡ Some block → slice_index_or registers q None ≡ Some other → r ≢ q
+      → place_of block ≢ place_of other
+
+module _ {B S : Type 0} (place_of : B → ℕ) (need_of : B → Need) where
+  -- takes that missed, and one that got this block or found none
+  abbrev pub Takes : (S → Call → Reply → S → Type 0) → S → ℕ → Option B → S → Type 0
+  Takes called before shelf None after =
+      (misses : List Made) × AreMisses shelf misses × LeadsBy called before (misses ++ answered (take shelf) reply.Empty ∷ []) after
+  Takes called before shelf (Some block) after =
+      (misses : List Made) × AreMisses shelf misses
+      × LeadsBy called before (misses ++ answered (take shelf) (reply.Got (place_of block) (need_of block)) ∷ []) after
+
+  -- a lane may make an operation: it is in no call, holds blocks of its caller's, and has room for one more outcome
+  pub record MayMake (maker : Maker S) (at : S) (lane : LaneState B) : Type 0 where
+    pub stands : maker.stands at
+    pub holds : HoldsBlocks place_of need_of (maker.owns at) lane.registers.items
+    pub room : length lane.outcomes.items < vec_capacity lane.outcomes
+
+  -- a lane made this operation, and has its outcome
+  pub record Makes (maker : Maker S) (operation : Op) (before after : S) (old new : LaneState B) : Type 0 where
+    pub result : Outcome
+    pub made : OneMade maker.called (held_blocks place_of need_of old.registers.items) operation result before after
+    pub registers :
+        held_blocks place_of need_of new.registers.items
+        ≡ registers_after (held_blocks place_of need_of old.registers.items) operation result
+    pub holds : HoldsBlocks place_of need_of (maker.owns after) new.registers.items
+    pub results : new.outcomes.items ≡ old.outcomes.items ++ result ∷ []
+    pub same_caller : new.caller ≡ old.caller
+    pub between : new.stage ≡ stage.Between
+    pub room : vec_capacity new.outcomes ≡ vec_capacity old.outcomes
+
+  -- a lane made its next operations by whole calls, and has their outcomes
+  pub record HasRun (called : S → Call → Reply → S → Type 0) (operations : List Op) (before after : S) (old new : LaneState B) : Type 0 where
+    pub results : List Outcome
+    pub made :
+        AllMade called (held_blocks place_of need_of old.registers.items) (drop (length old.outcomes.items) operations) results before after
+    pub registers :
+        held_blocks place_of need_of new.registers.items
+        ≡ registers_from (held_blocks place_of need_of old.registers.items) (drop (length old.outcomes.items) operations) results
+    pub outcomes : new.outcomes.items ≡ old.outcomes.items ++ results
+    pub same_caller : new.caller ≡ old.caller
+    pub between : old.stage ≡ stage.Between → new.stage ≡ stage.Between
+    pub room : vec_capacity new.outcomes ≡ vec_capacity old.outcomes

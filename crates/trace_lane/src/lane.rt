@@ -1,0 +1,173 @@
+//! One lane of a trace, and how it goes on by one atomic step of a machine after another.
+
+ghost use Rattle.std.specs.Prelude.{◌≡◌, ◌<◌, ◌-◌, ◌^◌, ◌↔◌, ◌++◌, ◌∷◌, [], None, Ok, IfOk, OnErr, All, length, min, false, replicate, IsTrue};
+ghost use Rattle.std.specs.Vec.{vec_capacity};
+ghost use Rattle.trace_text.specs.declared.limits.TheConstants.{REGISTERS};
+ghost use Rattle.trace_text.specs.Traces.{IsOp};
+ghost use Rattle.trace_lane.specs.declared.stage.OperationStage.TheVariants as stage;
+ghost use Rattle.trace_lane.specs.Advances.{AdvancesOn};
+ghost use Rattle.trace_lane.specs.States.{IsNew, StandsOn};
+
+mod answers;
+mod begins;
+mod calls;
+mod registers;
+
+use crate::stage::OperationStage;
+use edge_io::gate::Gate;
+use lane_engine::grip::Grip;
+use lane_engine::over_core::step;
+use lane_engine::token::Token;
+use lane_outcomes::outcome::Outcome;
+use std::alloc::{AllocError, Global};
+use step_machine::machine::Core;
+use trace_text::limits::REGISTERS;
+use trace_text::trace::Op;
+
+/// A lane: what its registers hold, the outcomes of its operations so far, and how far the next one
+/// is. `B` is a block that its caller holds.
+#[derive(Drop)]
+pub struct LaneState<B> {
+    caller: u32,
+    registers: Vec<Option<B>>,
+    outcomes: Vec<Outcome>,
+    stage: OperationStage,
+}
+
+/// Registers that hold nothing.
+fn empty_registers<B: Token + Drop>(alloc: Global) -> Result<Vec<Option<B>>, AllocError>
+    ensures { IfOk result (λ registers. registers.items ≡ replicate REGISTERS None) }
+{
+    let mut registers = Vec::with_capacity(alloc, usize::from(REGISTERS))?;
+    for _ in 0..REGISTERS {
+        registers.push(None)?;
+    }
+    Ok(registers)
+}
+
+/// The number by which a gate is told of an operation.
+fn number_of(op: usize) -> u32
+    ensures { result ≡ min op (2 ^ 32 - 1) }
+{
+    if op < u32::MAX as usize {
+        op as u32
+    } else {
+        u32::MAX
+    }
+}
+
+impl<B: Token + Drop> LaneState<B> {
+    /// The lane before its first operation: its registers are empty, and there is room for the outcome
+    /// of each operation.
+    pub fn open(alloc: Global, lane: u32, operations: &[Op]) -> Result<LaneState<B>, AllocError>
+        requires { All IsOp operations.now }
+        ensures { IfOk result (IsNew lane (length operations.now)) }
+    {
+        let registers = empty_registers(alloc)?;
+        let outcomes = Vec::with_capacity(alloc, operations.len())?;
+        Ok(LaneState {
+            caller: lane,
+            registers,
+            outcomes,
+            stage: OperationStage::Between,
+        })
+    }
+
+    /// The number of its caller.
+    pub fn caller(&self) -> u32
+        ensures { result ≡ self.now.caller }
+    {
+        self.caller
+    }
+
+    /// The outcomes of its operations so far.
+    pub fn outcomes(&self) -> &[Outcome]
+        ensures { result.now ≡ self.now.outcomes.items }
+    {
+        self.outcomes.as_slice()
+    }
+
+    /// The outcomes of its operations, at its end.
+    pub fn into_outcomes(self) -> Vec<Outcome>
+        ensures { result ≡ self.outcomes }
+    {
+        let LaneState { outcomes, .. } = self;
+        outcomes
+    }
+
+    /// Whether no operation is under way.
+    fn is_between(&self) -> bool
+        ensures { IsTrue result ↔ self.now.stage ≡ stage.Between }
+    {
+        matches!(self.stage, OperationStage::Between)
+    }
+
+    /// Ends the operation at hand with its outcome, for which there is room.
+    fn finish(&mut self, outcome: Outcome)
+        requires { length self.old.outcomes.items < vec_capacity self.old.outcomes }
+        ensures caller { self.new.caller ≡ self.old.caller }
+        ensures registers { self.new.registers ≡ self.old.registers }
+        ensures outcomes { self.new.outcomes.items ≡ self.old.outcomes.items ++ outcome ∷ [] }
+        ensures room { vec_capacity self.new.outcomes ≡ vec_capacity self.old.outcomes }
+        ensures stage { self.new.stage ≡ stage.Between }
+    {
+        self.outcomes.push_reserved(outcome);
+        self.stage = OperationStage::Between;
+    }
+}
+
+impl LaneState<Grip> {
+    /// Begins the operations that are next, up to the first one that takes a step; where an operation is
+    /// under way nothing begins.
+    fn begin_next<G: Gate>(&mut self, core: &mut Core, operations: &[Op], gate: &G)
+        requires operations { All IsOp operations.now }
+        requires stands { StandsOn core.old operations.now self.old }
+        ensures events { core.new.events ≡ core.old.events }
+        ensures advanced { AdvancesOn (G.passed gate.now) operations.now core.old core.new self.old self.new false }
+        ensures ended { self.new.stage ≡ stage.Between → length self.new.outcomes.items ≡ length operations.now }
+    {
+        if !self.is_between() {
+            return;
+        }
+        for op in self.outcomes.len()..operations.len() {
+            gate.pass(self.caller, number_of(op));
+            self.begin(core, operations[op]);
+            // Lanes stand on what the machine's type keeps.
+            let _ = core.steps();
+            if !self.is_between() {
+                return;
+            }
+        }
+    }
+
+    /// Makes one atomic step of the lane, and answers true; or answers false where no operation is under
+    /// way and none is left that takes a step. Before the step it begins the next operation where none is
+    /// under way. Each operation passes the gate before it begins, also one that takes no step, which has
+    /// its outcome here. A take that missed the shelf's block is tried again. No memory is taken but what
+    /// the machine takes: where it finds none no step is made, an operation that began stays under way,
+    /// and the next call makes its step.
+    pub fn advance<G: Gate>(
+        &mut self,
+        core: &mut Core,
+        operations: &[Op],
+        gate: &G,
+    ) -> Result<bool, AllocError>
+        requires operations { All IsOp operations.now }
+        requires stands { StandsOn core.old operations.now self.old }
+        ensures advanced { IfOk result (λ made. AdvancesOn (G.passed gate.now) operations.now core.old core.new self.old self.new made) }
+        ensures failed { OnErr result (AdvancesOn (G.passed gate.now) operations.now core.old core.new self.old self.new false) }
+        ensures ended { result ≡ Ok false → (self.new.stage ≡ stage.Between) × (length self.new.outcomes.items ≡ length operations.now) }
+        ensures geometry { core.new.geometry ≡ core.old.geometry }
+    {
+        self.begin_next(core, operations, gate);
+        if self.is_between() {
+            return Ok(false);
+        }
+        let told = step(core, self.caller)?;
+        let op = self.outcomes.len();
+        self.answer(core, operations[op], told);
+        // Lanes stand on what the machine's type keeps.
+        let _ = core.steps();
+        Ok(true)
+    }
+}

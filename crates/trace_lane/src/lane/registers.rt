@@ -1,0 +1,54 @@
+//! The registers of a lane.
+
+ghost use Rattle.std.specs.Prelude.{◌≡◌, ◌<◌, ◌↔◌, length, Some, None, slice_set, IsTrue, IsSome};
+ghost use Rattle.std.specs.List.{slice_index_or};
+ghost use Rattle.std.specs.Option.{option_map};
+ghost use Rattle.trace_lane.specs.Operations.{IsUnasked};
+ghost use Rattle.trace_lane.specs.Paths.{held_by};
+
+use heap_geometry::need::class_of;
+use lane_engine::token::Token;
+use lane_outcomes::outcome::Outcome;
+
+/// Whether the register holds a block.
+pub(super) fn is_full<B>(registers: &Vec<Option<B>>, r: u16) -> bool
+    requires { r < length registers.now.items }
+    ensures { IsTrue result ↔ IsSome (slice_index_or registers.now.items r None) }
+{
+    registers[usize::from(r)].is_some()
+}
+
+/// Empties the register, and hands back what it held.
+pub(super) fn take_out<B: Drop>(registers: &mut Vec<Option<B>>, r: u16) -> Option<B>
+    requires { r < length registers.old.items }
+    ensures found { result ≡ slice_index_or registers.old.items r None }
+    ensures emptied { registers.new.items ≡ slice_set registers.old.items r None }
+{
+    registers[usize::from(r)].take()
+}
+
+/// Puts a block into the register.
+pub(super) fn put_in<B: Drop>(registers: &mut Vec<Option<B>>, r: u16, block: B)
+    requires { r < length registers.old.items }
+    ensures { registers.new.items ≡ slice_set registers.old.items r (Some block) }
+{
+    registers[usize::from(r)] = Some(block);
+}
+
+/// The outcome of a resize that asks for no block: the register is empty, or its block serves the need.
+pub(super) fn unasked<B: Token>(registers: &Vec<Option<B>>, r: u16, need: u32) -> Option<Outcome>
+    requires { r < length registers.now.items }
+    ensures { IsUnasked (option_map (held_by B.place_of B.need_of) (slice_index_or registers.now.items r None)) need result }
+{
+    let Some(block) = &registers[usize::from(r)] else {
+        return Some(Outcome::Skipped);
+    };
+    if block.need() == class_of(need) {
+        Some(Outcome::Kept {
+            words: block.words(),
+            place: block.place(),
+        })
+    } else {
+        None
+    }
+}

@@ -1,7 +1,0 @@
-use Rattle.std.proofs.Common.{rules}
-use Rattle.word_plan.specs.Counts.{descriptor_count}
-use Rattle.word_plan.proofs.group.descriptor_count.Goals as goal
-
-pub returns-clause-value : goal.returns-clause-value
-unfolding descriptor_count
-returns-clause-value c = search rules

@@ -1,5 +1,0 @@
-use Rattle.word_plan.proofs.NameLemmas.{cases_name}
-use Rattle.word_plan.proofs.laws.names_are_told_apart.Goals as goal
-
-pub returns : goal.returns
-returns c = cases_name

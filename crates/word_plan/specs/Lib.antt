@@ -1,7 +1,0 @@
-pub mod Actions
-pub mod Counts
-pub mod Occurs
-pub mod Seats
-pub mod Sites
-pub mod Table
-pub mod Words

@@ -1,0 +1,74 @@
+#!/usr/bin/env python3
+"""Lists the definitions by cases over points and exits, and compares them with docs/PROOFS.md.
+
+usage: python3 tools/point_tables.py
+
+A definition of crates/*/specs with a variant of a point or an exit on its left side is a table. It has a default line
+where a line of it names none. Prints each table with the types that it goes over, `default` where it has such a line,
+and whether docs/PROOFS.md, 'The tables over the points', leaves it out or has it in the wrong column. It ends with 1
+where that is so. The tables of a part's own specs are there by the names of superblock_parts. It reads lines, and
+proves nothing.
+"""
+
+import re
+import sys
+from pathlib import Path
+
+ROOT = Path(__file__).resolve().parent.parent
+PARTS = ("superblock_parts", "stack_parts", "hazard_parts", "partial_parts", "large_parts")
+USED = re.compile(r"use Rattle\.[\w.]*\.(?:point|exit)\.(\w*(?:Point|Exit))\.TheVariants(?: as (\w+)|\.\{([^}]*)\})")
+LINE = re.compile(r"^([A-Za-z_][\w-]*)((?: +(?:\([^=]*?\)|[\w.\[\]]+))*) *=(?: |$)")
+
+
+def tables_of(text):
+    """The tables of a file: each name with the types that it goes over, and whether it has a default line."""
+    aliases, variants = {}, {}
+    for kind, alias, names in USED.findall(text):
+        if alias:
+            aliases[alias] = kind
+        for name in filter(None, (name.strip() for name in names.split(","))):
+            variants[name] = kind
+    lines = {}
+    for name, left in (match.groups() for match in map(LINE.match, text.splitlines()) if match):
+        over = {aliases[alias] for alias, _ in re.findall(r"\b(\w+)\.(\w+)", left) if alias in aliases}
+        over |= {variants[word] for word in re.findall(r"\b[A-Z]\w*", left) if word in variants}
+        lines.setdefault(name, []).append(over)
+    for name, all_over in lines.items():
+        over = set().union(*all_over)
+        if over:
+            yield name, over, not all(all_over)
+
+
+def tables():
+    """All tables in specs: crate, name, types, whether with a default line."""
+    for path in sorted(ROOT.glob("crates/*/specs/*.antt")):
+        crate = path.relative_to(ROOT / "crates").parts[0]
+        for name, over, default in tables_of(path.read_text()):
+            yield crate, name, over, default
+
+
+def complaints():
+    """What docs/PROOFS.md leaves out, or has in the wrong column."""
+    section = (ROOT / "docs" / "PROOFS.md").read_text().split("### The tables over the points")[1]
+    told = set(re.findall(r"`(\w+)`", section))
+    columns = {}
+    for line in section.splitlines():
+        cells = [cell.strip() for cell in line.strip("|").split("|")]
+        if line.startswith("| `") and len(cells) == 3:
+            columns[cells[0].strip("`")] = [set(re.findall(r"`(\w+)`", cell)) for cell in cells[1:]]
+    for crate, name, over, default in tables():
+        if crate in PARTS:
+            continue
+        of_parts = any(kind.endswith("Point") and kind != "Point" for kind in over)
+        if of_parts and name not in columns.get(crate, [set(), set()])[1 if default else 0]:
+            yield f"docs/PROOFS.md has not `{name}` of {crate}, {'with' if default else 'without'} a default line"
+        elif name not in told and not (over == {"Point"} and default):
+            yield f"docs/PROOFS.md has not `{name}` of {crate}"
+
+
+if __name__ == "__main__":
+    for crate, name, over, default in tables():
+        print(crate, name, ", ".join(sorted(over)), "default" if default else "")
+    found = list(complaints())
+    print(*found, sep="\n")
+    sys.exit(1 if found else 0)
