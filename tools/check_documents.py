@@ -8,8 +8,9 @@ name between backticks that could be one of the code (`word_behind`, `HasStepped
 `run_lanes.rt`) has to be a word of the crates or of the tools, one of the kit's that KIT lists, or the path of a file.
 A block of code that names a file behind its language (```rust crates/heap_tests/src/relay.rt) quotes it: its lines
 stand in that file, in this order, comments apart. The table of crates in docs/ARCHITECTURE.md has each crate of
-crates.txt once, in its order; README's lines on what isn't proved begin with the headings of docs/OPEN.md; and
-docs/PROOFS.md has each table over the points (tools/point_tables.py). Prints what isn't so, a name or a link with its
+crates.txt once, in its order; README's lines on what isn't proved begin with the headings of docs/OPEN.md; the counts
+of crates, of edits and of traces are those of the tree; and docs/PROOFS.md has each table over the points
+(tools/point_tables.py). Prints what isn't so, a name or a link with its
 document and line, and ends with 1 where there is something. It takes a second, and the gate doesn't run it.
 """
 
@@ -108,6 +109,30 @@ def open_lines():
         yield f"a line on what isn't proved, or a heading of docs/OPEN.md, stands alone: {line}"
 
 
+NUMBERS = {"four": 4, "five": 5, "fifteen": 15, "sixteen": 16}
+COUNTED = [
+    ("README.md", r"now there are (\d+)", "crates/*/src"),
+    ("README.md", r"has (\w+) traces with their reports", "traces/*.trace"),
+    ("docs/TESTING.md", r"This tree has (\d+) crates", "crates/*/src"),
+    ("docs/TESTING.md", r"crates and (\d+) edits;", "crates/*/must-fail/*.edit"),
+    ("docs/TESTING.md", r"(\d+) in must-fail/", "crates/*/must-fail/*.edit"),
+    ("docs/TESTING.md", r"(\d+) more stand in also-must-fail/", "crates/*/also-must-fail/*.edit"),
+    ("docs/TESTING.md", r"(\d+) in test-must-fail/", "crates/*/test-must-fail/*.edit"),
+    ("docs/TESTING.md", r"All tests stand in (\w+) crates", "crates/*_tests"),
+    ("docs/ARCHITECTURE.md", r"The (\w+) crates of tests know", "crates/*_tests"),
+]
+
+
+def counts():
+    """The counts that a document says and that the tree hasn't."""
+    for document, pattern, files in COUNTED:
+        said = re.search(pattern, (ROOT / document).read_text())
+        told = said and (NUMBERS.get(said.group(1)) or int(said.group(1)))
+        found = len(list(ROOT.glob(files)))
+        if told != found:
+            yield f"{document} says {told} of {files}, and there are {found}"
+
+
 def complaints(document, words, ends):
     yield from unquoted(document)
     for number, line in enumerate(document.read_text().splitlines(), 1):
@@ -134,7 +159,7 @@ def main():
         for number, what in complaints(document, words, ends):
             print(f"{document.relative_to(ROOT)}:{number}: {what}")
             found += 1
-    for what in [*crates_in_order(), *open_lines(), *point_tables.complaints()]:
+    for what in [*crates_in_order(), *open_lines(), *counts(), *point_tables.complaints()]:
         print(what)
         found += 1
     print(f"{found} names, links or quotes lead nowhere")

@@ -6,8 +6,8 @@ usage: python3 tools/point_tables.py
 A definition of crates/*/specs with a variant of a point or an exit on its left side is a table. It has a default line
 where a line of it names none. Prints each table with the types that it goes over, `default` where it has such a line,
 and whether docs/PROOFS.md, 'The tables over the points', leaves it out or has it in the wrong column. It ends with 1
-where that is so. The tables of a part's own specs are there by the names of superblock_parts. It reads lines, and
-proves nothing.
+where that is so. The tables of a part's own specs are there by the names of superblock_parts, those with a default by
+their own. It reads lines, and proves nothing.
 """
 
 import re
@@ -54,13 +54,13 @@ def complaints():
     columns = {}
     for line in section.splitlines():
         cells = [cell.strip() for cell in line.strip("|").split("|")]
-        if line.startswith("| `") and len(cells) == 3:
+        if line.startswith(("| `", "| the part")) and len(cells) == 3:
             columns[cells[0].strip("`")] = [set(re.findall(r"`(\w+)`", cell)) for cell in cells[1:]]
     for crate, name, over, default in tables():
-        if crate in PARTS:
+        if crate in PARTS and not default:
             continue
         of_parts = any(kind.endswith("Point") and kind != "Point" for kind in over)
-        if of_parts and name not in columns.get(crate, [set(), set()])[1 if default else 0]:
+        if of_parts and name not in columns.get("the part" if crate in PARTS else crate, [set(), set()])[default]:
             yield f"docs/PROOFS.md has not `{name}` of {crate}, {'with' if default else 'without'} a default line"
         elif name not in told and not (over == {"Point"} and default):
             yield f"docs/PROOFS.md has not `{name}` of {crate}"

@@ -10,8 +10,9 @@
  *
  * A block is named by a number that its pass gave. Each call tests what it is given, in the order of the codes
  * that its comment names, and answers the first one that fits: a number that names no block of this pass
- * (freed, put on a shelf, another pass's, made up) is BALLOC_NO_BLOCK, and nothing happens. A number that was
- * freed or put names nothing until 2^32 more blocks have gone through its slot of the pass's table.
+ * (freed, put on a shelf, made up) is BALLOC_NO_BLOCK, and nothing happens. A number that was freed or put names
+ * nothing until 2^32 more blocks have gone through its slot of the pass's table. Each pass numbers its own blocks,
+ * from 0 on: a number that another pass gave may name a block of this one, and is then taken for it.
  */
 #ifndef BALLOC_H
 #define BALLOC_H

@@ -21,13 +21,13 @@ barred-by b cause rest is = ap (λ (x : Bool). barred x cause rest) is
 pub not-barred : (b : Bool) (cause : Refusal) (rest : Option Refusal) → b ≡ false → barred b cause rest ≡ rest
 not-barred b cause rest is = ap (λ (x : Bool). barred x cause rest) is
 
--- a call that is barred
+-- a call that is barred answers with its cause
 pub refuses :
     {A : Type 0} (bar : Option Refusal) (cause : Refusal) (Makes : Result A Refusal → Cache → Table → Type 0) (c : Cache) (t : Table)
     → bar ≡ Some cause → Answers bar Makes c t (Err cause) c t
 refuses bar cause Makes c t is = subst (λ (b : Option Refusal). Answers b Makes c t (Err cause) c t) (sym is) (refl, refl, refl)
 
--- one that is made
+-- a call that isn't barred answers with what it made
 pub makes :
     {A : Type 0} (bar : Option Refusal) (Makes : Result A Refusal → Cache → Table → Type 0) (c : Cache) (t : Table)
     (result : Result A Refusal) (d : Cache) (u : Table) → bar ≡ None → Makes result d u → Answers bar Makes c t result d u
@@ -40,7 +40,7 @@ in-call p rest busy = barred-by (is_busy p) refusal.InCall rest (ap not busy)
 pub in-none : (p : Pass) (rest : Option Refusal) → is_idle p.errand.point ≡ true → barred (is_busy p) refusal.InCall rest ≡ rest
 in-none p rest idle = not-barred (is_busy p) refusal.InCall rest (ap not idle)
 
--- a number that names no block
+-- a call on a number that names no block is barred
 pub no-block :
     (p : Pass) (t : Table) (number : ℕ) (rest : Option Refusal) → is_idle p.errand.point ≡ true → named t number ≡ None
     → barred (is_busy p) refusal.InCall (barred (names_none t number) refusal.NoBlock rest) ≡ Some refusal.NoBlock
@@ -53,7 +53,7 @@ pub a-block :
 a-block p t number rest block idle names =
     in-none p (barred (names_none t number) refusal.NoBlock rest) idle ∙ not-barred (names_none t number) refusal.NoBlock rest (ap is_none names)
 
--- what isn't barred
+-- calls that nothing bars
 pub free-made : (p : Pass) (t : Table) (number : ℕ) (block : Block) → is_idle p.errand.point ≡ true → named t number ≡ Some block → free_bar p t number ≡ None
 free-made p t number block idle names = a-block p t number None block idle names
 

@@ -29,7 +29,7 @@ frees-slot p q r blocks None freed one =
     subst (λ (l : List Block). FreesAll p l r) (sym (append-nil blocks)) (subst (FreesAll p blocks) (sym one.1) freed)
 frees-slot p q r blocks (Some block) freed one = frees-more p q r blocks block freed one
 
--- the slots up to one more are freed
+-- the blocks of the first slots are freed, and that of one slot more
 pub frees-next :
     (p q r : Cache) (slots : List Slot) (i : ℕ) → i < length slots → FreesAll p (blocks_of (take i slots)) q
     → FreesSlot q (block_at slots i) free_answer.Freed r → FreesAll p (blocks_of (take (i + 1) slots)) r
@@ -78,7 +78,7 @@ rest-next before slots after i now rest k high =
     let apart : k ≢ i = λ at. omega (arith, high, at) in
     now k ∙ block-set_other slots i k slot apart ∙ rest k (omega (arith, high))
 
--- the slot that is freed next
+-- the frees of the first slots, and what that of the next one came to
 pub frees-on :
     (p q r : Cache) (before slots : List Slot) (i : ℕ) (answer : FreeAnswer) → i < length before
     → ((k : ℕ) → i ≤ k → block_at slots k ≡ block_at before k) → FreesAll p (blocks_of (take i before)) q
@@ -111,7 +111,7 @@ stops p next q before after i (Some block) within is freed one left = record {
   stopped = one;
 }
 
--- a free is interrupted
+-- the frees of a table's blocks, where one is interrupted
 pub stops-table :
     (p next q : Cache) (t u : Table) (slots : List Slot) (i : ℕ) (answer : FreeAnswer) → i < length t.slots.items
     → i < length slots → length u.slots.items ≡ length t.slots.items → ((k : ℕ) → k < i → block_at slots k ≡ None)
@@ -127,7 +127,7 @@ stops-table p next q t u slots i answer within here count empty rest now freed o
     (subst (λ (a : FreeAnswer). FreesSlot next (block_at before i) a q) is
     (subst (λ (b : Option Block). FreesSlot next b answer q) (rest i (omega arith)) one)) left
 
--- all are freed
+-- the frees of a table's blocks, where all are freed
 pub freed-table :
     (p q : Cache) (t u : Table) (i : ℕ) → length t.slots.items ≤ i → length u.slots.items ≡ length t.slots.items
     → ((k : ℕ) → k < i → block_at u.slots.items k ≡ None) → ((k : ℕ) → i ≤ k → block_at u.slots.items k ≡ block_at t.slots.items k)

@@ -32,11 +32,11 @@ use Rattle.balloc_c.proofs.BarLemmas.{alloc-made, free-made, makes, put-made, ra
 use Rattle.balloc_c.proofs.Numbers.{keeps-set, loses-set}
 use Rattle.balloc_c.proofs.Slots.{placed, taken-out, vacant-set}
 
--- a table that has the same blocks
+-- the cache tends the blocks of a table that has the same blocks
 pub same-tends : (h : Heap) (d : Cache) (had : List Block) (slots : List Slot) → IsCache h d → Holds d had → blocks_of slots ≡ had → Tends h d (blocks_of slots)
 same-tends h d had slots cache held same = record { cache = cache; holds = subst (Holds d) (sym same) held }
 
--- a block comes into a vacant slot
+-- the cache tends a table where a block comes into a vacant slot
 pub filled-tends :
     (h : Heap) (d : Cache) (had : List Block) (slots after : List Slot) (i : ℕ) (block : Block) → IsCache h d → Holds d (block ∷ had)
     → blocks_of slots ≡ had → IsVacant slots i → after ≡ set_block slots i (Some block) → Tends h d (blocks_of after)
@@ -47,7 +47,7 @@ filled-tends h d had slots after i block cache held same vacant set =
           (placed d slots i block vacant (subst (λ (l : List Block). Holds d (block ∷ l)) (sym same) held));
     }
 
--- a block leaves its slot
+-- the cache tends a table where a block leaves its slot
 pub gone-tends :
     (h : Heap) (c d : Cache) (slots middle after : List Slot) (i : ℕ) (block : Block) → Tends h c (blocks_of slots) → i < length slots
     → block_at slots i ≡ Some block → middle ≡ set_block slots i None → blocks_of after ≡ blocks_of middle → IsCache h d
@@ -59,7 +59,7 @@ gone-tends h c d slots middle after i block tends within is set same cache holds
       holds = subst (Holds d) (sym (same ∙ ap blocks_of set)) (holds (blocks_of (set_block slots i None)) out);
     }
 
--- it comes back into its slot
+-- the cache tends a table where a block comes back into its slot
 pub back-tends :
     (h : Heap) (c d : Cache) (slots middle after : List Slot) (i : ℕ) (block back : Block) → Tends h c (blocks_of slots) → i < length slots
     → block_at slots i ≡ Some block → middle ≡ set_block slots i None → after ≡ set_block middle i (Some back) → IsCache h d
@@ -86,7 +86,7 @@ write-answers c t number i value block d idle names has called keeps =
     makes (word_bar c.pass t number i) (Writes c t number i value) c t (Ok tt) d t (word-made c.pass t number i block idle names has)
     ((block, names, (called, keeps)), refl)
 
--- calls on words in a row
+-- what calls on words in a row answer
 pub writes-answers :
     (h : Heap) (c : Cache) (t : Table) (number from : ℕ) (words : List ℕ) (block : Block) (d : Cache) → is_idle c.pass.errand.point ≡ true
     → named t number ≡ Some block → from + length words ≤ usable_words block.need → IsOf h c.pass
@@ -140,7 +140,7 @@ free-stops c t number block d u idle names free loses =
     makes (free_bar c.pass t number) (Frees c t number) c t (Err refusal.Interrupted) d u (free-made c.pass t number block idle names)
     ((block, names, free), loses)
 
--- a put
+-- what a put answers
 pub put-answers :
     (c : Cache) (t : Table) (number shelf : ℕ) (block : Block) (d : Cache) (u : Table) → is_idle c.pass.errand.point ≡ true → named t number ≡ Some block
     → shelf < SHELVES → HasCalled c.pass (put block.place block.need shelf) 0 reply.Put d.pass → KeepsMagazines c d → NamesOneLess t number u
@@ -169,7 +169,7 @@ full-answers c t number shelf block back full d u middle i idle names has tells 
     (keeps-set t u middle i block within still is out_is
     (back_is ∙ ap (λ (b : Block). set_block middle i (Some b)) (same ∙ tells.same)))
 
--- an allocation
+-- what an allocation answers
 pub given-answers :
     (c : Cache) (t : Table) (words number : ℕ) (block : Block) (d : Cache) (u : Table) → is_idle c.pass.errand.point ≡ true → words ≤ LARGE_MOST
     → NamesOneMore t number block u → IsAllocation c words (alloc_answer.Given block) d → HasAllocated c t words (Ok number) d u
@@ -194,7 +194,7 @@ pub busy-answers :
 busy-answers c t words d u idle has ready told =
     makes (alloc_bar c.pass words) (Allocs c t words) c t (Err refusal.Interrupted) d u (alloc-made c.pass words idle has) (ready, told)
 
--- what is gone on with, and a take
+-- what a call that is gone on with answers, and a take
 pub resumed-answers :
     (c : Cache) (t : Table) (number : ℕ) (block : Block) (d : Cache) (u : Table) → is_idle c.pass.errand.point ≡ false → NamesOneMore t number block u
     → GoesOnTo c (resumed.Given block) d → HasResumed c t (Ok (Some number)) d u

@@ -30,7 +30,7 @@ named-empty : (t : Table) (n : ℕ) → block_at t.slots.items (n % 2 ^ 32) ≡ 
 named-empty t n empty =
     ap (λ (s : Option Block). if number_at t (n % 2 ^ 32) == n then s else None) empty ∙ both_none (number_at t (n % 2 ^ 32) == n)
 
--- the slot of a number is as it was
+-- a number names the same where its slot is as it was
 named-same :
     (t u : Table) (n : ℕ) → block_at u.slots.items (n % 2 ^ 32) ≡ block_at t.slots.items (n % 2 ^ 32)
     → age_at u.slots.items (n % 2 ^ 32) ≡ age_at t.slots.items (n % 2 ^ 32) → named u n ≡ named t n
@@ -47,7 +47,7 @@ gave-none t u ages j =
     let zero : age_at t.slots.items j + 0 ≡ age_at t.slots.items j = omega arith in
     ap (λ (a : ℕ). a % 2 ^ 32) (ages j ∙ sym zero)
 
--- all slots are as they were
+-- numbers are kept where all slots are as they were
 pub keeps :
     (t u : Table) → ((j : ℕ) → block_at u.slots.items j ≡ block_at t.slots.items j)
     → ((j : ℕ) → age_at u.slots.items j ≡ age_at t.slots.items j) → KeepsNumbers t u
@@ -60,7 +60,7 @@ slot-of : (t : Table) (i : ℕ) → i < 2 ^ 32 → number_at t i % 2 ^ 32 ≡ i
 slot-of t i small =
     mod-mul-add (age_at t.slots.items i) (2 ^ 32) (i % 2 ^ 32) (mod-lt i (omega arith)) ∙ mod-eq_of_lt small
 
--- a vacant slot has a block now
+-- a table where a vacant slot has a block now names one more
 pub gains :
     (t u : Table) (i : ℕ) (block : Block) → i < 2 ^ 32 → block_at t.slots.items i ≡ None → block_at u.slots.items i ≡ Some block
     → ((j : ℕ) → j ≢ i → block_at u.slots.items j ≡ block_at t.slots.items j)
@@ -83,7 +83,7 @@ gains t u i block small vacant full others ages =
 twice : (a : ℕ) → a % 2 ^ 32 % 2 ^ 32 ≡ a % 2 ^ 32
 twice a = mod-eq_of_lt (mod-lt a (omega arith))
 
--- a slot has given its block away
+-- a table where a slot has given its block away names one less
 pub loses :
     (t u : Table) (n : ℕ) → named t n ≢ None → block_at u.slots.items (n % 2 ^ 32) ≡ None
     → ((j : ℕ) → j ≢ n % 2 ^ 32 → block_at u.slots.items j ≡ block_at t.slots.items j)
@@ -142,11 +142,11 @@ gave-more t u v slots more gave later i =
     later i ∙ sym (mod-add-mod b (2 ^ 32) n) ∙ ap (λ (k : ℕ). (k + n) % 2 ^ 32) (gave i) ∙ mod-add-mod (a + m) (2 ^ 32) n
     ∙ ap (λ (k : ℕ). k % 2 ^ 32) (add_assoc a m n ∙ ap (λ (k : ℕ). a + k) (sym both))
 
--- nothing has happened
+-- a table keeps its own numbers
 pub keeps-itself : (t : Table) → KeepsNumbers t t
 keeps-itself t = keeps t t (λ j. refl) (λ j. refl)
 
--- a block was put into a vacant slot
+-- a table where a block was put into a vacant slot names one more
 pub gains-set :
     (t u : Table) (i : ℕ) (block : Block) → i < 2 ^ 32 → IsVacant t.slots.items i → u.slots.items ≡ set_block t.slots.items i (Some block)
     → NamesOneMore t (number_at u i) block u
@@ -157,7 +157,7 @@ gains-set t u i block small vacant set =
     (λ j other. ap (λ (l : List Slot). block_at l j) set ∙ block-set_other t.slots.items i j slot other)
     (λ j. ap (λ (l : List Slot). age_at l j) set ∙ age-set t.slots.items i (Some block) j vacant.0)
 
--- a block was taken out of its slot for good
+-- a table where a block was taken out of its slot for good names one less
 pub loses-set :
     (t u : Table) (l : List Slot) (n : ℕ) → named t n ≢ None → n % 2 ^ 32 < length t.slots.items → l ≡ set_block t.slots.items (n % 2 ^ 32) None
     → HasAged l (n % 2 ^ 32) u.slots.items → NamesOneLess t n u
@@ -172,7 +172,7 @@ loses-set t u l n names within set aged =
     (aged.here ∙ ap (λ (a : ℕ). (a + 1) % 2 ^ 32) (ages i))
     (λ j other. aged.others j other ∙ ages j)
 
--- a block was taken out of its slot and put back
+-- a table where a block was taken out of its slot and put back keeps its numbers
 pub keeps-set :
     (t u : Table) (l : List Slot) (i : ℕ) (block : Block) → i < length t.slots.items → i < length l → block_at t.slots.items i ≡ Some block
     → l ≡ set_block t.slots.items i None → u.slots.items ≡ set_block l i (Some block) → KeepsNumbers t u

@@ -52,14 +52,14 @@ pub item-held :
     → held_at handles i ≡ item.held.hand
 item-held handles i item within is = held-get handles i item within ∙ ap (λ (x : PassHandle). x.held.hand) (sym is)
 
--- one that holds a pass
+-- a row with a handle that holds a pass isn't empty
 pub not-empty :
     (handles : List PassHandle) (i : ℕ) (item : PassHandle) → i < length handles → item ≡ get_or handles i item
     → is_some item.held.hand ≡ true → AreEmpty handles → ⊥
 not-empty handles i item within is live empty =
     false≢true (sym (ap is_some (sym (item-held handles i item within is) ∙ empty i)) ∙ live)
 
--- one more that holds none
+-- the handles up to one more hold no pass, where that one holds none
 pub one-more-empty :
     (handles : List PassHandle) (i : ℕ) (item : PassHandle) → i < length handles → item ≡ get_or handles i item
     → is_some item.held.hand ≡ false → ((k : ℕ) → k < i → held_at handles k ≡ None) → (k : ℕ) → k < i + 1 → held_at handles k ≡ None
@@ -68,7 +68,7 @@ one-more-empty handles i item within is none each k low =
     (λ at. subst (λ (n : ℕ). held_at handles n ≡ None) (sym at.1) (item-held handles i item within is ∙ none-of item.held.hand none))
     (λ apart. each k (omega (arith, low, apart.1))) (eqb_tells k i)
 
--- one more that is emptied
+-- the handles up to one more hold no pass, where that one is emptied
 pub emptied-one :
     (handles : List PassHandle) (i : ℕ) (x : PassHandle) → i < length handles → x.held.hand ≡ None
     → ((k : ℕ) → k < i → held_at handles k ≡ None) → (k : ℕ) → k < i + 1 → held_at (slice_set handles i x) k ≡ None
@@ -77,7 +77,7 @@ emptied-one handles i x within none each k low =
     (λ at. subst (λ (n : ℕ). held_at (slice_set handles i x) n ≡ None) (sym at.1) (held-set_same handles i x within ∙ none))
     (λ apart. held-set_other handles i k x apart.1 ∙ each k (omega (arith, low, apart.1))) (eqb_tells k i)
 
--- one more that holds a pass
+-- the first handles hold new passes, and one more that is given one
 pub given-one :
     (h : Heap) (depth : ℕ) (handles : List PassHandle) (i : ℕ) (x y : PassHandle) (hand : Hand) → i < length handles → y.held.hand ≡ Some hand
     → IsNew h i depth hand → HoldNew h depth i handles → HoldNew h depth (i + 1) (slice_set (slice_set handles i x) i y)

@@ -21,7 +21,7 @@ use Rattle.block_cache.specs.Caches.{HoldsBlock, KeepsMagazines}
 use Rattle.block_cache.specs.Magazines.{all_in, stacks_of}
 use Rattle.balloc_c.specs.Ranges.{wrote_from}
 
--- the heap was asked twice
+-- magazines that are kept twice are kept
 pub keeps-on : (c d e : Cache) → KeepsMagazines c d → KeepsMagazines d e → KeepsMagazines c e
 keeps-on c d e one other = record { magazines = other.magazines ∙ one.magazines; hits = other.hits ∙ one.hits }
 
@@ -49,7 +49,7 @@ at-end from i words low within =
 next-end : (from i : ℕ) → from ≤ i → i + 1 - from ≡ (i - from) + 1
 next-end from i low = omega (arith, low)
 
--- one word of the range more was written
+-- a row of writes, with one word of the range more
 pub writes-more :
     (h : Heap) (first p q : Pass) (block : Block) (from i : ℕ) (words : List ℕ) → from ≤ i → i - from < length words
     → LeadsBy (CallsOnWord h) first (wrote_from block.place block.need from (take (i - from) words)) p
@@ -64,7 +64,7 @@ writes-more h first p q block from i words low within leads one =
     (sym (ap (wrote_from block.place block.need from) longer ∙ wrote-push block.place block.need from had word i (at-end from i words low within)))
     (leads-more (CallsOnWord h) first p q (wrote_from block.place block.need from had) (write block.place block.need i word) reply.Wrote leads one)
 
--- and one more was read
+-- a row of reads, with one word of the range more
 pub reads-more :
     (h : Heap) (first p q : Pass) (block : Block) (from i : ℕ) (words : List ℕ) (word : ℕ) → from ≤ i → i - from < length words
     → LeadsBy (CallsOnWord h) first (found_from block.place block.need from (take (i - from) words)) p

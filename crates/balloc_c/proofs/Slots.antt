@@ -22,7 +22,7 @@ pub blocks-append : (xs ys : List Slot) → blocks_of (xs ++ ys) ≡ blocks_of x
 blocks-append [] ys = refl
 blocks-append (x ∷ xs) ys = ap (with_block x.block) (blocks-append xs ys) ∙ with-append x.block (blocks_of xs) (blocks_of ys)
 
--- a slot more with nothing in it
+-- the blocks in slots, with one slot more that has none
 pub grown : (slots : List Slot) (slot : Slot) → slot.block ≡ None → blocks_of (slots ++ slot ∷ []) ≡ blocks_of slots
 grown slots slot none =
     blocks-append slots (slot ∷ []) ∙ ap (λ (b : Option Block). blocks_of slots ++ with_block b []) none ∙ append-nil (blocks_of slots)
@@ -39,7 +39,7 @@ grown-age [] slot (suc i) none = refl
 grown-age (x ∷ xs) slot zero none = refl
 grown-age (x ∷ xs) slot (suc i) none = grown-age xs slot i none
 
--- a slot and those about it
+-- the blocks in slots, by one slot and those about it
 pub about :
     (slots : List Slot) (i : ℕ) → i < length slots
     → blocks_of slots ≡ blocks_of (take i slots) ++ with_block (block_at slots i) (blocks_of (drop (i + 1) slots))
@@ -54,14 +54,14 @@ about-set slots i slot within =
     ap blocks_of (sym (take-append-drop i (slice_set slots i slot)) ∙ (λ j. take-set slots i slot j ++ drop-set slots i slot within j))
     ∙ blocks-append (take i slots) (slot ∷ drop (i + 1) slots)
 
--- a slot with a block, and those about it
+-- the blocks in slots, by one slot with a block and those about it
 whole-at :
     (slots : List Slot) (i : ℕ) (block : Block) → i < length slots → block_at slots i ≡ Some block
     → blocks_of slots ≡ blocks_of (take i slots) ++ block ∷ blocks_of (drop (i + 1) slots)
 whole-at slots i block within is =
     about slots i within ∙ ap (λ (s : Option Block). blocks_of (take i slots) ++ with_block s (blocks_of (drop (i + 1) slots))) is
 
--- another slot with the same block
+-- the blocks in slots stay where one slot is replaced by one with the same block
 pub same-blocks : (slots : List Slot) (i : ℕ) (slot : Slot) → i < length slots → slot.block ≡ block_at slots i → blocks_of (slice_set slots i slot) ≡ blocks_of slots
 same-blocks slots i slot within same =
     about-set slots i slot within

@@ -59,7 +59,7 @@ pub told :
 told Call Shows was now before next result held holds shows called =
     subst (λ (o : Option Hand). Told Call o Shows now) (sym held) (result, next, shows, holds, called)
 
--- a close, and one that stays open
+-- what is told of a close that was made, and of one that leaves the pass open
 pub closes :
     (frees : Bool) (was now : Option Hand) (before next : Hand) (outcome : Result (Unit {0}) Refusal) (done : Unit {0}) (won lost won_told lost_told : ℕ)
     → was ≡ Some before → LeavesBlocks frees before outcome next → outcome ≡ Ok done → won_told ≡ next.cache.pass.errand.won

@@ -18,7 +18,7 @@ use Rattle.balloc_c.specs.Slots.{blocks_of}
 use Rattle.balloc_c.specs.Tended.{heap_of}
 use Rattle.balloc_c.specs.Through.{IsFlush, IsFree}
 
--- the block of a slot was freed, or that is under way; where there is none nothing has happened
+-- the block of a slot was freed, or its free is under way; where there is none nothing has happened
 abbrev pub FreesSlot : Cache → Option Block → FreeAnswer → Cache → Type 0
 FreesSlot c None answer d = (answer ≡ free_answer.Freed) × (d ≡ c)
 FreesSlot c (Some block) answer d = IsFree c block answer d
@@ -28,7 +28,7 @@ abbrev pub FreesAll : Cache → List Block → Cache → Type 0
 FreesAll c [] d = d ≡ c
 FreesAll c (block ∷ blocks) d = (next : Cache) × IsFree c block free_answer.Freed next × FreesAll next blocks d
 
--- some were, the free of the next one is interrupted, and the others are left
+-- some of the blocks were freed, the free of the next one is interrupted, and the others are left
 pub record StopsAt (c : Cache) (had left : List Block) (d : Cache) : Type 0 where
   pub freed : List Block
   pub block : Block
@@ -42,7 +42,7 @@ abbrev pub FreesTable : Cache → Table → FreeAnswer → Cache → Table → T
 FreesTable c t free_answer.Freed d u = FreesAll c (blocks_of t.slots.items) d × (blocks_of u.slots.items ≡ [])
 FreesTable c t free_answer.Busy d u = StopsAt c (blocks_of t.slots.items) (blocks_of u.slots.items) d
 
--- the table has been emptied so, and then the magazines
+-- all blocks of the table were freed, and then the magazines flushed
 abbrev pub FreesThenFlushes : Cache → Table → FreeAnswer → Cache → Table → Type 0
 FreesThenFlushes c t answer d u = (next : Cache) × FreesTable c t free_answer.Freed next u × IsFlush next answer d
 
@@ -60,7 +60,7 @@ abbrev pub LeavesBlocks : Bool → Hand → Result (Unit {0}) Refusal → Hand �
 LeavesBlocks true hand outcome next = Makes HasFreedAll hand outcome next
 LeavesBlocks false hand outcome next = (outcome ≡ Ok tt) × (next ≡ hand)
 
--- it is closed, and what it won and lost is told; or it stays open
+-- the pass is closed, and what it won and lost is told; or it stays open
 abbrev pub Shuts : Result (Unit {0}) Refusal → Hand → ℕ → ℕ → ℕ → ℕ → Option Hand → Type 0
 Shuts (Ok done) hand won lost won_told lost_told after =
     (won_told ≡ hand.cache.pass.errand.won) × (lost_told ≡ hand.cache.pass.errand.lost) × (after ≡ None)
@@ -79,13 +79,13 @@ TellsCensus hand before after =
     (after ≡ before)
     ⊎ ((c : ClosedFields) × IsClosedWhole (heap_of hand) c × (after.counted ≡ true) × IsCountOf c after)
 
--- of a close: it is told at most by one that was made
+-- what a close tells of the heap: something at most where it was made
 abbrev pub ClosesHeap : Option Hand → ℤ → Counted → Counted → Type 0
 ClosesHeap None code before after = after ≡ record before { counted = false }
 ClosesHeap (Some hand) code before after =
     (code ≢ pos 0 → after ≡ record before { counted = false }) × TellsCensus hand (record before { counted = false }) after
 
--- what a pass has counted is told, or that there is none
+-- what a pass has counted is told, or that there is no pass
 abbrev pub TellsCounts : Option Hand → ℤ → ℕ × ℕ × ℕ × ℕ → ℕ × ℕ × ℕ × ℕ → Type 0
 TellsCounts None code before told = (code ≡ negsuc 0) × (told ≡ before)
 TellsCounts (Some hand) code before told = (code ≡ pos 0) × (told ≡ counts_of hand.cache.pass)

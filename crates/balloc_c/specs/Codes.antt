@@ -32,7 +32,7 @@ abbrev pub value_in : {A : Type 0} → Result A Refusal → A → A
 value_in (Ok value) before = value
 value_in (Err cause) before = before
 
--- of a call that is gone on with: a free that has ended has a code of its own, and no number
+-- the code and the number of a call that is gone on with: a free that has ended has a code of its own, and no number
 abbrev pub resumed_code : Result (Option ℕ) Refusal → ℤ
 resumed_code (Ok (Some number)) = pos 0
 resumed_code (Ok None) = pos 1

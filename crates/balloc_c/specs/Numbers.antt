@@ -13,31 +13,31 @@ abbrev pub named : Table → ℕ → Option Block
 named table number =
     if number_at table (number % 2 ^ 32) == number then block_at table.slots.items (number % 2 ^ 32) else None
 
--- meanwhile just these slots gave blocks away, each as often as it stands here. An age is a number of 32 bits
+-- from the one table to the other just these slots gave blocks away, each as often as it stands here. An age is a number of 32 bits
 abbrev pub GaveAway : Table → List ℕ → Table → Type 0
 GaveAway before slots after =
     (index : ℕ)
     → age_at after.slots.items index % 2 ^ 32 ≡ (age_at before.slots.items index + count_by (λ slot. slot == index) slots) % 2 ^ 32
 
--- the same blocks have the same numbers
+-- the same blocks have the same numbers, and no slot gave one away
 pub record KeepsNumbers (before after : Table) : Type 0 where
   pub all : (number : ℕ) → named after number ≡ named before number
   pub gave : GaveAway before [] after
 
--- one block more, under a number that named none
+-- the table names one block more, under a number that named none
 pub record NamesOneMore (before : Table) (number : ℕ) (block : Block) (after : Table) : Type 0 where
   pub new : named before number ≡ None
   pub here : named after number ≡ Some block
   pub others : (other : ℕ) → other ≢ number → named after other ≡ named before other
   pub gave : GaveAway before [] after
 
--- one block less: its number names none, and its slot has given a block away once more
+-- the table names one block less: its number names none, and its slot has given a block away once more
 pub record NamesOneLess (before : Table) (number : ℕ) (after : Table) : Type 0 where
   pub gone : named after number ≡ None
   pub others : (other : ℕ) → other ≢ number → named after other ≡ named before other
   pub gave : GaveAway before (number % 2 ^ 32 ∷ []) after
 
--- the spare slot is there, and has no block
+-- the table's spare slot is there, and has no block
 abbrev pub HasSpare : Table → Type 0
 HasSpare table = IsVacant table.slots.items table.spare
 

@@ -23,7 +23,7 @@ held_at [] number = None
 held_at (handle ∷ handles) zero = handle.held.hand
 held_at (handle ∷ handles) (suc number) = held_at handles number
 
--- none of them holds a pass
+-- none of the handles holds a pass
 abbrev pub AreEmpty : List PassHandle → Type 0
 AreEmpty handles = (number : ℕ) → held_at handles number ≡ None
 
@@ -53,7 +53,7 @@ pub record HasOpened (before : List PassHandle) (g : Geometry) (depth : ℕ) (af
   pub layout : heap.layout ≡ g
   pub new : HoldNew heap depth g.callers after
 
--- so it is; or the first cause that stands bars that, and the handles are as they were; or there is no memory, and they are empty as before
+-- a heap is opened; or the first cause that stands bars that, and the handles are as they were; or there is no memory, and they are empty as before
 abbrev pub Opens : List PassHandle → Geometry → ℕ → Result (Unit {0}) Refusal → List PassHandle → Type 0
 Opens before g depth (Ok done) after = HasOpened before g depth after
 Opens before g depth (Err refusal.InUse) after = (¬ AreEmpty before) × (after ≡ before)

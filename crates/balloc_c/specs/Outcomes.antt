@@ -36,7 +36,7 @@ is_busy pass = not (is_idle pass.errand.point)
 abbrev pub names_none : Table → ℕ → Bool
 names_none table number = is_none (named table number)
 
--- the block has no such word
+-- the block has no word with this number
 abbrev pub lacks_word : Option Block → ℕ → Bool
 lacks_word None i = false
 lacks_word (Some block) i = nat_le (usable_words block.need) i
@@ -64,7 +64,7 @@ take_bar pass shelf = barred (is_busy pass) refusal.InCall (barred (nat_le SHELV
 abbrev pub resume_bar : Pass → Option Refusal
 resume_bar pass = barred (is_idle pass.errand.point) refusal.Idle None
 
--- a call that is barred has that cause's answer, and nothing has happened; another one has been made
+-- a call that is barred has its cause's answer, and nothing has happened; a call that isn't has been made
 abbrev pub Answers : {A : Type 0} → Option Refusal → (Result A Refusal → Cache → Table → Type 0) → Cache → Table → Result A Refusal → Cache → Table → Type 0
 Answers (Some cause) Makes c t result d u = (result ≡ Err cause) × (d ≡ c) × (u ≡ t)
 Answers None Makes c t result d u = Makes result d u
@@ -73,7 +73,7 @@ Answers None Makes c t result d u = Makes result d u
 abbrev pub Stays : Cache → Table → Cache → Table → Type 0
 Stays c t d u = (d ≡ c) × KeepsNumbers t u
 
--- the number names a block, of which this is so
+-- the number names a block, of which this holds
 abbrev pub Of : Table → ℕ → (Block → Type 0) → Type 0
 Of t number P = (block : Block) × (named t number ≡ Some block) × P block
 
@@ -117,7 +117,7 @@ Takes c t shelf (Err refusal.ShelfMissed) d u = HasSlotReady t u × (expected : 
 Takes c t shelf (Err refusal.NoMemory) d u = Stays c t d u
 Takes c t shelf (Err cause) d u = ⊥
 
--- the call that is under way has come to this
+-- the call that is under way has come to this answer
 abbrev pub GoesOnTo : Cache → Resumed → Cache → Type 0
 GoesOnTo c answer d = Asked (λ p q. (first : Pass) (call : Call) (made : ℕ) → IsCalling first call made p → ResumeTells first call made p TRIES answer q) c d
 
@@ -131,7 +131,7 @@ Resumes c t (Err refusal.Interrupted) d u = HasSlotReady t u × GoesOnTo c resum
 Resumes c t (Err refusal.NoMemory) d u = Stays c t d u
 Resumes c t (Err cause) d u = ⊥
 
--- each call, with what bars it
+-- what each call comes to, with what bars it
 abbrev pub HasAllocated : Cache → Table → ℕ → Result ℕ Refusal → Cache → Table → Type 0
 HasAllocated c t words = Answers (alloc_bar c.pass words) (Allocs c t words) c t
 

@@ -43,18 +43,18 @@ abbrev pub WritesRange : Cache → Table → ℕ → ℕ → List ℕ → Result
 WritesRange c t number from words (Ok done) d u = Of t number (λ block. MadeLead c (wrote_from block.place block.need from words) d) × (u ≡ t)
 WritesRange c t number from words (Err cause) d u = ⊥
 
--- each word of the range was read, and these were found
+-- each word of the range was read, and these words were found
 abbrev pub ReadsRange : Cache → Table → ℕ → ℕ → List ℕ → Result (Unit {0}) Refusal → Cache → Table → Type 0
 ReadsRange c t number from found (Ok done) d u = Of t number (λ block. MadeLead c (found_from block.place block.need from found) d) × (u ≡ t)
 ReadsRange c t number from found (Err cause) d u = ⊥
 
--- each usable word was written: word i with from + i, modulo 2^64
+-- each usable word of the block was written: word i with from + i, modulo 2^64
 abbrev pub Fills : Cache → Table → ℕ → ℕ → Result (Unit {0}) Refusal → Cache → Table → Type 0
 Fills c t number from (Ok done) d u =
     Of t number (λ block. MadeLead c (wrote block.place block.need from (usable_words block.need)) d) × (u ≡ t)
 Fills c t number from (Err cause) d u = ⊥
 
--- each usable word was read, and they add up to this, modulo 2^64
+-- each usable word of the block was read, and they add up to this, modulo 2^64
 abbrev pub Adds : Cache → Table → ℕ → Result ℕ Refusal → Cache → Table → Type 0
 Adds c t number (Ok total) d u =
     Of t number (λ block. (h : Heap) × IsOf h c.pass × Asked (λ p q. Sums (CallsOnWord h) p block.place block.need total q) c d) × (u ≡ t)
@@ -65,7 +65,7 @@ abbrev pub IsFound : Result (Unit {0}) Refusal → List ℕ → List ℕ → Typ
 IsFound (Ok done) before after = length after ≡ length before
 IsFound (Err cause) before after = after ≡ before
 
--- each call, with what bars it
+-- what each call on a range comes to, with what bars it
 abbrev pub HasWrittenRange : Cache → Table → ℕ → ℕ → List ℕ → Result (Unit {0}) Refusal → Cache → Table → Type 0
 HasWrittenRange c t number from words = Answers (range_bar c.pass t number from (length words)) (WritesRange c t number from words) c t
 

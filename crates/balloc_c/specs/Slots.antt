@@ -27,7 +27,7 @@ block_at slots index = (slice_index_or slots index no_slot).block
 abbrev pub age_at : List Slot → ℕ → ℕ
 age_at slots index = (slice_index_or slots index no_slot).age
 
--- there is such a slot, and it has no block
+-- the slot is there, and has no block
 abbrev pub IsVacant : List Slot → ℕ → Type 0
 IsVacant slots index = (index < length slots) × (block_at slots index ≡ None)
 

@@ -5,6 +5,9 @@ use Rattle.heap_geometry.specs.declared.need.Need.{Need}
 use Rattle.errand_steps.specs.declared.reply.Progress.TheVariants as progress
 use Rattle.errand_steps.specs.declared.reply.Reply.{Reply}
 use Rattle.errand_steps.specs.declared.reply.Reply.TheVariants as reply
+use Rattle.errand_steps.specs.declared.told.Ending.TheVariants as ending
+use Rattle.errand_steps.specs.declared.told.Stepped.{Stepped}
+use Rattle.errand_steps.specs.declared.told.Stepped.TheVariants as step
 use Rattle.errand_steps.specs.Begins.{IsBusy, IsIdle}
 use Rattle.errand_steps.specs.Calls.{Call, free, put}
 use Rattle.errand_steps.specs.Errands.{settle_of}
@@ -13,10 +16,7 @@ use Rattle.errand_steps.proofs.AnswerLemmas.{done-told}
 use Rattle.step_machine.specs.Keeping.{LeavesPlace}
 use Rattle.step_machine.specs.Moments.{IsMoment}
 use Rattle.step_machine.proofs.MomentAnswers.{found, moment-given, moment-settles}
-use Rattle.live_heap.specs.declared.answers.Ending.TheVariants as ending
 use Rattle.live_heap.specs.declared.answers.Full.{Full}
-use Rattle.live_heap.specs.declared.answers.Step.{Step}
-use Rattle.live_heap.specs.declared.answers.Step.TheVariants as step
 use Rattle.live_heap.specs.declared.block.Block.{Block}
 use Rattle.live_heap.specs.declared.heap.Heap.{Heap}
 use Rattle.live_heap.specs.declared.pass.Pass.{Pass}
@@ -42,7 +42,7 @@ GetsAnother =
     → HasCalled p call steps (reply.Got place need) q → Owns p block → block.place ≢ place
 
 module _ (keep : KeepsOthers) (h : Heap) (p q : Pass) (call : Call) (steps : ℕ) (of : IsOf h p) (still : IsOf h q) where
-  -- it brought no block
+  -- a call brought no block
   pub made-none : (answer : Reply) → HasCalled p call steps answer q → HasMade h p call None q
   made-none answer called = record {
     rests = (still, called.idle);
@@ -50,7 +50,7 @@ module _ (keep : KeepsOthers) (h : Heap) (p q : Pass) (call : Call) (steps : ℕ
     new = tt;
   }
 
-  -- it was given a block
+  -- a call was given a block
   pub made-given :
       GivesAnother → (block : Block) → HasCalled p call steps (reply.Given block.place block.need) q → Owns q block → HasMade h p call (Some block) q
   made-given another block called owned = record {
@@ -59,7 +59,7 @@ module _ (keep : KeepsOthers) (h : Heap) (p q : Pass) (call : Call) (steps : ℕ
     new = (owned, λ other had. another h p q call steps block.place block.need other of still called had);
   }
 
-  -- it took one
+  -- a call took a block
   pub made-got :
       GetsAnother → (block : Block) → HasCalled p call steps (reply.Got block.place block.need) q → Owns q block → HasMade h p call (Some block) q
   made-got another block called owned = record {
@@ -68,12 +68,12 @@ module _ (keep : KeepsOthers) (h : Heap) (p q : Pass) (call : Call) (steps : ℕ
     new = (owned, λ other had. another h p q call steps block.place block.need other of still called had);
   }
 
--- nothing has happened
+-- a call was made, and nothing has happened
 pub made-nothing : (h : Heap) (p q : Pass) (call : Call) → Rests h p → q ≡ p → HasMade h p call None q
 made-nothing h p q call rests same =
     subst (λ (x : Pass). HasMade h p call None x) (sym same) (record { rests = rests; keeps = λ block leaves owned. owned; new = tt })
 
--- what it brought is not asked for
+-- a call that brought a block or none, where that is not asked for
 pub made-without : (h : Heap) (p q : Pass) (call : Call) (got : Option Block) → HasMade h p call got q → HasMade h p call None q
 made-without h p q call got made = record { rests = made.rests; keeps = made.keeps; new = tt }
 
@@ -90,12 +90,12 @@ made-freed keep h p q r block shelf full of still tells freed =
     }
 
 -- a step that is told has given a block ends its call, and the block is the pass's
-abbrev IsIdleStep : Step → Type 0
+abbrev IsIdleStep : Stepped Block → Type 0
 IsIdleStep step.Idle = Unit {0}
 IsIdleStep told = ⊥
 
 pub given-owned :
-    (p q : Pass) (told : Step) (block : Block) → q.errand.caller ≡ p.errand.caller → (IsIdle p.errand → (told ≡ step.Idle) × (q ≡ p))
+    (p q : Pass) (told : Stepped Block) (block : Block) → q.errand.caller ≡ p.errand.caller → (IsIdle p.errand → (told ≡ step.Idle) × (q ≡ p))
     → (IsBusy p.errand → HasStepped p q told) → told ≡ step.Done (ending.Given block) → IsIdle q.errand × Owns q block
 given-owned p q told block caller idle busy is =
     elim (cases_Bool (is_idle p.errand.point)) [
@@ -103,7 +103,7 @@ given-owned p q told block caller idle busy is =
       | inr moves ↦
           let r : Reply = reply.Given block.place block.need in
           let m : IsMoment p.errand q.errand (seen p) (seen q) (progress.Done r) =
-          subst (λ (t : Step). IsMoment p.errand q.errand (seen p) (seen q) (progress_of t)) is (busy moves).moment in
+          subst (λ (t : Stepped Block). IsMoment p.errand q.errand (seen p) (seen q) (progress_of t)) is (busy moves).moment in
           let settled = moment-settles p.errand q.errand (seen p) (seen q) (progress.Done r) m in
           let rests : IsIdle (settle_of p.errand (found p.errand q.errand (seen p) (seen q) (progress.Done r) m)) =
           (done-told p.errand (found p.errand q.errand (seen p) (seen q) (progress.Done r) m) moves).1 (r, sym m.answers) in (

@@ -39,7 +39,7 @@ made-holds h p q call (Some block) blocks leaves made held = (
   holds-keeps p q (λ other owned. made.keeps other (leaves other) owned) blocks held,
 )
 
--- a call gives one away
+-- a call gives one of the held blocks away, and brings none
 pub made-gone :
     (h : Heap) (p q : Pass) (call : Call) (block : Block) (blocks : List Block)
     → ((other : Block) → other.place ≢ block.place → LeavesPlace call other.place) → HasMade h p call None q

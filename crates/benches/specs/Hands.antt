@@ -39,7 +39,7 @@ module _ {F : Type 0} (rests : Heap → F → Type 0) (holds : F → List Block 
     pub rests_at : rests h w.front
     pub holds_all : holds w.front (blocks_of w.hand.items)
 
-  -- so it does, and its hand is empty
+  -- the worker is in no call, holds no block, and its hand is empty
   pub record IsReady (h : Heap) (w : Worker F) : Type 0 where
     pub rests_at : rests h w.front
     pub holds_none : holds w.front []

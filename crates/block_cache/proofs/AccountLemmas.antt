@@ -29,7 +29,7 @@ use Rattle.live_heap.proofs.Holding.{idle-free}
 use Rattle.block_cache.specs.Accounts.{Began, HasAll}
 use Rattle.block_cache.proofs.MagazineLemmas.{Splits}
 
--- between calls, and in one
+-- a caller has all its blocks between calls, and while one waits
 pub rests : (p : Pass) (blocks : List Block) → IsIdle p.errand → HoldsExactly p blocks → HasAll p blocks
 rests p blocks idle exact = record { at_rest = λ still. exact; in_call = λ busy. absurd (idle-free p.errand idle busy) }
 
@@ -52,14 +52,14 @@ waits first p q blocks had call made tries i tried began exact =
           };
     }
 
--- a call that has ended
+-- all blocks of a caller behind a call that has ended
 pub ended-all :
     (h : Heap) (p q : Pass) (call : Call) (steps : ℕ) (answer : Reply) (had has : List Block) → IsOf h q → HasCalled p call steps answer q
     → ChangesHand call answer had has → HoldsExactly p had → HasAll q has
 ended-all h p q call steps answer had has of called hand exact =
     rests q has called.idle (called-exact h p q call steps answer had has of called hand exact)
 
--- an allocation or a free, its first call or one that resumes it
+-- all blocks of a caller behind an allocation or a free, begun or resumed
 pub resumed-all :
     (h : Heap) (first p q : Pass) (blocks : List Block) (call : Call) (made tries : ℕ) (answer : Resumed) → IsOf h q
     → ResumeTells first call made p tries answer q → IsTried call → (had : List Block) → Began call blocks had → HoldsExactly first had
@@ -87,7 +87,7 @@ resumed-all h first p q blocks (free place need) made tries resumed.Busy of tell
     waits first p q blocks had (free place need) made tries tells tried began exact
 resumed-all h first p q blocks call made tries answer of tells tried had began exact = absurd tried
 
--- an allocation
+-- all blocks of a caller behind an allocation
 pub alloc-all :
     (h : Heap) (p q : Pass) (blocks : List Block) (words tries : ℕ) (answer : AllocAnswer) → IsIdle p.errand → IsOf h q
     → AllocTells p words tries answer q → HasAll p blocks → HasAll q (given_by answer ++ blocks)
@@ -102,7 +102,7 @@ alloc-all h p q blocks words tries alloc_answer.Spent idle of (inr later) all =
 alloc-all h p q blocks words tries alloc_answer.Busy idle of tells all =
     resumed-all h p p q blocks (alloc words) 0 tries resumed.Busy of tells tt blocks refl (all.at_rest idle)
 
--- a free
+-- all blocks of a caller behind a free
 pub free-all :
     (h : Heap) (p q : Pass) (block : Block) (blocks : List Block) (tries : ℕ) (answer : FreeAnswer) → IsIdle p.errand → IsOf h q
     → FreeTells p block tries answer q → HasAll p (block ∷ blocks) → HasAll q blocks
@@ -113,7 +113,7 @@ free-all h p q block blocks tries free_answer.Busy idle of tells all =
     resumed-all h p p q blocks (free block.place block.need) 0 tries resumed.Busy of tells tt (block ∷ blocks)
     (record { block = block; lies = refl; serves = refl; is = refl }) (all.at_rest idle)
 
--- a call that was waiting
+-- all blocks of a caller behind a resumed call that was waiting
 pub waiting-all :
     (h : Heap) (p q : Pass) (blocks : List Block) (tries : ℕ) (answer : Resumed) → IsBusy p.errand → IsOf h q
     → ((first : Pass) (call : Call) (made : ℕ) → IsCalling first call made p → ResumeTells first call made p tries answer q)
@@ -122,7 +122,7 @@ waiting-all h p q blocks tries answer busy of tells all =
     let w = all.in_call busy in
     resumed-all h w.first p q blocks w.call w.steps tries answer of (tells w.first w.call w.steps w.calling) w.tried w.had w.began w.exact
 
--- a put, from which the block may come back
+-- all blocks of a caller behind a put, from which the block may come back
 pub put-all :
     {A : Type 0} (h : Heap) (p q : Pass) (block : Block) (blocks : List Block) (shelf : ℕ) (answer : Result A Full) → IsIdle p.errand → IsOf h q
     → IfOk answer (λ _. HasCalled p (put block.place block.need shelf) 0 reply.Put q)
@@ -133,7 +133,7 @@ put-all h p q block blocks shelf (Err full) idle of lies back all =
     ended-all h p q (put block.place block.need shelf) 0 (reply.Full full.found) (block ∷ blocks) (full.block ∷ blocks) of back.called
     (ap (λ (b : Block). b ∷ blocks) back.same) (all.at_rest idle)
 
--- a take
+-- all blocks of a caller behind a take
 pub take-all :
     (h : Heap) (p q : Pass) (blocks : List Block) (shelf : ℕ) (answer : Taken) → IsIdle p.errand → IsOf h q → TakeTells p shelf answer q
     → HasAll p blocks → HasAll q (taken_by answer ++ blocks)
@@ -144,7 +144,7 @@ take-all h p q blocks shelf taken.Empty idle of tells all =
 take-all h p q blocks shelf (taken.Missed expected found) idle of tells all =
     ended-all h p q (take shelf) 1 (reply.Missed expected found) blocks blocks of tells.0 refl (all.at_rest idle)
 
--- lists that are joined otherwise
+-- all blocks of a caller in lists that are joined otherwise
 pub regroup : (p : Pass) (xs ys zs : List Block) → HasAll p (xs ++ (ys ++ zs)) → HasAll p (xs ++ ys ++ zs)
 regroup p xs ys zs all = subst (HasAll p) (sym (append_assoc xs ys zs)) all
 
@@ -163,7 +163,7 @@ from-front p held front back block exact =
     subst (HoldsExactly p) (append_assoc held front (block ∷ back))
     ((order-exact p (held ++ front) back block).1 (subst (λ (xs : List Block). HoldsExactly p (block ∷ xs)) (sym (append_assoc held front back)) exact))
 
--- so does one that leaves the others, or comes to them
+-- a block that leaves the others comes to the front, and one that comes to them goes back
 pub leaves-all :
     (p : Pass) (held more less : List Block) (block : Block) → Splits block more less → IsIdle p.errand → HasAll p (held ++ more)
     → HasAll p (block ∷ (held ++ less))

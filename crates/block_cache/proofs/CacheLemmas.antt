@@ -18,7 +18,7 @@ use Rattle.block_cache.specs.Caches.{IsCache, cached_in}
 use Rattle.block_cache.specs.Magazines.{AreForClasses, all_in, stacks_of}
 use Rattle.block_cache.proofs.MagazineLemmas.{Splits}
 
--- the front of a list
+-- what is so of all blocks of a list is so of those at its front
 pub all-front : (P : Block → Type 0) (xs ys : List Block) → All P (xs ++ ys) → All P xs
 all-front P [] ys all = All-nil P
 all-front P (x ∷ xs) ys all = All-cons P x xs (All-head P x (xs ++ ys) all) (all-front P xs ys (All-tail P x (xs ++ ys) all))
@@ -51,17 +51,17 @@ hand-front h p xs ys hand =
           };
     }
 
--- who waits can be resumed
+-- the pass of a cache that waits can be resumed
 pub resumable : (h : Heap) (c : Cache) → IsCache h c → IsBusy c.pass.errand → IsResumable c.pass
 resumable h c is busy =
     let w = is.hand.waits busy in record { first = w.first; call = w.call; steps = w.steps; calling = w.calling; tried = w.tried }
 
--- a cache whose pass went on
+-- a cache whose pass went on is one still
 pub passed : (h : Heap) (c : Cache) (q : Pass) → IsCache h c → IsHand h q (cached_in c)
     → IsCache h (record { pass = q; magazines = c.magazines; hits = c.hits })
 passed h c q is hand = record { hand = hand; magazines = is.magazines; few = is.few }
 
--- a cache with other magazines
+-- a cache with other magazines is one still
 pub refilled : (h : Heap) (c : Cache) (p : Pass) (m : Magazines) (hits : ℕ) → IsCache h c → m.depth ≡ c.magazines.depth
     → AreForClasses c.magazines.depth m.stacks.items → IsHand h p (all_in (stacks_of m.stacks.items))
     → IsCache h (record { pass = p; magazines = m; hits = hits })
@@ -72,7 +72,7 @@ refilled h c p m hits is depth ready hand =
       few = subst (λ k. k ≤ 64) (sym depth) is.few;
     }
 
--- one block of it leaves
+-- the hand from which one block leaves
 pub leaves-hand : (h : Heap) (p : Pass) (more less : List Block) (block : Block) → Splits block more less → IsIdle p.errand → IsHand h p more
     → IsHand h p less
 leaves-hand h p more less block s idle hand =
@@ -83,7 +83,7 @@ leaves-hand h p more less block s idle hand =
       waits = λ busy. absurd (idle-free p.errand idle busy);
     }
 
--- one comes to it
+-- the hand to which one block comes
 pub comes-hand : (h : Heap) (p : Pass) (more less : List Block) (block : Block) → Splits block more less → IsIdle p.errand → Owns p block
     → All (λ other. other.place ≢ block.place) less → IsHand h p less → IsHand h p more
 comes-hand h p more less block s idle owned apart hand =

@@ -9,14 +9,14 @@ use Rattle.live_heap.specs.Answers.{FreeTells}
 use Rattle.live_heap.specs.Passes.{IsOf}
 use Rattle.block_cache.specs.Flushes.{Frees}
 
--- one more behind the others
+-- blocks that were freed, and one more behind them
 pub frees-more :
     (h : Heap) (p q r : Pass) (blocks : List Block) (block : Block) (tries : ℕ) → Frees h p blocks tries q → IsOf h r
     → FreeTells q block tries answer.Freed r → Frees h p (blocks ++ block ∷ []) tries r
 frees-more h p q r [] block tries frees of freed = (r, of, subst (λ (x : Pass). FreeTells x block tries answer.Freed r) frees freed, refl)
 frees-more h p q r (b ∷ bs) block tries (next, is, first, rest) of freed = (next, is, first, frees-more h next q r bs block tries rest of freed)
 
--- they stand in front of those that are left
+-- the blocks that were freed stand in front of those that are left
 pub freed-order : (all freed left : List Block) (block : Block) (rest : List Block) → all ≡ freed ++ left → left ≡ block ∷ rest
     → all ≡ (freed ++ block ∷ []) ++ rest
 freed-order all freed left block rest is first =

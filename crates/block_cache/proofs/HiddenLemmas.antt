@@ -17,7 +17,7 @@ use Rattle.block_cache.specs.Magazines.{all_in, leaving}
 use Rattle.std.proofs.lemmas.List.{reverse-append}
 use Rattle.block_cache.specs.Hidden.{hidden_at, hidden_pool_of, is_elsewhere}
 
--- what a pass owns at a place, but for these
+-- what a pass owns at a place, where none of these blocks lies there
 abbrev pub shown : Pass → List Block → ℕ → Option PoolBlock
 shown p blocks place = if is_elsewhere place blocks then owned_in p place else None
 
@@ -67,7 +67,7 @@ hidden-found c place block found =
       | inr off ↦ absurd (none-some block (rw off at is))
     ]
 
--- blocks that all lie elsewhere; one that lies there; and one that doesn't
+-- whether blocks lie elsewhere: where all do; where one lies there; and where one doesn't
 pub elsewhere-all : (place : ℕ) (blocks : List Block) → All (λ block. block.place ≢ place) blocks → is_elsewhere place blocks ≡ true
 elsewhere-all place [] apart = refl
 elsewhere-all place (b ∷ bs) apart =
@@ -91,7 +91,7 @@ elsewhere-past (b ∷ bs) back block place past =
       | inr other ↦ rw (ne_eqb b.place place other) (elsewhere-past bs back block place past)
     ]
 
--- so what is shown
+-- what is shown at a place where none of the blocks lies, where one does, and without one that doesn't
 pub shown-all : (p : Pass) (blocks : List Block) (place : ℕ) → All (λ block. block.place ≢ place) blocks → shown p blocks place ≡ owned_in p place
 shown-all p blocks place apart = rw (elsewhere-all place blocks apart) refl
 

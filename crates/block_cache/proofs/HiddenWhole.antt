@@ -45,7 +45,7 @@ apart-from h d place block of is at other found ne =
     let legal = legal-weaker h.layout (seen d.pass) of.served.legal in
     (separate-found h.layout pool (sound-of h.layout (seen d.pass) legal) place at block other own.0 (hidden-found d at other found) (λ same. ne (sym same))).apart
 
--- a magazine gave a block
+-- where a magazine gave a block the caller owns one more
 served-gains : (h : Heap) (c d : Cache) (words : ℕ) (block : Block) → RestsAt h c → IsCache h d → HasServed c words block d → OwnsOneMore c words block.place d
 served-gains h c d words block rests is has =
     let p = c.pass in
@@ -73,7 +73,7 @@ served-gains h c d words block rests is has =
           ∙ ap (λ (xs : List Block). shown p xs other) (sym split.with_it) ∙ sym (hidden-shown c other);
     }
 
--- a magazine kept one
+-- where a magazine kept a block the caller owns one less
 kept-loses : (c d : Cache) (block : Block) → HasKept c block d → OwnsOneLess c block.place d
 kept-loses c d block has =
     let p = c.pass in
@@ -90,7 +90,7 @@ kept-loses c d block has =
           ∙ ap (λ (xs : List Block). shown p xs other) (sym split.without_it) ∙ sym (hidden-shown c other);
     }
 
--- the heap was asked: what is shown is the same where the same is owned, and nothing where nothing is
+-- where the heap was asked, the same is shown where the same is owned, and nothing where nothing is
 same-shown : (c d : Cache) (place : ℕ) → KeepsMagazines c d → owned_in d.pass place ≡ owned_in c.pass place → hidden_at d place ≡ hidden_at c place
 same-shown c d place keeps same =
     hidden-shown d place

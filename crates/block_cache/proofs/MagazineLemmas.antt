@@ -33,7 +33,7 @@ replaces (m ∷ ms) (suc number) old new within is =
       now = ap (λ xs. m ∷ xs) rest.now;
     }
 
--- the stacks of what stands on both sides of one
+-- the stacks of magazines on both sides of one
 pub stacks-around : (before after : List (Vec Block Global)) (m : Vec Block Global)
     → stacks_of (before ++ m ∷ after) ≡ stacks_of before ++ m.items ∷ stacks_of after
 stacks-around before after m = map-append (λ (x : Vec Block Global). x.items) before (m ∷ after)
@@ -49,7 +49,7 @@ stack-is [] number m within is = absurd (omega (arith, within))
 stack-is (x ∷ xs) zero m within is = ap (λ (y : Vec Block Global). y.items) is
 stack-is (x ∷ xs) (suc number) m within is = stack-is xs number m (omega (arith, within)) is
 
--- one that has a block more
+-- the stacks where one magazine has a block more
 pub more-on-top : (magazines : List (Vec Block Global)) (number : ℕ) (old new : Vec Block Global) (block : Block) → Replaces magazines number old new
     → new.items ≡ old.items ++ block ∷ [] → HasOnTop number block (stacks_of (slice_set magazines number new)) (stacks_of magazines)
 more-on-top magazines number old new block r more =
@@ -107,7 +107,7 @@ magazines-after magazines depth number old new r keeps are =
     let is : number ≡ length r.before + 0 = omega (arith, r.number_is) in
     subst (AreMagazines 0 depth) (sym r.now) (among 0 depth number r.before r.after old new is keeps (subst (AreMagazines 0 depth) r.was are))
 
--- one magazine more behind the others
+-- magazines from a class on, and one more behind the others
 pub magazines-more : (class depth number : ℕ) (magazines : List (Vec Block Global)) (m : Vec Block Global) → number ≡ length magazines + class
     → AreMagazines class depth magazines → IsMagazine number depth m → AreMagazines class depth (magazines ++ m ∷ [])
 magazines-more class depth number [] m is are here =
@@ -121,7 +121,7 @@ empty-more magazines m empty none =
     ∙ flat_map-append (λ (stack : List Block). stack) (stacks_of magazines) (m.items ∷ [])
     ∙ ap (λ (xs : List Block). xs ++ (m.items ++ [])) empty ∙ ap (λ (xs : List Block). xs ++ []) none
 
--- the whole of stacks of which one has a block more
+-- all blocks of stacks, of which one has a block more
 pub record Splits (block : Block) (more less : List Block) : Type 0 where
   pub front : List Block
   pub back : List Block
@@ -168,7 +168,7 @@ magazine-more class depth old new block need more room few m =
       each = subst (All (λ (b : Block). b.need ≡ Small class)) (sym more) (All-push (λ (b : Block). b.need ≡ Small class) old.items block m.each need);
     }
 
--- what leaves first is on top of the first magazine that has a block
+-- the block that leaves first is on top of the first magazine that has one
 pub leaves-first : (class : ℕ) (block : Block) (before : List (List Block)) (stack : List Block) (after : List (List Block))
     → ((k : ℕ) → k < length before → stack_at (before ++ (stack ++ block ∷ []) ∷ after) k ≡ [])
     → leaving (before ++ (stack ++ block ∷ []) ∷ after) ≡ block ∷ leaving (before ++ stack ∷ after)
@@ -185,7 +185,7 @@ first-leaves class block more less top empty =
     λ k within. subst (λ (xs : List (List Block)). stack_at xs k ≡ []) top.with_it (empty k (omega (arith, within, top.number))) in
     ap leaving top.with_it ∙ leaves-first class block top.before top.stack top.after e ∙ ap (λ (xs : List (List Block)). block ∷ leaving xs) (sym top.without_it)
 
--- none leaves where all are empty
+-- no block leaves where all stacks are empty
 pub none-leaves : (stacks : List (List Block)) → ((k : ℕ) → k < length stacks → stack_at stacks k ≡ []) → leaving stacks ≡ []
 none-leaves [] empty = refl
 none-leaves (x ∷ xs) empty =
@@ -193,7 +193,7 @@ none-leaves (x ∷ xs) empty =
     let rest = none-leaves xs (λ k within. empty (suc k) (omega (arith, within))) in
     rw here rest
 
--- what leaves is what there is
+-- as many blocks leave as there are
 leaving-length : (stacks : List (List Block)) → length (leaving stacks) ≡ length (all_in stacks)
 leaving-length [] = refl
 leaving-length (x ∷ xs) =

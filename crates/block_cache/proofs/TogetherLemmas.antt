@@ -118,7 +118,7 @@ behind-first p first before after cached block =
     let swapped = order-exact p (block ∷ []) ((before ++ after) ++ cached) first in
     (λ exact. swapped.0 (turned.0 exact), λ exact. turned.1 (swapped.1 exact))
 
--- so is it of what a caller had when it began a call
+-- what a caller had exactly when it began a call that is about none of these blocks, whose order means nothing
 record HadSo (p : Pass) (call : Call) (blocks : List Block) : Type 0 where
   pub had : List Block
   pub began : Began call blocks had

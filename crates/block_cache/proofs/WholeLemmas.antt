@@ -31,7 +31,7 @@ use Rattle.block_cache.specs.Caches.{HasFor, HasKept, HasRoom, HasServed, HoldsB
 use Rattle.block_cache.specs.Whole.{Asks, EndsAs, HoldsAt, IsWholeCall, RestsAt, asked, kept, served}
 use Rattle.block_cache.proofs.MagazineLemmas.{top-splits}
 
--- it is known whether a magazine has a block for a need, and whether one has room
+-- a magazine has a block for a need or has none, and has room for one or has none
 pub for-or-not : (c : Cache) (need : Need) → HasFor c need ⊎ ¬ HasFor c need
 for-or-not c (Small class) =
     elim (cases_lt 0 (length (magazine_in c class))) [
@@ -81,7 +81,7 @@ made-idle : (p : Pass) (call : Call) (ended : Reply) (q : Pass) → IsIdle p.err
 made-idle p call ended q idle (by_steps made) = made.1.idle
 made-idle p call ended q idle (at_once words is_alloc spent once) = subst (λ (r : Pass). IsIdle r.errand) (sym once.same) idle
 
--- a call that the heap was asked for
+-- a whole call that the heap was asked for
 made-whole :
     (h : Heap) (c d : Cache) (call : Call) (ended : Reply) → RestsAt h c → IsCache h d → Asks c call → MadeByPass c.pass call ended d.pass
     → KeepsMagazines c d → IsWholeCall h c call ended d
@@ -98,7 +98,7 @@ pub asked-whole :
     → KeepsMagazines c d → IsWholeCall h c call ended d
 asked-whole h c d call ended rests is asks made keeps = made-whole h c d call ended rests is asks (by_steps made) keeps
 
--- an allocation of the heap that has ended
+-- an allocation of the heap that has ended is a whole call of its pass
 alloc-made : (p : Pass) (words tries : ℕ) (told : AllocAnswer) (ended : Reply) (q : Pass) → AllocTells p words tries told q → EndsAs told ended
     → MadeByPass p (alloc words) ended q
 alloc-made p words tries (answer.Given block) ended q tells is =
@@ -149,7 +149,7 @@ free-whole h c d block tries rests is holds if_room if_not =
           made-whole h c d (free block.place block.need) reply.Freed rests is (none, holds) (by_steps (k.0.steps, k.0.called)) k.1
     ]
 
--- the magazines of the two
+-- a pass owns the block at this place, which serves this need; what the caller of a cache holds it holds through a whole call that leaves it
 abbrev OwnsAt : Pass → ℕ → Need → Type 0
 OwnsAt p place need = OwnsAfter (seen p) p.errand.caller place need
 

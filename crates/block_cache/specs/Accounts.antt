@@ -10,19 +10,19 @@ use Rattle.live_heap.specs.Answers.{IsTried}
 use Rattle.live_heap.specs.Calls.{IsCalling}
 use Rattle.live_heap.specs.Holdings.{HoldsExactly}
 
--- the block at this place, which serves this need, and these
+-- these blocks with one more in front, which lies at this place and serves this need
 pub record IsOneMore (place : ℕ) (need : Need) (blocks more : List Block) : Type 0 where
   pub block : Block
   pub lies : block.place ≡ place
   pub serves : block.need ≡ need
   pub is : more ≡ block ∷ blocks
 
--- what the caller had when it began a call that is about none of these: a free is about one block more
+-- what the caller had when it began a call that is about none of these blocks: a free is about one block more
 abbrev pub Began : Call → List Block → List Block → Type 0
 Began (free place need) blocks had = IsOneMore place need blocks had
 Began call blocks had = had ≡ blocks
 
--- an allocation or a free is interrupted that is about none of these, and they were all others that the caller had
+-- an allocation or a free is interrupted that is about none of these blocks, and they were all others that the caller had
 pub record HasAllInCall (p : Pass) (blocks : List Block) : Type 0 where
   pub first : Pass
   pub call : Call

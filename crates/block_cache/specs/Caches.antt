@@ -11,14 +11,14 @@ use Rattle.block_cache.specs.declared.cache.Cache.{Cache}
 use Rattle.block_cache.specs.Accounts.{HasAll}
 use Rattle.block_cache.specs.Magazines.{AreForClasses, HasOnTop, all_in, stack_at, stacks_of}
 
--- the stacks of its magazines, and that of a class
+-- the stacks of a cache's magazines, and that of a class
 abbrev pub stacks_in : Cache → List (List Block)
 stacks_in c = stacks_of c.magazines.stacks.items
 
 abbrev pub magazine_in : Cache → ℕ → List Block
 magazine_in c class = stack_at (stacks_in c) class
 
--- the blocks in its magazines
+-- the blocks in a cache's magazines
 abbrev pub cached_in : Cache → List Block
 cached_in c = all_in (stacks_in c)
 
@@ -28,22 +28,22 @@ pub record IsCache (h : Heap) (c : Cache) : Type 0 where
   pub magazines : AreForClasses c.magazines.depth c.magazines.stacks.items
   pub few : c.magazines.depth ≤ 64
 
--- the blocks that its caller holds, which was given or has taken them, and has neither freed nor put them: with those in magazines they are all that it owns, each once, but for the one that a call under way is about
+-- the blocks that a cache's caller holds, which was given or has taken them, and has neither freed nor put them: with those in magazines they are all that it owns, each once, but for the one that a call under way is about
 abbrev pub Holds : Cache → List Block → Type 0
 Holds c held = HasAll c.pass (held ++ cached_in c)
 
--- its caller holds this one: it is the pass's, and in no magazine
+-- a cache's caller holds this block: it is the pass's, and in no magazine
 abbrev pub HoldsBlock : Cache → Block → Type 0
 HoldsBlock c block = Owns c.pass block × All (λ other. other.place ≢ block.place) (cached_in c)
 
--- the magazine for this need has a block; it has room for one more
+-- the magazine for this need has a block; the magazine has room for one more
 abbrev pub HasFor : Cache → Need → Type 0
 HasFor c need = (class : ℕ) × (need ≡ Small class) × (0 < length (magazine_in c class))
 
 abbrev pub HasRoom : Cache → Need → Type 0
 HasRoom c need = (class : ℕ) × (need ≡ Small class) × (length (magazine_in c class) < c.magazines.depth)
 
--- the last block of the magazine is given, one hit more is counted, and nothing else happens: the pass is the very same
+-- the last block of a magazine is given, one hit more is counted, and nothing else happens: the pass is the very same
 pub record HasServed (c : Cache) (words : ℕ) (block : Block) (d : Cache) : Type 0 where
   pub class : ℕ
   pub small : need_of words ≡ Small class
@@ -52,7 +52,7 @@ pub record HasServed (c : Cache) (words : ℕ) (block : Block) (d : Cache) : Typ
   pub pass : d.pass ≡ c.pass
   pub hits : d.hits ≡ min (c.hits + 1) (2 ^ 64 - 1)
 
--- the block is laid on its magazine, and nothing else happens
+-- a freed block is laid on its magazine, and nothing else happens
 pub record HasKept (c : Cache) (block : Block) (d : Cache) : Type 0 where
   pub class : ℕ
   pub small : block.need ≡ Small class

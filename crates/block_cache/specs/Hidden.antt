@@ -21,11 +21,11 @@ is_elsewhere place (block ∷ blocks) = if block.place == place then false else 
 abbrev pub hidden_pool_of : Cache → Pool
 hidden_pool_of c = filter (λ block. is_elsewhere block.place (cached_in c)) (pool_of (seen c.pass))
 
--- the caller's block at a place of it, with its words
+-- the caller's block at a place of the hidden pool, with its words
 abbrev pub hidden_at : Cache → ℕ → Option PoolBlock
 hidden_at c place = owned_at c.pass.errand.caller place (hidden_pool_of c)
 
--- the caller's blocks in it are the same, with the same words
+-- the caller's blocks in the hidden pool are the same, with the same words
 abbrev pub ShowsSame : Cache → Cache → Type 0
 ShowsSame c d = (place : ℕ) → hidden_at d place ≡ hidden_at c place
 
@@ -38,12 +38,12 @@ pub record OwnsOneMore (c : Cache) (words place : ℕ) (d : Cache) : Type 0 wher
   pub apart : (at : ℕ) (other : PoolBlock) → block_at at (hidden_pool_of d) ≡ Some other → at ≢ place → IsApart (span_of block) (span_of other)
   pub others : (other : ℕ) → other ≢ place → hidden_at d other ≡ hidden_at c other
 
--- the one at this place goes
+-- the caller's block at this place goes from the hidden pool
 pub record OwnsOneLess (c : Cache) (place : ℕ) (d : Cache) : Type 0 where
   pub here : hidden_at d place ≡ None
   pub others : (other : ℕ) → other ≢ place → hidden_at d other ≡ hidden_at c other
 
--- what an allocation or a free makes of it; each other call is the heap's
+-- what an allocation or a free makes of the hidden pool; each other call is the heap's
 abbrev pub Shows : Cache → Call → Reply → Cache → Type 0
 Shows c (alloc words) (reply.Given place need) d = OwnsOneMore c words place d
 Shows c (alloc words) answer d = ShowsSame c d

@@ -9,11 +9,11 @@ use Rattle.live_heap.specs.declared.block.Block.{Block}
 abbrev pub stacks_of : List (Vec Block Global) → List (List Block)
 stacks_of magazines = map (λ magazine. magazine.items) magazines
 
--- all blocks in them
+-- all blocks in the stacks of magazines
 abbrev pub all_in : List (List Block) → List Block
 all_in stacks = flat_map (λ stack. stack) stacks
 
--- and in the order in which they leave when all are emptied: the first class first, and of each the last block first
+-- the blocks in the order in which they leave when all magazines are emptied: the first class first, and of each the last block first
 abbrev pub leaving : List (List Block) → List Block
 leaving stacks = flat_map (λ stack. reverse stack) stacks
 
@@ -23,7 +23,7 @@ stack_at [] class = []
 stack_at (stack ∷ stacks) zero = stack
 stack_at (stack ∷ stacks) (suc class) = stack_at stacks class
 
--- the stack of this class has one block more on its top in the one than in the other, and all else is the same
+-- the stack of this class has one block more on its top in the first stacks than in the second, and all else is the same
 pub record HasOnTop (class : ℕ) (block : Block) (more less : List (List Block)) : Type 0 where
   pub before : List (List Block)
   pub stack : List Block
@@ -38,12 +38,12 @@ pub record IsMagazine (class depth : ℕ) (magazine : Vec Block Global) : Type 0
   pub room : depth ≤ vec_capacity magazine
   pub each : All (λ block. block.need ≡ Small class) magazine.items
 
--- so are these, from a class on
+-- the magazines are of the classes from this one on, each with at most so many blocks and room for so many
 abbrev pub AreMagazines : ℕ → ℕ → List (Vec Block Global) → Type 0
 AreMagazines class depth [] = Unit {0}
 AreMagazines class depth (magazine ∷ magazines) = IsMagazine class depth magazine × AreMagazines (suc class) depth magazines
 
--- one for each class
+-- a magazine for each class
 pub record AreForClasses (depth : ℕ) (magazines : List (Vec Block Global)) : Type 0 where
   pub classes : length magazines ≡ CLASSES
   pub each : AreMagazines 0 depth magazines

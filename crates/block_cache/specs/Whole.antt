@@ -20,7 +20,7 @@ use Rattle.block_cache.specs.Caches.{HasFor, HasKept, HasRoom, HasServed, IsCach
 abbrev pub RestsAt : Heap → Cache → Type 0
 RestsAt h c = IsCache h c × IsIdle c.pass.errand
 
--- its caller holds the block at the place, which serves this need
+-- a cache's caller holds the block at the place, which serves this need
 abbrev pub HoldsAt : Cache → ℕ → Need → Type 0
 HoldsAt c place need = OwnsAfter (seen c.pass) c.pass.errand.caller place need × All (λ other. other.place ≢ place) (cached_in c)
 
@@ -33,7 +33,7 @@ Asks c (read place need i) = HoldsAt c place need
 Asks c (put place need shelf) = HoldsAt c place need
 Asks c (take shelf) = Unit {0}
 
--- a magazine serves an allocation, or keeps a freed block; or the call is a whole call of the heap
+-- a whole call through a cache: a magazine serves an allocation, or keeps a freed block; or it is a whole call of the heap
 pub data MadeByCache (h : Heap) (c : Cache) (call : Call) (answer : Reply) (d : Cache) : Type 0 where
   served : (words : ℕ) (block : Block) → call ≡ alloc words → answer ≡ reply.Given block.place block.need → HasServed c words block d
       → MadeByCache h c call answer d

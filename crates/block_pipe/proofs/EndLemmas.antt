@@ -4,7 +4,7 @@ use Rattle.block_pipe.specs.declared.pipe.Pipe.{Pipe}
 use Rattle.block_pipe.specs.declared.sender.Sender.{Sender}
 use Rattle.block_pipe.specs.Ends.{AreNewFrom, IsSender, pushed_by}
 
--- one new sender more
+-- new senders, and one more behind them
 pub new-push :
     (pipe : Pipe) (n : ℕ) (ss : List Sender) (s : Sender) → AreNewFrom pipe n ss → IsSender pipe s → s.number ≡ n + length ss
     → pushed_by s ≡ [] → s.pending ≡ None → AreNewFrom pipe n (ss ++ s ∷ [])

@@ -9,7 +9,7 @@ use Rattle.block_pipe.specs.Ends.{AreAllEnds, AreDistinct, IsReceiver, IsSender,
 use Rattle.block_pipe.specs.Logs.{HasLogged, HasSender}
 use Rattle.block_pipe.specs.Notes.{Begins, of_sender}
 
--- what is told of a sender
+-- the counts have the number of a sender's pushed notes, and those popped of it are the first part of them
 abbrev pub Told : List Note → PerSender → Sender → Type 0
 Told popped sent s = (slice_index sent.counts s.number ≡ length (pushed_by s)) × Begins (of_sender s.number popped) (pushed_by s)
 
@@ -34,14 +34,14 @@ pub told-stays :
 told-stays popped old new n done same apart told k d below =
     (same (get_or done k d).number (apart k d below) ∙ (told k d below).0, (told k d below).1)
 
--- a number that is no sender's
+-- a number from the count of the pipe's senders on is no sender's
 pub numbers-below :
     (pipe : Pipe) (k : ℕ) (senders : List Sender) → pipe.senders ≤ k → All (λ (s : Sender). IsSender pipe s × (s.pending ≡ None)) senders
     → All (λ (s : Sender). s.number ≢ k) senders
 numbers-below pipe k senders past each i d below same =
     let one : IsSender pipe (get_or senders i d) = (each i d below).0 in absurd (omega (arith, past, one.has, same))
 
--- with the counts of the receiver that is what the log says
+-- what was told of the senders is, with the counts of the receiver, what the log says
 pub told-logged :
     (pipe : Pipe) (r : Receiver) (sent : PerSender) (senders : List Sender) → IsReceiver pipe r → All (Told (popped_by r) sent) senders
     → All (HasSender r (record { sent = sent; taken = r.popped })) senders

@@ -15,13 +15,13 @@ use Rattle.block_pipe.specs.Notes.{AreNumbered, FitsHeap, HasFirstPart, MayComeN
 pub of-append : (k : ℕ) (xs ys : List Note) → of_sender k (xs ++ ys) ≡ of_sender k xs ++ of_sender k ys
 of-append k xs ys = filter-append (λ (note : Note). note.sender == k) xs ys
 
--- a note of this sender
+-- the notes of a sender in a list with one more note of that sender
 pub of-same : (k : ℕ) (notes : List Note) (x : Note) → x.sender ≡ k → of_sender k (notes ++ x ∷ []) ≡ of_sender k notes ++ x ∷ []
 of-same k notes x is =
     let one : of_sender k (x ∷ []) ≡ x ∷ [] = rw (eq-eqb x.sender k is) refl in
     of-append k notes (x ∷ []) ∙ ap (λ (l : List Note). of_sender k notes ++ l) one
 
--- a note of another sender
+-- the notes of a sender in a list with one more note of another one
 pub of-other : (k : ℕ) (notes : List Note) (x : Note) → x.sender ≢ k → of_sender k (notes ++ x ∷ []) ≡ of_sender k notes
 of-other k notes x ne =
     let none : of_sender k (x ∷ []) ≡ [] = rw (ne_eqb x.sender k ne) refl in
@@ -36,7 +36,7 @@ last_cases (first ∷ notes) =
       | inr last_is ↦ (first ∷ last_is.0, last_is.1, ap (λ (xs : List Note). first ∷ xs) last_is.2)
     ])
 
--- one note more that is the next one
+-- a numbered list stays so with one note more that may come next
 numbered-push :
     (senders shelves : ℕ) (notes : List Note) (x : Note) → AreNumbered senders shelves notes → MayComeNext senders shelves notes x
     → AreNumbered senders shelves (notes ++ x ∷ [])
@@ -73,7 +73,7 @@ snoc-at [] a b (suc j) e = absurd (some-ne-none b (sym e))
 snoc-at (x ∷ xs) a b zero e = inl e
 snoc-at (x ∷ xs) a b (suc j) e = elim (snoc-at xs a b j e) [ inl h ↦ inl h | inr h ↦ inr (ap suc h.0, h.1) ]
 
--- a new end behind the others
+-- what holds of each end and of a new one holds of all with the new one behind the others
 each-snoc :
     (F : ℕ → Known → Type 0) (views : List Known) (w : Known) → Each F views → F (length views) w → Each F (views ++ w ∷ [])
 each-snoc F views w each new j u e =
@@ -104,7 +104,7 @@ nobody-fits keeper reader senders shelves all got port =
 pub begins : Piped [] (unset ∷ [])
 begins = inl (refl, refl)
 
--- the sizes are set
+-- the rule of the queue is kept where the sizes are set
 pub sets : (port senders shelves : ℕ) (v : Known) → v ≡ unset → Forks Piped port v (whole senders shelves) nobody
 sets port senders shelves v is items views h at =
     elim h [
@@ -134,7 +134,7 @@ sets port senders shelves v is items views h at =
           absurd (true≢false (sym ((r.each port unset at_unset).receives refl).0))
     ]
 
--- the first sender gets an end of its own
+-- the rule of the queue is kept where the first sender gets an end of its own
 pub peels : (port : ℕ) (v : Known) → v.set ≡ true → v.from < v.until → Forks Piped port v (first_out v) (first_sender v)
 peels port v is_set below items views h at =
     elim h [
@@ -184,7 +184,7 @@ peels port v is_set below items views h at =
           })
     ]
 
--- a note is sent
+-- the rule of the queue is kept where a note is sent
 pub sends :
     (n port : ℕ) (v : Known) (x : Note) → v.set ≡ true → StandsFor v x.sender → MayComeNext v.senders v.shelves v.sent x
     → Pushes Piped n port v x (λ w. w ≡ with_sent v x)
@@ -238,7 +238,7 @@ sends n port v x is_set stands next items views room h at =
           )
     ]
 
--- a note is taken: it is the next one
+-- the rule of the queue is kept where a note is taken; the note is the next one
 pub takes :
     (port : ℕ) (v : Known) → v.set ≡ true → v.receives ≡ true
     → Pops Piped port v (λ x w. MayComeNext v.senders v.shelves v.taken x × (w ≡ with_taken v x))
@@ -285,7 +285,7 @@ takes port v is_set may x items views h at =
           )
     ]
 
--- an end takes over the senders of another
+-- the rule of the queue is kept where an end takes over the senders of another
 pub takes_over :
     (port : ℕ) (v : Known) (other : ℕ) (w : Known) → v.set ≡ true → Merges Piped port v other w (with_senders v w) nobody
 takes_over port v other w is_set items views h at two at_w =
@@ -333,7 +333,7 @@ takes_over port v other w is_set items views h at two at_w =
           })
     ]
 
--- what the ends learn: the rule stands
+-- an end learns that the rule of the queue stands
 pub stands-learn : (port : ℕ) (v : Known) → Learns Piped port v (RuleStands v)
 stands-learn port v items views h at = (port, views, h, at)
 

@@ -13,7 +13,7 @@ use Rattle.block_pipe.specs.Notes.{MayComeNext, RuleStands, of_sender}
 abbrev pub pushed_by : Sender → List Note
 pushed_by s = of_sender s.number (view s.end).sent
 
--- the note that is pending, if there is one
+-- the sender's pending note, if there is one
 abbrev pub pending_of : Sender → List Note
 pending_of s = option_to_list s.pending
 
@@ -54,7 +54,7 @@ AreNewFrom pipe number [] = Unit {0}
 AreNewFrom pipe number (s ∷ senders) =
     IsSender pipe s × (s.number ≡ number) × (pushed_by s ≡ []) × (s.pending ≡ None) × AreNewFrom pipe (suc number) senders
 
--- a new receiver
+-- a new receiver: it has popped no note, and keeps none
 pub record IsNewReceiver (pipe : Pipe) (r : Receiver) : Type 0 where
   pub of : IsReceiver pipe r
   pub none : popped_by r ≡ []

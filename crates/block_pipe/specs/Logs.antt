@@ -18,7 +18,7 @@ pub record HasSender (r : Receiver) (log : PipeLog) (s : Sender) : Type 0 where
   pub taken : slice_index log.taken.counts s.number ≡ length (popped_of r s)
   pub first_part : Begins (popped_of r s) (pushed_by s)
 
--- so it is for each sender, and for a number that no sender has the log has 0
+-- the log has the numbers of the notes of each sender, and 0 for a number that no sender has
 pub record HasLogged (pipe : Pipe) (senders : List Sender) (r : Receiver) (log : PipeLog) : Type 0 where
   pub each : All (HasSender r log) senders
   pub none : (k : ℕ) → pipe.senders ≤ k → (slice_index log.sent.counts k ≡ 0) × (slice_index log.taken.counts k ≡ 0)

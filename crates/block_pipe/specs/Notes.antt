@@ -20,7 +20,7 @@ pub record MayComeNext (senders shelves : ℕ) (before : List Note) (note : Note
   pub few : note.seq < 2 ^ 60
   pub shelf : note.shelf ≡ shelf_for shelves note.sender note.seq
 
--- so it is with each note of a list
+-- each note of a list may come next behind those before it
 abbrev pub AreNumbered : ℕ → ℕ → List Note → Type 0
 AreNumbered senders shelves notes =
     (before rest : List Note) (note : Note) → notes ≡ before ++ note ∷ rest → MayComeNext senders shelves before note
@@ -29,7 +29,7 @@ AreNumbered senders shelves notes =
 abbrev pub Begins : List Note → List Note → Type 0
 Begins shorter longer = (rest : List Note) × (longer ≡ shorter ++ rest)
 
--- and ends with it
+-- the longer list ends with the shorter one
 abbrev pub EndsIn : List Note → List Note → Type 0
 EndsIn shorter longer = (front : List Note) × (longer ≡ front ++ shorter)
 
@@ -43,7 +43,7 @@ pub record FitsHeap (keeper : ℕ → ℕ) (reader senders shelves : ℕ) (all g
   pub sends : (k : ℕ) → StandsFor v k → (v.set ≡ true) × (port ≡ keeper k) × (of_sender k v.sent ≡ of_sender k all)
   pub receives : v.receives ≡ true → (v.set ≡ true) × (port ≡ reader) × (v.taken ≡ got)
 
--- the queue goes
+-- the queue goes: what was sent is what was taken and then what it holds, the notes are numbered, and each end fits
 pub record Runs (items : List Note) (views : List Known) : Type 0 where
   pub senders : ℕ
   pub shelves : ℕ
@@ -55,7 +55,7 @@ pub record Runs (items : List Note) (views : List Known) : Type 0 where
   pub reader : ℕ
   pub each : (port : ℕ) (v : Known) → get_elem? views port ≡ some v → FitsHeap keeper reader senders shelves all got port v
 
--- before the numbers of senders and shelves are set; for all senders and the receiver; for nobody
+-- an end before the sizes are set; an end for all senders and the receiver; an end for nobody
 abbrev pub unset : Known
 unset = record { set = false; senders = 0; shelves = 0; from = 0; until = 0; receives = true; sent = []; taken = [] }
 
@@ -66,7 +66,7 @@ whole senders shelves =
 abbrev pub nobody : Known
 nobody = record { set = false; senders = 0; shelves = 0; from = 0; until = 0; receives = false; sent = []; taken = [] }
 
--- without its first sender, and that one alone
+-- an end without its first sender; an end for its first sender alone
 abbrev pub first_out : Known → Known
 first_out v = record v { from = v.from + 1 }
 
@@ -77,14 +77,14 @@ first_sender v = record v { until = v.from + 1; receives = false; taken = [] }
 abbrev pub with_senders : Known → Known → Known
 with_senders v w = record v { from = w.from; until = w.until; sent = w.sent }
 
--- one note more
+-- an end that knows of one note more that was sent; of one more that was taken
 abbrev pub with_sent : Known → Note → Known
 with_sent v note = record v { sent = v.sent ++ note ∷ [] }
 
 abbrev pub with_taken : Known → Note → Known
 with_taken v note = record v { taken = v.taken ++ note ∷ [] }
 
--- the rule of the queue
+-- the rule of the queue: its one end isn't set, or it goes
 abbrev pub Piped : List Note → List Known → Type 0
 Piped items views = ((items ≡ []) × (views ≡ unset ∷ [])) ⊎ Runs items views
 

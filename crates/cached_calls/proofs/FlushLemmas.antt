@@ -30,7 +30,7 @@ pub record EmptiesSoFar (h : Heap) (c d : Cache) : Type 0 where
 pub empties-none : (h : Heap) (c : Cache) → EmptiesSoFar h c c
 empties-none h c = record { freed = []; order = refl; frees = refl; hits = refl }
 
--- calls, and then others
+-- frees that have ended, and then others
 leads-on :
     (h : Heap) (p q r : Pass) (made more : List Made) → LeadsBy (HasEndedAt h) p made q → LeadsBy (HasEndedAt h) q more r
     → LeadsBy (HasEndedAt h) p (made ++ more) r
@@ -45,7 +45,7 @@ frees-lead h p q (block ∷ blocks) tries (next, of, tells, frees) =
 frees-append : (xs ys : List Block) → frees_of (xs ++ ys) ≡ frees_of xs ++ frees_of ys
 frees-append xs ys = map-append (λ (block : Block). answered (free block.place block.need) reply.Freed) xs ys
 
--- all were
+-- all blocks of the magazines were freed
 pub empties-all :
     (h : Heap) (c now d : Cache) (tries : ℕ) → EmptiesSoFar h c now → Frees h now.pass (leaving (stacks_in now)) tries d.pass
     → d.hits ≡ now.hits → cached_in d ≡ [] → HasEmptied h c d
@@ -62,7 +62,7 @@ empties-all h c now d tries so frees hits none = record {
 same-left : (c d : Cache) → KeepsMagazines c d → leaving (stacks_in d) ≡ leaving (stacks_in c)
 same-left c d keeps = ap (λ (m : Magazines). leaving (stacks_of m.stacks.items)) keeps.magazines
 
--- one was interrupted, and has gone on to its end
+-- the free that was interrupted has gone on to its end
 pub empties-stopped :
     (h : Heap) (c now mid d : Cache) (tries : ℕ) (told : Resumed) → EmptiesSoFar h c now
     → (stopped : HasStopped h now.pass (leaving (stacks_in now)) (leaving (stacks_in mid)) tries mid.pass)

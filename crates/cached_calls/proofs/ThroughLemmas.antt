@@ -27,14 +27,14 @@ use Rattle.block_cache.specs.Magazines.{all_in, stacks_of}
 use Rattle.cached_calls.specs.declared.over_cache.CachedCalls.{CachedCalls}
 use Rattle.cached_calls.specs.Calls.{IsCachedCall}
 
--- it can be resumed still
+-- an interrupted call can still be resumed when it has made more steps
 pub resumable-on :
     (p q : Pass) → IsResumable p
     → ((first : Pass) (call : Call) (made : ℕ) → IsCalling first call made p → (steps : ℕ) × IsCalling first call steps q) → IsResumable q
 resumable-on p q r on =
     let n = on r.first r.call r.steps r.calling in record { first = r.first; call = r.call; steps = n.0; calling = n.1; tried = r.tried }
 
--- it has ended
+-- a resumed call that isn't told to be busy has ended
 pub resume-ended :
     (first : Pass) (call : Call) (made : ℕ) (p : Pass) (tries : ℕ) (told : Resumed) (q : Pass) → (told ≡ resumed.Busy → ⊥)
     → ResumeTells first call made p tries told q → ResumesTo first call told q
@@ -51,7 +51,7 @@ resumes-idle first call resumed.Refused q ended = ended.1.idle
 resumes-idle first call resumed.Spent q ended = ended.1.idle
 resumes-idle first call resumed.Busy q ended = absurd ended
 
--- as an allocation does, and as a free does
+-- a resumed allocation ends as an allocation does, and a resumed free as a free does
 pub alloc-resumes :
     (first : Pass) (words : ℕ) (told : Resumed) (q : Pass) → ResumesTo first (alloc words) told q
     → ((block : Block) → told ≡ resumed.Given block → ⊥) → (told ≡ resumed.Refused → ⊥) → (told ≡ resumed.Spent → ⊥) → ⊥
@@ -80,18 +80,18 @@ keeps-on c d e one two = record { magazines = two.magazines ∙ one.magazines; h
 pub same-cached : (c d : Cache) → KeepsMagazines c d → cached_in d ≡ cached_in c
 same-cached c d keeps = ap (λ (m : Magazines). all_in (stacks_of m.stacks.items)) keeps.magazines
 
--- the struct when its cache stands so
+-- the struct with its cache in this state
 abbrev pub with_cache : CachedCalls → Cache → CachedCalls
 with_cache e c = record e { cache = record e.cache { now = c } }
 
--- calls of its cache are calls of its own
+-- calls of a cache are calls of the struct that has it
 pub caches-lead :
     (e : CachedCalls) (c d : Cache) (made : List Made) → LeadsBy (IsCachedCall e.heap.now) c made d
     → LeadsBy (λ f call answer g. IsCachedCall f.heap.now f.cache.now call answer g.cache.now × (g.heap.now ≡ f.heap.now)) (with_cache e c) made (with_cache e d)
 caches-lead e c d [] leads = ap (with_cache e) leads
 caches-lead e c d (m ∷ made) (t, one, leads) = (with_cache e t, (one, refl), caches-lead e t d made leads)
 
--- an allocation that is under way had no magazine's block, and a free none's room
+-- an allocation that is under way found no block in a magazine, and a free under way no room in one
 pub busy-asks :
     (c : Cache) (need : ℕ) (d : Cache) (told : AllocAnswer) → told ≡ answer.Busy
     → (HasFor c (need_of need) → (block : Block) × (told ≡ answer.Given block) × HasServed c need block d) → ¬ HasFor c (need_of need)

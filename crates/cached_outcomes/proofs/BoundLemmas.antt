@@ -21,7 +21,7 @@ use Rattle.cached_outcomes.specs.Cached.{CachedFits, CachedLanesFit, CachedPosit
 use Rattle.cached_outcomes.specs.Magazines.{empty_magazines, given_from, is_kept, kept_with, magazine_of, magazines_freed, magazines_given, others_in, served_by}
 use Rattle.cached_outcomes.proofs.RoomLemmas.{none-in}
 
--- no magazine has more blocks than these
+-- no magazine has more blocks than the depth
 abbrev IsShallow : ℕ → List (List ℕ) → Type 0
 IsShallow depth magazines = (class : ℕ) → length (magazine_of magazines class) ≤ depth
 

@@ -93,13 +93,13 @@ abbrev pub Stands : (ℕ → ℕ) → Setting → CachedPosition → ℕ → ℕ
 Stands f setting position got gone =
     KeepsAt f setting.history setting.caller position.base.done (kept_from 0 position.magazines) position.base.registers got gone
 
--- and after an operation
+-- the lane's magazines hold what it keeps, after an operation
 abbrev pub StandsAfter : (ℕ → ℕ) → Setting → ℕ → CachedPosition → Op → Outcome → List Event → ℕ → ℕ → Type 0
 StandsAfter f setting depth position operation result piece got gone =
     Stands f setting (cached_after depth position operation result piece) (got + count_with f (words_given operation result))
     (gone + count_with f (words_freed position.base.registers operation result))
 
--- a row as without a cache, that leaves the magazines
+-- a row as without a cache leaves the blocks in magazines
 row-keeps :
     (f : ℕ → ℕ) (g : Geometry) (setting : Setting) (position : CachedPosition) (operation : Op) (result : Outcome) (piece : List Event) (got gone : ℕ)
     → IsLegalWithoutCounts g setting.history → FitsRow setting position.base operation result piece → Stands f setting position got gone
@@ -126,7 +126,7 @@ row-keeps f g setting position operation result piece got gone legal row keeps =
     (registers-shifted kept registers operation result) after)
     (λ balance. omega (arith, balance))
 
--- the same, said with other numbers and events
+-- a lane that keeps blocks does so with equal events, registers and numbers
 keeps-as :
     (f : ℕ → ℕ) (history : List Event) (caller : ℕ) (done others : List Event) (kept : List Held) (registers after : List (Option Held))
     (got gone got_too gone_too : ℕ) → done ≡ others → registers ≡ after → got ≡ got_too → gone ≡ gone_too
@@ -200,7 +200,7 @@ cached-row-keeps f g setting depth position (op.Free r) outcome.Freed piece got 
 cached-row-keeps f g setting depth position operation result piece got gone legal long row keeps =
     row-keeps f g setting position operation result piece got gone legal row keeps
 
--- and so to the end of a walk
+-- the lane's magazines hold what it keeps, to the end of a walk
 walk-keeps :
     (f : ℕ → ℕ) (g : Geometry) (setting : Setting) (depth : ℕ) (from to : CachedPosition) (operations : List Op) (results : List Outcome) (got gone : ℕ)
     → IsLegalWithoutCounts g setting.history → length from.magazines ≡ CLASSES → CachedWalks setting depth from operations results to

@@ -67,7 +67,7 @@ cached-few-lane f setting depth from to (operation ∷ operations) (result ∷ r
       cached-few-lane f setting depth (cached_after depth from operation result walks.0) to operations results few walks.2,
     )
 
--- all lanes
+-- all lanes: given less freed is the same by their outcomes and by their events, and not too much is given
 record AreBalanced (f : ℕ → ℕ) (history : List Event) (lane : ℕ) (lanes : List (List Op)) (outcomes : List (List Outcome)) : Type 0 where
   pub total :
       sum_from (given_to f history) lane (length lanes) + lanes_freed f lanes outcomes

@@ -41,7 +41,7 @@ pub record KeepsAt (f : ℕ → ℕ) (history : List Event) (caller : ℕ) (done
   pub at : FollowsAt f history caller done (slots kept registers) given freed
   pub balance : (before : List Event) → Begins before history → own caller before ≡ done → given + gone ≡ got + freed + amount f kept
 
--- before each moment there was one at which the lane had made less
+-- a moment at which a lane has made some events has an earlier one, or itself, at which it had made the first of them
 pub moment-earlier :
     (history : List Event) (caller : ℕ) (done piece before : List Event) → Begins before history → own caller before ≡ done ++ piece
     → (earlier : List Event) × Begins earlier history × (own caller earlier ≡ done)
@@ -54,7 +54,7 @@ moment-earlier history caller done (event ∷ piece) before begins own_is =
       cut.own_front,
     )
 
--- the lane goes on, and its balance with it
+-- a lane that keeps blocks goes on by a piece of events, and its balance with it
 pub keeps-on :
     (f : ℕ → ℕ) (history : List Event) (caller : ℕ) (done piece : List Event) (kept others : List Held) (registers after : List (Option Held))
     (got gone got_after gone_after given freed : ℕ) (keeps : KeepsAt f history caller done kept registers got gone)
@@ -71,7 +71,7 @@ keeps-on f history caller done piece kept others registers after got gone got_af
           balance (keeps.balance earlier.0 earlier.1 earlier.2);
     }
 
--- no event: blocks only change places
+-- blocks that a lane holds or keeps change places without an event
 keeps-moved :
     (f : ℕ → ℕ) (history : List Event) (caller : ℕ) (done : List Event) (kept others : List Held) (registers after : List (Option Held))
     (got gone got_after gone_after : ℕ) (keeps : KeepsAt f history caller done kept registers got gone)
@@ -88,7 +88,7 @@ keeps-moved f history caller done kept others registers after got gone got_after
       balance = λ before begins own_is. balance (keeps.balance before begins own_is);
     }
 
--- the lane frees a register's block: it is kept first
+-- a register's block that the lane frees is kept first
 pub keeps-lifted :
     (f : ℕ → ℕ) (history : List Event) (caller : ℕ) (done : List Event) (r : ℕ) (held : Held) (kept : List Held) (registers : List (Option Held))
     (got gone : ℕ) → held_in registers r ≡ Some held → KeepsAt f history caller done kept registers got gone
@@ -111,7 +111,7 @@ keeps-served f history caller done r new kept others registers got gone shuffled
     (λ pool holds. holds-served pool caller r new others registers (holds-reordered pool caller kept (new ∷ others) registers shuffled holds))
     (λ balance. omega (arith, balance, same, more))
 
--- events that give and free nothing
+-- events that give no block, free none and hand none over leave what a lane keeps
 pub keeps-stills :
     (f : ℕ → ℕ) (g : Geometry) (history : List Event) (caller : ℕ) (done events : List Event) (kept : List Held) (registers : List (Option Held)) (got gone : ℕ)
     → IsLegalWithoutCounts g history → AllByRecursion (IsStill caller) events → KeepsAt f history caller done kept registers got gone
@@ -120,7 +120,7 @@ keeps-stills f g history caller done events kept registers got gone legal stills
     keeps-on f history caller done events kept kept registers registers got gone got gone keeps.given keeps.freed keeps
     (at-stills f g history caller done events (slots kept registers) keeps.given keeps.freed legal stills keeps.at) (λ balance. balance)
 
--- the heap gives a block, and it is written
+-- the heap gives a lane that keeps blocks another one, and it is written
 pub keeps-given :
     (f : ℕ → ℕ) (g : Geometry) (setting : Setting) (done : List Event) (r need words place : ℕ) (value : ℕ → ℕ) (calls piece : List Event)
     (kept : List Held) (registers : List (Option Held)) (got gone : ℕ)
@@ -158,7 +158,7 @@ keeps-freed f g history caller done held kept registers got gone legal keeps =
     }) keeps.at)
     (λ balance. omega (arith, balance, more))
 
--- all of them are
+-- all blocks that are kept are freed
 pub keeps-emptied :
     (f : ℕ → ℕ) (g : Geometry) (history : List Event) (caller : ℕ) (done : List Event) (kept : List Held) (registers : List (Option Held))
     (got gone : ℕ) → IsLegalWithoutCounts g history → KeepsAt f history caller done kept registers got gone
@@ -210,7 +210,7 @@ keeps-stacked f g history caller done depth magazines held registers got gone le
           omega (arith, keeps.balance before begins own_is, same);
     }
 
--- it goes there, or is freed
+-- the first of the blocks that are kept goes into its magazine, or is freed
 pub keeps-settled :
     (f : ℕ → ℕ) (g : Geometry) (history : List Event) (caller : ℕ) (done : List Event) (depth : ℕ) (magazines : List (List ℕ)) (held : Held)
     (registers : List (Option Held)) (got gone : ℕ) (stacks : Bool) → IsLegalWithoutCounts g history → length magazines ≡ CLASSES

@@ -21,7 +21,7 @@ use Rattle.lane_outcomes.specs.Lane.{held_in}
 use Rattle.cached_outcomes.specs.Cached.{magazines_after}
 use Rattle.cached_outcomes.specs.Magazines.{emptying, given_from, is_kept, kept_block, kept_from, kept_with, last_in, magazine_of, magazines_freed, magazines_given, others_in, served_by}
 
--- one block more in the magazine of a class, where classes are numbered from `first` on
+-- a block more in the magazine of a class is one more that is kept, classes being numbered from `first` on
 kept-pushed-from :
     (first : ℕ) (magazines : List (List ℕ)) (class place : ℕ) → class < length magazines
     → IsPermutation (kept_block (first + class) place ∷ kept_from first magazines)
@@ -89,7 +89,7 @@ kept-freed depth magazines (Small class) place keeps within long = kept-pushed m
 kept-freed depth magazines (Large units) place keeps within long = absurd (let e : false ≡ true = keeps in cc)
 kept-freed depth magazines TooLarge place keeps within long = absurd (let e : false ≡ true = keeps in cc)
 
--- there are as many magazines as before
+-- an operation leaves as many magazines, and so do a block given and a block freed
 pub given-long : (served : Option ℕ) (magazines : List (List ℕ)) (need : Need) → length (given_from served magazines need) ≡ length magazines
 given-long None magazines need = refl
 given-long (Some place) magazines (Small class) = length-set magazines class _
@@ -116,7 +116,7 @@ magazines-long depth magazines registers (op.Resize r need) (outcome.Resized wor
     ∙ given-long (served_by magazines (need_of need)) magazines (need_of need)
 magazines-long depth magazines registers operation result = refl
 
--- at first nothing is kept
+-- empty magazines keep nothing
 pub kept-nothing : (first n : ℕ) → kept_from first (replicate n []) ≡ []
 kept-nothing first zero = refl
 kept-nothing first (suc n) = kept-nothing (suc first) n

@@ -27,7 +27,7 @@ copy-later :
 copy-later setting rest lost position held words value copy =
     record { moment = moment-later setting rest lost position.done copy.moment; block = copy.block; live = copy.live; each = copy.each }
 
--- a row that fits still fits
+-- a row with a cache that fits a setting fits one with a longer history and more exchanges lost
 pub cached-row-later :
     (setting : Setting) (rest : List Event) (lost depth : ℕ) → setting.lost ≤ lost
     → (position : CachedPosition) (operation : Op) (result : Outcome) (piece : List Event)
@@ -58,7 +58,7 @@ cached-row-later setting rest lost depth more position (op.Free r) outcome.Freed
 cached-row-later setting rest lost depth more position operation result piece row =
     row-later setting rest lost more position.base operation result piece row
 
--- and so does a walk
+-- a walk with a cache in a setting is one in a setting with a longer history and more exchanges lost
 pub cached-walks-later :
     (setting : Setting) (rest : List Event) (lost depth : ℕ) → setting.lost ≤ lost
     → (from to : CachedPosition) (operations : List Op) (results : List Outcome)
@@ -72,7 +72,7 @@ cached-walks-later setting rest lost depth more from to (operation ∷ operation
   cached-walks-later setting rest lost depth more (cached_after depth from operation result walks.0) to operations results walks.2,
 )
 
--- one operation more
+-- a walk with a cache goes on by one operation more
 pub cached-walks-more :
     (setting : Setting) (depth : ℕ) (from to : CachedPosition) (operations : List Op) (results : List Outcome) (operation : Op) (result : Outcome)
     (piece : List Event)

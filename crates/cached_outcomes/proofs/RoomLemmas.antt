@@ -41,7 +41,7 @@ none-served TooLarge = refl
 none-given : (need : Need) → magazines_given empty_magazines need ≡ empty_magazines
 none-given need = ap (λ served. given_from served empty_magazines need) (none-served need)
 
--- where there is no room none is kept
+-- magazines without room keep no block
 none-kept : (magazines : List (List ℕ)) (need : Need) → is_kept 0 magazines need ≡ false
 none-kept magazines (Small class) = le-ltb (length (magazine_of magazines class)) 0 (omega arith)
 none-kept magazines (Large units) = refl
@@ -58,7 +58,7 @@ none-left (suc n) = none-left n
 none-emptied : (caller : ℕ) → emptying caller empty_magazines ≡ []
 none-emptied caller = ap (map (λ place. Free caller place)) (none-left CLASSES)
 
--- so they stay empty
+-- empty magazines without room stay empty after an operation
 magazines-stay : (registers : List (Option Held)) (operation : Op) (result : Outcome) → magazines_after 0 empty_magazines registers operation result ≡ empty_magazines
 magazines-stay registers (op.Alloc r need v) (outcome.Given words place) = none-given (need_of need)
 magazines-stay registers (op.Free r) outcome.Freed = none-freed empty_magazines (held_in registers r)

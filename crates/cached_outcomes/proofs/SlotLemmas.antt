@@ -15,7 +15,7 @@ use Rattle.lane_outcomes.proofs.HoldLemmas.{held-inside}
 abbrev pub slots : List Held → List (Option Held) → List (Option Held)
 slots kept registers = map (λ held. Some held) kept ++ registers
 
--- slots that hold what others hold, each at another number
+-- slots that hold what others hold, each at another number, hold the caller's blocks too
 holds-by :
     (pool : Pool) (caller : ℕ) (old new : List (Option Held)) (to : ℕ → ℕ) → ((r : ℕ) → to (to r) ≡ r) → ((r : ℕ) → held_in new r ≡ held_in old (to r))
     → HoldsOwn pool caller old → HoldsOwn pool caller new
@@ -66,7 +66,7 @@ held-exchanged old i j below under r =
       ]
     ]
 
--- in whatever order
+-- slots in another order hold the caller's blocks too
 pub holds-shuffled :
     (pool : Pool) (caller : ℕ) (old new : List (Option Held)) → IsPermutation old new → HoldsOwn pool caller old → HoldsOwn pool caller new
 holds-shuffled pool caller old new shuffled h =
@@ -75,7 +75,7 @@ holds-shuffled pool caller old new shuffled h =
     holds-by pool caller now (swap now i j) (exchanged i j) (exchanged-back i j) (held-exchanged now i j below under) holds)
     new shuffled
 
--- fewer of them
+-- slots without the first one hold the caller's blocks too
 pub holds-rest : (pool : Pool) (caller : ℕ) (first : Option Held) (rest : List (Option Held)) → HoldsOwn pool caller (first ∷ rest) → HoldsOwn pool caller rest
 holds-rest pool caller first rest h =
     record {
@@ -83,7 +83,7 @@ holds-rest pool caller first rest h =
       once = λ r q held other at_r at_q differ. h.once (suc r) (suc q) held other at_r at_q (λ e. differ (ap pred e));
     }
 
--- and with an empty one
+-- slots with an empty one before them hold the caller's blocks too
 pub holds-none : (pool : Pool) (caller : ℕ) (rest : List (Option Held)) → HoldsOwn pool caller rest → HoldsOwn pool caller (None ∷ rest)
 holds-none pool caller rest h = record { owned = owned; once = once }
   where

@@ -22,7 +22,7 @@ pub record CachedPosition : Type 0 where
   pub magazines : List (List ℕ)
   pub hits : ℕ
 
--- before the first operation
+-- a lane with a cache before its first operation: its magazines are empty, and have served nothing
 abbrev pub cached_start : CachedPosition
 cached_start = record { base = start; magazines = empty_magazines; hits = 0 }
 

@@ -9,7 +9,7 @@ use Rattle.pool_model.specs.declared.event.Event.{Event}
 use Rattle.pool_model.specs.declared.event.Event.TheVariants.{Free}
 use Rattle.lane_outcomes.specs.declared.registers.Held.{Held}
 
--- all empty, one for each class
+-- empty magazines, one for each class
 abbrev pub empty_magazines : List (List ℕ)
 empty_magazines = replicate CLASSES []
 
@@ -17,7 +17,7 @@ empty_magazines = replicate CLASSES []
 abbrev pub magazine_of : List (List ℕ) → ℕ → List ℕ
 magazine_of magazines class = slice_index_or magazines class []
 
--- its last block, if it has one, and the others
+-- the last block of a magazine, if it has one; the others
 abbrev pub last_in : List ℕ → Option ℕ
 last_in [] = None
 last_in (place ∷ places) = Some place
@@ -47,7 +47,7 @@ is_kept depth magazines (Small class) = nat_lt (length (magazine_of magazines cl
 is_kept depth magazines (Large units) = false
 is_kept depth magazines TooLarge = false
 
--- the magazines when the block was freed
+-- the magazines after a block was freed, by whether it is kept
 abbrev pub kept_with : Bool → List (List ℕ) → ℕ → Need → List (List ℕ)
 kept_with true magazines place (Small class) = slice_set magazines class (place ∷ magazine_of magazines class)
 kept_with keeps magazines place need = magazines
@@ -61,7 +61,7 @@ abbrev pub freeing : ℕ → Bool → ℕ → List Event
 freeing caller true place = []
 freeing caller false place = Free caller place ∷ []
 
--- those of emptying all magazines: the first class first, and of each the last block first
+-- the events of emptying all magazines: the first class first, and of each the last block first
 abbrev pub emptying : ℕ → List (List ℕ) → List Event
 emptying caller magazines = map (λ place. Free caller place) (flat_map (λ magazine. magazine) magazines)
 

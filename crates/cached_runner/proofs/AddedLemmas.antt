@@ -17,6 +17,8 @@ use Rattle.errand_steps.specs.declared.reply.Offer.{Offer}
 use Rattle.errand_steps.specs.declared.reply.Progress.TheVariants as progress
 use Rattle.errand_steps.specs.declared.reply.Reply.{Reply}
 use Rattle.errand_steps.specs.declared.reply.Reply.TheVariants as reply
+use Rattle.errand_steps.specs.declared.told.Ending.TheVariants as ending
+use Rattle.errand_steps.specs.declared.told.Stepped.TheVariants as stepped
 use Rattle.errand_steps.specs.Begins.{free_begun}
 use Rattle.errand_steps.specs.Calls.{Call, alloc, begun_by, free, put, take, write}
 use Rattle.errand_steps.specs.Errands.{ErrandFields}
@@ -35,7 +37,6 @@ use Rattle.live_heap.specs.Whole.{IsAtRest, OwnsFor}
 use Rattle.live_heap.proofs.Changes.{called-changes}
 use Rattle.live_heap.proofs.Growing.{own-kept}
 use Rattle.live_heap.proofs.WholeLaws.{pass-hands}
-use Rattle.lane_engine.specs.declared.stepped.Stepped.TheVariants as stepped
 use Rattle.lane_engine.specs.Told.{HasStepped}
 use Rattle.lane_outcomes.specs.Rows.{IsFullShelf, IsWord}
 use Rattle.trace_lane.specs.Made.{AreMisses}
@@ -70,7 +71,7 @@ added-then h p q r one two a b = record {
       ∙ append_assoc (own p.errand.caller (seen p)) one two;
 }
 
--- a call that made steps
+-- what a call that made steps adds
 pub called-added :
     (h : Heap) (p q : Pass) (call : Call) (steps : ℕ) (answer : Reply) → IsAtRest h p → OwnsFor p call → IsAtRest h q
     → (called : HasCalled p call steps answer q) → HasAdded h p q called.added
@@ -80,7 +81,7 @@ called-added h p q call steps answer rests owned ends called = record {
   events = called.events;
 }
 
--- a call whose events are known
+-- what a whole call adds whose events are known
 pub whole-added :
     (h : Heap) (p q : Pass) (call : Call) (answer : Reply) (end : Ended) (events : List Event) → IsAtRest h p → WholeAt h p call answer q
     → ((words : ℕ) → call ≡ alloc words → ⊥) → end_of call answer ≡ Some end
@@ -168,14 +169,13 @@ full-added h p q place need shelf found rests whole =
     let way = steps-under made.0 (begun_by p.errand call) called.last (seen p) called.sight call []
     (subst (λ k. IsUnderWay k call (begun_by p.errand call).point []) (sym begun.same_caller) begun.under_way) called.on in
     let block : Offer = record { place = place; need = need } in
-    let step : HasStepped place_in need_in called.last q.errand called.sight (seen q) (stepped.Full block) =
+    let step : HasStepped place_in need_in called.last q.errand called.sight (seen q) (stepped.Done (ending.Full block found)) =
     record {
-      answer = progress.Done answer;
       moment = called.moment;
-      tells = put-offers called.last.caller place need shelf called.last.point way.0 way.1;
+      back = put-offers called.last.caller place need shelf called.last.point way.0 way.1;
     } in
     let told : EndsFull called.last q.errand place need shelf place need called.sight (seen q) way.0 =
-    told-of_put place_in need_in called.last q.errand called.sight (seen q) way.0 place need shelf (stepped.Full block) step way.1 in
+    told-of_put place_in need_in called.last q.errand called.sight (seen q) way.0 place need shelf (ending.Full block found) step way.1 in
     (added, told.full)
 
 -- the last event that a pass sees is its caller's take of this block, which lay on the shelf just before

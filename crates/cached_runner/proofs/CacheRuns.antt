@@ -61,7 +61,7 @@ new-holds owns caller count lane new = record {
   once = λ r q block other one two differ. absurd (nothing-at lane.registers.items r block new.empty one);
 }
 
--- it has run
+-- a new lane has run through a cache
 pub made-all :
     (passed : ℕ → ℕ → Type 0) (h : Heap) (operations : List Op) (e f : CachedCalls) (c : Cache) (old new : LaneState Block)
     → IsNew old.caller (length operations) old → e.cache.now ≡ c → e.heap.now ≡ h → RestsAt f.heap.now f.cache.now

@@ -60,7 +60,7 @@ counts-one : (hits one : ℕ) → one ≡ 1 → hits + one < 2 ^ 64 → min (hit
 counts-one hits one is less =
     let least : hits + 1 ≤ 2 ^ 64 - 1 = omega (arith, is, less) in min-eq_left least ∙ omega (arith, is)
 
--- a magazine served it
+-- a magazine gave the block of an allocation
 served-gives :
     (h : Heap) (c t : Cache) (base : Position) (need : ℕ) (block : Block) → RestsAt h c → HasServed c need block t
     → HasGiven h c t base need block.place
@@ -80,7 +80,7 @@ served-gives h c t base need block rests s =
       still = λ at differ. ap (λ (x : Pass). owned_in x at) s.pass;
     }
 
--- the heap gave it
+-- the heap gave the block of an allocation
 asked-gives :
     (h : Heap) (c t : Cache) (base : Position) (need place : ℕ) → IsBetween h c base → (¬ HasFor c (need_of need))
     → WholeAt h c.pass (alloc need) (reply.Given place (need_of need)) t.pass → KeepsMagazines c t → HasGiven h c t base need place
@@ -114,7 +114,7 @@ gives h c t base need place st one =
       | inr (none, made, keeps) ↦ asked-gives h c t base need place st none made keeps
     ]
 
--- and is one more that was answered, unless a magazine served it
+-- an allocation that was given a block is one more that was answered, unless a magazine served it
 alloc-answers :
     (setting : Setting) (c : Cache) (base : Position) (r need v words place : ℕ) (calls : List Event) (served : Option ℕ)
     → IsGivenBy served setting (stands_at c base) need place calls → base.answered ≡ answered_in setting.caller base.done

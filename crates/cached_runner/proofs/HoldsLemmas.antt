@@ -65,7 +65,7 @@ module _ (h : Heap) where
       (c d : Cache) (made : List Made) (place : ℕ) (need : Need) → LeadsBy Called c made d → AllLeave place made → HoldsAt c place need → HoldsAt d place need
   lead-keep = leads-keep Called HoldsAt keeps
 
-  -- a put that finds a full shelf leaves the block too
+  -- a put that finds a full shelf leaves the caller each block that it holds
   put-back :
       (c d : Cache) (place : ℕ) (need : Need) (shelf found : ℕ) (at : ℕ) (had : Need) → Called c (put place need shelf) (reply.Full found) d
       → HoldsAt c at had → HoldsAt d at had

@@ -15,7 +15,7 @@ use Rattle.cached_runner.specs.declared.run_cached.CacheThread.{CacheThread}
 use Rattle.cached_runner.specs.Threads.{AreDone, AreEnded, AreReady, HasEndedThrough, HasEndedWith, IsDone, IsPaired, IsReady}
 use Rattle.cached_runner.proofs.ThreadLemmas.{ended-push}
 
--- the last pass is taken
+-- the last one of new passes is taken out
 module _ (h : Heap) (passes others : List Pass) (p : Pass) (last : passes ≡ others ++ p ∷ []) (fresh : AreFrom h 0 passes) where
   popped : AreFrom h 0 others × IsFresh h p × (p.errand.caller ≡ 0 + length others)
   popped = from-pop h 0 others p (subst (AreFrom h 0) last fresh)
@@ -26,7 +26,7 @@ module _ (h : Heap) (passes others : List Pass) (p : Pass) (last : passes ≡ ot
   pub pair-fresh : IsFresh h p × (p.errand.caller ≡ length others)
   pair-fresh = (popped.1, popped.2 ∙ omega arith)
 
--- its lane is ready
+-- the lane of the pass that was taken out is ready
 pub pair-thread :
     (trace : Trace) (h : Heap) (depth : ℕ) (passes others : List Pass) (p : Pass) (threads : List (CachePadded CacheThread)) (t : CacheThread)
     (padded : CachePadded CacheThread)

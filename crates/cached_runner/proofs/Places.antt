@@ -40,7 +40,7 @@ at-class [] class = refl
 at-class (stack ∷ stacks) zero = refl
 at-class (stack ∷ stacks) (suc class) = at-class stacks class
 
--- one among others
+-- the magazine of a class among others
 here : (before after : List (List ℕ)) (class : ℕ) (magazine : List ℕ) → length before ≡ class → magazine_of (before ++ magazine ∷ after) class ≡ magazine
 here [] after zero magazine is = refl
 here [] after (suc class) magazine is = absurd (omega (arith, is))
@@ -105,7 +105,7 @@ served-given c d words block s =
     ∙ ap (λ served. given_from served (places_in c) (Small s.class)) (sym (top-served s.class block (stacks_in c) (stacks_in d) s.top))
     ∙ ap (magazines_given (places_in c)) (sym s.small)
 
--- none had a block for it
+-- no magazine had a block for an allocation
 none-last : (xs : List ℕ) → length xs ≡ 0 → last_in xs ≡ None
 none-last [] none = refl
 none-last (x ∷ xs) none = absurd (omega (arith, none))
@@ -150,11 +150,11 @@ pub kept-freed : (c d : Cache) (block : Block) → HasKept c block d → places_
 kept-freed c d block k =
     top-kept k.class block (stacks_in d) (stacks_in c) k.top ∙ ap (kept_with true (places_in c) block.place) (sym k.small)
 
--- the heap was asked
+-- magazines that stay have their blocks at the same places
 pub same-places : (c d : Cache) → KeepsMagazines c d → places_in d ≡ places_in c
 same-places c d keeps = ap (λ (m : Magazines). places_of (stacks_of m.stacks.items)) keeps.magazines
 
--- without a block in any of them
+-- magazines without a block have no places
 abbrev nothing : List ℕ
 nothing = []
 
@@ -168,7 +168,7 @@ no-places h c is none =
     none-of (stacks_in c) none
     ∙ ap (λ n. replicate n nothing) (length-stacks c.magazines.stacks.items ∙ is.magazines.classes)
 
--- what empties them
+-- the places of the blocks that leave the magazines, as these are emptied
 leaving-places : (stacks : List (List Block)) → flat_map (λ magazine. magazine) (places_of stacks) ≡ map (λ (block : Block). block.place) (leaving stacks)
 leaving-places [] = refl
 leaving-places (stack ∷ stacks) =

@@ -12,9 +12,10 @@ use Rattle.pool_model.specs.Calls.{EventsOf, IsGiving, alloc_given, alloc_refuse
 use Rattle.pool_model.specs.Calls as ended
 use Rattle.pool_model.specs.Histories.{Begins, own}
 use Rattle.pool_model.specs.Pool.{Block as PoolBlock, block_at, pool_of}
-use Rattle.errand_steps.specs.declared.reply.Progress.TheVariants as progress
 use Rattle.errand_steps.specs.declared.reply.Reply.{Reply}
 use Rattle.errand_steps.specs.declared.reply.Reply.TheVariants as reply
+use Rattle.errand_steps.specs.declared.told.Ending.TheVariants as ending
+use Rattle.errand_steps.specs.declared.told.Stepped.TheVariants as stepped
 use Rattle.errand_steps.specs.Calls.{Call, alloc, begun_by, put, take}
 use Rattle.step_machine.specs.Moments.{IsServed}
 use Rattle.call_events.specs.Made.{LeadsBy, Made, answered, found_from, wrote}
@@ -29,7 +30,6 @@ use Rattle.live_heap.specs.Passes.{seen}
 use Rattle.live_heap.specs.Whole.{IsAtRest, at_once, by_steps}
 use Rattle.trace_text.specs.declared.trace.Op.{Op}
 use Rattle.trace_text.specs.declared.trace.Op.TheVariants as op
-use Rattle.lane_engine.specs.declared.stepped.Stepped.TheVariants as stepped
 use Rattle.lane_engine.specs.Told.{HasStepped}
 use Rattle.lane_outcomes.specs.declared.registers.Held.{Held}
 use Rattle.lane_outcomes.specs.declared.outcome.Outcome.{Outcome}
@@ -68,7 +68,7 @@ pub record IsBetween (h : Heap) (c : Cache) (base : Position) : Type 0 where
   pub spent : base.spent ≡ true → c.pass.errand.turns ≡ h.layout.turn_limit
   pub holds : HoldsAll c base.registers
 
--- what its outcome is held against, by the cache behind the operation
+-- what the outcome of an operation is held against, by the cache behind the operation
 abbrev pub setting_at : Heap → Cache → Cache → Setting
 setting_at h c d = setting_in (seen d.pass) c.pass.errand.caller h.layout.turn_limit d.pass.errand.lost
 
@@ -125,11 +125,11 @@ module _ (h : Heap) (c d : Cache) (base : Position) (st : IsBetween h c base) wh
   heap : c.pass.errand.geometry ≡ h.layout
   heap = rests.0.served.own_errand.geometry
 
-  -- its own events behind the operation
+  -- the caller's own events behind the operation
   own-later : (piece : List Event) → HasAdded h c.pass d.pass piece → own caller (seen d.pass) ≡ base.done ++ piece
   own-later piece added = added.events ∙ ap (λ xs. xs ++ piece) st.done
 
-  -- the moments before and behind it
+  -- the moments before and behind the operation
   abbrev pub moment-first : (piece : List Event) → HasAdded h c.pass d.pass piece → Moment setting base.done
   moment-first piece added = record { before = seen c.pass; begins = (added.onward.rest, added.onward.sees); own_done = st.done }
 
@@ -156,7 +156,7 @@ module _ (h : Heap) (c d : Cache) (base : Position) (st : IsBetween h c base) wh
     spent = spent;
   }
 
-  -- nothing happened
+  -- an operation with which nothing happened adds no event
   none-added : d ≡ c → HasAdded h c.pass d.pass []
   none-added same = subst (λ (x : Cache). HasAdded h c.pass x.pass []) (sym same) (added-none h c.pass rests)
 
@@ -318,7 +318,7 @@ module _ (h : Heap) (c d : Cache) (base : Position) (st : IsBetween h c base) wh
       may-ask c.pass.errand base need (λ is. st.spent is ∙ ap (λ (g : Geometry). g.turn_limit) (sym heap))
       (alloc-started c.pass.errand need rests.1 begun.busy)
 
-  -- no block was given, and no magazine had one
+  -- an allocation was given no block, and no magazine had one for it
   record IsUngiven (need : ℕ) (piece : List Event) : Type 0 where
     pub none : served_by (places_in c) (need_of need) ≡ None
     pub keeps : KeepsMagazines c d
@@ -340,7 +340,7 @@ module _ (h : Heap) (c d : Cache) (base : Position) (st : IsBetween h c base) wh
       )
   refusal need (at_once words is spent once, owned, ends) none keeps = absurd (cc)
 
-  -- it found no turn left
+  -- an allocation found no turn left
   spent-so :
       (need : ℕ) (piece : List Event) → HasAdded h c.pass d.pass piece → d.pass.errand.turns ≡ h.layout.turn_limit
       → EventsOf caller (alloc_spent need) piece → (base.spent ≡ true → piece ≡ []) → IsSpent setting base need piece base.spent
@@ -359,10 +359,10 @@ module _ (h : Heap) (c d : Cache) (base : Position) (st : IsBetween h c base) wh
       let begun = called-begun h c.pass d.pass call steps reply.Spent rests tt called in
       let way = steps-under steps (begun_by c.pass.errand call) called.last (seen c.pass) called.sight call []
       (subst (λ k. IsUnderWay k call (begun_by c.pass.errand call).point []) (sym begun.same_caller) begun.under_way) called.on in
-      let step : HasStepped place_in need_in called.last d.pass.errand called.sight (seen d.pass) stepped.Spent =
-      record { answer = progress.Done reply.Spent; moment = called.moment; tells = tt } in
+      let step : HasStepped place_in need_in called.last d.pass.errand called.sight (seen d.pass) (stepped.Done ending.Spent) =
+      record { moment = called.moment; back = tt } in
       let told : EndsSpent called.last d.pass.errand need called.sight (seen d.pass) way.0 =
-      told-of_alloc place_in need_in called.last d.pass.errand called.sight (seen d.pass) way.0 need stepped.Spent step way.1 in
+      told-of_alloc place_in need_in called.last d.pass.errand called.sight (seen d.pass) way.0 need ending.Spent step way.1 in
       let added = called-added h c.pass d.pass call steps reply.Spent rests tt ends called in
       let limit : d.pass.errand.turns ≡ h.layout.turn_limit =
       told.limit ∙ ap (λ (g : Geometry). g.turn_limit) (sym told.ends.moved_on.same_geometry ∙ added.onward.same_geometry ∙ heap) in

@@ -58,7 +58,7 @@ module _ (passed : ℕ → ℕ → Type 0) (trace : Trace) (h : Heap) (depth : �
       (down-find (λ k (t : CachePadded CacheThread). FirstPassed passed k (length (operations_in trace k))) 0 ys k (omega arith)
       (omega (arith, lt, same, all)) gone).1)
 
--- one more has ended
+-- the lanes that have ended, with one more
 pub ended-push :
     (trace : Trace) (h : Heap) (depth k : ℕ) (ps : List Pass) (os : List (Vec Outcome Global)) (ns : List ℕ) (p : Pass) (o : Vec Outcome Global) (n : ℕ)
     → AreEnded trace h depth k ps os ns
@@ -80,7 +80,7 @@ ended-count trace h depth k (p ∷ ps) (o ∷ os) (n ∷ ns) all =
     let rest = ended-count trace h depth (suc k) ps os ns all.1 in (ap suc rest.0, ap suc rest.1)
 ended-count trace h depth k ps os ns all = absurd all
 
--- the one with this number
+-- the lane of this number, among those that have ended
 pub ended-at :
     (trace : Trace) (h : Heap) (depth k : ℕ) (ps : List Pass) (os : List (Vec Outcome Global)) (ns : List ℕ) (i : ℕ) (p : Pass)
     → AreEnded trace h depth k ps os ns → i < length ps → p ≡ get_or ps i p

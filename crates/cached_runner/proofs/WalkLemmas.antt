@@ -79,7 +79,7 @@ module _ (h : Heap) (c d : Cache) (base : Position) (st : IsBetween h c base) wh
   op-gone (op.Resize r need) result None made is calls leads = absurd calls
   op-gone (op.Resize r need) result (Some held) made is calls leads = absurd calls
 
--- the lane behind it
+-- the position of a lane behind one more operation
 abbrev base_after : Cache → Position → Op → Outcome → List Event → Position
 base_after c base operation result piece =
     record {
@@ -97,7 +97,7 @@ leads-rest h [] c d rests same = (subst (RestsAt h) (sym same) rests, ap (λ (x 
 leads-rest h (m ∷ made) c d rests (t, one, leads) =
     let rest = leads-rest h made t d one.0.after leads in (rest.0, rest.1 ∙ one.1)
 
--- it is between two operations again
+-- a lane is between two operations again behind one that was made
 between-next :
     (h : Heap) (c d : Cache) (base : Position) (operation : Op) (result : Outcome) → IsBetween h c base
     → (gone : HasGone h c d base operation result) → RestsAt h d → HoldsAll d (registers_after base.registers operation result)

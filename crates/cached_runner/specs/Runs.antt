@@ -11,7 +11,7 @@ use Rattle.block_cache.specs.declared.cache.Cache.{Cache}
 use Rattle.block_cache.specs.Whole.{RestsAt}
 use Rattle.cached_calls.specs.Calls.{IsCachedCall}
 
--- it has made the calls of all its operations, with the outcomes that it has, and they have passed the gate
+-- a lane has made the calls of all its operations through a cache, with the outcomes that it has, and they have passed the gate
 pub record HasMadeAll (passed : ℕ → ℕ → Type 0) (h : Heap) (operations : List Op) (before after : Cache) (old new : LaneState Block) : Type 0 where
   pub rests : RestsAt h after
   pub same : new.caller ≡ old.caller

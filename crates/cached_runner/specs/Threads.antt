@@ -38,7 +38,7 @@ pub record HasRunThrough (h : Heap) (operations : List Op) (outcomes : List Outc
   pub emptied : HasEmptied h ran after
   pub rests : RestsAt h after
 
--- so it has since its cache was opened, and has an outcome of each operation, of which there are no more than memory has room for
+-- a lane has run to its end through its cache since that was opened, with an outcome of each operation, of which there are fewer than 2^64
 pub record HasEndedThrough (h : Heap) (depth : ℕ) (operations : List Op) (lane : ℕ) (outcomes : List Outcome) (c : Cache) : Type 0 where
   pub first : Cache
   pub opened : IsOpened h depth lane first
@@ -46,7 +46,7 @@ pub record HasEndedThrough (h : Heap) (depth : ℕ) (operations : List Op) (lane
   pub all : length outcomes ≡ length operations
   pub few : length operations < 2 ^ 64
 
--- the pass of a lane that has ended so, and how many of its allocations its magazines have served
+-- the pass of a lane that has ended through its cache, and how many of its allocations its magazines have served
 pub record HasEndedWith (h : Heap) (depth : ℕ) (operations : List Op) (lane : ℕ) (p : Pass) (outcomes : List Outcome) (hits : ℕ) : Type 0 where
   pub cache : Cache
   pub pass : p ≡ cache.pass
@@ -70,7 +70,7 @@ pub record IsPaired (trace : Trace) (h : Heap) (depth : ℕ) (t : CacheThread) :
   pub new : IsNew t.lane.caller (length (operations_in trace t.lane.caller)) t.lane
   pub opened : IsOpened h depth t.lane.caller t.cache
 
--- its thread has run it to its end, and emptied its cache
+-- a thread has run its lane to its end, and emptied its cache
 pub record HasRunOn (passed : ℕ → ℕ → Type 0) (trace : Trace) (h : Heap) (before after : CacheThread) : Type 0 where
   pub same : after.lane.caller ≡ before.lane.caller
   pub through : HasRunThrough h (operations_in trace before.lane.caller) after.lane.outcomes.items before.cache after.cache
@@ -83,11 +83,11 @@ pub record IsReady (trace : Trace) (h : Heap) (depth lane : ℕ) (t : CacheThrea
   pub number : t.lane.caller ≡ lane
   pub paired : IsPaired trace h depth t
 
--- it is behind its last one
+-- the lane of this number has ended through its cache
 pub record IsDone (trace : Trace) (h : Heap) (depth lane : ℕ) (t : CacheThread) : Type 0 where
   pub ended : HasEndedThrough h depth (operations_in trace lane) lane t.lane.outcomes.items t.cache
 
--- the lanes of a trace from this number on are ready, and stand with the last one first; they are done
+-- the lanes of a trace from this number on, with the last one first, are ready; such lanes are done
 abbrev pub AreReady : Trace → Heap → ℕ → ℕ → List (CachePadded CacheThread) → Type 0
 AreReady trace h depth lane threads = AreDown (λ k t. IsReady trace h depth k (padded_value t)) lane threads
 

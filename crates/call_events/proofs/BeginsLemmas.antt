@@ -46,7 +46,7 @@ call-begins e (read place need i) idle about busy = (refl, refl, refl)
 call-begins e (put place need shelf) idle about busy = (refl, refl, refl, refl)
 call-begins e (take shelf) idle about busy = (refl, refl)
 
--- an allocation for which nothing begins
+-- an allocation for which nothing begins leaves the errand
 large-stays : (e : ErrandFields) (words : ℕ) (need : Need) → begins_with e need ≡ begun.TooLarge → begins_alloc e words need ≡ e
 large-stays e words need answers = grind (arith)
 
@@ -68,7 +68,7 @@ pub spent-begins :
 unfolding alloc_begun
 spent-begins e words answers = (spent-stays e words (need_of words) answers, spent-small e (need_of words) answers)
 
--- an allocation that starts, and every other call
+-- an allocation that starts, and every other call, makes its caller busy
 start-busy : (e : ErrandFields) (words : ℕ) (need : Need) → begins_with e need ≡ begun.Started → IsBusy (begins_alloc e words need)
 start-busy e words need answers = grind (arith)
 

@@ -26,13 +26,11 @@ use Rattle.errand_steps.proofs.NextLemmas.{Follows}
 use Rattle.errand_steps.proofs.StepLemmas.{follows-next}
 use Rattle.call_events.specs.Stages.{asking, stage_of, continuation_stage}
 use Rattle.call_events.specs.UnderWay.{SoFar}
-use Rattle.call_events.proofs.BlockEvents.{block-leads}
-use Rattle.call_events.proofs.LargeEvents.{large-leads}
 use Rattle.call_events.proofs.LeadsDefs.{still, over, outcome_of, SoFarAt, Leads}
-use Rattle.call_events.proofs.PartEvents.{stack-leads, desc-leads, partial-leads}
+use Rattle.call_events.proofs.PointEvents.{block-leads, stack-leads, desc-leads, partial-leads, large-leads}
 use Rattle.call_events.proofs.SoFarLemmas.{so-leads}
 
--- each part's point leads on
+-- the stage at a point of any part leads on by the event of a step there
 point-leads :
     (g : Geometry) (caller : ℕ) (p : Point) (x : Found) → FitsPoint g caller p → x.won ≡ is_won (plan_point_of p) x.value
     → Leads caller (stage_of p) (event_of caller p x) (outcome_of (next_of p x))
@@ -63,7 +61,7 @@ pick-none caller (point.Desc p q) x s held o is = grind (arith)
 pick-none caller (point.Partial p q) x s held o is = grind (arith)
 pick-none caller (point.Large p q) x s held o is = grind (arith)
 
--- the events stand, whatever the list and the limit make of it
+-- the events so far of a call stand, whatever the list and the turn limit make of what follows
 so-course :
     (e : ErrandFields) (caller : ℕ) (call : Call) (spare : ℕ) (pushed : Option ℕ) (n : Next) (es : List Event)
     → Follows e.geometry e.caller spare pushed n → SoFarAt caller call (outcome_of n) es

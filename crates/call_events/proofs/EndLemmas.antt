@@ -45,6 +45,6 @@ can-end caller (put p n k) (putting q m h) es so = (reply.Full 0, put_full, refl
 can-end caller (take k) (taking h) es so = (reply.Missed 0 0, take_missed, refl, all-there caller take_missed es so.1)
 can-end caller call stage es so = absurd so
 
--- its caller is busy
+-- the caller of a call that is under way is busy
 pub way-busy : (caller : ℕ) (call : Call) (p : Point) (es : List Event) → IsUnderWay caller call p es → is_idle p ≡ false
 way-busy caller call p es so = grind (arith)

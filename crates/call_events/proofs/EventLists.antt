@@ -12,7 +12,7 @@ looks-more : (caller class count : ℕ) → looks caller class count ++ Looked c
 looks-more caller class zero = refl
 looks-more caller class (suc count) = ap (λ (l : List Event). Looked caller class ∷ l) (looks-more caller class count)
 
--- a caller that is known to have looked, or of which nothing is known
+-- events of a caller that is known to have looked, or of which nothing is known, stay so where less is known
 pub looked-less :
     (caller class : ℕ) (looked looked' : Bool) (es : List Event) → (looked' ≡ true → looked ≡ true) → HasLooked caller class looked es
     → HasLooked caller class looked' es
@@ -24,7 +24,7 @@ looked-less caller class false false es less has = has
 pub looked-any : (caller class : ℕ) (looked : Bool) (es : List Event) → HasLooked caller class looked es → HasLooked caller class false es
 looked-any caller class looked es has = looked-less caller class looked false es (λ e. absurd cc) has
 
--- one look more
+-- one look more of a caller that asks for a class
 pub looked-more :
     (caller class : ℕ) (looked looked' : Bool) (es : List Event) → HasLooked caller class looked es
     → HasLooked caller class looked' (es ++ Looked caller class ∷ [])
@@ -56,7 +56,7 @@ pub spending :
 spending caller n c looked es small has =
     let R : Need → Type 0 = λ m. IsSpending caller m es in subst R (sym small) (looked-any caller c looked es has)
 
--- a large one is refused; it is given a run
+-- a large allocation is refused; it is given a run
 pub refusing-run :
     (caller n units : ℕ) (es : List Event) → need_of n ≡ Large units → es ≡ [] → IsRefusing caller n (need_of n) (es ++ Refuse caller n ∷ [])
 refusing-run caller n units es large empty =

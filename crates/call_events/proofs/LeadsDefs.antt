@@ -12,7 +12,7 @@ use Rattle.call_events.specs.Ends.{HasEnded}
 use Rattle.call_events.specs.Stages.{StageOfCall, asking, asking_run, refused, given, freeing, freed, writing, reading, putting, taking, none, stage_of, continuation_stage}
 use Rattle.call_events.specs.UnderWay.{SoFar}
 
--- after a step a call is at a stage, or has ended
+-- a call after a step: at a stage, or ended
 pub data Outcome : Type 0 where
   still : StageOfCall → Outcome
   over : Reply → Outcome

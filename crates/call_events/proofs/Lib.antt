@@ -1,12 +1,10 @@
 pub mod AnswerLemmas
 pub mod BeginsLemmas
-pub mod BlockEvents
 pub mod CourseLemmas
 pub mod EndLemmas
 pub mod EventLists
-pub mod LargeEvents
 pub mod LeadsDefs
 pub mod MadeLemmas
 pub mod OfferLemmas
-pub mod PartEvents
+pub mod PointEvents
 pub mod SoFarLemmas

@@ -14,7 +14,7 @@ use Rattle.call_events.specs.UnderWay.{SoFar, HasLooked}
 use Rattle.call_events.proofs.EventLists.{looked-less, looked-more, refusing, giving, spending, refusing-run, giving-run}
 use Rattle.call_events.proofs.LeadsDefs.{Outcome, still, over, SoFarAt, Leads}
 
--- one event, where there was none
+-- an event added to no events is that one alone
 pub one-event : (es : List Event) (e f : Event) → es ≡ [] → e ≡ f → es ++ e ∷ [] ≡ f ∷ []
 one-event es e f empty is = ap (λ (k : List Event). k ++ e ∷ []) empty ∙ ap (λ (y : Event). y ∷ []) is
 

@@ -24,7 +24,7 @@ LeadsBy called before (made ∷ rest) after = (next : _) × called before made.c
 abbrev pub wrote : ℕ → Need → ℕ → ℕ → List Made
 wrote place need v words = map (λ i. answered (write place need i ((v + i) % 2 ^ 64)) reply.Wrote) (range_with_len 0 words)
 
--- a read for each, from word i on, with the word that it found
+-- a read for each word of a block, from word i on, with the word that it found
 abbrev pub found_from : ℕ → Need → ℕ → List ℕ → List Made
 found_from place need i [] = []
 found_from place need i (word ∷ words) = answered (read place need i) (reply.Word word) ∷ found_from place need (suc i) words

@@ -33,14 +33,14 @@ pub data StageOfCall : Type 0 where
   taking : (shelf : ℕ) → StageOfCall
   none : StageOfCall
 
--- a block of a superblock is handed out; it is freed
+-- the stage at which a block of a superblock is handed out; at which it is freed
 abbrev pub block_given : Site → ℕ → StageOfCall
 block_given at i = given (block_place at.frame at.seat.class i) (Small at.seat.class)
 
 abbrev pub block_freeing : Site → ℕ → StageOfCall
 block_freeing at i = freeing (block_place at.frame at.seat.class i) (Small at.seat.class)
 
--- in a superblock
+-- the stage of a call at a point of a superblock
 abbrev pub block_stage : BlockPoint → Continuation → StageOfCall
 block_stage (block.StorePrefix at i) o = block_given at i
 block_stage (block.InstallCredits at i more) o = block_given at i
@@ -54,7 +54,7 @@ block_stage (block.StoreLink at i a stored heap) o = block_freeing at i
 block_stage (block.PushBlock at i a stored heap) o = block_freeing at i
 block_stage p o = asking (asked o) (seat_of_block p).class false
 
--- at a stack, at the descriptors and at a partial superblock it is what the caller goes on with; an allocation has looked where its part says so, or where it takes a frame
+-- the stage at a stack, at the descriptors and at a partial superblock is what the caller goes on with; an allocation has looked where its part says so, or where it takes a frame
 abbrev pub continuation_stage : Bool → SeatFields → Continuation → StageOfCall
 continuation_stage looked s (continuation.Alloc words) = asking words s.class looked
 continuation_stage looked s (continuation.TakeFrame words d) = asking words s.class true
@@ -66,7 +66,7 @@ continuation_stage looked s continuation.Refuse = refused
 continuation_stage looked s continuation.Nothing = none
 continuation_stage looked s o = freed
 
--- at a large block, a usable word or a shelf
+-- the stage of a call at a point of a large block, a usable word or a shelf
 abbrev pub large_stage : LargePoint → Continuation → StageOfCall
 large_stage (large.LoadUnits w) o = asking_run (asked o) w.units
 large_stage (large.TakeRun w bits) o = asking_run (asked o) w.units
@@ -80,7 +80,7 @@ large_stage (large.LoadShelf shelf) o = taking shelf
 large_stage (large.TakeBlock shelf place need) o = taking shelf
 large_stage (large.ConfirmNothing shelf) o = taking shelf
 
--- at any point
+-- the stage of a call at any point
 abbrev pub stage_of : Point → StageOfCall
 stage_of point.Idle = none
 stage_of (point.Block p o) = block_stage p o

@@ -11,7 +11,7 @@ use Rattle.errand_steps.specs.Begins.{IsHeapBlock}
 use Rattle.errand_steps.specs.Calls.{Call, alloc, free, write, read, put, take}
 use Rattle.call_events.specs.Stages.{StageOfCall, asking, asking_run, refused, given, freeing, freed, writing, reading, putting, taking, stage_of}
 
--- these are looks for a class: any number of them; at least one
+-- the events are looks for a class: any number of them; at least one
 abbrev pub HasLooked : ℕ → ℕ → Bool → List Event → Type 0
 HasLooked caller class false events = (count : ℕ) × (events ≡ looks caller class count)
 HasLooked caller class true events = (count : ℕ) × (events ≡ looks caller class (suc count))

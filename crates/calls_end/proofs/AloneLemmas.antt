@@ -1,12 +1,8 @@
 -- A caller that moves alone comes to the end of its call.
-use Rattle.std.proofs.Common.{ℕ, zero, suc, true, false, ◌≡◌, ◌<◌, ◌≤◌, ◌+◌, refl, arith, ap, inl, inr, ◌==◌, if◌then◌else◌, replicate}
-use Rattle.std.proofs.lemmas.Bool.{cases_Bool, cond-true, cond-false, eq-eqb, ne_eqb}
-use Rattle.sound_state.proofs.Common.{Geometry, WordName, after_action, counts_lost, settle_of, State, Step, with_event, action_at, name_at, word_at, found_at}
-use Rattle.sound_state.proofs.Common.{IsSound, one_if}
-use Rattle.heap_geometry.specs.declared.limits.TheConstants.{CALL_STEPS}
-use Rattle.errand_steps.specs.Begins.{IsBusy, IsIdle}
-use Rattle.errand_steps.specs.Points.{is_idle}
-use Rattle.errand_steps.specs.Steps.{Run, event_at}
+use Rattle.std.proofs.Common.{ℕ, zero, suc, true, false, ◌≡◌, ◌<◌, ◌≤◌, ◌+◌, refl, arith, ap, inl, inr, ◌==◌, if◌then◌else◌, replicate, eq-eqb, ne_eqb}
+use Rattle.std.proofs.lemmas.Bool.{cases_Bool, cond-true, cond-false}
+use Rattle.sound_state.proofs.Common.{Geometry, WordName, after_action, counts_lost, settle_of, State, Step, with_event, action_at, name_at, word_at, found_at, IsSound}
+use Rattle.sound_state.proofs.Common.{one_if, CALL_STEPS, IsBusy, IsIdle, is_idle, Run, event_at}
 use Rattle.calls_end.specs.Alone.{is_stale, stale_words, alone_left}
 use Rattle.calls_end.specs.StepsLeft.{steps_left}
 use Rattle.lost_exchanges.specs.Wins.{same_name}
@@ -19,7 +15,7 @@ use Rattle.sound_state.proofs.shared.PointLemmas.{exists-at, fits-at}
 use Rattle.lost_exchanges.proofs.SameNames.{same-name-refl, same-name-differs}
 use Rattle.lost_exchanges.proofs.WonSteps.{expects-after, loses-on}
 
--- its stale words grow by none, and are one fewer after a lost step
+-- a caller's stale words grow by none in its step, and are one fewer after a lost one
 pub alone-stale :
     (g : Geometry) (s : State) (caller : ℕ) (s' : State) → IsSound g s → caller < g.callers → Step s caller s'
     → stale_words g s' caller + one_if (counts_lost (s.errand caller).point (found_at s caller)) ≤ stale_words g s caller
@@ -28,7 +24,7 @@ alone-stale g s caller s' sound has step =
     let p = (s.errand caller).point in
     stale-falls g s caller s' (exists-at g s caller p plain has refl) step (expects-after g s caller plain has) (loses-on p (word_at s caller))
 
--- none becomes stale, its own is not stale after it, and was so where it lost
+-- a caller's step makes no word stale for it, and leaves its own word not stale, which was stale where the step counts as lost
 pub stale-before :
     (g : Geometry) (s : State) (caller : ℕ) (s' : State) (m : WordName) → IsSound g s → caller < g.callers → Step s caller s' → is_stale s' caller m ≡ true
     → is_stale s caller m ≡ true
@@ -43,7 +39,7 @@ pub lost-meets :
     → is_stale s caller (name_at s caller) ≡ true
 lost-meets g s caller sound has = lost-met s caller (loses-on (s.errand caller).point (word_at s caller))
 
--- fewer steps are left
+-- fewer steps are left to a caller that moves alone after its step
 pub alone-falls :
     (g : Geometry) (s : State) (caller : ℕ) (s' : State) → IsSound g s → caller < g.callers → Step s caller s'
     → alone_left g s' caller < alone_left g s caller
@@ -84,7 +80,7 @@ step-there s caller busy =
       },
     )
 
--- so by its steps alone its call ends
+-- a caller's steps alone end its call, within as many as are left to it alone
 pub ends-within :
     (g : Geometry) (k : ℕ) (s : State) (caller : ℕ) → IsSound g s → caller < g.callers → alone_left g s caller ≤ k
     → (n : ℕ) × (s' : State) × (n ≤ k) × Run s (replicate n caller) n s' × IsIdle (s'.errand caller)

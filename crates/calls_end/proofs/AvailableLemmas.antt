@@ -9,7 +9,7 @@ use Rattle.calls_end.specs.Alone.{led_from, available_in, away_in}
 use Rattle.sound_state.proofs.shared.SumLemmas.{sum-most}
 use Rattle.sound_state.proofs.shared.TallyLemmas.{occurs-all}
 
--- they lead through a stack, where it has no more
+-- the indices that next words lead through from a stack's top are the stack's, where it has no more than the most
 led-stack : (next : ℕ → ℕ) (most top : ℕ) (xs : List ℕ) → Stacked next top xs → length xs ≤ most → led_from next most top ≡ xs
 led-stack next zero top [] stack few = refl
 led-stack next zero top (x ∷ xs) stack few = absurd (let no : ⊥ = omega (arith, few) in no)
@@ -27,7 +27,7 @@ occurs-in n i (x ∷ xs) all some =
       | inr differ ↦ occurs-in n i xs (All-tail (λ d. d < n) x xs all) (grind (arith, some, differ))
     ]
 
--- and they are no more than there are, since each stands in one place
+-- the available descriptors as the next words lead through them are those of the lists
 pub available-is : (g : Geometry) (s : State) (l : Lists) → IsSoundWith g s l → available_in g s ≡ l.available
 available-is g s l old =
     let n = descriptor_count g in
@@ -37,6 +37,6 @@ available-is g s l old =
     occurs-all n l.available (λ i some. occurs-in n i l.available old.listed.available_exist some) in
     led-stack (next_in s.word Partials) n (s.word name.DescHead) l.available old.listed.available (omega (arith, most, all))
 
--- so they are away as the lists say
+-- a descriptor is away by the next words as often as by the lists
 pub away-is : (g : Geometry) (s : State) (l : Lists) (d : ℕ) → IsSoundWith g s l → away_in g s d ≡ away_of g s l d
 away-is g s l d old = ap (λ xs. occurs d xs + callers_sum g (errand_away d) s.errand) (available-is g s l old)

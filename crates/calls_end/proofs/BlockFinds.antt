@@ -1,48 +1,30 @@
 -- What the loads in a superblock find in a sound state.
 use Rattle.std.proofs.Common.{ℕ, Option, Some, None, ◌≡◌, ◌<◌, refl, arith, sym, subst, nat_lt, IsSome, IsTrue}
 use Rattle.std.proofs.lemmas.Bool.{cond-true, lt-ltb, true≢false}
-use Rattle.sound_state.proofs.Common.{Geometry, IsChecked, block_count_of, block_place, ActiveWord, Null, Held, active_of, Site, descriptor_count, SeatFields}
-use Rattle.sound_state.proofs.Common.{info_in, IsSiteOf, active_name, Continuation, Block, State, Lists, IsLocated, IsSoundWith, anchor_for, is_bound}
+use Rattle.sound_state.proofs.Common.{Geometry, IsChecked, block_count_of, block_place, ActiveWord, Null, Held, Site, descriptor_count, SeatFields}
+use Rattle.sound_state.proofs.Common.{IsSiteOf, Continuation, Block, State, Lists, IsLocated, IsSoundWith, anchor_for, is_bound}
 use Rattle.packed_words.specs.declared.prefix.Prefix.TheVariants.{Small}
 use Rattle.packed_words.specs.Prefix.{prefix_word, prefix_of}
 use Rattle.packed_words.proofs.ExactLemmas.{back}
 use Rattle.packed_words.proofs.PrefixLemmas.{prefix-exact}
 use Rattle.word_table.specs.declared.name.WordName.TheVariants as name
-use Rattle.word_table.specs.Seats.{heap_of, anchor_in}
-use Rattle.word_table.specs.Sites.{IsSeatOf}
+use Rattle.word_table.specs.Seats.{anchor_in}
 use Rattle.word_table.proofs.CountLemmas.{descriptor_count_within}
 use Rattle.superblock_parts.specs.declared.point.BlockPoint.TheVariants as block
 use Rattle.sound_state.proofs.shared.OwnerLemmas.{prefix-ties}
-use Rattle.sound_state.proofs.shared.WordFacts.{seat-active}
 
--- an active word is one, and names a descriptor of the heap if it names any
+-- an active word says something, and names a descriptor of the heap if it holds one
 abbrev pub NamesDesc : Geometry → Option ActiveWord → Type 0
 NamesDesc g None = ⊥
 NamesDesc g (Some Null) = Unit {0}
 NamesDesc g (Some (Held d credits)) = d < descriptor_count g
 
--- that is so of a word that says something, if each descriptor that it may name exists
-names-desc :
+-- a word that says something names a descriptor of the heap or none, if each that it may name exists
+pub names-desc :
     (g : Geometry) (w : Option ActiveWord) → IsSome w → ((d credits : ℕ) → w ≡ Some (Held d credits) → d < descriptor_count g) → NamesDesc g w
 names-desc g None some exists = absurd (true≢false (sym some))
 names-desc g (Some Null) some exists = tt
 names-desc g (Some (Held d credits)) some exists = exists d credits refl
-
--- that of the caller's processor heap and class does so
-pub active-finds :
-    (g : Geometry) (s : State) (l : Lists) (caller : ℕ) (seat : SeatFields) → IsChecked g → IsSoundWith g s l → IsSeatOf g caller seat
-    → NamesDesc g (active_of (s.word (active_name seat)))
-active-finds g s l caller seat checked old of =
-    let exists = seat-active g caller seat checked of in
-    names-desc g (active_of (s.word (active_name seat))) (old.kept.active_words (heap_of seat) seat.class exists.0 exists.1)
-    (λ d credits is. (old.kept.active (heap_of seat) seat.class d credits exists.0 exists.1 is).0)
-
--- a descriptor's word names a frame and a processor heap of the heap
-pub info-finds :
-    (g : Geometry) (s : State) (l : Lists) (caller : ℕ) (seat : SeatFields) (d : ℕ) → IsSoundWith g s l → IsSeatOf g caller seat → d < descriptor_count g
-    → IsSome (info_in seat.geometry (s.word (name.Info d)))
-info-finds g s l caller seat d old of exists =
-    subst (λ h. IsSome (info_in h (s.word (name.Info d)))) (sym of.geometry) (old.chained.infos d exists)
 
 -- the anchor of a superblock names one of its blocks
 pub anchor-finds :

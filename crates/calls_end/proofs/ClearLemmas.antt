@@ -1,25 +1,17 @@
 -- A caller that is in a turn after a step, or clears by it, was in one before it, for the same class.
-use Rattle.std.proofs.Common.{ℕ, true, Option, Some, None, ◌≡◌, ◌⊎◌, refl, arith, sym, subst, inl, inr, ◌∙◌, if◌then◌else◌}
-use Rattle.std.proofs.lemmas.Bool.{cases_Bool, true≢false}
+use Rattle.std.proofs.Common.{ℕ, true, Option, Some, None, ◌≡◌, ◌⊎◌, refl, arith, sym, subst, inl, inr, ◌∙◌, if◌then◌else◌, true≢false}
+use Rattle.std.proofs.lemmas.Bool.{cases_Bool}
 use Rattle.sound_state.proofs.Common.{Geometry, Found, SeatFields, BlockPoint, StackPoint, DescPoint, PartialPoint, LargePoint, Next, At, End, Retire, Pick, Unlist}
 use Rattle.sound_state.proofs.Common.{Continuation, Point, Idle, Block, Stack, Desc, Partial, Large, ErrandFields, counts_cleared, settle_of, course_of, FitsPoint}
-use Rattle.sound_state.proofs.Common.{next_of, in_turn}
-use Rattle.superblock_parts.specs.Points.{settle_block_of}
-use Rattle.stack_parts.specs.Points.{settle_stack_of}
+use Rattle.sound_state.proofs.Common.{next_of, in_turn, settle_block_of, settle_stack_of, settle_desc_of, first_unheld, settle_partial_of, settle_large_of, Turn}
+use Rattle.sound_state.proofs.Common.{point_after, after_turn, after_list, picked, turned, is_full, no_words, FitsInStack, FitsInDesc, FitsInPartial, enter_block}
+use Rattle.sound_state.proofs.Common.{enter_stack, enter_desc, enter_partial, enter_large, resumed, is_turn, continuation_turn_stage}
 use Rattle.hazard_parts.specs.declared.point.DescPoint.TheVariants as desc
-use Rattle.hazard_parts.specs.Points.{settle_desc_of}
-use Rattle.hazard_parts.specs.Retired.{first_unheld}
-use Rattle.partial_parts.specs.Points.{settle_partial_of}
-use Rattle.large_parts.specs.Points.{settle_large_of}
-use Rattle.errand_steps.specs.declared.next.Next.TheVariants.{Turn}
-use Rattle.errand_steps.specs.Errands.{point_after, after_turn, after_list, picked, turned, is_full, no_words}
-use Rattle.errand_steps.specs.Fits.{FitsInBlock, FitsInStack, FitsInDesc, FitsInPartial}
-use Rattle.errand_steps.specs.Nexts.{enter_block, enter_stack, enter_desc, enter_partial, enter_large, resumed}
+use Rattle.errand_steps.specs.Fits.{FitsInBlock}
 use Rattle.calls_end.specs.Alone.{class_at}
-use Rattle.sound_state.specs.TurnStages.{is_turn, continuation_turn_stage}
 use Rattle.calls_end.proofs.TurnWords.{next_turn, next_class, point-class}
 
--- it was in one before
+-- a caller that a step in one of the parts leaves in a turn was in a turn before it
 block-turn :
     (g : Geometry) (caller : ℕ) (p : BlockPoint) (o : Continuation) (x : Found) → FitsInBlock g caller p o
     → next_turn (enter_block (settle_block_of p x) o) ≡ true → in_turn (Block p o) ≡ true
@@ -48,7 +40,7 @@ pub clears-turn : (g : Geometry) (caller : ℕ) (p : Point) (x : Found) → Fits
 clears-turn g caller (Partial p o) x fits is = grind (arith, fits.goes, is)
 clears-turn g caller p x fits is = grind (arith, is)
 
--- so it was in one, whatever its retired list says
+-- a caller that its retired list and the turn limit leave in a turn was in one
 listed-turn :
     (e : ErrandFields) (s : SeatFields) (o : Continuation) → in_turn (point_after (after_turn e (resumed s o))) ≡ true
     → is_turn (continuation_turn_stage o) ≡ true
@@ -76,7 +68,7 @@ settled-turn e (Retire s d o) is =
 settled-turn e (Pick s held o) is = picked-turn e s o (first_unheld held e.retired) is
 settled-turn e (Unlist s d o) is = inl (listed-turn e s o is)
 
--- a caller that is in a turn after a step was in one before it
+-- a caller that is in a turn where its step leads was in one before it
 next-turn : (g : Geometry) (caller : ℕ) (p : Point) (x : Found) → FitsPoint g caller p → next_turn (next_of p x) ≡ true → in_turn p ≡ true
 unfolding next_of
 next-turn g caller Idle x fits is = is
@@ -93,7 +85,7 @@ unfolding settle_of course_of
 turn-before g caller e x fits is =
     elim (settled-turn e (next_of e.point x) is) [ inl goes ↦ next-turn g caller e.point x fits goes | inr was ↦ was ]
 
--- and the class that it is at work on is the same
+-- a caller that its retired list and the turn limit leave in a turn is at work on the same class
 listed-class :
     (e : ErrandFields) (s : SeatFields) (o : Continuation) → in_turn (point_after (after_turn e (resumed s o))) ≡ true
     → class_at (point_after (after_turn e (resumed s o))) ≡ s.class

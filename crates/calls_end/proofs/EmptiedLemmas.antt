@@ -1,26 +1,25 @@
 -- How often an allocation may clear: no more superblocks than are EMPTY and out for its class, and one less after it did.
-use Rattle.std.proofs.Common.{ℕ, zero, suc, Bool, true, false, ◌≡◌, ◌<◌, ◌≤◌, ◌+◌, [], refl, arith, ap, sym, subst, inl, inr, ◌∙◌, ◌==◌, ◌&&◌, if◌then◌else◌, count_by}
-use Rattle.std.proofs.lemmas.Bool.{cases_eq, cases_Bool, true≢false, eq-eqb, cond-true}
-use Rattle.std.proofs.lemmas.List.Elements.{All-head}
+use Rattle.std.proofs.Common.{ℕ, zero, suc, Bool, true, false, ◌≡◌, ◌<◌, ◌≤◌, ◌+◌, refl, arith, ap, sym, subst, inl, inr, ◌∙◌, ◌==◌, ◌&&◌, if◌then◌else◌, count_by}
+use Rattle.std.proofs.Common.{true≢false, eq-eqb}
+use Rattle.std.proofs.lemmas.Bool.{cases_eq, cases_Bool, cond-true}
 use Rattle.sound_state.proofs.Common.{Geometry, Site, descriptor_count, occurs, is_empty, Retire, Continuation, Point, Partial, counts_cleared, settle_of, course_of}
-use Rattle.sound_state.proofs.Common.{next_of, plan_point_of, asked, State, Step, found_at, partly_used, holds_of, Lists, IsSo, located, recalls_of}
-use Rattle.sound_state.proofs.Common.{IsSoundWithoutCounts, IsSoundWith, in_turn, sum_below, callers_sum, anchor_for, info_for, errand_away, errand_keeps, away_of}
-use Rattle.sound_state.proofs.Common.{one_if, emptied_out}
+use Rattle.sound_state.proofs.Common.{next_of, plan_point_of, asked, State, Step, found_at, partly_used, holds_of, Lists, recalls_of, IsSoundWithoutCounts, IsSoundWith}
+use Rattle.sound_state.proofs.Common.{in_turn, sum_below, callers_sum, anchor_for, info_for, errand_away, errand_keeps, away_of, one_if, emptied_out, cleared_of}
+use Rattle.sound_state.proofs.Common.{is_small_free}
 use Rattle.partial_parts.specs.declared.point.PartialPoint.TheVariants as partial
 use Rattle.errand_steps.specs.declared.continuation.Continuation.TheVariants as continuation
 use Rattle.calls_end.specs.Alone.{class_at, away_in, empty_for, emptied_for, clearings}
-use Rattle.sound_state.specs.Turns.{cleared_of, is_small_free}
 use Rattle.calls_end.proofs.AvailableLemmas.{away-is}
 use Rattle.calls_end.proofs.TurnAway.{LeavesOut, step-leaves-out, away_after, next-away}
 use Rattle.calls_end.proofs.TurnWords.{next_ways}
 use Rattle.calls_end.proofs.ClearLemmas.{turn-before, clears-turn, class-before}
 use Rattle.sound_state.proofs.shared.HasLemmas.{keeps-at, kept-itself, keeps-near}
-use Rattle.sound_state.proofs.shared.PointLemmas.{fits-at, so-at}
+use Rattle.sound_state.proofs.shared.PointLemmas.{fits-at, recalled-at}
 use Rattle.sound_state.proofs.shared.StepLemmas.{found_from}
 use Rattle.sound_state.proofs.shared.SumLemmas.{sum-least, term-sum}
 use Rattle.sound_state.proofs.shared.TurnEffects.{one_if-most}
 
--- terms that are no more, and one that is less
+-- a sum of terms that are no more, and one of which is less, is less
 sum-less :
     (n : ℕ) (f f' : ℕ → ℕ) (i : ℕ) → i < n → ((j : ℕ) → j < n → f' j ≤ f j) → f' i + 1 ≤ f i → sum_below n f' + 1 ≤ sum_below n f
 sum-less zero f f' i lt least less = absurd (let no : ⊥ = omega (arith, lt) in no)
@@ -35,7 +34,7 @@ sum-less (suc n) f f' i lt least less =
           omega (arith, rest, least n (omega arith))
     ]
 
--- the descriptor is out, and its superblock EMPTY and of the class
+-- the descriptor isn't away, and its superblock is EMPTY and of the class
 record IsOut (g : Geometry) (s : State) (l : Lists) (class d : ℕ) : Type 0 where
   near : away_of g s l d ≡ 0
   empty : is_empty (anchor_for s d).state ≡ true
@@ -44,7 +43,7 @@ record IsOut (g : Geometry) (s : State) (l : Lists) (class d : ℕ) : Type 0 whe
 one-test : (away : ℕ) (b : Bool) (k class : ℕ) → (away ≡ 0 → b ≡ true → k ≡ class → ⊥) → one_if ((away == 0) && (b && (k == class))) ≡ 0
 one-test away b k class none = grind (arith, none)
 
--- so it counts as one, else as none
+-- a descriptor that is EMPTY and out counts as one, any other as none
 out-one : (g : Geometry) (s : State) (l : Lists) (class d : ℕ) → IsSoundWith g s l → IsOut g s l class d → empty_for g s class d ≡ 1
 out-one g s l class d old out =
     rw (eq-eqb (away_in g s d) 0 (away-is g s l d old ∙ out.near), out.empty, eq-eqb (info_for s d).class class out.of) refl
@@ -54,7 +53,7 @@ out-none g s l class d old isnt =
     one-test (away_in g s d) (is_empty (anchor_for s d).state) (info_for s d).class class
     (λ near empty of. isnt (record { near = sym (away-is g s l d old) ∙ near; empty = empty; of = of }))
 
--- a step of a turn makes none count
+-- a step that leaves what is out makes no descriptor count as out with an EMPTY superblock of the class
 empties-least :
     (g : Geometry) (s : State) (l : Lists) (s' : State) (l' : Lists) (class d : ℕ) → IsSoundWith g s l → IsSoundWith g s' l'
     → LeavesOut g s l s' l' → empty_for g s' class d ≤ empty_for g s class d
@@ -73,7 +72,7 @@ empties-least g s l s' l' class d old new leaves =
       | inr some ↦ let most : empty_for g s' class d ≤ 1 = one_if-most _ in omega (arith, some, most)
     ]
 
--- a step that clears finds one that is out, and retires it
+-- a step that clears finds a descriptor that is out with an EMPTY superblock of its class, and retires it
 record Clears (g : Geometry) (s : State) (l : Lists) (caller : ℕ) (s' : State) (l' : Lists) : Type 0 where
   desc : ℕ
   exists : desc < descriptor_count g
@@ -90,7 +89,7 @@ takes-empty g s l caller s' l' site o old has stands empty step =
     let e = s.errand caller in
     let d = site.desc in
     let fits = fits-at g s l caller p old has stands in
-    let lies = All-head (IsSo g s l caller) (located d site.frame site.seat.class) [] (so-at g s l caller p old has stands) in
+    let (lies, none) = recalled-at g s l caller p old has stands in
     let keeps : 1 ≤ errand_keeps partly_used d e = keeps-at e p partly_used d stands (kept-itself partly_used d site.seat.class) in
     let next : next_of e.point (found_at s caller) ≡ Retire site.seat d (continuation.Look (asked o)) =
     subst (λ r. next_of r (found_from s r) ≡ Retire site.seat d (continuation.Look (asked o))) (sym stands) (rw empty refl) in
@@ -121,7 +120,7 @@ empties-fall g s caller s' class d sound after has turn step =
     empties-least g s sound.parts.0 s' after.parts.0 class d sound.parts.1 after.parts.1
     (step-leaves-out g s sound.parts.0 caller s' after.parts.0 sound sound.parts.1 after.parts.1 has turn step)
 
--- so one less is EMPTY and out for the class after a step of a turn that clears, and no more after any
+-- after a step of a turn that clears, one less is EMPTY and out for the class, and after any other no more
 emptied-falls :
     (g : Geometry) (s : State) (caller : ℕ) (s' : State) → IsSoundWithoutCounts g s → IsSoundWithoutCounts g s' → caller < g.callers
     → in_turn (s.errand caller).point ≡ true → Step s caller s'
@@ -148,7 +147,7 @@ emptied-falls g s caller s' sound after has turn step =
       | inr not ↦ omega (arith, ap one_if not, sum-least (descriptor_count g) (empty_for g s' c) (empty_for g s c) least)
     ]
 
--- what is counted in a turn alone is no more than it
+-- a number that counts under a condition only is no more than itself
 pub cond-most : (b : Bool) (n : ℕ) → (if b then n else 0) ≤ n
 cond-most b n = grind (arith)
 
@@ -156,7 +155,7 @@ not-turn : (b : Bool) → (b ≡ true → ⊥) → b ≡ false
 not-turn true isnt = absurd (isnt refl)
 not-turn false isnt = refl
 
--- it may clear as often as before, and once less where it cleared
+-- a caller may clear as often after a step of its own as before, and once less where the step cleared
 pub clearings-fall :
     (g : Geometry) (s : State) (caller : ℕ) (s' : State) → IsSoundWithoutCounts g s → IsSoundWithoutCounts g s' → caller < g.callers → Step s caller s'
     → clearings g s' caller + one_if (counts_cleared (s.errand caller).point (found_at s caller)) ≤ clearings g s caller
@@ -187,7 +186,7 @@ clearings-fall g s caller s' sound after has step =
           omega (arith, later, ap one_if none)
     ]
 
--- and no more are so than were freed empty and not cleared
+-- no more superblocks are EMPTY and out than were freed empty and not cleared
 fewer-tests : (a b c : Bool) → one_if (a && (b && c)) ≤ one_if (a && b)
 fewer-tests a b c = grind (arith)
 

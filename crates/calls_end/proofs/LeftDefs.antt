@@ -1,5 +1,5 @@
 -- What a step leaves to do: the statements that the points owe.
-use Rattle.std.proofs.Common.{ℕ, Bool, true, false, ◌≡◌, ◌<◌, ◌+◌, refl, inl, inr, ◌⊎◌, not, if◌then◌else◌}
+use Rattle.std.proofs.Common.{ℕ, true, ◌≡◌, ◌<◌, ◌+◌, ◌⊎◌}
 use Rattle.sound_state.proofs.Common.{Geometry, name_of, Next, At, End, Retire, Pick, Unlist, Point, counts_lost, counts_cleared, next_of, plan_point_of, State}
 use Rattle.errand_steps.specs.declared.next.Next.TheVariants.{Turn}
 use Rattle.calls_end.specs.StepsLeft.{steps_left, scan_left, active_left, resumed_left}
@@ -14,11 +14,11 @@ next_left g (Retire s d o) = scan_left g + resumed_left g s o
 next_left g (Pick s held o) = resumed_left g s o + 3
 next_left g (Unlist s d o) = resumed_left g s o
 
--- what the point's step finds in the state
+-- the number in the word of a point's step
 abbrev pub word_under : State → Point → ℕ
 word_under s p = s.word (name_of (plan_point_of p))
 
--- the step is lost, clears, or leaves less to do: where it finds this, and in the state
+-- a step is lost, clears, or leaves fewer steps to do: where it finds the number v, and in a state
 abbrev pub LessAt : Geometry → Point → ℕ → Type 0
 LessAt g p v =
     (counts_lost p (found_in p v) ≡ true) ⊎ (counts_cleared p (found_in p v) ≡ true)
@@ -26,10 +26,3 @@ LessAt g p v =
 
 abbrev pub LeavesLess : Geometry → State → Point → Type 0
 LeavesLess g s p = LessAt g p (word_under s p)
-
--- an exchange is lost, or leaves less to do where it leads when it is won
-pub exchanged :
-    {X : Type 0} (g : Geometry) (enter : X → Next) (left : ℕ) (won : Bool) (q r : X) → next_left g (enter q) < left
-    → (not won ≡ true) ⊎ (false ≡ true) ⊎ (next_left g (enter (if won then q else r)) < left)
-exchanged g enter left true q r less = inr (inr less)
-exchanged g enter left false q r less = inl refl

@@ -1,8 +1,6 @@
 -- Every step is lost, clears an empty superblock, or leaves fewer steps to do.
-use Rattle.std.proofs.Common.{ℕ, false, ◌≡◌, ◌<◌, ap, arith, refl, inl, inr}
-use Rattle.std.proofs.lemmas.Bool.{true≢false}
-use Rattle.sound_state.proofs.Common.{Geometry, Point, Idle, Block, Stack, Desc, Partial, Large, settle_of, State, Step, found_at, IsSoundWithoutCounts}
-use Rattle.errand_steps.specs.Points.{is_idle}
+use Rattle.std.proofs.Common.{ℕ, false, ◌≡◌, ◌<◌, ap, arith, refl, inl, inr, true≢false}
+use Rattle.sound_state.proofs.Common.{Geometry, Point, Idle, Block, Stack, Desc, Partial, Large, settle_of, State, Step, found_at, IsSoundWithoutCounts, is_idle}
 use Rattle.calls_end.specs.StepsLeft.{ComesNearer, steps_left}
 use Rattle.calls_end.proofs.BlockLeft.{block-leaves}
 use Rattle.calls_end.proofs.DescLeft.{desc-leaves}
@@ -12,7 +10,7 @@ use Rattle.calls_end.proofs.PartialLeft.{partial-leaves}
 use Rattle.calls_end.proofs.SettleLeft.{left-settles}
 use Rattle.calls_end.proofs.StackLeft.{stack-leaves}
 
--- at every point of a call
+-- at every point of a call a step is lost, clears or leaves fewer steps to do
 point-leaves :
     (g : Geometry) (s : State) (caller : ℕ) (p : Point) → IsSoundWithoutCounts g s → caller < g.callers → (s.errand caller).point ≡ p
     → is_idle p ≡ false → LeavesLess g s p

@@ -19,3 +19,4 @@ pub mod StaleLemmas
 pub mod StaleMost
 pub mod TurnAway
 pub mod TurnWords
+pub mod WordFinds

@@ -1,12 +1,8 @@
 -- What a caller's own turns come to, however many there are.
-use Rattle.std.proofs.Common.{ℕ, zero, suc, ◌≡◌, ◌<◌, ◌≤◌, ◌+◌, ◌*◌, ◌^◌, arith, ap, sym, subst, inl, inr, ◌∙◌, ◌-◌, replicate}
-use Rattle.std.proofs.lemmas.Bool.{cases_Bool, true≢false}
-use Rattle.sound_state.proofs.Common.{Geometry, descriptor_count, counts_lost, counts_cleared, State, Step, found_at, IsSound, in_turn, one_if}
-use Rattle.heap_geometry.specs.declared.limits.TheConstants.{CALL_STEPS}
-use Rattle.word_table.proofs.CountLemmas.{descriptor_count_within}
-use Rattle.errand_steps.specs.Begins.{IsIdle}
-use Rattle.errand_steps.specs.Points.{is_idle}
-use Rattle.errand_steps.specs.Steps.{Run}
+use Rattle.std.proofs.Common.{ℕ, zero, suc, ◌≡◌, ◌<◌, ◌≤◌, ◌+◌, ◌*◌, ◌^◌, arith, ap, sym, subst, inl, inr, ◌∙◌, ◌-◌, replicate, true≢false}
+use Rattle.std.proofs.lemmas.Bool.{cases_Bool}
+use Rattle.sound_state.proofs.Common.{Geometry, descriptor_count, counts_lost, counts_cleared, State, Step, found_at, IsSound, in_turn, one_if, CALL_STEPS}
+use Rattle.sound_state.proofs.Common.{descriptor_count_within, IsIdle, is_idle, Run}
 use Rattle.calls_end.specs.Alone.{stale_words, empty_for, emptied_for, class_at, clearings, alone_left}
 use Rattle.calls_end.specs.StepsLeft.{steps_left}
 use Rattle.sound_state.proofs.CountedLemmas.{without-counts, steps-counted}
@@ -20,7 +16,7 @@ use Rattle.sound_state.proofs.shared.SumLemmas.{sum-most}
 use Rattle.sound_state.proofs.shared.TagLemmas.{cleared-below}
 use Rattle.sound_state.proofs.shared.TurnEffects.{one_if-most}
 
--- so many steps of a caller lead from the first state to the second: what it lost and cleared, and what is left
+-- n steps of a caller alone lead from the one state to the other, by what it lost and cleared, and by what is left
 pub record LeadsAlone (g : Geometry) (s : State) (caller n : ℕ) (s' : State) : Type 0 where
   pub left : n + alone_left g s' caller ≤ alone_left g s caller
   pub lost : (s.errand caller).lost ≤ (s'.errand caller).lost
@@ -32,7 +28,7 @@ pub record LeadsAlone (g : Geometry) (s : State) (caller n : ℕ) (s' : State) :
       → n + CALL_STEPS * ((s.errand caller).lost + (s.errand caller).cleared) + steps_left g (s'.errand caller).point
       ≤ CALL_STEPS * ((s'.errand caller).lost + (s'.errand caller).cleared) + steps_left g (s.errand caller).point
 
--- no steps
+-- no steps of a caller lead so alone from a state to itself
 stays-alone : (g : Geometry) (s : State) (caller : ℕ) → LeadsAlone g s caller 0 s
 stays-alone g s caller = record {
   left = omega arith;
@@ -43,7 +39,7 @@ stays-alone g s caller = record {
   few = λ room. omega arith;
 }
 
--- some, and then some more
+-- some steps of a caller alone and then some more lead so together
 then-alone :
     (g : Geometry) (s : State) (caller n : ℕ) (t : State) (m : ℕ) (s' : State) → LeadsAlone g s caller n t → LeadsAlone g t caller m s'
     → LeadsAlone g s caller (n + m) s'
@@ -56,7 +52,7 @@ then-alone g s caller n t m s' a b = record {
   few = λ room. let early : (t.errand caller).lost + 1 < 2 ^ 64 = omega (arith, room, b.lost) in omega (arith, a.few early, b.few room);
 }
 
--- one step
+-- one step of a caller leads so alone, by what it lost and cleared and by what is left
 step-alone : (g : Geometry) (s : State) (caller : ℕ) (s' : State) → IsSound g s → caller < g.callers → Step s caller s' → LeadsAlone g s caller 1 s'
 step-alone g s caller s' sound has step =
     let e = s.errand caller in
@@ -83,7 +79,7 @@ step-alone g s caller s' sound has step =
           ];
     }
 
--- any turns
+-- turns of one caller, however many, lead so alone, by what it lost and cleared and by what is left
 pub runs-alone :
     (g : Geometry) (turns : ℕ) (s : State) (caller n : ℕ) (s' : State) → IsSound g s → caller < g.callers → Run s (replicate turns caller) n s'
     → LeadsAlone g s caller n s'
@@ -102,7 +98,7 @@ runs-alone g (suc turns) s caller n s' sound has (t, first, others, turn, run, t
           (runs-alone g turns t caller others s' (steps-counted g s caller t sound has one.0) has run))
     ]
 
--- a caller that is in no call stays so
+-- a caller that is in no call stays in none by its own turns
 pub idle-stays :
     (turns : ℕ) (s : State) (caller n : ℕ) (s' : State) → IsIdle (s.errand caller) → Run s (replicate turns caller) n s' → IsIdle (s'.errand caller)
 idle-stays zero s caller n s' idle run = subst (λ t. IsIdle (t.errand caller)) (sym run.1) idle
@@ -112,7 +108,7 @@ idle-stays (suc turns) s caller n s' idle (t, first, others, turn, run, total) =
       | inr one ↦ absurd (true≢false (sym idle ∙ one.0.busy))
     ]
 
--- as many turns as are left end its call
+-- a caller that takes as many turns as are left to it ends its call
 pub ends-alone :
     (g : Geometry) (turns : ℕ) (s : State) (caller n : ℕ) (s' : State) → IsSound g s → caller < g.callers → alone_left g s caller ≤ turns
     → Run s (replicate turns caller) n s' → IsIdle (s'.errand caller)
@@ -130,13 +126,13 @@ ends-alone g (suc turns) s caller n s' sound has left (t, first, others, turn, r
           (omega (arith, left, alone-falls g s caller t sound has one.0)) run
     ]
 
--- fewer than a call's steps, and as many more for each stale word and each superblock to clear
+-- fewer steps are left to a caller alone than a call's, and as many more for each stale word and superblock to clear
 pub alone-most :
     (g : Geometry) (s : State) (caller : ℕ) → IsSound g s → caller < g.callers
     → alone_left g s caller < CALL_STEPS * (1 + stale_words g s caller + clearings g s caller)
 alone-most g s caller sound has = omega (arith, most-left g s caller sound has)
 
--- so many steps fit a count
+-- a caller may clear no more superblocks than there are descriptors, and its steps alone fit a count
 clearings-most : (g : Geometry) (s : State) (caller : ℕ) → clearings g s caller ≤ descriptor_count g
 clearings-most g s caller =
     let each : emptied_for g s (class_at (s.errand caller).point) ≤ descriptor_count g * 1 =
@@ -147,7 +143,7 @@ pub alone-below : (g : Geometry) (s : State) (caller : ℕ) → IsSound g s → 
 alone-below g s caller sound has =
     omega (arith, alone-most g s caller sound has, stale-most g s caller, clearings-most g s caller, descriptor_count_within g sound.checked)
 
--- and for each exchange that was lost and each superblock that was cleared
+-- a caller alone makes fewer steps than a call's, and as many more for each exchange that it lost and superblock that it cleared
 pub leads-few :
     (g : Geometry) (s : State) (caller n : ℕ) (s' : State) → IsSound g s → caller < g.callers → LeadsAlone g s caller n s'
     → (s'.errand caller).lost + 1 < 2 ^ 64

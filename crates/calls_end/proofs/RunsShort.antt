@@ -1,16 +1,13 @@
 -- In a run of many callers each makes few steps between those that lose or clear.
-use Rattle.std.proofs.Common.{ℕ, Bool, ◌≡◌, ◌<◌, ◌≤◌, ◌+◌, ◌-◌, ◌*◌, ◌^◌, ◌∙◌, List, [], ◌∷◌, refl, arith, ap, sym, subst, inl, inr, ◌==◌, count_by}
-use Rattle.std.proofs.lemmas.Bool.{cases_eq, cond_both, eq-eqb, ne_eqb}
+use Rattle.std.proofs.Common.{ℕ, Bool, ◌≡◌, ◌<◌, ◌≤◌, ◌+◌, ◌-◌, ◌*◌, ◌^◌, ◌∙◌, List, [], ◌∷◌, refl, arith, ap, sym, subst, inl, inr, ◌==◌, count_by, eq-eqb, ne_eqb}
+use Rattle.std.proofs.lemmas.Bool.{cases_eq, cond_both}
 use Rattle.std.proofs.lemmas.List.Elements.{All-head, All-tail}
 use Rattle.sound_state.proofs.Common.{Geometry, Need, Small, need_of, ErrandFields, raised, settle_of, counts_lost, counts_cleared, State, Step, found_at, IsSound}
-use Rattle.sound_state.proofs.Common.{one_if}
-use Rattle.heap_geometry.specs.declared.limits.TheConstants.{CALL_STEPS}
-use Rattle.heap_geometry.specs.declared.need.Need.TheVariants.{Large, TooLarge}
-use Rattle.errand_steps.specs.Begins.{begins_alloc, alloc_begun, free_begun, write_begun, read_begun, put_begun, take_begun}
-use Rattle.errand_steps.specs.Calls.{Call, alloc, free, write, read, put, take, begun_by}
-use Rattle.errand_steps.specs.Errands.{is_spent}
+use Rattle.sound_state.proofs.Common.{one_if, CALL_STEPS, TooLarge, begins_alloc, alloc_begun, free_begun, write_begun, read_begun, put_begun, take_begun, Call, alloc}
+use Rattle.sound_state.proofs.Common.{free, write, read, put, begun_by, is_spent, BeginsCall, Move, begins, steps, Moved, Reaches}
+use Rattle.heap_geometry.specs.declared.need.Need.TheVariants.{Large}
+use Rattle.errand_steps.specs.Calls.{take}
 use Rattle.sound_state.specs.Moves.{is_step_of, is_begin_of, BeginsNothing, IsNoBegin}
-use Rattle.sound_state.specs.Runs.{BeginsCall, Move, begins, steps, Moved, Reaches}
 use Rattle.calls_end.specs.StepsLeft.{steps_left}
 use Rattle.sound_state.proofs.CountedLemmas.{without-counts}
 use Rattle.sound_state.proofs.ReachLemmas.{moved-sound}
@@ -27,12 +24,12 @@ record Spends (g : Geometry) (e f : ErrandFields) (made begun : ℕ) : Type 0 wh
       made + steps_left g f.point + CALL_STEPS * (e.lost + e.cleared)
       ≤ steps_left g e.point + CALL_STEPS * (begun + f.lost + f.cleared)
 
--- the counts of a caller grow
+-- the counts of what a caller lost and cleared grow from one errand to another
 record Grows (e f : ErrandFields) : Type 0 where
   lost : e.lost ≤ f.lost
   cleared : e.cleared ≤ f.cleared
 
--- a call that begins leaves both counts
+-- a call that begins leaves the counts of what its caller lost and cleared
 same-counts : (e : ErrandFields) (words : ℕ) (n : Need) → ((begins_alloc e words n).lost ≡ e.lost) × ((begins_alloc e words n).cleared ≡ e.cleared)
 same-counts e words (Small class) =
     cond_both (is_spent e) e _ (λ f. (f.lost ≡ e.lost) × (f.cleared ≡ e.cleared)) (λ spent. (refl, refl)) (λ left. (refl, refl))
@@ -48,16 +45,16 @@ begun-counts e (read place need i) = (refl, refl)
 begun-counts e (put place need shelf) = (refl, refl)
 begun-counts e (take shelf) = (refl, refl)
 
--- fewer steps than the most are left
+-- fewer steps are left to a caller than a call makes at most
 pub most-left : (g : Geometry) (s : State) (caller : ℕ) → IsSound g s → caller < g.callers → steps_left g (s.errand caller).point < CALL_STEPS
 most-left g s caller sound has =
     left-most g caller (s.errand caller).point sound.checked (fits-at g s sound.parts.0 caller (s.errand caller).point sound.parts.1 has refl)
 
--- a count that rises goes up by no more than one, and by one where it does not stand at its end
+-- a count that is raised short of its end goes up by one, where it rises
 pub raised-one : (b : Bool) (n : ℕ) → raised b n + 1 < 2 ^ 64 → raised b n ≡ n + one_if b
 raised-one b n room = grind (arith, room)
 
--- the counts after a step of the caller
+-- the counts of what a caller lost and cleared after its step
 pub step-counts :
     (s : State) (caller : ℕ) (s' : State) → Step s caller s'
     → ((s'.errand caller).lost ≡ raised (counts_lost (s.errand caller).point (found_at s caller)) (s.errand caller).lost)
@@ -76,7 +73,7 @@ step-grows g s caller s' sound has step =
       cleared = omega (arith, counts.1, raised-by (counts_cleared e.point (found_at s caller)) e.cleared clear);
     }
 
--- a step of the caller is paid
+-- a step of the caller is paid by what it has left, lost and cleared
 step-spends :
     (g : Geometry) (s : State) (caller : ℕ) (s' : State) → IsSound g s → IsSound g s' → caller < g.callers → Step s caller s'
     → (s'.errand caller).lost < 2 ^ 64 - 1 → Spends g (s.errand caller) (s'.errand caller) 1 0
@@ -98,19 +95,19 @@ step-spends g s caller s' sound sound' has step below =
           ]
     ]
 
--- where the caller does nothing, nothing is spent
+-- a caller that does nothing in a move spends nothing, and its counts stay
 same-spends : (g : Geometry) (e f : ErrandFields) → f ≡ e → Spends g e f 0 0
 same-spends g e f is = record { paid = rw is (omega arith) }
 
 same-grows : (e f : ErrandFields) → f ≡ e → Grows e f
 same-grows e f is = record { lost = omega (arith, ap (λ x. x.lost) is); cleared = omega (arith, ap (λ x. x.cleared) is) }
 
--- the errand after a call of its own
+-- the errand of a caller after it began a call
 begun-errand :
     (g : Geometry) (s : State) (caller : ℕ) (call : Call) (s' : State) → BeginsCall s caller call s' → s'.errand caller ≡ begun_by (s.errand caller) call
 begun-errand g s caller call s' b = subst (λ t. t.errand caller ≡ begun_by (s.errand caller) call) (sym b.after) b.moves.here
 
--- a move of any caller lets both counts grow
+-- a move of any caller lets the counts of what a caller lost and cleared grow
 move-grows :
     (g : Geometry) (s : State) (move : Move) (s' : State) (caller : ℕ) → IsSound g s → caller < g.callers → Moved g s move s'
     → Grows (s.errand caller) (s'.errand caller)
@@ -134,7 +131,7 @@ move-grows g s (steps k) s' caller sound has moved =
       | inr other ↦ same-grows (s.errand caller) (s'.errand caller) (moved.1.errand.elsewhere caller other)
     ]
 
--- and is paid
+-- a move of any caller is paid by what a caller has left, lost and cleared
 move-spends :
     (g : Geometry) (s : State) (move : Move) (s' : State) (caller : ℕ) → IsSound g s → caller < g.callers → Moved g s move s'
     → (s'.errand caller).lost < 2 ^ 64 - 1
@@ -166,7 +163,7 @@ move-spends g s (steps k) s' caller sound has moved below =
           record { paid = omega (arith, none, same.paid) }
     ]
 
--- a run lets both counts grow
+-- a run lets the counts of what a caller lost and cleared grow
 run-grows :
     (g : Geometry) (s : State) (moves : List Move) (s' : State) (caller : ℕ) → IsSound g s → caller < g.callers → Reaches g s moves s'
     → Grows (s.errand caller) (s'.errand caller)
@@ -183,7 +180,7 @@ counts-grow g s moves s' caller sound has reached =
     let grows = run-grows g s moves s' caller sound has reached in
     (grows.lost, grows.cleared)
 
--- and is paid
+-- a run is paid by what a caller has left, lost and cleared
 run-pays :
     (g : Geometry) (s : State) (moves : List Move) (s' : State) (caller : ℕ) → IsSound g s → caller < g.callers → Reaches g s moves s'
     → (s'.errand caller).lost < 2 ^ 64 - 1
@@ -229,7 +226,7 @@ begun-none caller (steps other ∷ rest) none =
       begun-none caller rest (All-tail (IsNoBegin caller) (steps other) rest none),
     )
 
--- so within a call it makes fewer than the most, but for what it loses and clears
+-- within a call a caller makes fewer steps than the most, and as many more for each exchange that it lost and superblock that it cleared
 pub run-short :
     (g : Geometry) (s : State) (moves : List Move) (s' : State) (caller : ℕ) → IsSound g s → caller < g.callers → Reaches g s moves s'
     → (s'.errand caller).lost < 2 ^ 64 - 1 → BeginsNothing caller moves

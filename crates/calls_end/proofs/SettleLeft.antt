@@ -1,29 +1,22 @@
 -- What the retired list and the turn limit leave to do.
-use Rattle.std.proofs.Common.{ℕ, zero, suc, false, Option, Some, None, ◌≡◌, ◌≢◌, ◌<◌, ◌≤◌, ◌+◌, List, [], ◌∷◌, length, get_or, refl, ◌∙◌, arith, ap, sym, subst}
-use Rattle.std.specs.Prelude.{◌==◌, All, AllPairs, IsSome, count_by, nat_lt, slice_set, if◌then◌else◌}
-use Rattle.std.proofs.lemmas.Bool.{true≢false, cond_both, cond-true, eq-eqb}
+use Rattle.std.proofs.Common.{ℕ, zero, suc, false, Option, Some, None, ◌≡◌, ◌≢◌, ◌<◌, ◌≤◌, ◌+◌, List, [], ◌∷◌, length, get_or, refl, ◌∙◌, arith, ap, sym, subst, ◌==◌}
+use Rattle.std.proofs.Common.{All, AllPairs, IsSome, count_by, nat_lt, slice_set, if◌then◌else◌, true≢false, eq-eqb}
+use Rattle.std.proofs.lemmas.Bool.{cond_both, cond-true}
 use Rattle.std.proofs.lemmas.List.{get_or_default}
 use Rattle.std.proofs.lemmas.List.Elements.{All-head, All-tail}
 use Rattle.std.proofs.lemmas.List.Kept.{AllPairs-cons}
 use Rattle.std.proofs.lemmas.List.Sums.{sum_by-cons}
 use Rattle.sound_state.proofs.Common.{Geometry, Found, descriptor_count, SeatFields, occurs, DescPoint, Continuation, Next, At, End, Retire, Pick, Unlist, Point}
 use Rattle.sound_state.proofs.Common.{ErrandFields, settle_of, course_of, spare_of, next_of, plan_point_of, State, found_at, errand_has, IsSoundWithoutCounts}
-use Rattle.sound_state.proofs.Common.{callers_sum}
+use Rattle.sound_state.proofs.Common.{callers_sum, settle_block_of, settle_stack_of, first_unheld, settle_desc_of, after_hazard, named_in, settle_partial_of}
+use Rattle.sound_state.proofs.Common.{settle_large_of, Turn, after_list, after_turn, picked, turned, is_full, no_words, point_after, resumed, enter_block, enter_stack}
+use Rattle.sound_state.proofs.Common.{enter_desc, enter_partial, enter_large}
 use Rattle.word_table.specs.declared.name.WordName.TheVariants as name
-use Rattle.superblock_parts.specs.Points.{settle_block_of}
-use Rattle.stack_parts.specs.Points.{settle_stack_of}
 use Rattle.word_table.specs.declared.onward.Onward.TheVariants.{Stays, Leaves}
 use Rattle.hazard_parts.specs.declared.exit.DescExit.TheVariants.{Scanned}
 use Rattle.hazard_parts.specs.declared.point.DescPoint.TheVariants as desc
-use Rattle.hazard_parts.specs.Retired.{first_unheld}
-use Rattle.hazard_parts.specs.Points.{settle_desc_of, after_hazard, named_in}
 use Rattle.hazard_parts.proofs.PickLemmas.{some-picked}
-use Rattle.partial_parts.specs.Points.{settle_partial_of}
-use Rattle.large_parts.specs.Points.{settle_large_of}
-use Rattle.errand_steps.specs.declared.next.Next.TheVariants.{Turn}
 use Rattle.errand_steps.specs.declared.point.Point.TheVariants as point
-use Rattle.errand_steps.specs.Errands.{after_list, after_turn, picked, turned, is_full, no_words, point_after}
-use Rattle.errand_steps.specs.Nexts.{resumed, enter_block, enter_stack, enter_desc, enter_partial, enter_large}
 use Rattle.calls_end.specs.StepsLeft.{steps_left, scan_left, active_left, resumed_left}
 use Rattle.calls_end.proofs.LeftDefs.{next_left, word_under}
 use Rattle.sound_state.proofs.shared.GuardEffects.{scans}
@@ -52,7 +45,7 @@ used w = if nat_lt 0 w then 1 else 0
 used-once : (w : ℕ) → used w ≤ 1
 used-once w = grind (arith)
 
--- where all words from n on are 0, at most n of them name something
+-- noted words that are all 0 from n on name at most n things
 few-used :
     (xs : List ℕ) (n : ℕ) → ((i : ℕ) → n ≤ i → i < length xs → get_or xs i 0 ≡ 0) → count_by (λ word. nat_lt 0 word) xs ≤ n
 few-used [] n none = omega arith
@@ -79,7 +72,7 @@ retired-apart g s caller sound has =
     in
     omega (arith, sound.parts.1.kept.once d (listed k e within), mine))
 
--- where the last hazard word is read, one of them isn't named
+-- a retired descriptor that no hazard word names is there where a scan reads the last one
 picks-some :
     (g : Geometry) (s : State) (caller : ℕ) (seat : SeatFields) (held : List ℕ) (i : ℕ) (o : Continuation) → IsSoundWithoutCounts g s → caller < g.callers
     → (s.errand caller).point ≡ point.Desc (desc.ReadHazard seat held i) o
@@ -92,20 +85,20 @@ picks-some g s caller seat held i o sound has stands =
     let full = sound.parts.1.guarded.full caller has (ap spare_of stands) in
     some-picked noted (s.errand caller).retired (retired-apart g s caller sound has) (omega (arith, few, full, fits.1))
 
--- a call that goes on after a retirement
+-- a call that goes on after a retirement has no more steps left than behind one
 resumed-left :
     (g : Geometry) (e : ErrandFields) (s : SeatFields) (o : Continuation)
     → steps_left g (point_after (after_turn e (resumed s o))) ≤ resumed_left g s o
 unfolding steps_left
 resumed-left g e s o = grind (arith)
 
--- one whose next turn begins, or that ends
+-- a call whose next turn begins, or that ends, has no more steps left than from the active word on
 turned-left :
     (g : Geometry) (e : ErrandFields) (s : SeatFields) (need : ℕ) → steps_left g (point_after (turned e s need)) ≤ active_left g s
 unfolding steps_left
 turned-left g e s need = grind (arith)
 
--- one that retires, and scans where the list is full
+-- a call that retires a descriptor, and scans where its list is full, has no more steps left than a scan, and those behind
 retired-left :
     (g : Geometry) (e : ErrandFields) (s : SeatFields) (d : ℕ) (o : Continuation)
     → steps_left g (point_after (after_turn e (after_list e (Retire s d o)))) ≤ scan_left g + resumed_left g s o
@@ -115,7 +108,7 @@ retired-left g e s d o =
     (λ n. steps_left g (point_after (after_turn e n)) ≤ scan_left g + resumed_left g s o) (λ full. omega arith)
     (λ room. omega (arith, resumed-left g e s o))
 
--- one that has picked a descriptor
+-- a call whose scan has picked a descriptor has no more steps left than its push, and those behind
 picked-left :
     (g : Geometry) (e : ErrandFields) (s : SeatFields) (o : Continuation) (first : Option ℕ) → IsSome first
     → steps_left g (point_after (after_turn e (picked e s o first))) ≤ resumed_left g s o + 3
@@ -123,7 +116,7 @@ unfolding steps_left
 picked-left g e s o None some = absurd (true≢false (sym some))
 picked-left g e s o (Some d) some = omega arith
 
--- whatever follows a step, but for the end of a scan
+-- whatever follows a step, but for the end of a scan, leaves no more to do than that says
 listed-left :
     (g : Geometry) (e : ErrandFields) (n : Next) → is_pick n ≡ false
     → steps_left g (point_after (after_turn e (after_list e n))) ≤ next_left g n
@@ -135,11 +128,11 @@ listed-left g e (Retire s d o) plain = retired-left g e s d o
 listed-left g e (Pick s held o) plain = absurd (true≢false plain)
 listed-left g e (Unlist s d o) plain = resumed-left g e s o
 
--- a step elsewhere ends none
+-- a step that is no read of a hazard word ends no scan
 no-pick-desc : (p : DescPoint) (x : Found) (o : Continuation) → scans p ≡ false → is_pick (enter_desc (settle_desc_of p x) o) ≡ false
 no-pick-desc p x o plain = grind (arith, plain)
 
--- a hazard word is read
+-- a hazard word that a scan reads leaves no more to do than what follows says, if a descriptor can be picked then
 hazard-left :
     (g : Geometry) (e : ErrandFields) (s : SeatFields) (held : List ℕ) (i v : ℕ) (o : Continuation)
     → IsSome (first_unheld (slice_set held i (named_in s.geometry v)) e.retired)
@@ -152,13 +145,13 @@ hazard-left g e s held i v o some =
     (λ n. steps_left g (point_after (after_turn e (after_list e (enter_desc n o)))) ≤ next_left g (enter_desc n o))
     (λ more. omega arith) (λ last. picked-left g e s o (first_unheld noted e.retired) some)
 
--- where a step leads, and what is left there
+-- a step leaves no more to do, behind the retired list and the turn limit, than what follows it says
 abbrev Settles : Geometry → State → ErrandFields → Point → Type 0
 Settles g s e p =
     steps_left g (point_after (after_turn e (after_list e (next_of p (found_in p (word_under s p))))))
     ≤ next_left g (next_of p (found_in p (word_under s p)))
 
--- at the descriptors or the hazard words
+-- a step at the descriptors or the hazard words leaves no more to do than what follows it says
 desc-settles :
     (g : Geometry) (s : State) (caller : ℕ) (p : DescPoint) (o : Continuation) → IsSoundWithoutCounts g s → caller < g.callers
     → (s.errand caller).point ≡ point.Desc p o → Settles g s (s.errand caller) (point.Desc p o)
@@ -169,7 +162,7 @@ desc-settles g s caller p o sound has stands =
     let x = found_in (point.Desc p o) (word_under s (point.Desc p o)) in
     listed-left g (s.errand caller) (enter_desc (settle_desc_of p x) o) (no-pick-desc p x o refl)
 
--- at each point
+-- a step at each point leaves no more to do than what follows it says
 settles-at :
     (g : Geometry) (s : State) (caller : ℕ) (p : Point) → IsSoundWithoutCounts g s → caller < g.callers → (s.errand caller).point ≡ p
     → Settles g s (s.errand caller) p
@@ -189,7 +182,7 @@ settles-at g s caller (point.Large p o) sound has stands =
     let n = settle_large_of p (found_in (point.Large p o) (word_under s (point.Large p o))) in
     listed-left g (s.errand caller) (enter_large n o) (no-pick-large n o)
 
--- after a step no more is left than where it leads
+-- no more steps are left after a step than what follows it says
 pub left-settles :
     (g : Geometry) (s : State) (caller : ℕ) → IsSoundWithoutCounts g s → caller < g.callers
     → steps_left g (settle_of (s.errand caller) (found_at s caller)).point ≤ next_left g (next_of (s.errand caller).point (found_at s caller))

@@ -1,8 +1,7 @@
 -- A call that is under way has a step left.
 use Rattle.std.proofs.Common.{ℕ, ◌≡◌, ◌<◌, false, arith}
 use Rattle.sound_state.proofs.Common.{Geometry, BlockPoint, StackPoint, DescPoint, PartialPoint, LargePoint, Continuation, Point, Idle, Block, Stack, Desc, Partial}
-use Rattle.sound_state.proofs.Common.{Large, FitsPoint}
-use Rattle.errand_steps.specs.Points.{is_idle}
+use Rattle.sound_state.proofs.Common.{Large, FitsPoint, is_idle}
 use Rattle.calls_end.specs.StepsLeft.{steps_left, block_left, stack_left, desc_point_left, partial_left, large_left}
 
 some-block : (g : Geometry) (p : BlockPoint) → 0 < block_left g p

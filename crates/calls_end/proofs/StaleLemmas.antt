@@ -1,12 +1,11 @@
 -- A step of a caller makes no word stale for it, and one that is lost finds a stale word, which is stale no more.
-use Rattle.std.proofs.Common.{ℕ, Bool, true, false, ◌≡◌, ◌≢◌, ◌<◌, ◌≤◌, ◌+◌, refl, arith, ap, sym, subst, inl, inr, ◌∙◌, ◌==◌, not, if◌then◌else◌, [], Any}
+use Rattle.std.proofs.Common.{ℕ, Bool, true, false, ◌≡◌, ◌≢◌, ◌<◌, ◌≤◌, ◌+◌, refl, arith, ap, sym, subst, inl, inr, ◌∙◌, ◌==◌, not, if◌then◌else◌, [], Any, eq-eqb}
+use Rattle.std.proofs.Common.{ne_eqb, true≢false}
 use Rattle.std.specs.List.{list_any}
-use Rattle.std.proofs.lemmas.Bool.{cases_eq, cases_Bool, cond-true, cond-false, eq-eqb, ne_eqb, and_parts, and_from, true≢false}
+use Rattle.std.proofs.lemmas.Bool.{cases_eq, cases_Bool, cond-true, cond-false, and_parts, and_from}
 use Rattle.std.proofs.lemmas.List.Folds.{Any-from_list_any, list_any-from_Any}
-use Rattle.sound_state.proofs.Common.{Geometry, WordName, word_count, Exists, word_name, cases_name, counts_lost, settle_of, State, Step, action_at, name_at}
-use Rattle.sound_state.proofs.Common.{word_at, found_at, sum_below, one_if}
-use Rattle.word_table.specs.Table.{word_index}
-use Rattle.word_table.proofs.TableLemmas.{word_index-within, word_index-word_name, word_name-word_index}
+use Rattle.sound_state.proofs.Common.{Geometry, WordName, word_count, Exists, word_name, cases_name, counts_lost, settle_of, State, Step, action_at, name_at, word_at}
+use Rattle.sound_state.proofs.Common.{found_at, sum_below, one_if, word_index, word_index-within, word_index-word_name, word_name-word_index}
 use Rattle.calls_end.specs.Alone.{is_stale_by, is_stale, stale_words}
 use Rattle.lost_exchanges.specs.Expectations.{Expected, expects_of}
 use Rattle.lost_exchanges.specs.Wins.{same_name}
@@ -16,7 +15,7 @@ use Rattle.lost_exchanges.proofs.NoteLemmas.{ExpectsAfter}
 use Rattle.lost_exchanges.proofs.SameNames.{same-name-is, same-name-one}
 use Rattle.lost_exchanges.proofs.WinDefs.{LosesOn, MayExpect}
 
--- a word that is stale after the step: by something that the caller carries or sees
+-- a word that is stale after a step is so by something that the caller carries or sees
 stale-after :
     (s : State) (caller : ℕ) (s' : State) (m : WordName) → Step s caller s' → ExpectsAfter s caller → is_stale s' caller m ≡ true
     → (e : Expected) × MayExpect (s.errand caller).point (action_at s caller) (found_at s caller) e × (e.word ≡ m) × (s'.word m ≢ e.value)
@@ -30,7 +29,7 @@ stale-after s caller s' m step expects stale =
     let both = and_parts (same_name e.word m) (not (s'.word m == e.value)) is in
     (e, may, same-name-is e.word m both.0, λ same. absurd (grind (arith, both.1, same)))
 
--- something that is expected of the word and differs makes it stale
+-- a word of which something else is expected is stale
 stale-by :
     (s : State) (caller : ℕ) (m : WordName) → Any (λ e. (e.word ≡ m) × (s.word m ≢ e.value)) (expects_of (s.errand caller).point)
     → is_stale s caller m ≡ true
@@ -44,7 +43,7 @@ stale-by s caller m (k, e, lt, at, (word, differs)) =
           (ap not (ne_eqb (s.word m) e.value differs)),
     )
 
--- no other word becomes stale
+-- no other word than the step's becomes stale for its caller
 stale-apart :
     (s : State) (caller : ℕ) (s' : State) (m : WordName) → Step s caller s' → ExpectsAfter s caller → m ≢ name_at s caller → is_stale s' caller m ≡ true
     → is_stale s caller m ≡ true
@@ -58,7 +57,7 @@ stale-apart s caller s' m step expects apart stale =
       | inr seen ↦ absurd (apart (sym word ∙ seen.word))
     ]
 
--- the step's word is stale no more
+-- the word of a caller's step isn't stale for it after the step
 pub stale-here :
     (s : State) (caller : ℕ) (s' : State) → Step s caller s' → ExpectsAfter s caller → is_stale s' caller (name_at s caller) ≡ false
 stale-here s caller s' step expects =
@@ -69,7 +68,7 @@ stale-here s caller s' step expects =
       | inr isnt ↦ isnt
     ]
 
--- so none becomes stale
+-- a step makes no word stale for its caller
 pub stale-kept :
     (s : State) (caller : ℕ) (s' : State) (m : WordName) → Step s caller s' → ExpectsAfter s caller → is_stale s' caller m ≡ true → is_stale s caller m ≡ true
 stale-kept s caller s' m step expects stale =
@@ -99,7 +98,7 @@ one-least : (a b : Bool) → (a ≡ true → b ≡ true) → one_if a ≤ one_if
 one-least true b follows = omega (arith, ap one_if (follows refl))
 one-least false b follows = omega arith
 
--- so the stale words grow by none, and are one fewer after a lost step
+-- a caller's stale words grow by none in its step, and are one fewer after a lost one
 pub stale-falls :
     (g : Geometry) (s : State) (caller : ℕ) (s' : State) → Exists g (name_at s caller) → Step s caller s' → ExpectsAfter s caller
     → LosesOn (s.errand caller).point (word_at s caller)
@@ -132,7 +131,7 @@ stale-falls g s caller s' exists step expects loses =
     ]) in
     omega (arith, changed, zero_here, least, here, lost-stale s caller loses)
 
--- who expects nothing has no stale word
+-- a caller that expects nothing has no stale word
 pub none-stale : (g : Geometry) (s : State) (caller : ℕ) → expects_of (s.errand caller).point ≡ [] → stale_words g s caller ≡ 0
 none-stale g s caller none =
     sum-none (word_count g) (λ k. one_if (is_stale s caller (word_name g k))) (λ k lt. ap (λ es. one_if (list_any (is_stale_by s (word_name g k)) es)) none)

@@ -1,11 +1,9 @@
 -- No more than two words are ever stale for a caller: a caller expects no more.
-use Rattle.std.proofs.Common.{ℕ, Bool, true, false, ◌≡◌, ◌<◌, ◌≤◌, ◌+◌, List, [], ◌∷◌, length, refl, arith, ap, inl, inr, ◌∙◌, ◌==◌, ◌||◌, if◌then◌else◌}
+use Rattle.std.proofs.Common.{ℕ, Bool, true, false, ◌≡◌, ◌<◌, ◌≤◌, ◌+◌, List, [], ◌∷◌, length, refl, arith, ap, inl, inr, ◌∙◌, ◌==◌, ◌||◌, if◌then◌else◌, eq-eqb}
 use Rattle.std.specs.List.{list_any}
-use Rattle.std.proofs.lemmas.Bool.{cases_Bool, cond-true, eq-eqb}
+use Rattle.std.proofs.lemmas.Bool.{cases_Bool, cond-true}
 use Rattle.sound_state.proofs.Common.{Geometry, word_count, word_name, BlockPoint, StackPoint, DescPoint, PartialPoint, LargePoint, Continuation, Point, Idle, Block}
-use Rattle.sound_state.proofs.Common.{Stack, Desc, Partial, Large, State, sum_below, one_if}
-use Rattle.word_table.specs.Table.{word_index}
-use Rattle.word_table.proofs.TableLemmas.{word_index-word_name}
+use Rattle.sound_state.proofs.Common.{Stack, Desc, Partial, Large, State, sum_below, one_if, word_index, word_index-word_name}
 use Rattle.calls_end.specs.Alone.{is_stale_by, stale_words}
 use Rattle.lost_exchanges.specs.Expectations.{Expected, expects_of, block_expects, stack_expects, desc_expects, partial_expects, large_expects}
 use Rattle.lost_exchanges.specs.Wins.{same_name}
@@ -17,7 +15,7 @@ either-most : (a b : Bool) → one_if (a || b) ≤ one_if a + one_if b
 either-most true b = omega arith
 either-most false b = omega arith
 
--- a word of the table has one number
+-- an expectation makes a word stale only at the one number that it has in the table
 name-once : (g : Geometry) (s : State) (e : Expected) (k : ℕ) → k < word_count g
     → one_if (is_stale_by s (word_name g k) e) ≤ (if word_index g e.word == k then 1 else 0)
 name-once g s e k lt =
@@ -29,7 +27,7 @@ name-once g s e k lt =
       | inr differ ↦ let none : one_if (is_stale_by s (word_name g k) e) ≡ 0 = rw differ refl in omega (arith, none)
     ]
 
--- so as many are stale as are expected, at most
+-- at most as many words are stale for expectations as these are
 stale-by-most :
     (g : Geometry) (s : State) (es : List Expected) → sum_below (word_count g) (λ k. one_if (list_any (is_stale_by s (word_name g k)) es)) ≤ length es
 stale-by-most g s [] = omega (arith, sum-none (word_count g) (λ k. 0) (λ k lt. refl))

@@ -1,30 +1,22 @@
 -- A step of a turn puts no descriptor back to the superblocks whose superblock is EMPTY, and makes none EMPTY.
-use Rattle.std.proofs.Common.{ℕ, Some, true, false, ◌≡◌, ◌≢◌, ◌<◌, ◌≤◌, ◌+◌, [], ◌∷◌, refl, arith, ap, sym, subst, inl, inr, ◌∙◌, ◌==◌, if◌then◌else◌, Contains, IfSome}
+use Rattle.std.proofs.Common.{ℕ, Some, true, false, ◌≡◌, ◌≢◌, ◌<◌, ◌≤◌, ◌+◌, ◌∷◌, refl, arith, ap, sym, subst, inl, inr, ◌∙◌, ◌==◌, if◌then◌else◌, Contains, IfSome}
+use Rattle.std.proofs.Common.{true≢false, eq-eqb, ne_eqb}
 use Rattle.std.proofs.Math.Path.{fun_ext}
-use Rattle.std.proofs.lemmas.Bool.{cases_eq, true≢false, eq-eqb, ne_eqb, cond-true, cond-false}
-use Rattle.std.proofs.lemmas.List.Elements.{All-head}
-use Rattle.sound_state.proofs.Common.{Geometry, AnchorFields, anchor_of, anchor_word, info_of, Found, WordName, Site, after_action, SeatFields, IsSiteOf}
-use Rattle.sound_state.proofs.Common.{Writes, cases_name, occurs, BlockPoint, Share, Partials, Stacked, next_in, DescPoint, is_empty}
-use Rattle.sound_state.proofs.Common.{PartialPoint, Next, At, End, Retire, Pick, Unlist, Continuation, Point, Block, Desc, Partial, ErrandFields, settle_of}
-use Rattle.sound_state.proofs.Common.{course_of, FitsPoint, pushed_by, next_of, plan_point_of, asked, State, Step, name_at, word_at, found_at, on_its_way, holds_of}
-use Rattle.sound_state.proofs.Common.{Lists, IsSo, noted, looked, located, says, recalls_of, IsSoundWithoutCounts, IsSoundWith, in_turn, anchor_for, info_for}
-use Rattle.sound_state.proofs.Common.{info_or_zero, errand_away, errand_keeps, away_of, kept_among, errand_has, callers_sum}
-use Rattle.packed_words.specs.Info.{info_word}
-use Rattle.packed_words.proofs.AnchorLemmas.{anchor_of-anchor_word}
-use Rattle.packed_words.proofs.InfoLemmas.{info-exact}
+use Rattle.std.proofs.lemmas.Bool.{cases_eq, cond-true, cond-false}
+use Rattle.sound_state.proofs.Common.{Geometry, AnchorFields, anchor_of, anchor_word, info_of, Found, WordName, Site, after_action, SeatFields, IsSiteOf, Writes}
+use Rattle.sound_state.proofs.Common.{cases_name, occurs, BlockPoint, Share, Partials, Stacked, next_in, DescPoint, is_empty, PartialPoint, Next, At, End, Retire, Pick}
+use Rattle.sound_state.proofs.Common.{Unlist, Continuation, Point, Block, Desc, Partial, ErrandFields, settle_of, course_of, FitsPoint, pushed_by, next_of}
+use Rattle.sound_state.proofs.Common.{plan_point_of, asked, State, Step, name_at, word_at, found_at, on_its_way, holds_of, Lists, recalls_of, IsSoundWithoutCounts}
+use Rattle.sound_state.proofs.Common.{IsSoundWith, in_turn, anchor_for, info_for, info_or_zero, errand_away, errand_keeps, away_of, kept_among, errand_has, callers_sum}
+use Rattle.sound_state.proofs.Common.{info_word, anchor_of-anchor_word, info-exact, info_at, new_anchor, Turn, point_after, after_turn, after_list, making}
 use Rattle.word_table.specs.declared.name.WordName.TheVariants as name
-use Rattle.word_table.specs.Sites.{info_at}
-use Rattle.superblock_parts.specs.Anchors.{new_anchor}
 use Rattle.superblock_parts.specs.declared.point.BlockPoint.TheVariants as block
 use Rattle.stack_parts.proofs.StackLemmas.{stacked-one, stacked-off}
 use Rattle.hazard_parts.specs.declared.point.DescPoint.TheVariants as desc
 use Rattle.hazard_parts.specs.Retired.{without}
 use Rattle.partial_parts.specs.declared.point.PartialPoint.TheVariants as partial
-use Rattle.errand_steps.specs.declared.next.Next.TheVariants.{Turn}
 use Rattle.errand_steps.specs.declared.continuation.Continuation.TheVariants as continuation
-use Rattle.errand_steps.specs.Errands.{point_after, after_turn, after_list, list_after}
-use Rattle.sound_state.specs.Holdings.{making}
-use Rattle.sound_state.specs.Recalls.{resumed_recalls}
+use Rattle.errand_steps.specs.Errands.{list_after}
 use Rattle.sound_state.proofs.shared.HasLemmas.{keeps-at, kept-itself, ways-one}
 use Rattle.sound_state.proofs.descriptors.DescPushes.{occurs-without}
 use Rattle.sound_state.proofs.descriptors.DescSteps.{first-of}
@@ -33,20 +25,20 @@ use Rattle.sound_state.proofs.pops.PopFacts.{popped-empty}
 use Rattle.sound_state.proofs.pops.PopSteps.{pop-pops}
 use Rattle.sound_state.proofs.quiet.QuietLinks.{written-at, retired-has}
 use Rattle.sound_state.proofs.shared.ListFacts.{occurs-push}
-use Rattle.sound_state.proofs.shared.PointLemmas.{fits-at, so-at, the-alloc}
+use Rattle.sound_state.proofs.shared.PointLemmas.{fits-at, the-alloc, recalled-at}
 use Rattle.sound_state.proofs.shared.StepLemmas.{found_from}
 use Rattle.sound_state.proofs.shared.SumLemmas.{callers-moved, term-sum}
 use Rattle.sound_state.proofs.shared.WaitsAlone.{new_anchor-fits}
 use Rattle.sound_state.proofs.shared.WordFacts.{site-info}
 use Rattle.sound_state.proofs.shifts.ShiftSteps.{grant-shifts}
 
--- what a step leaves of what is EMPTY and out
+-- a step makes no superblock EMPTY, puts none back that is, and leaves the classes of those that are out
 pub record LeavesOut (g : Geometry) (s : State) (l : Lists) (s' : State) (l' : Lists) : Type 0 where
   pub empty : (d : ℕ) → is_empty (anchor_for s' d).state ≡ true → is_empty (anchor_for s d).state ≡ true
   pub class : (d : ℕ) → away_of g s' l' d ≡ 0 → (info_for s' d).class ≡ (info_for s d).class
   pub away : (d : ℕ) → is_empty (anchor_for s' d).state ≡ true → away_of g s l d ≤ away_of g s' l' d
 
--- the errand after a step, by what follows the step
+-- how often d is away at an errand after a step, by what follows the step
 abbrev pub away_after : ErrandFields → Next → ℕ → ℕ
 away_after e n d =
     occurs d (list_after e.retired n) + kept_among on_its_way d (holds_of (point_after (after_turn e (after_list e n)))).kept
@@ -61,7 +53,7 @@ next-away e (Retire seat k o) d ways listed least = omega (arith, least, occurs-
 next-away e (Pick seat held o) d ways listed least = omega (arith, least)
 next-away e (Unlist seat k o) d ways listed least = absurd (listed seat k o refl)
 
--- a caller has a descriptor away as often as before
+-- a caller has a descriptor away at least as often after a step of a turn that neither puts out nor pushes
 errand-keeps :
     (g : Geometry) (caller : ℕ) (e : ErrandFields) (x : Found) (d : ℕ) → FitsPoint g caller e.point → puts_out e.point ≡ false
     → in_turn e.point ≡ true → ((seat : SeatFields) (k : ℕ) (o : Continuation) → next_of e.point x ≢ Unlist seat k o)
@@ -70,24 +62,24 @@ unfolding settle_of course_of
 errand-keeps g caller e x d fits out turn listed =
     next-away e (next_of e.point x) d (kept_among on_its_way d (holds_of e.point).kept) listed (point-ways g caller e.point x d fits out turn)
 
--- a word that is written as it was leaves all words
+-- words stay where a word is written as it was
 lost-same : (words : WordName → ℕ) (n : WordName) (new : ℕ) (m : WordName) (words' : WordName → ℕ) → Writes words n new words' → new ≡ words n → words' m ≡ words m
 lost-same words n new m words' w same =
     elim (cases_name m n) [ inl is ↦ ap words' is ∙ w.here ∙ same ∙ ap words (sym is) | inr differ ↦ w.elsewhere m differ ]
 
--- a superblock in the making has one descriptor
+-- no other descriptor than its own is on its way with a superblock in the making
 making-elsewhere : (site : Site) (d : ℕ) → d ≢ site.desc → kept_among on_its_way d (making site).kept ≡ 0
 making-elsewhere site d differ = grind (arith, differ)
 
--- the next words below it stay
+-- the next words stay at a write of the head of the available descriptors
 nexts-same : (s s' : State) (new_head : ℕ) → Writes s.word name.DescHead new_head s'.word → next_in s'.word Partials ≡ next_in s.word Partials
 nexts-same s s' new_head w = fun_ext (λ d. w.elsewhere (name.Next d) (λ same. cc))
 
--- a step of a turn, and the lists before and after it
+-- a step of a turn, between sound states with lists before and after it
 module _
     (g : Geometry) (s : State) (l : Lists) (caller : ℕ) (s' : State) (l' : Lists) (sound : IsSoundWithoutCounts g s) (old : IsSoundWith g s l)
     (new : IsSoundWith g s' l') (has : caller < g.callers) (turn : in_turn (s.errand caller).point ≡ true) (step : Step s caller s') where
-  -- the same, at a point that is known
+  -- a caller has a descriptor away no less often after its step, where its point is known, puts none out and pushes none
   at-keeps :
       (p : Point) (d : ℕ) → (s.errand caller).point ≡ p → puts_out p ≡ false → pushes_desc p ≡ false
       → errand_away d (s.errand caller) ≤ errand_away d (settle_of (s.errand caller) (found_at s caller))
@@ -97,7 +89,7 @@ module _
       errand-keeps g caller (s.errand caller) (found_at s caller) d fits (ap puts_out stands ∙ out) turn
       (λ seat k o. none-unlisted g caller q (found_at s caller) seat k o fits turn (ap pushes_desc stands ∙ other))
 
-  -- the available ones are the same where the head and the next words are
+  -- the available descriptors are the same where their head and all next words are
   available-same :
       s'.word name.DescHead ≡ s.word name.DescHead → ((d : ℕ) → s'.word (name.Next d) ≡ s.word (name.Next d)) → l'.available ≡ l.available
   available-same head nexts =
@@ -107,7 +99,7 @@ module _
       (subst (λ t. Stacked (next_in s'.word Partials) t l'.available) head new.listed.available) in
       stacked-one (next_in s.word Partials) (s.word name.DescHead) l'.available l.available stack old.listed.available
 
-  -- a descriptor is away as often as before, where the list and the caller have it no less
+  -- a descriptor is away at least as often, where the available ones and the caller have it no less often
   away-least :
       (d : ℕ)
       → occurs d l.available + errand_away d (s.errand caller) ≤ occurs d l'.available + errand_away d (settle_of (s.errand caller) (found_at s caller))
@@ -115,7 +107,7 @@ module _
   away-least d least =
       omega (arith, least, callers-moved g (errand_away d) s.errand caller (settle_of (s.errand caller) (found_at s caller)) s'.errand has step.errand)
 
-  -- what a step leaves that writes at most anchors
+  -- a step that leaves head, next words and info words leaves out what is out, where no superblock becomes EMPTY
   leaves :
       s'.word name.DescHead ≡ s.word name.DescHead → ((d : ℕ) → s'.word (name.Next d) ≡ s.word (name.Next d))
       → ((d : ℕ) → s'.word (name.Info d) ≡ s.word (name.Info d))
@@ -129,7 +121,7 @@ module _
         away-least d (omega (arith, ap (occurs d) (available-same head nexts), least d is));
   }
 
-  -- a step that writes none of these words
+  -- a step that writes no word which tells of a descriptor leaves out what is out
   quiet-leaves : writes_told (s.errand caller).point ≡ false → LeavesOut g s l s' l'
   quiet-leaves none =
       let p = (s.errand caller).point in
@@ -148,7 +140,7 @@ module _
       errand-keeps g caller (s.errand caller) (found_at s caller) d fits quiet.0 turn
       (λ seat k o. none-unlisted g caller p (found_at s caller) seat k o fits turn quiet.1))
 
-  -- a pop leaves each superblock EMPTY or not
+  -- a pop leaves out what is out: each superblock stays EMPTY or not
   pop-leaves :
       (at : Site) (share : Share) (a : AnchorFields) (prefix : ℕ) (o : Continuation)
       → (s.errand caller).point ≡ Block (block.PopBlock at share a prefix) o → LeavesOut g s l s' l'
@@ -169,7 +161,7 @@ module _
       ])
       (λ d is. at-keeps p d stands refl refl)
 
-  -- a grant leaves one in use
+  -- a grant leaves out what is out: its superblock is in use
   grant-leaves :
       (site : Site) (a : AnchorFields) (o : Continuation) → (s.errand caller).point ≡ Partial (partial.Grant site a) o → LeavesOut g s l s' l'
   unfolding plan_point_of
@@ -197,7 +189,7 @@ module _
       ])
       (λ d is. at-keeps p d stands refl refl)
 
-  -- the processor heap of a superblock that was taken, whose class stays
+  -- the store of a taken superblock's processor heap leaves out what is out: its class stays
   owner-leaves : (site : Site) (o : Continuation) → (s.errand caller).point ≡ Partial (partial.StoreOwner site) o → LeavesOut g s l s' l'
   unfolding plan_point_of recalls_of
   owner-leaves site o stands =
@@ -205,7 +197,7 @@ module _
       let w : Writes s.word (name.Info site.desc) (info_word (info_at site)) s'.word = written-at s caller s' p stands step in
       let fits = fits-at g s l caller p old has stands in
       let fit : IsSiteOf g caller site = fits.point in
-      let lies = All-head (IsSo g s l caller) (located site.desc site.frame site.seat.class) [] (so-at g s l caller p old has stands) in
+      let (lies, none) = recalled-at g s l caller p old has stands in
       let back : info_of (s'.word (name.Info site.desc)) ≡ Some (info_at site) =
       ap info_of w.here ∙ info-exact.back (info_at site) (site-info g caller site sound.checked fit) in
       let anchors : (d : ℕ) → s'.word (name.Anchor d) ≡ s.word (name.Anchor d) = λ d. w.elsewhere (name.Anchor d) (λ same. cc) in
@@ -223,7 +215,7 @@ module _
             (omega (arith, ap (occurs d) avail, at-keeps p d stands refl refl));
       }
 
-  -- what the descriptor of a new superblock says, which is on its way
+  -- the store of a new superblock's info word leaves out what is out: its descriptor is on its way
   info-leaves : (site : Site) (o : Continuation) → (s.errand caller).point ≡ Block (block.StoreInfo site) o → LeavesOut g s l s' l'
   unfolding plan_point_of holds_of callers_sum
   info-leaves site o stands =
@@ -249,7 +241,7 @@ module _
         away = λ d is. least d;
       }
 
-  -- the anchor of a new superblock, which is in use then
+  -- the store of a new superblock's anchor leaves out what is out: the superblock is in use then
   anchor-leaves : (site : Site) (o : Continuation) → (s.errand caller).point ≡ Block (block.StoreAnchor site) o → LeavesOut g s l s' l'
   unfolding plan_point_of holds_of next_of settle_of course_of
   anchor-leaves site o stands =
@@ -272,7 +264,7 @@ module _
       (λ seat k b is. let bad : At (Block (block.InstallSuperblock site) o) ≡ Unlist seat k b = sym next ∙ is in cc) (omega arith) in
       omega (arith, none, least))
 
-  -- a link below a retired descriptor, which is not available
+  -- the store of the link below a retired descriptor leaves out what is out: the descriptor isn't available
   next-leaves :
       (seat : SeatFields) (k top : ℕ) (o : Continuation) → (s.errand caller).point ≡ Desc (desc.StoreNextDesc seat k top) o → LeavesOut g s l s' l'
   unfolding plan_point_of callers_sum
@@ -296,7 +288,7 @@ module _
             (omega (arith, ap (occurs d) avail, at-keeps p d stands refl refl));
       }
 
-  -- where only the head of the available ones may change
+  -- a step that changes at most the head of the available descriptors
   head-leaves :
       (new_head : ℕ) → Writes s.word name.DescHead new_head s'.word
       → ((d : ℕ) → occurs d l.available + errand_away d (s.errand caller)
@@ -308,7 +300,7 @@ module _
     away = λ d is. away-least d (least d);
   }
 
-  -- the top one is taken: the caller has it on its way
+  -- the pop of an available descriptor leaves out what is out: the caller has it on its way
   pop_desc-leaves :
       (seat : SeatFields) (k below : ℕ) (o : Continuation) → (s.errand caller).point ≡ Desc (desc.PopDesc seat k below) o → LeavesOut g s l s' l'
   unfolding plan_point_of holds_of recalls_of next_of settle_of course_of
@@ -325,8 +317,8 @@ module _
             let (ys, is, rest) = first-of (next_in s.word Partials) k l.available stack in
             let on : 0 < occurs k l.available =
             subst (λ zs. 0 < occurs k zs) (sym is) (omega (arith, cond-true {A = ℕ} (k == k) 1 0 (eq-eqb k k refl))) in
-            let link : s.word (name.Next k) ≡ below =
-            All-head (IsSo g s l caller) (noted k below) (looked seat.class ∷ []) (so-at g s l caller p old has stands) on in
+            let (noticed, past) = recalled-at g s l caller p old has stands in
+            let link : s.word (name.Next k) ≡ below = noticed on in
             let head : s'.word name.DescHead ≡ s.word (name.Next k) = w.here ∙ rw is_won (sym link) in
             let after : Stacked (next_in s.word Partials) (s.word (name.Next k)) l'.available =
             subst (λ f. Stacked f (s.word (name.Next k)) l'.available) nexts
@@ -348,7 +340,7 @@ module _
             (λ d. omega (arith, ap (occurs d) avail, at-keeps p d stands refl refl))
       ]
 
-  -- a retired one is put in front
+  -- the push of a retired descriptor leaves out what is out: it is put in front of the available ones
   push_desc-leaves :
       (seat : SeatFields) (k top : ℕ) (o : Continuation) → (s.errand caller).point ≡ Desc (desc.PushDesc seat k top) o → LeavesOut g s l s' l'
   unfolding plan_point_of holds_of recalls_of next_of settle_of course_of
@@ -361,8 +353,8 @@ module _
       elim (cases_eq (s.word name.DescHead) top) [
         | inl won ↦
             let is_won : (s.word name.DescHead == top) ≡ true = eq-eqb (s.word name.DescHead) top won in
-            let link : s.word (name.Next k) ≡ top =
-            (All-head (IsSo g s l caller) (says (name.Next k) top) (resumed_recalls seat o) (so-at g s l caller p old has stands)).1 in
+            let (said, past) = recalled-at g s l caller p old has stands in
+            let link : s.word (name.Next k) ≡ top = said.1 in
             let head : s'.word name.DescHead ≡ k + 1 = w.here ∙ rw is_won refl in
             let after : Stacked (next_in s.word Partials) (k + 1) l'.available =
             subst (λ f. Stacked f (k + 1) l'.available) nexts
@@ -394,7 +386,7 @@ module _
             omega (arith, none d, mine, ap (occurs d) avail))
       ]
 
-  -- so does every step of a turn
+  -- every step of a turn at a point in a superblock leaves no more EMPTY ones out
   block-leaves-out : (p : BlockPoint) (o : Continuation) → (s.errand caller).point ≡ Block p o → LeavesOut g s l s' l'
   block-leaves-out (block.PopBlock at share a prefix) o stands = pop-leaves at share a prefix o stands
   block-leaves-out (block.StoreInfo site) o stands = info-leaves site o stands

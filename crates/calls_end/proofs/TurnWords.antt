@@ -1,11 +1,15 @@
 -- What a step of an allocation's turn writes of a descriptor: few do, and none puts one back to the superblocks.
-use Rattle.std.proofs.Common.{ℕ, Bool, true, false, ◌≡◌, ◌≢◌, ◌≤◌, refl, arith, ◌==◌, if◌then◌else◌}
+use Rattle.std.proofs.Common.{ℕ, Bool, true, false, ◌≡◌, ◌≢◌, ◌≤◌, refl, ap, arith, ◌∙◌, ◌==◌, if◌then◌else◌}
 use Rattle.sound_state.proofs.Common.{Geometry, Found, WordName, name_of, after_action, SeatFields, BlockPoint, StackPoint, DescPoint, PartialPoint, LargePoint}
 use Rattle.sound_state.proofs.Common.{Next, At, End, Retire, Pick, Unlist, Continuation, Point, Idle, Block, Stack, Desc, Partial, Large, FitsPoint, next_of}
 use Rattle.sound_state.proofs.Common.{plan_point_of, on_its_way, holds_of, in_turn, kept_among}
 use Rattle.word_table.specs.declared.name.WordName.TheVariants as name
 use Rattle.superblock_parts.specs.declared.point.BlockPoint.TheVariants as block
-use Rattle.superblock_parts.specs.Points.{settle_block_of, seat_of_block}
+use Rattle.word_table.specs.declared.onward.Onward.{Onward}
+use Rattle.word_table.specs.Onwards.{told_onward}
+use Rattle.superblock_parts.specs.declared.exit.BlockExit.{BlockExit}
+use Rattle.superblock_parts.specs.Points.{settle_block_of, seat_of_block, seat_of_block_exit}
+use Rattle.superblock_parts.proofs.PointLemmas.{settle-seat}
 use Rattle.stack_parts.specs.Points.{settle_stack_of, seat_of_stack}
 use Rattle.hazard_parts.specs.declared.point.DescPoint.TheVariants as desc
 use Rattle.hazard_parts.specs.Points.{settle_desc_of, seat_of_desc}
@@ -18,7 +22,7 @@ use Rattle.errand_steps.specs.Nexts.{enter_block, enter_stack, enter_desc, enter
 use Rattle.calls_end.specs.Alone.{class_at}
 use Rattle.sound_state.specs.TurnStages.{is_turn, continuation_turn_stage}
 
--- the words that say where a descriptor is, and in what state its superblock is
+-- whether the word says where a descriptor is, or in what state its superblock is
 abbrev pub tells : WordName → Bool
 tells (name.Anchor d) = true
 tells (name.Next d) = true
@@ -26,7 +30,7 @@ tells (name.Info d) = true
 tells name.DescHead = true
 tells n = false
 
--- the points of a turn that write one
+-- whether a point of a turn may write a word that tells of a descriptor
 abbrev pub writes_in_block : BlockPoint → Bool
 writes_in_block (block.PopBlock at share a prefix) = true
 writes_in_block (block.StoreInfo at) = true
@@ -50,7 +54,7 @@ writes_told (Desc p o) = writes_in_desc p
 writes_told (Partial p o) = writes_in_partial p
 writes_told p = false
 
--- at all others such a word stays
+-- a word that tells of a descriptor stays at all points of a turn that write none
 pub told-stays :
     (g : Geometry) (caller : ℕ) (p : Point) (v : ℕ) → FitsPoint g caller p → in_turn p ≡ true → writes_told p ≡ false
     → tells (name_of (plan_point_of p)) ≡ true → after_action (plan_point_of p) v ≡ v
@@ -62,18 +66,18 @@ told-stays g caller (Desc p o) v fits turn none told = grind (arith, turn, none,
 told-stays g caller (Partial p o) v fits turn none told = grind (arith, turn, none, fits.goes, told)
 told-stays g caller (Large p o) v fits turn none told = grind (arith, turn)
 
--- how often a descriptor is on its way where a caller goes on, or retired there
+-- how often a descriptor is on its way or retired where a caller goes on
 abbrev pub next_ways : ℕ → Next → ℕ
 next_ways d (At q) = kept_among on_its_way d (holds_of q).kept
 next_ways d (Retire s k o) = if k == d then 1 else 0
 next_ways d n = 0
 
--- the store of a new superblock's anchor, after which its descriptor is out
+-- whether the point is the store of a new superblock's anchor, after which its descriptor is out
 abbrev pub puts_out : Point → Bool
 puts_out (Block (block.StoreAnchor at) o) = true
 puts_out p = false
 
--- at all other points of a turn a descriptor on its way stays so, or is retired
+-- a descriptor on its way stays so, or is retired, at all points of a turn but the store of a new superblock's anchor
 block-ways :
     (g : Geometry) (caller : ℕ) (p : BlockPoint) (o : Continuation) (x : Found) (d : ℕ) → FitsInBlock g caller p o → puts_out (Block p o) ≡ false
     → in_turn (Block p o) ≡ true → kept_among on_its_way d (holds_of (Block p o)).kept ≤ next_ways d (enter_block (settle_block_of p x) o)
@@ -109,7 +113,7 @@ point-ways g caller (Desc p o) x d fits out turn = desc-ways g caller p o x d fi
 point-ways g caller (Partial p o) x d fits out turn = partial-ways g caller p o x d fits turn
 point-ways g caller (Large p o) x d fits out turn = absurd (grind (arith, turn))
 
--- only a won push takes a descriptor off a retired list
+-- whether the point is the push of a retired descriptor, which takes it off a list
 abbrev pub pushes_desc : Point → Bool
 pushes_desc (Desc (desc.PushDesc s d top) o) = true
 pushes_desc p = false
@@ -125,11 +129,11 @@ none-unlisted g caller (Desc p o) x seat k continuation fits turn other is = gri
 none-unlisted g caller (Partial p o) x seat k continuation fits turn other is = grind (arith, is)
 none-unlisted g caller (Large p o) x seat k continuation fits turn other is = grind (arith, turn)
 
--- a point that writes no such word does neither
+-- a point that writes no word which tells of a descriptor neither puts one out nor pushes one
 pub quiet-points : (p : Point) → writes_told p ≡ false → (puts_out p ≡ false) × (pushes_desc p ≡ false)
 quiet-points p none = (grind (arith, none), grind (arith, none))
 
--- the caller is in a turn where it goes on
+-- whether the caller is in a turn where it goes on
 abbrev pub next_turn : Next → Bool
 next_turn (At p) = in_turn p
 next_turn (End r) = false
@@ -147,21 +151,17 @@ next_class (Retire s d o) = s.class
 next_class (Pick s held o) = s.class
 next_class (Unlist s d o) = s.class
 
--- which stays, while the turn does
+-- a turn that goes on after a step in a superblock is at work on the class of the seat there
+entered-class :
+    (n : Onward BlockPoint BlockExit) (o : Continuation) → next_turn (enter_block n o) ≡ true
+    → next_class (enter_block n o) ≡ (told_onward seat_of_block seat_of_block_exit n).class
+entered-class n o turn = grind (arith, turn)
+
+-- the class stays while the turn does: in a superblock, since the seat stays
 block-class :
-    (g : Geometry) (caller : ℕ) (p : BlockPoint) (o : Continuation) (x : Found) → FitsInBlock g caller p o
-    → next_turn (enter_block (settle_block_of p x) o) ≡ true → next_class (enter_block (settle_block_of p x) o) ≡ (seat_of_block p).class
-block-class g caller (block.LoadActive s) o x fits turn = grind (arith, fits, turn)
-block-class g caller (block.TakeCredit s d credits) o x fits turn = grind (arith, fits, turn)
-block-class g caller (block.LoadInfo s d share) o x fits turn = grind (arith, fits, turn)
-block-class g caller (block.LoadAnchor at share) o x fits turn = grind (arith, fits, turn)
-block-class g caller (block.LoadLink at share a) o x fits turn = grind (arith, fits, turn)
-block-class g caller (block.PopBlock at share a prefix) o x fits turn = grind (arith, fits, turn)
-block-class g caller (block.InstallSuperblock at) o x fits turn = grind (arith, fits, turn)
-block-class g caller (block.LinkBlock at i) o x fits turn = grind (arith, fits, turn)
-block-class g caller (block.StoreInfo at) o x fits turn = grind (arith, fits, turn)
-block-class g caller (block.StoreAnchor at) o x fits turn = grind (arith, fits, turn)
-block-class g caller p o x fits turn = grind (arith, fits, turn)
+    (p : BlockPoint) (o : Continuation) (x : Found) → next_turn (enter_block (settle_block_of p x) o) ≡ true
+    → next_class (enter_block (settle_block_of p x) o) ≡ (seat_of_block p).class
+block-class p o x turn = entered-class (settle_block_of p x) o turn ∙ ap (λ s. s.class) (settle-seat p x)
 
 stack-class :
     (g : Geometry) (caller : ℕ) (p : StackPoint) (o : Continuation) (x : Found) → FitsInStack g caller p o
@@ -176,17 +176,7 @@ desc-class g caller p o x fits turn = grind (arith, fits.goes, turn)
 partial-class :
     (g : Geometry) (caller : ℕ) (p : PartialPoint) (o : Continuation) (x : Found) → FitsInPartial g caller p o
     → next_turn (enter_partial (settle_partial_of p x) o) ≡ true → next_class (enter_partial (settle_partial_of p x) o) ≡ (seat_of_partial p).class
-partial-class g caller (partial.LoadSlot s) o x fits turn = grind (arith, fits.goes, turn)
-partial-class g caller (partial.TakeSlot s d) o x fits turn = grind (arith, fits.goes, turn)
-partial-class g caller (partial.LoadTakenInfo s d) o x fits turn = grind (arith, fits.goes, turn)
-partial-class g caller (partial.StoreOwner at) o x fits turn = grind (arith, fits.goes, turn)
-partial-class g caller (partial.LoadGrantAnchor at) o x fits turn = grind (arith, fits.goes, turn)
-partial-class g caller (partial.Grant at a) o x fits turn = grind (arith, fits.goes, turn)
-partial-class g caller (partial.LoadOwner s d) o x fits turn = grind (arith, fits.goes, turn)
-partial-class g caller (partial.PutSlot s d heap) o x fits turn = grind (arith, fits.goes, turn)
-partial-class g caller (partial.LoadHeldSlot s d heap) o x fits turn = grind (arith, fits.goes, turn)
-partial-class g caller (partial.RemoveFromSlot s d heap) o x fits turn = grind (arith, fits.goes, turn)
-partial-class g caller (partial.LoadListedAnchor s d) o x fits turn = grind (arith, fits.goes, turn)
+partial-class g caller p o x fits turn = grind (arith, fits.goes, turn)
 
 large-class :
     (p : LargePoint) (o : Continuation) (x : Found) → next_turn (enter_large (settle_large_of p x) o) ≡ true
@@ -197,7 +187,7 @@ pub point-class :
     (g : Geometry) (caller : ℕ) (p : Point) (x : Found) → FitsPoint g caller p → next_turn (next_of p x) ≡ true → next_class (next_of p x) ≡ class_at p
 unfolding next_of
 point-class g caller Idle x fits turn = refl
-point-class g caller (Block p o) x fits turn = block-class g caller p o x fits turn
+point-class g caller (Block p o) x fits turn = block-class p o x turn
 point-class g caller (Stack p o) x fits turn = stack-class g caller p o x fits turn
 point-class g caller (Desc p o) x fits turn = desc-class g caller p o x fits turn
 point-class g caller (Partial p o) x fits turn = partial-class g caller p o x fits turn

@@ -33,7 +33,7 @@ is_stale_by s word e = same_name e.word word && not (s.word word == e.value)
 abbrev pub is_stale : State → ℕ → WordName → Bool
 is_stale s caller word = list_any (is_stale_by s word) (expects_of (s.errand caller).point)
 
--- how many words of the table are stale for it
+-- how many words of the table are stale for a caller
 abbrev pub stale_words : Geometry → State → ℕ → ℕ
 stale_words g s caller = sum_below (word_count g) (λ k. one_if (is_stale s caller (word_name g k)))
 
@@ -46,11 +46,11 @@ led_from next (suc most) top = if top == 0 then [] else (top - 1) ∷ led_from n
 abbrev pub available_in : Geometry → State → List ℕ
 available_in g s = led_from (next_in s.word Partials) (descriptor_count g) (s.word name.DescHead)
 
--- how often d is available, retired, or on its way from or to there
+-- how often descriptor d is available, retired, or on its way
 abbrev pub away_in : Geometry → State → ℕ → ℕ
 away_in g s d = occurs d (available_in g s) + callers_sum g (errand_away d) s.errand
 
--- 1 where d is none of these, its superblock is EMPTY, and of this class
+-- 1 where descriptor d is not available, retired or on its way, and its superblock is EMPTY and of this class
 abbrev pub empty_for : Geometry → State → ℕ → ℕ → ℕ
 empty_for g s class d = one_if ((away_in g s d == 0) && (is_empty (anchor_for s d).state && ((info_for s d).class == class)))
 
@@ -67,10 +67,10 @@ class_at (Desc p o) = (seat_of_desc p).class
 class_at (Partial p o) = (seat_of_partial p).class
 class_at (Large p o) = 0
 
--- how many empty superblocks it may still clear: in a turn those that are out for its class, else none
+-- how many empty superblocks a caller may still clear: in a turn those that are out for its class, else none
 abbrev pub clearings : Geometry → State → ℕ → ℕ
 clearings g s caller = if in_turn (s.errand caller).point then emptied_for g s (class_at (s.errand caller).point) else 0
 
--- how many steps it makes at most until its call ends, where no other caller moves
+-- how many steps a caller makes at most until its call ends, where no other caller moves
 abbrev pub alone_left : Geometry → State → ℕ → ℕ
 alone_left g s caller = (stale_words g s caller + clearings g s caller) * CALL_STEPS + steps_left g (s.errand caller).point

@@ -20,15 +20,15 @@ use Rattle.errand_steps.specs.declared.point.Point.TheVariants.{Idle, Block, Sta
 use Rattle.errand_steps.specs.Errands.{counts_lost, counts_cleared}
 use Rattle.errand_steps.specs.Steps.{State, found_at}
 
--- a full retired list: every hazard word is read, and a descriptor is pushed
+-- the steps left of a scan of a full retired list: every hazard word is read, and a descriptor is pushed
 abbrev pub scan_left : Geometry → ℕ
 scan_left g = g.callers + 3
 
--- an allocation from the stack of frames on, whose new superblock has so many blocks to link; or it is refused
+-- the steps left of an allocation from the stack of frames on: its new superblock's blocks are linked, or it is refused
 abbrev pub frame_left : Geometry → SeatFields → ℕ
 frame_left g s = block_count_of s.class + 7 + scan_left g
 
--- from the available descriptors on, from the class's list, from the slot, and from the active word
+-- the steps left of an allocation from the available descriptors on, from the class's list, from the slot, and from the active word
 abbrev pub desc_left : Geometry → SeatFields → ℕ
 desc_left g s = frame_left g s + 6
 
@@ -41,24 +41,24 @@ slot_left g s = list_left g s + 1
 abbrev pub active_left : Geometry → SeatFields → ℕ
 active_left g s = slot_left g s + 1
 
--- a free that looks through the class's list, with one popped already, and with none
+-- the steps left of a free that looks through the class's list, with one descriptor popped already, and with none
 abbrev pub second_left : Geometry → ℕ
 second_left g = scan_left g + 10
 
 abbrev pub clear_left : Geometry → ℕ
 clear_left g = second_left g + 4
 
--- a free that made its superblock empty, from the slot on
+-- the steps left of a free that made its superblock empty, from the slot on
 abbrev pub held_left : Geometry → ℕ
 held_left g = clear_left g + 3
 
--- what follows a retirement
+-- the steps left behind a retirement
 abbrev pub resumed_left : Geometry → SeatFields → Continuation → ℕ
 resumed_left g s (continuation.Turn words) = active_left g s
 resumed_left g s (continuation.Look words) = slot_left g s
 resumed_left g s o = 0
 
--- what follows when something is put away
+-- the steps left when something was put away
 abbrev pub put_left : Geometry → SeatFields → Continuation → ℕ
 put_left g s (continuation.GiveBlock words d frame i) = 1
 put_left g s (continuation.Discard words d) = active_left g s + scan_left g
@@ -68,7 +68,7 @@ put_left g s (continuation.PushFirst first) = 3
 put_left g s (continuation.Finish stored) = 1
 put_left g s o = 0
 
--- from the top of a stack on
+-- the steps left from the top of a stack on
 abbrev pub top_left : Geometry → SeatFields → Continuation → ℕ
 top_left g s (continuation.Alloc words) = list_left g s
 top_left g s (continuation.TakeFrame words d) = frame_left g s
@@ -76,7 +76,7 @@ top_left g s continuation.Clear = clear_left g
 top_left g s (continuation.ClearSecond first) = second_left g
 top_left g s o = 3
 
--- in a superblock
+-- the steps left in a superblock
 abbrev pub block_left : Geometry → BlockPoint → ℕ
 block_left g (block.LoadActive s) = active_left g s
 block_left g (block.TakeCredit s d credits) = 7
@@ -99,7 +99,7 @@ block_left g (block.LinkBlock at i) = block_count_of at.seat.class - i + 4
 block_left g (block.StoreInfo at) = 4
 block_left g (block.StoreAnchor at) = 3
 
--- at a stack
+-- the steps left at a stack
 abbrev pub stack_left : Geometry → StackPoint → Continuation → ℕ
 stack_left g (stack.LoadTop s pile) o = top_left g s o
 stack_left g (stack.LoadBelow s pile h) o = top_left g s o - 1
@@ -109,7 +109,7 @@ stack_left g (stack.LoadTopToPush s pile i) o = put_left g s o + 3
 stack_left g (stack.StoreBelow s pile i h) o = put_left g s o + 2
 stack_left g (stack.PushTop s pile i h) o = put_left g s o + 1
 
--- at the descriptors or the hazard words
+-- the steps left behind a hazard word that is cleared, and at the descriptors or the hazard words
 abbrev pub cleared_left : Geometry → Continuation → ℕ
 cleared_left g continuation.Clear = clear_left g
 cleared_left g (continuation.Retire d) = scan_left g
@@ -128,7 +128,7 @@ desc_point_left g (desc.LoadHeadToPush s d) o = resumed_left g s o + 3
 desc_point_left g (desc.StoreNextDesc s d top) o = resumed_left g s o + 2
 desc_point_left g (desc.PushDesc s d top) o = resumed_left g s o + 1
 
--- at a partial superblock
+-- the steps left at a partial superblock
 abbrev pub listed_left : Geometry → Continuation → ℕ
 listed_left g (continuation.ClearSecond first) = scan_left g + 7
 listed_left g o = second_left g + 1
@@ -146,7 +146,7 @@ partial_left g (partial.LoadHeldSlot s d heap) o = held_left g
 partial_left g (partial.RemoveFromSlot s d heap) o = held_left g - 1
 partial_left g (partial.LoadListedAnchor s d) o = listed_left g o
 
--- at a large block, a usable word or a shelf
+-- the steps left at a large block, a usable word or a shelf
 abbrev pub large_left : LargePoint → ℕ
 large_left (large.LoadUnits want) = 3
 large_left (large.TakeRun want bits) = 2
@@ -160,7 +160,7 @@ large_left (large.LoadShelf shelf) = 2
 large_left (large.TakeBlock shelf place need) = 1
 large_left (large.ConfirmNothing shelf) = 1
 
--- at any point; none where the caller is in no call
+-- the steps left at any point; none where the caller is in no call
 unfoldable pub steps_left : Geometry → Point → ℕ
 steps_left g Idle = 0
 steps_left g (Block p o) = block_left g p
@@ -169,7 +169,7 @@ steps_left g (Desc p o) = desc_point_left g p o
 steps_left g (Partial p o) = partial_left g p o
 steps_left g (Large p o) = large_left p
 
--- after a step fewer steps are left, unless it lost or cleared
+-- a step leaves its caller fewer steps, unless it counts as lost or as cleared
 abbrev pub ComesNearer : Geometry → State → ℕ → State → Type 0
 ComesNearer g s caller s' =
     (counts_lost (s.errand caller).point (found_at s caller) ≡ true) ⊎ (counts_cleared (s.errand caller).point (found_at s caller) ≡ true)

@@ -80,7 +80,7 @@ one_command : (words : List (List ℕ)) (a b : Command) → IsCommandLine a word
 one_command words a b of_a of_b =
     sym (command_back a of_a.0) ∙ ap command_by (sym of_a.1 ∙ of_b.1) ∙ command_back b of_b.0
 
--- so one that was found for words is the only one
+-- a command that was found for words is the only one that they name
 pub only_found :
     (words listed : List (List ℕ)) (found : Option Command) → words ≡ listed → IfSome found (λ command. IsCommandLine command listed)
     → (found ≡ None → ¬ IsCommand listed) → (command : Command) → IsCommandLine command words → found ≡ Some command

@@ -38,7 +38,7 @@ brings-each gave most from now [] brings = omega arith
 brings-each gave most from now (count ∷ counts) brings =
     omega (arith, brings.3, brings-each gave most from brings.0 counts brings.1, sum_by-cons (λ n. n) count counts)
 
--- they are one more than the most bytes after which one is made, at the most
+-- the reads that brought bytes are at most one more than the most bytes after which a read is made
 pub brings-few :
     {S : Type 0} (gave : S → ℕ → Result ℕ Failed → S → Type 0) (most : ℕ) (from now : S) (counts : List ℕ) → Brings gave most from counts now
     → length counts ≤ most + 1
@@ -58,7 +58,7 @@ pub on-err : {T E : Type 0} {P : Type 0} (r : Result T E) → P → OnErr r P
 on-err (Ok x) p = tt
 on-err (Err e) p = p
 
--- nothing more was written
+-- a text was written, and nothing more
 pub written-kept : (before middle after : Option (List ℕ)) (bytes : List ℕ) → Appends before middle bytes → Keeps middle after → Appends before after bytes
 written-kept None middle after bytes so_far kept = tt
 written-kept (Some xs) None after bytes so_far kept = absurd so_far

@@ -114,7 +114,7 @@ values_are word more plain = ap (λ (w : Walk). all_of (codes "words") (finished
 pub no_values : all_of (codes "words") (matches_of parser_app []) ≡ None
 no_values = refl
 
--- ---- and it takes one to four of them
+-- ---- the parser takes one to four words
 
 abbrev shape : Shape
 shape = (built parser_app).top
@@ -201,12 +201,12 @@ takes_command (Cache depth) words line plain =
 pub refused : (words : List Text) → NoOptions words → ¬ (takes parser_app words ≡ true) → ¬ IsCommand words
 refused words plain untaken (command, line) = untaken (takes_command command words line plain)
 
--- where the parser finds no value there is no word
+-- there is no word where the parser finds no value
 pub found_none : (words : List Text) → NoOptions words → all_of (codes "words") (matches_of parser_app words) ≡ None → words ≡ []
 found_none [] plain none = refl
 found_none (word ∷ more) plain none = absurd (true≢false (ap is_some (sym (values_are word more plain) ∙ none)))
 
--- the values that it finds are the words
+-- the values that the parser finds are the words
 pub found_some : (words values : List Text) → NoOptions words → all_of (codes "words") (matches_of parser_app words) ≡ Some values → words ≡ values
 found_some [] values plain some = absurd (true≢false (ap is_some (sym some)))
 found_some (word ∷ more) values plain some = ap (λ found. unwrap_or found []) (sym (values_are word more plain) ∙ some)

@@ -41,15 +41,15 @@ words_of (Cache depth) = codes "cache" ∷ decimal depth ∷ []
 abbrev pub IsWorkload : Workload → Type 0
 IsWorkload workload = (workload.size ≤ MAX_SIZE) × (workload.start < 2 ^ 64)
 
--- so are those of a pipeline
+-- the numbers of a pipeline are in their ranges
 abbrev pub IsPiping : Piping → Type 0
 IsPiping piping = (1 ≤ piping.senders) × (piping.senders ≤ 4) × (piping.messages ≤ MAX_MESSAGES) × (piping.start < 2 ^ 64)
 
--- a cache has this depth
+-- a cache may have this depth
 abbrev pub IsDepth : ℕ → Type 0
 IsDepth depth = (1 ≤ depth) × (depth ≤ MAX_DEPTH)
 
--- so are those of a command
+-- the numbers of a command are in their ranges
 abbrev pub HasRanges : Command → Type 0
 HasRanges Replay = Unit {0}
 HasRanges Schedule = Unit {0}
@@ -60,7 +60,7 @@ HasRanges (Pipe piping) = IsPiping piping
 HasRanges (Store rounds) = rounds ≤ MAX_ROUNDS
 HasRanges (Cache depth) = IsDepth depth
 
--- these are the words of the command
+-- these are the words of the command, whose numbers are in their ranges
 abbrev pub IsCommandLine : Command → List (List ℕ) → Type 0
 IsCommandLine command words = HasRanges command × (words ≡ words_of command)
 
@@ -79,7 +79,7 @@ has_input (Pipe piping) = false
 has_input (Store rounds) = false
 has_input (Cache depth) = true
 
--- the word would be an option
+-- the word would be an option: it begins with a hyphen
 abbrev pub begins_with_hyphen : List ℕ → Bool
 begins_with_hyphen [] = false
 begins_with_hyphen (first ∷ rest) = first == 45

@@ -12,7 +12,7 @@ module _ {S : Type 0} (gave : S → ℕ → Result ℕ Failed → S → Type 0) 
   Brings from (count ∷ counts) now =
       (before : S) × Brings from counts before × (sum counts ≤ most) × (0 < count) × gave before BUFFER_BYTES (Ok count) now
 
-  -- so many reads brought bytes, at most `most + 1` of them
+  -- reads brought so many bytes each, and there are at most `most + 1` of them
   abbrev pub TakesFirst : S → List ℕ → S → Type 0
   TakesFirst from counts now = Brings from counts now × (length counts ≤ most + 1)
 

@@ -4,7 +4,7 @@ use Rattle.command_line.specs.declared.status.TheConstants.{READ_FAULT, OUT_OF_M
 use Rattle.command_line.specs.declared.stop.Stop.{Stop}
 use Rattle.command_line.specs.declared.stop.Stop.TheVariants.{Fault, TooMany, OutOfMemory}
 
--- the status of each
+-- the status of each stop
 abbrev pub stop_status : Stop → ℕ
 stop_status Fault = READ_FAULT
 stop_status TooMany = TOO_MANY

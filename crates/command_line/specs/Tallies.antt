@@ -5,7 +5,7 @@ use Rattle.lane_outcomes.specs.declared.outcome.Outcome.{Outcome}
 use Rattle.lane_outcomes.specs.declared.outcome.Outcome.TheVariants as outcome
 use Rattle.command_line.specs.declared.tally.OutcomeTally.{OutcomeTally}
 
--- which outcomes are counted
+-- whether an outcome is of a kind that is counted
 abbrev pub is_given : Outcome → Bool
 is_given (outcome.Given words place) = true
 is_given result = false
@@ -47,7 +47,7 @@ tally_of outcomes =
       summed = count_by is_sum outcomes;
     }
 
--- two tallies together
+-- the sum of two tallies
 abbrev pub sum_of : OutcomeTally → OutcomeTally → OutcomeTally
 sum_of some more =
     record {

@@ -2,7 +2,7 @@
 use Rattle.std.specs.Prelude.{ℕ, ◌≡◌, ◌+◌, ◌<◌, ◌⊎◌, min, Result, is_err, if◌then◌else◌}
 use Rattle.edge_io.specs.declared.faults.TheConstants.{LAST_COUNT}
 
--- the count rose, or it stands at its last value
+-- the count of faults rose, or it stands at its last value
 abbrev pub FaultsRose : ℕ → ℕ → Type 0
 FaultsRose before after = (before < after) ⊎ (after ≡ LAST_COUNT)
 

@@ -22,7 +22,7 @@ GoesOrEnds (Retire s d o) = ⊥
 GoesOrEnds (Pick s held o) = ⊥
 GoesOrEnds (Unlist s d o) = ⊥
 
--- a busy caller's next point is none of an idle one
+-- the next point of a call, if it has one, is none of an idle caller
 abbrev IsOn : Next → Type 0
 IsOn (At p) = is_idle p ≡ false
 IsOn n = Unit {0}

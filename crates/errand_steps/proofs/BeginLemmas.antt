@@ -14,7 +14,7 @@ use Rattle.heap_geometry.proofs.PlaceLemmas.{frame_of-block_place, index_of-bloc
 pub frame_is : (frame class index place : ℕ) → index < block_count_of class → block_place frame class index ≡ place → frame_of place ≡ frame
 frame_is frame class index place within is = ap frame_of (sym is) ∙ frame_of-block_place frame class index within
 
--- its index there
+-- the index of the block at a place in its frame
 pub index_is : (frame class index place : ℕ) → index < block_count_of class → block_place frame class index ≡ place → index_of class place ≡ index
 index_is frame class index place within is = ap (index_of class) (sym is) ∙ index_of-block_place frame class index within
 

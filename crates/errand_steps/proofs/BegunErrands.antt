@@ -26,7 +26,7 @@ use Rattle.errand_steps.proofs.BeginLemmas.{frame_is, index_is}
 pub idle-is : (p : Point) → is_idle p ≡ true → p ≡ Idle
 idle-is p h = grind (arith)
 
--- the rule of an idle errand with another point that needs no list, and as many turns as it may
+-- an idle errand keeps its rule with another point that needs no list, and as many turns as it may have
 with-point :
     (e : ErrandFields) (p : Point) (turns : ℕ) → IsErrand e → IsIdle e → FitsPoint e.geometry e.caller p → spare_of p ≡ 0
     → pushed_by p ≡ None → turns ≤ e.geometry.turn_limit → IsErrand (record e { point = p; turns = turns })
@@ -64,7 +64,7 @@ pub alloc-errand : (e : ErrandFields) (words : ℕ) → IsErrand e → IsIdle e 
 unfolding alloc_begun
 alloc-errand e words h idle = begun-alloc-errand e words (need_of words) refl h idle
 
--- that begins a free
+-- an errand that begins a free keeps its rule
 pub free-errand : (e : ErrandFields) (place : ℕ) (n : Need) → IsHeapBlock e.geometry place n → IsErrand e → IsIdle e → IsErrand (free_begun e place n)
 unfolding free_begun
 free-errand e place (Small class) (needs, (frame, index, has, within, is)) h idle =

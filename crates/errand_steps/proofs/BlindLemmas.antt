@@ -20,13 +20,13 @@ cleared-blind : (p : Point) (name : WordName) (new : ℕ) (x : Found) → plan_p
 unfolding plan_point_of
 cleared-blind p name new x stores = grind (arith)
 
--- the errand that follows
+-- the errand after a store is the same, whatever the store found
 pub errand-blind : (e : ErrandFields) (name : WordName) (new : ℕ) (x y : Found) → plan_of e ≡ Store name new → settle_of e x ≡ settle_of e y
 unfolding settle_of course_of
 errand-blind e name new x y stores =
     rw (next-blind e.point name new x y stores, lost-blind e.point name new x stores, lost-blind e.point name new y stores, cleared-blind e.point name new x stores, cleared-blind e.point name new y stores, stores) refl
 
--- the answer
+-- the answer of a step that stores is the same, whatever the store found
 pub answer-blind : (e : ErrandFields) (name : WordName) (new : ℕ) (x y : Found) → plan_of e ≡ Store name new → answer_of e x ≡ answer_of e y
 unfolding answer_of course_of
 answer-blind e name new x y stores =

@@ -47,7 +47,7 @@ abbrev pub pushed_by_desc_exit : DescExit → Option ℕ
 pushed_by_desc_exit (desc_exit.Pushed s d) = Some d
 pushed_by_desc_exit e = None
 
--- a continuation stands where a step leads
+-- a continuation is one that stands at the point or exit to which a step leads
 abbrev pub GoesOnBlock : Continuation → Onward BlockPoint BlockExit → Type 0
 GoesOnBlock o (Stays p) = IsTrue (goes_block p o)
 GoesOnBlock o (Leaves e) = IsTrue (goes_block_exit e o)
@@ -68,7 +68,7 @@ abbrev pub GoesOnLarge : Continuation → Onward LargePoint LargeExit → Type 0
 GoesOnLarge o (Stays p) = GoesLarge p o
 GoesOnLarge o (Leaves e) = GoesLargeExit e o
 
--- from a superblock
+-- what follows an exit from a superblock may follow a step of the caller
 leaves-block :
     (g : Geometry) (caller : ℕ) (e : BlockExit) (o : Continuation) → IsChecked g → FitsBlockExit g caller e
     → FitsContinuation g caller (seat_of_block_exit e) o → IsTrue (goes_block_exit e o) → Follows g caller 0 None (leave_block e o)
@@ -84,7 +84,7 @@ enters-block g caller (Stays p) o checked h w goes =
     record { fits = record { point = h; continuation = w; goes = goes }; lists = (refl, refl) }
 enters-block g caller (Leaves e) o checked h w goes = leaves-block g caller e o checked h w goes
 
--- from a stack
+-- what follows an exit from a stack may follow a step of the caller
 leaves-stack :
     (g : Geometry) (caller : ℕ) (e : StackExit) (o : Continuation) → FitsStackExit g caller e
     → FitsContinuation g caller (seat_of_stack_exit e) o → IsTrue (goes_stack_exit e o) → Follows g caller 0 None (leave_stack e o)
@@ -99,7 +99,7 @@ enters-stack g caller (Stays p) o h w goes =
     record { fits = record { point = h; continuation = w; goes = goes }; lists = (refl, refl) }
 enters-stack g caller (Leaves e) o h w goes = leaves-stack g caller e o h w goes
 
--- from the descriptors or the hazard words
+-- what follows an exit from the descriptors or the hazard words may follow a step of the caller
 leaves-desc :
     (g : Geometry) (caller : ℕ) (e : DescExit) (o : Continuation) → FitsDescExit g caller e
     → FitsContinuation g caller (seat_of_desc_exit e) o → IsTrue (goes_desc_exit e o)
@@ -115,7 +115,7 @@ enters-desc g caller (Stays p) o h w goes =
     record { fits = record { point = h; continuation = w; goes = goes }; lists = (refl, refl) }
 enters-desc g caller (Leaves e) o h w goes = leaves-desc g caller e o h w goes
 
--- from a partial superblock
+-- what follows an exit from a partial superblock may follow a step of the caller
 leaves-partial :
     (g : Geometry) (caller : ℕ) (e : PartialExit) (o : Continuation) → FitsPartialExit g caller e
     → FitsContinuation g caller (seat_of_partial_exit e) o → IsTrue (goes_partial_exit e o) → Follows g caller 0 None (leave_partial e o)
@@ -130,7 +130,7 @@ enters-partial g caller (Stays p) o h w goes =
     record { fits = record { point = h; continuation = w; goes = goes }; lists = (refl, refl) }
 enters-partial g caller (Leaves e) o h w goes = leaves-partial g caller e o h w goes
 
--- from a large block, a usable word or a shelf
+-- what follows a step on a large block, a usable word or a shelf may follow a step of the caller
 pub enters-large :
     (g : Geometry) (caller : ℕ) (t : Onward LargePoint LargeExit) (o : Continuation) → IsOnward (FitsLarge g) (FitsLargeExit g) t
     → GoesOnLarge o t → Follows g caller 0 None (enter_large t o)

@@ -23,7 +23,7 @@ use Rattle.errand_steps.proofs.NextLemmas.{FitsNext, IsResuming, Follows, follow
 use Rattle.errand_steps.proofs.RetiredLemmas.{without-length, without-all}
 use Rattle.errand_steps.proofs.StepLemmas.{follows-next}
 
--- each of these descriptors is one of the heap's
+-- each descriptor of the list is one of the heap's
 abbrev AreListed : ErrandFields → List ℕ → Type 0
 AreListed e ds = All (λ d. d < descriptor_count e.geometry) ds
 
@@ -31,7 +31,7 @@ AreListed e ds = All (λ d. d < descriptor_count e.geometry) ds
 abbrev FollowsIn : ErrandFields → Next → Type 0
 FollowsIn e n = Follows e.geometry e.caller (spare_of e.point) (pushed_by e.point) n
 
--- what follows when the list is changed to this one
+-- what follows goes with a retired list that is changed to this one
 pub record Stands (e : ErrandFields) (ds : List ℕ) (n : Next) : Type 0 where
   pub fits : FitsNext e.geometry e.caller n
   pub room : length ds ≤ e.geometry.callers + spare_of (point_after n)
@@ -47,17 +47,17 @@ listable-at e (Retire s d o) h f = omega (arith, h.room, f.lists, h.geometry.cal
 listable-at e (Pick s held o) h f = tt
 listable-at e (Unlist s d o) h f = subst (λ o. IfSome o (λ k. Contains e.retired k)) f.lists h.pushed
 
--- there is never more than one spare entry
+-- no point has more than one spare entry of the retired list
 spare-most : (p : Point) → spare_of p ≤ 1
 spare-most p = grind (arith)
 
--- a list with no spare entry goes with what follows then
+-- a retired list without a spare entry goes with what follows where that needs none
 stands-of :
     (e : ErrandFields) (ds : List ℕ) (n : Next) → Follows e.geometry e.caller 0 None n → length ds ≤ e.geometry.callers
     → AreListed e ds → Stands e ds n
 stands-of e ds n f room listed = grind (arith)
 
--- one more entry
+-- the retired list with one more entry goes with what follows a retirement
 stands-added :
     (e : ErrandFields) (s : SeatFields) (d : ℕ) (o : Continuation) → IsErrand e → FollowsIn e (Retire s d o)
     → Stands e (e.retired ++ d ∷ []) (after_list e (Retire s d o))
@@ -80,7 +80,7 @@ stands-added e s d o h f =
     (λ few. stands-of e (e.retired ++ d ∷ []) (resumed s o) (follows-resumed e.geometry e.caller s o f.fits.1)
     (omega (arith, longer, leb-false e.geometry.callers (length e.retired) few)) listed)
 
--- the picked one
+-- the retired list goes with the push of the descriptor that is picked, or with the point as it was
 stands-picked :
     (e : ErrandFields) (s : SeatFields) (held : List ℕ) (o : Continuation) (r : Option ℕ) → IsErrand e
     → IsResuming e.geometry e.caller s o → first_unheld held e.retired ≡ r → Stands e e.retired (picked e s o r)
@@ -98,7 +98,7 @@ stands-picked e s held o (Some d) h w is =
       listed = h.listed;
     }
 
--- one entry less
+-- the retired list with one entry less goes with how the call goes on
 stands-removed :
     (e : ErrandFields) (s : SeatFields) (d : ℕ) (o : Continuation) → IsErrand e → FollowsIn e (Unlist s d o)
     → Stands e (without d e.retired) (resumed s o)
@@ -108,7 +108,7 @@ stands-removed e s d o h f =
     (omega (arith, without-length d e.retired has, h.room, spare-most e.point))
     (without-all (λ k. k < descriptor_count e.geometry) d e.retired h.listed)
 
--- the list's part
+-- the retired list after a step goes with what follows by its part in it
 stands-after_list : (e : ErrandFields) (n : Next) → IsErrand e → FollowsIn e n → Stands e (list_after e.retired n) (after_list e n)
 stands-after_list e (At p) h f = record {
   fits = f.fits;
@@ -123,7 +123,7 @@ stands-after_list e (Retire s d o) h f = stands-added e s d o h f
 stands-after_list e (Pick s held o) h f = stands-picked e s held o (first_unheld held e.retired) h f.fits refl
 stands-after_list e (Unlist s d o) h f = stands-removed e s d o h f
 
--- the turn limit's part
+-- the retired list goes with what follows by the turn limit's part in it
 stands-after_turn : (e : ErrandFields) (ds : List ℕ) (n : Next) → Stands e ds n → Stands e ds (after_turn e n)
 stands-after_turn e ds n h = grind (arith)
 
@@ -158,18 +158,18 @@ led_errand e x h word =
       turns = turns-within e listed h.turns;
     }
 
--- it holds whatever the counts are
+-- an errand's rule holds whatever the counts are
 pub counted_errand :
     (e : ErrandFields) (won lost cleared : ℕ) → IsErrand e → IsErrand (record e { won = won; lost = lost; cleared = cleared })
 counted_errand e won lost cleared h =
     record { geometry = h.geometry; caller = h.caller; point = h.point; listed = h.listed; room = h.room; pushed = h.pushed; turns = h.turns }
 
--- it holds after a step
+-- an errand's rule holds after a step
 pub settle_errand : (e : ErrandFields) (x : Found) → IsErrand e → x.value < 2 ^ 64 → IsErrand (settle_of e x)
 unfolding settle_of course_of
 settle_errand e x h word = counted_errand (led_by e (next_of e.point x)) _ _ _ (led_errand e x h word)
 
--- what equals the errand after a step keeps the rule
+-- an errand that equals the errand after a step keeps the rule
 pub settled_errand :
     (e f : ErrandFields) (x : Found) → IsErrand e → x.value < 2 ^ 64 → f ≡ settle_of e x → IsErrand f
 settled_errand e f x h word is = subst IsErrand (sym is) (settle_errand e x h word)

@@ -31,7 +31,7 @@ use Rattle.errand_steps.specs.Fits.{FitsInBlock, FitsInLarge, FitsPoint}
 use Rattle.errand_steps.specs.Points.{asked}
 use Rattle.errand_steps.proofs.ContinuationLemmas.{alloc-asked, run-asked}
 
--- where an event gives a block, the block is one of this heap's
+-- the block that an event gives, if it gives one, is one of this heap's
 abbrev Gives : Geometry → Option Event → Type 0
 Gives g None = Unit {0}
 Gives g (Some (Alloc caller words place)) = IsHeapBlock g place (need_of words)
@@ -43,7 +43,7 @@ Gives g (Some (Put caller place shelf)) = Unit {0}
 Gives g (Some (Take caller shelf place)) = Unit {0}
 Gives g (Some (TakeNone caller shelf)) = Unit {0}
 
--- a block of a superblock at hand
+-- an event that gives a block of a superblock at hand gives one of this heap's
 gives-block :
     (g : Geometry) (caller : ℕ) (at : Site) (i words : ℕ) → IsSiteOf g caller at → i < block_count_of at.seat.class
     → need_of words ≡ need.Small at.seat.class → IsHeapBlock g (block_place at.frame at.seat.class i) (need_of words)
@@ -51,7 +51,7 @@ gives-block g caller at i words site within is =
     subst (λ n. IsHeapBlock g (block_place at.frame at.seat.class i) n) (sym is)
     (site.seat.class, (at.frame, i, site.frame, within, refl))
 
--- a run
+-- an event that gives a run gives one of this heap's
 gives-run :
     (g : Geometry) (caller words : ℕ) (w : WantFields) (bits : ℕ) (r : Option ℕ) → IsWantOf g w → need_of words ≡ need.Large w.units
     → IsFirstRun bits w.geometry.units w.units r → Gives g (Some (run_event caller words w r))
@@ -68,46 +68,20 @@ gives-run g caller words w bits (Some first) h is lowest =
     )
 
 gives-in_block : (g : Geometry) (caller : ℕ) (p : BlockPoint) (o : Continuation) → FitsInBlock g caller p o → Gives g (block_event caller (asked o) p)
-gives-in_block g caller (block.LoadActive s) o h = tt
-gives-in_block g caller (block.TakeCredit s d credits) o h = tt
-gives-in_block g caller (block.LoadInfo s d share) o h = tt
-gives-in_block g caller (block.LoadAnchor at share) o h = tt
-gives-in_block g caller (block.LoadLink at share a) o h = tt
 gives-in_block g caller (block.PopBlock at share a prefix) o h =
     gives-block g caller at a.avail (asked o) h.point.site h.point.anchor.avail (alloc-asked g caller at.seat o h.goes h.continuation)
-gives-in_block g caller (block.StorePrefix at i) o h = tt
-gives-in_block g caller (block.InstallCredits at i more) o h = tt
 gives-in_block g caller (block.InstallSuperblock at) o h =
     gives-block g caller at 0 (asked o) h.point (omega (arith, block_count_of-least at.seat.class h.point.seat.class))
     (alloc-asked g caller at.seat o h.goes h.continuation)
-gives-in_block g caller (block.LoadReturn at i more) o h = tt
-gives-in_block g caller (block.ReturnCredits at i more a) o h = tt
-gives-in_block g caller (block.LoadPrefix s frame i) o h = tt
-gives-in_block g caller (block.LoadPushAnchor at i stored) o h = tt
-gives-in_block g caller (block.StoreGuard at i a) o h = tt
-gives-in_block g caller (block.LoadOwner at i a) o h = tt
-gives-in_block g caller (block.StoreLink at i a stored heap) o h = tt
-gives-in_block g caller (block.PushBlock at i a stored heap) o h = tt
-gives-in_block g caller (block.LinkBlock at i) o h = tt
-gives-in_block g caller (block.StoreInfo at) o h = tt
-gives-in_block g caller (block.StoreAnchor at) o h = tt
+gives-in_block g caller p o h = tt
 
 gives-in_stack : (g : Geometry) (caller words : ℕ) (p : StackPoint) → Gives g (stack_event caller words p)
 gives-in_stack g caller words p = grind (arith)
 
 gives-in_large : (g : Geometry) (caller : ℕ) (p : LargePoint) (o : Continuation) → FitsInLarge g p o → Gives g (large_event caller (asked o) p)
-gives-in_large g caller (large.LoadUnits w) o h = tt
 gives-in_large g caller (large.TakeRun w bits) o h =
     gives-run g caller (asked o) w bits (first_wanted w bits) h.point (run-asked w.units o h.goes) (first_run-exact bits w.geometry.units w.units)
-gives-in_large g caller (large.StoreRunPrefix place run) o h = tt
-gives-in_large g caller (large.LoadRunPrefix place run) o h = tt
-gives-in_large g caller (large.FreeRun place run) o h = tt
-gives-in_large g caller (large.StoreWord place i value) o h = tt
-gives-in_large g caller (large.LoadWord place i) o h = tt
-gives-in_large g caller (large.PutBlock shelf place block) o h = tt
-gives-in_large g caller (large.LoadShelf shelf) o h = tt
-gives-in_large g caller (large.TakeBlock shelf place block) o h = tt
-gives-in_large g caller (large.ConfirmNothing shelf) o h = tt
+gives-in_large g caller p o h = tt
 
 gives-won : (g : Geometry) (caller : ℕ) (p : Point) → FitsPoint g caller p → Gives g (won_event caller p)
 gives-won g caller Idle h = tt

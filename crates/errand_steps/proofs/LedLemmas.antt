@@ -18,7 +18,7 @@ use Rattle.errand_steps.proofs.ErrandLemmas.{counted_errand, led_errand}
 abbrev counted : ErrandFields → ℕ → ℕ → ℕ → ErrandFields
 counted e won lost cleared = record e { won = won; lost = lost; cleared = cleared }
 
--- the counts have no part in what follows
+-- the counts of an errand have no part in what follows
 picked-counted :
     (e : ErrandFields) (s : SeatFields) (o : Continuation) (r : Option ℕ) (won lost cleared : ℕ)
     → picked (counted e won lost cleared) s o r ≡ picked e s o r
@@ -66,7 +66,7 @@ pub led_rule :
 led_rule e x n p won lost cleared h word is at =
     rw (is, at) (led_errand (counted e won lost cleared) x (counted_errand e won lost cleared h) word)
 
--- it is the errand after the step
+-- an errand that is led with the counts that the step raised is the errand after the step
 pub led_settles :
     (e : ErrandFields) (x : Found) (n : Next) (p : Point) (action : Action) (won lost cleared : ℕ) → n ≡ next_of e.point x
     → p ≡ e.point → action ≡ plan_of e → won ≡ raised (counts_won action x) e.won → lost ≡ raised (counts_lost e.point x) e.lost
@@ -76,7 +76,7 @@ unfolding settle_of course_of
 led_settles e x n p action won lost cleared is at planned is_won is_lost is_cleared =
     rw (at, by-counted e n won lost cleared, is, is_won, is_lost, is_cleared, planned) refl
 
--- what a step answers that ends its call; one that goes on
+-- the answer of a step that ends its call; of one that goes on
 told-ends : (n : Next) (r : Reply) (lost cleared : Bool) → ended_by n ≡ Some r → told n lost cleared ≡ Done r
 told-ends n r lost cleared ends = grind (arith)
 

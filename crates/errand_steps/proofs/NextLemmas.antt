@@ -17,13 +17,13 @@ use Rattle.errand_steps.specs.Fits.{FitsContinuation, FitsPoint, IsSmallFor, spa
 use Rattle.errand_steps.specs.Nexts.{finish, put_away, found_empty, confirmed_empty, popped, cleared, listed_empty, listed_partial, resumed}
 use Rattle.errand_steps.specs.Continuations.{resumes, pops, confirms, clears, is_clearing}
 
--- the call of this caller may go on so after a retirement
+-- the call of this caller may go on with the continuation after a retirement
 pub record IsResuming (g : Geometry) (caller : ℕ) (s : SeatFields) (o : Continuation) : Type 0 where
   pub seat : IsSeatOf g caller s
   pub continuation : FitsContinuation g caller s o
   pub goes : IsTrue (resumes o)
 
--- everything in it exists in this heap
+-- everything in what follows exists in this heap
 abbrev pub FitsNext : Geometry → ℕ → Next → Type 0
 FitsNext g caller (At p) = FitsPoint g caller p
 FitsNext g caller (End r) = Unit {0}
@@ -32,7 +32,7 @@ FitsNext g caller (Retire s d o) = (d < descriptor_count g) × IsResuming g call
 FitsNext g caller (Pick s held o) = IsResuming g caller s o
 FitsNext g caller (Unlist s d o) = IsResuming g caller s o
 
--- it goes with a list that has this many spare entries and of which this one is pushed
+-- what follows goes with a list that has this many spare entries and of which this one is pushed
 abbrev pub ListsNext : ℕ → Option ℕ → Next → Type 0
 ListsNext spare pushed (At p) = (spare_of p ≡ spare) × (pushed_by p ≡ pushed)
 ListsNext spare pushed (End r) = spare ≡ 0
@@ -41,7 +41,7 @@ ListsNext spare pushed (Retire s d o) = spare ≡ 0
 ListsNext spare pushed (Pick s held o) = Unit {0}
 ListsNext spare pushed (Unlist s d o) = pushed ≡ Some d
 
--- it may follow a step of this caller
+-- what follows is such as may follow a step of this caller
 pub record Follows (g : Geometry) (caller spare : ℕ) (pushed : Option ℕ) (n : Next) : Type 0 where
   pub fits : FitsNext g caller n
   pub lists : ListsNext spare pushed n

@@ -13,7 +13,7 @@ use Rattle.errand_steps.specs.Begins.{alloc_answer, begins_with}
 use Rattle.errand_steps.specs.Errands.{ErrandFields, after_list, after_turn, answer_of, begins_turn, counts_lost, counts_cleared, course_of, is_spent, raised, settle_of, told}
 use Rattle.errand_steps.specs.Nexts.{next_of}
 
--- only the turn limit ends a call so
+-- what follows is no end of the call for want of a turn
 abbrev IsNotSpent : Next → Type 0
 IsNotSpent (End Spent) = ⊥
 IsNotSpent n = Unit {0}
@@ -34,7 +34,7 @@ told-spent n lost cleared is = grind (arith)
 at-limit : (e : ErrandFields) → is_spent e ≡ true → e.turns ≡ e.geometry.turn_limit
 at-limit e spent = grind (arith)
 
--- an allocation that ends so
+-- a step that ends its call for want of a turn finds the caller's turns at the limit, and leaves them there
 pub ends-spent :
     (e : ErrandFields) (x : Found) → answer_of e x ≡ Done Spent
     → (e.turns ≡ e.geometry.turn_limit) × ((settle_of e x).turns ≡ e.geometry.turn_limit)
@@ -45,7 +45,7 @@ ends-spent e x is =
     let spent = turn-spent e listed (list-not_spent e (next_of e.point x) (next-not_spent e.point x)) ends in
     (at-limit e spent.0, ap (λ b. raised b e.turns) spent.1 ∙ at-limit e spent.0)
 
--- one that doesn't begin
+-- an allocation that doesn't begin for want of a turn is one of a caller that has none left
 begins-spent : (e : ErrandFields) (need : Need) → begins_with e need ≡ begun.Spent → is_spent e ≡ true
 begins-spent e need is = grind (arith)
 

@@ -1,5 +1,5 @@
 -- The errand after a step, by where it leads.
-use Rattle.std.proofs.Common.{ℕ, Option, Some, true, ◌≡◌, ap, refl, sym, arith}
+use Rattle.std.proofs.Common.{ℕ, Option, Some, None, if◌then◌else◌, ◌≡◌, ap, refl, sym, arith}
 use Rattle.word_table.specs.declared.action.Action.{Action}
 use Rattle.word_table.specs.declared.action.Found.{Found}
 use Rattle.word_table.specs.declared.onward.Onward.{Onward}
@@ -8,7 +8,7 @@ use Rattle.stack_parts.specs.declared.exit.StackExit.{StackExit}
 use Rattle.stack_parts.specs.declared.point.StackPoint.{StackPoint}
 use Rattle.large_parts.specs.declared.exit.LargeExit.{LargeExit}
 use Rattle.large_parts.specs.declared.point.LargePoint.{LargePoint}
-use Rattle.large_parts.specs.Points.{settle_large_of}
+use Rattle.large_parts.specs.Points.{is_on_word, settle_large_of}
 use Rattle.partial_parts.specs.declared.exit.PartialExit.{PartialExit}
 use Rattle.partial_parts.specs.declared.point.PartialPoint.{PartialPoint}
 use Rattle.errand_steps.specs.declared.continuation.Continuation.{Continuation}
@@ -17,7 +17,7 @@ use Rattle.errand_steps.specs.declared.point.Point.{Point}
 use Rattle.errand_steps.specs.declared.point.Point.TheVariants.{Idle, Large}
 use Rattle.errand_steps.specs.declared.reply.Progress.TheVariants.{Done}
 use Rattle.errand_steps.specs.declared.reply.Reply.{Reply}
-use Rattle.errand_steps.specs.Errands.{ErrandFields, plan_of, settle_of, course_of, answer_of, counts_won, counts_lost, counts_cleared, raised, going_on, is_on_word, EndsUncounted}
+use Rattle.errand_steps.specs.Errands.{ErrandFields, plan_of, settle_of, course_of, answer_of, counts_won, counts_lost, counts_cleared, raised, going_on, EndsUncounted}
 use Rattle.errand_steps.specs.Points.{plan_point_of}
 use Rattle.errand_steps.specs.Nexts.{next_of, enter_partial, enter_stack, leave_large, leave_partial, leave_stack}
 
@@ -31,7 +31,7 @@ unfolding settle_of course_of
 stayed_errand e x p action won lost cleared at planned is_won is_lost is_cleared =
     rw (at, is_won, is_lost, is_cleared, planned) refl
 
--- what such a step answers
+-- what a step answers after which the caller stands at a point of its part
 pub stayed_answer :
     (e : ErrandFields) (x : Found) (p : Point) → next_of e.point x ≡ At p
     → answer_of e x ≡ going_on (counts_lost e.point x) (counts_cleared e.point x)
@@ -48,17 +48,18 @@ unfolding settle_of course_of
 ended_errand e x r action won lost cleared ends planned is_won is_lost is_cleared =
     rw (ends, is_won, is_lost, is_cleared, planned) refl
 
--- what such a step answers
+-- what a step answers that ends its call
 pub ended_answer : (e : ErrandFields) (x : Found) (r : Reply) → next_of e.point x ≡ End r → answer_of e x ≡ Done r
 unfolding answer_of course_of
 ended_answer e x r ends = rw (ends) refl
 
 -- a step on a usable word ends its call, and no count rises
 pub word_ends :
-    (p : LargePoint) (o : Continuation) (x : Found) (q : Option LargeExit) (e : LargeExit) (r : Reply) → is_on_word p ≡ true
-    → q ≡ exit_by (settle_large_of p x) → q ≡ Some e → leave_large e o ≡ End r → EndsUncounted (Large p o) x r
+    (p : LargePoint) (o : Continuation) (x : Found) (q : Option LargeExit) (e : LargeExit) (r : Reply)
+    → q ≡ (if is_on_word p then exit_by (settle_large_of p x) else None) → q ≡ Some e → leave_large e o ≡ End r
+    → EndsUncounted (Large p o) x r
 unfolding plan_point_of next_of
-word_ends p o x q e r on exit some ends = grind (arith)
+word_ends p o x q e r exit some ends = grind (arith)
 
 -- the errand after a step that ends its call on a usable word: no count rises
 pub uncounted_errand :

@@ -17,7 +17,7 @@ use Rattle.errand_steps.specs.declared.reply.Begun.TheVariants as begun
 use Rattle.errand_steps.specs.Errands.{ErrandFields, is_spent, one_more}
 use Rattle.errand_steps.specs.Points.{is_idle}
 
--- the caller is in no call; it is in one
+-- the caller is in no call; the caller is in one
 abbrev pub IsIdle : ErrandFields → Type 0
 IsIdle e = is_idle e.point ≡ true
 
@@ -45,7 +45,7 @@ begins_alloc e words TooLarge = e
 unfoldable pub alloc_begun : ErrandFields → ℕ → ErrandFields
 alloc_begun e words = begins_alloc e words (need_of words)
 
--- what that answers
+-- the answer with which an allocation of a need begins, or doesn't
 abbrev pub begins_with : ErrandFields → Need → Begun
 begins_with e (Small class) = if is_spent e then begun.Spent else begun.Started
 begins_with e (Large units) = begun.Started
@@ -54,7 +54,7 @@ begins_with e TooLarge = begun.TooLarge
 abbrev pub alloc_answer : ErrandFields → ℕ → Begun
 alloc_answer e words = begins_with e (need_of words)
 
--- where the free of a block begins
+-- the point at which the free of a block begins
 abbrev pub free_point : ErrandFields → ℕ → Need → Point
 free_point e place (Small class) = point.Block (LoadPrefix (seat_of e class) (frame_of place) (index_of class place)) Free
 free_point e place (Large units) =

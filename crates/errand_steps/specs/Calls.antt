@@ -13,7 +13,7 @@ pub data Call : Type 0 where
   put : (place : ℕ) (need : Need) (shelf : ℕ) → Call
   take : (shelf : ℕ) → Call
 
--- the errand of a caller that begins it
+-- the errand of a caller that begins a call
 abbrev pub begun_by : ErrandFields → Call → ErrandFields
 begun_by e (alloc words) = alloc_begun e words
 begun_by e (free place need) = free_begun e place need

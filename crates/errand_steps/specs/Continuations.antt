@@ -27,7 +27,7 @@ use Rattle.large_parts.specs.declared.exit.LargeExit.TheVariants as large_exit
 use Rattle.errand_steps.specs.declared.continuation.Continuation.{Continuation}
 use Rattle.errand_steps.specs.declared.continuation.Continuation.TheVariants.{Alloc, TakeFrame, GiveBlock, Discard, Turn, Look, Refuse, Free, Remove, Clear, ClearSecond, Retire, PushFirst, Finish, EndFree, Nothing}
 
--- the continuation is that of an allocation at work in a superblock; of a free there
+-- the continuation is that of an allocation at work in a superblock; that of a free at work there
 abbrev pub is_alloc : Continuation → Bool
 is_alloc (Alloc words) = true
 is_alloc o = false
@@ -36,7 +36,7 @@ abbrev pub is_free : Continuation → Bool
 is_free Free = true
 is_free o = false
 
--- those at a pop from a stack; an allocation and a clearing pop partial superblocks
+-- the continuations at a pop from a stack; an allocation and a clearing pop partial superblocks
 abbrev pub pops : Pile → Continuation → Bool
 pops Frames (TakeFrame words d) = true
 pops Frames o = false
@@ -45,14 +45,14 @@ pops Partials Clear = true
 pops Partials (ClearSecond first) = true
 pops Partials o = false
 
--- those at the step that confirms that a stack is empty
+-- the continuations at the step that confirms that a stack is empty
 abbrev pub confirms : Pile → Continuation → Bool
 confirms Frames (TakeFrame words d) = true
 confirms Frames o = false
 confirms Partials (Alloc words) = true
 confirms Partials o = false
 
--- those at a push
+-- the continuations at a push onto a stack
 abbrev pub pushes : Pile → Continuation → Bool
 pushes Frames (Discard words d) = true
 pushes Frames (Remove d heap) = true
@@ -64,14 +64,14 @@ pushes Partials (Retire d) = true
 pushes Partials (PushFirst first) = true
 pushes Partials o = false
 
--- those at the end of a free, which clears its hazard word
+-- the continuations at the end of a free, which clears its hazard word
 abbrev pub clears : Continuation → Bool
 clears Clear = true
 clears (Retire d) = true
 clears EndFree = true
 clears o = false
 
--- those after a retirement
+-- the continuations after a retirement
 abbrev pub resumes : Continuation → Bool
 resumes (Turn words) = true
 resumes (Look words) = true
@@ -79,7 +79,7 @@ resumes Refuse = true
 resumes EndFree = true
 resumes o = false
 
--- those where a superblock is put into a slot, and where its owner is looked for
+-- the continuations where a superblock is put into a slot; where its owner is looked for
 abbrev pub fills : Continuation → Bool
 fills (GiveBlock words d frame i) = true
 fills (Finish stored) = true
@@ -89,7 +89,7 @@ abbrev pub is_finish : Continuation → Bool
 is_finish (Finish stored) = true
 is_finish o = false
 
--- those of a clearing
+-- the continuations of a clearing
 abbrev pub is_clearing : Continuation → Bool
 is_clearing Clear = true
 is_clearing (ClearSecond first) = true
@@ -111,7 +111,7 @@ goes_block_exit (block_exit.BecamePartial at stored) o = is_free o
 goes_block_exit (block_exit.Pushed s stored) o = is_free o
 goes_block_exit e o = is_alloc o
 
--- at a point of a stack; at an exit
+-- the continuations that stand at a point of a stack; at an exit
 abbrev pub goes_stack : StackPoint → Continuation → Bool
 goes_stack (stack.LoadTop s pile) o = pops pile o
 goes_stack (stack.LoadBelow s pile h) o = pops pile o
@@ -127,7 +127,7 @@ goes_stack_exit (stack_exit.FoundEmpty s pile h) o = pops pile o
 goes_stack_exit (stack_exit.ConfirmedEmpty s pile) o = confirms pile o
 goes_stack_exit (stack_exit.Pushed s pile) o = pushes pile o
 
--- at a point of the descriptors or the hazard words; at an exit
+-- the continuations that stand at a point of the descriptors or the hazard words; at an exit
 abbrev pub goes_desc : DescPoint → Continuation → Bool
 goes_desc (desc.ClearHazard s) o = clears o
 goes_desc (desc.ReadHazard s held at) o = resumes o
@@ -142,7 +142,7 @@ goes_desc_exit (desc_exit.Cleared s) o = clears o
 goes_desc_exit (desc_exit.Scanned s held) o = resumes o
 goes_desc_exit (desc_exit.Pushed s d) o = resumes o
 
--- at a point of a partial superblock; at an exit
+-- the continuations that stand at a point of a partial superblock; at an exit
 abbrev pub goes_partial : PartialPoint → Continuation → Bool
 goes_partial (partial.LoadOwner s d) o = is_finish o
 goes_partial (partial.PutSlot s d heap) o = fills o
@@ -169,7 +169,7 @@ abbrev pub is_last : Continuation → Bool
 is_last Nothing = true
 is_last o = false
 
--- at a point of a large block, a usable word or a shelf; at an exit
+-- the continuations that stand at a point of a large block, a usable word or a shelf; at an exit
 abbrev pub GoesLarge : LargePoint → Continuation → Type 0
 GoesLarge (large.LoadUnits w) o = IsRunFor w.units o
 GoesLarge (large.TakeRun w bits) o = IsRunFor w.units o

@@ -14,7 +14,6 @@ use Rattle.hazard_parts.specs.declared.point.DescPoint.TheVariants as desc
 use Rattle.hazard_parts.specs.Retired.{first_unheld, without}
 use Rattle.partial_parts.specs.declared.point.PartialPoint.TheVariants as partial
 use Rattle.partial_parts.specs.Grants.{is_empty}
-use Rattle.large_parts.specs.declared.point.LargePoint.{LargePoint}
 use Rattle.large_parts.specs.declared.point.LargePoint.TheVariants as large
 use Rattle.errand_steps.specs.declared.continuation.Continuation.{Continuation}
 use Rattle.errand_steps.specs.declared.continuation.Continuation.TheVariants as continuation
@@ -30,7 +29,7 @@ use Rattle.errand_steps.specs.Fits.{FitsPoint, spare_of, pushed_by}
 use Rattle.errand_steps.specs.Nexts.{next_of, resumed}
 use Rattle.errand_steps.specs.Points.{plan_point_of}
 
--- one caller's state between two steps
+-- a caller's state between two steps
 pub record ErrandFields : Type 0 where
   pub caller : ℕ
   pub geometry : Geometry
@@ -68,7 +67,7 @@ no_words = replicate HELD_MOST 0
 abbrev pub is_spent : ErrandFields → Bool
 is_spent e = e.turns == e.geometry.turn_limit
 
--- one more entry, and the list has more than the heap has callers: the hazard words are read
+-- the retired list with one more entry has more than the heap has callers, so that the hazard words are read
 abbrev pub is_full : ErrandFields → Bool
 is_full e = nat_le e.geometry.callers (length e.retired)
 
@@ -90,7 +89,7 @@ after_list e (Unlist s d o) = resumed s o
 abbrev pub turned : ErrandFields → SeatFields → ℕ → Next
 turned e s need = if is_spent e then End reply.Spent else At (Block (block.LoadActive s) (continuation.Alloc need))
 
--- the turn limit's part
+-- the turn limit's part in what follows
 abbrev pub after_turn : ErrandFields → Next → Next
 after_turn e (At p) = At p
 after_turn e (End r) = End r
@@ -103,24 +102,24 @@ after_turn e (Unlist s d o) = Unlist s d o
 unfoldable pub course_of : ErrandFields → Found → Next
 course_of e x = after_turn e (after_list e (next_of e.point x))
 
--- the point after that: a caller whose call has ended is idle
+-- the point after what follows: a caller whose call has ended is idle
 abbrev pub point_after : Next → Point
 point_after (At p) = p
 point_after n = Idle
 
--- the retired list after that
+-- the retired list after a step, by what follows
 abbrev pub list_after : List ℕ → Next → List ℕ
 list_after ds (Retire s d o) = ds ++ d ∷ []
 list_after ds (Unlist s d o) = without d ds
 list_after ds n = ds
 
--- the list has room for what that adds, and has what it takes off
+-- the retired list has room for what a step adds, and has what it takes off
 abbrev pub IsListable : List ℕ → Next → Type 0
 IsListable ds (Retire s d o) = length ds < RETIRED_MOST
 IsListable ds (Unlist s d o) = Contains ds d
 IsListable ds n = Unit {0}
 
--- a turn begins
+-- whether a turn begins in what follows
 abbrev pub begins_turn : ErrandFields → Next → Bool
 begins_turn e (Turn s need) = not (is_spent e)
 begins_turn e n = false
@@ -132,11 +131,11 @@ one_more n = min (n + 1) 18446744073709551615
 abbrev pub raised : Bool → ℕ → ℕ
 raised rises n = if rises then one_more n else n
 
--- where what follows leads, by the retired list and the turn limit
+-- what follows a step, by the retired list and the turn limit
 abbrev pub led_to : ErrandFields → Next → Next
 led_to e n = after_turn e (after_list e n)
 
--- the errand there, with the counts that it had
+-- the errand after what follows, with the counts that it had
 abbrev pub led_by : ErrandFields → Next → ErrandFields
 led_by e n =
     record e {
@@ -145,7 +144,7 @@ led_by e n =
       turns = raised (begins_turn e (after_list e n)) e.turns;
     }
 
--- the reply with which the call ends there
+-- the reply with which what follows ends the call, if it does
 abbrev pub ended_by : Next → Option Reply
 ended_by (End r) = Some r
 ended_by n = None
@@ -173,12 +172,6 @@ counts_lost p x = is_lost_exchange (plan_point_of p) x
 abbrev pub counts_cleared : Point → Found → Bool
 counts_cleared (Partial (partial.LoadGrantAnchor at) o) x = is_empty (anchor_of x.value).state
 counts_cleared p x = false
-
--- the step is on a usable word
-abbrev pub is_on_word : LargePoint → Bool
-is_on_word (large.StoreWord place i value) = true
-is_on_word (large.LoadWord place i) = true
-is_on_word p = false
 
 -- the step ends the call with this reply, and raises no count
 pub record EndsUncounted (p : Point) (x : Found) (r : Reply) : Type 0 where

@@ -25,7 +25,7 @@ block_event caller need (InstallSuperblock at) = Some (Alloc caller need (block_
 block_event caller need (PushBlock at i a stored heap) = Some (Free caller (block_place at.frame at.seat.class i))
 block_event caller need p = None
 
--- that there is no partial superblock is a look that found none; that there is no frame is a refusal
+-- the event of an empty stack: without partial superblocks a look that found none, without frames a refusal
 abbrev pub empty_event : ℕ → ℕ → Pile → ℕ → Event
 empty_event caller need Frames class = Refuse caller need
 empty_event caller need Partials class = Looked caller class
@@ -34,7 +34,7 @@ abbrev pub stack_event : ℕ → ℕ → StackPoint → Option Event
 stack_event caller need (ConfirmEmpty s pile h) = Some (empty_event caller need pile s.class)
 stack_event caller need p = None
 
--- a run is given, where there is one
+-- the event of a look for a run: it is given where there is one, else refused
 abbrev pub run_event : ℕ → ℕ → WantFields → Option ℕ → Event
 run_event caller need w None = Refuse caller need
 run_event caller need w (Some first) = Alloc caller need (unit_place w.geometry.frames first)

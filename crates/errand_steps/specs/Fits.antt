@@ -24,11 +24,11 @@ use Rattle.errand_steps.specs.declared.point.Point.TheVariants as point
 use Rattle.errand_steps.specs.Points.{site_of}
 use Rattle.errand_steps.specs.Continuations.{goes_block, goes_stack, goes_desc, goes_partial, GoesLarge}
 
--- blocks of the class serve so many words
+-- blocks of the seat's class serve so many words
 abbrev pub IsSmallFor : SeatFields → ℕ → Type 0
 IsSmallFor s words = need_of words ≡ need.Small s.class
 
--- the same, and the descriptor is one of the heap's
+-- blocks of the seat's class serve so many words, and the descriptor is one of the heap's
 abbrev pub IsAllocWith : Geometry → SeatFields → ℕ → ℕ → Type 0
 IsAllocWith g s words d = IsSmallFor s words × (d < descriptor_count g)
 
@@ -62,25 +62,25 @@ pub record FitsInBlock (g : Geometry) (caller : ℕ) (p : BlockPoint) (o : Conti
   pub continuation : FitsContinuation g caller (seat_of_block p) o
   pub goes : IsTrue (goes_block p o)
 
--- of a stack
+-- a point of a stack at which this caller of this heap may stand
 pub record FitsInStack (g : Geometry) (caller : ℕ) (p : StackPoint) (o : Continuation) : Type 0 where
   pub point : FitsStack g caller p
   pub continuation : FitsContinuation g caller (seat_of_stack p) o
   pub goes : IsTrue (goes_stack p o)
 
--- of the descriptors or the hazard words
+-- a point of the descriptors or the hazard words at which this caller of this heap may stand
 pub record FitsInDesc (g : Geometry) (caller : ℕ) (p : DescPoint) (o : Continuation) : Type 0 where
   pub point : FitsDesc g caller p
   pub continuation : FitsContinuation g caller (seat_of_desc p) o
   pub goes : IsTrue (goes_desc p o)
 
--- of a partial superblock
+-- a point of a partial superblock at which this caller of this heap may stand
 pub record FitsInPartial (g : Geometry) (caller : ℕ) (p : PartialPoint) (o : Continuation) : Type 0 where
   pub point : FitsPartial g caller p
   pub continuation : FitsContinuation g caller (seat_of_partial p) o
   pub goes : IsTrue (goes_partial p o)
 
--- of a large block, a usable word or a shelf
+-- a point of a large block, a usable word or a shelf at which a caller of this heap may stand
 pub record FitsInLarge (g : Geometry) (p : LargePoint) (o : Continuation) : Type 0 where
   pub point : FitsLarge g p
   pub goes : GoesLarge p o

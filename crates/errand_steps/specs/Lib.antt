@@ -9,3 +9,4 @@ pub mod Continuations
 pub mod Openings
 pub mod Points
 pub mod Steps
+pub mod Told

@@ -63,7 +63,7 @@ found_empty s pile h continuation.Clear = End reply.Freed
 found_empty s pile h (continuation.ClearSecond first) = At (Stack (stack.LoadTopToPush s Partials first) continuation.EndFree)
 found_empty s pile h o = At (Stack (stack.ConfirmEmpty s pile h) o)
 
--- it is empty: where there is no partial superblock a new one is made, where there is no frame the allocation is refused
+-- a stack is empty: with no partial superblock a new one is made, with no frame the allocation is refused
 abbrev pub confirmed_empty : SeatFields → Continuation → Next
 confirmed_empty s (continuation.TakeFrame need d) = Retire s d continuation.Refuse
 confirmed_empty s o = At (Desc (desc.LoadDescHead s) o)
@@ -86,7 +86,7 @@ abbrev pub listed_empty : SeatFields → ℕ → Continuation → Next
 listed_empty s d (continuation.ClearSecond first) = At (Stack (stack.LoadTopToPush s Partials first) (continuation.Retire d))
 listed_empty s d o = Retire s d continuation.EndFree
 
--- it isn't: a second one is popped, and after that both go back
+-- a listed superblock is not empty: a second one is popped, and after that both go back
 abbrev pub listed_partial : SeatFields → ℕ → Continuation → Next
 listed_partial s d (continuation.ClearSecond first) = At (Stack (stack.LoadTopToPush s Partials d) (continuation.PushFirst first))
 listed_partial s d o = At (Stack (stack.LoadTop s Partials) (continuation.ClearSecond d))
@@ -109,7 +109,7 @@ abbrev pub enter_block : Onward BlockPoint BlockExit → Continuation → Next
 enter_block (Stays p) o = At (Block p o)
 enter_block (Leaves e) o = leave_block e o
 
--- a stack is left
+-- a stack is left by an exit
 abbrev pub leave_stack : StackExit → Continuation → Next
 leave_stack (stack_exit.Popped s pile i) o = popped s i o
 leave_stack (stack_exit.FoundEmpty s pile h) o = found_empty s pile h o
@@ -120,7 +120,7 @@ abbrev pub enter_stack : Onward StackPoint StackExit → Continuation → Next
 enter_stack (Stays p) o = At (Stack p o)
 enter_stack (Leaves e) o = leave_stack e o
 
--- the descriptors or the hazard words are left
+-- the descriptors or the hazard words are left by an exit
 abbrev pub leave_desc : DescExit → Continuation → Next
 leave_desc (desc_exit.Got s d) o = At (Stack (stack.LoadTop s Frames) (continuation.TakeFrame (asked o) d))
 leave_desc (desc_exit.Cleared s) o = cleared s o
@@ -131,7 +131,7 @@ abbrev pub enter_desc : Onward DescPoint DescExit → Continuation → Next
 enter_desc (Stays p) o = At (Desc p o)
 enter_desc (Leaves e) o = leave_desc e o
 
--- a partial superblock is left
+-- a partial superblock is left by an exit
 abbrev pub leave_partial : PartialExit → Continuation → Next
 leave_partial (partial_exit.SlotEmpty s) o = At (Stack (stack.LoadTop s Partials) o)
 leave_partial (partial_exit.Granted at more) o = At (Block (block.LoadAnchor at (Grant more)) o)
@@ -147,7 +147,7 @@ abbrev pub enter_partial : Onward PartialPoint PartialExit → Continuation → 
 enter_partial (Stays p) o = At (Partial p o)
 enter_partial (Leaves e) o = leave_partial e o
 
--- a large block, a usable word or a shelf is left
+-- a large block, a usable word or a shelf is left by an exit
 abbrev pub leave_large : LargeExit → Continuation → Next
 leave_large (large_exit.GivenRun place run) o = End (reply.Given place (need.Large run.units))
 leave_large large_exit.NoRun o = End reply.Refused

@@ -46,7 +46,7 @@ link_at class word =
 abbrev pub full_credits : ℕ → ℕ
 full_credits class = min (block_count_of class) MOST_CREDITS - 1
 
--- its anchor, where it is the active one
+-- the anchor of a superblock whose blocks are all free, where it is the active one
 abbrev pub full_anchor : ℕ → AnchorFields
 full_anchor class = record { avail = 0; count = block_count_of class - (full_credits class + 1); state = state.Active; tag = 0 }
 

@@ -39,7 +39,7 @@ word_at s caller = s.word (name_at s caller)
 abbrev pub found_at : State → ℕ → Found
 found_at s caller = found_by (action_at s caller) (word_at s caller)
 
--- the event of that step, if it has one
+-- the event of the step that a caller makes next, if it has one
 abbrev pub event_at : State → ℕ → Option Event
 event_at s caller = event_of caller (s.errand caller).point (found_at s caller)
 

@@ -17,3 +17,4 @@ pub mod laws;
 pub mod next;
 pub mod point;
 pub mod reply;
+pub mod told;

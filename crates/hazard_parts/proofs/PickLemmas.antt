@@ -17,19 +17,19 @@ use Rattle.hazard_parts.specs.Retired.{is_held, first_unheld}
 abbrev IsNamed : List ℕ → ℕ → Type 0
 IsNamed held d = Contains held (d + 1)
 
--- the test says so
+-- a descriptor that passes the test is named by a hazard word
 held-Contains : (held : List ℕ) (d : ℕ) → is_held held d ≡ true → IsNamed held d
 held-Contains held d e =
     let some = Any-from_list_any (λ word. word == d + 1) held e in
     let is : some.1 ≡ d + 1 = eqb-true some.1 (d + 1) some.4 in
     (some.0, some.2, get_or_default held some.0 (d + 1) some.1 some.2 ∙ some.3 ∙ is)
 
--- and only then
+-- a descriptor that a hazard word names passes the test
 Contains-held : (held : List ℕ) (d : ℕ) → IsNamed held d → is_held held d ≡ true
 Contains-held held d has =
     list_any_at (λ word. word == d + 1) held has.0 (d + 1) has.1 (eq-eqb (get_or held has.0 (d + 1)) (d + 1) has.2)
 
--- where nothing is picked, each one is named
+-- each descriptor of a list of which none is picked is named by a hazard word
 pub none-all : (held ds : List ℕ) → first_unheld held ds ≡ None → All (λ d. Contains held (d + 1)) ds
 none-all held [] none = All-nil (IsNamed held)
 none-all held (d ∷ ds) none =
@@ -38,7 +38,7 @@ none-all held (d ∷ ds) none =
     (λ taken rest. All-cons (IsNamed held) d ds (held-Contains held d (not-false (is_held held d) taken)) (none-all held ds rest))
     none
 
--- where each one is named, nothing is picked
+-- no descriptor is picked of a list each of which a hazard word names
 pub all-none : (held ds : List ℕ) → All (λ d. Contains held (d + 1)) ds → first_unheld held ds ≡ None
 all-none held [] all = refl
 all-none held (d ∷ ds) all =
@@ -46,7 +46,7 @@ all-none held (d ∷ ds) all =
     (not_from_true (is_held held d) (Contains-held held d (All-head (IsNamed held) d ds all)))
     ∙ all-none held ds (All-tail (IsNamed held) d ds all)
 
--- what is picked is listed
+-- a descriptor that is picked is one of the list
 pub some-listed : (held ds : List ℕ) (d : ℕ) → first_unheld held ds ≡ Some d → Contains ds d
 some-listed held [] d some = absurd (none-some d some)
 some-listed held (x ∷ ds) d some =
@@ -55,7 +55,7 @@ some-listed held (x ∷ ds) d some =
     (λ taken rest. later x ds d (some-listed held ds d rest))
     some
 
--- and not named
+-- a descriptor that is picked is named by no hazard word
 pub some-free : (held ds : List ℕ) (d : ℕ) → first_unheld held ds ≡ Some d → Contains held (d + 1) → ⊥
 some-free held [] d some named = none-some d some
 some-free held (x ∷ ds) d some named =
@@ -101,7 +101,7 @@ none-from : (o : Option ℕ) → is_some o ≡ false → o ≡ None
 none-from None none = refl
 none-from (Some x) none = absurd (true≢false none)
 
--- so one of more descriptors is not named
+-- a descriptor is picked of a list of more different ones than there are hazard words in use
 pub some-picked :
     (held ds : List ℕ) → AllPairs (λ a b. a ≢ b) ds → count_by (λ word. nat_lt 0 word) held < length ds
     → IsSome (first_unheld held ds)
@@ -124,7 +124,7 @@ named-held : (g : Geometry) (words : List ℕ) (d : ℕ) → d < descriptor_coun
 named-held g [] d has = refl
 named-held g (word ∷ words) d has = rw (named-same g word d has, named-held g words d has) refl
 
--- so what is picked of the heap's descriptors is the same
+-- what is picked of the heap's descriptors is the same by the hazard words and by what they name in the heap
 pub named-picked :
     (g : Geometry) (words ds : List ℕ) → All (λ d. d < descriptor_count g) ds
     → first_unheld (map (named_in g) words) ds ≡ first_unheld words ds

@@ -29,7 +29,7 @@ without-none d (x ∷ xs) other =
     cond-false (x == d) xs (x ∷ without d xs) (other 0 (omega arith))
     ∙ ap (λ l. x ∷ l) (without-none d xs (λ k lt. other (suc k) (omega arith)))
 
--- where there is no first place, each place fails
+-- a search that finds no place ends at the end of the list
 position-None : (p : ℕ → Bool) (xs : List ℕ) → position p xs ≡ None → length xs ≤ position_or_len p xs
 position-None p xs =
     let n = position_or_len p xs in
@@ -48,7 +48,7 @@ taken-moved xs at n within =
     ∙ ap (λ l. take at (take (at + 1 + n) xs) ++ l) (sym (drop-take (at + 1) n xs))
     ∙ ap (λ m. take at (take (at + 1 + n) xs) ++ drop m (take (at + 1 + n) xs)) next
 
--- what is left of the first elements, where a copy took d off
+-- the first elements, with d taken off by a copy, are those without the first d in them
 pub removed :
     (d : ℕ) (items moved : List ℕ) (n len at : ℕ) → n ≡ len → len ≤ length items
     → position (λ x. x == d) (take n items) ≡ Some at → moved ≡ copy_within items (at + 1) n at
@@ -67,7 +67,7 @@ removed d items moved n len at same within found copied =
     ∙ sym (without-at d xs at first.0 first.1 first.2)
     ∙ ap (λ m. without d (take m items)) same
 
--- what is left of them where d is not among them
+-- the first elements, where d is not among them, are those without d
 pub unlisted :
     (d : ℕ) (items : List ℕ) (n len : ℕ) → n ≡ len → position (λ x. x == d) (take n items) ≡ None
     → take len items ≡ without d (take len items)

@@ -16,7 +16,7 @@ use Rattle.hazard_parts.specs.declared.point.DescPoint.TheVariants.{LoadDescHead
 use Rattle.word_table.specs.Sites.{IsSeatOf, IsDescOf}
 use Rattle.hazard_parts.specs.declared.limits.TheConstants.{HELD_MOST}
 
--- for whom the point is
+-- the seat that a point of the descriptors or the hazard words is for
 abbrev pub seat_of_desc : DescPoint → SeatFields
 seat_of_desc (LoadDescHead s) = s
 seat_of_desc (StoreHazard s d) = s
@@ -30,7 +30,7 @@ seat_of_desc (LoadHeadToPush s d) = s
 seat_of_desc (StoreNextDesc s d top) = s
 seat_of_desc (PushDesc s d top) = s
 
--- for whom the exit is
+-- the seat that an exit from the descriptors or the hazard words is for
 abbrev pub seat_of_desc_exit : DescExit → SeatFields
 seat_of_desc_exit (Got s d) = s
 seat_of_desc_exit (Cleared s) = s
@@ -55,37 +55,37 @@ plan_desc_of (PushDesc s d top) = Cas name.DescHead top (d + 1)
 abbrev pub link_in : Geometry → ℕ → Option ℕ
 link_in g word = if nat_le word (descriptor_count g) then Some word else None
 
--- which descriptor that the heap has a hazard word names, by its index plus 1; 0 where it names none
+-- the index plus 1 of the descriptor that a hazard word names, if the heap has it; else 0
 abbrev pub named_in : Geometry → ℕ → ℕ
 named_in g word = if nat_le word (descriptor_count g) then word else 0
 
--- where the head leads; the point stays where it names no descriptor that the heap has
+-- the point after the head of the descriptors was read; it stays where the head names no descriptor that the heap has
 abbrev pub after_head : SeatFields → Option ℕ → DescPoint
 after_head s None = LoadDescHead s
 after_head s (Some d) = StoreHazard s d
 
--- where the head that is loaded again leads: on where the descriptor is still the top one
+-- the point after the head was read again: on where the descriptor is still the top one
 abbrev pub after_reload : SeatFields → ℕ → ℕ → DescPoint
 after_reload s d word = if word == d + 1 then LoadNextDesc s d else LoadDescHead s
 
--- where the name of the descriptor below leads; the point stays where it is neither 0 nor such a name
+-- the point after the name of the descriptor below was read; it stays where the name is neither 0 nor one that the heap has
 abbrev pub after_next : SeatFields → ℕ → Option ℕ → DescPoint
 after_next s d None = LoadNextDesc s d
 after_next s d (Some next) = PopDesc s d next
 
--- where a caller's hazard word leads: to the next caller's, until each is read; what it names is noted
+-- the point or exit after a caller's hazard word was read: the next caller's, until each is read; what it names is noted
 abbrev pub after_hazard : SeatFields → List ℕ → ℕ → ℕ → Onward DescPoint DescExit
 after_hazard s held at word =
     if nat_lt (at + 1) s.geometry.callers
     then Stays (ReadHazard s (slice_set held at (named_in s.geometry word)) (at + 1))
     else Leaves (Scanned s (slice_set held at (named_in s.geometry word)))
 
--- where the head leads that is loaded for a push; the point stays where it is neither 0 nor such a name
+-- the point after the head was read for a push; it stays where the head is neither 0 nor the name of one that the heap has
 abbrev pub after_top : SeatFields → ℕ → Option ℕ → DescPoint
 after_top s d None = LoadHeadToPush s d
 after_top s d (Some top) = StoreNextDesc s d top
 
--- where a point leads, by what its action found
+-- the point or exit after a step at a point of the descriptors or the hazard words, by what its action found
 abbrev pub settle_desc_of : DescPoint → Found → Onward DescPoint DescExit
 settle_desc_of (LoadDescHead s) x = Stays (after_head s (desc_named s.geometry x.value))
 settle_desc_of (StoreHazard s d) x = Stays (ReloadDescHead s d)
@@ -99,7 +99,7 @@ settle_desc_of (LoadHeadToPush s d) x = Stays (after_top s d (link_in s.geometry
 settle_desc_of (StoreNextDesc s d top) x = Stays (PushDesc s d top)
 settle_desc_of (PushDesc s d top) x = if x.won then Leaves (Pushed s d) else Stays (LoadHeadToPush s d)
 
--- the same, with a word that is 0 or names a descriptor that the heap has
+-- a seat of this caller of this heap, a descriptor that the heap has, and a word that is 0 or names one, by its index plus 1
 pub record IsLinkOf (g : Geometry) (caller : ℕ) (s : SeatFields) (d word : ℕ) : Type 0 where
   pub desc : IsDescOf g caller s d
   pub link : word ≤ descriptor_count g

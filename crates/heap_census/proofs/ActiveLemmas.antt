@@ -26,13 +26,13 @@ use Rattle.heap_census.proofs.SeenLemmas.{active-unanchored, anchored-bound, nam
 abbrev pub IsUnnamed : Geometry → State → ℕ → Type 0
 IsUnnamed g s d = (heap class : ℕ) → heap < g.heaps → class < CLASSES → active_keeps d (active_in s heap class) ≡ 0
 
--- its anchor is FULL or PARTIAL
+-- the descriptor's anchor is FULL or PARTIAL
 pub record IsAnchored (g : Geometry) (s : State) (l : Lists) (d : ℕ) : Type 0 where
   pub anchored : is_anchored (anchor_for s d).state ≡ true
   pub bound : is_bound g s l d ≡ true
   pub unnamed : IsUnnamed g s d
 
--- one active word names it, of its class
+-- one active word names the descriptor, of its class
 pub record IsOffered (g : Geometry) (s : State) (l : Lists) (d : ℕ) : Type 0 where
   pub anchored : is_anchored (anchor_for s d).state ≡ false
   pub bound : is_bound g s l d ≡ true
@@ -42,7 +42,7 @@ pub record IsOffered (g : Geometry) (s : State) (l : Lists) (d : ℕ) : Type 0 w
       (heap class : ℕ) → heap < g.heaps → class < CLASSES → (heap ≡ by.heap → class ≡ by.class → ⊥)
       → active_keeps d (active_in s heap class) ≡ 0
 
--- it has no superblock
+-- the descriptor has no superblock
 pub record IsAbsent (g : Geometry) (s : State) (l : Lists) (d : ℕ) : Type 0 where
   pub anchored : is_anchored (anchor_for s d).state ≡ false
   pub bound : is_bound g s l d ≡ false
@@ -62,7 +62,7 @@ two-words g weight words n m has_n has_m differ =
     (λ same. differ (sym (word_name-word_index g n has_n) ∙ ap (word_name g) same ∙ word_name-word_index g m has_m)) in
     omega (arith, both, at_n, at_m)
 
--- so another active word doesn't name it
+-- an active word other than the one that names a descriptor doesn't keep it
 others-keep :
     (g : Geometry) (s : State) (l : Lists) (d : ℕ) → Rests g s l → (a : IsActiveOf g s d) → (heap class : ℕ) → heap < g.heaps
     → class < CLASSES → (heap ≡ a.heap → class ≡ a.class → ⊥) → active_keeps d (active_in s heap class) ≡ 0
@@ -75,7 +75,7 @@ others-keep g s l d rests a heap class has_heap has_class other =
     let once = rests.parts.kept.once d has in
     omega (arith, both, here, once)
 
--- one word alone names it
+-- one active word alone names a descriptor
 pub named-once :
     (g : Geometry) (s : State) (l : Lists) (d : ℕ) → Rests g s l → (a b : IsActiveOf g s d) → (a.heap ≡ b.heap) × (a.class ≡ b.class)
 named-once g s l d rests a b =
@@ -124,7 +124,7 @@ stands g s l d rests has =
       ]
     ]
 
--- what the active words of a class weigh that don't name it, or of which one does
+-- what the active words of a class weigh that don't name the descriptor, or of which one does
 pub heaps-none :
     (g : Geometry) (s : State) (d class : ℕ) (f : Option ActiveWord → ℕ) → ((o : Option ActiveWord) → active_keeps d o ≡ 0 → f o ≡ 0)
     → ((heap : ℕ) → heap < g.heaps → active_keeps d (active_in s heap class) ≡ 0) → sum_below g.heaps (λ heap. f (active_in s heap class)) ≡ 0
@@ -154,7 +154,7 @@ offers-none d (Some (Held e credits)) none =
 pub offers-itself : (d credits : ℕ) → offered d (Some (Held d credits)) ≡ credits + 1
 offers-itself d credits = cond-true {A = ℕ} (d == d) (credits + 1) 0 (eq-eqb d d refl)
 
--- so the words reserve what the one offers, or nothing
+-- the words reserve of a descriptor what the one active word that names it offers, or nothing
 unnamed-reserves :
     (g : Geometry) (s : State) (d : ℕ) → IsUnnamed g s d → (n : WordName) → Exists g n → word_reserves d n (s.word n) ≡ 0
 unnamed-reserves g s d unnamed (name.Active heap class) exists =

@@ -10,7 +10,7 @@ use Rattle.sound_state.specs.Lists.{Lists}
 use Rattle.sound_state.specs.Ties.{IsCovered}
 use Rattle.heap_census.proofs.IdleLemmas.{Rests}
 
--- a bit that isn't 1 is 0
+-- the bit of a unit is 0 exactly where the unit isn't covered
 pub clear-uncovered :
     (g : Geometry) (s : State) (l : Lists) (unit : ℕ) → Rests g s l → unit < g.units
     → (bit_at (s.word name.Units) unit ≡ 0) ↔ (¬ IsCovered g s unit)

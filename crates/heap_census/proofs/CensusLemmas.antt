@@ -7,7 +7,7 @@ use Rattle.heap_census.specs.declared.census.Census.{Census}
 use Rattle.heap_census.specs.declared.census.ClassCount.{ClassCount}
 use Rattle.heap_census.specs.Census.{IsCensus, IsClassCount, no_blocks}
 
--- these numbers as the counts of a class
+-- the counts of a class with these numbers
 abbrev counts_of : ℕ → ℕ → ℕ → ℕ → ClassCount
 counts_of blocks free reserved live = record { blocks = blocks; free = free; reserved = reserved; live = live }
 
@@ -20,7 +20,7 @@ same-counts c l class m n has is =
     ∙ ap (λ k. counts_of n.blocks n.free k m.live) (has.reserved ∙ sym is.reserved)
     ∙ ap (λ k. counts_of n.blocks n.free n.reserved k) (has.live ∙ sym is.live)
 
--- these classes, frames and units as a census
+-- a census of these classes, frames and units
 abbrev census_of : List ClassCount → ℕ → ℕ → Census
 census_of per_class free_frames free_units =
     record { per_class = per_class; free_frames = free_frames; free_units = free_units }

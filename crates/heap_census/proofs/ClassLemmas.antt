@@ -65,7 +65,7 @@ tally-reserved :
     (g : Geometry) (s : State) (class : ℕ) (t : SuperblockTally) → IsTallied g s class t → t.reserved ≡ offered_of g s class
 tally-reserved g s class t x = omega (arith, x.counts.reserved, x.all.reserved)
 
--- so they add up
+-- the blocks of a class add up by its tally
 pub tally-adds :
     (g : Geometry) (s : State) (l : Lists) (class : ℕ) (t : SuperblockTally) → Rests g s l → class < CLASSES → IsTallied g s class t
     → t.free + t.reserved + count_by (λ block. is_class class block.need) (pool_of s.history) ≡ block_count_of class * t.superblocks
@@ -117,7 +117,7 @@ class-count c class t n resting of x blocks free reserved live l listed =
         (a b c d free reserved live all : ℕ) → free + reserved + live ≡ all → d ≡ all → a ≡ free → b ≡ reserved → c ≡ live → a + b + c ≡ d
     adds a b c d free reserved live all sum whole first second third = omega (arith, sum, whole, first, second, third)
 
--- and no difference is below 0
+-- the free and reserved blocks of a class are no more than all of them
 pub class-within :
     (c : ClosedFields) (class : ℕ) (t : SuperblockTally) → IsResting c → class < CLASSES → IsTallied c.geometry (closed_state c) class t
     → t.free + t.reserved ≤ block_count_of class * t.superblocks
@@ -129,7 +129,7 @@ class-within c class t resting of x =
     most : (a b c d : ℕ) → a + b + c ≡ d → a + b ≤ d
     most a b c d sum = omega (arith, sum)
 
--- one class more is counted
+-- the counts of the first classes, with one class more
 pub counts-more :
     (P : ℕ → ClassCount → Type 0) (counts : List ClassCount) (k i : ℕ) (n : ClassCount) → i ≡ k → k < length counts
     → ((class : ℕ) → class < k → P class (slice_index_or counts class no_blocks)) → P k n → (class : ℕ) → class < k + 1

@@ -44,7 +44,7 @@ weighs-none d w (Some (Held e credits)) none =
 weighs-itself : (d w credits : ℕ) → weighs d w (Some (Held d credits)) ≡ w
 weighs-itself d w credits = cond-true {A = ℕ} (d == d) w 0 (eq-eqb d d refl)
 
--- one descriptor: it is FULL or PARTIAL, or an active word names it, or it has no superblock
+-- what one descriptor weighs: it is FULL or PARTIAL, or an active word names it, or it has no superblock
 either-none : (b : Bool) → ◌≡◌ {A = ℕ} (if b then 0 else 0) 0
 either-none true = refl
 either-none false = refl
@@ -94,7 +94,7 @@ desc-weighs g s l class d w rests of has =
       ]
     ]
 
--- the active words name descriptors of the heap
+-- what an active word weighs is what the descriptors of the heap do that it names
 word-weighed :
     (n : ℕ) (w : ℕ → ℕ) (o : Option ActiveWord) → ((d credits : ℕ) → o ≡ Some (Held d credits) → d < n)
     → sum_below n (λ d. weighs d (w d) o) ≡ weighed w o
@@ -120,7 +120,7 @@ word-exists :
     → active_in s heap class ≡ Some (Held d credits) → d < descriptor_count g
 word-exists g s l heap class rests has_heap has_class d credits is = (rests.parts.kept.active heap class d credits has_heap has_class is).0
 
--- so the sum over all descriptors with a superblock of the class is that over the anchored ones and over the active words
+-- the sum over all descriptors with a superblock of the class is that over the anchored ones and over the active words
 pub exchange :
     (g : Geometry) (s : State) (l : Lists) (class : ℕ) (w : ℕ → ℕ) → Rests g s l → class < CLASSES
     → sum_below (descriptor_count g) (λ d. if has_class g s l class d then w d else 0)
@@ -138,7 +138,7 @@ exchange g s l class w rests of =
     (λ heap lt. word-weighed n w (active_in s heap class) (word-exists g s l heap class rests lt of)) in
     omega (arith, each, sum-plus n anchored (λ d. sum_below g.heaps (word d)), sum-swap n g.heaps word, words)
 
--- and what is reserved of one is what the active words offer of it
+-- what is reserved of one superblock of the class is what the active words offer of it
 desc-reserved :
     (g : Geometry) (s : State) (l : Lists) (class d : ℕ) → Rests g s l → class < CLASSES → d < descriptor_count g
     → (if has_class g s l class d then reserved_of g s d else 0) ≡ sum_below g.heaps (λ heap. offered d (active_in s heap class))
@@ -211,7 +211,7 @@ desc-adds g s l class d rests has =
     adds-up count r live size true holds sums = omega (arith, sums)
     adds-up count r live size false holds sums = refl
 
--- as many times a number
+-- a number summed where a test holds is the number times how often it holds
 times-if : (b : Bool) (k : ℕ) → (if b then k else 0) ≡ k * (if b then 1 else 0)
 times-if true k = omega arith
 times-if false k = omega arith
@@ -226,7 +226,7 @@ pub superblocks-times :
     ≡ block_count_of class * superblocks_of g s l class
 superblocks-times g s l class = sum-times (descriptor_count g) (block_count_of class) (has_class g s l class)
 
--- so those of a class do
+-- the blocks of a class add up
 pub class-adds :
     (g : Geometry) (s : State) (l : Lists) (class : ℕ) → Rests g s l → class < CLASSES
     → counted_of g s l class + offered_of g s class

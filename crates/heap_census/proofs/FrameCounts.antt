@@ -44,7 +44,7 @@ fills-one g s l d rests has =
           ∙ sym (cond-false {A = ℕ} (is_bound g s l d) 1 0 free)
     ]
 
--- and is of one class
+-- a superblock is of one class
 class-one : (g : Geometry) (s : State) (l : Lists) (d : ℕ) → Rests g s l → d < descriptor_count g → sum_below CLASSES (λ class. if has_class g s l class d then 1 else 0) ≡ has_one g s l d
 class-one g s l d rests has =
     let its : ℕ = (info_for s d).class in

@@ -35,7 +35,7 @@ reserves-nothing d e idle = ap (λ (h : Holding). reserved_among d h.credits) (h
 frames-nothing : (f : ℕ) (e : ErrandFields) → IsIdle e → errand_frames f e ≡ 0
 frames-nothing f e idle = ap (λ (h : Holding). occurs f h.frames) (holds-nothing e idle)
 
--- so no superblock waits, no frame is in a hand, and only active words reserve blocks
+-- with all callers idle no superblock waits, no frame is in a hand, and only active words reserve blocks
 pub none-waits : (g : Geometry) (s : State) (l : Lists) (d : ℕ) → Rests g s l → waiting_of g s d ≡ 0
 none-waits g s l d rests =
     callers-none g (errand_keeps waiting d) s.errand (λ i has. keeps-nothing waiting d (s.errand i) (rests.idle i has))

@@ -49,7 +49,7 @@ lies-in g s l d e i c b rests has bound within at of =
     one-in-frame g s l (info_for s d).frame d e rests.parts (info-frame g s l d rests.parts has) has of.exists bound of.bound refl
     (of.located.frame ∙ frame)
 
--- and is of its class
+-- a live block in a superblock is of the superblock's class
 class-of-need :
     (g : Geometry) (s : State) (l : Lists) (d i : ℕ) (b : Block) (n : Need) → Rests g s l → d < descriptor_count g → IsTrue (is_bound g s l d)
     → i < block_count_of (info_for s d).class → b.place ≡ place_in s d i → IsLive s b.place b → b.need ≡ n → n ≡ Small (info_for s d).class
@@ -73,7 +73,7 @@ class-of-need g s l d i b TooLarge rests has bound within at live is =
     let formed : IsWellFormed g b = formed-at g s b.place b rests.sound live in
     absurd (subst (λ (k : Need). IsPlaceFor g k b.place) is formed.place)
 
--- where no place is this one
+-- a place that is no block's in d's superblock is counted never there
 places-none :
     (s : State) (d place : ℕ) → ((i : ℕ) → i < block_count_of (info_for s d).class → place ≡ place_in s d i → ⊥) → places s d place ≡ 0
 places-none s d place apart =
@@ -90,7 +90,7 @@ hits-none g s l class d b apart =
       | inr not_it ↦ cond-false {A = ℕ} (has_class g s l class d) (places s d b.place) 0 not_it
     ]
 
--- one place is
+-- the place of a block in d's superblock is counted once there
 places-one :
     (s : State) (d place i : ℕ) → i < block_count_of (info_for s d).class → place ≡ place_in s d i → places s d place ≡ 1
 places-one s d place i within at =
@@ -103,7 +103,7 @@ places-one s d place i within at =
     (λ same. ne (sym (index_of-block_place f c j lt) ∙ ap (index_of c) (sym same ∙ at) ∙ index_of-block_place f c i within)))) in
     one ∙ cond-true {A = ℕ} (place == place_in s d i) 1 0 (eq-eqb place (place_in s d i) at)
 
--- so a live block of the class is met once, and no other
+-- a live block of the class is counted once over all descriptors, and any other block never
 small-hits :
     (g : Geometry) (s : State) (l : Lists) (class c : ℕ) (b : Block) → Rests g s l → IsLive s b.place b → b.need ≡ Small c → c ≡ class
     → sum_below (descriptor_count g) (λ d. hits g s l class d b) ≡ 1

@@ -14,12 +14,12 @@ abbrev pub over : (Block → ℕ) → Pool → ℕ
 over f [] = 0
 over f (block ∷ pool) = f block + over f pool
 
--- how many pass a test
+-- how many blocks of a pool pass a test
 pub over-count : (p : Block → Bool) (pool : Pool) → over (λ b. if p b then 1 else 0) pool ≡ count_by p pool
 over-count p [] = refl
 over-count p (block ∷ pool) = omega (arith, sum_by-cons (λ b. if p b then 1 else 0) block pool, over-count p pool)
 
--- equal weights, equal sums
+-- equal weights of a pool's blocks have equal sums
 pub over-same : (f h : Block → ℕ) (pool : Pool) → Every (λ b. f b ≡ h b) pool → over f pool ≡ over h pool
 over-same f h [] same = refl
 over-same f h (block ∷ pool) same = omega (arith, same.0, over-same f h pool same.1)
@@ -32,12 +32,12 @@ zeros : (pool : Pool) → over (λ b. 0) pool ≡ 0
 zeros [] = refl
 zeros (block ∷ pool) = omega (arith, zeros pool)
 
--- a sum or nothing
+-- a sum over the blocks of a pool, or nothing
 pub over-if : (b : Bool) (f : Block → ℕ) (pool : Pool) → (if b then over f pool else 0) ≡ over (λ x. if b then f x else 0) pool
 over-if true f pool = refl
 over-if false f pool = sym (zeros pool)
 
--- sums of sums, in the other order
+-- sums of sums over the blocks of a pool, in the other order
 pub over-swap :
     (n : ℕ) (f : ℕ → Block → ℕ) (pool : Pool) → sum_below n (λ i. over (f i) pool) ≡ over (λ b. sum_below n (λ i. f i b)) pool
 over-swap n f [] = sum-none n (λ i. 0) (λ i lt. refl)

@@ -43,13 +43,13 @@ info-class g s l d rests has =
     class-read (s.word (name.Info d)) (info_of (s.word (name.Info d)))
     (info-exact.reads (s.word (name.Info d)) (rests.parts.words (name.Info d)))
 
--- a closed heap does, with some lists
+-- a closed heap rests, with some lists
 pub closed-rests : (c : ClosedFields) → IsResting c → (l : Lists) × Rests c.geometry (closed_state c) l
 closed-rests c resting =
     let sound = without-counts c.geometry (closed_state c) (core-sound (machine_of c resting.steps) resting.core) in
     (sound.parts.0, record { sound = sound; parts = sound.parts.1; idle = resting.idle })
 
--- the lists of a heap are one each, so what they say is
+-- the lists of a heap are one each, and so is what they say of its superblocks
 pub available-same :
     (g : Geometry) (s : State) (l k : Lists) → IsListed g s.word l → IsListed g s.word k → l.available ≡ k.available
 available-same g s l k a b =
@@ -69,7 +69,7 @@ pub has-same :
     → has_class g s l class d ≡ has_class g s k class d
 has-same g s l k a b class d = ap (λ t. t && ((info_for s d).class == class)) (bound-same g s l k a b d)
 
--- its numbers are in range, and so are its words
+-- a closed heap's numbers are in range, and so are its words
 pub closed-checked : (c : ClosedFields) → IsResting c → IsChecked c.geometry
 closed-checked c resting = (closed-rests c resting).1.sound.checked
 

@@ -28,7 +28,7 @@ use Rattle.heap_census.specs.Census.{IsActiveOf, IsSeen, active_in}
 use Rattle.heap_census.specs.Tallies.{is_anchored}
 use Rattle.heap_census.proofs.IdleLemmas.{Rests, away-retired, callers-away}
 
--- what a state says of a superblock
+-- what the state of an anchor says of a superblock
 anchored-cases : (x : Phase) → is_anchored x ≡ true → (x ≡ phase.Full) ⊎ (x ≡ phase.Partial)
 anchored-cases phase.Active is = absurd (true≢false (sym is))
 anchored-cases phase.Full is = inl refl
@@ -76,7 +76,7 @@ bound-from :
 bound-from g s l d none some =
     and_from (away_of g s l d == 0) (not (is_empty (anchor_for s d).state)) (eq-eqb (away_of g s l d) 0 none) some
 
--- a FULL or PARTIAL one has a superblock
+-- a FULL or PARTIAL descriptor has a superblock
 pub anchored-bound :
     (g : Geometry) (s : State) (l : Lists) (d : ℕ) → Rests g s l → is_anchored (anchor_for s d).state ≡ true → IsTrue (is_bound g s l d)
 anchored-bound g s l d rests anchored =
@@ -85,7 +85,7 @@ anchored-bound g s l d rests anchored =
       | inr some ↦ absurd (anchored-with (anchor_for s d).state anchored (away-without g s l d rests some))
     ]
 
--- so has one that an active word names, which is ACTIVE, and of the word's class
+-- a descriptor that an active word names has a superblock, and is ACTIVE, and of the word's class
 pub named-active : (g : Geometry) (s : State) (l : Lists) (d : ℕ) → Rests g s l → (a : IsActiveOf g s d) → (d < descriptor_count g) × IsActive s d a.class
 named-active g s l d rests a = rests.parts.kept.active a.heap a.class d a.credits a.in_heap a.in_class a.holds
 
@@ -141,7 +141,7 @@ partly-inactive s d class partly active =
       | inr e ↦ let bad : phase.Active ≡ phase.Empty = sym active ∙ e in cc
     ]
 
--- an ACTIVE one with a superblock stands in a word, and so in an active one
+-- an ACTIVE descriptor with a superblock stands in a word, and so in an active one
 active-named :
     (g : Geometry) (s : State) (l : Lists) (d : ℕ) → Rests g s l → d < descriptor_count g → IsTrue (is_bound g s l d)
     → (anchor_for s d).state ≡ phase.Active → IsActiveOf g s d
@@ -171,7 +171,7 @@ bound-seen g s l d rests has bound unanchored =
     active-named g s l d rests has bound
     (unanchored-active (anchor_for s d).state unanchored (bound-stands (away_of g s l d == 0) (is_empty (anchor_for s d).state) bound))
 
--- so these are all
+-- a descriptor has a superblock exactly where it is seen to
 pub seen-is : (g : Geometry) (s : State) (l : Lists) (d : ℕ) → Rests g s l → d < descriptor_count g → IsTrue (is_bound g s l d) ↔ IsSeen g s d
 seen-is g s l d rests has = (
   λ bound. elim (cases_Bool (is_anchored (anchor_for s d).state)) [

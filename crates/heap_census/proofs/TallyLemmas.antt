@@ -12,7 +12,7 @@ use Rattle.heap_census.specs.declared.tallies.SuperblockTally.{SuperblockTally}
 use Rattle.heap_census.specs.Census.{active_in, offers}
 use Rattle.heap_census.specs.Tallies.{AreTallies, AreWithin, IsSameTally, counted_by, named_by, anchored_in, anchored_tally, with_actives}
 
--- what counts only where a test says so
+-- what counts only where a test says so is no more than what counts
 either-most : (b : Bool) (w k : ℕ) → w ≤ k → (if b then w else 0) ≤ k
 either-most true w k most = most
 either-most false w k most = omega arith
@@ -29,7 +29,7 @@ anchored-most s n class most = (
   ),
 )
 
--- so few are counted
+-- the tallies by the first descriptors' anchors are within the number of these
 pub tallies-within :
     (s : State) (tallies : List SuperblockTally) (d : ℕ) → ((k : ℕ) → (anchor_for s k).count ≤ MAX_COUNT) → AreTallies tallies (anchored_tally s d)
     → AreWithin tallies d
@@ -39,7 +39,7 @@ tallies-within s tallies d most are = record {
   free = λ class lt. omega (arith, (are.each class lt).free, (anchored-most s d class most).1);
 }
 
--- and few are counted
+-- a tally with what the active words of the first processor heaps say is no more than their number and that of the descriptors allow
 named-most : (o : Option ActiveWord) → named_by o ≤ 1
 named-most None = omega arith
 named-most (Some Null) = omega arith

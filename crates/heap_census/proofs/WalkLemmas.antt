@@ -12,13 +12,13 @@ use Rattle.heap_census.specs.Census.{closed_state}
 use Rattle.heap_census.proofs.FrameCounts.{frames-add}
 use Rattle.heap_census.proofs.RestLemmas.{closed-rests, frames-same}
 
--- the frames that are left are a stack, and all of them are so many with those that were met
+-- the frames that are left are a stack, and with those that were met they are so many
 pub record IsLeft (next : ℕ → ℕ) (frames met top all : ℕ) (left : List ℕ) : Type 0 where
   pub stacked : Stacked next top left
   pub exist : All (λ f. f < frames) left
   pub whole : met + length left ≡ all
 
--- one frame further down
+-- the frames that are left, one frame further down
 left-more :
     (next : ℕ → ℕ) (frames met top all : ℕ) (left : List ℕ) → IsLeft next frames met top all left → top ≢ 0
     → (rest : List ℕ) × (top - 1 < frames) × (met < all) × IsLeft next frames (met + 1) (next (top - 1)) all rest
@@ -36,7 +36,7 @@ left-more next frames met top all (f ∷ rest) x some =
       },
     )
 
--- the last one
+-- no frame is left at the end of the stack
 left-none : (next : ℕ → ℕ) (frames met all : ℕ) (left : List ℕ) → IsLeft next frames met 0 all left → met ≡ all
 left-none next frames met all [] x = omega (arith, x.whole)
 left-none next frames met all (f ∷ rest) x = absurd (let bad : ⊥ = omega (arith, x.stacked.0) in bad)

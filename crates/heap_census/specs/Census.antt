@@ -30,7 +30,7 @@ closed_state c = state_of (machine_of c 0)
 abbrev pub has_class : Geometry → State → Lists → ℕ → ℕ → Bool
 has_class g s l class d = is_bound g s l d && ((info_for s d).class == class)
 
--- how many descriptors have one; and how many free blocks their anchors count
+-- how many descriptors have a superblock of the class; and how many free blocks their anchors count
 abbrev pub superblocks_of : Geometry → State → Lists → ℕ → ℕ
 superblocks_of g s l class = sum_below (descriptor_count g) (λ d. if has_class g s l class d then 1 else 0)
 
@@ -41,7 +41,7 @@ counted_of g s l class = sum_below (descriptor_count g) (λ d. if has_class g s 
 abbrev pub active_in : State → ℕ → ℕ → Option ActiveWord
 active_in s heap class = active_of (s.word (name.Active heap class))
 
--- how many blocks an active word offers; and all active words of the class
+-- how many blocks an active word offers; how many all active words of the class do
 abbrev pub offers : Option ActiveWord → ℕ
 offers None = 0
 offers (Some Null) = 0

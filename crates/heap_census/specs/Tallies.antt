@@ -18,11 +18,11 @@ is_anchored Full = true
 is_anchored Partial = true
 is_anchored Empty = false
 
--- whether that of a descriptor does, of the class
+-- whether a descriptor's anchor alone says that it has a superblock, and that one is of the class
 abbrev pub anchored_in : State → ℕ → ℕ → Bool
 anchored_in s class d = is_anchored (anchor_for s d).state && ((info_for s d).class == class)
 
--- nothing is counted yet
+-- a tally in which nothing is counted yet
 abbrev pub nothing_yet : SuperblockTally
 nothing_yet = record { superblocks = 0; free = 0; reserved = 0 }
 
@@ -34,7 +34,7 @@ anchored_tally s descs class = record {
   reserved = 0;
 }
 
--- how many superblocks an active word names, and how many free blocks their anchors count
+-- how many superblocks an active word names, and how many free blocks the anchors of these count
 abbrev pub named_by : Option ActiveWord → ℕ
 named_by None = 0
 named_by (Some Null) = 0

@@ -37,7 +37,7 @@ pub run-least :
     (need units : ℕ) → SMALL_MOST < need → units ≡ div_ceil (need + 1) UNIT_WORDS → IsLeastFor run_words need units
 run-least need units large is = record { enough = omega arith; least = λ j enough. omega (arith, enough) }
 
--- such a class is one of the heap's
+-- the least class that serves a need of at most SMALL_MOST words is one of the heap's classes
 pub class-below : (need class : ℕ) → need ≤ SMALL_MOST → IsLeastFor class_words need class → class < CLASSES
 class-below need class small h = omega (arith, h.least (CLASSES - 1))
 
@@ -53,7 +53,7 @@ need_of-is need (Large units) h =
     (ap Large (sym (least-enough (suc MAX_UNITS) need units run_words below h.2)))
 need_of-is need TooLarge h = rw (lt-leb need SMALL_MOST (omega arith), lt-leb need LARGE_MOST h) refl
 
--- as many words as a block has are served by blocks of its kind
+-- a need of a block's usable words is served by blocks of that block's kind
 pub need_of-usable : (n : Need) → IsNeed n → 0 < usable_words n → n ≡ need_of (usable_words n)
 need_of-usable (Small class) is some =
     let most : 2 ^ (class + 1) ≤ 2 ^ CLASSES = let p : class + 1 ≤ CLASSES = omega (arith, is) in pow_mono p in

@@ -26,18 +26,18 @@ usable_words (Small class) = class_words class
 usable_words (Large units) = run_words units
 usable_words TooLarge = 0
 
--- there are such blocks
+-- the class of a need, or its number of units, is in range
 abbrev pub IsNeed : Need → Type 0
 IsNeed (Small class) = class < CLASSES
 IsNeed (Large units) = (LEAST_UNITS ≤ units) × (units ≤ MAX_UNITS)
 IsNeed TooLarge = Unit {0}
 
--- k has enough words, and no smaller one has
+-- k is the least number whose words are enough for a need
 pub record IsLeastFor (words : ℕ → ℕ) (need k : ℕ) : Type 0 where
   pub enough : need ≤ words k
   pub least : (j : ℕ) → need ≤ words j → k ≤ j
 
--- these blocks serve so many usable words: the least class, else the least run of units, with enough of them
+-- a need of so many usable words: the least class, else the least run of units, with enough of them serves it; or it is too large
 abbrev pub IsNeedOf : ℕ → Need → Type 0
 IsNeedOf need (Small class) = (need ≤ SMALL_MOST) × IsLeastFor class_words need class
 IsNeedOf need (Large units) = (SMALL_MOST < need) × (need ≤ LARGE_MOST) × IsLeastFor run_words need units

@@ -19,7 +19,7 @@ unit_of frames place = (place - FRAME_WORDS * frames) / UNIT_WORDS
 abbrev pub frame_of : ℕ → ℕ
 frame_of place = place / FRAME_WORDS
 
--- which of the blocks of its class, in its frame, lies at a place
+-- the index in its frame of the block of a class that lies at a place
 abbrev pub index_of : ℕ → ℕ → ℕ
 index_of class place = place % FRAME_WORDS / block_words_of class
 

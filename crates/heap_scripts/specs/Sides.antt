@@ -10,10 +10,10 @@ use Rattle.heap_scripts.specs.declared.side.Side.{Side}
 abbrev pub AreHands : Heap → List Hand → Type 0
 AreHands h hands = All (λ hand. IsHand h hand.pass hand.blocks.items) hands
 
--- so they are of a side's own
+-- the hands of a side are of its own heap
 abbrev pub IsSide : Side → Type 0
 IsSide side = AreHands side.heap side.hands.items
 
--- and those of both heaps
+-- the hands of both sides are of their own heaps
 abbrev pub AreSides : Twins → Type 0
 AreSides twins = IsSide twins.whole × IsSide twins.stepped

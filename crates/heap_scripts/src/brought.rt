@@ -5,7 +5,8 @@ ghost use Rattle.live_heap.specs.Hands.{given_by, resumed_by, returned_by, taken
 ghost use Rattle.live_heap.specs.Hands.{brought_by, brought_in};
 
 use crate::request::Told;
-use live_heap::answers::{AllocAnswer, Ending, Full, Resumed, Step, Taken};
+use errand_steps::told::{Ending, Stepped};
+use live_heap::answers::{AllocAnswer, Full, Resumed, Taken};
 use live_heap::block::Block;
 
 /// Puts the block that an allocation was given into the hand.
@@ -76,7 +77,7 @@ pub(crate) fn take_got(blocks: &mut Vec<Block>, answer: Taken) -> Told
 }
 
 /// Puts the block that the last step of a call brought into the hand.
-pub(crate) fn take_ending(blocks: &mut Vec<Block>, ending: Ending) -> Told
+pub(crate) fn take_ending(blocks: &mut Vec<Block>, ending: Ending<Block>) -> Told
     requires room { vec_len blocks.old < vec_capacity blocks.old }
     ensures { blocks.new.items ≡ blocks.old.items ++ brought_by ending }
 {
@@ -108,12 +109,12 @@ pub(crate) fn take_ending(blocks: &mut Vec<Block>, ending: Ending) -> Told
 }
 
 /// The same of a step; `None` where it did not end its call.
-pub(crate) fn take_step(blocks: &mut Vec<Block>, step: Step) -> Option<Told>
+pub(crate) fn take_step(blocks: &mut Vec<Block>, step: Stepped<Block>) -> Option<Told>
     requires room { vec_len blocks.old < vec_capacity blocks.old }
     ensures { blocks.new.items ≡ blocks.old.items ++ brought_in step }
 {
     match step {
-        Step::Done(ending) => Some(take_ending(blocks, ending)),
+        Stepped::Done(ending) => Some(take_ending(blocks, ending)),
         _ => None,
     }
 }

@@ -7,8 +7,8 @@ ghost use Rattle.live_heap.specs.Hands.{IsHand};
 use crate::brought::{take_ending, take_step};
 use crate::request::{Request, Told};
 use errand_steps::reply::Begun;
+use errand_steps::told::{Ending, Stepped};
 use heap_geometry::limits::SHELVES;
-use live_heap::answers::{Ending, Step};
 use live_heap::block::Block;
 use live_heap::heap::Heap;
 use live_heap::laws::by_steps::calls_go_step_by_step;
@@ -43,11 +43,11 @@ fn go_on(heap: &Heap, pass: &mut Pass, blocks: &mut Vec<Block>, pace: Pace, made
         }
         count(made);
         match heap.step(pass) {
-            Step::Idle => unreachable!(),
-            Step::More => {}
-            Step::Lost => left -= 1,
-            Step::Cleared => left -= 1,
-            Step::Done(ending) => return take_ending(blocks, ending),
+            Stepped::Idle => unreachable!(),
+            Stepped::More => {}
+            Stepped::Lost => left -= 1,
+            Stepped::Cleared => left -= 1,
+            Stepped::Done(ending) => return take_ending(blocks, ending),
         }
     }
     Told::Busy
@@ -172,10 +172,10 @@ fn read(
 }
 
 /// What the step of a call on a word came to.
-fn told_word(step: Step) -> Option<Told> {
+fn told_word(step: Stepped<Block>) -> Option<Told> {
     match step {
-        Step::Done(Ending::Wrote) => Some(Told::Wrote),
-        Step::Done(Ending::Word(word)) => Some(Told::Word(word)),
+        Stepped::Done(Ending::Wrote) => Some(Told::Wrote),
+        Stepped::Done(Ending::Word(word)) => Some(Told::Word(word)),
         _ => None,
     }
 }

@@ -26,7 +26,7 @@ use Rattle.heap_tests.proofs.EmbeddedWays.{HasEnough}
 abbrev pub OwnsAt : Pass → ℕ → Need → Type 0
 OwnsAt p place need = OwnsAfter (seen p) p.errand.caller place need
 
--- the laws of whole calls that this stands on
+-- the laws of whole calls on which these lemmas stand
 abbrev pub KeepsBlocks : Type 0
 KeepsBlocks =
     (h k : Heap) (p q : Pass) (call : Call) (answer : Reply) (place : ℕ) (need : Need) → IsWhole h p call answer k q → LeavesPlace call place
@@ -70,7 +70,7 @@ push h p q r [] call answer is made = (r, subst (λ (x : Pass). Makes h x call a
 push h p q r (first ∷ calls) call answer leads made =
     let (next, m, rest) = leads in (next, m, push h next q r calls call answer rest made)
 
--- since it stood so the pass has made these calls, is in none, and owns the block that lies there
+-- a pass has made these calls since it stood as `from`, is in none, and owns the block that lies there
 pub record Has (h : Heap) (from : Pass) (calls : List Made) (p : Pass) (place : ℕ) (need : Need) : Type 0 where
   pub made : LeadsBy (Makes h) from calls p
   pub rest : IsAtRest h p
@@ -121,7 +121,7 @@ has-taken h p q shelf place need hands made = record {
   owned = hands h h p q (take shelf) (reply.Got place need) place need made.0 (refl, refl);
 }
 
--- a read more
+-- one more read of the block
 pub has-read :
     (h : Heap) (from p q : Pass) (calls : List Made) (place : ℕ) (need : Need) (i word : ℕ) → KeepsBlocks → Has h from calls p place need
     → HasCalled p (read place need i) 0 (reply.Word word) q → IsOf h q → IsContents q place i word
@@ -130,7 +130,7 @@ has-read h from p q calls place need i word keeps has called of contents =
     has-more h from p q calls place need (read place need i) (reply.Word word) keeps has tt
     (makes-of h p q (read place need i) (reply.Word word) 0 called has.owned of contents)
 
--- the call behind them is the last one, or was answered so that the program goes no further
+-- the call behind the calls of a pass is the last one, or was answered so that the program goes no further
 pub ends-behind :
     (h : Heap) (from p q : Pass) (calls : List Made) (place : ℕ) (need : Need) (call : Call) (answer : Reply) → Has h from calls p place need
     → Makes h p call answer q → LeadsBy (Makes h) from (calls ++ answered call answer ∷ []) q

@@ -47,7 +47,7 @@ count-looks P k class (suc n) off =
 abbrev pub IsBlind : (Event → Bool) → Type 0
 IsBlind P = (caller class : ℕ) → P (Looked caller class) ≡ false
 
-giving-counts :
+pub giving-counts :
     (P : Event → Bool) (k words place : ℕ) (need : Need) (events : List Event) → IsBlind P → IsGiving k words place need events
     → count_by P events ≡ one P (Alloc k words place)
 giving-counts P k words place (Small class) events blind is =
@@ -71,8 +71,8 @@ called-of p q call answer made ne = elim made [
 abbrev pub Counts : (Event → Bool) → ℕ → ℕ → Pass → Type 0
 Counts P k n p = (p.errand.caller ≡ k) × (count_by P (own k (seen p)) ≡ n)
 
--- a call with such an end adds as many as these events
-counts-on :
+-- a call adds to the count as many as the events of its end
+pub counts-on :
     (P : Event → Bool) (k n m : ℕ) (p q : Pass) (call : Call) (answer : Reply) (end : Ended)
     → end_of call answer ≡ Some end → ((added : List Event) → EventsOf k end added → count_by P added ≡ m)
     → HasEndedCall p call answer q → Counts P k n p → Counts P k (n + m) q
@@ -148,7 +148,7 @@ counts-second P h second q k place need handed made had =
     (λ added e. ap (count_by P) e) (called-of _ _ _ _ m3.0.0 (λ (e : reply.Freed ≡ reply.Spent). cc)) c2 in
     subst (Counts P k (second_count P k place)) (sym last) c3
 
--- where there are two callers, what is counted is what each of them counts
+-- what is counted is what each of two callers counts, where there are no others
 pub callers-count :
     (P : Event → Bool) (events : List Event)
     → ((before rest : List Event) (event : Event) → events ≡ before ++ event ∷ rest → caller_of event < 2)

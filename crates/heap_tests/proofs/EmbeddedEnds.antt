@@ -67,7 +67,7 @@ all-idle h first second p q kept handed last passes one keeps fetches none with_
       both,
     )
 
--- where nothing is live, no block of a class is
+-- no block of a class is live where nothing is
 pub none-live : (c : ClosedFields) → pool_of c.events ≡ [] → min (sum_below CLASSES (live_in c)) (2 ^ 64 - 1) ≡ 0
 none-live c nothing =
     ap (λ (pool : Pool). min (sum_below CLASSES (λ class. count_by (λ block. is_class class block.need) pool)) (2 ^ 64 - 1)) nothing

@@ -46,7 +46,7 @@ pub stands-in :
 stands-in before part events event last begins =
     begins.1 ∙ ap (λ (xs : List Event). xs ++ begins.0) last ∙ append_assoc before (event ∷ []) begins.0
 
--- the block that was put, and the one that was taken
+-- the block that was put and the one that was taken are the same parcel
 pub same-parcel :
     (shelf : ℕ) (events before rest until after : List Event) (giver taker place there : ℕ)
     → puts_on shelf events ≡ takes_off shelf events ++ lying_on shelf (pool_of events) → pool_of events ≡ []
@@ -68,7 +68,7 @@ same-parcel shelf events before rest until after giver taker place there order n
     ∙ append-nil (takes_off shelf events)
     ∙ taken
 
--- so they contain the same
+-- the block that was taken contains the same as the one that was put
 pub same-contents :
     (shelf place : ℕ) (pool : Pool) (o : Option Block) (was got : Block) → block_at place pool ≡ o
     → parcels_in o ≡ parcel_of got ∷ []

@@ -31,7 +31,7 @@ use Rattle.heap_tests.specs.Embedded.{Fetches, Keeps, Makes, first_calls, second
 use Rattle.heap_tests.proofs.EmbeddedCounts.{IsBlind, called-of, callers-count, counts-first, counts-second, first_count, second_count}
 use Rattle.heap_tests.proofs.EmbeddedHands.{same-contents, same-parcel, stands-in}
 
--- the laws of calls that this stands on
+-- the laws of calls on which these lemmas stand
 abbrev pub Changes : Type 0
 Changes = (h k : Heap) (p q : Pass) (call : Call) (answer : Reply) → IsWhole h p call answer k q → HasChanged p call answer q
 
@@ -42,7 +42,7 @@ abbrev pub HasEnough : Type 0
 HasEnough =
     (p q : Pass) (words steps place : ℕ) (need : Need) → HasCalled p (alloc words) steps (reply.Given place need) q → words ≤ usable_words need
 
--- and those of pools
+-- the laws of pools on which these lemmas stand
 abbrev pub CountsBlocks : Type 0
 CountsBlocks =
     (g : Geometry) (history : List Event) → IsLegalWithoutCounts g history
@@ -67,7 +67,7 @@ pub record FirstTells (place kept : ℕ) (p : Pass) : Type 0 where
 written-there : (n v : ℕ) → 1 < n → slice_index_or (slice_set (replicate n None) 1 (Some v)) 1 None ≡ Some v
 written-there n v within = get_or-set_at (replicate n None) 1 1 (Some v) None refl (subst (λ (k : ℕ). 1 < k) (sym (length-replicate n None)) within)
 
--- where one pass owns a block and is given another one, that lies elsewhere
+-- a block that a pass is given lies elsewhere than one that it owns
 apart : (o : Option Block) (block : Block) → o ≡ None → o ≡ Some block → ⊥
 apart o block none is = let e : None ≡ Some block = sym none ∙ is in cc
 
@@ -148,7 +148,7 @@ second-tells h second q there need handed changes more made =
       tells = λ word is. m2.1 block word found.0 is;
     }
 
--- in the closed heap the block that was taken is the one that was put, and no block is live
+-- both passes have read 7 in the closed heap, where the block that was taken is the one that was put; and no block is live
 pub closed-tells :
     (h : Heap) (first second p q : Pass) (kept handed : ℕ) (c : ClosedFields) → Changes → SeesMore → HasEnough → CountsBlocks → KeepsOrder
     → AreFrom h 0 (first ∷ second ∷ []) → Keeps h first kept p → Fetches h second handed q → HasClosed h (p ∷ q ∷ []) c

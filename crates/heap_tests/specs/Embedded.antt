@@ -63,13 +63,13 @@ pub record Keeps (h : Heap) (first : Pass) (kept : ℕ) (p : Pass) : Type 0 wher
   pub wide : Need
   pub made : LeadsBy (Makes h) first (first_calls place need other wide kept) p
 
--- and so has the second one
+-- the second pass has made its calls, and read this word
 pub record Fetches (h : Heap) (second : Pass) (handed : ℕ) (q : Pass) : Type 0 where
   pub place : ℕ
   pub need : Need
   pub made : LeadsBy (Makes h) second (second_calls place need handed) q
 
--- behind such calls this is the next one of the first pass; and of the second one
+-- the call is the next one of the first pass behind such calls; and of the second pass
 abbrev pub IsNextOfFirst : List Made → Call → Type 0
 IsNextOfFirst calls call =
     (place : ℕ) × (need : Need) × (other : ℕ) × (wide : Need) × (kept : ℕ) × (answer : Reply) × (rest : List Made)
@@ -80,7 +80,7 @@ IsNextOfSecond calls call =
     (place : ℕ) × (need : Need) × (handed : ℕ) × (answer : Reply) × (rest : List Made)
     × (second_calls place need handed ≡ calls ++ answered call answer ∷ rest)
 
--- since it stood so a pass has made the first ones of its calls, and then the next one, which was answered so
+-- a pass has made the first ones of its calls since it stood as `from`, and then the next one, which was answered so
 pub record HasStopped (h : Heap) (from : Pass) (IsNext : List Made → Call → Type 0) (stop : Stop) : Type 0 where
   pub calls : List Made
   pub p : Pass
@@ -90,7 +90,7 @@ pub record HasStopped (h : Heap) (from : Pass) (IsNext : List Made → Call → 
   pub q : Pass
   pub stops : Stops h p call stop q
 
--- so did the first one of the two passes of a heap, which had made no step before, or the second one behind all calls of the first
+-- a call that was answered so has stopped the first one of the two passes of a new heap, or the second one behind all calls of the first
 pub record WasStopped (stop : Stop) : Type 0 where
   pub heap : Heap
   pub first : Pass
@@ -100,7 +100,7 @@ pub record WasStopped (stop : Stop) : Type 0 where
       HasStopped heap first IsNextOfFirst stop
       ⊎ ((kept : ℕ) × (p : Pass) × Keeps heap first kept p × HasStopped heap second IsNextOfSecond stop)
 
--- in such a heap both passes have made their calls, and then it was closed: the first pass read what it wrote, behind its other calls, and so did the second one behind the hand-over; and no block is live
+-- the two passes of a new heap have made their calls, and then it was closed: the first pass read what it wrote, behind its other calls, and so did the second one behind the hand-over; and no block is live
 pub record HasRun (report : Report) : Type 0 where
   pub heap : Heap
   pub first : Pass

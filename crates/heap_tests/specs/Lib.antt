@@ -1,2 +1,3 @@
 pub mod Embedded
 pub mod Pipes
+pub mod Reuse

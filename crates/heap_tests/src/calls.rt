@@ -7,12 +7,12 @@ ghost use Rattle.live_heap.specs.Passes.{IsOf};
 use crate::alone::{close_alone, geometry, open_alone};
 use crate::hand::come_to;
 use errand_steps::reply::Begun;
+use errand_steps::told::{Ending, Stepped};
 use heap_geometry::geometry::Geometry;
 use heap_geometry::limits::{CALL_STEPS, CLASSES, SHELVES};
 use heap_geometry::need::Need;
 use heap_scripts::request::{Request as Asked, Told};
 use heap_scripts::whole;
-use live_heap::answers::{Ending, Step};
 use live_heap::block::Block;
 use live_heap::closed::Closed;
 use live_heap::heap::Heap;
@@ -51,15 +51,15 @@ fn counts(pass: &Pass) -> (bool, u64, u64, u64, u64) {
 }
 
 /// Steps of the pass to the end of its call: how many it makes, and what the last one came to.
-fn finish(heap: &Heap, pass: &mut Pass) -> (u64, Step)
+fn finish(heap: &Heap, pass: &mut Pass) -> (u64, Stepped<Block>)
     requires { IsOf heap.now pass.old }
     ensures { IsOf heap.now pass.new }
 {
-    let mut last = Step::Idle;
+    let mut last = Stepped::Idle;
     for made in 0..CALL_STEPS {
         last = heap.step(pass);
         match last {
-            Step::More | Step::Lost | Step::Cleared => {}
+            Stepped::More | Stepped::Lost | Stepped::Cleared => {}
             _ => return (made + 1, last),
         }
     }
@@ -67,7 +67,7 @@ fn finish(heap: &Heap, pass: &mut Pass) -> (u64, Step)
 }
 
 /// An allocation step by step, where the pass is in no call and it begins.
-fn alloc_by_steps(heap: &Heap, pass: &mut Pass, need: u32) -> Option<(u64, Step)>
+fn alloc_by_steps(heap: &Heap, pass: &mut Pass, need: u32) -> Option<(u64, Stepped<Block>)>
     requires { IsOf heap.now pass.old }
     ensures { IsOf heap.now pass.new }
 {
@@ -81,15 +81,15 @@ fn alloc_by_steps(heap: &Heap, pass: &mut Pass, need: u32) -> Option<(u64, Step)
 }
 
 /// After how many steps a block was given, its place and its words; `None` where none was.
-fn given_after(made: (u64, Step)) -> Option<(u64, u32, u32)> {
+fn given_after(made: (u64, Stepped<Block>)) -> Option<(u64, u32, u32)> {
     match made {
-        (steps, Step::Done(Ending::Given(block))) => Some((steps, block.place(), block.words())),
+        (steps, Stepped::Done(Ending::Given(block))) => Some((steps, block.place(), block.words())),
         _ => None,
     }
 }
 
 /// A take step by step, where the pass is in no call and there is such a shelf.
-fn take_by_steps(heap: &Heap, pass: &mut Pass, shelf: u8) -> Option<(u64, Step)>
+fn take_by_steps(heap: &Heap, pass: &mut Pass, shelf: u8) -> Option<(u64, Stepped<Block>)>
     requires { IsOf heap.now pass.old }
 {
     if pass.idle() && shelf < SHELVES {
@@ -115,7 +115,7 @@ fn call_by_steps(
     pass: &mut Pass,
     blocks: Vec<Block>,
     request: Request,
-) -> Option<(u64, Step)>
+) -> Option<(u64, Stepped<Block>)>
     requires { IsHand heap.now pass.old blocks.items }
 {
     let mut blocks = blocks;
@@ -134,7 +134,10 @@ fn call_by_steps(
 }
 
 /// The same on a new heap, whose caller has a block of 3 words, in the first of which stands 8.
-fn call_on_eight(alloc: Global, request: Request) -> Result<Option<(u64, Step)>, AllocError> {
+fn call_on_eight(
+    alloc: Global,
+    request: Request,
+) -> Result<Option<(u64, Stepped<Block>)>, AllocError> {
     let (heap, mut pass, mut blocks) = open_alone(alloc, 4, 0, 9)?;
     let _ = whole::make(&heap, &mut pass, &mut blocks, Asked::Alloc(3), 1)?;
     let _ = whole::make(&heap, &mut pass, &mut blocks, Asked::Write(0, 0, 8), 1)?;
@@ -277,19 +280,19 @@ fn who_has_taken_all_turns_is_spent(rt: HostRuntime) -> Result<(), Fail> {
 #[test]
 fn calls_are_made_step_by_step(rt: HostRuntime) -> Result<(), Fail> {
     let (heap, mut pass, _) = open_alone(rt.alloc(), 2, 0, 9)?;
-    assert_eq!(rt; heap.step(&mut pass), Step::Idle);
+    assert_eq!(rt; heap.step(&mut pass), Stepped::Idle);
     let given = alloc_by_steps(&heap, &mut pass, 1).and_then(given_after);
     assert_eq!(rt; given, Some((2065, 0, 1)));
     assert_eq!(rt; (pass.idle(), pass.turns(), pass.won()), (true, 1, 3));
     let taken = take_by_steps(&heap, &mut pass, 0);
-    assert_eq!(rt; taken, Some((2, Step::Done(Ending::Empty))));
+    assert_eq!(rt; taken, Some((2, Stepped::Done(Ending::Empty))));
     let freed = call_on_eight(rt.alloc(), Request::Free)?;
-    assert_eq!(rt; freed, Some((4, Step::Done(Ending::Freed))));
+    assert_eq!(rt; freed, Some((4, Stepped::Done(Ending::Freed))));
     let wrote = call_on_eight(rt.alloc(), Request::Write(0, 9))?;
-    assert_eq!(rt; wrote, Some((1, Step::Done(Ending::Wrote))));
+    assert_eq!(rt; wrote, Some((1, Stepped::Done(Ending::Wrote))));
     let read = call_on_eight(rt.alloc(), Request::Read(0))?;
-    assert_eq!(rt; read, Some((1, Step::Done(Ending::Word(8)))));
+    assert_eq!(rt; read, Some((1, Stepped::Done(Ending::Word(8)))));
     let put = call_on_eight(rt.alloc(), Request::Put(0))?;
-    assert_eq!(rt; put, Some((1, Step::Done(Ending::Put))));
+    assert_eq!(rt; put, Some((1, Stepped::Done(Ending::Put))));
     Ok(())
 }

@@ -211,7 +211,7 @@ pub fn run(alloc: Global) -> Result<Result<Report, Stop>, AllocError>
 }
 
 /// How many blocks of all classes are live in it, at most 2^64 - 1.
-fn count_live(closed: &Closed) -> u64
+pub fn count_live(closed: &Closed) -> u64
     ensures { result ≡ min (sum_below CLASSES (live_in closed.now)) (2 ^ 64 - 1) }
 {
     let counted = census(closed);

@@ -25,3 +25,4 @@ pub mod pipes;
 #[cfg(test)]
 mod piping;
 pub mod relay;
+pub mod reuse;

@@ -7,11 +7,11 @@ ghost use Rattle.step_machine.specs.Cores.{errand_at, OwnsBlock};
 
 use crate::alone::geometry;
 use errand_steps::reply::Begun;
+use errand_steps::told::{Ending, Stepped};
 use heap_geometry::limits::{CALL_STEPS, SHELVES};
 use heap_geometry::need::Need;
 use lane_engine::grip::Grip;
 use lane_engine::over_core::step;
-use lane_engine::stepped::Stepped;
 use lane_engine::token::Token;
 use pool_model::owner::Owner;
 use std::alloc::AllocError;
@@ -182,19 +182,19 @@ fn blocks_are_given_and_freed(rt: HostRuntime) -> Result<(), Fail> {
     let rows = [
         (
             Call::Alloc(2047),
-            (19, Stepped::Given(grip(0, Size::Widest))),
+            (19, Stepped::Done(Ending::Given(grip(0, Size::Widest)))),
         ),
         (
             Call::Alloc(2047),
-            (7, Stepped::Given(grip(2048, Size::Widest))),
+            (7, Stepped::Done(Ending::Given(grip(2048, Size::Widest)))),
         ),
         (
             Call::On(0, Size::Widest, Request::Free),
-            (6, Stepped::Freed),
+            (6, Stepped::Done(Ending::Freed)),
         ),
         (
             Call::On(2048, Size::Widest, Request::Free),
-            (12, Stepped::Freed),
+            (12, Stepped::Done(Ending::Freed)),
         ),
     ];
     come_to(&rt, &mut core, &rows)?;
@@ -210,43 +210,61 @@ fn blocks_are_given_and_freed(rt: HostRuntime) -> Result<(), Fail> {
 fn words_are_read_as_written_and_shelves_hold_one_block(rt: HostRuntime) -> Result<(), Fail> {
     let mut core = Core::open(rt.alloc(), geometry(4, 0, 1, 9))?;
     let rows = [
-        (Call::Alloc(3), (1041, Stepped::Given(grip(0, Size::Three)))),
+        (
+            Call::Alloc(3),
+            (1041, Stepped::Done(Ending::Given(grip(0, Size::Three)))),
+        ),
         (
             Call::On(0, Size::Three, Request::Write(0, 5)),
-            (1, Stepped::Wrote),
+            (1, Stepped::Done(Ending::Wrote)),
         ),
         (
             Call::On(0, Size::Three, Request::Write(1, 6)),
-            (1, Stepped::Wrote),
+            (1, Stepped::Done(Ending::Wrote)),
         ),
         (
             Call::On(0, Size::Three, Request::Write(2, 7)),
-            (1, Stepped::Wrote),
+            (1, Stepped::Done(Ending::Wrote)),
         ),
         (
             Call::On(0, Size::Three, Request::Read(0)),
-            (1, Stepped::Word(5)),
+            (1, Stepped::Done(Ending::Word(5))),
         ),
         (
             Call::On(0, Size::Three, Request::Read(1)),
-            (1, Stepped::Word(6)),
+            (1, Stepped::Done(Ending::Word(6))),
         ),
         (
             Call::On(0, Size::Three, Request::Read(2)),
-            (1, Stepped::Word(7)),
+            (1, Stepped::Done(Ending::Word(7))),
         ),
-        (Call::On(0, Size::Three, Request::Put(0)), (1, Stepped::Put)),
-        (Call::Alloc(3), (7, Stepped::Given(grip(4, Size::Three)))),
+        (
+            Call::On(0, Size::Three, Request::Put(0)),
+            (1, Stepped::Done(Ending::Put)),
+        ),
+        (
+            Call::Alloc(3),
+            (7, Stepped::Done(Ending::Given(grip(4, Size::Three)))),
+        ),
         (
             Call::On(4, Size::Three, Request::Put(0)),
-            (1, Stepped::Full(grip(4, Size::Three))),
+            (
+                1,
+                Stepped::Done(Ending::Full {
+                    block: grip(4, Size::Three),
+                    found: 129,
+                }),
+            ),
         ),
         (
             Call::On(4, Size::Three, Request::Write(0, 8)),
-            (1, Stepped::Wrote),
+            (1, Stepped::Done(Ending::Wrote)),
         ),
-        (Call::Take(0), (2, Stepped::Got(grip(0, Size::Three)))),
-        (Call::Take(1), (2, Stepped::Empty)),
+        (
+            Call::Take(0),
+            (2, Stepped::Done(Ending::Got(grip(0, Size::Three)))),
+        ),
+        (Call::Take(1), (2, Stepped::Done(Ending::Empty))),
     ];
     come_to(&rt, &mut core, &rows)
 }

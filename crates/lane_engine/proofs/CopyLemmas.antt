@@ -15,7 +15,7 @@ use Rattle.call_events.specs.Made.{LeadsBy, answered}
 use Rattle.call_events.proofs.MadeLemmas.{leads-more}
 use Rattle.lane_engine.specs.Whole.{copied, copied_word}
 
--- one piece more
+-- numbered pieces in a row, with one more
 pub pieces-more :
     {X : Type 0} (f : ℕ → List X) (a n : ℕ) → flat_map f (range_with_len a (n + 1)) ≡ flat_map f (range_with_len a n) ++ f (a + n)
 pieces-more f a zero = let here : a + 0 ≡ a = omega arith in append-nil (f a) ∙ ap f (sym here)
@@ -26,7 +26,7 @@ pieces-more f a (suc n) =
     (append_assoc (f a) (flat_map f (range_with_len (a + 1) n)) (f (a + 1 + n)))
     ∙ ap (λ k. (f a ++ flat_map f (range_with_len (a + 1) n)) ++ f k) there
 
--- the same pieces
+-- numbered pieces that are the same one by one are the same in a row
 pub pieces-same :
     {X : Type 0} (f g : ℕ → List X) (a n : ℕ) → ((i : ℕ) → i < a + n → f i ≡ g i) → flat_map f (range_with_len a n) ≡ flat_map g (range_with_len a n)
 pieces-same f g a zero same = refl
@@ -47,7 +47,7 @@ module _ (from : ℕ) (from_need : Need) (to : ℕ) (to_need : Need) where
       (words : List ℕ) (i : ℕ) → length words ≤ i → copied_word from from_need to to_need words i ≡ answered (write to to_need i 0) reply.Wrote ∷ []
   copied-past words i past = let t : nat_lt i (length words) ≡ false = le-ltb i (length words) past in rw t refl
 
-  -- what is read later changes none of the words before
+  -- a word that is read later changes none of the words copied before
   copied-longer :
       (words : List ℕ) (word i : ℕ) → i < length words
       → copied_word from from_need to to_need (words ++ word ∷ []) i ≡ copied_word from from_need to to_need words i
@@ -65,7 +65,7 @@ module _ (from : ℕ) (from_need : Need) (to : ℕ) (to_need : Need) where
       pieces-more (copied_word from from_need to to_need words) 0 i
       ∙ ap (λ k. copied from from_need to to_need words i ++ copied_word from from_need to to_need words k) here
 
-  -- one word more that was read
+  -- the calls of a copy with one word more that was read
   pub copied-one :
       (words : List ℕ) (word : ℕ)
       → copied from from_need to to_need (words ++ word ∷ []) (length words + 1)
@@ -82,14 +82,14 @@ module _ (from : ℕ) (from_need : Need) (to : ℕ) (to_need : Need) where
       (copied-read (words ++ word ∷ []) i (let all = length-append words (word ∷ []) in omega (arith, all))
       ∙ ap (λ w. answered (read from from_need i) (reply.Word w) ∷ answered (write to to_need i w) reply.Wrote ∷ []) last)
 
--- so far words of one block are copied into another one, as many as this and as the one has
+-- the first words of a block, as many as this, are copied into another one, and as many of them read as the one has
 abbrev pub CopiesSoFar : {S : Type 0} → (S → Call → Reply → S → Type 0) → S → ℕ → Need → ℕ → Need → ℕ → S → Type 0
 CopiesSoFar called before from from_need to to_need count after =
     (words : List ℕ) × (length words ≡ min (usable_words from_need) count)
     × LeadsBy called before (copied from from_need to to_need words count) after
 
 module _ {S : Type 0} (called : S → Call → Reply → S → Type 0) (from : ℕ) (from_need : Need) (to : ℕ) (to_need : Need) (first : S) where
-  -- and one more
+  -- one word more is copied
   pub copies-more :
       (i word : ℕ) (s t u : S) → CopiesSoFar called first from from_need to to_need i s
       → (i < usable_words from_need → called s (read from from_need i) (reply.Word word) t)

@@ -18,14 +18,14 @@ use Rattle.live_heap.specs.Whole.{HasEndedCall, IsWhole, MadeByPass, by_steps, a
 use Rattle.live_heap.specs.Words.{CallsOnWord}
 use Rattle.lane_engine.specs.declared.over_pass.PassCalls.{PassCalls}
 
--- it can be resumed still
+-- an interrupted call can still be resumed when it has made more steps
 pub resumable-on :
     (p q : Pass) → IsResumable p
     → ((first : Pass) (call : Call) (made : ℕ) → IsCalling first call made p → (steps : ℕ) × IsCalling first call steps q) → IsResumable q
 resumable-on p q r on =
     let n = on r.first r.call r.steps r.calling in record { first = r.first; call = r.call; steps = n.0; calling = n.1; tried = r.tried }
 
--- it has ended
+-- a resumed call that isn't told to be busy has ended
 pub resume-ended :
     (first : Pass) (call : Call) (made : ℕ) (p : Pass) (tries : ℕ) (told : Resumed) (q : Pass) → (told ≡ resumed.Busy → ⊥)
     → ResumeTells first call made p tries told q → ResumesTo first call told q
@@ -42,7 +42,7 @@ resumes-idle first call resumed.Refused q ended = ended.1.idle
 resumes-idle first call resumed.Spent q ended = ended.1.idle
 resumes-idle first call resumed.Busy q ended = absurd ended
 
--- as an allocation does, and as a free does
+-- a resumed allocation ends as an allocation does, and a resumed free as a free does
 pub alloc-resumes :
     (first : Pass) (words : ℕ) (told : Resumed) (q : Pass) → ResumesTo first (alloc words) told q
     → ((block : Block) → told ≡ resumed.Given block → ⊥) → (told ≡ resumed.Refused → ⊥) → (told ≡ resumed.Spent → ⊥) → ⊥
@@ -72,11 +72,11 @@ pub made-idle : (p : Pass) (call : Call) (answer : Reply) (q : Pass) → IsIdle 
 made-idle p call answer q idle (by_steps ended) = ended.1.idle
 made-idle p call answer q idle (at_once words is_alloc spent once) = subst (λ (r : Pass). IsIdle r.errand) (sym once.same) idle
 
--- the struct when its pass stands so
+-- the struct with its pass in this state
 abbrev pub with_pass : PassCalls → Pass → PassCalls
 with_pass e p = record e { pass = record e.pass { now = p } }
 
--- calls of its pass on words are whole calls of its own
+-- calls of a pass on words are whole calls of the struct that has it
 pub words-lead :
     (e : PassCalls) (p q : Pass) (made : List Made) → LeadsBy (CallsOnWord e.heap.now) p made q
     → LeadsBy (λ f call answer g. IsWhole f.heap.now f.pass.now call answer g.heap.now g.pass.now) (with_pass e p) made (with_pass e q)
@@ -84,7 +84,7 @@ words-lead e p q [] leads = ap (with_pass e) leads
 words-lead e p q (m ∷ made) (t, one, leads) =
     (with_pass e t, (by_steps (0, one.called), one.owned, refl, (one.of, one.called.idle)), words-lead e t q made leads)
 
--- so are whole calls of its pass
+-- whole calls of a pass are whole calls of the struct that has it
 pub passes-lead :
     (e : PassCalls) (p q : Pass) (made : List Made) → LeadsBy (λ p call answer q. IsWhole e.heap.now p call answer e.heap.now q) p made q
     → LeadsBy (λ f call answer g. IsWhole f.heap.now f.pass.now call answer g.heap.now g.pass.now) (with_pass e p) made (with_pass e q)

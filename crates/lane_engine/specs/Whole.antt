@@ -25,13 +25,13 @@ module _ {B : Type 0} (place_of : B → ℕ) (need_of : B → Need) where
   allocated_as allocated.Refused = reply.Refused
   allocated_as allocated.Spent = reply.Spent
 
-  -- that of a put of this block: where the shelf is full the same block is back, and still the caller's
+  -- the answer of a put of this block: where the shelf is full the same block is back, and still the caller's
   abbrev pub PutTells : (ℕ → Need → Type 0) → (Reply → Type 0) → ℕ → Need → Option B → Type 0
   PutTells owns ended place need None = ended reply.Put
   PutTells owns ended place need (Some back) =
       (place_of back ≡ place) × (need_of back ≡ need) × owns place need × (found : ℕ) × ended (reply.Full found)
 
-  -- that of a take
+  -- the answer of a take
   abbrev pub TakeTells : (Reply → Type 0) → Taken B → Type 0
   TakeTells ended (taken.Got block) = ended (reply.Got (place_of block) (need_of block))
   TakeTells ended taken.Empty = ended reply.Empty
@@ -79,7 +79,7 @@ copied_word from from_need to to_need words i =
     ∷ answered (write to to_need i (slice_index_or words i 0)) reply.Wrote ∷ []
     else answered (write to to_need i 0) reply.Wrote ∷ []
 
--- so are the first words of the other one, in their order
+-- the first words of a block, so many, are copied into another one, in their order
 abbrev pub copied : ℕ → Need → ℕ → Need → List ℕ → ℕ → List Made
 copied from from_need to to_need words count = flat_map (copied_word from from_need to to_need words) (range_with_len 0 count)
 

@@ -4,6 +4,7 @@ ghost use Rattle.heap_geometry.specs.Need.{IsNeed};
 ghost use Rattle.step_machine.specs.Needs.{IsNeed-prop};
 
 use crate::token::Token;
+use errand_steps::told::MakesBlocks;
 use heap_geometry::need::{Need, usable};
 
 /// A block that a caller of a machine holds. `place` is the arena word of its prefix.
@@ -29,5 +30,20 @@ impl Token for Grip {
 
     fn place(&self) -> u32 {
         self.place
+    }
+}
+
+/// What makes the blocks in hand that a machine's steps tell of.
+pub(crate) struct Grips;
+
+impl MakesBlocks for Grips {
+    type Block = Grip;
+
+    ghost place_of = { λ grip. grip.place };
+
+    ghost need_of = { λ grip. grip.need };
+
+    fn made(place: u32, need: Need) -> Grip {
+        Grip { place, need }
     }
 }

@@ -6,5 +6,4 @@ pub mod calls;
 pub mod grip;
 pub mod over_core;
 pub mod over_pass;
-pub mod stepped;
 pub mod token;

@@ -46,7 +46,7 @@ counting-end start now blocks_left words_left blocks words so_far no_blocks no_w
       words_grow = remain-end now.words words_left _ _ no_words so_far.words_remain;
     }
 
--- one operation of a lane, and the others
+-- what a lane is given from an operation on: what that one is given, and what the others are
 pub lane_given-drop :
     (f : ℕ → ℕ) (operations : List Op) (results : List Outcome) (k : ℕ) (operation : Op) (result : Outcome)
     → k < length operations → k < length results → operation ≡ get_or operations k operation → result ≡ get_or results k result
@@ -64,7 +64,7 @@ pub lane_freed-drop :
 lane_freed-drop f registers operations results k operation result within inside op_is result_is =
     rw (drop_more operations k operation within, drop_more results k result inside, ← op_is, ← result_is) refl
 
--- none is left where the operations or the outcomes are at their end
+-- nothing is given where the operations or the outcomes are at their end
 lane_given-none : (f : ℕ → ℕ) (operations : List Op) → lane_given f operations [] ≡ 0
 lane_given-none f [] = refl
 lane_given-none f (operation ∷ operations) = refl
@@ -89,7 +89,7 @@ pub lane_freed-over :
     → lane_freed f registers (drop k operations) (drop k results) ≡ 0
 lane_freed-over f registers operations results k past = rw (drop_of_length-le operations past) refl
 
--- one lane, and the others
+-- what lanes are given from one on: what that one is given, and what the others are
 pub lanes_given-drop :
     {X Y : Type 0} (f : ℕ → ℕ) (h : X → List Op) (e : Y → List Outcome) (lanes : List X) (outcomes : List Y) (k : ℕ) (lane : X) (ran : Y)
     (operations : List Op) (results : List Outcome) → k < length lanes → k < length outcomes → lane ≡ get_or lanes k lane → ran ≡ get_or outcomes k ran

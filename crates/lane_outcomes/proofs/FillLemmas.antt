@@ -13,7 +13,7 @@ use Rattle.lane_outcomes.specs.Standing.{OwnsHeld}
 abbrev pub writes_of : ℕ → ℕ → (ℕ → ℕ) → ℕ → ℕ → List Event
 writes_of caller place value first count = map (λ i. Write caller place i (value i)) (range_with_len first count)
 
--- with values that rise
+-- writes of words from `first` on: word i with v + i
 abbrev pub writes : ℕ → ℕ → ℕ → ℕ → ℕ → List Event
 writes caller place v first count = writes_of caller place (λ i. (v + i) % 2 ^ 64) first count
 

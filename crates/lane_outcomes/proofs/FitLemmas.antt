@@ -21,7 +21,7 @@ pub begins-longer : (before history rest : List Event) → Begins before history
 begins-longer before history rest (more, is) =
     (more ++ rest, ap (λ xs. xs ++ rest) is ∙ append_assoc before more rest)
 
--- and a moment in a history is one in a longer history
+-- a moment in a history is one in a longer history
 abbrev pub moment-later : (setting : Setting) (rest : List Event) (lost : ℕ) (done : List Event) → Moment setting done → Moment (later setting rest lost) done
 moment-later setting rest lost done moment =
     record {
@@ -91,7 +91,7 @@ resize-later setting rest lost more position need (Some held) outcome.Spent piec
     (row.0, spent-later setting rest lost more position need piece position.spent row.1)
 resize-later setting rest lost more position need held result piece row = row
 
--- a row that fits still fits
+-- a row that fits a setting fits one with a longer history and more exchanges lost
 pub row-later :
     (setting : Setting) (rest : List Event) (lost : ℕ) → setting.lost ≤ lost
     → (position : Position) (operation : Op) (result : Outcome) (piece : List Event)
@@ -104,7 +104,7 @@ row-later setting rest lost more position (op.Put r shelf) result piece row = pu
 row-later setting rest lost more position (op.Take r shelf) result piece row = take-later setting rest lost position shelf (held_in position.registers r) result piece row
 row-later setting rest lost more position (op.Resize r need) result piece row = resize-later setting rest lost more position need (held_in position.registers r) result piece row
 
--- and so does a walk
+-- a walk in a setting is one in a setting with a longer history and more exchanges lost
 pub walks-later :
     (setting : Setting) (rest : List Event) (lost : ℕ) → setting.lost ≤ lost
     → (from to : Position) (operations : List Op) (results : List Outcome)

@@ -17,18 +17,18 @@ use Rattle.lane_outcomes.proofs.HoldLemmas.{holds-still}
 use Rattle.lane_outcomes.proofs.TallyLemmas.{tally, of_caller, tally-append, tally-none, tally-own}
 use Rattle.lane_outcomes.proofs.MeasureLemmas.{give_at, free_at}
 
--- after these events the registers hold the lane's blocks, and its events gave and freed so much
+-- a lane's registers follow a history: they hold the lane's blocks, and its events gave and freed so much
 pub record Follows (f : ℕ → ℕ) (caller : ℕ) (before : List Event) (registers : List (Option Held)) (given freed : ℕ) : Type 0 where
   pub holds : HoldsOwn (pool_of before) caller registers
   pub given_is : tally (of_caller caller (give_at f)) [] before ≡ given
   pub freed_is : tally (of_caller caller (free_at f)) [] before ≡ freed
 
--- so it is at each moment of a history at which these are the lane's events
+-- a lane's registers follow a history at each of its moments at which these are the lane's events
 abbrev pub FollowsAt : (ℕ → ℕ) → List Event → ℕ → List Event → List (Option Held) → ℕ → ℕ → Type 0
 FollowsAt f history caller done registers given freed =
     (before : List Event) → Begins before history → own caller before ≡ done → Follows f caller before registers given freed
 
--- where a caller's events end with one, the events are cut there
+-- events cut at the last one of a caller: its own before it are these, and none of its own comes behind it
 pub record IsCut (caller : ℕ) (done : List Event) (event : Event) (events : List Event) : Type 0 where
   pub front : List Event
   pub back : List Event
@@ -92,7 +92,7 @@ cut-last caller (head ∷ done) event events own_is =
       own_back = later.own_back;
     }
 
--- there is one moment before a caller's event at which its events are these
+-- two cuts of events at a caller's event, with the same own events before it, are one
 pub same-moment :
     (caller : ℕ) (event : Event) (front other back rest : List Event) → caller_of event ≡ caller → front ++ event ∷ back ≡ other ++ event ∷ rest
     → own caller front ≡ own caller other → front ≡ other
@@ -121,7 +121,7 @@ same-moment caller event (first ∷ front) (second ∷ other) back rest hers who
     ] in
     ap (λ xs. first ∷ xs) (same-moment caller event front other back rest hers tails owns) ∙ ap (λ x. x ∷ other) same
 
--- other callers' events leave all this
+-- events of other callers leave registers that follow a history
 follows-others :
     (f : ℕ → ℕ) (g : Geometry) (caller : ℕ) (before rest : List Event) (registers : List (Option Held)) (given freed : ℕ)
     → IsLegalWithoutCounts g (before ++ rest) → own caller rest ≡ [] → Follows f caller before registers given freed
@@ -145,7 +145,7 @@ follows-others f g caller before rest registers given freed legal none h =
       freed_is = omega (arith, frees, no_frees, h.freed_is);
     }
 
--- what an event of the lane makes of all this
+-- what an event of the lane makes of its registers, of what it was given and of what it freed
 pub record Steps (f : ℕ → ℕ) (caller : ℕ) (before : List Event) (event : Event) (after : List (Option Held)) (given freed given_after freed_after : ℕ) : Type 0 where
   pub holds : HoldsOwn (pool_of (before ++ event ∷ [])) caller after
   pub given_is : given_after ≡ given + give_at f (pool_of before) event
@@ -166,7 +166,7 @@ follows-step f caller before event registers after given freed given_after freed
       freed_is = omega (arith, frees, one_free, h.freed_is, step.freed_is);
     }
 
--- the lane goes on by an event of its own
+-- a lane's registers that follow a history go on by an event of its own
 pub at-step :
     (f : ℕ → ℕ) (g : Geometry) (history : List Event) (caller : ℕ) (done : List Event) (event : Event) (registers after : List (Option Held))
     (given freed given_after freed_after : ℕ) → IsLegalWithoutCounts g history → caller_of event ≡ caller
@@ -189,7 +189,7 @@ at-step f g history caller done event registers after given freed given_after fr
     subst (λ (xs : List Event). Follows f caller xs after given_after freed_after) past
     (follows-others f g caller (cut.front ++ event ∷ []) cut.back after given_after freed_after legal_past cut.own_back stepped)
 
--- the same, said with other numbers
+-- a lane's registers that follow a history do so with equal events and numbers
 pub at-as :
     (f : ℕ → ℕ) (history : List Event) (caller : ℕ) (done others : List Event) (registers : List (Option Held)) (given freed given_too freed_too : ℕ)
     → done ≡ others → given ≡ given_too → freed ≡ freed_too → FollowsAt f history caller done registers given freed
@@ -241,7 +241,7 @@ still-frees : (f : ℕ → ℕ) (caller : ℕ) (before : List Event) (event : Ev
 still-frees f caller before (Free other place) still = absurd still
 still-frees f caller before event still = refl
 
--- the lane goes on by such events
+-- a lane's registers follow a history over events that give no block, free none and hand none over
 pub at-stills :
     (f : ℕ → ℕ) (g : Geometry) (history : List Event) (caller : ℕ) (done events : List Event) (registers : List (Option Held)) (given freed : ℕ)
     → IsLegalWithoutCounts g history → AllByRecursion (IsStill caller) events → FollowsAt f history caller done registers given freed

@@ -55,7 +55,7 @@ owns-fresh history caller need place words is =
       words_are = is;
     }
 
--- a block elsewhere is still owned after an allocation, after a free, and after a block was handed over
+-- a block at another place is still owned after an allocation, after a free, and after a block was handed over
 pub owns-past :
     (history : List Event) (caller : ℕ) (held : Held) (giver need place : ℕ) → held.place ≢ place → OwnsHeld (pool_of history) caller held
     → OwnsHeld (pool_of (history ++ Alloc giver need place ∷ [])) caller held
@@ -133,7 +133,7 @@ holds-nothing pool caller n =
       once = λ r q held other full. absurd (let e : None ≡ Some held = sym (held-nothing n r) ∙ full in cc);
     }
 
--- a register is set to a block of the caller's that no register holds
+-- registers hold the caller's blocks when one of them is set to another block of the caller's
 holds-inside :
     (pool : Pool) (caller r : ℕ) (new : Held) (registers : List (Option Held)) → r < length registers
     → OwnsHeld pool caller new
@@ -180,7 +180,7 @@ held-inside registers r held full =
       | inr past ↦ absurd (let e : None ≡ Some held = sym (get_or_past registers r None past) ∙ full in cc)
     ]
 
--- a register is emptied
+-- registers hold the caller's blocks when one of them is emptied
 pub holds-emptied :
     (pool : Pool) (caller r : ℕ) (registers : List (Option Held)) → r < length registers
     → ((q : ℕ) (held : Held) → q ≢ r → held_in registers q ≡ Some held → OwnsHeld pool caller held)

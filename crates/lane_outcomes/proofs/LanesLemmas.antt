@@ -40,7 +40,7 @@ lane-fits g history lost lanes outcomes fit k below =
     subst (λ n. Fits (setting_in history n g.turn_limit lost) (get_or lanes k []) (get_or outcomes k [])) same
     (lanes-at g history lost 0 lanes outcomes fit k below)
 
--- there are as many
+-- there are as many lists of outcomes as lanes
 pub lanes-many :
     (g : Geometry) (history : List Event) (lost first : ℕ) (lanes : List (List Op)) (outcomes : List (List Outcome))
     → LanesFit g history lost first lanes outcomes → length outcomes ≡ length lanes

@@ -34,7 +34,7 @@ record IsLaneTally (f : ℕ → ℕ) (setting : Setting) (operations : List Op) 
   pub given : tally (of_caller setting.caller (give_at f)) [] setting.history ≡ lane_given f operations results
   pub freed : tally (of_caller setting.caller (free_at f)) [] setting.history ≡ lane_freed f (replicate REGISTERS None) operations results
 
--- a lane before its first event
+-- empty registers follow a history before the lane's first event
 pub at-start : (f : ℕ → ℕ) (setting : Setting) → FollowsAt f setting.history setting.caller [] (replicate REGISTERS None) 0 0
 at-start f setting =
     λ before begins own_is. record {
@@ -96,7 +96,7 @@ words-bound (Small class) within =
 words-bound (Large units) within = omega (arith, within.1)
 words-bound TooLarge within = omega arith
 
--- a count that no block passes
+-- no block counts more than LARGE_MOST
 abbrev pub IsFew : (ℕ → ℕ) → Type 0
 IsFew f = (need : ℕ) → f (usable_words (need_of need)) ≤ LARGE_MOST
 
@@ -156,7 +156,7 @@ few-lanes f g history lost lane (operations ∷ lanes) (results ∷ outcomes) fe
       few-lanes f g history lost (suc lane) lanes outcomes few held.1 fit.1,
     )
 
--- lists of outcomes in memory are not longer
+-- a lane's outcomes in memory are no more than memory can hold
 pub held-lists : (vecs : List (Vec Outcome Global)) → AreHeld (map (λ lane. lane.items) vecs)
 held-lists [] = tt
 held-lists (vec ∷ vecs) = (omega (arith, vec.ok, vec.small), held-lists vecs)
@@ -166,7 +166,7 @@ pub record IsBalanced (f : ℕ → ℕ) (history : List Event) (lanes : List (Li
   pub total : measure f (pool_of history) + lanes_freed f lanes outcomes ≡ lanes_given f lanes outcomes
   pub few : lanes_given f lanes outcomes ≤ LARGE_MOST * 2 ^ 64 * MAX_LANES
 
--- then what the outcomes count is what is live
+-- the outcomes of balanced lanes count what is live
 live-of :
     (f : ℕ → ℕ) (most live : ℕ) (history : List Event) (lanes : List (List Op)) (outcomes : List (List Outcome)) → IsBalanced f history lanes outcomes
     → measure f (pool_of history) ≡ live → live ≤ most → live_of f most lanes outcomes ≡ live

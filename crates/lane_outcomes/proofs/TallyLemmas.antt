@@ -31,7 +31,7 @@ tally-none weight caller pool (event ∷ events) none =
     let parts = own-none caller event events none in
     rw (ne_eqb (caller_of event) caller parts.0) (omega (arith, tally-none weight caller (pool_after pool event) events parts.1))
 
--- one event of the caller
+-- the tally of one event of the caller is its weight
 pub tally-own :
     (weight : Pool → Event → ℕ) (caller : ℕ) (pool : Pool) (event : Event) → caller_of event ≡ caller
     → tally (of_caller caller weight) pool (event ∷ []) ≡ weight pool event

@@ -86,7 +86,7 @@ given-events caller need place fill done calls piece is piece_is =
     ∙ ap (λ xs. done ++ xs)
     (sym (append_assoc is.looked (Alloc caller need place ∷ []) fill) ∙ ap (λ xs. xs ++ fill) (sym is.whole) ∙ sym piece_is)
 
--- where the lane stands after an operation
+-- the lane's registers after an operation follow the history, with what it was given and freed added
 abbrev pub After : (ℕ → ℕ) → Setting → Position → Op → Outcome → List Event → ℕ → ℕ → Type 0
 After f setting position operation result piece given freed =
     FollowsAt f setting.history setting.caller (position.done ++ piece) (registers_after position.registers operation result)
@@ -95,7 +95,7 @@ After f setting position operation result piece given freed =
 abbrev pub Before : (ℕ → ℕ) → Setting → Position → ℕ → ℕ → Type 0
 Before f setting position given freed = FollowsAt f setting.history setting.caller position.done position.registers given freed
 
--- a piece that gives and frees nothing, and leaves the registers
+-- a piece of events that gives no block, frees none and hands none over leaves the registers
 quiet :
     (f : ℕ → ℕ) (g : Geometry) (setting : Setting) (position : Position) (piece : List Event) (given freed : ℕ)
     → IsLegalWithoutCounts g setting.history → AllByRecursion (IsStill setting.caller) piece → Before f setting position given freed
@@ -105,7 +105,7 @@ quiet f g setting position piece given freed legal stills at =
     refl (omega arith) (omega arith)
     (at-stills f g setting.history setting.caller position.done piece position.registers given freed legal stills at)
 
--- no events
+-- a piece without events gives no block, frees none and hands none over
 abbrev pub none-still : (caller : ℕ) (piece : List Event) → piece ≡ [] → AllByRecursion (IsStill caller) piece
 none-still caller piece none = rw none tt
 
@@ -151,7 +151,7 @@ given-after f g setting position r need words place value calls piece given free
 abbrev pub made_for : Setting → ℕ → ℕ → (ℕ → ℕ) → List Event → List Event
 made_for setting place words value calls = calls ++ writing setting.caller place words value
 
--- as the held block is about to be freed, the lane still owns it, and what the registers are about to hold lies elsewhere
+-- a held block that is about to be freed: the lane still owns it, and what the registers are about to hold lies elsewhere
 pub record IsLeaving (pool : Pool) (caller : ℕ) (held : Held) (registers : List (Option Held)) : Type 0 where
   pub owned : OwnsHeld pool caller held
   pub apart : (q : ℕ) (other : Held) → held_in registers q ≡ Some other → other.place ≢ held.place
@@ -350,7 +350,7 @@ row-after f g setting position (op.Take r shelf) result piece given freed legal 
 row-after f g setting position (op.Resize r need) result piece given freed legal row at =
     resize-after f g setting position r need (held_in position.registers r) result piece given freed legal refl row at
 
--- and so to the end of a walk
+-- the lane's registers follow the history to the end of a walk
 pub walk-after :
     (f : ℕ → ℕ) (g : Geometry) (setting : Setting) (from to : Position) (operations : List Op) (results : List Outcome) (given freed : ℕ)
     → IsLegalWithoutCounts g setting.history → Walks setting from operations results to → Before f setting from given freed

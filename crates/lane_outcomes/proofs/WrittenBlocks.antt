@@ -65,7 +65,7 @@ first-more contents n v within first k lt =
       | inr other ↦ set-kept contents n k v (first k (omega (arith, lt, other)))
     ]
 
--- a caller owns the live block at a place, and this is so of its contents
+-- a caller owns the live block at a place, and its contents have a property
 pub record OwnsSuch (P : List (Option ℕ) → Type 0) (pool : Pool) (caller place : ℕ) : Type 0 where
   pub block : Block
   pub live : block_at place pool ≡ Some block
@@ -76,7 +76,7 @@ pub record OwnsSuch (P : List (Option ℕ) → Type 0) (pool : Pool) (caller pla
 abbrev pub IsPart : ℕ → ℕ → List (Option ℕ) → Type 0
 IsPart words n contents = (length contents ≡ words) × FirstSet n contents
 
--- this is still so of a block's contents after a write
+-- a write keeps a property of a block's contents
 abbrev pub IsKept : (List (Option ℕ) → Type 0) → Type 0
 IsKept P = (contents : List (Option ℕ)) (i v : ℕ) → P contents → P (slice_set contents i (Some v))
 
@@ -130,11 +130,11 @@ fills-one caller place words n v before within h =
     (λ contents differ p. absurd (differ refl)) h)
 
 module _ (g : Geometry) (history : List Event) (legal : IsLegalWithoutCounts g history) (caller most : ℕ) where
-  -- this is so of the pool at each moment, up to so many events, at which these are the caller's events
+  -- a property holds of the pool at each moment, up to so many events, at which these are the caller's events
   abbrev pub At : List Event → (Pool → Type 0) → Type 0
   At done P = (before : List Event) → length before ≤ most → Begins before history → own caller before ≡ done → P (pool_of before)
 
-  -- what an event of the caller makes of a block is so until its next event
+  -- a property of a block's contents that an event of the caller brings holds until the caller's next event
   pub at-own :
       (P : List (Option ℕ) → Type 0) (done : List Event) (event : Event) (place : ℕ)
       → ((before : List Event) → length before ≤ most → Begins before history → own caller before ≡ done → IsLegalWithoutCounts g (before ++ event ∷ [])

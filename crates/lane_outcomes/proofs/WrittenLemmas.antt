@@ -151,7 +151,7 @@ module _ (g : Geometry) (history : List Event) (lost : ℕ) (lanes : List (List 
   shelved before begins place block live shelf owner =
       words-of block.contents (shelves-set (length before) before (omega arith) begins place block shelf live owner)
 
--- in a lane's registers
+-- each word of the blocks in a lane's registers was written, at a moment at which the lane stands there
 pub held-written :
     (g : Geometry) (setting : Setting) (lost : ℕ) (lanes : List (List Op)) (outcomes : List (List Outcome)) (operations : List Op)
     (results : List Outcome) (position : Position) → IsLegalWithoutCounts g setting.history → OutcomesFit g setting.history lost lanes outcomes
@@ -187,7 +187,7 @@ cut-at setting from to (first ∷ earlier) later (second ∷ results) more opera
     let cut = cut-at setting (position_after from first second piece) to earlier later results more operation result (omega (arith, same)) walks in
     record { at = cut.at; walks = (piece, row, cut.walks); piece = cut.piece; row = cut.row; rest = cut.rest }
 
--- the sum of a check
+-- the sum of a check is that of words that were written
 check-sum :
     (setting : Setting) (position : Position) (r total : ℕ) (piece : List Event) (held : Option Held) → held_in position.registers r ≡ held
     → ((moment : Moment setting position.done) → HoldsWritten (pool_of moment.before) position.registers)
@@ -268,7 +268,7 @@ writes-same caller place (suc count) first value other same =
     ∙ ap (λ es. Write caller place first (other first) ∷ es)
     (writes-same caller place count (first + 1) value other (λ i lt. same i (omega (arith, lt))))
 
--- the copy of a resize
+-- the copy of a resize is one of words that were written
 resize-copy :
     (setting : Setting) (position : Position) (r need words place : ℕ) (piece : List Event) (held : Option Held) → held_in position.registers r ≡ held
     → ((moment : Moment setting position.done) → HoldsWritten (pool_of moment.before) position.registers)

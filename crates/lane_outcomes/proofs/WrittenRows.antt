@@ -113,7 +113,7 @@ no_puts-append : (events more : List Event) → AllByRecursion IsNoPut events �
 no_puts-append [] more first rest = rest
 no_puts-append (event ∷ events) more first rest = (first.0, no_puts-append events more first.1 rest)
 
--- where events go on with a put that isn't among the first ones, it stands behind these
+-- a put that isn't among the first events of a list stands behind them
 past-puts :
     (caller place shelf : ℕ) (piece xs ys zs : List Event) → AllByRecursion IsNoPut piece → xs ++ Put caller place shelf ∷ ys ≡ piece ++ zs
     → (rest : List Event) × (xs ≡ piece ++ rest) × (zs ≡ rest ++ Put caller place shelf ∷ ys)
@@ -204,7 +204,7 @@ module _ (setting : Setting) (position : Position) (piece : List Event) where
   row-puts (op.Take r shelf) result row = inl (take-puts shelf (held_in position.registers r) result row)
   row-puts (op.Resize r need) result row = inl (resize-puts need (held_in position.registers r) result row)
 
--- what a walk adds
+-- a walk only adds events to those of the lane
 pub walk-adds :
     (setting : Setting) (from to : Position) (operations : List Op) (results : List Outcome) → Walks setting from operations results to
     → (more : List Event) × (to.done ≡ from.done ++ more)
@@ -220,25 +220,25 @@ module _ (g : Geometry) (setting : Setting) (legal : IsLegalWithoutCounts g sett
   abbrev Now : List Event → (Pool → Type 0) → Type 0
   Now done P = At g setting.history legal setting.caller most done P
 
-  -- the caller owns a block with all its words written there
+  -- the caller owns the live block at the place, with all its words written
   abbrev IsFull : ℕ → Pool → Type 0
   IsFull place pool = OwnsSuch AllSet pool setting.caller place
 
-  -- so it does of each that the registers hold
+  -- the caller owns each block that the registers hold, with all its words written
   abbrev pub HeldSet : List Event → List (Option Held) → Type 0
   HeldSet done registers = (r : ℕ) (held : Held) → held_in registers r ≡ Some held → Now done (IsFull held.place)
 
   abbrev HoldsAt : Position → Type 0
   HoldsAt position = Now position.done (λ pool. HoldsOwn pool setting.caller position.registers)
 
-  -- a piece that gives no block, frees none and hands none over
+  -- a piece of events that gives no block, frees none and hands none over leaves all words of held blocks written
   quiet :
       (done piece : List Event) (registers : List (Option Held)) → AllByRecursion (IsStill setting.caller) piece → HeldSet done registers
       → HeldSet (done ++ piece) registers
   quiet done piece registers stills all r held full =
       at-stills g setting.history legal setting.caller most AllSet held.place done piece kept-all stills (all r held full)
 
-  -- a register is set to a block with all its words written, or emptied
+  -- the held blocks have all their words written when a register is set to such a block, or emptied
   set-full :
       (done : List Event) (registers : List (Option Held)) (r : ℕ) (new : Held) → Now done (IsFull new.place)
       → ((q : ℕ) (held : Held) → held_in registers q ≡ Some held → Now done (IsFull held.place))
@@ -441,7 +441,7 @@ module _ (g : Geometry) (setting : Setting) (legal : IsLegalWithoutCounts g sett
   row-set position (op.Resize r need) result piece given freed row at all =
       resize-set position r need (held_in position.registers r) result piece given freed refl row at all
 
-  -- so it is to the end of a walk
+  -- the held blocks have all their words written to the end of a walk
   pub walk-set :
       (from to : Position) (operations : List Op) (results : List Outcome) (given freed : ℕ) → Walks setting from operations results to
       → Before as_one setting from given freed → HeldSet from.done from.registers → HeldSet to.done to.registers
@@ -473,7 +473,7 @@ module _ (g : Geometry) (setting : Setting) (legal : IsLegalWithoutCounts g sett
       let tails : zs ≡ xs ++ Put setting.caller place shelf ∷ ys = cc in
       later xs (ap (λ y. y ∷ xs) same ∙ ap (λ es. es ++ xs) (sym piece_is)) tails
 
-  -- and a block that is put on a shelf has all its words written
+  -- a block that a walk puts on a shelf has all its words written
   pub put-full :
       (from to : Position) (operations : List Op) (results : List Outcome) (given freed : ℕ) (before : List Event) (place shelf : ℕ) (xs ys : List Event)
       → Walks setting from operations results to → Before as_one setting from given freed → HeldSet from.done from.registers

@@ -21,7 +21,7 @@ pub record Position : Type 0 where
   pub answered : ℕ
   pub spent : Bool
 
--- before the first operation
+-- a lane before its first operation: empty registers, and no event
 abbrev pub start : Position
 start = record { registers = replicate REGISTERS None; done = []; answered = 0; spent = false }
 

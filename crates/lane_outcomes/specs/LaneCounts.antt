@@ -48,7 +48,7 @@ lane_freed f registers (operation ∷ operations) [] = 0
 lane_freed f registers (operation ∷ operations) (result ∷ results) =
     count_with f (words_freed registers operation result) + lane_freed f (registers_after registers operation result) operations results
 
--- the same for all lanes
+-- what the blocks count that all lanes were given; what those count that they freed
 abbrev pub lanes_given : (ℕ → ℕ) → List (List Op) → List (List Outcome) → ℕ
 lanes_given f [] outcomes = 0
 lanes_given f (operations ∷ lanes) [] = 0
@@ -73,7 +73,7 @@ AreHeld outcomes = AllByRecursion (λ results. length results < 2 ^ 64) outcomes
 abbrev pub Grows : ℕ → ℕ → ℕ → Type 0
 Grows old new more = min new (2 ^ 128 - 1) ≡ min (old + more) (2 ^ 128 - 1)
 
--- so have the number of blocks and that of their words
+-- the number of blocks and that of their words have grown by so much, or are past the most that is counted
 pub record GrowsBy (old new : Amount) (blocks words : ℕ) : Type 0 where
   pub blocks_grow : Grows old.blocks new.blocks blocks
   pub words_grow : Grows old.words new.words words

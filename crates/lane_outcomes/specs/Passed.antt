@@ -7,6 +7,6 @@ use Rattle.trace_text.specs.declared.trace.Op.{Op}
 abbrev pub LanePassed : (ℕ → ℕ → Type 0) → ℕ → List Op → Type 0
 LanePassed passed lane operations = (op : ℕ) → op < length operations → passed lane (min op (2 ^ 32 - 1))
 
--- so did those of all lanes
+-- each operation of all lanes passed a gate
 abbrev pub AllPassed : (ℕ → ℕ → Type 0) → List (List Op) → Type 0
 AllPassed passed lanes = (lane : ℕ) → LanePassed passed lane (slice_index_or lanes lane [])

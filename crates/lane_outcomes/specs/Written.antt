@@ -11,16 +11,16 @@ use Rattle.lane_outcomes.specs.declared.registers.Held.{Held}
 use Rattle.lane_outcomes.specs.Lane.{Position, held_in, writing}
 use Rattle.lane_outcomes.specs.Rows.{Setting, Moment}
 
--- each word was written
+-- each word of a block's contents was written
 abbrev pub AreWritten : List (Option ℕ) → Type 0
 AreWritten contents = (words : List ℕ) × (contents ≡ map (λ word. Some word) words)
 
--- so it was of each block that the registers hold
+-- each word was written of each block that the registers hold
 abbrev pub HoldsWritten : Pool → List (Option Held) → Type 0
 HoldsWritten pool registers =
     (r : ℕ) (held : Held) (block : Block) → held_in registers r ≡ Some held → block_at held.place pool ≡ Some block → AreWritten block.contents
 
--- and of each block that lies on a shelf
+-- each word was written of each block that lies on a shelf
 abbrev pub ShelvesWritten : Pool → Type 0
 ShelvesWritten pool = EachBlock (λ block. (shelf : ℕ) → block.owner ≡ Shelf shelf → AreWritten block.contents) pool
 

@@ -43,7 +43,7 @@ use Rattle.lane_runner.proofs.DrivenLemmas.{fits-all}
 use Rattle.trace_lane.proofs.EndedLemmas.{lane-fits}
 use Rattle.lane_runner.proofs.RunLanes.{element_at}
 
--- what follows a caller's events adds none, if it has no more of them
+-- nothing follows a list that is the same with what follows it
 nothing-more : (xs ys : List Event) → xs ++ ys ≡ xs → ys ≡ []
 nothing-more xs [] same = refl
 nothing-more xs (y ∷ ys) same = absurd (omega (arith, length-append xs (y ∷ ys), ap length same))
@@ -100,7 +100,7 @@ told-spent setting from to (operation ∷ operations) (result ∷ results) zero 
 told-spent setting from to (operation ∷ operations) (result ∷ results) (suc k) (piece, row, walks) lt is =
     told-spent setting (position_after from operation result piece) to operations results k walks (omega (arith, lt)) is
 
--- so its caller has taken as many turns as the limit
+-- the caller of a lane that was told to have no turn left has taken as many turns as the limit
 rule-taken :
     (g : Geometry) (lane : ℕ) (events : List Event) (e : ErrandFields) (operations : List Op) (registers : List (Option Held)) (results : List Outcome)
     (at : OperationStage) → IsLane g lane events e operations registers results at → Contains results outcome.Spent → e.turns ≡ g.turn_limit
@@ -108,7 +108,7 @@ rule-taken g lane events e operations registers results at rule told =
     rule.spent
     (told-spent (setting_in events lane g.turn_limit e.lost) start rule.position (take (length results) operations) results told.0 rule.walks told.1 told.2)
 
--- so it is on a machine
+-- a lane on a machine that was told to have no turn left has taken as many turns as the limit
 pub driven-taken :
     (trace : Trace) (orders : List OrderRun) (c : CoreFields) (outcomes : List (List Outcome)) (lane : ℕ) → IsDriven trace orders c outcomes
     → lane < length trace.lanes → Contains (get_or outcomes lane []) outcome.Spent → (errand_at c.errands lane).turns ≡ trace.heap.turn_limit

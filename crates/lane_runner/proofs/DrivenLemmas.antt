@@ -212,7 +212,7 @@ so-far passed trace first last start lanes opened new so =
           };
     }
 
--- also where they stop behind the order runs
+-- lanes that stopped behind the order runs have driven the machine so far, in order
 pub stopped :
     (passed : ℕ → ℕ → Type 0) (trace : Trace) (first mid last : CoreFields) (start middle lanes : List (LaneState Grip))
     → IsOpened trace.heap (opening trace.heap) first → AreNew trace.lanes start → HaveFollowed passed trace trace.orders first mid start middle
@@ -385,7 +385,7 @@ module _ (passed : ℕ → ℕ → Type 0) (trace : Trace) (first mid last : Cor
             absurd (let zero_long : length (get_or trace.lanes lane []) ≡ 0 = ap length none in omega (arith, lt, zero_long))
       ]
 
--- what is told of them
+-- a machine was driven by lanes with the outcomes that are told of them
 map-twice : {A B C : Type 0} (f : B → C) (g : A → B) (xs : List A) → map f (map g xs) ≡ map (λ x. f (g x)) xs
 map-twice f g [] = refl
 map-twice f g (x ∷ xs) = ap (λ ys. f (g x) ∷ ys) (map-twice f g xs)

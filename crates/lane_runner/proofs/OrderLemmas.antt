@@ -36,7 +36,7 @@ lanes-none passed trace c lanes = record {
   gates = λ lane before now lt was is gone. subst (HasPassed passed) (the-same lanes lane lane before now lt refl was is) gone;
 }
 
--- moves behind others
+-- moves that drive a machine, and then others
 pub drives-append :
     (g : Geometry) (lanes : List (List Op)) (earlier : List Move) (s t u : State) (first second : List Move) → Drives g lanes earlier s first t
     → Drives g lanes (earlier ++ first) t second u → Drives g lanes earlier s (first ++ second) u
@@ -50,7 +50,7 @@ drives-append g lanes earlier s t u (move ∷ first) second h k = (
       (subst (λ moves. Drives g lanes moves t second u) (sym (append_assoc earlier (move ∷ []) first)) k),
 )
 
--- they go on
+-- lanes have run, and then run further
 unfoldable pub lanes-more :
     (passed : ℕ → ℕ → Type 0) (trace : Trace) (a b c : CoreFields) (old mid new : List (LaneState Grip)) → length mid ≡ length old
     → LanesRan passed trace a b old mid → LanesRan passed trace b c mid new → LanesRan passed trace a c old new
@@ -96,7 +96,7 @@ not-both :
     (xs ys : List ℕ) (lane : ℕ) → ¬ Contains xs lane → ¬ Contains ys lane → ¬ Contains (xs ++ ys) lane
 not-both xs ys lane a b there = elim (Contains-append_cases xs ys lane there) [ inl is ↦ a is | inr is ↦ b is ]
 
--- no order run yet
+-- lanes that have followed no order run yet
 pub followed-none :
     (passed : ℕ → ℕ → Type 0) (trace : Trace) (c : CoreFields) (lanes : List (LaneState Grip)) → LanesStand trace c lanes
     → HaveFollowed passed trace [] c c lanes lanes
@@ -107,7 +107,7 @@ followed-none passed trace c lanes stand = record {
   order = record { goes_on = λ later count rest none follows. follows };
 }
 
--- one order run
+-- a lane follows one order run
 pub followed-one :
     (passed : ℕ → ℕ → Type 0) (trace : Trace) (c after : CoreFields) (lanes : List (LaneState Grip)) (run : OrderRun) (lane : ℕ)
     (operations : List Op) (old new : LaneState Grip) → LanesStand trace c lanes → lane < length lanes → run.lane ≡ lane
@@ -135,7 +135,7 @@ followed-one passed trace c after lanes run lane operations old new stand lt num
       };
     }
 
--- more order runs
+-- lanes have followed order runs, and then more of them
 pub followed-more :
     (passed : ℕ → ℕ → Type 0) (trace : Trace) (runs more : List OrderRun) (a b c : CoreFields) (old mid new : List (LaneState Grip))
     → length mid ≡ length old → HaveFollowed passed trace runs a b old mid → HaveFollowed passed trace more b c mid new
@@ -186,7 +186,7 @@ out-one passed trace c after lanes lane operations old new stand lt mine is out 
           (subst (λ operations. HasEnded operations new) mine out.ended);
     }
 
--- and one more
+-- one lane more has gone on to its end
 pub finished-more :
     (passed : ℕ → ℕ → Type 0) (trace : Trace) (count : ℕ) (a b c : CoreFields) (old mid new : List (LaneState Grip)) → length mid ≡ length old
     → HaveFinished passed trace count a b old mid → OneRanOut passed trace b c mid new count → HaveFinished passed trace (count + 1) a c old new

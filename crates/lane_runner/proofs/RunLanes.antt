@@ -57,7 +57,7 @@ pub the-same :
     → x ≡ y
 the-same lanes lane at x y lt same a b = a ∙ ap (λ k. get_or lanes k x) same ∙ get_or_default lanes lane x y lt ∙ sym b
 
--- no caller but this one is named
+-- the steps of one caller name no other caller
 contains-replicate : (n lane other : ℕ) → Contains (replicate n lane) other → other ≡ lane
 contains-replicate n lane other is = All-contains (λ y. y ≡ lane) (replicate n lane) other (All-replicate (λ y. y ≡ lane) n lane refl) is
 
@@ -94,7 +94,7 @@ calls-other lane other (begins caller call ∷ moves) ne by =
     (calls-other lane other moves ne (All-tail (IsBy lane) (begins caller call) moves by))
 calls-other lane other (steps caller ∷ moves) ne by = calls-other lane other moves ne (All-tail (IsBy lane) (steps caller) moves by)
 
--- what another tells is no event of the lane's
+-- an event of another caller is none of the lane's
 own-not : (lane : ℕ) (e : Event) → caller_of e ≢ lane → own lane (e ∷ []) ≡ []
 own-not lane e ne = ap (λ b. if b then e ∷ [] else []) (ne_eqb (caller_of e) lane ne)
 
@@ -112,7 +112,7 @@ other-calls : (lane : ℕ) (move : Move) → lane ≢ mover_of move → calls_of
 other-calls lane (begins caller call) ne = calls-cond (caller == lane) call [] (ne_eqb caller lane (λ is. ne (sym is))) refl
 other-calls lane (steps caller) ne = refl
 
--- there is an element at each place
+-- a list has an element at each place
 pub element_at : {A : Type 0} (xs : List A) (k : ℕ) → k < length xs → (x : A) × (x ≡ get_or xs k x)
 element_at [] k lt = absurd (omega (arith, lt))
 element_at (x ∷ xs) zero lt = (x, refl)
@@ -152,7 +152,7 @@ other-move c after lane (steps caller) ne moved = (
       (λ e is. λ mine. ne (sym mine ∙ event_own caller (errand_at c.errands caller).point (found_at (state_of c) caller) e is))),
 )
 
--- so it is on its way as it was
+-- a lane that stands still is on its way as it was
 way-on :
     (g : Geometry) (operations : List Op) (c after : CoreFields) (lane : ℕ) (earlier : List Move) (move : Move) → lane ≢ mover_of move
     → MovesCore c move after → IsLegal g after.events → IsOnItsWay g operations lane (state_of c) (calls_of lane earlier)

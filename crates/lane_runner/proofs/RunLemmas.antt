@@ -66,7 +66,7 @@ ran-none passed c operations lane stands = record {
   gate = λ gone. gone;
 }
 
--- it goes on
+-- a lane has run, and then runs further
 pub ran-more :
     (passed : ℕ → ℕ → Type 0) (a b c : CoreFields) (operations : List Op) (old mid new : LaneState Grip) (m n : ℕ)
     → HasRun passed a b operations old mid m → HasRun passed b c operations mid new n → HasRun passed a c operations old new (m + n)
@@ -121,7 +121,7 @@ none-made : (made : Bool) → ◌≡◌ {A = ℕ} 0 (if made then 1 else 0) → 
 none-made false is = refl
 none-made true is = absurd (zero≢one is)
 
--- nothing of its script is left
+-- a lane that has ended has nothing of its script left
 ended-left : (operations : List Op) (lane : LaneState Grip) → HasEnded operations lane → script_left operations lane.outcomes.items lane.stage ≡ 0
 ended-left operations lane ended = omega (arith, ended.all)
 
@@ -173,7 +173,7 @@ advanced-ran passed c after operations old new made stands goes = record {
   gate = λ gone. subst (λ caller. FirstPassed passed caller (begun_count new.outcomes.items new.stage)) (sym goes.caller) (goes.gate gone);
 }
 
--- so is one that comes after others
+-- a run of a lane with an advance behind it is a run
 pub next-ran :
     (passed : ℕ → ℕ → Type 0) (first c after : CoreFields) (operations : List Op) (start old new : LaneState Grip) (made : ℕ) (one : Bool)
     → HasRun passed first c operations start old made → AdvancesOn passed operations c after old new one

@@ -101,7 +101,7 @@ missed-lost caller k e (point.Large (large.ConfirmNothing shelf) o) x added way 
     won-none x.won (TakeNone caller shelf) none
 missed-lost caller k e (point.Large p o) x added way idle none = absurd way
 
--- where a take has begun again and the stage is the same, a take was under way before
+-- a take was under way before, where one has begun again and the stage is the same
 doing-take :
     (caller shelf : ℕ) (events events' : List Event) (p : Point) (position position' : Position) (registers registers' : List (Option Held)) (operation : Op)
     (at : OperationStage) (added added' : List Event) → IsDoing caller events p position registers operation at added
@@ -185,7 +185,7 @@ abbrev pub lane_left : CoreFields → List Op → LaneState Grip → ℕ
 lane_left c operations lane =
     script_left operations lane.outcomes.items lane.stage * 2 ^ 64 + alone_left c.geometry (state_of c) lane.caller
 
--- in numbers
+-- less is left, in numbers, where a take begins again, where the script falls, and where only the call does
 below-again :
     (stale clear left stale' clear' left' : ℕ) → stale ≡ 0 → clear ≡ 0 → left ≡ 2 → 1 ≤ stale'
     → (stale + clear) * CALL_STEPS + left < (stale' + clear') * CALL_STEPS + left'

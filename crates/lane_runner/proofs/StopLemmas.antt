@@ -19,7 +19,7 @@ pub on-err : {T E : Type 0} (r : Result T E) (P : Type 0) → P → OnErr r P
 on-err (Ok x) P p = tt
 on-err (Err e) P p = p
 
--- where no step is made, all is in order
+-- lanes that make no step are in order
 one-by-none : (lanes lane : ℕ) → OneByOne lane lanes []
 one-by-none zero lane = refl
 one-by-none (suc lanes) lane = (0, [], refl, contains-none lane, one-by-none lanes (suc lane))
@@ -51,7 +51,7 @@ stopped-one passed trace c after lanes run lane operations old new stand lt numb
       );
     }
 
--- others had followed their order runs before
+-- lanes have followed order runs before the one in which a lane stops
 pub stopped-more :
     (passed : ℕ → ℕ → Type 0) (trace : Trace) (runs later : List OrderRun) (run : OrderRun) (a b c : CoreFields) (old mid new : List (LaneState Grip))
     → length mid ≡ length old → runs ++ run ∷ later ≡ trace.orders → HaveFollowed passed trace runs a b old mid

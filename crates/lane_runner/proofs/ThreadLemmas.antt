@@ -48,12 +48,12 @@ module _ {X : Type 0} (P : ℕ → X → Type 0) where
       let rest = down-pop last ys x all.1 in
       (rest.0, (subst (λ n. P n y) (omega (arith, length-append ys (x ∷ []))) all.0, rest.1))
 
-  -- what is so of each of them
+  -- what follows for each numbered element is so of all
   pub down-all : (Q : X → Type 0) → ((n : ℕ) (x : X) → P n x → Q x) → (last : ℕ) (xs : List X) → AreDown P last xs → All Q xs
   down-all Q follows last [] all = All-nil Q
   down-all Q follows last (x ∷ xs) all = All-cons Q x xs (follows (last + length xs) x all.0) (down-all Q follows last xs all.1)
 
-  -- the one with a number
+  -- the element with a number
   pub down-find : (last : ℕ) (xs : List X) (n : ℕ) → last ≤ n → n < last + length xs → AreDown P last xs → (x : X) × P n x
   down-find last [] n least lt all = absurd (omega (arith, least, lt))
   down-find last (x ∷ xs) n least lt all =
@@ -62,7 +62,7 @@ module _ {X : Type 0} (P : ℕ → X → Type 0) where
         | inr ne ↦ down-find last xs n least (omega (arith, ne, lt)) all.1
       ]
 
--- the same elements after something was done with each of them
+-- numbered elements keep their numbers when something is done with each of them
 pub down-done :
     {X : Type 0} (P Q : ℕ → X → Type 0) (R : X → X → Type 0) → ((n : ℕ) (x y : X) → P n x → R x y → Q n y) → (last : ℕ) (xs ys : List X)
     → length ys ≡ length xs → ((i : ℕ) (d : X) → i < length xs → R (get_or xs i d) (get_or ys i d)) → AreDown P last xs → AreDown Q last ys
@@ -157,7 +157,7 @@ all-made passed trace h k t u is ran =
       made = subst (λ os. AllMade (WholeAt h) (replicate REGISTERS None) (operations_in trace k) os t.pass u.pass) (sym outcomes) of_lane;
     }
 
--- its thread has run it
+-- a lane that was ready is done when its thread has run it
 pub ready-done :
     (passed : ℕ → ℕ → Type 0) (trace : Trace) (h : Heap) (k : ℕ) (t u : LaneThread) → IsReady trace h k t → HasRunThrough passed trace h t u
     → IsDone trace h k u
@@ -240,7 +240,7 @@ done-ended trace h k t done =
       calls = done.calls;
     }
 
--- one more has ended
+-- the lanes that have ended, with one more
 pub ended-push :
     (trace : Trace) (h : Heap) (k : ℕ) (ps : List Pass) (os : List (Vec Outcome Global)) (p : Pass) (o : Vec Outcome Global)
     → AreEnded trace h k ps os → HasEndedOver h (operations_in trace (k + length ps)) (k + length ps) p o.items
@@ -260,7 +260,7 @@ ended-count trace h k [] (o ∷ os) all = absurd all
 ended-count trace h k (p ∷ ps) [] all = absurd all
 ended-count trace h k (p ∷ ps) (o ∷ os) all = ap suc (ended-count trace h (suc k) ps os all.1)
 
--- the one with this number
+-- the lane of this number, among those that have ended
 pub ended-at :
     (trace : Trace) (h : Heap) (k : ℕ) (ps : List Pass) (os : List (Vec Outcome Global)) (i : ℕ) (p : Pass) → AreEnded trace h k ps os
     → i < length ps → p ≡ get_or ps i p

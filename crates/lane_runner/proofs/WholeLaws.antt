@@ -12,6 +12,7 @@ use Rattle.errand_steps.specs.declared.reply.Offer.{Offer}
 use Rattle.errand_steps.specs.declared.reply.Progress.TheVariants.{Done}
 use Rattle.errand_steps.specs.declared.reply.Reply.{Reply}
 use Rattle.errand_steps.specs.declared.reply.Reply.TheVariants as reply
+use Rattle.errand_steps.specs.declared.told.Ending.TheVariants as ending
 use Rattle.step_machine.proofs.MomentAnswers.{moment-given}
 use Rattle.live_heap.specs.declared.heap.Heap.{Heap}
 use Rattle.live_heap.specs.declared.pass.Pass.{Pass}
@@ -25,7 +26,6 @@ use Rattle.trace_text.specs.declared.trace.Op.TheVariants as op
 use Rattle.trace_text.specs.Traces.{IsOp}
 use Rattle.call_events.specs.Made.{LeadsBy, Made, answered, found_from, wrote}
 use Rattle.lane_engine.specs.declared.over_pass.PassCalls.{PassCalls}
-use Rattle.lane_engine.specs.declared.stepped.Stepped.TheVariants as stepped
 use Rattle.lane_outcomes.specs.declared.registers.Held.{Held}
 use Rattle.lane_outcomes.specs.declared.outcome.Outcome.{Outcome}
 use Rattle.lane_outcomes.specs.declared.outcome.Outcome.TheVariants as outcome
@@ -62,7 +62,7 @@ leads-pass h e f (m ∷ made) here (g, (one, owned, same, rests), leads) =
     let more = leads-pass h g f made there leads in
     (more.0, (g.pass.now, (one, owned, subst (λ k. IsAtRest k g.pass.now) there rests), more.1))
 
--- so it rests
+-- a pass at rest that made whole calls is at rest
 pub leads-rest : (h : Heap) (p q : Pass) (made : List Made) → IsAtRest h p → LeadsBy (WholeAt h) p made q → IsAtRest h q
 leads-rest h p q [] rests leads = subst (IsAtRest h) (sym leads) rests
 leads-rest h p q (m ∷ made) rests (t, one, leads) = leads-rest h t q made one.2 leads
@@ -227,7 +227,7 @@ module _ (h : Heap) (operations rest : List Op) (results : List Outcome) (regist
       let so = alloc-given_so place_in need_in h.layout made.1.last t.errand made.1.sight (seen t) operations registers results i.heap
       (served-last h operations o rest results next p t rests of (alloc need) made.0 answer tt made.1) rest (begun_by t.errand call) r need v block stage.Calling
       i.lane next (doing-in h.layout operations o rest results next made.1.last made.1.sight registers stage.Calling i)
-      (step-of h operations o rest results next p t rests of (alloc need) made.0 answer tt made.1 (stepped.Given block) (refl, refl)) within
+      (step-of h operations o rest results next p t rests of (alloc need) made.0 answer tt made.1 (ending.Given block) refl tt) within
       (begun-at h t call one.2 owned) in
       let held_same : held_by place_in need_in block ≡ held =
       ap (λ m. record { place = held.place; words = m; need = n }) (sym words.0)
@@ -308,7 +308,7 @@ here-is zero (y ∷ xs) rest x is = (omega arith, let both : y ∷ xs ≡ x ∷ 
 here-is (suc n) (y ∷ xs) rest x is = let more = here-is n xs rest x is in (omega (arith, more.0), more.1)
 
 module _ (h : Heap) (operations : List Op) (ops : All IsOp operations) where
-  -- so do all that are left
+  -- a lane stands by its rule behind all operations that are left
   pub all-stand :
       (left : List Op) (outs results : List Outcome) (registers : List (Option Held)) (p q : Pass) → drop (length results) operations ≡ left
       → IsAtRest h p → StandsAt h p operations registers results → AllMade (WholeAt h) registers left outs p q

@@ -13,11 +13,15 @@ use Rattle.errand_steps.specs.declared.reply.Offer.{Offer}
 use Rattle.errand_steps.specs.declared.reply.Progress.TheVariants as progress
 use Rattle.errand_steps.specs.declared.reply.Reply.{Reply}
 use Rattle.errand_steps.specs.declared.reply.Reply.TheVariants as reply
+use Rattle.errand_steps.specs.declared.told.Ending.{Ending}
+use Rattle.errand_steps.specs.declared.told.Ending.TheVariants as ending
+use Rattle.errand_steps.specs.declared.told.Stepped.TheVariants as stepped
 use Rattle.errand_steps.specs.Offers.{offered_at}
+use Rattle.errand_steps.specs.Told.{GivesBack, ended_as}
 use Rattle.call_events.specs.UnderWay.{IsUnderWay}
 use Rattle.call_events.proofs.OfferLemmas.{put-offers}
 use Rattle.step_machine.specs.Cores.{OwnsAfter}
-use Rattle.step_machine.specs.Moments.{IsServed}
+use Rattle.step_machine.specs.Moments.{IsMoment, IsServed}
 use Rattle.step_machine.proofs.MomentAnswers.{moment-caller}
 use Rattle.live_heap.specs.declared.heap.Heap.{Heap}
 use Rattle.live_heap.specs.declared.pass.Pass.{Pass}
@@ -27,9 +31,7 @@ use Rattle.live_heap.specs.Passes.{IsOf, seen}
 use Rattle.live_heap.specs.Whole.{IsAtRest, OwnsFor}
 use Rattle.trace_text.specs.declared.trace.Op.{Op}
 use Rattle.trace_text.specs.declared.trace.Op.TheVariants as op
-use Rattle.lane_engine.specs.declared.stepped.Stepped.{Stepped}
-use Rattle.lane_engine.specs.declared.stepped.Stepped.TheVariants as stepped
-use Rattle.lane_engine.specs.Told.{HasStepped, Tells}
+use Rattle.lane_engine.specs.Told.{HasStepped}
 use Rattle.lane_outcomes.specs.declared.registers.Held.{Held}
 use Rattle.lane_outcomes.specs.declared.outcome.Outcome.{Outcome}
 use Rattle.lane_outcomes.specs.declared.outcome.Outcome.TheVariants as outcome
@@ -85,9 +87,13 @@ module _ (h : Heap) (operations : List Op) (operation : Op) (rest : List Op) (re
         → IsLane h.layout q.errand.caller (seen q) f operations registers outcomes at
     to-pass f registers outcomes at = subst (λ c. IsLane h.layout c (seen q) f operations registers outcomes at) (sym same-caller)
 
-    pub step-of : (told : Stepped Offer) → Tells place_in need_in (offered_at called.last.point) (progress.Done answer) told
-        → HasStepped place_in need_in called.last q.errand called.sight (seen q) told
-    step-of told tells = record { answer = progress.Done answer; moment = called.moment; tells = tells }
+    pub step-of : (told : Ending Offer) → ended_as place_in need_in told ≡ answer
+        → GivesBack place_in need_in (offered_at called.last.point) (stepped.Done told)
+        → HasStepped place_in need_in called.last q.errand called.sight (seen q) (stepped.Done told)
+    step-of told is back = record {
+      moment = subst (λ r. IsMoment called.last q.errand called.sight (seen q) (progress.Done r)) (sym is) called.moment;
+      back = back;
+    }
 
 -- a register's block is one of this need, and has as many words
 abbrev pub HasNeed : Held → Need → Type 0
@@ -115,7 +121,7 @@ free-stands h operations rest results registers r held need p q steps next rests
     let so = free-ends_so place_in need_in h.layout called.last q.errand called.sight (seen q) operations now results i.heap
     (served-last h operations (op.Free r) rest results next p q rests of call steps reply.Freed owned called) rest r stage.Calling i.lane next
     (doing-in h.layout operations (op.Free r) rest results next called.last called.sight now stage.Calling i)
-    (step-of h operations (op.Free r) rest results next p q rests of call steps reply.Freed owned called stepped.Freed tt) in
+    (step-of h operations (op.Free r) rest results next p q rests of call steps reply.Freed owned called ending.Freed refl tt) in
     to-pass h operations (op.Free r) rest results next p q rests of call steps reply.Freed owned called q.errand now
     (results ++ outcome.Freed ∷ []) stage.Between so.stands
 
@@ -137,7 +143,7 @@ put-stands h operations rest results registers r shelf held need p q steps next 
     let so = put-puts place_in need_in h.layout called.last q.errand called.sight (seen q) operations now results i.heap
     (served-last h operations o rest results next p q rests of call steps reply.Put owned called).legal rest r shelf stage.Calling i.lane next
     (doing-in h.layout operations o rest results next called.last called.sight now stage.Calling i)
-    (step-of h operations o rest results next p q rests of call steps reply.Put owned called stepped.Put tt) in
+    (step-of h operations o rest results next p q rests of call steps reply.Put owned called ending.Put refl tt) in
     to-pass h operations o rest results next p q rests of call steps reply.Put owned called q.errand now
     (results ++ outcome.Put ∷ []) stage.Between so.stands
 
@@ -168,9 +174,9 @@ put_full-stands h operations rest results registers r shelf found held need p q 
     (subst (λ c. IsUnderWay c call (begun_by p.errand call).point []) (sym started.same_caller) started.under_way) called.on in
     let offers : offered_at called.last.point ≡ Some block = put-offers called.last.caller held.place need shelf called.last.point way.0 way.1 in
     let so = put-finds place_in need_in h.layout called.last q.errand called.sight (seen q) operations now results i.heap
-    (served-last h operations o rest results next p q rests of call steps answer owned called).legal rest r shelf block stage.Calling i.lane next
+    (served-last h operations o rest results next p q rests of call steps answer owned called).legal rest r shelf found block stage.Calling i.lane next
     (doing-in h.layout operations o rest results next called.last called.sight now stage.Calling i)
-    (step-of h operations o rest results next p q rests of call steps answer owned called (stepped.Full block) offers) in
+    (step-of h operations o rest results next p q rests of call steps answer owned called (ending.Full block found) refl offers) in
     let held_same : held_by place_in need_in block ≡ held =
     ap (λ w. record { place = held.place; words = w; need = need }) (sym words.0)
     ∙ ap (λ (n : Need). record { place = held.place; words = held.words; need = n }) (sym words.1) in
@@ -196,7 +202,7 @@ refused-stands h operations rest results registers r need v p q steps next rests
     let so = alloc-ends_refused place_in need_in h.layout called.last q.errand called.sight (seen q) operations registers results i.heap
     (served-last h operations o rest results next p q rests of call steps reply.Refused tt called) rest r need v stage.Calling i.lane next
     (doing-in h.layout operations o rest results next called.last called.sight registers stage.Calling i)
-    (step-of h operations o rest results next p q rests of call steps reply.Refused tt called stepped.Refused tt) in
+    (step-of h operations o rest results next p q rests of call steps reply.Refused tt called ending.Refused refl tt) in
     to-pass h operations o rest results next p q rests of call steps reply.Refused tt called q.errand registers
     (results ++ outcome.Refused ∷ []) stage.Between so.stands
 
@@ -215,7 +221,7 @@ spent-stands h operations rest results registers r need v p q steps next rests o
     let so = alloc-ends_spent place_in need_in h.layout called.last q.errand called.sight (seen q) operations registers results i.heap
     (served-last h operations o rest results next p q rests of call steps reply.Spent tt called) rest r need v stage.Calling i.lane next
     (doing-in h.layout operations o rest results next called.last called.sight registers stage.Calling i)
-    (step-of h operations o rest results next p q rests of call steps reply.Spent tt called stepped.Spent tt) in
+    (step-of h operations o rest results next p q rests of call steps reply.Spent tt called ending.Spent refl tt) in
     to-pass h operations o rest results next p q rests of call steps reply.Spent tt called q.errand registers
     (results ++ outcome.Spent ∷ []) stage.Between so.stands
 

@@ -30,6 +30,8 @@ use Rattle.errand_steps.specs.declared.reply.Progress.{Progress}
 use Rattle.errand_steps.specs.declared.reply.Progress.TheVariants as progress
 use Rattle.errand_steps.specs.declared.reply.Reply.{Reply}
 use Rattle.errand_steps.specs.declared.reply.Reply.TheVariants as reply
+use Rattle.errand_steps.specs.declared.told.Ending.TheVariants as ending
+use Rattle.errand_steps.specs.declared.told.Stepped.TheVariants as stepped
 use Rattle.call_events.specs.Ends.{HasEnded, end_of}
 use Rattle.call_events.specs.Made.{LeadsBy, Made, answered}
 use Rattle.call_events.specs.UnderWay.{IsUnderWay}
@@ -44,7 +46,6 @@ use Rattle.live_heap.specs.Whole.{IsAtRest, OwnsFor, MadeByPass, by_steps, at_on
 use Rattle.live_heap.proofs.Changes.{called-changes}
 use Rattle.trace_text.specs.declared.trace.Op.{Op}
 use Rattle.trace_text.specs.declared.trace.Op.TheVariants as op
-use Rattle.lane_engine.specs.declared.stepped.Stepped.TheVariants as stepped
 use Rattle.lane_engine.specs.Told.{HasStepped}
 use Rattle.lane_engine.specs.Whole.{copied, copied_word}
 use Rattle.lane_engine.proofs.CopyLemmas.{copied-past, copied-read}
@@ -123,7 +124,7 @@ onward-steps zero e f before after on =
 onward-steps (suc steps) e f before after (last, sight, answer, on, moment, busy) =
     onward-then e last f before sight after (onward-steps steps e last before sight on) (onward-step last f sight after answer moment)
 
--- so has the caller of a pass by a whole call
+-- the caller of a pass has gone on by a whole call
 pub call-onward :
     (h : Heap) (p q : Pass) (call : Call) (steps : ℕ) (answer : Reply) → IsAtRest h p → OwnsFor p call → HasCalled p call steps answer q
     → IsOnward p.errand q.errand (seen p) (seen q)
@@ -135,7 +136,7 @@ call-onward h p q call steps answer rests owned called =
     (onward-steps steps e called.last (seen p) called.sight called.on))
     (onward-step called.last q.errand called.sight (seen q) (progress.Done answer) called.moment)
 
--- which events a call that answered so has added
+-- a call that answered so has added the events of its end
 pub ended-as :
     (caller : ℕ) (call : Call) (answer : Reply) (events : List Event) (end : Ended) → HasEnded caller call answer events
     → end_of call answer ≡ Some end → EventsOf caller end events
@@ -151,7 +152,7 @@ below-both i m n one two =
       | inr more ↦ subst (λ k. i < k) (sym (min-eq_right more)) two
     ]
 
--- calls, and then others
+-- calls and then others lead through a state between them
 pub leads-split :
     {S : Type 0} (called : S → Call → Reply → S → Type 0) (s u : S) (made more : List Made) → LeadsBy called s (made ++ more) u
     → (t : S) × LeadsBy called s made t × LeadsBy called t more u
@@ -194,14 +195,14 @@ copy-of setting position held block words found moment live size all each = reco
 }
 
 module _ (h : Heap) (p : Pass) (at : ℕ) (block : Block) where
-  -- since the pass stood so its caller has added these events, and its block at this place is as it was
+  -- the caller of the pass has added these events since, and its block at this place is as it was
   pub record HasKept (t : Pass) (added : List Event) : Type 0 where
     pub rests : IsAtRest h t
     pub onward : IsOnward p.errand t.errand (seen p) (seen t)
     pub events : own p.errand.caller (seen t) ≡ own p.errand.caller (seen p) ++ added
     pub still : owned_in t at ≡ Some block
 
-  -- it keeps it through a call that leaves it
+  -- the caller keeps its block through a call that leaves it
   pub kept-call :
       (t u : Pass) (added : List Event) (call : Call) (steps : ℕ) (answer : Reply) (k : HasKept t added) → OwnsFor t call → IsAtRest h u
       → (called : HasCalled t call steps answer u) → owned_in u at ≡ owned_in t at → HasKept u (added ++ called.added)
@@ -232,7 +233,7 @@ module _ (h : Heap) (p : Pass) (at : ℕ) (block : Block) where
       subst (λ xs. HasKept u (added ++ xs)) (events ∙ ap (λ c. Write c place i v ∷ []) k.onward.same_caller)
       (kept-call t u added call one.0 reply.Wrote k owned rests called (changed.others at differ))
 
-  -- one of its own words is read: it is what the block holds there
+  -- a word of the kept block is read: it is what the block holds there
   pub kept-read :
       (t u : Pass) (added : List Event) (need : Need) (i word : ℕ) → HasKept t added → WholeAt h t (read at need i) (reply.Word word) u
       → HasKept u added × IsWord (slice_index_or block.contents i None) word
@@ -249,10 +250,10 @@ module _ (h : Heap) (p : Pass) (at : ℕ) (block : Block) where
       (kept-call t u added call one.0 answer k owned rests called same) in
       let way = steps-under one.0 (begun_by t.errand call) called.last (seen t) called.sight call []
       (subst (λ c. IsUnderWay c call (begun_by t.errand call).point []) (sym begun.same_caller) begun.under_way) called.on in
-      let step : HasStepped place_in need_in called.last u.errand called.sight (seen u) (stepped.Word word) =
-      record { answer = progress.Done answer; moment = called.moment; tells = refl } in
+      let step : HasStepped place_in need_in called.last u.errand called.sight (seen u) (stepped.Done (ending.Word word)) =
+      record { moment = called.moment; back = tt } in
       let found : EndsRead called.last u.errand at i word called.sight (seen u) way.0 =
-      told-of_read place_in need_in called.last u.errand called.sight (seen u) way.0 at need i (stepped.Word word) step way.1 in
+      told-of_read place_in need_in called.last u.errand called.sight (seen u) way.0 at need i (ending.Word word) step way.1 in
       let caller : u.errand.caller ≡ called.last.caller = found.ends.moved_on.same_caller in
       let owned_is : owned_in u at ≡ Some found.block =
       ap (if_of u.errand.caller) found.live
@@ -268,7 +269,7 @@ module _ (h : Heap) (p : Pass) (at : ℕ) (block : Block) where
     abbrev pub Written : ℕ → ℕ → List Event
     Written i n = map (λ j. Write p.errand.caller place j (value_of words j)) (range_with_len i n)
 
-    -- these words are what the block holds
+    -- the words that are read from i on are what the block holds
     abbrev pub AreWords : ℕ → ℕ → Type 0
     AreWords i n = (j : ℕ) → i ≤ j → j < i + n → j < length words → IsWord (slice_index_or block.contents j None) (value_of words j)
 
@@ -298,7 +299,7 @@ module _ (h : Heap) (p : Pass) (at : ℕ) (block : Block) where
               )
         ]
 
-    -- and then the others
+    -- so many words are copied, from word i on
     pub copy-walk :
         (n i : ℕ) (t u : Pass) (added : List Event) → HasKept t added → LeadsBy (WholeAt h) t (Copied i n) u
         → HasKept u (added ++ Written i n) × AreWords i n
@@ -409,10 +410,10 @@ module _ (h : Heap) (operations rest : List Op) (results : List Outcome) (regist
         let begun = called-begun h p q call steps answer rests tt called in
         let way = steps-under steps (begun_by p.errand call) called.last (seen p) called.sight call []
         (subst (λ c. IsUnderWay c call (begun_by p.errand call).point []) (sym begun.same_caller) begun.under_way) called.on in
-        let step : HasStepped place_in need_in called.last q.errand called.sight (seen q) stepped.Spent =
-        record { answer = progress.Done answer; moment = called.moment; tells = tt } in
+        let step : HasStepped place_in need_in called.last q.errand called.sight (seen q) (stepped.Done ending.Spent) =
+        record { moment = called.moment; back = tt } in
         let told : EndsSpent called.last q.errand need called.sight (seen q) way.0 =
-        told-of_alloc place_in need_in called.last q.errand called.sight (seen q) way.0 need stepped.Spent step way.1 in
+        told-of_alloc place_in need_in called.last q.errand called.sight (seen q) way.0 need ending.Spent step way.1 in
         let on = call-onward h p q call steps answer rests tt called in
         let limit : q.errand.turns ≡ h.layout.turn_limit =
         told.limit ∙ ap (λ (g : Geometry). g.turn_limit) (sym told.ends.moved_on.same_geometry ∙ on.same_geometry ∙ heap) in

@@ -86,7 +86,7 @@ misses-script shelf (m ∷ misses) answer are =
     ap (λ (x : Made). x.call ∷ calls_made (misses ++ answered (take shelf) answer ∷ [])) are.2
     ∙ ap (λ calls. take shelf ∷ calls) (misses-script shelf misses answer are.3)
 
--- so the calls of an operation are those of its script
+-- the calls of an operation that was made are those of its script
 module _ (h : Heap) (operations rest : List Op) (results : List Outcome) (registers : List (Option Held)) (p q : Pass) (rests : IsAtRest h p) (lane : StandsAt h p operations registers results) where
   on-held :
       (r : ℕ) (held : Held) (need : Need) (calls_on : Held → Need → List Call) (made : List Made) → held_in registers r ≡ Some held
@@ -198,7 +198,7 @@ module _ (h : Heap) (operations rest : List Op) (results : List Outcome) (regist
   op-script (op.Resize r need) result None made is calls leads = absurd calls
   op-script (op.Resize r need) result (Some held) made is calls leads = absurd calls
 
--- and those of a lane are those of the whole script
+-- the calls of a lane's operations are those of its whole script
 module _ (h : Heap) (operations : List Op) (ops : All IsOp operations) where
   all-script :
       (left : List Op) (outs results : List Outcome) (registers : List (Option Held)) (p q : Pass) → drop (length results) operations ≡ left

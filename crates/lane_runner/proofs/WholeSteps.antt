@@ -14,6 +14,8 @@ use Rattle.errand_steps.specs.declared.reply.Offer.{Offer}
 use Rattle.errand_steps.specs.declared.reply.Progress.{Progress}
 use Rattle.errand_steps.specs.declared.reply.Progress.TheVariants as progress
 use Rattle.errand_steps.specs.declared.reply.Reply.{Reply}
+use Rattle.errand_steps.specs.declared.told.Stepped.{Stepped}
+use Rattle.errand_steps.specs.declared.told.Stepped.TheVariants as stepped
 use Rattle.errand_steps.proofs.AnswerLemmas.{done-told}
 use Rattle.call_events.specs.UnderWay.{IsUnderWay}
 use Rattle.call_events.proofs.BeginsLemmas.{too_large-stays, spent-begins}
@@ -25,8 +27,6 @@ use Rattle.live_heap.specs.Calls.{HasCalled, StepsOn}
 use Rattle.live_heap.specs.Passes.{seen}
 use Rattle.live_heap.specs.Whole.{IsAtRest, OwnsFor}
 use Rattle.trace_text.specs.declared.trace.Op.{Op}
-use Rattle.lane_engine.specs.declared.stepped.Stepped.{Stepped}
-use Rattle.lane_engine.specs.declared.stepped.Stepped.TheVariants as stepped
 use Rattle.lane_engine.specs.Told.{HasStepped}
 use Rattle.lane_outcomes.specs.declared.registers.Held.{Held}
 use Rattle.lane_outcomes.specs.declared.outcome.Outcome.{Outcome}
@@ -65,11 +65,11 @@ pub goes-on :
 goes-on e f before after progress.Idle m busy =
     let s = settled-of e f before after progress.Idle m in absurd (answer-not_idle e s.x (sym s.answers))
 goes-on e f before after progress.More m busy =
-    record { told = stepped.More; on = tt; step = record { answer = progress.More; moment = m; tells = tt } }
+    record { told = stepped.More; on = tt; step = record { moment = m; back = tt } }
 goes-on e f before after progress.Lost m busy =
-    record { told = stepped.Lost; on = tt; step = record { answer = progress.Lost; moment = m; tells = tt } }
+    record { told = stepped.Lost; on = tt; step = record { moment = m; back = tt } }
 goes-on e f before after progress.Cleared m busy =
-    record { told = stepped.Cleared; on = tt; step = record { answer = progress.Cleared; moment = m; tells = tt } }
+    record { told = stepped.Cleared; on = tt; step = record { moment = m; back = tt } }
 goes-on e f before after (progress.Done r) m busy =
     let s = settled-of e f before after (progress.Done r) m in
     absurd (busy-not_idle f (subst IsIdle (sym s.settled) ((done-told e s.x s.busy).1 (r, sym s.answers))) busy)
@@ -95,7 +95,7 @@ module _ (g : Geometry) (operations : List Op) (operation : Op) (rest : List Op)
   doing-in e events registers at i =
       doing-at e.caller events e i.lane.position registers (drop (length results) operations) rest operation at i.lane.added next i.busy i.lane.stands
 
-  -- it is so behind each step that goes on
+  -- the operation is under way still behind each step that goes on
   stays :
       (e f : ErrandFields) (before after : List Event) (registers : List (Option Held)) (at : OperationStage) (answer : Progress)
       → InCall e before registers at → IsMoment e f before after answer → IsBusy f → InCall f after registers at
@@ -131,7 +131,7 @@ answer-some begun.Started one two = refl
 answer-some begun.TooLarge one two = absurd (one refl)
 answer-some begun.Spent one two = absurd (two refl)
 
--- so an allocation that made a step had started
+-- an allocation that made a step had started
 pub alloc-started :
     (e : ErrandFields) (words : ℕ) → IsIdle e → IsBusy (begun_by e (alloc words)) → alloc_answer e words ≡ begun.Started
 alloc-started e words idle busy =
@@ -148,7 +148,7 @@ may-call p (read place need i) idle owned busy = owned
 may-call p (put place need shelf) idle owned busy = owned
 may-call p (take shelf) idle owned busy = tt
 
--- so it has begun, where it has ended
+-- a call of a pass that has ended has begun
 pub called-begun :
     (h : Heap) (p q : Pass) (call : Call) (steps : ℕ) (answer : Reply) → IsAtRest h p → OwnsFor p call → HasCalled p call steps answer q
     → HasBegun p.errand (begun_by p.errand call) call
@@ -157,7 +157,7 @@ called-begun h p q call steps answer rests owned called =
     call-begun h.layout p.errand.caller p.errand (seen p) call rests.0.served rests.1
     (may-call p call rests.1 owned (steps-busy steps (begun_by p.errand call) called.last (seen p) called.sight called.on last_busy))
 
--- the call is under way until it ends
+-- a call is under way behind each of its steps until it ends
 pub steps-under :
     (steps : ℕ) (e f : ErrandFields) (before after : List Event) (call : Call) (added : List Event) → IsUnderWay e.caller call e.point added
     → StepsOn e before steps f after → (so_far : List Event) × IsUnderWay f.caller call f.point so_far

@@ -11,6 +11,7 @@ use Rattle.errand_steps.specs.Calls.{Call, alloc, write, read, take, begun_by}
 use Rattle.errand_steps.specs.declared.reply.Offer.{Offer}
 use Rattle.errand_steps.specs.declared.reply.Reply.{Reply}
 use Rattle.errand_steps.specs.declared.reply.Reply.TheVariants as reply
+use Rattle.errand_steps.specs.declared.told.Ending.TheVariants as ending
 use Rattle.live_heap.specs.declared.heap.Heap.{Heap}
 use Rattle.live_heap.specs.declared.pass.Pass.{Pass}
 use Rattle.live_heap.specs.Calls.{HasCalled}
@@ -20,7 +21,6 @@ use Rattle.trace_text.specs.declared.limits.TheConstants.{REGISTERS}
 use Rattle.trace_text.specs.declared.trace.Op.{Op}
 use Rattle.trace_text.specs.declared.trace.Op.TheVariants as op
 use Rattle.call_events.specs.Made.{LeadsBy, Made, answered, found_from}
-use Rattle.lane_engine.specs.declared.stepped.Stepped.TheVariants as stepped
 use Rattle.lane_outcomes.specs.declared.registers.Held.{Held}
 use Rattle.lane_outcomes.specs.declared.outcome.Outcome.{Outcome}
 use Rattle.lane_outcomes.specs.declared.outcome.Outcome.TheVariants as outcome
@@ -40,7 +40,7 @@ use Rattle.trace_lane.proofs.LaneAnswers.{alloc-ends_given, alloc-goes_so, fill-
 use Rattle.lane_runner.proofs.WholeOps.{HasNeed, StandsAt, begun-at, last-in, serves-held, served-last, step-of, to-pass}
 use Rattle.lane_runner.proofs.WholeSteps.{doing-in, need_in, place_in}
 
--- one that is no allocation made steps
+-- a whole call that is no allocation made steps
 pub steps-of :
     (p q : Pass) (call : Call) (answer : Reply) → ((words : ℕ) → call ≡ alloc words → ⊥) → MadeByPass p call answer q
     → (steps : ℕ) × HasCalled p call steps answer q
@@ -86,9 +86,9 @@ module _ (h : Heap) (operations rest : List Op) (results : List Outcome) (regist
       let made = steps-of p t (take shelf) missed (λ words is. cc) one.0 in
       let i = last-in h operations o rest results next p t rests one.2.0 (take shelf) made.0 missed tt made.1 registers stage.Calling lane in
       let so = take-misses place_in need_in h.layout made.1.last t.errand made.1.sight (seen t) operations registers results i.heap
-      (served-last h operations o rest results next p t rests one.2.0 (take shelf) made.0 missed tt made.1).legal rest r shelf stage.Calling i.lane next
+      (served-last h operations o rest results next p t rests one.2.0 (take shelf) made.0 missed tt made.1).legal rest r shelf are.0 are.1 stage.Calling i.lane next
       (doing-in h.layout operations o rest results next made.1.last made.1.sight registers stage.Calling i)
-      (step-of h operations o rest results next p t rests one.2.0 (take shelf) made.0 missed tt made.1 stepped.Missed tt) in
+      (step-of h operations o rest results next p t rests one.2.0 (take shelf) made.0 missed tt made.1 (ending.Missed are.0 are.1) refl tt) in
       take-walk r shelf answer misses t q next are.3 one.2
       (to-pass h operations o rest results next p t rests one.2.0 (take shelf) made.0 missed tt made.1 (begun_by t.errand (take shelf)) registers
       results stage.Calling (so.stands (begun_by t.errand (take shelf)) (begun-at h t (take shelf) one.2 tt))) leads
@@ -108,7 +108,7 @@ module _ (h : Heap) (operations rest : List Op) (results : List Outcome) (regist
       let so = take-finds place_in need_in h.layout w.called.last q.errand w.called.sight (seen q) operations registers results i.heap
       (served-last h operations o rest results next w.p q w.rests w.of call w.steps reply.Empty tt w.called).legal rest r shelf stage.Calling i.lane next
       (doing-in h.layout operations o rest results next w.called.last w.called.sight registers stage.Calling i)
-      (step-of h operations o rest results next w.p q w.rests w.of call w.steps reply.Empty tt w.called stepped.Empty tt) in
+      (step-of h operations o rest results next w.p q w.rests w.of call w.steps reply.Empty tt w.called ending.Empty refl tt) in
       to-pass h operations o rest results next w.p q w.rests w.of call w.steps reply.Empty tt w.called q.errand registers
       (results ++ outcome.ShelfEmpty ∷ []) stage.Between so.stands
 
@@ -130,7 +130,7 @@ module _ (h : Heap) (operations rest : List Op) (results : List Outcome) (regist
       let so = take-gets place_in need_in h.layout w.called.last q.errand w.called.sight (seen q) operations registers results i.heap
       (served-last h operations o rest results next w.p q w.rests w.of call w.steps answer tt w.called).legal rest r shelf block stage.Calling i.lane next
       (doing-in h.layout operations o rest results next w.called.last w.called.sight registers stage.Calling i)
-      (step-of h operations o rest results next w.p q w.rests w.of call w.steps answer tt w.called (stepped.Got block) (refl, refl)) in
+      (step-of h operations o rest results next w.p q w.rests w.of call w.steps answer tt w.called (ending.Got block) refl tt) in
       to-pass h operations o rest results next w.p q w.rests w.of call w.steps answer tt w.called q.errand
       (slice_set registers r (Some (held_by place_in need_in block))) (results ++ outcome.Took (usable_words need) place need ∷ []) stage.Between so.ends.stands
 
@@ -157,7 +157,7 @@ module _ (h : Heap) (operations rest : List Op) (results : List Outcome) (regist
         let last : doing.0.words ≤ i + 1 = subst (λ (x : Held). x.words ≤ i + 1) same (omega (arith, left)) in
         let so = fill-ends_so place_in need_in h.layout made.1.last t.errand made.1.sight (seen t) operations registers results inn.heap
         (served-last h operations o rest results next p t rests one.2.0 call made.0 reply.Wrote one.1 made.1) rest r v i inn.lane next doing
-        (step-of h operations o rest results next p t rests one.2.0 call made.0 reply.Wrote one.1 made.1 stepped.Wrote tt) last in
+        (step-of h operations o rest results next p t rests one.2.0 call made.0 reply.Wrote one.1 made.1 ending.Wrote refl tt) last in
         subst (λ (x : Pass). StandsAt h x operations registers (results ++ outcome.Filled ∷ [])) (sym end)
         (to-pass h operations o rest results next p t rests one.2.0 call made.0 reply.Wrote one.1 made.1 t.errand registers
         (results ++ outcome.Filled ∷ []) stage.Between so.stands)
@@ -177,7 +177,7 @@ module _ (h : Heap) (operations rest : List Op) (results : List Outcome) (regist
         let so = fill-goes_so place_in need_in h.layout made.1.last t.errand made.1.sight (seen t) operations registers results inn.heap
         (served-last h operations o rest results next p t rests one.2.0 call made.0 reply.Wrote one.1 made.1) rest (begun_by t.errand then) r v i need
         inn.lane next doing
-        (step-of h operations o rest results next p t rests one.2.0 call made.0 reply.Wrote one.1 made.1 stepped.Wrote tt) inside serves starts in
+        (step-of h operations o rest results next p t rests one.2.0 call made.0 reply.Wrote one.1 made.1 ending.Wrote refl tt) inside serves starts in
         fill-walk v n (i + 1) t q next (omega (arith, left)) one.2
         (to-pass h operations o rest results next p t rests one.2.0 call made.0 reply.Wrote one.1 made.1 (begun_by t.errand then) registers results
         (stage.Filling (i + 1)) so.stands) leads
@@ -202,8 +202,8 @@ module _ (h : Heap) (operations rest : List Op) (results : List Outcome) (regist
         let doing = doing-in h.layout operations o rest results next made.1.last made.1.sight registers at inn in
         let same : held ≡ doing.0 = some-same held doing.0 (held_in registers r) full doing.2 in
         let last : doing.0.words ≤ i + 1 = subst (λ (x : Held). x.words ≤ i + 1) same (omega (arith, left)) in
-        let step = step-of h operations o rest results next p t rests one.2.0 call made.0 answer one.1 made.1 (stepped.Word w) refl in
-        let found = told-of_read place_in need_in made.1.last t.errand made.1.sight (seen t) [] doing.0.place doing.3.need i (stepped.Word w) step
+        let step = step-of h operations o rest results next p t rests one.2.0 call made.0 answer one.1 made.1 (ending.Word w) refl tt in
+        let found = told-of_read place_in need_in made.1.last t.errand made.1.sight (seen t) [] doing.0.place doing.3.need i (ending.Word w) step
         doing.3.under_way in
         let so = check-ends_lane h.layout made.1.last t.errand made.1.sight (seen t) operations registers results i total inn.lane inn.heap
         (served-last h operations o rest results next p t rests one.2.0 call made.0 answer one.1 made.1).legal rest r next doing w found last in
@@ -222,8 +222,8 @@ module _ (h : Heap) (operations rest : List Op) (results : List Outcome) (regist
         let inn = last-in h operations o rest results next p t rests one.2.0 call made.0 answer one.1 made.1 registers at lane in
         let doing = doing-in h.layout operations o rest results next made.1.last made.1.sight registers at inn in
         let same : held ≡ doing.0 = some-same held doing.0 (held_in registers r) full doing.2 in
-        let step = step-of h operations o rest results next p t rests one.2.0 call made.0 answer one.1 made.1 (stepped.Word w) refl in
-        let found = told-of_read place_in need_in made.1.last t.errand made.1.sight (seen t) [] doing.0.place doing.3.need i (stepped.Word w) step
+        let step = step-of h operations o rest results next p t rests one.2.0 call made.0 answer one.1 made.1 (ending.Word w) refl tt in
+        let found = told-of_read place_in need_in made.1.last t.errand made.1.sight (seen t) [] doing.0.place doing.3.need i (ending.Word w) step
         doing.3.under_way in
         let inside : i + 1 < doing.0.words = subst (λ (x : Held). i + 1 < x.words) same (omega (arith, left)) in
         let later : suc i ≡ i + 1 = omega arith in
@@ -264,7 +264,7 @@ module _ (h : Heap) (operations rest : List Op) (results : List Outcome) (regist
         let last : doing.0.words ≤ i + 1 = subst (λ (x : Held). x.words ≤ i + 1) same (omega (arith, left)) in
         let so = alloc-ends_given place_in need_in h.layout made.1.last t.errand made.1.sight (seen t) operations registers results inn.heap
         (served-last h operations o rest results next p t rests one.2.0 call made.0 reply.Wrote one.1 made.1) rest r asked v i inn.lane next doing
-        (step-of h operations o rest results next p t rests one.2.0 call made.0 reply.Wrote one.1 made.1 stepped.Wrote tt) last
+        (step-of h operations o rest results next p t rests one.2.0 call made.0 reply.Wrote one.1 made.1 ending.Wrote refl tt) last
         (full ∙ ap (λ (x : Held). Some x) same) in
         subst (λ (x : Held). StandsAt h q operations registers (results ++ outcome.Given x.words x.place ∷ [])) (sym same)
         (subst (λ (x : Pass). StandsAt h x operations registers (results ++ outcome.Given doing.0.words doing.0.place ∷ [])) (sym end)
@@ -286,7 +286,7 @@ module _ (h : Heap) (operations rest : List Op) (results : List Outcome) (regist
         let so = alloc-goes_so place_in need_in h.layout made.1.last t.errand made.1.sight (seen t) operations registers results inn.heap
         (served-last h operations o rest results next p t rests one.2.0 call made.0 reply.Wrote one.1 made.1) rest (begun_by t.errand then) r asked v i need
         inn.lane next doing
-        (step-of h operations o rest results next p t rests one.2.0 call made.0 reply.Wrote one.1 made.1 stepped.Wrote tt) inside serves
+        (step-of h operations o rest results next p t rests one.2.0 call made.0 reply.Wrote one.1 made.1 ending.Wrote refl tt) inside serves
         (full ∙ ap (λ (x : Held). Some x) same) starts in
         given-walk asked v n (i + 1) t q next (omega (arith, left)) one.2
         (to-pass h operations o rest results next p t rests one.2.0 call made.0 reply.Wrote one.1 made.1 (begun_by t.errand then) registers results

@@ -39,17 +39,17 @@ pub record IsOnItsWay (g : Geometry) (operations : List Op) (lane : ℕ) (s : St
   pub script : IsOnScript operations registers results at calls
   pub rule : IsLane g lane s.history (s.errand lane) operations registers results at
 
--- whose move it is
+-- the caller whose move it is
 abbrev pub mover_of : Move → ℕ
 mover_of (begins caller call) = caller
 mover_of (steps caller) = caller
 
--- after these moves each lane but the one that moves next is on its way
+-- each lane but the one that moves next is on its way after these moves
 abbrev pub OthersAreOnTheirWay : Geometry → List (List Op) → List Move → State → Move → Type 0
 OthersAreOnTheirWay g lanes earlier s move =
     (lane : ℕ) → lane < length lanes → lane ≢ mover_of move → IsOnItsWay g (slice_index_or lanes lane []) lane s (calls_of lane earlier)
 
--- after these moves, more moves lead from one state to the other; and at each of them, every lane but the one that moves is on its way
+-- moves behind earlier ones lead from one state to the other; and at each of them, every lane but the one that moves is on its way
 abbrev pub Drives : Geometry → List (List Op) → List Move → State → List Move → State → Type 0
 Drives g lanes earlier s [] s' = s' ≡ s
 Drives g lanes earlier s (move ∷ rest) s' =
@@ -78,7 +78,7 @@ pub record IsDrivenSoFar (trace : Trace) (orders : List OrderRun) (c : CoreField
       (lane : ℕ) → lane < length trace.lanes
       → IsOnItsWay trace.heap (slice_index_or trace.lanes lane []) lane (state_of c) (calls_of lane moves)
 
--- they have run to their ends, with these outcomes: each lane began the calls of its script and stands behind its last operation; and the outcomes fit
+-- each lane of a trace has run on this machine to its end, began the calls of its script, and has these outcomes, which fit
 pub record IsDriven (trace : Trace) (orders : List OrderRun) (c : CoreFields) (outcomes : List (List Outcome)) : Type 0 where
   pub so_far : IsDrivenSoFar trace orders c
   pub scripts :

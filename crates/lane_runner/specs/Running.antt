@@ -107,7 +107,7 @@ pub record LanesRan (passed : ℕ → ℕ → Type 0) (trace : Trace) (c after :
       (lane : ℕ) (before now : LaneState Grip) → lane < length old → before ≡ slice_index_or old lane before
       → now ≡ slice_index_or new lane now → HasPassed passed before → HasPassed passed now
 
--- the lanes ran, and this is so of their steps
+-- the lanes of a trace ran and stand, and this is so of their steps
 pub record HaveRunSo (passed : ℕ → ℕ → Type 0) (trace : Trace) (IsMade : List ℕ → Type 0) (c after : CoreFields) (old new : List (LaneState Grip)) : Type 0 where
   pub stand : LanesStand trace after new
   pub ran : LanesRan passed trace c after old new

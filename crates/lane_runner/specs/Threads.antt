@@ -31,7 +31,7 @@ use Rattle.trace_lane.specs.States.{AreNew, IsLaneOf}
 abbrev pub WholeAt : Heap → Pass → Call → Reply → Pass → Type 0
 WholeAt h p call answer q = MadeByPass p call answer q × OwnsFor p call × IsAtRest h q
 
--- since it was new, the pass of this lane has made the whole calls of these operations with these outcomes, in the script's order, each with its answer, and no other
+-- the pass of this lane has made the whole calls of these operations with these outcomes since it was new, in the script's order, each with its answer, and no other
 pub record HasMadeCalls (h : Heap) (operations : List Op) (lane : ℕ) (outcomes : List Outcome) (p : Pass) : Type 0 where
   pub first : Pass
   pub fresh : IsFresh h first
@@ -82,7 +82,7 @@ pub record IsPaired (trace : Trace) (h : Heap) (t : LaneThread) : Type 0 where
   pub over : StandsOver h (operations_in trace t.lane.caller) t.pass t.lane
   pub between : t.lane.stage ≡ stage.Between
 
--- its thread has run it to its end
+-- a thread has run its lane to its end, over the pass that it has
 abbrev pub HasRunThrough : (ℕ → ℕ → Type 0) → Trace → Heap → LaneThread → LaneThread → Type 0
 HasRunThrough passed trace h before after =
     HasRunOver passed h (operations_in trace before.lane.caller) before.pass before.lane after.pass after.lane
@@ -97,7 +97,7 @@ pub record IsReady (trace : Trace) (h : Heap) (lane : ℕ) (t : LaneThread) : Ty
   pub none : t.lane.outcomes.items ≡ []
   pub between : t.lane.stage ≡ stage.Between
 
--- it is behind its last one
+-- the lane of this number is behind its last operation, and its pass has made the calls of its script
 pub record IsDone (trace : Trace) (h : Heap) (lane : ℕ) (t : LaneThread) : Type 0 where
   pub number : t.lane.caller ≡ lane
   pub over : StandsOver h (operations_in trace lane) t.pass t.lane
@@ -106,7 +106,7 @@ pub record IsDone (trace : Trace) (h : Heap) (lane : ℕ) (t : LaneThread) : Typ
   pub calls : HasMadeCalls h (operations_in trace lane) lane t.lane.outcomes.items t.pass
 
 module _ {X : Type 0} (P : ℕ → X → Type 0) where
-  -- this is so of each element and its number: the last one has this number, and each other one the next number after the one behind it
+  -- P holds of each element and its number: the last one has this number, and each other one the next number after the one behind it
   abbrev pub AreDown : ℕ → List X → Type 0
   AreDown last [] = Unit {0}
   AreDown last (x ∷ xs) = P (last + length xs) x × AreDown last xs
@@ -115,7 +115,7 @@ module _ {X : Type 0} (P : ℕ → X → Type 0) where
 abbrev pub AreReady : Trace → Heap → ℕ → List (CachePadded LaneThread) → Type 0
 AreReady trace h lane threads = AreDown (λ k t. IsReady trace h k (padded_value t)) lane threads
 
--- they are done
+-- the lanes of a trace from this number on are done, and stand with the last one first
 abbrev pub AreDone : Trace → Heap → ℕ → List (CachePadded LaneThread) → Type 0
 AreDone trace h lane threads = AreDown (λ k t. IsDone trace h k (padded_value t)) lane threads
 

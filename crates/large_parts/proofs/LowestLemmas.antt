@@ -14,7 +14,7 @@ least-passes (suc bound) test below =
     cond_both (test 0) 0 (suc (least bound (λ k. test (suc k)))) (λ n. n < suc bound → test n ≡ true)
     (λ e within. e) (λ e within. least-passes bound (λ k. test (suc k)) (omega arith)) below
 
--- no smaller number passes it
+-- a number smaller than the least one fails the test
 least-fails : (bound : ℕ) (test : ℕ → Bool) (j : ℕ) → j < least bound test → test j ≡ false
 unfolding least
 least-fails zero test j below = absurd (omega arith)
@@ -44,7 +44,7 @@ first_run-exact bits units n =
     })
     (λ e u within. refused-run bits u n (least-fails bound test u (omega (arith, leb-false (lowest_free bits units n + n) units e))))
 
--- there is one first run
+-- two first runs are the same one
 first_run-one : (bits units n : ℕ) (a b : Option ℕ) → IsFirstRun bits units n a → IsFirstRun bits units n b → a ≡ b
 first_run-one bits units n None None first second = refl
 first_run-one bits units n None (Some b) first second = absurd (first b second.within second.free)

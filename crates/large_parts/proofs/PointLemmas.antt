@@ -1,6 +1,6 @@
 -- Of every point: what it remembers exists in its heap before and after its step.
-use Rattle.std.proofs.Common.{ℕ, Bool, true, false, ◌≡◌, ◌^◌, ◌<◌, Option, Some, None, arith, ap, refl, ◌∙◌, eq-eqb}
-use Rattle.std.specs.Prelude.{◌==◌, if◌then◌else◌}
+use Rattle.std.proofs.Common.{ℕ, ◌≡◌, ◌^◌, ◌<◌, Option, Some, None, arith, ap, refl, ◌∙◌, eq-eqb}
+use Rattle.std.specs.Prelude.{◌==◌}
 use Rattle.std.proofs.lemmas.Bool.{cond-true, cond_both}
 use Rattle.heap_geometry.specs.declared.geometry.Geometry.{Geometry}
 use Rattle.heap_geometry.specs.Geometry.{IsChecked}
@@ -21,9 +21,8 @@ use Rattle.word_table.specs.Counts.{arena_words}
 use Rattle.word_table.specs.Onwards.{IsOnward}
 use Rattle.word_table.specs.Table.{Exists}
 use Rattle.large_parts.specs.declared.exit.LargeExit.{LargeExit}
-use Rattle.large_parts.specs.declared.exit.LargeExit.TheVariants.{PutDone, ShelfFull, Got, NothingThere, Missed}
 use Rattle.large_parts.specs.declared.point.LargePoint.{LargePoint}
-use Rattle.large_parts.specs.declared.point.LargePoint.TheVariants.{LoadUnits, TakeRun, StoreRunPrefix, LoadRunPrefix, FreeRun, StoreWord, LoadWord, PutBlock, LoadShelf, TakeBlock, ConfirmNothing}
+use Rattle.large_parts.specs.declared.point.LargePoint.TheVariants.{LoadUnits, TakeRun, LoadRunPrefix, LoadShelf}
 use Rattle.large_parts.specs.Points.{IsWantOf, IsRunAt, IsPayloadOf, FitsLarge, FitsLargeExit, plan_large_of, settle_large_of, payload_name, first_wanted, units_taken, after_take, after_run_prefix, after_shelf}
 use Rattle.large_parts.specs.Runs.{WantFields, RunFields}
 use Rattle.large_parts.specs.Units.{IsFirstRun, with_run}
@@ -39,17 +38,7 @@ payload-exists g p i checked h = omega (arith, h, checked.frames.1, checked.unit
 
 -- the word that a point's action is on exists
 pub plan-exists : (g : Geometry) (p : LargePoint) → IsChecked g → FitsLarge g p → Exists g (name_of (plan_large_of p))
-plan-exists g (LoadUnits w) checked h = tt
-plan-exists g (TakeRun w bits) checked h = tt
-plan-exists g (StoreRunPrefix place r) checked h = run-exists g place r h
-plan-exists g (LoadRunPrefix place r) checked h = run-exists g place r h
-plan-exists g (FreeRun place r) checked h = tt
-plan-exists g (StoreWord place i value) checked h = payload-exists g place i checked h.0
-plan-exists g (LoadWord place i) checked h = payload-exists g place i checked h
-plan-exists g (PutBlock shelf place need) checked h = h.shelf
-plan-exists g (LoadShelf shelf) checked h = h
-plan-exists g (TakeBlock shelf place need) checked h = h.shelf
-plan-exists g (ConfirmNothing shelf) checked h = h
+plan-exists g p checked h = grind (arith, h, run-exists g, payload-exists g)
 
 -- the step that takes the first free run leaves the word with that run
 pub take-step :
@@ -59,17 +48,11 @@ take-step w bits first e =
     cond-true (bits == bits) (units_taken bits w.units (first_wanted w bits)) bits (eq-eqb bits bits refl)
     ∙ ap (units_taken bits w.units) e
 
--- a choice of exits fits where both do
-either-exit :
-    (g : Geometry) (b : Bool) (x y : LargeExit) → (b ≡ true → FitsLargeExit g x) → (b ≡ false → FitsLargeExit g y)
-    → FitsLargeExit g (if b then x else y)
-either-exit g b x y = cond_both b x y (FitsLargeExit g)
-
--- where a step leads fits
+-- everything exists in the heap that the point or exit remembers to which a step leads
 abbrev Fits : Geometry → Onward LargePoint LargeExit → Type 0
 Fits g = IsOnward (FitsLarge g) (FitsLargeExit g)
 
--- where a look for a run leads
+-- the exit or point after a look for a run fits
 fits-take :
     (g : Geometry) (w : WantFields) (bits : ℕ) (o : Option ℕ) → IsChecked g → IsWantOf g w
     → IsFirstRun bits w.geometry.units w.units o → Fits g (after_take w o)
@@ -83,14 +66,14 @@ fits-take g w bits (Some first) checked h found =
       place = ap (λ n. unit_place n first) frames;
     }
 
--- where the prefix word of a freed run leads
+-- the point after the prefix word of a freed run was read fits
 fits-run_prefix :
     (g : Geometry) (p : ℕ) (r : RunFields) (o : Option Prefix) → IsRunAt g p r → FitsLarge g (after_run_prefix p r o)
 fits-run_prefix g p r None h = h
 fits-run_prefix g p r (Some (Small desc)) h = h
 fits-run_prefix g p r (Some (Large units)) h = h
 
--- where a shelf's word leads
+-- the point after a shelf's word was read fits
 fits-shelf :
     (g : Geometry) (k word : ℕ) (o : Option ShelfWord) → FitsLarge g (LoadShelf k) → Reads IsShelfWord shelf_word word o
     → FitsLarge g (after_shelf k o)
@@ -102,20 +85,10 @@ fits-shelf g k word (Some (Block place need)) h reads = record { shelf = h; bloc
 pub settle-fits :
     (g : Geometry) (p : LargePoint) (x : Found) → IsChecked g → x.value < 2 ^ 64 → FitsLarge g p
     → Fits g (settle_large_of p x)
-settle-fits g (LoadUnits w) x checked word h = h
 settle-fits g (TakeRun w bits) x checked word h =
     cond_both x.won (after_take w (first_wanted w bits)) (Stays (LoadUnits w)) (Fits g)
     (λ e. fits-take g w bits (first_wanted w bits) checked h (first_run-exact bits w.geometry.units w.units)) (λ e. h)
-settle-fits g (StoreRunPrefix place r) x checked word h = h
 settle-fits g (LoadRunPrefix place r) x checked word h = fits-run_prefix g place r (prefix_of x.value) h
-settle-fits g (FreeRun place r) x checked word h = tt
-settle-fits g (StoreWord place i value) x checked word h = tt
-settle-fits g (LoadWord place i) x checked word h = tt
-settle-fits g (PutBlock shelf place need) x checked word h =
-    either-exit g x.won PutDone (ShelfFull x.value) (λ e. tt) (λ e. tt)
 settle-fits g (LoadShelf shelf) x checked word h =
     fits-shelf g shelf x.value (shelf_of x.value) h (shelf-exact.reads x.value word)
-settle-fits g (TakeBlock shelf place need) x checked word h =
-    either-exit g x.won (Got place need) (Missed (shelf_word (Block place need)) x.value) (λ e. h.block) (λ e. tt)
-settle-fits g (ConfirmNothing shelf) x checked word h =
-    either-exit g x.won NothingThere (Missed (shelf_word Nothing) x.value) (λ e. tt) (λ e. tt)
+settle-fits g p x checked word h = grind (arith, h)

@@ -58,7 +58,7 @@ run_bits-outside first units i h =
       ]
     ]
 
--- with a run, its units are taken
+-- a unit of a run is taken in the word with that run
 pub with_run-inside : (bits first units i : ℕ) → IsInRun first units i → bit_at (with_run bits first units) i ≡ 1
 with_run-inside bits first units i h =
     bit_at_or bits (run_bits first units) i ∙ ap (max (bit_at bits i)) (run_bits-inside first units i h)
@@ -67,7 +67,7 @@ with_run-inside bits first units i h =
     most : (b : ℕ) → b < 2 → max b 1 ≡ 1
     most b below = omega arith
 
--- and the others as before
+-- a unit outside a run is as before in the word with that run
 pub with_run-outside :
     (bits first units i : ℕ) → ¬ IsInRun first units i → bit_at (with_run bits first units) i ≡ bit_at bits i
 with_run-outside bits first units i h =
@@ -81,7 +81,7 @@ pub with_run-below :
     (bits first units : ℕ) → first + units ≤ MAX_UNITS → bits < 2 ^ 64 → with_run bits first units < 2 ^ 64
 with_run-below bits first units within word = or_lt 64 bits (run_bits first units) word (run_bits-below first units within)
 
--- where each bit of a run in a word stays or goes when the run is given back
+-- each bit of a word stays or goes when a run is given back, by whether it is one of the run's
 without_run-bit :
     (bits first units i b : ℕ) → first + units ≤ MAX_UNITS → i < 64 → bit_at (run_bits first units) i ≡ b
     → bit_at (without_run bits first units) i ≡ min (bit_at bits i) (1 - b)
@@ -90,7 +90,7 @@ without_run-bit bits first units i b within place e =
     ∙ ap (min (bit_at bits i))
     (bit_at_not w64 (run_bits first units) i (run_bits-below first units within) place ∙ ap (λ n. 1 - n) e)
 
--- without a run, its units are clear
+-- a unit of a run is clear in the word without that run
 pub without_run-inside :
     (bits first units i : ℕ) → first + units ≤ MAX_UNITS → bits < 2 ^ 64 → IsInRun first units i
     → bit_at (without_run bits first units) i ≡ 0
@@ -100,7 +100,7 @@ without_run-inside bits first units i within word h =
     none : (b : ℕ) → min b 0 ≡ 0
     none b = omega arith
 
--- and the others as before
+-- a unit outside a run is as before in the word without that run
 pub without_run-outside :
     (bits first units i : ℕ) → first + units ≤ MAX_UNITS → bits < 2 ^ 64 → ¬ IsInRun first units i
     → bit_at (without_run bits first units) i ≡ bit_at bits i
@@ -143,7 +143,7 @@ is_free-run bits first units e i h =
     least : (b : ℕ) → b < 2 → min b 1 ≡ 0 → b ≡ 0
     least b below none = omega arith
 
--- and a run of which no unit is taken passes it
+-- a run of which no unit is taken passes the test
 pub run-is_free : (bits first units : ℕ) → IsFreeRun bits first units → is_free bits first units ≡ true
 run-is_free bits first units free =
     let clear : (i : ℕ) → bit_at (bit_and bits (run_bits first units)) i ≡ bit_at 0 i = λ i.

@@ -1,5 +1,5 @@
 -- What each point does, where it leads, and that what a point or an exit remembers exists in its heap.
-use Rattle.std.specs.Prelude.{ℕ, Option, Some, None, ◌+◌, ◌%◌, ◌^◌, if◌then◌else◌, ◌≡◌, ◌<◌, ◌≤◌}
+use Rattle.std.specs.Prelude.{ℕ, Bool, true, false, Option, Some, None, ◌+◌, ◌%◌, ◌^◌, if◌then◌else◌, ◌≡◌, ◌<◌, ◌≤◌}
 use Rattle.heap_geometry.specs.Place.{unit_place}
 use Rattle.packed_words.specs.declared.prefix.Prefix.{Prefix}
 use Rattle.packed_words.specs.declared.prefix.Prefix.TheVariants.{Small, Large}
@@ -55,25 +55,25 @@ plan_large_of (TakeBlock shelf place need) =
     Cas (Shelf shelf) (shelf_word (Block place need)) (shelf_word Nothing)
 plan_large_of (ConfirmNothing shelf) = Cas (Shelf shelf) (shelf_word Nothing) (shelf_word Nothing)
 
--- where a look for a run leads, by its first unit
+-- the point or exit after a look for a run, by the run's first unit
 abbrev pub after_take : WantFields → Option ℕ → Onward LargePoint LargeExit
 after_take w None = Leaves NoRun
 after_take w (Some first) =
     Stays (StoreRunPrefix (unit_place w.geometry.frames first) (record { first = first; units = w.units }))
 
--- where the prefix word of a freed run leads
+-- the point after the prefix word of a freed run was read
 abbrev pub after_run_prefix : ℕ → RunFields → Option Prefix → LargePoint
 after_run_prefix place r None = LoadRunPrefix place r
 after_run_prefix place r (Some (Small desc)) = LoadRunPrefix place r
 after_run_prefix place r (Some (Large units)) = FreeRun place r
 
--- where a shelf's word leads
+-- the point after a shelf's word was read
 abbrev pub after_shelf : ℕ → Option ShelfWord → LargePoint
 after_shelf shelf None = LoadShelf shelf
 after_shelf shelf (Some Nothing) = ConfirmNothing shelf
 after_shelf shelf (Some (Block place need)) = TakeBlock shelf place need
 
--- where a point leads, by what its action found
+-- the point or exit after a step at a point of a large block, a usable word or a shelf, by what its action found
 abbrev pub settle_large_of : LargePoint → Found → Onward LargePoint LargeExit
 settle_large_of (LoadUnits w) x = Stays (TakeRun w x.value)
 settle_large_of (TakeRun w bits) x = if x.won then after_take w (first_wanted w bits) else Stays (LoadUnits w)
@@ -88,6 +88,12 @@ settle_large_of (TakeBlock shelf place need) x =
     Leaves (if x.won then Got place need else Missed (shelf_word (Block place need)) x.value)
 settle_large_of (ConfirmNothing shelf) x =
     Leaves (if x.won then NothingThere else Missed (shelf_word Nothing) x.value)
+
+-- the caller's step is on a usable word of a block
+abbrev pub is_on_word : LargePoint → Bool
+is_on_word (StoreWord place i value) = true
+is_on_word (LoadWord place i) = true
+is_on_word p = false
 
 -- units of this heap are wanted
 pub record IsWantOf (g : Geometry) (w : WantFields) : Type 0 where

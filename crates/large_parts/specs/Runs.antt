@@ -9,7 +9,7 @@ pub record WantFields : Type 0 where
   pub geometry : Geometry
   pub units : ℕ
 
--- there is such a heap, and units are wanted, at most those of the largest heap
+-- a want exists: its heap's numbers are in range, and it wants units, at most those of the largest heap
 pub record IsWant (w : WantFields) : Type 0 where
   pub geometry : IsChecked w.geometry
   pub units : IsWithin 1 MAX_UNITS w.units

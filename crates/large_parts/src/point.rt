@@ -1,7 +1,7 @@
 //! The points at which a caller stands with a large block, a usable word or a shelf.
 
-ghost use Rattle.std.specs.Prelude.{◌≡◌};
-ghost use Rattle.large_parts.specs.Points.{plan_large_of, after_run_prefix, after_shelf, after_take, first_wanted, settle_large_of};
+ghost use Rattle.std.specs.Prelude.{None, if◌then◌else◌, ◌≡◌};
+ghost use Rattle.large_parts.specs.Points.{plan_large_of, after_run_prefix, after_shelf, after_take, first_wanted, is_on_word, settle_large_of};
 ghost use Rattle.packed_words.specs.Prefix.{prefix_of};
 ghost use Rattle.packed_words.specs.Shelf.{shelf_of};
 ghost use Rattle.word_table.specs.Onwards.{exit_by, point_by};
@@ -116,8 +116,9 @@ pub fn settle_large(at: &mut LargePoint, found: Found) -> Option<LargeExit>
             *at = after_run_prefix(place, run, found.value);
         }
         LargePoint::FreeRun { .. } => return Some(LargeExit::FreedRun),
-        LargePoint::StoreWord { .. } => return Some(LargeExit::Wrote),
-        LargePoint::LoadWord { .. } => return Some(LargeExit::Word { value: found.value }),
+        LargePoint::StoreWord { .. } | LargePoint::LoadWord { .. } => {
+            return exit_on_word(&from, found);
+        }
         LargePoint::PutBlock { .. } => {
             return Some(if found.won {
                 LargeExit::PutDone
@@ -142,6 +143,19 @@ pub fn settle_large(at: &mut LargePoint, found: Found) -> Option<LargeExit>
         }
     }
     None
+}
+
+/// The exit of a call on a usable word, which ends with its one step; `None` at every other point.
+/// Most steps of a busy program are such ones, so that who settles a step can ask for them first.
+#[inline(always)]
+pub fn exit_on_word(at: &LargePoint, found: Found) -> Option<LargeExit>
+    ensures { result ≡ (if is_on_word at.now then exit_by (settle_large_of at.now found) else None) }
+{
+    match *at {
+        LargePoint::StoreWord { .. } => Some(LargeExit::Wrote),
+        LargePoint::LoadWord { .. } => Some(LargeExit::Word { value: found.value }),
+        _ => None,
+    }
 }
 
 /// From a look for a run, which was made with these bits.

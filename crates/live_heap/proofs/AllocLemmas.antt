@@ -6,11 +6,12 @@ use Rattle.superblock_parts.specs.declared.point.BlockPoint.{BlockPoint}
 use Rattle.superblock_parts.specs.declared.point.BlockPoint.TheVariants.{LoadActive}
 use Rattle.errand_steps.specs.declared.continuation.Continuation.TheVariants.{Alloc}
 use Rattle.errand_steps.specs.declared.reply.Begun.TheVariants as begun
+use Rattle.errand_steps.specs.declared.told.Ending.{Ending}
 use Rattle.errand_steps.specs.Begins.{IsIdle, alloc_answer, alloc_begun, seat_of}
 use Rattle.errand_steps.specs.Calls.{alloc}
 use Rattle.errand_steps.specs.Errands.{ErrandFields, is_spent, one_more}
 use Rattle.live_heap.specs.declared.answers.AllocAnswer.TheVariants as alloc_answers
-use Rattle.live_heap.specs.declared.answers.Ending.{Ending}
+use Rattle.live_heap.specs.declared.block.Block.{Block}
 use Rattle.live_heap.specs.declared.pass.Pass.{Pass}
 use Rattle.live_heap.specs.Answers.{AllocTells, alloc_answer_in, reply_in}
 use Rattle.live_heap.specs.Calls.{GoesOn, IsCalling}
@@ -18,7 +19,7 @@ use Rattle.live_heap.specs.Going.{in_call, stands_at}
 use Rattle.live_heap.proofs.CallsAnswers.{alloc-tells, ended-not_too_large, ends-since, interrupted-since}
 use Rattle.live_heap.proofs.CallsGrow.{alloc-calling}
 
--- it has taken a turn, and would stand at its first point
+-- an allocation that begins has taken a turn, and would stand at its first point
 pub allocs-from :
     (p : Pass) (words class : ℕ) (first : BlockPoint) (e : ErrandFields) → need_of words ≡ Small class → is_spent p.errand ≡ false
     → first ≡ LoadActive (seat_of p.errand class) → e ≡ record p.errand { turns = one_more p.errand.turns }
@@ -34,9 +35,9 @@ pub alloc-call : (p : Pass) (words class : ℕ) → IsIdle p.errand → need_of 
 alloc-call p words class idle small left =
     alloc-calling p (in_call p (alloc words)) words (record { seat = refl; errand = refl }) idle (alloc-started p.errand words class small left)
 
--- what it tells where it has gone on so since
+-- what an allocation tells where it has gone on so since it began
 pub alloc-answers :
-    (p : Pass) (words tries : ℕ) (told : Option Ending) (q : Pass)
+    (p : Pass) (words tries : ℕ) (told : Option (Ending Block)) (q : Pass)
     → GoesOn p (alloc words) 0 (in_call p (alloc words)) tries (reply_in told) q → AllocTells p words tries (alloc_answer_in told) q
 alloc-answers p words tries None q over =
     interrupted-since p (in_call p (alloc words)) (alloc words) tries q (record { seat = refl; errand = refl }) over
@@ -44,6 +45,6 @@ alloc-answers p words tries (Some told) q ends =
     alloc-tells p words tries told q
     (ends-since p (in_call p (alloc words)) (alloc words) tries q (record { seat = refl; errand = refl }) _ ends)
 
-pub answer-fits : (told : Option Ending) → alloc_answer_in told ≢ alloc_answers.TooLarge
+pub answer-fits : (told : Option (Ending Block)) → alloc_answer_in told ≢ alloc_answers.TooLarge
 answer-fits None is = grind (arith)
 answer-fits (Some told) is = ended-not_too_large told is

@@ -12,6 +12,9 @@ use Rattle.errand_steps.specs.declared.reply.Begun.TheVariants as begun
 use Rattle.errand_steps.specs.declared.reply.Progress.TheVariants as progress
 use Rattle.errand_steps.specs.declared.reply.Reply.{Reply}
 use Rattle.errand_steps.specs.declared.reply.Reply.TheVariants as reply
+use Rattle.errand_steps.specs.declared.told.Ending.{Ending}
+use Rattle.errand_steps.specs.declared.told.Ending.TheVariants as ending
+use Rattle.errand_steps.specs.declared.told.Stepped.{Stepped}
 use Rattle.errand_steps.specs.Begins.{alloc_answer, begins_with, alloc_begun, free_begun, write_begun, read_begun, put_begun, take_begun}
 use Rattle.errand_steps.specs.Calls.{Call, alloc, free, begun_by}
 use Rattle.errand_steps.specs.Errands.{ErrandFields}
@@ -21,9 +24,6 @@ use Rattle.call_events.proofs.BeginsLemmas.{too_large-stays, spent-begins}
 use Rattle.step_machine.specs.Moments.{IsMoment}
 use Rattle.step_machine.proofs.MomentAnswers.{moment-geometry, moment-given, moment-got, moment-meant}
 use Rattle.live_heap.specs.declared.answers.AllocAnswer.TheVariants as alloc_answers
-use Rattle.live_heap.specs.declared.answers.Ending.{Ending}
-use Rattle.live_heap.specs.declared.answers.Ending.TheVariants as ending
-use Rattle.live_heap.specs.declared.answers.Step.{Step}
 use Rattle.live_heap.specs.declared.block.Block.{Block}
 use Rattle.live_heap.specs.declared.pass.Pass.{Pass}
 use Rattle.live_heap.specs.Answers.{AllocTells, FreeTells, HasBegun, HasStepped, IsAllocEnding, IsSpentAtOnce, IsTried, IsTriedEnding, ResumeTells, alloc_ended, progress_of, reply_of, resumed_ended}
@@ -33,7 +33,7 @@ use Rattle.live_heap.specs.Passes.{Owns, seen}
 
 -- the moment of a step that came to this
 pub step-moment :
-    (p q : Pass) (told same : Step) → told ≡ same → HasStepped p q told → IsMoment p.errand q.errand (seen p) (seen q) (progress_of same)
+    (p q : Pass) (told same : Stepped Block) → told ≡ same → HasStepped p q told → IsMoment p.errand q.errand (seen p) (seen q) (progress_of same)
 step-moment p q told same is stepped = subst (λ t. IsMoment p.errand q.errand (seen p) (seen q) (progress_of t)) is stepped.moment
 
 -- what a call that has ended so has come to
@@ -56,28 +56,28 @@ module _ (first : Pass) (call : Call) (steps : ℕ) (q : Pass) where
 
 -- which endings an allocation, a free and either of them have
 pub ending-of_alloc :
-    (words : ℕ) (told : Ending) (end : Ended) → end_of (alloc words) (reply_of told) ≡ Some end → IsAllocEnding told
+    (words : ℕ) (told : Ending Block) (end : Ended) → end_of (alloc words) (reply_of told) ≡ Some end → IsAllocEnding told
 ending-of_alloc words (ending.Given block) end is = tt
 ending-of_alloc words ending.Refused end is = tt
 ending-of_alloc words ending.Spent end is = tt
 ending-of_alloc words told end is = absurd cc
 
 pub ending-of_free :
-    (place : ℕ) (need : Need) (told : Ending) (end : Ended) → end_of (free place need) (reply_of told) ≡ Some end → told ≡ ending.Freed
+    (place : ℕ) (need : Need) (told : Ending Block) (end : Ended) → end_of (free place need) (reply_of told) ≡ Some end → told ≡ ending.Freed
 ending-of_free place need ending.Freed end is = refl
 ending-of_free place need told end is = absurd cc
 
-tried-alloc : (told : Ending) → IsAllocEnding told → IsTriedEnding told
+tried-alloc : (told : Ending Block) → IsAllocEnding told → IsTriedEnding told
 tried-alloc (ending.Given block) is = tt
 tried-alloc ending.Refused is = tt
 tried-alloc ending.Spent is = tt
 tried-alloc told is = absurd is
 
-tried-free : (told : Ending) → told ≡ ending.Freed → IsTriedEnding told
+tried-free : (told : Ending Block) → told ≡ ending.Freed → IsTriedEnding told
 tried-free told is = subst IsTriedEnding (sym is) tt
 
 pub ending-of_tried :
-    (call : Call) (told : Ending) (end : Ended) → IsTried call → end_of call (reply_of told) ≡ Some end → IsTriedEnding told
+    (call : Call) (told : Ending Block) (end : Ended) → IsTried call → end_of call (reply_of told) ≡ Some end → IsTriedEnding told
 ending-of_tried (alloc words) told end tried is = tried-alloc told (ending-of_alloc words told end is)
 ending-of_tried (free place need) told end tried is = tried-free told (ending-of_free place need told end is)
 ending-of_tried call told end tried is = absurd tried
@@ -87,7 +87,7 @@ pub begun-tries : (e : ErrandFields) (call : Call) → tries_of (begun_by e call
 unfolding alloc_begun free_begun write_begun read_begun put_begun take_begun
 begun-tries e call = grind (arith)
 
--- so what is so since it has begun is so since before
+-- what is so of a call counted from the pass that has begun it is so counted from the pass before that
 module _ (p b : Pass) (call : Call) (tries : ℕ) (q : Pass) (since : HasBegun p call b) where
   same-tries : tries_of b.errand ≡ tries_of p.errand
   same-tries = ap tries_of since.errand ∙ begun-tries p.errand call
@@ -114,7 +114,7 @@ module _ (p b : Pass) (call : Call) (tries : ℕ) (q : Pass) (since : HasBegun p
 
 -- what an allocation that has ended in time tells
 pub alloc-tells :
-    (p : Pass) (words tries : ℕ) (told : Ending) (q : Pass) → EndsInTime p (alloc words) 0 p tries (reply_of told) q
+    (p : Pass) (words tries : ℕ) (told : Ending Block) (q : Pass) → EndsInTime p (alloc words) 0 p tries (reply_of told) q
     → AllocTells p words tries (alloc_ended told) q
 alloc-tells p words tries (ending.Given block) q ends = (ends, given-owns p (alloc words) ends.steps q block ends.called)
 alloc-tells p words tries ending.Refused q ends = ends
@@ -122,18 +122,18 @@ alloc-tells p words tries ending.Spent q ends = inr (ends, spent-limit p (alloc 
 alloc-tells p words tries told q ends =
     absurd (let all = ends.called.ended.ended in ending-of_alloc words told all.0 all.1)
 
--- and a free
+-- what a free that has ended in time tells
 pub free-tells :
-    (p : Pass) (block : Block) (tries : ℕ) (told : Ending) (q : Pass)
+    (p : Pass) (block : Block) (tries : ℕ) (told : Ending Block) (q : Pass)
     → EndsInTime p (free block.place block.need) 0 p tries (reply_of told) q → FreeTells p block tries free_answers.Freed q
 free-tells p block tries told q ends =
     let all = ends.called.ended.ended in
     subst (λ t. EndsInTime p (free block.place block.need) 0 p tries (reply_of t) q)
     (ending-of_free block.place block.need told all.0 all.1) ends
 
--- and one that was resumed
+-- what a call that was resumed and has ended in time tells
 pub resume-tells :
-    (first : Pass) (call : Call) (made : ℕ) (p : Pass) (tries : ℕ) (told : Ending) (q : Pass) → IsTriedEnding told
+    (first : Pass) (call : Call) (made : ℕ) (p : Pass) (tries : ℕ) (told : Ending Block) (q : Pass) → IsTriedEnding told
     → EndsInTime first call made p tries (reply_of told) q → ResumeTells first call made p tries (resumed_ended told) q
 resume-tells first call made p tries (ending.Given block) q tried ends = (ends, given-owns first call ends.steps q block ends.called)
 resume-tells first call made p tries ending.Freed q tried ends = ends
@@ -141,7 +141,7 @@ resume-tells first call made p tries ending.Refused q tried ends = ends
 resume-tells first call made p tries ending.Spent q tried ends = (ends, spent-limit first call ends.steps q ends.called)
 resume-tells first call made p tries told q tried ends = absurd tried
 
--- no block has so many words
+-- where a need is too large no block has so many words
 need-too_large : (words : ℕ) → need_of words ≡ TooLarge → LARGE_MOST < words
 unfolding need_of
 need-too_large words is =
@@ -164,7 +164,7 @@ begins-too_large e words is = need-too_large words (answers-too_large e (need_of
 pub too_large-begins : (e : ErrandFields) (words : ℕ) → LARGE_MOST < words → alloc_answer e words ≡ begun.TooLarge
 too_large-begins e words more = ap (begins_with e) (sym (need_of-is words TooLarge more))
 
--- one that has begun nothing leaves the pass
+-- an allocation that has begun nothing leaves the pass
 pass-same : (p q : Pass) → q.seat ≡ p.seat → q.errand ≡ p.errand → q ≡ p
 pass-same p q seat errand = λ i. record { seat = seat i; errand = errand i }
 
@@ -185,12 +185,12 @@ spent-at_once p q words is since =
       over = begins-at_limit p.errand words is;
     }
 
--- a call that has started has words enough, and its answer isn't that none has
+-- an allocation that has started asks for no more words than a block may have
 pub started-within : (e : ErrandFields) (words : ℕ) → alloc_answer e words ≡ begun.Started → LARGE_MOST < words → ⊥
 started-within e words is more = let both : begun.Started ≡ begun.TooLarge = sym is ∙ too_large-begins e words more in cc
 
 pub spent-within : (e : ErrandFields) (words : ℕ) → alloc_answer e words ≡ begun.Spent → LARGE_MOST < words → ⊥
 spent-within e words is more = let both : begun.Spent ≡ begun.TooLarge = sym is ∙ too_large-begins e words more in cc
 
-pub ended-not_too_large : (told : Ending) → alloc_ended told ≢ alloc_answers.TooLarge
+pub ended-not_too_large : (told : Ending Block) → alloc_ended told ≢ alloc_answers.TooLarge
 ended-not_too_large told is = grind (arith)

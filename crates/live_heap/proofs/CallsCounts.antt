@@ -94,7 +94,7 @@ pub record GoesAgain (e f : ErrandFields) : Type 0 where
   pub counts : Counts e f 1
   pub short : steps_left e.geometry f.point < CALL_STEPS
 
--- an answer of a step that goes on
+-- an answer that is the same as one which ends no call ends none
 not-done : (a b : Progress) → a ≡ b → ((r : Reply) → b ≢ Done r) → (r : Reply) → a ≢ Done r
 not-done a b is un r done = un r (sym is ∙ done)
 
@@ -187,11 +187,11 @@ module _ (h : Heap) (p : Pass) (tries left : ℕ) (q r : Pass) (of : IsOf h q) (
   heap : q.errand.geometry ≡ h.layout
   heap = of-laid h q of
 
-  -- more is seen behind each step
+  -- what is seen behind the step begins with what was seen before the call's tries
   pub going-grows : (answer : Progress) → IsMoment q.errand r.errand (seen q) (seen r) answer → Begins (seen p) (seen r)
   going-grows answer m = starts-on (seen p) (seen q) (seen r) i.grows (moment-grows q.errand r.errand (seen q) (seen r) answer m)
 
-  -- a step with nothing lost and nothing cleared
+  -- a step with nothing lost and nothing cleared leaves fewer steps
   pub further-less : IsMoment q.errand r.errand (seen q) (seen r) More → steps_left h.layout r.errand.point < steps_left h.layout q.errand.point
   further-less m =
       subst (λ g. steps_left g r.errand.point < steps_left g q.errand.point) heap (goes-further q.errand r.errand (seen q) (seen r) m).fewer
@@ -214,7 +214,7 @@ module _ (h : Heap) (p : Pass) (tries left : ℕ) (q r : Pass) (of : IsOf h q) (
         spent = λ below. let n = goes.counts.all below in omega (arith, n.1, i.spent n.0);
       }
 
-  -- a step that lost or cleared
+  -- behind a step that lost or cleared fewer steps are left than any call may make
   pub again-short : GoesAgain q.errand r.errand → steps_left h.layout r.errand.point < CALL_STEPS
   again-short goes = subst (λ g. steps_left g r.errand.point < CALL_STEPS) heap goes.short
 
@@ -248,7 +248,7 @@ module _ (h : Heap) (p : Pass) (tries left : ℕ) (q r : Pass) (of : IsOf h q) (
         spent = more;
       }
 
-  -- the step that ends the call
+  -- the step that ends the call ends it in time
   pub going-ends :
       (a : Reply) → IsMoment q.errand r.errand (seen q) (seen r) (Done a) → accesses r ≡ suc (accesses q)
       → (first : Pass) (call : Call) (made : ℕ) → IsCalling first call made p → EndsInTime first call made p tries a r
@@ -263,7 +263,7 @@ module _ (h : Heap) (p : Pass) (tries left : ℕ) (q r : Pass) (of : IsOf h q) (
         in_time = subst (λ (e : ErrandFields). tries_of e < tries_of p.errand + tries) (sym ends.1) before;
       }
 
--- no tries are left
+-- a call under way with no tries left is interrupted
 pub going-over :
     (h : Heap) (p : Pass) (tries left : ℕ) (q : Pass) → left ≡ 0 → IsGoing h p tries left q → (first : Pass) (call : Call) (made : ℕ)
     → IsCalling first call made p → IsInterrupted first call made p tries q

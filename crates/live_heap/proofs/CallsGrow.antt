@@ -41,7 +41,7 @@ use Rattle.live_heap.specs.Passes.{accesses, accesses_of, seen}
 use Rattle.live_heap.proofs.Growing.{own-more}
 use Rattle.live_heap.proofs.Moves.{begun-caller}
 
--- fewer steps are left, unless the step lost or cleared
+-- a step leaves fewer steps, unless it lost or cleared
 abbrev pub IsShorter : ErrandFields → Find → ErrandFields → Type 0
 IsShorter e x f =
     (counts_lost e.point x ≡ true) ⊎ (counts_cleared e.point x ≡ true)
@@ -95,7 +95,7 @@ settled-of e f before after answer m =
       short = subst (λ g. steps_left g f.point < CALL_STEPS) own_then.geometry left;
     }
 
--- who isn't told an end is still busy
+-- a caller whose step answers no end is still busy
 pub busy-after :
     (e f : ErrandFields) (before after : List Event) (answer : Progress) (s : IsSettled e f before after answer)
     → ((r : Reply) → answer ≢ Done r) → IsBusy (settle_of e s.x)
@@ -131,7 +131,7 @@ begins-calling p q call since idle about busy =
           (call-begins p.errand call idle about (subst IsBusy since.errand busy));
     }
 
--- so it is of an allocation that has started, and of every other call
+-- an allocation that has started is under way, and so is every other call that has begun
 pub alloc-calling :
     (p q : Pass) (words : ℕ) → HasBegun p (alloc words) q → IsIdle p.errand → alloc_answer p.errand words ≡ begun.Started
     → IsCalling p (alloc words) 0 q
@@ -170,7 +170,7 @@ module _
   way : IsUnderWay p.errand.caller call p.errand.point c.added
   way = subst (λ k. IsUnderWay k call p.errand.point c.added) (sym c.caller) c.under_way
 
-  -- where it doesn't end the call, that goes on
+  -- a step that doesn't end the call leaves it under way
   pub calls-further :
       ((r : Reply) → answer ≢ Done r) → (h : IsCalling first call (suc steps) q) × (h.on.0 ≡ p.errand) × (h.on.2 ≡ answer)
   calls-further on =
@@ -195,7 +195,7 @@ module _
   pub calls-go_on : ((r : Reply) → answer ≢ Done r) → IsCalling first call (suc steps) q
   calls-go_on on = (calls-further on).0
 
-  -- where it answers, the call has ended
+  -- a step that answers with a reply has ended the call
   pub calls-end : (r : Reply) → answer ≡ Done r → (h : HasCalled first call steps r q) × (h.last ≡ p.errand)
   calls-end r is = (
     record {

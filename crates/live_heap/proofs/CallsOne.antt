@@ -27,6 +27,10 @@ use Rattle.errand_steps.specs.declared.reply.Progress.{Progress}
 use Rattle.errand_steps.specs.declared.reply.Progress.TheVariants as progress
 use Rattle.errand_steps.specs.declared.reply.Reply.{Reply}
 use Rattle.errand_steps.specs.declared.reply.Reply.TheVariants as reply
+use Rattle.errand_steps.specs.declared.told.Ending.{Ending}
+use Rattle.errand_steps.specs.declared.told.Ending.TheVariants as ending
+use Rattle.errand_steps.specs.declared.told.Stepped.{Stepped}
+use Rattle.errand_steps.specs.declared.told.Stepped.TheVariants as step
 use Rattle.errand_steps.specs.Begins.{IsIdle, write_begun, read_begun, put_begun, take_begun}
 use Rattle.errand_steps.specs.Calls.{Call, begun_by, write, read, put, take}
 use Rattle.errand_steps.specs.Errands.{ErrandFields, after_list, after_turn, answer_of, counts_cleared, counts_lost, counts_won, course_of, one_more, plan_of, settle_of, told as told_by}
@@ -41,11 +45,7 @@ use Rattle.step_machine.specs.Cores.{OwnsAfter}
 use Rattle.step_machine.specs.Moments.{IsMoment}
 use Rattle.step_machine.specs.Needs.{IsNeed-prop}
 use Rattle.step_machine.proofs.MomentAnswers.{moment-meant, moment-owns}
-use Rattle.live_heap.specs.declared.answers.Ending.{Ending}
-use Rattle.live_heap.specs.declared.answers.Ending.TheVariants as ending
 use Rattle.live_heap.specs.declared.answers.Full.{Full}
-use Rattle.live_heap.specs.declared.answers.Step.{Step}
-use Rattle.live_heap.specs.declared.answers.Step.TheVariants as step
 use Rattle.live_heap.specs.declared.block.Block.{Block}
 use Rattle.live_heap.specs.declared.pass.Pass.{Pass}
 use Rattle.live_heap.specs.Answers.{HasBegun, HasStepped, IsContents, LiesOn, PutTellsFull, progress_of, reply_of, with_lost}
@@ -57,14 +57,14 @@ use Rattle.live_heap.proofs.CallsGrow.{IsSettled, settled-of, calls-go_on, calls
 
 -- a step that ends a call tells its ending
 pub told-done :
-    (told : Step) (r : Reply) → progress_of told ≡ progress.Done r → (end : Ending) × (told ≡ step.Done end) × (reply_of end ≡ r)
+    (told : Stepped Block) (r : Reply) → progress_of told ≡ progress.Done r → (end : Ending Block) × (told ≡ step.Done end) × (reply_of end ≡ r)
 told-done step.Idle r is = absurd (cc)
 told-done step.More r is = absurd (cc)
 told-done step.Lost r is = absurd (cc)
 told-done step.Cleared r is = absurd (cc)
 told-done (step.Done end) r is = (end, refl, (cc))
 
-pub told-more : (told : Step) → progress_of told ≡ progress.More → told ≡ step.More
+pub told-more : (told : Stepped Block) → progress_of told ≡ progress.More → told ≡ step.More
 told-more step.Idle is = absurd (cc)
 told-more step.More is = refl
 told-more step.Lost is = absurd (cc)
@@ -72,32 +72,32 @@ told-more step.Cleared is = absurd (cc)
 told-more (step.Done end) is = absurd (cc)
 
 -- the ending by its reply
-ended-wrote : (end : Ending) → reply_of end ≡ reply.Wrote → end ≡ ending.Wrote
+ended-wrote : (end : Ending Block) → reply_of end ≡ reply.Wrote → end ≡ ending.Wrote
 ended-wrote ending.Wrote is = refl
 ended-wrote end is = absurd (cc)
 
-ended-word : (end : Ending) (word : ℕ) → reply_of end ≡ reply.Word word → end ≡ ending.Word word
+ended-word : (end : Ending Block) (word : ℕ) → reply_of end ≡ reply.Word word → end ≡ ending.Word word
 ended-word (ending.Word v) word is = cc
 ended-word end word is = absurd (cc)
 
-ended-put : (end : Ending) → reply_of end ≡ reply.Put → end ≡ ending.Put
+ended-put : (end : Ending Block) → reply_of end ≡ reply.Put → end ≡ ending.Put
 ended-put ending.Put is = refl
 ended-put end is = absurd (cc)
 
-ended-full : (end : Ending) (found : ℕ) → reply_of end ≡ reply.Full found → (block : Block) × (end ≡ ending.Full block found)
+ended-full : (end : Ending Block) (found : ℕ) → reply_of end ≡ reply.Full found → (block : Block) × (end ≡ ending.Full block found)
 ended-full (ending.Full block v) found is = (block, let same : v ≡ found = cc in ap (ending.Full block) same)
 ended-full end found is = absurd (cc)
 
-ended-got : (end : Ending) (place : ℕ) (need : Need) → reply_of end ≡ reply.Got place need → (block : Block) × (end ≡ ending.Got block)
+ended-got : (end : Ending Block) (place : ℕ) (need : Need) → reply_of end ≡ reply.Got place need → (block : Block) × (end ≡ ending.Got block)
 ended-got (ending.Got block) place need is = (block, refl)
 ended-got end place need is = absurd (cc)
 
-ended-empty : (end : Ending) → reply_of end ≡ reply.Empty → end ≡ ending.Empty
+ended-empty : (end : Ending Block) → reply_of end ≡ reply.Empty → end ≡ ending.Empty
 ended-empty ending.Empty is = refl
 ended-empty end is = absurd (cc)
 
 ended-missed :
-    (end : Ending) (expected found : ℕ) → reply_of end ≡ reply.Missed expected found → end ≡ ending.Missed expected found
+    (end : Ending Block) (expected found : ℕ) → reply_of end ≡ reply.Missed expected found → end ≡ ending.Missed expected found
 ended-missed (ending.Missed a b) expected found is = cc
 ended-missed end expected found is = absurd (cc)
 
@@ -109,22 +109,22 @@ end-answers e x p r at is =
 
 -- the step of a pass that ends its call
 pub ends-one :
-    (first : Pass) (call : Call) (steps : ℕ) (p q : Pass) (told : Step) (end : Ending) → told ≡ step.Done end → HasStepped p q told
+    (first : Pass) (call : Call) (steps : ℕ) (p q : Pass) (told : Stepped Block) (end : Ending Block) → told ≡ step.Done end → HasStepped p q told
     → IsCalling first call steps p → HasCalled first call steps (reply_of end) q
 ends-one first call steps p q told end is stepped calling =
     (calls-end first call steps p q (progress.Done (reply_of end)) (step-moment p q told (step.Done end) is stepped) stepped.accesses calling (reply_of end) refl).0
 
--- a step that leads to an end
+-- a step that leads to an end tells the ending
 ends-told :
-    (p q : Pass) (told : Step) (at : Point) (r : Reply) → p.errand.point ≡ at
+    (p q : Pass) (told : Stepped Block) (at : Point) (r : Reply) → p.errand.point ≡ at
     → (s : IsSettled p.errand q.errand (seen p) (seen q) (progress_of told)) → next_of at s.x ≡ next.End r
-    → (end : Ending) × (told ≡ step.Done end) × (reply_of end ≡ r)
+    → (end : Ending Block) × (told ≡ step.Done end) × (reply_of end ≡ r)
 ends-told p q told at r stands s is = told-done told r (s.answers ∙ end-answers p.errand s.x at r stands is)
 
-stepped-settled : (p q : Pass) (told : Step) → HasStepped p q told → IsSettled p.errand q.errand (seen p) (seen q) (progress_of told)
+stepped-settled : (p q : Pass) (told : Stepped Block) → HasStepped p q told → IsSettled p.errand q.errand (seen p) (seen q) (progress_of told)
 stepped-settled p q told stepped = settled-of p.errand q.errand (seen p) (seen q) (progress_of told) stepped.moment
 
--- where the pass stands that has begun such a call
+-- where a pass stands that has begun a write, a read, a put or a take
 write-point : (p b : Pass) (place : ℕ) (need : Need) (i v : ℕ) → HasBegun p (write place need i v) b → b.errand.point ≡ point.Large (large.StoreWord place i v) Nothing
 unfolding write_begun
 write-point p b place need i v since = ap (λ (e : ErrandFields). e.point) since.errand
@@ -143,7 +143,7 @@ take-point : (p b : Pass) (shelf : ℕ) → HasBegun p (take shelf) b → b.erra
 unfolding take_begun
 take-point p b shelf since = ap (λ (e : ErrandFields). e.point) since.errand
 
--- what follows their steps
+-- what follows the steps of a write, a read, a put and a take
 pub store-ends : (place i v : ℕ) (o : Continuation) (x : Find) → next_of (point.Large (large.StoreWord place i v) o) x ≡ next.End reply.Wrote
 unfolding next_of
 store-ends place i v o x = refl
@@ -191,7 +191,7 @@ none-lost shelf o x lost = ap (λ w. leave_large (if w then large_exit.NothingTh
 
 -- a write has ended behind its one step, and a read
 pub write-told :
-    (p b q : Pass) (place : ℕ) (need : Need) (i v : ℕ) (told : Step) → HasBegun p (write place need i v) b → HasStepped b q told
+    (p b q : Pass) (place : ℕ) (need : Need) (i v : ℕ) (told : Stepped Block) → HasBegun p (write place need i v) b → HasStepped b q told
     → told ≡ step.Done ending.Wrote
 write-told p b q place need i v told since stepped =
     let s = stepped-settled b q told stepped in
@@ -199,7 +199,7 @@ write-told p b q place need i v told since stepped =
     d.1 ∙ ap step.Done (ended-wrote d.0 d.2)
 
 pub read-told :
-    (p b q : Pass) (place : ℕ) (need : Need) (i : ℕ) (told : Step) → HasBegun p (read place need i) b → HasStepped b q told
+    (p b q : Pass) (place : ℕ) (need : Need) (i : ℕ) (told : Stepped Block) → HasBegun p (read place need i) b → HasStepped b q told
     → (word : ℕ) × (told ≡ step.Done (ending.Word word))
 read-told p b q place need i told since stepped =
     let s = stepped-settled b q told stepped in
@@ -217,7 +217,7 @@ stands-there first call steps p q answer m at stands c =
 
 -- the word that was read is what the block holds there
 pub read-contents :
-    (p b q : Pass) (place : ℕ) (need : Need) (i word steps : ℕ) (told : Step) → told ≡ step.Done (ending.Word word) → HasStepped b q told
+    (p b q : Pass) (place : ℕ) (need : Need) (i word steps : ℕ) (told : Stepped Block) → told ≡ step.Done (ending.Word word) → HasStepped b q told
     → IsCalling p (read place need i) steps b → IsContents q place i word
 read-contents p b q place need i word steps told is stepped calling =
     let r : Reply = reply.Word word in
@@ -237,7 +237,7 @@ block-same a b place need =
 
 -- a put has ended behind its one step, or has found the shelf full
 pub put-told :
-    (p b q : Pass) (place : ℕ) (need : Need) (shelf : ℕ) (told : Step) → HasBegun p (put place need shelf) b → HasStepped b q told
+    (p b q : Pass) (place : ℕ) (need : Need) (shelf : ℕ) (told : Stepped Block) → HasBegun p (put place need shelf) b → HasStepped b q told
     → (told ≡ step.Done ending.Put) ⊎ ((block : Block) × (found : ℕ) × (told ≡ step.Done (ending.Full block found)))
 put-told p b q place need shelf told since stepped =
     let s = stepped-settled b q told stepped in
@@ -271,7 +271,7 @@ put-planned e shelf place need o word at = ap (λ p. is_won (plan_point_of p) wo
 
 -- a word that was found on a full shelf isn't that of an empty one
 full-found :
-    (b q : Pass) (place : ℕ) (need : Need) (shelf : ℕ) (o : Continuation) (told : Step) (block : Block) (found : ℕ)
+    (b q : Pass) (place : ℕ) (need : Need) (shelf : ℕ) (o : Continuation) (told : Stepped Block) (block : Block) (found : ℕ)
     → told ≡ step.Done (ending.Full block found) → b.errand.point ≡ point.Large (large.PutBlock shelf place need) o → HasStepped b q told → found ≢ 0
 full-found b q place need shelf o told block found is at stepped =
     let s = stepped-settled b q told stepped in
@@ -290,9 +290,9 @@ full-found b q place need shelf o told block found is at stepped =
           (sym same ∙ (zero ∙ sym nothing-word))
     ]
 
--- the same block is back, and still the pass's; and another one lies on the shelf
+-- a put that found a full shelf has its block back, still the pass's; and another one lies on the shelf
 pub full-tells :
-    (p b q : Pass) (place : ℕ) (need : Need) (shelf steps : ℕ) (told : Step) (block : Block) (found : ℕ) → told ≡ step.Done (ending.Full block found)
+    (p b q : Pass) (place : ℕ) (need : Need) (shelf steps : ℕ) (told : Stepped Block) (block : Block) (found : ℕ) → told ≡ step.Done (ending.Full block found)
     → HasStepped b q told → IsCalling p (put place need shelf) steps b
     → (block.place ≡ place) × (block.need ≡ need) × Owns q block × LiesOn q shelf found × (found ≢ 0)
 full-tells p b q place need shelf steps told block found is stepped calling =
@@ -324,7 +324,7 @@ full-tells p b q place need shelf steps told block found is stepped calling =
     )
 
 pub put-full :
-    (p b q : Pass) (block : Block) (shelf : ℕ) (told : Step) (full : Full) → told ≡ step.Done (ending.Full full.block full.found)
+    (p b q : Pass) (block : Block) (shelf : ℕ) (told : Stepped Block) (full : Full) → told ≡ step.Done (ending.Full full.block full.found)
     → HasStepped b q told → IsCalling p (put block.place block.need shelf) 0 b → PutTellsFull p block shelf full q
 put-full p b q block shelf told full is stepped calling =
     let tells = full-tells p b q block.place block.need shelf 0 told full.block full.found is stepped calling in
@@ -344,7 +344,7 @@ shelf-loads e shelf x at =
     ap (λ p. told_by (after_turn e (after_list e (next_of p x))) (counts_lost p x) (counts_cleared p x)) at
 
 first-more :
-    (p b q : Pass) (shelf : ℕ) (told : Step) → HasBegun p (take shelf) b → HasStepped b q told → told ≡ step.More
+    (p b q : Pass) (shelf : ℕ) (told : Stepped Block) → HasBegun p (take shelf) b → HasStepped b q told → told ≡ step.More
 first-more p b q shelf told since stepped =
     let s = stepped-settled b q told stepped in
     told-more told (s.answers ∙ shelf-loads b.errand shelf s.x (take-point p b shelf since))
@@ -379,7 +379,7 @@ load-left : (g : Geometry) (shelf : ℕ) → steps_left g (point.Large (large.Lo
 unfolding steps_left
 load-left g shelf = refl
 
--- behind the first step one is left
+-- behind the first step of a take one step is left
 pub second-stands :
     (caller shelf : ℕ) (before e f : ErrandFields) (was now added : List Event) (answer : Progress) → e ≡ begun_by before (take shelf)
     → IsMoment e f was now answer → IsUnderWay caller (take shelf) f.point added → IsAtTake shelf f.point
@@ -393,9 +393,9 @@ second-stands caller shelf before e f was now added answer begun m way =
     let two : steps_left g e.point ≡ 2 = ap (steps_left g) at ∙ load-left g shelf in
     stands-take g caller shelf f.point added way (omega (arith, fewer, two))
 
--- behind the first step
+-- a take goes on behind its first step
 pub take-goes_on :
-    (p b a : Pass) (shelf : ℕ) (told : Step) → HasBegun p (take shelf) b → HasStepped b a told → IsCalling p (take shelf) 0 b
+    (p b a : Pass) (shelf : ℕ) (told : Stepped Block) → HasBegun p (take shelf) b → HasStepped b a told → IsCalling p (take shelf) 0 b
     → IsCalling p (take shelf) 1 a × IsAtTake shelf a.errand.point
 take-goes_on p b a shelf told since stepped calling =
     let more = first-more p b a shelf told since stepped in
@@ -405,7 +405,7 @@ take-goes_on p b a shelf told since stepped calling =
 
 -- how a take has ended
 pub take-told :
-    (a q : Pass) (shelf : ℕ) (told : Step) → IsAtTake shelf a.errand.point → HasStepped a q told
+    (a q : Pass) (shelf : ℕ) (told : Stepped Block) → IsAtTake shelf a.errand.point → HasStepped a q told
     → ((block : Block) × (told ≡ step.Done (ending.Got block))) ⊎ (told ≡ step.Done ending.Empty)
     ⊎ ((expected : ℕ) × (found : ℕ) × (told ≡ step.Done (ending.Missed expected found)))
 take-told a q shelf told (inl (place, need, o, at)) stepped =
@@ -486,9 +486,9 @@ first-errand before e f shelf x begun settled =
           ∙ ap (λ (d : ErrandFields). record d { point = leads.0 }) begun),
     )
 
--- a step that misses loses
+-- a step that ends its call and loses leaves an idle errand with one lost exchange more
 missed-errand :
-    (a q : Pass) (told : Step) (r : Reply) (at : Point) (stepped : HasStepped a q told) → a.errand.point ≡ at
+    (a q : Pass) (told : Stepped Block) (r : Reply) (at : Point) (stepped : HasStepped a q told) → a.errand.point ≡ at
     → next_of at (stepped-settled a q told stepped).x ≡ next.End r → IsQuiet at (stepped-settled a q told stepped).x true
     → q.errand ≡ record a.errand { point = point.Idle; lost = one_more a.errand.lost }
 missed-errand a q told r at stepped stands is quiet =
@@ -496,12 +496,12 @@ missed-errand a q told r at stepped stands is quiet =
     let here = subst (λ p. IsQuiet p s.x true) (sym stands) quiet in
     s.settled ∙ end-settles a.errand s.x r (ap (λ p. next_of p s.x) stands ∙ is) here.won here.lost here.cleared
 
-not-missed : (told : Step) (r : Reply) (expected found : ℕ) → told ≡ step.Done (ending.Missed expected found) → progress_of told ≡ progress.Done r → r ≡ reply.Missed expected found
+not-missed : (told : Stepped Block) (r : Reply) (expected found : ℕ) → told ≡ step.Done (ending.Missed expected found) → progress_of told ≡ progress.Done r → r ≡ reply.Missed expected found
 not-missed told r expected found is answers =
     let both : progress.Done r ≡ progress.Done (reply.Missed expected found) = sym answers ∙ ap progress_of is in cc
 
 second-errand :
-    (a q : Pass) (shelf : ℕ) (told : Step) (expected found : ℕ) → told ≡ step.Done (ending.Missed expected found)
+    (a q : Pass) (shelf : ℕ) (told : Stepped Block) (expected found : ℕ) → told ≡ step.Done (ending.Missed expected found)
     → IsAtTake shelf a.errand.point → HasStepped a q told
     → q.errand ≡ record a.errand { point = point.Idle; lost = one_more a.errand.lost }
 second-errand a q shelf told expected found is (inl (place, need, o, at)) stepped =
@@ -531,7 +531,7 @@ second-errand a q shelf told expected found is (inr (o, at)) stepped =
 
 -- a take that misses has lost one exchange more than before, and its errand is the same in all else
 pub missed-lost :
-    (before e : ErrandFields) (a q : Pass) (shelf : ℕ) (x : Find) (told : Step) (expected found : ℕ)
+    (before e : ErrandFields) (a q : Pass) (shelf : ℕ) (x : Find) (told : Stepped Block) (expected found : ℕ)
     → told ≡ step.Done (ending.Missed expected found) → IsIdle before → e ≡ begun_by before (take shelf) → a.errand ≡ settle_of e x
     → IsAtTake shelf a.errand.point → HasStepped a q told → q.errand ≡ with_lost before
 missed-lost before e a q shelf x told expected found is idle begun settled at stepped =
@@ -542,7 +542,7 @@ missed-lost before e a q shelf x told expected found is idle begun settled at st
 
 -- a take that misses leaves everything but the count of lost exchanges
 pub take-missed :
-    (p b a q : Pass) (shelf : ℕ) (first told : Step) (expected found : ℕ) → told ≡ step.Done (ending.Missed expected found)
+    (p b a q : Pass) (shelf : ℕ) (first told : Stepped Block) (expected found : ℕ) → told ≡ step.Done (ending.Missed expected found)
     → IsIdle p.errand → HasBegun p (take shelf) b → HasStepped b a first → IsAtTake shelf a.errand.point → HasStepped a q told
     → (expected ≢ found) × (q.errand ≡ with_lost p.errand)
 take-missed p b a q shelf first told expected found is idle since one at two =

@@ -46,7 +46,7 @@ giving-front caller words place (Small class) events h = (looks caller class h.0
 giving-front caller words place (Large units) events h = ([], h, tt)
 giving-front caller words place TooLarge events h = absurd h
 
--- those of one that is refused, or spent, change nothing
+-- the events of an allocation that is refused, or spent, change nothing
 refusing-quiet : (caller words : ℕ) (n : Need) (events : List Event) → IsRefusing caller words n events → AllQuiet events
 refusing-quiet caller words (Small class) events h =
     subst AllQuiet (sym h.1)
@@ -272,7 +272,7 @@ calling-changes h p q call steps of calling =
     so_far-changes h.layout p q calling.added (legal-weaker h.layout (seen q) of.served.legal) calling.caller (calling-adds p q call steps calling)
     call (stage_of q.errand.point) calling.under_way
 
--- and behind a whole call, however often it was interrupted
+-- what a whole call, however often it was interrupted, has made of what its caller owns
 pub whole-changes :
     (h k : Heap) (p q : Pass) (call : Call) (answer : Reply) → IsWhole h p call answer k q → HasChanged p call answer q
 whole-changes h k p q call answer (by_steps made, may, same, is) = called-changes k p q call made.0 answer is.0 made.1

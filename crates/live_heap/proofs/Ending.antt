@@ -112,7 +112,7 @@ found-in (x ∷ xs) errands caller so has =
 none-first : (caller : ℕ) → 0 + caller ≡ caller
 none-first caller = omega arith
 
--- the list of errands by number
+-- the errand at a number of the list is that of the caller with the number
 listed-there : (xs : List Standing) (from n caller : ℕ) → caller < n → slice_index_or (errands_from xs from n) caller no_errand ≡ errand_in xs (from + caller)
 listed-there xs from zero caller l = absurd (omega arith)
 listed-there xs from (suc n) zero l = let z : from ≡ from + 0 = omega arith in ap (errand_in xs) z
@@ -182,7 +182,7 @@ module _ (g : Geometry) (words : List ℕ) (views : List View) (id : ℕ) (v : V
       rest-none caller v.seen stands.seen.0
       (subst (λ d. own d v.seen ≡ own d h.events) t.3 (own-between t.1.errand.caller t.1.seen v.seen h.events y.seen_within stands.seen y.own_seen) ∙ ap (own caller) stands.seen.1)
 
-  -- it has seen all events
+  -- the last seat has seen all events
   log_is : h.events ≡ v.seen
   log_is =
       stands.seen.1
@@ -190,7 +190,7 @@ module _ (g : Geometry) (words : List ℕ) (views : List View) (id : ℕ) (v : V
       (nobodys g v.seen stands.seen.0
       (subst (IsLegal g) stands.seen.1 (run-sound g (state_with g words h.errands h.events) h.made h.run).legal) none_left) ∙ append-nil v.seen)
 
-  -- and all that was won
+  -- the last seat has seen all that was won
   rest_none : (caller : ℕ) → caller < g.callers → count_by (is_by caller) stands.wins_seen.0 ≡ 0
   rest_none caller has =
       let t = cover caller has in
@@ -232,7 +232,7 @@ module _ (g : Geometry) (words : List ℕ) (views : List View) (id : ℕ) (v : V
         subst IsIdle (sym (stands.each t.0 t.1 t.2).errand ∙ (ap h.errands t.3 ∙ sym (errand_is caller))) (idle t.0 t.1 t.2);
   }
 
-  -- each pass that it took in has made the steps of its caller
+  -- each pass that the last seat took in has made the steps of its caller
   pub made-steps :
       (idle : (k : ℕ) (x : Standing) → get_elem? v.callers k ≡ some x → IsIdle x.errand) (p : Pass) → IsIn v p
       → accesses p ≡ count_by (is_step_of p.errand.caller) (ends idle).core.run.moves
@@ -243,7 +243,7 @@ module _ (g : Geometry) (words : List ℕ) (views : List View) (id : ℕ) (v : V
       ∙ subst (λ (e : ErrandFields). i.standing.accesses ≡ count_by (is_step_of e.caller) (ends idle).core.run.moves) i.errand
       (y.counted ∙ ap (count_by (is_step_of i.standing.errand.caller)) (sym run_here.3))
 
-  -- a caller's errand in it is the one that the view stands for
+  -- a caller's errand at the end is the one that the view has for it
   pub has_errand :
       (k : ℕ) (x : Standing) → get_elem? v.callers k ≡ some x → errand_at (errands_from v.callers 0 g.callers) x.errand.caller ≡ x.errand
   has_errand k x is = errand_is x.errand.caller ∙ (stands.each k x is).errand
@@ -251,7 +251,7 @@ module _ (g : Geometry) (words : List ℕ) (views : List View) (id : ℕ) (v : V
   pub below : (k : ℕ) (x : Standing) → get_elem? v.callers k ≡ some x → x.errand.caller < g.callers
   below k x is = (stands.each k x is).has
 
-  -- the passes that it took in
+  -- the closed heap has what each pass had that the last seat took in
   pub taken-in : (p : Pass) → IsIn v p → HasTakenIn (closed_with g words v) p
   taken-in p i =
       let y = stands.each i.number i.standing i.at in

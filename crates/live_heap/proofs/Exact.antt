@@ -45,14 +45,14 @@ stays : (p q : Pass) (block : Block) → owned_in q block.place ≡ owned_in p b
 stays p q block same owns =
     let there = owned-there p block.place block.need owns in there-owned q block.place block.need there.0 (same ∙ there.1) there.2
 
--- a hand of which nothing changes
+-- a hand stays exact where nothing changes
 same-exact : (p q : Pass) (blocks : List Block) → OwnsSame p q → HoldsExactly p blocks → HoldsExactly q blocks
 same-exact p q blocks same held = (
   holds-kept (λ block. Unit {0}) p q (λ block left. stays p q block (same block.place)) blocks (λ k d within. tt) held.0,
   λ place apart. same place ∙ held.1 place apart,
 )
 
--- a word of one of its blocks is written
+-- a hand stays exact where a word of one of its blocks is written
 written-exact :
     (p q : Pass) (blocks : List Block) (place i v : ℕ) → OwnsBut p q place (option_map (written i v) (owned_in p place)) → HoldsExactly p blocks
     → HoldsExactly q blocks
@@ -73,7 +73,7 @@ written-exact p q blocks place i v but held = (
   ],
 )
 
--- a block of it goes
+-- a hand stays exact where a block goes from it
 lost-exact :
     (p q : Pass) (had has : List Block) (place : ℕ) → OwnsBut p q place None → Loses place had has → HoldsExactly p had → HoldsExactly q has
 lost-exact p q had has place but (block, there, is) held =
@@ -88,7 +88,7 @@ lost-exact p q had has place but (block, there, is) held =
       ],
     )
 
--- a block comes to it, at a place where nothing was owned
+-- a hand stays exact where a block comes to it, at a place where nothing was owned
 gained-exact :
     (p q : Pass) (had has : List Block) (place : ℕ) (need : Need) (b : PoolBlock) → owned_in p place ≡ None → OwnsBut p q place (Some b)
     → b.need ≡ need → Gains place need had has → HoldsExactly p had → HoldsExactly q has
@@ -137,7 +137,7 @@ order-exact p before after block = (
   ),
 )
 
--- what is got serves what the answer says
+-- a block that a take got serves what the answer says
 got-serves :
     (p q : Pass) (steps shelf place : ℕ) (need : Need) (block : Block) → block.place ≡ place → block.need ≡ need
     → HasCalled p (take shelf) steps (reply.Got place need) q → (got : HasGot p shelf place q) → got.block.need ≡ need
@@ -163,7 +163,7 @@ changed-exact p q (take shelf) steps (reply.Got place need) had has called chang
     (got-serves p q steps shelf place need hand.0 hand.1 hand.2 called changes) hand held
 changed-exact p q call steps answer had has called changes hand held = subst (HoldsExactly q) (sym hand) (same-exact p q had changes held)
 
--- so it is behind each call
+-- a hand stays exact behind each call that has ended
 pub called-exact :
     (h : Heap) (p q : Pass) (call : Call) (steps : ℕ) (answer : Reply) (had has : List Block) → IsOf h q → HasCalled p call steps answer q
     → ChangesHand call answer had has → HoldsExactly p had → HoldsExactly q has
@@ -188,7 +188,7 @@ so_far-exact p q (alloc words) (given place need) added had has so changes hand 
 so_far-exact p q (free place need) freed added had has so changes hand held = lost-exact p q had has place changes hand held
 so_far-exact p q call at added had has so changes hand held = subst (HoldsExactly q) (sym hand) (same-exact p q had changes held)
 
--- and in one that is under way
+-- a hand stays exact in a call that is under way
 pub calling-exact :
     (h : Heap) (p q : Pass) (call : Call) (steps : ℕ) (had has : List Block) → IsOf h q → IsCalling p call steps q
     → ChangesHandSoFar call (stage_of q.errand.point) had has → HoldsExactly p had → HoldsExactly q has

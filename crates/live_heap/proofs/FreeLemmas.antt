@@ -5,9 +5,9 @@ use Rattle.heap_geometry.specs.declared.need.Need.TheVariants.{Small}
 use Rattle.superblock_parts.specs.declared.point.BlockPoint.{BlockPoint}
 use Rattle.superblock_parts.specs.declared.point.BlockPoint.TheVariants.{LoadPrefix}
 use Rattle.errand_steps.specs.declared.continuation.Continuation.TheVariants.{Free}
+use Rattle.errand_steps.specs.declared.told.Ending.{Ending}
 use Rattle.errand_steps.specs.Begins.{IsHeapBlock, IsIdle, free_begun, seat_of}
 use Rattle.errand_steps.specs.Calls.{free}
-use Rattle.live_heap.specs.declared.answers.Ending.{Ending}
 use Rattle.live_heap.specs.declared.block.Block.{Block}
 use Rattle.live_heap.specs.declared.pass.Pass.{Pass}
 use Rattle.live_heap.specs.Answers.{FreeTells, free_answer_in, reply_in}
@@ -16,7 +16,7 @@ use Rattle.live_heap.specs.Going.{in_call, stands_at}
 use Rattle.live_heap.proofs.CallsAnswers.{ends-since, free-tells, interrupted-since}
 use Rattle.live_heap.proofs.CallsGrow.{other-calling}
 
--- it would stand at its first point
+-- a free that begins would stand at its first point
 pub frees-from :
     (p : Pass) (place class : ℕ) (first : BlockPoint) → first ≡ LoadPrefix (seat_of p.errand class) (frame_of place) (index_of class place)
     → stands_at p first Free ≡ in_call p (free place (Small class))
@@ -30,7 +30,7 @@ free-calling p place class idle block =
 
 -- what a free tells where it has gone on so since it began
 pub free-answers :
-    (p : Pass) (block : Block) (tries : ℕ) (told : Option Ending) (q : Pass)
+    (p : Pass) (block : Block) (tries : ℕ) (told : Option (Ending Block)) (q : Pass)
     → GoesOn p (free block.place block.need) 0 (in_call p (free block.place block.need)) tries (reply_in told) q
     → FreeTells p block tries (free_answer_in told) q
 free-answers p block tries None q over =

@@ -49,7 +49,7 @@ one-idle h p of idle =
 single-sum : (f : Standing → ℕ) (x : Standing) → sum_by f (x ∷ []) ≡ f x
 single-sum f x = omega (arith, sum_by-cons f x [])
 
--- what they weigh
+-- the callers of the view of a pass in no call weigh what the pass's errand does
 pub one-sum :
     (h : Heap) (p : Pass) (weight : ErrandFields → ℕ) → IsOf h p → IsIdle p.errand
     → sum_by (λ (x : Standing). weight x.errand) p.seat.me.0.callers ≡ weight p.errand
@@ -86,7 +86,7 @@ is_in-other : (v w : View) (p : Pass) → IsIn w p → IsIn (gathered v w) p
 is_in-other v w p i =
     record { number = length v.callers + i.number; standing = i.standing; at = after v.callers w.callers i.number ∙ i.at; errand = i.errand; seen_last = i.seen_last; counted = i.counted }
 
--- those that were taken in, once one more is
+-- the passes that were taken in are so still, once one more is
 pub more-in : (v w : View) (p : Pass) (ps : List Pass) → IsIn w p → All (IsIn v) ps → All (IsIn (gathered v w)) (p ∷ ps)
 more-in v w p ps i all zero d l = is_in-other v w p i
 more-in v w p ps i all (suc k) d l = is_in-first v w _ (all k d (omega arith))

@@ -97,7 +97,7 @@ pub wins-others :
 wins-others s caller other wins differ =
     wins-with other caller wins (win_at s caller) (λ x is. won-by s caller (counts_won (action_at s caller) (found_at s caller)) x is) differ
 
--- between a list that has as many of one kind as the whole, each has as many
+-- between a list of wins that has all of a caller's and the whole, each has all of them
 pub count-between :
     (caller : ℕ) (xs ys zs : List Win) → StartsWith xs ys → StartsWith ys zs → count_by (is_by caller) xs ≡ count_by (is_by caller) zs
     → count_by (is_by caller) ys ≡ count_by (is_by caller) zs

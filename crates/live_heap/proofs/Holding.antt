@@ -58,7 +58,7 @@ holds-push p block owns (b ∷ bs) apart held =
       holds-push p block owns bs (All-tail (λ (other : Block). other.place ≢ block.place) b bs apart) held.2,
     )
 
--- what is so of all is so of one, and of the others
+-- what is so of all blocks is so of one, and of the others
 pub all-out : (P : Block → Type 0) (before after : List Block) (block : Block) → All P (before ++ block ∷ after) → P block × All P (before ++ after)
 all-out P [] after block all = (All-head P block after all, All-tail P block after all)
 all-out P (b ∷ bs) after block all =
@@ -78,7 +78,7 @@ holds-out p (b ∷ bs) after block held =
       (held.0, out.1, rest.2),
     )
 
--- and the other way
+-- what is so of a block and of the others is so of all; a block that is owned and lies apart joins the hand
 pub all-in : (P : Block → Type 0) (before after : List Block) (block : Block) → P block → All P (before ++ after) → All P (before ++ block ∷ after)
 all-in P [] after block here all = All-cons P block after here all
 all-in P (b ∷ bs) after block here all =
@@ -111,7 +111,7 @@ pub holds-at :
 holds-at p blocks number block within is held =
     (holds-out p (take number blocks) (drop (number + 1) blocks) block (subst (Holds p) (at-split blocks number block within is) held)).0
 
--- the hand without it
+-- the hand is held without the block at a number
 pub holds-removed :
     (p : Pass) (blocks rest : List Block) (number : ℕ) (block : Block) → number < length blocks → block ≡ slice_index_or blocks number block
     → rest ≡ take number blocks ++ drop (number + 1) blocks → Holds p blocks
@@ -133,7 +133,7 @@ ended-hand h p q blocks call steps answer of of_new called leaves held =
       waits = λ busy. absurd (idle-free q.errand called.idle busy);
     }
 
--- and so do calls that leave the pass each of its blocks
+-- calls that leave the pass each of its blocks leave the hand
 pub kept-hand :
     (h : Heap) (p q : Pass) (blocks : List Block) → IsOf h q → IsIdle q.errand → ((block : Block) → Owns p block → Owns q block)
     → Holds p blocks → IsHand h q blocks
@@ -144,7 +144,7 @@ kept-hand h p q blocks of idle keeps held =
       waits = λ busy. absurd (idle-free q.errand idle busy);
     }
 
--- a block that lies elsewhere is added to it
+-- a block that lies apart from the others is added to the hand
 pub brought-hand :
     (h : Heap) (q : Pass) (blocks : List Block) (block : Block) → IsIdle q.errand → Owns q block
     → All (λ other. other.place ≢ block.place) blocks → IsHand h q blocks → IsHand h q (blocks ++ block ∷ [])
@@ -155,7 +155,7 @@ brought-hand h q blocks block idle owns apart hand =
       waits = λ busy. absurd (idle-free q.errand idle busy);
     }
 
--- a call that is interrupted waits with the others
+-- a call that is interrupted waits with the blocks that it doesn't give away
 pub interrupted-hand :
     (h : Heap) (first p q : Pass) (blocks : List Block) (call : Call) (made tries : ℕ) → IsOf h first → IsOf h q
     → IsInterrupted first call made p tries q → IsTried call → All (λ block. LeavesPlace call block.place) blocks → Holds first blocks
@@ -181,7 +181,7 @@ interrupted-hand h first p q blocks call made tries of of_new i tried leaves hel
 pub plus-nothing : (h : Heap) (q : Pass) (blocks : List Block) → IsHand h q blocks → IsHand h q (blocks ++ [])
 plus-nothing h q blocks hand = subst (IsHand h q) (sym (append-nil blocks)) hand
 
--- no call of an allocation gives a block away
+-- an allocation gives no block away
 alloc-leaves : (need : ℕ) (blocks : List Block) → All (λ block. LeavesPlace (alloc need) block.place) blocks
 alloc-leaves need blocks k d within = tt
 
@@ -205,7 +205,7 @@ resume-hand h first p q blocks call made tries resumed.Spent of of_new tells tri
 resume-hand h first p q blocks call made tries resumed.Busy of of_new tells tried leaves held =
     plus-nothing h q blocks (interrupted-hand h first p q blocks call made tries of of_new tells tried leaves held)
 
--- the same of the hand of a call that was waiting
+-- a resumed call that was waiting: what it was given is in the hand
 pub waiting-hand :
     (h : Heap) (p q : Pass) (blocks : List Block) (tries : ℕ) (answer : Resumed) → IsWaiting h p blocks → IsOf h q
     → ((first : Pass) (call : Call) (made : ℕ) → IsCalling first call made p → ResumeTells first call made p tries answer q)
@@ -213,7 +213,7 @@ pub waiting-hand :
 waiting-hand h p q blocks tries answer w of_new tells =
     resume-hand h w.first p q blocks w.call w.steps tries answer w.of of_new (tells w.first w.call w.steps w.calling) w.tried w.leaves w.holds
 
--- an idle pass that has changed in nothing
+-- the hand of an idle pass that has changed in nothing
 same-hand : (h : Heap) (p q : Pass) (blocks : List Block) → q ≡ p → IsIdle p.errand → IsOf h q → Holds p blocks → IsHand h q (blocks ++ [])
 same-hand h p q blocks same idle of_new held =
     plus-nothing h q blocks
@@ -223,7 +223,7 @@ same-hand h p q blocks same idle of_new held =
       waits = λ busy. absurd (idle-free p.errand idle (subst (λ (x : Pass). IsBusy x.errand) same busy));
     })
 
--- an allocation
+-- the hand behind an allocation: what it was given is in it
 pub alloc-hand :
     (h : Heap) (p q : Pass) (blocks : List Block) (need tries : ℕ) (answer : AllocAnswer) → IsOf h p → IsIdle p.errand → Holds p blocks
     → IsOf h q → AllocTells p need tries answer q → IsHand h q (blocks ++ given_by answer)
@@ -238,7 +238,7 @@ alloc-hand h p q blocks need tries alloc_answer.Spent of idle held of_new (inr l
 alloc-hand h p q blocks need tries alloc_answer.Busy of idle held of_new tells =
     resume-hand h p p q blocks (alloc need) 0 tries resumed.Busy of of_new tells tt (alloc-leaves need blocks) held
 
--- a free of a block that lies apart from the others
+-- the hand behind a free of a block that lies apart from the others
 pub free-hand :
     (h : Heap) (p q : Pass) (blocks : List Block) (block : Block) (tries : ℕ) (answer : FreeAnswer) → IsOf h p
     → All (λ other. other.place ≢ block.place) blocks → Holds p blocks → IsOf h q → FreeTells p block tries answer q → IsHand h q blocks
@@ -247,7 +247,7 @@ free-hand h p q blocks block tries free_answer.Freed of apart held of_new tells 
 free-hand h p q blocks block tries free_answer.Busy of apart held of_new tells =
     interrupted-hand h p p q blocks (free block.place block.need) 0 tries of of_new tells tt apart held
 
--- a put, from which the block may come back
+-- the hand behind a put, from which the block may come back
 pub put-hand :
     {A : Type 0} (h : Heap) (p q : Pass) (blocks : List Block) (block : Block) (shelf : ℕ) (answer : Result A Full) → IsOf h p
     → All (λ other. other.place ≢ block.place) blocks → Holds p blocks → IsOf h q
@@ -260,7 +260,7 @@ put-hand h p q blocks block shelf (Err full) of apart held of_new lies back =
     (subst (λ (x : Block). All (λ other. other.place ≢ x.place) blocks) (sym back.same) apart)
     (ended-hand h p q blocks (put block.place block.need shelf) 0 _ of of_new back.called apart held)
 
--- a take
+-- the hand behind a take: what it got is in it
 pub take-hand :
     (h : Heap) (p q : Pass) (blocks : List Block) (shelf : ℕ) (answer : Taken) → IsOf h p → Holds p blocks → IsOf h q
     → TakeTells p shelf answer q → IsHand h q (blocks ++ taken_by answer)

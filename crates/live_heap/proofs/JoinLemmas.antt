@@ -8,20 +8,22 @@ use Rattle.errand_steps.specs.declared.reply.Progress.TheVariants.{Idle, More, L
 use Rattle.errand_steps.specs.declared.reply.Reply.{Reply}
 use Rattle.errand_steps.specs.Offers.{offered_at}
 use Rattle.errand_steps.specs.declared.reply.Offer.{Offer}
+use Rattle.errand_steps.specs.declared.told.Ending.{Ending}
 use Rattle.errand_steps.specs.Errands.{ErrandFields, answer_of, settle_of}
+use Rattle.errand_steps.specs.Told.{IsTellable}
 use Rattle.step_machine.specs.Moments.{IsMoment}
-use Rattle.live_heap.specs.declared.answers.Ending.{Ending}
+use Rattle.live_heap.specs.declared.block.Block.{Block}
 use Rattle.live_heap.specs.declared.heap.Heap.{Heap}
 use Rattle.live_heap.specs.declared.pass.Pass.{Pass}
 use Rattle.live_heap.specs.Passes.{IsOf, accesses, seen, view}
 use Rattle.live_heap.specs.Sights.{TakesStep, found_in}
-use Rattle.live_heap.specs.Answers.{IsAnswerable, reply_of}
+use Rattle.live_heap.specs.Answers.{reply_of}
 use Rattle.live_heap.specs.Going.{HasGone, HasWalked, IsGoing, Rejoins, at_block, stands_at}
 use Rattle.live_heap.proofs.CallsCounts.{goes-cleared, goes-lost, going-again, going-ends, going-further, going-grows, never-idle}
 use Rattle.live_heap.proofs.Stepped.{still-of, took-access, took-step}
-use Rattle.live_heap.proofs.Told.{moment-answerable}
+use Rattle.live_heap.proofs.Told.{moment-tellable}
 
--- the errand catches up
+-- the errand of a call whose seat has made the step stands where the step began
 pub rejoins :
     (h : Heap) (start : Pass) (tries : ℕ) (p : BlockPoint) (o : Continuation) (x : Find) (r : Pass) → HasWalked h start tries p o x r
     → (f : ErrandFields) → f ≡ at_block r.errand p o → Rejoins h start tries x (record { seat = r.seat; errand = f })
@@ -37,7 +39,7 @@ rejoins h start tries p o x r w f is =
       empty = w.empty;
     }
 
--- the pass after that
+-- the pass whose errand has caught up with the step of its seat
 module _
     (h : Heap) (start : Pass) (tries : ℕ) (found : Find) (p : Pass) (j : Rejoins h start tries found p) (q : Pass)
     (answer : Progress) (seat : q.seat ≡ p.seat) (is : q.errand ≡ settle_of p.errand found) (told : answer ≡ answer_of p.errand found) where
@@ -63,7 +65,7 @@ module _
   joins-access : accesses q ≡ suc (accesses last)
   joins-access = took-access last.errand last q j.has.0 stepped
 
-  -- how its tries stand then, by what the step came to
+  -- how the call's tries stand behind that step, by what it came to
   pub joins-more : 0 < tries → answer ≡ More → IsGoing h start tries tries q
   joins-more some more =
       going-further h start tries tries last q j.of some j.going (subst (IsMoment last.errand q.errand (seen last) (seen q)) more joins-moment) joins-access
@@ -84,7 +86,7 @@ module _
   joins-never idle = never-idle last.errand q.errand (seen last) (seen q) (subst (IsMoment last.errand q.errand (seen last) (seen q)) idle joins-moment)
 
   pub joins-ends :
-      0 < tries → (r : Reply) → answer ≡ Done r → (ending : Ending) → reply_of ending ≡ r → HasGone h start tries (Some ending) q
+      0 < tries → (r : Reply) → answer ≡ Done r → (ending : Ending Block) → reply_of ending ≡ r → HasGone h start tries (Some ending) q
   joins-ends some r done ending is =
       record {
         of = joins-of;
@@ -93,8 +95,8 @@ module _
             (subst (IsMoment last.errand q.errand (seen last) (seen q)) (done ∙ ap Done (sym is)) joins-moment) joins-access;
       }
 
-  pub joins-answerable : (r : Reply) → answer ≡ Done r → IsAnswerable None (Done r)
-  joins-answerable r done =
-      subst (λ (o : Option Offer). IsAnswerable o (Done r)) j.offers
-      (subst (IsAnswerable (offered_at last.errand.point)) done
-      (moment-answerable last.errand q.errand (seen last) (seen q) answer joins-moment))
+  pub joins-tellable : (r : Reply) → answer ≡ Done r → IsTellable None (Done r)
+  joins-tellable r done =
+      subst (λ (o : Option Offer). IsTellable o (Done r)) j.offers
+      (subst (IsTellable (offered_at last.errand.point)) done
+      (moment-tellable last.errand q.errand (seen last) (seen q) answer joins-moment))

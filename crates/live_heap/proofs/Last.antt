@@ -41,7 +41,7 @@ last-same (a ∷ []) [] x y is = absurd (let t : a ∷ x ∷ [] ≡ y ∷ [] = i
 last-same (a ∷ c ∷ xs) [] x y is = absurd (let t : a ∷ c ∷ (xs ++ x ∷ []) ≡ y ∷ [] = is in cc)
 last-same (a ∷ xs) (b ∷ ys) x y is = last-same xs ys x y (let t : a ∷ (xs ++ x ∷ []) ≡ b ∷ (ys ++ y ∷ []) = is in cc)
 
--- the last step of such a call has an event
+-- where a call and its reply tell the last event, the last step has an event
 answer-tells :
     (g : Geometry) (s after : State) (caller by : ℕ) (call : Call) (answer : Reply) (event : Event) → tells_last by call answer ≡ Some event
     → IsMeant g s caller answer after → (told : Event) × (event_at s caller ≡ Some told)
@@ -51,7 +51,7 @@ answer-tells g s after caller by (take k) (reply.Got p n) event is meant = (Take
 answer-tells g s after caller by (take k) reply.Empty event is meant = (TakeNone caller meant.0, meant.1.1)
 answer-tells g s after caller by call answer event is meant = absurd (none-some event is)
 
--- and it is the only one of the call
+-- where a call and its reply tell the last event, it is the only one of the call
 answer-added :
     (caller : ℕ) (call : Call) (answer : Reply) (event : Event) (added : List Event) → tells_last caller call answer ≡ Some event
     → HasEnded caller call answer added → added ≡ event ∷ []

@@ -11,21 +11,21 @@ use Rattle.step_machine.specs.Cores.{errand_at, state_of}
 use Rattle.step_machine.proofs.CoreLemmas.{core-sound, run-won}
 use Rattle.live_heap.specs.Endings.{ClosedFields, IsResting, machine_of}
 
--- its state is sound, and so its history is legal
+-- a closed heap's state is sound, and so its history is legal
 pub closed-sound : (c : ClosedFields) (rests : IsResting c) → IsSound c.geometry (state_of (machine_of c rests.steps))
 closed-sound c rests = core-sound (machine_of c rests.steps) rests.core
 
 pub closed-legal : (c : ClosedFields) → IsResting c → IsLegal c.geometry c.events
 closed-legal c rests = (closed-sound c rests).legal
 
--- the lost exchanges are at most the wins, times the other callers
+-- the lost exchanges of a closed heap are at most the wins, times the other callers
 pub closed-losses :
     (c : ClosedFields) → IsResting c → callers_sum c.geometry lost_of (errand_at c.errands) ≤ (c.geometry.callers - 1) * length c.wins
 closed-losses c rests =
     let most = (run-won c.geometry (state_of (machine_of c rests.steps)) rests.steps rests.core.run).contended.most in
     subst (λ l. callers_sum c.geometry lost_of (errand_at c.errands) ≤ (c.geometry.callers - 1) * length l) rests.wins (omega (arith, most))
 
--- and the won ones, where no count stands at its end
+-- the lost exchanges of a closed heap are at most the won ones, times the other callers, where no count stands at its end
 pub closed-contended :
     (c : ClosedFields) → IsResting c
     → ((caller : ℕ) → caller < c.geometry.callers → (errand_at c.errands caller).won < 2 ^ 64 - 1)
@@ -34,7 +34,7 @@ closed-contended c rests below =
     losses-bounded c.geometry (state_of (machine_of c rests.steps)) rests.core.run.wins
     (run-won c.geometry (state_of (machine_of c rests.steps)) rests.steps rests.core.run) below
 
--- each caller took a turn for each answer
+-- each caller of a closed heap took a turn for each answer
 pub closed-answers :
     (c : ClosedFields) (caller : ℕ) → IsResting c → caller < c.geometry.callers
     → count_by (gives_small caller) c.events + count_by (refuses_small caller) c.events ≤ (errand_at c.errands caller).turns

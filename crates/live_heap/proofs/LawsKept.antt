@@ -37,7 +37,7 @@ use Rattle.live_heap.specs.Calls.{HasCalled, IsCalling, StepsOn}
 use Rattle.live_heap.specs.Passes.{IsOf, Owns, seen}
 use Rattle.live_heap.proofs.Growing.{starts-self, starts-on, starts-event}
 
--- what is seen at a step only grows; so it is over several
+-- what is seen only grows at a step, and over several
 pub moment-grows : (e f : ErrandFields) (before after : List Event) (answer : Progress) → IsMoment e f before after answer → Begins before after
 moment-grows e f before after answer m =
     subst (Begins before) (sym m.step.history ∙ m.now) (starts-event before m.state.history (event_at m.state e.caller) (m.between, m.seen))
@@ -94,7 +94,7 @@ owns-on g caller place need before after added legal adds spares owns =
     (owns-rest g before adds.0 caller place need (subst (IsLegalWithoutCounts g) adds.1 (legal-weaker g after legal))
     (subst (AllSpare place) (sym adds.2) spares) owns)
 
--- a call that gives no block away ends so
+-- a call that gives no block away at a place has an end that gives none away there
 leaves-some : (call : Call) (answer : Reply) (place : ℕ) → LeavesPlace call place → IfSome (end_of call answer) (λ end. LeavesAtEnd end place)
 leaves-some (alloc words) (reply.Given at need) place leaves = tt
 leaves-some (alloc words) reply.Refused place leaves = tt
@@ -138,7 +138,7 @@ abbrev pub Splits : ℕ → List Event → List Event → Event → Type 0
 Splits caller xs front event =
     (before : List Event) × (after : List Event) × (xs ≡ before ++ event ∷ after) × (own caller before ≡ front)
 
--- so it does behind an event of another caller, and behind one more of this one
+-- a split list stays split behind an event of another caller, and behind one more of this one
 splits-past :
     (caller : ℕ) (x : Event) (xs front : List Event) (event : Event) → eqb (caller_of x) caller ≡ false → Splits caller xs front event
     → Splits caller (x ∷ xs) front event
@@ -213,7 +213,7 @@ giving-last caller words place at (Small class) events h = (looks caller class h
 giving-last caller words place at (Large units) events h = ([], h, tt)
 giving-last caller words place at TooLarge events h = absurd h
 
--- a block that is given is none of the caller's
+-- a block that is given is none that the caller owned
 pub given-apart :
     (g : Geometry) (caller place at : ℕ) (need n : Need) (call : Call) (before after added : List Event) → IsLegal g after
     → Adds caller before after added → HasEnded caller call (reply.Given place n) added → OwnsAfter before caller at need → at ≢ place
@@ -231,7 +231,7 @@ given-apart g caller place at need n (read q m i) before after added legal adds 
 given-apart g caller place at need n (put q m shelf) before after added legal adds h owns = absurd (none-some h.ended.0 h.ended.1)
 given-apart g caller place at need n (take shelf) before after added legal adds h owns = absurd (none-some h.ended.0 h.ended.1)
 
--- nor is one that it takes from a shelf
+-- a block that a caller takes from a shelf is none that it owned
 pub got-apart :
     (g : Geometry) (caller place at : ℕ) (need n : Need) (call : Call) (before after added : List Event) → IsLegal g after
     → Adds caller before after added → HasEnded caller call (reply.Got place n) added → OwnsAfter before caller at need → at ≢ place
@@ -247,7 +247,7 @@ got-apart g caller place at need n (write q m i value) before after added legal 
 got-apart g caller place at need n (read q m i) before after added legal adds h owns = absurd (none-some h.ended.0 h.ended.1)
 got-apart g caller place at need n (put q m shelf) before after added legal adds h owns = absurd (none-some h.ended.0 h.ended.1)
 
--- so it is of a pass
+-- a block that a pass is given, or takes from a shelf, is none that it owned
 pub called-given :
     (h : Heap) (p q : Pass) (call : Call) (steps place : ℕ) (need : Need) (block : Block) → IsOf h p → IsOf h q
     → HasCalled p call steps (reply.Given place need) q → Owns p block → block.place ≢ place

@@ -79,7 +79,7 @@ owned-here g events caller place need legal owned =
     let at : b.place ≡ place = place-found place (pool_of events) b live in
     subst (λ m. IsHeapBlock g place m) owned.block.3 (subst (λ q. IsHeapBlock g q b.need) at (formed.need, formed.place))
 
--- so an errand that begins a call on it keeps its rule
+-- an errand that begins a call which it may begin keeps its rule
 begun-errand :
     (g : Geometry) (events : List Event) (e : ErrandFields) (call : Call) → IsLegal g events → e.geometry ≡ g → IsErrand e → IsIdle e
     → MayBegin (after_events events) e.caller call → IsErrand (begun_by e call)
@@ -97,7 +97,7 @@ begun-errand g events e (put place need shelf) legal laid rule idle may =
     rule idle
 begun-errand g events e (take shelf) legal laid rule idle may = take-errand e shelf may rule idle
 
--- what is so of a caller in no call is so of it with a call that it has begun
+-- what is so of a caller in no call, by its errand and events, is so of it with a call that it has begun
 pub call-served :
     (g : Geometry) (before : ErrandFields) (events : List Event) (call : Call) → IsServed g before.caller before events → IsIdle before
     → MayBegin (after_events events) before.caller call → IsServed g (begun_by before call).caller (begun_by before call) events

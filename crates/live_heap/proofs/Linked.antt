@@ -61,7 +61,7 @@ frame-linked g before after descs frame new l is w = record {
     go f below there (inl same) = rw same (w.here ∙ is)
     go f below there (inr differ) = w.elsewhere (FrameNext f) there (λ e. differ (one f frame e)) ∙ l.frame_nexts f (omega arith) there
 
--- with the two heads, all words are as at opening
+-- with all links and the two heads written, all words are as at opening
 module _ (g : Geometry) (linked framed placed : List ℕ) (l : AreLinked g linked (descriptor_count g) g.frames) (f : Wrote g linked FrameHead 1 framed)
     (d : Wrote g framed DescHead 1 placed) where
   still : (name : WordName) → Exists g name → name ≢ FrameHead → name ≢ DescHead → word_at g placed name ≡ word_at g linked name

@@ -102,7 +102,7 @@ record Starts (g : Geometry) (words : List ℕ) (errands : ℕ → ErrandFields)
   pub counted : (other : ℕ) → count_by (is_step_of other) reached.moves ≡ count_by (is_step_of other) run.moves
 
 module _ (g : Geometry) (words : List ℕ) (errands : ℕ → ErrandFields) (log : List Event) (made : ℕ) (run : IsReached g (state_with g words errands log) made) (caller : ℕ) where
-  -- nothing has begun since the last step
+  -- the run at the moment of a step, where nothing has begun since the last one
   starts-same : (e : ErrandFields) → errands caller ≡ e → Starts g words errands log made run caller e
   starts-same e is = record {
     started = errands;
@@ -114,7 +114,7 @@ module _ (g : Geometry) (words : List ℕ) (errands : ℕ → ErrandFields) (log
     counted = λ other. refl;
   }
 
-  -- a call has begun since
+  -- the run at the moment of a step, where a call has begun since the last one
   starts-call :
       (call : Call) → caller < g.callers → IsIdle (errands caller) → MayBegin (state_with g words errands log) caller call
       → Starts g words errands log made run caller (begun_by (errands caller) call)

@@ -45,7 +45,7 @@ grants-alloc :
 grants-alloc g caller at (Alloc words) goes fits = (words, (refl, fits, (0, refl)))
 grants-alloc g caller at o goes fits = absurd (false≢true goes)
 
--- so whoever clears an empty superblock is
+-- who clears an empty superblock is in an allocation
 clears-alloc :
     (g : Geometry) (caller : ℕ) (p : Point) (x : Find) → FitsPoint g caller p → counts_cleared p x ≡ true
     → (words : ℕ) × IsUnderWay caller (alloc words) p []
@@ -80,7 +80,7 @@ module _ (e f : ErrandFields) (before after : List Event) (answer : Progress) (m
       subst (λ k. IsUnderWay k (alloc words) (settle_of e s.x).point all) (sym (settle-caller e s.x)) on in
       out words all (subst (λ (d : ErrandFields). IsUnderWay d.caller (alloc words) d.point all) (sym s.settled) there)
 
-  -- and then its step has cleared nothing
+  -- a step of a caller in no allocation has cleared nothing
   elsewhere-keeps : IsElsewhere e → f.cleared ≡ e.cleared
   elsewhere-keeps out =
       let kept : counts_cleared e.point s.x ≡ false =
@@ -90,7 +90,7 @@ module _ (e f : ErrandFields) (before after : List Event) (answer : Progress) (m
       ] in
       ap (λ (d : ErrandFields). d.cleared) s.settled ∙ settled-cleared e s.x kept
 
--- so it is over several steps
+-- several steps of a caller that ends up in no allocation have cleared nothing
 steps-keep :
     (n : ℕ) (e : ErrandFields) (before : List Event) (f : ErrandFields) (after : List Event) → StepsOn e before n f after → IsElsewhere f
     → f.cleared ≡ e.cleared
@@ -115,7 +115,7 @@ free-elsewhere caller other place words need (putting p n shelf) es fs so also =
 free-elsewhere caller other place words need (taking shelf) es fs so also = so
 free-elsewhere caller other place words need none es fs so also = so
 
--- a free that begins leaves that count
+-- a free that begins leaves the count of what was cleared
 begun-cleared : (e : ErrandFields) (place : ℕ) (need : Need) → (begun_by e (free place need)).cleared ≡ e.cleared
 unfolding free_begun
 begun-cleared e place need = refl
@@ -131,14 +131,14 @@ free-keeps first p place need steps c =
     ∙ begun-cleared first.errand place need
 
 module _ (h : Heap) (q : Pass) (of : IsOf h q) (one : h.layout.callers ≡ 1) where
-  -- it has lost nothing
+  -- with one caller the pass has lost nothing
   lost : q.errand.lost ≡ 0
   lost = of.alone one
 
   below : q.errand.lost < 2 ^ 64 - 1
   below = omega (arith, lost)
 
-  -- so it isn't interrupted
+  -- with one caller a free isn't interrupted
   free-over :
       (first p : Pass) (place : ℕ) (need : Need) (made tries : ℕ) → 0 < tries → p.errand.cleared ≡ first.errand.cleared
       → ¬ IsInterrupted first (free place need) made p tries q
@@ -158,7 +158,7 @@ pub resumed-ends :
 resumed-ends h first p q place need made tries of one some c i =
     free-over h q of one first p place need made tries some (free-keeps first p place need made c) i
 
--- a take that misses has lost an exchange
+-- with one caller no take misses
 pub take-meets :
     (h : Heap) (p q : Pass) (shelf expected found : ℕ) → IsOf h q → h.layout.callers ≡ 1
     → ¬ TakeTells p shelf (taken.Missed expected found) q
@@ -166,7 +166,7 @@ take-meets h p q shelf expected found of one tells =
     let more = ap (λ (e : ErrandFields). e.lost) tells.2 in
     omega (arith, lost h q of one, more)
 
--- an allocation that is interrupted has only cleared
+-- with one caller an allocation that is interrupted has only cleared
 pub alloc-clears :
     (h : Heap) (first p q : Pass) (words made tries : ℕ) → IsOf h p → IsOf h q → h.layout.callers ≡ 1
     → IsInterrupted first (alloc words) made p tries q → q.errand.cleared ≡ p.errand.cleared + tries

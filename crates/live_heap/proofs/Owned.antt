@@ -92,7 +92,7 @@ pub record IsChange (g : Geometry) (caller : ℕ) (before after : List Event) (e
   pub was : (place : ℕ) → owned_after moment caller place ≡ owned_after before caller place
   pub is : (place : ℕ) → owned_after after caller place ≡ if_of caller (block_at place (pool_after (pool_of moment) event))
 
--- so it is where the caller's own events are quiet ones and then this one
+-- what a caller owns changes as an event does, where its own events are quiet ones and then this one
 pub changes :
     (g : Geometry) (caller : ℕ) (before rest after front : List Event) (event : Event) → IsLegalWithoutCounts g after → after ≡ before ++ rest
     → caller_of event ≡ caller → own caller rest ≡ front ++ event ∷ [] → AllQuiet front → IsChange g caller before after event

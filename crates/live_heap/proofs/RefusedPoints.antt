@@ -57,7 +57,7 @@ abbrev told_in_block : ℕ → Point → Option Event
 told_in_block caller (point.Block p o) = block_event caller (asked o) p
 told_in_block caller p = None
 
--- that is neither a look nor a refusal
+-- what a point in a superblock tells is neither a look nor a refusal
 block-finds : (q : Point) (n caller : ℕ) (p : Point) → Finds q n (told_in_block caller p)
 block-finds q n caller p = grind (arith)
 
@@ -68,7 +68,7 @@ run-finds :
 run-finds q n caller w o None serves = λ class small. absurd (let t : Small class ≡ Large w.units = sym small ∙ serves in cc)
 run-finds q n caller w o (Some unit) serves = tt
 
--- at any point, where the action is not lost
+-- a step at any point has found what its event tells, where the action is not lost
 point-finds :
     (g : Geometry) (k caller : ℕ) (p : Point) (n : ℕ) → FitsPoint g k p → (found_by (plan_point_of p) n).won ≡ true → Finds p n (won_event caller p)
 unfolding plan_point_of
@@ -84,14 +84,14 @@ point-finds g k caller (point.Large (large.TakeRun w bits) o) n fits won =
     run-finds (point.Large (large.TakeRun w bits) o) n caller w o (first_wanted w bits) (run-asked w.units o fits.goes)
 point-finds g k caller (point.Large p o) n fits won = tt
 
--- what is lost tells nothing
+-- an action that is lost tells nothing
 won-tells :
     (T : Option Event → Type 0) (won : Bool) (told : Option Event) (e : Event) → (won ≡ true → T told) → (if won then told else None) ≡ Some e
     → T (Some e)
 won-tells T true told e so is = subst T is (so refl)
 won-tells T false told e so is = absurd (none-some e is)
 
--- so it is of a caller's step in any state
+-- a caller's step in any state has found what its event tells
 pub step-finds :
     (g : Geometry) (s : State) (k caller : ℕ) (e : Event) → FitsPoint g k (s.errand caller).point → event_at s caller ≡ Some e
     → Finds (s.errand caller).point (word_at s caller) (Some e)

@@ -79,7 +79,7 @@ told-first (s ∷ ss) e es is = from (λ all. told-first ss e es all) (event_tol
         let others : told ss ≡ es = cc in
         record { front = []; one = s; rest = ss; among = refl; tells = here ∙ ap Some same; later = others }
 
--- so has one that has told an event behind these
+-- one of the steps has told an event that stands behind others among those told
 told-behind : (ss : List SeenStep) (before : List Event) (e : Event) (es : List Event) → told ss ≡ before ++ e ∷ es → HasTold ss e es
 told-behind ss [] e es is = told-first ss e es is
 told-behind ss (x ∷ xs) e es is =
@@ -105,7 +105,7 @@ own-with caller events (Some e) by =
     own-append caller events (e ∷ [])
     ∙ ap (λ (l : List Event). own caller events ++ l) (subst (λ c. own c (e ∷ []) ≡ e ∷ []) (by e refl) (own-kept e))
 
--- so its caller has one event more, where it tells one
+-- behind a step its caller has one event more, where the step tells one
 moment-own :
     (e f : ErrandFields) (before after : List Event) (answer : Progress) (m : IsMoment e f before after answer)
     → own e.caller after ≡ own e.caller before ++ option_to_list (event_at m.state e.caller)
@@ -126,7 +126,7 @@ steps-geometry zero e before f after on = ap (λ (x : ErrandFields). x.geometry)
 steps-geometry (suc n) e before f after on =
     moment-geometry on.0 f on.1 after on.2 on.4 ∙ steps-geometry n e before on.0 on.1 on.3
 
--- so each of them is its caller's, in its heap
+-- a step of the errand's caller, in the errand's heap; all steps from the errand on are such
 abbrev IsBySame : ErrandFields → SeenStep → Type 0
 IsBySame e s = (s.before.caller ≡ e.caller) × (s.before.geometry ≡ e.geometry)
 
@@ -147,7 +147,7 @@ steps-by (suc n) e before f after (last, sight, answer, on, moment, busy) =
     All-append (IsBySame e) (steps_on e before n last sight on) _ (steps-by n e before last sight on)
     (one-all (IsBySame e) _ (steps-caller n e before last sight on, steps-geometry n e before last sight on))
 
--- and behind each the call goes on
+-- the call goes on behind the step; it does behind all steps that didn't end it
 abbrev GoesOnBehind : SeenStep → Type 0
 GoesOnBehind s = IsBusy s.after
 
@@ -156,7 +156,7 @@ steps-busy zero e before f after on = none-all GoesOnBehind
 steps-busy (suc n) e before f after (last, sight, answer, on, moment, busy) =
     All-append GoesOnBehind (steps_on e before n last sight on) _ (steps-busy n e before last sight on) (one-all GoesOnBehind _ busy)
 
--- the events that their caller adds are those that they tell
+-- the events that a caller adds in its steps are those that these tell
 steps-told :
     (n : ℕ) (e : ErrandFields) (before : List Event) (f : ErrandFields) (after : List Event) (on : StepsOn e before n f after)
     → own e.caller after ≡ own e.caller before ++ told (steps_on e before n f after on)
@@ -171,7 +171,7 @@ steps-told (suc n) e before f after (last, sight, answer, on, moment, busy) =
     ∙ (append_assoc (own e.caller before) (told ss) event
     ∙ ap (λ (l : List Event). own e.caller before ++ l) (sym (told-more ss _))))
 
--- so it is of a call that has ended
+-- the steps of a call that has ended are its caller's, and tell its events
 module _ (first q : Pass) (call : Call) (steps : ℕ) (answer : Reply) (h : HasCalled first call steps answer q) where
   abbrev begun : ErrandFields
   begun = begun_by first.errand call
@@ -211,7 +211,7 @@ module _ (first q : Pass) (call : Call) (steps : ℕ) (answer : Reply) (h : HasC
   all-told : told all ≡ h.added
   all-told = told-more earlier _ ∙ called-told
 
--- where a caller stands fits
+-- the point at which a caller stands fits
 moment-fits :
     (e f : ErrandFields) (before after : List Event) (answer : Progress) (m : IsMoment e f before after answer)
     → FitsPoint (m.state.errand e.caller).geometry (m.state.errand e.caller).caller (m.state.errand e.caller).point
@@ -299,7 +299,7 @@ one-of : (event : Option Event) (e : Event) → option_to_list event ≡ e ∷ [
 one-of None e is = absurd (let t : [] ≡ e ∷ [] = is in cc)
 one-of (Some x) e is = let t : x ∷ [] ≡ e ∷ [] = is in let same : x ≡ e = cc in ap Some same
 
--- so its refusal is the event of the last step
+-- the refusal of a large need is the event of the last step
 last-refuses :
     (ss : List SeenStep) (before : List Event) (event : Option Event) (caller words units : ℕ) → need_of words ≡ Large units → told ss ≡ before
     → before ++ option_to_list event ≡ Refuse caller words ∷ [] → All GoesOnBehind ss → event ≡ Some (Refuse caller words)

@@ -19,11 +19,12 @@ use Rattle.errand_steps.specs.Nexts.{next_of}
 use Rattle.step_machine.proofs.MomentAnswers.{moment-meant}
 use Rattle.errand_steps.specs.declared.reply.Begun.{Begun}
 use Rattle.errand_steps.specs.declared.reply.Begun.TheVariants as begun
+use Rattle.errand_steps.specs.declared.told.Ending.{Ending}
+use Rattle.errand_steps.specs.declared.told.Ending.TheVariants as ending
+use Rattle.errand_steps.specs.declared.told.Stepped.{Stepped}
+use Rattle.errand_steps.specs.declared.told.Stepped.TheVariants as step
+use Rattle.live_heap.specs.declared.block.Block.{Block}
 use Rattle.live_heap.proofs.CallsCounts.{never-idle}
-use Rattle.live_heap.specs.declared.answers.Ending.{Ending}
-use Rattle.live_heap.specs.declared.answers.Ending.TheVariants as ending
-use Rattle.live_heap.specs.declared.answers.Step.{Step}
-use Rattle.live_heap.specs.declared.answers.Step.TheVariants as step
 use Rattle.live_heap.specs.declared.heap.Heap.{Heap}
 use Rattle.live_heap.specs.declared.pass.Pass.{Pass}
 use Rattle.live_heap.specs.Answers.{HasBegun, HasStepped, progress_of, reply_of, with_lost}
@@ -50,29 +51,29 @@ begun-calling h p q (put place need shelf) of idle owns started since =
     other-calling p q (put place need shelf) since idle (heap-at h p place need of owns) (λ words is. cc)
 begun-calling h p q (take shelf) of idle owns started since = other-calling p q (take shelf) since idle tt (λ words is. cc)
 
--- it goes on behind each step that doesn't end it
-not-done : (told : Step) → ¬ IsDone told → (r : Reply) → progress_of told ≢ progress.Done r
+-- a call goes on behind each step that doesn't end it
+not-done : (told : Stepped Block) → ¬ IsDone told → (r : Reply) → progress_of told ≢ progress.Done r
 not-done told undone r is = let d = told-done told r is in undone (d.0, d.1)
 
 pub steps-on :
-    (first : Pass) (call : Call) (steps : ℕ) (p q : Pass) (told : Step) → IsCalling first call steps p → HasStepped p q told → ¬ IsDone told
+    (first : Pass) (call : Call) (steps : ℕ) (p q : Pass) (told : Stepped Block) → IsCalling first call steps p → HasStepped p q told → ¬ IsDone told
     → IsCalling first call (suc steps) q
 steps-on first call steps p q told calling stepped undone =
     calls-go_on first call steps p q (progress_of told) stepped.moment stepped.accesses calling (not-done told undone)
 
 pub steps-end :
-    (first : Pass) (call : Call) (steps : ℕ) (p q : Pass) (end : Ending) → IsCalling first call steps p → HasStepped p q (step.Done end)
+    (first : Pass) (call : Call) (steps : ℕ) (p q : Pass) (end : Ending Block) → IsCalling first call steps p → HasStepped p q (step.Done end)
     → HasCalled first call steps (reply_of end) q
 steps-end first call steps p q end calling stepped = ends-one first call steps p q (step.Done end) end refl stepped calling
 
--- what else the ending tells
+-- what the ending of a call tells beside its reply
 missed-differ :
     (p q : Pass) (expected found : ℕ) → HasStepped p q (step.Done (ending.Missed expected found)) → expected ≢ found
 missed-differ p q expected found stepped =
     (moment-meant p.errand q.errand (seen p) (seen q) (progress.Done (reply.Missed expected found)) stepped.moment (reply.Missed expected found) refl).2
 
 pub steps-tell :
-    (first : Pass) (call : Call) (steps : ℕ) (p q : Pass) (end : Ending) → IsCalling first call steps p → HasStepped p q (step.Done end)
+    (first : Pass) (call : Call) (steps : ℕ) (p q : Pass) (end : Ending Block) → IsCalling first call steps p → HasStepped p q (step.Done end)
     → EndTells call end q
 steps-tell first call steps p q (ending.Given block) calling stepped =
     given-owns first call steps q block (steps-end first call steps p q (ending.Given block) calling stepped)
@@ -98,7 +99,7 @@ put-next shelf place need o x =
       | inr lost ↦ (reply.Full x.value, put-lost shelf place need o x lost)
     ]
 
-next-done : (p q : Pass) (told : Step) → EndsNext p.errand.point → HasStepped p q told → IsDone told
+next-done : (p q : Pass) (told : Stepped Block) → EndsNext p.errand.point → HasStepped p q told → IsDone told
 next-done p q told ends stepped =
     let s = settled-of p.errand q.errand (seen p) (seen q) (progress_of told) stepped.moment in
     let end = ends s.x in
@@ -109,7 +110,7 @@ next-done p q told ends stepped =
 first-point : (first p : Pass) (call : Call) → IsCalling first call 0 p → p.errand.point ≡ (begun_by first.errand call).point
 first-point first p call calling = ap (λ (e : ErrandFields). e.point) calling.on.0
 
-take-second : (first p q : Pass) (shelf : ℕ) (told : Step) → IsCalling first (take shelf) 1 p → HasStepped p q told → IsDone told
+take-second : (first p q : Pass) (shelf : ℕ) (told : Stepped Block) → IsCalling first (take shelf) 1 p → HasStepped p q told → IsDone told
 take-second first p q shelf told calling stepped =
     let on = calling.on in
     let at =
@@ -121,7 +122,7 @@ take-second first p q shelf told calling stepped =
     ]
 
 pub last-done :
-    (first : Pass) (call : Call) (steps : ℕ) (p q : Pass) (told : Step) → IsCalling first call steps p → IsLastStep call steps → HasStepped p q told
+    (first : Pass) (call : Call) (steps : ℕ) (p q : Pass) (told : Stepped Block) → IsCalling first call steps p → IsLastStep call steps → HasStepped p q told
     → IsDone told
 unfolding write_begun read_begun put_begun
 last-done first (write place need i v) zero p q told calling last stepped =
@@ -138,7 +139,7 @@ last-done first (take shelf) steps p q told calling last stepped =
     take-second first p q shelf told (subst (λ n. IsCalling first (take shelf) n p) last calling) stepped
 last-done first call steps p q told calling last stepped = absurd last
 
-pub take-first : (first p q : Pass) (shelf : ℕ) (told : Step) → IsCalling first (take shelf) 0 p → HasStepped p q told → told ≡ step.More
+pub take-first : (first p q : Pass) (shelf : ℕ) (told : Stepped Block) → IsCalling first (take shelf) 0 p → HasStepped p q told → told ≡ step.More
 unfolding take_begun
 take-first first p q shelf told calling stepped =
     let s = settled-of p.errand q.errand (seen p) (seen q) (progress_of told) stepped.moment in
@@ -167,5 +168,5 @@ pub unstarted : (p q : Pass) (words : ℕ) → HasBegun p (alloc words) q → al
 unstarted p q words since not = unstarted-as p q words (alloc_answer p.errand words) refl since not
 
 -- a step of a call is told as one
-pub step-moves : (p q : Pass) (told : Step) → HasStepped p q told → told ≢ step.Idle
+pub step-moves : (p q : Pass) (told : Stepped Block) → HasStepped p q told → told ≢ step.Idle
 step-moves p q told stepped is = never-idle p.errand q.errand (seen p) (seen q) (step-moment p q told step.Idle is stepped)

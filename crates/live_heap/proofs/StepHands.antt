@@ -4,13 +4,13 @@ use Rattle.std.specs.Prelude.{All}
 use Rattle.std.proofs.lemmas.Option.{none-some}
 use Rattle.heap_geometry.specs.declared.need.Need.{Need}
 use Rattle.errand_steps.specs.declared.reply.Reply.TheVariants as reply
+use Rattle.errand_steps.specs.declared.told.Ending.{Ending}
+use Rattle.errand_steps.specs.declared.told.Ending.TheVariants as ending
+use Rattle.errand_steps.specs.declared.told.Stepped.{Stepped}
+use Rattle.errand_steps.specs.declared.told.Stepped.TheVariants as step
 use Rattle.errand_steps.specs.Begins.{IsBusy}
 use Rattle.errand_steps.specs.Calls.{Call, alloc, free, write, read, put, take}
 use Rattle.step_machine.specs.Keeping.{LeavesPlace}
-use Rattle.live_heap.specs.declared.answers.Ending.{Ending}
-use Rattle.live_heap.specs.declared.answers.Ending.TheVariants as ending
-use Rattle.live_heap.specs.declared.answers.Step.{Step}
-use Rattle.live_heap.specs.declared.answers.Step.TheVariants as step
 use Rattle.live_heap.specs.declared.block.Block.{Block}
 use Rattle.live_heap.specs.declared.heap.Heap.{Heap}
 use Rattle.live_heap.specs.declared.pass.Pass.{Pass}
@@ -42,7 +42,7 @@ module _ (h : Heap) (p q : Pass) (blocks : List Block) (of : IsOf h p) (held : H
 
   -- what the end of a call brings is in the hand, with what the call left there
   pub done-hand :
-      (call : Call) (steps : ℕ) (end : Ending) → All (λ block. LeavesPlace call block.place) blocks → HasCalled p call steps (reply_of end) q
+      (call : Call) (steps : ℕ) (end : Ending Block) → All (λ block. LeavesPlace call block.place) blocks → HasCalled p call steps (reply_of end) q
       → EndTells call end q → IsHand h q (blocks ++ brought_by end)
   done-hand call steps (ending.Given block) leaves called tells =
       brought-hand h q blocks block called.idle (given-owns p call steps q block called)
@@ -58,7 +58,7 @@ module _ (h : Heap) (p q : Pass) (blocks : List Block) (of : IsOf h p) (held : H
   done-hand call steps told leaves called tells =
       plus-nothing h q blocks (ended-hand h p q blocks call steps (reply_of told) of still called leaves held)
 
-  -- an allocation or a free that has begun waits with the others
+  -- an allocation or a free that has begun waits with the blocks in the hand
   pub begun-hand : (call : Call) → All (λ block. LeavesPlace call block.place) blocks → IsTried call → IsCalling p call 0 q → IsHand h q blocks
   begun-hand call leaves tried calling =
       record {
@@ -69,8 +69,8 @@ module _ (h : Heap) (p q : Pass) (blocks : List Block) (of : IsOf h p) (held : H
       }
 
 module _ (h : Heap) (p q : Pass) (blocks : List Block) (hand : IsHand h p blocks) (busy : IsBusy p.errand) (still : IsOf h q) where
-  -- it waits on behind a step that doesn't end it
-  waits-on : (told : Step) → HasStepped p q told → ¬ IsDone told → IsHand h q blocks
+  -- a call under way waits on behind a step that doesn't end it
+  waits-on : (told : Stepped Block) → HasStepped p q told → ¬ IsDone told → IsHand h q blocks
   waits-on told stepped undone =
       let w = hand.waits busy in
       let calling = steps-on w.first w.call w.steps p q told w.calling stepped undone in
@@ -90,7 +90,7 @@ module _ (h : Heap) (p q : Pass) (blocks : List Block) (hand : IsHand h p blocks
             };
       }
 
-  pub stepped-hand : (told : Step) → HasStepped p q told → IsHand h q (blocks ++ brought_in told)
+  pub stepped-hand : (told : Stepped Block) → HasStepped p q told → IsHand h q (blocks ++ brought_in told)
   stepped-hand (step.Done end) stepped =
       let w = hand.waits busy in
       done-hand h w.first q blocks w.of w.holds still w.call w.steps end w.leaves

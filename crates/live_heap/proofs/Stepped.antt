@@ -2,14 +2,16 @@
 use Rattle.std.proofs.Common.{ℕ, suc, ◌≡◌, inl, sym, ap, ◌∙◌, subst}
 use Rattle.heap_geometry.specs.declared.geometry.Geometry.{Geometry}
 use Rattle.errand_steps.specs.declared.reply.Progress.{Progress}
+use Rattle.errand_steps.specs.declared.told.Stepped.{Stepped}
 use Rattle.errand_steps.specs.Errands.{ErrandFields, settle_of, answer_of}
 use Rattle.errand_steps.specs.Offers.{offered_at}
+use Rattle.errand_steps.specs.Told.{GivesBack}
 use Rattle.step_machine.specs.Moments.{IsMoment, IsServed}
 use Rattle.step_machine.proofs.MomentAnswers.{settle-caller}
-use Rattle.live_heap.specs.declared.answers.Step.{Step}
+use Rattle.live_heap.specs.declared.block.Block.{Block}
 use Rattle.live_heap.specs.declared.heap.Heap.{Heap}
 use Rattle.live_heap.specs.declared.pass.Pass.{Pass}
-use Rattle.live_heap.specs.Answers.{GivesBack, HasStepped, progress_of}
+use Rattle.live_heap.specs.Answers.{HasStepped, block_need, block_place, progress_of}
 use Rattle.live_heap.specs.Passes.{IsOf, accesses, accesses_of, seen, view}
 use Rattle.live_heap.specs.Sights.{IsSightOf, TakesStep, found_in}
 use Rattle.live_heap.proofs.Begun.{of-laid}
@@ -18,7 +20,7 @@ use Rattle.live_heap.proofs.Begun.{of-laid}
 pub of-sight : (h : Heap) (p : Pass) → IsOf h p → IsSightOf h.layout (view p) p.errand
 of-sight h p of = record { before = of.before; one = of.one; begun = of.begun; laid = of-laid h p of }
 
--- it stays one of its heap after it
+-- the pass stays one of its heap behind a step
 pub still-of :
     (h : Heap) (p q : Pass) (n : ℕ) → IsOf h p → q.seat.table_id ≡ p.seat.table_id → q.seat.me.1 ≡ p.seat.me.1
     → q.errand ≡ settle_of p.errand (found_in p.errand n) → TakesStep p.errand n (view p) (view q) → IsOf h q
@@ -48,13 +50,13 @@ took-step p q n answer is told s =
     subst (λ f. IsMoment p.errand f (seen p) (seen q) answer) (sym is)
     (subst (IsMoment p.errand (settle_of p.errand (found_in p.errand n)) (seen p) (seen q)) (sym told) s.moment)
 
--- it is one access more
+-- a step of a pass is one access more
 pub took-access : (e : ErrandFields) (p q : Pass) (n : ℕ) → TakesStep e n (view p) (view q) → accesses q ≡ suc (accesses p)
 took-access e p q n s = ap accesses_of s.now ∙ (s.accesses ∙ ap suc (sym (ap accesses_of s.was)))
 
 pub has-stepped :
-    (p q : Pass) (answer : Progress) (told : Step) → IsMoment p.errand q.errand (seen p) (seen q) answer → accesses q ≡ suc (accesses p)
+    (p q : Pass) (answer : Progress) (told : Stepped Block) → IsMoment p.errand q.errand (seen p) (seen q) answer → accesses q ≡ suc (accesses p)
     → progress_of told ≡ answer
-    → GivesBack (offered_at p.errand.point) told → HasStepped p q told
+    → GivesBack block_place block_need (offered_at p.errand.point) told → HasStepped p q told
 has-stepped p q answer told moment one is back =
     record { moment = subst (IsMoment p.errand q.errand (seen p) (seen q)) (sym is) moment; accesses = one; back = back }

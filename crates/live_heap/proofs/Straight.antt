@@ -17,20 +17,22 @@ use Rattle.errand_steps.specs.declared.point.Point.{Point}
 use Rattle.errand_steps.specs.declared.point.Point.TheVariants as point
 use Rattle.errand_steps.specs.declared.reply.Progress.TheVariants.{Done}
 use Rattle.errand_steps.specs.declared.reply.Reply.TheVariants as reply
+use Rattle.errand_steps.specs.declared.told.Ending.{Ending}
+use Rattle.errand_steps.specs.declared.told.Stepped.TheVariants as step
 use Rattle.errand_steps.specs.Begins.{IsIdle, IsBusy, IsHeapBlock, write_begun, read_begun}
 use Rattle.errand_steps.specs.Calls.{Call, alloc, begun_by, write, read}
 use Rattle.errand_steps.specs.Errands.{ErrandFields, plan_of, settle_of, answer_of, course_of}
 use Rattle.errand_steps.specs.Nexts.{next_of}
 use Rattle.errand_steps.specs.Points.{plan_point_of}
 use Rattle.errand_steps.specs.Offers.{offered_at}
+use Rattle.errand_steps.specs.Told.{GivesBack}
 use Rattle.call_events.specs.UnderWay.{IsAboutBlock}
 use Rattle.sound_state.specs.Runs.{MayBegin}
 use Rattle.errand_steps.proofs.BegunErrands.{idle-is}
-use Rattle.live_heap.specs.declared.answers.Ending.{Ending}
-use Rattle.live_heap.specs.declared.answers.Step.TheVariants as step
+use Rattle.live_heap.specs.declared.block.Block.{Block}
 use Rattle.live_heap.specs.declared.heap.Heap.{Heap}
 use Rattle.live_heap.specs.declared.pass.Pass.{Pass}
-use Rattle.live_heap.specs.Answers.{GivesBack, HasStepped, reply_of}
+use Rattle.live_heap.specs.Answers.{HasStepped, block_need, block_place, reply_of}
 use Rattle.live_heap.specs.Calls.{HasCalled, IsCalling}
 use Rattle.live_heap.specs.Going.{in_call}
 use Rattle.live_heap.specs.Passes.{IsOf, seen, view}
@@ -60,7 +62,7 @@ pub arena-index : (g : Geometry) (k : ℕ) → k ≡ word_index g (Arena k)
 unfolding word_index start_of words_in
 arena-index g k = let e : k ≡ 0 + k = omega arith in e
 
--- what the two calls' steps do
+-- what the steps of a write and of a read do
 pub write-plan :
     (e : ErrandFields) (place : ℕ) (n : Need) (i v : ℕ) → place + 1 + i < 2 ^ 32
     → plan_of (begun_by e (write place n i v)) ≡ Store (Arena (place + 1 + i)) v
@@ -81,7 +83,7 @@ pub read-busy : (e : ErrandFields) (place : ℕ) (n : Need) (i : ℕ) → IsBusy
 unfolding read_begun
 read-busy e place n i = refl
 
--- they leave the errand as it was, and answer
+-- the steps of a write and of a read leave the errand as it was, and answer
 pub write-settles :
     (e : ErrandFields) (place : ℕ) (n : Need) (i v : ℕ) (x : Find) → IsIdle e → e ≡ settle_of (begun_by e (write place n i v)) x
 unfolding write_begun settle_of course_of next_of plan_point_of
@@ -105,7 +107,7 @@ unfolding read_begun
 read-answers e place n i x =
     sym (end-answers (read_begun e place i) x (point.Large (large.LoadWord place i) Nothing) (reply.Word x.value) refl (load-ends place i Nothing x))
 
--- it may make the step of that call, and nothing need hold its errand
+-- a pass in no call may make the step of a call that it may begin
 pub call-sight :
     (h : Heap) (p : Pass) (call : Call) → IsOf h p → IsIdle p.errand → MayBegin (after_events (seen p)) p.errand.caller call
     → IsSightOf h.layout (view p) (begun_by p.errand call)
@@ -113,7 +115,7 @@ call-sight h p call of idle may = of-sight h (in_call p call) (begins-of h p (in
 
 -- a call that ends with its one step
 module _
-    (h : Heap) (p q : Pass) (call : Call) (n : ℕ) (end : Ending) (of : IsOf h p) (idle : IsIdle p.errand)
+    (h : Heap) (p q : Pass) (call : Call) (n : ℕ) (end : Ending Block) (of : IsOf h p) (idle : IsIdle p.errand)
     (may : MayBegin (after_events (seen p)) p.errand.caller call)
     (is : q.errand ≡ settle_of (begun_by p.errand call) (found_in (begun_by p.errand call) n))
     (s : TakesStep (begun_by p.errand call) n (view p) (view q)) where
@@ -122,26 +124,26 @@ module _
 
   pub one-stepped :
       Done (reply_of end) ≡ answer_of (begun_by p.errand call) (found_in (begun_by p.errand call) n)
-      → GivesBack (offered_at (begun_by p.errand call).point) (step.Done end) → HasStepped (in_call p call) q (step.Done end)
+      → GivesBack block_place block_need (offered_at (begun_by p.errand call).point) (step.Done end) → HasStepped (in_call p call) q (step.Done end)
   one-stepped answers back = record {
     moment = took-step (in_call p call) q n (Done (reply_of end)) is answers s;
     accesses = took-access (begun_by p.errand call) (in_call p call) q n s;
     back = back;
   }
 
--- it has ended so, and its pass is of the heap still
-pub record EndsAtOnce (h : Heap) (p : Pass) (call : Call) (end : Ending) (q : Pass) : Type 0 where
+-- a call has ended with its one step in this ending, and its pass is of the heap still
+pub record EndsAtOnce (h : Heap) (p : Pass) (call : Call) (end : Ending Block) (q : Pass) : Type 0 where
   pub of : IsOf h q
   pub calling : IsCalling p call 0 (in_call p call)
   pub stepped : HasStepped (in_call p call) q (step.Done end)
   pub called : HasCalled p call 0 (reply_of end) q
 
 pub ends-at_once :
-    (h : Heap) (p q : Pass) (call : Call) (n : ℕ) (end : Ending) → IsOf h p → IsIdle p.errand
+    (h : Heap) (p q : Pass) (call : Call) (n : ℕ) (end : Ending Block) → IsOf h p → IsIdle p.errand
     → MayBegin (after_events (seen p)) p.errand.caller call → IsAboutBlock p.errand.geometry call → ((words : ℕ) → call ≢ alloc words)
     → q.errand ≡ settle_of (begun_by p.errand call) (found_in (begun_by p.errand call) n)
     → Done (reply_of end) ≡ answer_of (begun_by p.errand call) (found_in (begun_by p.errand call) n)
-    → GivesBack (offered_at (begun_by p.errand call).point) (step.Done end) → TakesStep (begun_by p.errand call) n (view p) (view q)
+    → GivesBack block_place block_need (offered_at (begun_by p.errand call).point) (step.Done end) → TakesStep (begun_by p.errand call) n (view p) (view q)
     → q.seat.table_id ≡ p.seat.table_id → q.seat.me.1 ≡ p.seat.me.1 → EndsAtOnce h p call end q
 ends-at_once h p q call n end of idle may about other is answers back s table empty =
     let stepped = one-stepped h p q call n end of idle may is s answers back in

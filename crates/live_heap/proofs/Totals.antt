@@ -17,7 +17,7 @@ HasCaller es c = (k : ℕ) × (e : Standing) × (get_elem? es k ≡ some e) × (
 abbrev for_caller : (ErrandFields → ℕ) → ℕ → Standing → ℕ
 for_caller weight caller x = if x.errand.caller == caller then weight x.errand else 0
 
--- counted by callers or by standings, it is the same
+-- a sum counted by callers is the one counted by standings
 by-callers :
     (weight : ErrandFields → ℕ) (n : ℕ) (xs : List Standing) → ((k : ℕ) (x : Standing) → get_elem? xs k ≡ some x → x.errand.caller < n)
     → sum_below n (λ caller. sum_by (for_caller weight caller) xs) ≡ sum_by (λ (x : Standing). weight x.errand) xs
@@ -40,7 +40,7 @@ lacking weight caller (x ∷ xs) none =
     let gone : for_caller weight caller x ≡ 0 = rw (ne_eqb x.errand.caller caller (none 0 x refl)) refl in
     sum_by-cons (for_caller weight caller) x xs ∙ omega (arith, gone, lacking weight caller xs (λ k y at. none (suc k) y at))
 
--- one that stands there once weighs what its errand does
+-- a caller that stands in the list once weighs there what its errand does
 standing-once :
     (weight : ErrandFields → ℕ) (caller : ℕ) (xs : List Standing) (j : ℕ) (e : Standing) → get_elem? xs j ≡ some e → e.errand.caller ≡ caller
     → ((k : ℕ) (x : Standing) → get_elem? xs k ≡ some x → x.errand.caller ≡ caller → k ≡ j) → sum_by (for_caller weight caller) xs ≡ weight e.errand

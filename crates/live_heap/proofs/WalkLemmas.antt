@@ -16,6 +16,7 @@ use Rattle.errand_steps.specs.declared.next.Next.TheVariants as next
 use Rattle.errand_steps.specs.declared.point.Point.{Point}
 use Rattle.errand_steps.specs.declared.point.Point.TheVariants as point
 use Rattle.errand_steps.specs.declared.reply.Progress.TheVariants.{Done, More}
+use Rattle.errand_steps.specs.declared.told.Ending.{Ending}
 use Rattle.errand_steps.specs.Begins.{IsIdle}
 use Rattle.errand_steps.specs.Calls.{Call}
 use Rattle.errand_steps.specs.Errands.{ErrandFields, IsErrand, answer_of, counts_lost, counts_won, course_of, is_lost_exchange, plan_of, raised, settle_of}
@@ -24,7 +25,7 @@ use Rattle.errand_steps.specs.Points.{plan_point_of}
 use Rattle.errand_steps.proofs.StayLemmas.{ended_answer, ended_errand}
 use Rattle.sound_state.specs.Runs.{MayBegin}
 use Rattle.errand_steps.proofs.BegunErrands.{idle-is}
-use Rattle.live_heap.specs.declared.answers.Ending.{Ending}
+use Rattle.live_heap.specs.declared.block.Block.{Block}
 use Rattle.live_heap.specs.declared.heap.Heap.{Heap}
 use Rattle.live_heap.specs.declared.pass.Pass.{Pass}
 use Rattle.live_heap.specs.Answers.{reply_in, reply_of}
@@ -40,7 +41,7 @@ pub planned-at : (e : ErrandFields) (p : BlockPoint) (o : Continuation) → plan
 unfolding plan_point_of
 planned-at e p o = refl
 
--- a step that is not lost
+-- an action that is won loses no exchange
 won-kept : (action : Action) (x : Find) → x.won ≡ true → is_lost_exchange action x ≡ false
 won-kept (Load name) x won = refl
 won-kept (Store name new) x won = refl
@@ -71,7 +72,7 @@ leaves-by :
 leaves-by (Stays q) e o left = absurd (none-some e left)
 leaves-by (Leaves f) e o left = grind (arith)
 
--- it leads to another point of the superblock
+-- a step that takes no exit leads to another point of the superblock
 stays-answer :
     (e : ErrandFields) (p : BlockPoint) (o : Continuation) (x : Find) → exit_by (settle_block_of p x) ≡ None → x.won ≡ true
     → More ≡ answer_of (at_block e p o) x
@@ -88,9 +89,9 @@ stays-errand e p q o x is inside won =
     let to = stays-at p (settle_block_of p x) o inside in
     rw (is, to, kept p o x won) refl
 
--- it ends the call
+-- a step that takes an exit at which its call ends leads to that end
 ends-next :
-    (p : BlockPoint) (o : Continuation) (x : Find) (ending : Ending) → EndsBy (exit_by (settle_block_of p x)) ending
+    (p : BlockPoint) (o : Continuation) (x : Find) (ending : Ending Block) → EndsBy (exit_by (settle_block_of p x)) ending
     → next_of (point.Block p o) x ≡ next.End (reply_of ending)
 unfolding next_of
 ends-next p o x ending (e, left, ends) = leaves-by (settle_block_of p x) e o left ∙ ends o
@@ -124,7 +125,7 @@ module _
       subst (λ d. IsWalking h start tries q o (record { seat = r.seat; errand = d })) (sym counts) goes
 
   pub finishes :
-      x.won ≡ true → (ending : Ending) → EndsBy (exit_by (settle_block_of p x)) ending → (f : ErrandFields) → f ≡ counted r.errand p x
+      x.won ≡ true → (ending : Ending Block) → EndsBy (exit_by (settle_block_of p x)) ending → (f : ErrandFields) → f ≡ counted r.errand p x
       → HasGone h start tries (Some ending) (record { seat = r.seat; errand = f })
   finishes won ending by f counts =
       let after : Pass = record { seat = r.seat; errand = f } in
@@ -162,9 +163,9 @@ module _
         some = some;
       }
 
-  -- and it has gone on from there
+  -- a call that has begun has gone on as it did from its first point
   pub walk-goes :
-      (h : Heap) (tries : ℕ) (told : Option Ending) (r : Pass) → IsCalling p call 0 (in_call p call)
+      (h : Heap) (tries : ℕ) (told : Option (Ending Block)) (r : Pass) → IsCalling p call 0 (in_call p call)
       → HasGone h (stands_at q first o) tries told r → GoesOn p call 0 (in_call p call) tries (reply_in told) r
   walk-goes h tries told r calling gone =
       subst (λ b. GoesOn p call 0 b tries (reply_in told) r) same

@@ -42,7 +42,7 @@ nowhere p place at i v here nothing is =
 same-word : (p q : Pass) (place i v : ℕ) → owned_in q place ≡ owned_in p place → word_in p place i ≡ Some v → word_in q place i ≡ Some v
 same-word p q place i v same is = ap (λ (o : Option Block). word_of o i) same ∙ is
 
--- a block comes elsewhere; the block is another one; another word of it is written
+-- a word stays where a block comes elsewhere, and where a word of another block or another word of its block is written
 come-word :
     (p q : Pass) (at : ℕ) (now : Option Block) (place i v : ℕ) → owned_in p at ≡ None → OwnsBut p q at now → word_in p place i ≡ Some v
     → word_in q place i ≡ Some v
@@ -119,7 +119,7 @@ wrote-word h p q place need i v steps of called =
     ap (if_of q.errand.caller) now ∙ of-self q.errand.caller (written i v block) (subst (λ c. block.owner ≡ Caller c) (sym called.caller) allowed.2) in
     ap (λ (o : Option Block). word_of o i) owned ∙ get_or-set_same block.contents i (Some v) None within
 
--- and a read finds it
+-- a read finds the word that was written
 pub read-word :
     (h : Heap) (p q : Pass) (place : ℕ) (need : Need) (i steps word v : ℕ) → IsOf h q → HasCalled p (read place need i) steps (reply.Word word) q
     → IsContents q place i word → word_in p place i ≡ Some v → word ≡ v

@@ -1,31 +1,30 @@
 -- What the calls of a heap answer.
-use Rattle.std.specs.Prelude.{ℕ, suc, ◌≡◌, ◌≢◌, ◌⊎◌, Option, Some, None, IsSomeAnd, slice_index_or}
+use Rattle.std.specs.Prelude.{ℕ, suc, ◌≡◌, ◌≢◌, ◌⊎◌, Option, Some, None, slice_index_or}
+use Rattle.heap_geometry.specs.declared.need.Need.{Need}
 use Rattle.heap_geometry.specs.declared.need.Need.TheVariants.{Small}
-use Rattle.heap_geometry.specs.Need.{IsNeed, need_of}
+use Rattle.heap_geometry.specs.Need.{need_of}
 use Rattle.packed_words.specs.declared.shelf.ShelfWord.TheVariants as lies
 use Rattle.packed_words.specs.Shelf.{shelf_word}
 use Rattle.pool_model.specs.declared.owner.Owner.TheVariants.{Shelf}
 use Rattle.pool_model.specs.Pool.{Block as PoolBlock, block_at, pool_of}
-use Rattle.errand_steps.specs.declared.reply.Offer.{Offer}
 use Rattle.errand_steps.specs.declared.reply.Progress.{Progress}
-use Rattle.errand_steps.specs.declared.reply.Progress.TheVariants as progress
 use Rattle.errand_steps.specs.declared.reply.Reply.{Reply}
 use Rattle.errand_steps.specs.declared.reply.Reply.TheVariants as reply
+use Rattle.errand_steps.specs.declared.told.Ending.{Ending}
+use Rattle.errand_steps.specs.declared.told.Ending.TheVariants as ending
+use Rattle.errand_steps.specs.declared.told.Stepped.{Stepped}
 use Rattle.errand_steps.specs.Calls.{Call, alloc, free, put, take, begun_by}
 use Rattle.errand_steps.specs.Errands.{ErrandFields, one_more}
 use Rattle.errand_steps.specs.Offers.{offered_at}
+use Rattle.errand_steps.specs.Told.{GivesBack, ended_as, stepped_as}
 use Rattle.step_machine.specs.Moments.{IsMoment}
 use Rattle.live_heap.specs.declared.answers.AllocAnswer.{AllocAnswer}
 use Rattle.live_heap.specs.declared.answers.AllocAnswer.TheVariants as alloc_answer
-use Rattle.live_heap.specs.declared.answers.Ending.{Ending}
-use Rattle.live_heap.specs.declared.answers.Ending.TheVariants as ending
 use Rattle.live_heap.specs.declared.answers.FreeAnswer.{FreeAnswer}
 use Rattle.live_heap.specs.declared.answers.FreeAnswer.TheVariants as free_answer
 use Rattle.live_heap.specs.declared.answers.Full.{Full}
 use Rattle.live_heap.specs.declared.answers.Resumed.{Resumed}
 use Rattle.live_heap.specs.declared.answers.Resumed.TheVariants as resumed
-use Rattle.live_heap.specs.declared.answers.Step.{Step}
-use Rattle.live_heap.specs.declared.answers.Step.TheVariants as step
 use Rattle.live_heap.specs.declared.answers.Taken.{Taken}
 use Rattle.live_heap.specs.declared.answers.Taken.TheVariants as taken
 use Rattle.live_heap.specs.declared.block.Block.{Block}
@@ -33,45 +32,25 @@ use Rattle.live_heap.specs.declared.pass.Pass.{Pass}
 use Rattle.live_heap.specs.Calls.{HasCalled, IsCalling, EndsInTime, IsInterrupted}
 use Rattle.live_heap.specs.Passes.{Owns, accesses, seen}
 
--- the reply of an ending, with a block's place and need for the block
-abbrev pub reply_of : Ending → Reply
-reply_of (ending.Given block) = reply.Given block.place block.need
-reply_of ending.Refused = reply.Refused
-reply_of ending.Spent = reply.Spent
-reply_of ending.Freed = reply.Freed
-reply_of ending.Wrote = reply.Wrote
-reply_of (ending.Word word) = reply.Word word
-reply_of ending.Put = reply.Put
-reply_of (ending.Full block found) = reply.Full found
-reply_of (ending.Got block) = reply.Got block.place block.need
-reply_of ending.Empty = reply.Empty
-reply_of (ending.Missed expected found) = reply.Missed expected found
+-- the place of a block, and what it serves
+abbrev pub block_place : Block → ℕ
+block_place block = block.place
 
--- what a step came to
-abbrev pub progress_of : Step → Progress
-progress_of step.Idle = progress.Idle
-progress_of step.More = progress.More
-progress_of step.Lost = progress.Lost
-progress_of step.Cleared = progress.Cleared
-progress_of (step.Done ending) = progress.Done (reply_of ending)
+abbrev pub block_need : Block → Need
+block_need block = block.need
 
--- it can be told: a block that it names serves some need, and a put that finds a full shelf has offered such a block
-abbrev pub IsAnswerable : Option Offer → Progress → Type 0
-IsAnswerable offer (progress.Done (reply.Given place need)) = IsNeed need
-IsAnswerable offer (progress.Done (reply.Full found)) = IsSomeAnd offer (λ own. IsNeed own.need)
-IsAnswerable offer (progress.Done (reply.Got place need)) = IsNeed need
-IsAnswerable offer answer = Unit {0}
+-- the reply of an ending, with a block's place and need for the block; and what a step came to
+abbrev pub reply_of : Ending Block → Reply
+reply_of end = ended_as block_place block_need end
 
--- where the shelf is full, the block that comes back is the one that was offered
-abbrev pub GivesBack : Option Offer → Step → Type 0
-GivesBack offer (step.Done (ending.Full block found)) = offer ≡ Some (record { place = block.place; need = block.need })
-GivesBack offer told = Unit {0}
+abbrev pub progress_of : Stepped Block → Progress
+progress_of told = stepped_as block_place block_need told
 
 -- a step of a pass that is in a call, which is one access to a shared word, and what it was told to have come to
-pub record HasStepped (p q : Pass) (told : Step) : Type 0 where
+pub record HasStepped (p q : Pass) (told : Stepped Block) : Type 0 where
   pub moment : IsMoment p.errand q.errand (seen p) (seen q) (progress_of told)
   pub accesses : accesses q ≡ suc (accesses p)
-  pub back : GivesBack (offered_at p.errand.point) told
+  pub back : GivesBack block_place block_need (offered_at p.errand.point) told
 
 -- the pass has begun a call, and made no step
 pub record HasBegun (p : Pass) (call : Call) (q : Pass) : Type 0 where
@@ -94,7 +73,7 @@ ResumeTells first call made p tries resumed.Spent q =
     EndsInTime first call made p tries reply.Spent q × (q.errand.turns ≡ q.errand.geometry.turn_limit)
 ResumeTells first call made p tries resumed.Busy q = IsInterrupted first call made p tries q
 
--- so it is of an allocation; and where no block has so many words nothing has happened
+-- how an allocation that is given so many tries has gone on; where no block has so many words nothing has happened
 abbrev pub AllocTells : Pass → ℕ → ℕ → AllocAnswer → Pass → Type 0
 AllocTells p words tries (alloc_answer.Given block) q =
     EndsInTime p (alloc words) 0 p tries (reply.Given block.place block.need) q × Owns q block
@@ -104,7 +83,7 @@ AllocTells p words tries alloc_answer.Spent q =
     IsSpentAtOnce p words q ⊎ (EndsInTime p (alloc words) 0 p tries reply.Spent q × (q.errand.turns ≡ q.errand.geometry.turn_limit))
 AllocTells p words tries alloc_answer.Busy q = IsInterrupted p (alloc words) 0 p tries q
 
--- and of a free
+-- how a free that is given so many tries has gone on
 abbrev pub FreeTells : Pass → Block → ℕ → FreeAnswer → Pass → Type 0
 FreeTells p block tries free_answer.Freed q = EndsInTime p (free block.place block.need) 0 p tries reply.Freed q
 FreeTells p block tries free_answer.Busy q = IsInterrupted p (free block.place block.need) 0 p tries q
@@ -155,38 +134,38 @@ TakeTells p shelf (taken.Missed expected found) q =
     HasCalled p (take shelf) 1 (reply.Missed expected found) q × (expected ≢ found) × (q.errand ≡ with_lost p.errand)
 
 -- the reply of a call that has ended; none where it goes on
-abbrev pub reply_in : Option Ending → Option Reply
+abbrev pub reply_in : Option (Ending Block) → Option Reply
 reply_in None = None
 reply_in (Some ending) = Some (reply_of ending)
 
--- an allocation may end so; an allocation or a free may
-abbrev pub IsAllocEnding : Ending → Type 0
+-- the endings that an allocation may have; those that an allocation or a free may have
+abbrev pub IsAllocEnding : Ending Block → Type 0
 IsAllocEnding (ending.Given block) = Unit {0}
 IsAllocEnding ending.Refused = Unit {0}
 IsAllocEnding ending.Spent = Unit {0}
 IsAllocEnding told = ⊥
 
-abbrev pub IsTriedEnding : Ending → Type 0
+abbrev pub IsTriedEnding : Ending Block → Type 0
 IsTriedEnding ending.Freed = Unit {0}
 IsTriedEnding told = IsAllocEnding told
 
--- what it answers then
-abbrev pub alloc_ended : Ending → AllocAnswer
+-- what an allocation answers that has ended
+abbrev pub alloc_ended : Ending Block → AllocAnswer
 alloc_ended (ending.Given block) = alloc_answer.Given block
 alloc_ended ending.Refused = alloc_answer.Refused
 alloc_ended ending.Spent = alloc_answer.Spent
 alloc_ended told = alloc_answer.Busy
 
--- and where it may be under way still
-abbrev pub alloc_answer_in : Option Ending → AllocAnswer
+-- what an allocation answers, a free, and a call that was resumed, where the first two may be under way still
+abbrev pub alloc_answer_in : Option (Ending Block) → AllocAnswer
 alloc_answer_in None = alloc_answer.Busy
 alloc_answer_in (Some told) = alloc_ended told
 
-abbrev pub free_answer_in : Option Ending → FreeAnswer
+abbrev pub free_answer_in : Option (Ending Block) → FreeAnswer
 free_answer_in None = free_answer.Busy
 free_answer_in (Some told) = free_answer.Freed
 
-abbrev pub resumed_ended : Ending → Resumed
+abbrev pub resumed_ended : Ending Block → Resumed
 resumed_ended (ending.Given block) = resumed.Given block
 resumed_ended ending.Freed = resumed.Freed
 resumed_ended ending.Refused = resumed.Refused

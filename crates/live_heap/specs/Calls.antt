@@ -32,7 +32,7 @@ pub record IsCalling (first : Pass) (call : Call) (steps : ℕ) (p : Pass) : Typ
   pub events : own first.errand.caller (seen p) ≡ own first.errand.caller (seen first) ++ added
   pub under_way : IsUnderWay first.errand.caller call p.errand.point added
 
--- one step more, and one access more, has ended the call with this reply, and all events that its caller has added since are those of a call that ends so
+-- one step and one access more have ended the call with this reply, and all events that its caller has added since are those of a call that ends so
 pub record HasCalled (first : Pass) (call : Call) (steps : ℕ) (reply : Reply) (q : Pass) : Type 0 where
   pub caller : q.errand.caller ≡ first.errand.caller
   pub idle : IsIdle q.errand
@@ -60,7 +60,7 @@ pub record EndsInTime (first : Pass) (call : Call) (made : ℕ) (p : Pass) (trie
 abbrev pub IsTry : Progress → Type 0
 IsTry answer = (answer ≡ Lost) ⊎ (answer ≡ Cleared)
 
--- or it is still under way: one step more has lost or cleared, before which fewer had than there were tries, and with which as many have. A count of lost ones that stands at its end shows no more of them
+-- a call is still under way: its last step has lost or cleared; before that fewer steps had than there were tries, with it as many have. A count of lost ones that stands at its end shows no more of them
 pub record IsInterrupted (first : Pass) (call : Call) (made : ℕ) (p : Pass) (tries : ℕ) (q : Pass) : Type 0 where
   pub steps : ℕ
   pub calling : IsCalling first call (suc steps) q
@@ -69,7 +69,7 @@ pub record IsInterrupted (first : Pass) (call : Call) (made : ℕ) (p : Pass) (t
   pub in_time : tries_of calling.on.0 < tries_of p.errand + tries
   pub spent : q.errand.lost < 2 ^ 64 - 1 → tries_of q.errand ≡ tries_of p.errand + tries
 
--- the one where there is a reply, the other where there is none
+-- a call has ended in time where there is a reply, and is interrupted where there is none
 abbrev pub GoesOn : Pass → Call → ℕ → Pass → ℕ → Option Reply → Pass → Type 0
 GoesOn first call made p tries None q = IsInterrupted first call made p tries q
 GoesOn first call made p tries (Some reply) q = EndsInTime first call made p tries reply q

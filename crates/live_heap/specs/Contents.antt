@@ -19,7 +19,7 @@ use Rattle.live_heap.specs.Passes.{seen}
 abbrev pub owned_after : List Event → ℕ → ℕ → Option Block
 owned_after events caller place = owned_at caller place (pool_of events)
 
--- so it is of a pass, after the events that it has seen
+-- a pass's block at a place after the events that the pass has seen, with its words, where its caller has one there
 abbrev pub owned_in : Pass → ℕ → Option Block
 owned_in p place = owned_after (seen p) p.errand.caller place
 
@@ -40,7 +40,7 @@ LeavesWord call place i = LeavesPlace call place
 abbrev pub OwnsSame : Pass → Pass → Type 0
 OwnsSame p q = (place : ℕ) → owned_in q place ≡ owned_in p place
 
--- so it does but at one place, where it owns this now
+-- the pass owns the same blocks but at one place, where it owns this now
 pub record OwnsBut (p q : Pass) (place : ℕ) (now : Option Block) : Type 0 where
   pub here : owned_in q place ≡ now
   pub others : (other : ℕ) → other ≢ place → owned_in q other ≡ owned_in p other
@@ -53,7 +53,7 @@ tells_last caller (take shelf) (reply.Got place need) = Some (event.Take caller 
 tells_last caller (take shelf) reply.Empty = Some (event.TakeNone caller shelf)
 tells_last caller call answer = None
 
--- at a place where it owned nothing it owns a new block, of which no word is written
+-- at a place where the pass owned nothing it owns a new block, of which no word is written
 pub record IsGiven (p : Pass) (words place : ℕ) (q : Pass) : Type 0 where
   pub nothing : owned_in p place ≡ None
   pub given : OwnsBut p q place (Some (fresh_block p.errand.caller words place))
@@ -85,7 +85,7 @@ HasChanged p (put place need shelf) reply.Put q = HasPut p place shelf q
 HasChanged p (take shelf) (reply.Got place need) q = HasGot p shelf place q
 HasChanged p call answer q = OwnsSame p q
 
--- what one has that is under way: an allocation behind its event has its block, a free behind its event has none any more
+-- what a call under way has made of what its caller owns: behind its event an allocation has its block, and a free has none any more
 abbrev pub HasChangedSoFar : Pass → Call → StageOfCall → Pass → Type 0
 HasChangedSoFar p (alloc words) (stage.given place need) q = IsGiven p words place q
 HasChangedSoFar p (free place need) stage.freed q = OwnsBut p q place None

@@ -28,12 +28,12 @@ pub record ClosedFields : Type 0 where
   pub events : List Event
   pub wins : List Win
 
--- the machine that it is, where so many steps have led to it
+-- the machine that a closed heap is, where so many steps have led to it
 abbrev pub machine_of : ClosedFields → ℕ → CoreFields
 machine_of c steps =
     record { geometry = c.geometry; words = c.words; errands = c.errands; events = c.events; steps = steps }
 
--- moves of the callers have led from the opening to it, and made this history and these wins; and all callers are idle
+-- a closed heap at rest: moves of the callers led to it from the opening, and made its history and wins; and all callers are idle
 pub record IsResting (c : ClosedFields) : Type 0 where
   pub steps : ℕ
   pub core : IsCore (machine_of c steps)
@@ -51,12 +51,12 @@ abbrev pub errands_from : List Standing → ℕ → ℕ → List ErrandFields
 errands_from callers caller zero = []
 errands_from callers caller (suc more) = errand_in callers caller ∷ errands_from callers (suc caller) more
 
--- what the words and the view of the last pass make
+-- the closed heap that the words and the view of the last pass make
 abbrev pub closed_with : Geometry → List ℕ → View → ClosedFields
 closed_with g words v =
     record { geometry = g; words = words; errands = errands_from v.callers 0 g.callers; events = v.seen; wins = v.wins }
 
--- the pass's caller has the errand in it that the pass had; the history begins with what the pass had seen, and has no other event of its caller
+-- a closed heap has the errand of the pass's caller that the pass had; its history begins with what the pass had seen, and has no other event of that caller
 pub record HasTakenIn (c : ClosedFields) (p : Pass) : Type 0 where
   pub errand : errand_at c.errands p.errand.caller ≡ p.errand
   pub seen_before : Begins (seen p) c.events
@@ -72,12 +72,12 @@ pub record HasClosed (h : Heap) (passes : List Pass) (c : ClosedFields) : Type 0
   pub heap : c.geometry ≡ h.layout
   pub each : All (HasTakenIn c) passes
 
--- among the moves that have led to it are just as many steps of each pass's caller as the pass counts accesses
+-- among the moves that led to a closed heap are just as many steps of each pass's caller as the pass counts accesses
 pub record HasAccesses (c : ClosedFields) (passes : List Pass) : Type 0 where
   pub rests : IsResting c
   pub each : All (λ p. accesses p ≡ count_by (is_step_of p.errand.caller) rests.core.run.moves) passes
 
--- so many exchanges were won and lost in it by all callers together, as counts of 64 bits have it
+-- so many exchanges were won and lost in a closed heap by all callers together, as counts of 64 bits have it
 abbrev pub IsCounted : ClosedFields → ℕ → ℕ → Type 0
 IsCounted c won lost =
     (won ≡ min (callers_sum c.geometry won_of (errand_at c.errands)) (2 ^ 64 - 1))

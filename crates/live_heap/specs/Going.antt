@@ -9,6 +9,7 @@ use Rattle.pool_model.specs.Histories.{Begins}
 use Rattle.errand_steps.specs.declared.continuation.Continuation.{Continuation}
 use Rattle.errand_steps.specs.declared.next.Next.TheVariants.{End}
 use Rattle.errand_steps.specs.declared.point.Point.TheVariants as point
+use Rattle.errand_steps.specs.declared.told.Ending.{Ending}
 use Rattle.errand_steps.specs.Begins.{IsBusy, IsIdle}
 use Rattle.errand_steps.specs.Offers.{offered_at}
 use Rattle.errand_steps.specs.Calls.{Call, begun_by}
@@ -16,8 +17,8 @@ use Rattle.errand_steps.specs.Errands.{ErrandFields, IsErrand, answer_of, settle
 use Rattle.errand_steps.specs.Nexts.{leave_block}
 use Rattle.calls_end.specs.StepsLeft.{steps_left}
 use Rattle.live_heap.specs.declared.answers.AllocAnswer.{AllocAnswer}
-use Rattle.live_heap.specs.declared.answers.Ending.{Ending}
 use Rattle.live_heap.specs.declared.answers.FreeAnswer.{FreeAnswer}
+use Rattle.live_heap.specs.declared.block.Block.{Block}
 use Rattle.live_heap.specs.declared.heap.Heap.{Heap}
 use Rattle.live_heap.specs.declared.pass.Pass.{Pass}
 use Rattle.live_heap.specs.declared.view.View.{View}
@@ -48,18 +49,18 @@ pub record IsGoing (h : Heap) (p : Pass) (tries left : ℕ) (q : Pass) : Type 0 
   pub spent : q.errand.lost < 2 ^ 64 - 1 → tries_of q.errand + left ≡ tries_of p.errand + tries
 
 -- a call that stood at `start` and is given so many tries has gone on to this answer
-pub record HasGone (h : Heap) (start : Pass) (tries : ℕ) (told : Option Ending) (q : Pass) : Type 0 where
+pub record HasGone (h : Heap) (start : Pass) (tries : ℕ) (told : Option (Ending Block)) (q : Pass) : Type 0 where
   pub of : IsOf h q
   pub grows : Begins (seen start) (seen q)
   pub goes :
       (first : Pass) (call : Call) (made : ℕ) → IsCalling first call made start → GoesOn first call made start tries (reply_in told) q
 
--- an allocation has gone on so, and answers so; and a free
+-- an allocation that stood at `start` has gone on to this answer; and a free has
 abbrev pub HasAllocated : Heap → Pass → ℕ → AllocAnswer → Pass → Type 0
-HasAllocated h start tries answer q = (told : Option Ending) × HasGone h start tries told q × (answer ≡ alloc_answer_in told)
+HasAllocated h start tries answer q = (told : Option (Ending Block)) × HasGone h start tries told q × (answer ≡ alloc_answer_in told)
 
 abbrev pub HasFreed : Heap → Pass → ℕ → FreeAnswer → Pass → Type 0
-HasFreed h start tries answer q = (told : Option Ending) × HasGone h start tries told q × (answer ≡ free_answer_in told)
+HasFreed h start tries answer q = (told : Option (Ending Block)) × HasGone h start tries told q × (answer ≡ free_answer_in told)
 
 -- an errand that stands at a point of a superblock, and a pass whose errand would
 abbrev pub at_block : ErrandFields → BlockPoint → Continuation → ErrandFields
@@ -76,7 +77,7 @@ pub record IsWalking (h : Heap) (start : Pass) (tries : ℕ) (p : BlockPoint) (o
   pub rule : IsErrand (at_block q.errand p o)
   pub some : 0 < tries
 
--- its seat has made the step from there and found this; its errand stands still
+-- a walking call's seat has made the step from its point and found this; the pass's errand stands still
 pub record HasWalked (h : Heap) (start : Pass) (tries : ℕ) (p : BlockPoint) (o : Continuation) (x : Find) (q : Pass) : Type 0 where
   pub seat : Seat ℕ View
   pub walks : IsWalking h start tries p o (record { seat = seat; errand = q.errand })
@@ -96,5 +97,5 @@ pub record Rejoins (h : Heap) (start : Pass) (tries : ℕ) (x : Find) (q : Pass)
   pub empty : q.seat.me.1 ≡ last.seat.me.1
 
 -- a call that leaves a superblock by this exit ends so, wherever it goes on
-abbrev pub EndsBy : Option BlockExit → Ending → Type 0
+abbrev pub EndsBy : Option BlockExit → Ending Block → Type 0
 EndsBy exit ending = (e : BlockExit) × (exit ≡ Some e) × ((o : Continuation) → leave_block e o ≡ End (reply_of ending))

@@ -1,17 +1,17 @@
 -- A pass with the blocks in its hand, between calls and while one waits to be resumed.
 use Rattle.std.specs.Prelude.{ℕ, List, [], ◌∷◌, All, Result, Ok, Err}
+use Rattle.errand_steps.specs.declared.told.Ending.{Ending}
+use Rattle.errand_steps.specs.declared.told.Ending.TheVariants as ending
+use Rattle.errand_steps.specs.declared.told.Stepped.{Stepped}
+use Rattle.errand_steps.specs.declared.told.Stepped.TheVariants as step
 use Rattle.errand_steps.specs.Begins.{IsBusy, IsIdle}
 use Rattle.errand_steps.specs.Calls.{Call}
 use Rattle.step_machine.specs.Keeping.{LeavesPlace}
 use Rattle.live_heap.specs.declared.answers.AllocAnswer.{AllocAnswer}
 use Rattle.live_heap.specs.declared.answers.AllocAnswer.TheVariants as alloc_answer
-use Rattle.live_heap.specs.declared.answers.Ending.{Ending}
-use Rattle.live_heap.specs.declared.answers.Ending.TheVariants as ending
 use Rattle.live_heap.specs.declared.answers.Full.{Full}
 use Rattle.live_heap.specs.declared.answers.Resumed.{Resumed}
 use Rattle.live_heap.specs.declared.answers.Resumed.TheVariants as resumed
-use Rattle.live_heap.specs.declared.answers.Step.{Step}
-use Rattle.live_heap.specs.declared.answers.Step.TheVariants as step
 use Rattle.live_heap.specs.declared.answers.Taken.{Taken}
 use Rattle.live_heap.specs.declared.answers.Taken.TheVariants as taken
 use Rattle.live_heap.specs.declared.block.Block.{Block}
@@ -56,13 +56,13 @@ abbrev pub returned_by : {A : Type 0} → Result A Full → List Block
 returned_by (Ok put) = []
 returned_by (Err full) = full.block ∷ []
 
--- the block that the end of a call brings, if any; and a step
-abbrev pub brought_by : Ending → List Block
+-- the block that the end of a call brings, if any; the block that a step brings, if any
+abbrev pub brought_by : Ending Block → List Block
 brought_by (ending.Given block) = block ∷ []
 brought_by (ending.Full block found) = block ∷ []
 brought_by (ending.Got block) = block ∷ []
 brought_by told = []
 
-abbrev pub brought_in : Step → List Block
+abbrev pub brought_in : Stepped Block → List Block
 brought_in (step.Done told) = brought_by told
 brought_in told = []

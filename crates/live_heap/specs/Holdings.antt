@@ -16,11 +16,11 @@ abbrev pub Holds : Pass → List Block → Type 0
 Holds p [] = Unit {0}
 Holds p (block ∷ blocks) = Owns p block × All (λ other. other.place ≢ block.place) blocks × Holds p blocks
 
--- and its caller owns no block at any other place: these are all that it owns, each once
+-- the pass holds the blocks, and its caller owns none at any other place: these are all that it owns, each once
 abbrev pub HoldsExactly : Pass → List Block → Type 0
 HoldsExactly p blocks = Holds p blocks × ((place : ℕ) → All (λ block. block.place ≢ place) blocks → owned_in p place ≡ None)
 
--- a block that lies there and serves this comes to the hand; the one that lies there goes
+-- a block at this place that serves this need comes to the hand; a block at this place goes from the hand
 abbrev pub Gains : ℕ → Need → List Block → List Block → Type 0
 Gains place need had has = (block : Block) × (block.place ≡ place) × (block.need ≡ need) × (has ≡ block ∷ had)
 
@@ -35,7 +35,7 @@ ChangesHand (put place need shelf) reply.Put had has = Loses place had has
 ChangesHand (take shelf) (reply.Got place need) had has = Gains place need had has
 ChangesHand call answer had has = has ≡ had
 
--- how one has that is under way: an allocation behind its event has its block, and a free keeps its own until its event
+-- how a call under way has changed the hand: an allocation behind its event has its block, and a free keeps its own until its event
 abbrev pub ChangesHandSoFar : Call → StageOfCall → List Block → List Block → Type 0
 ChangesHandSoFar (alloc words) (stage.given place need) had has = Gains place need had has
 ChangesHandSoFar (free place need) stage.freed had has = Loses place had has

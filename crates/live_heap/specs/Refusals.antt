@@ -22,7 +22,7 @@ pub record HasFoundEmpty (first : Pass) (step : SeenStep) (head : WordName) (eve
   pub empty : (head_of (step.moment.state.word head)).top ≡ 0
   pub tells : event_at step.moment.state step.before.caller ≡ Some event
 
--- of these steps one found no partial superblock of the class, and a later one found no frame, at which the allocation was refused
+-- one of the steps found no partial superblock of the class, and a later one found no frame, at which the allocation was refused
 pub record HasFoundNoFrame (first : Pass) (words class : ℕ) (steps : List SeenStep) : Type 0 where
   pub looking : SeenStep
   pub refusing : SeenStep
@@ -33,7 +33,7 @@ pub record HasFoundNoFrame (first : Pass) (words class : ℕ) (steps : List Seen
   pub looked : HasFoundEmpty first looking (ListHead class) (Looked first.errand.caller class)
   pub refused : HasFoundEmpty first refusing FrameHead (Refuse first.errand.caller words)
 
--- the last step found no run of so many units, and that is its event
+-- the last step of an allocation found no run of so many units, and its event is the refusal
 pub record HasFoundNoRun (first : Pass) (words units : ℕ) (q : Pass) : Type 0 where
   pub history : List Event
   pub told : seen q ≡ history ++ Refuse first.errand.caller words ∷ []

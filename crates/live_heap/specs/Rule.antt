@@ -61,10 +61,10 @@ pub record KeptTable (g : Geometry) (words : List ℕ) (views : List View) : Typ
   pub place : ℕ → ℕ × ℕ
   pub each : (id : ℕ) (v : View) → get_elem? views id ≡ some v → Stands g errands events run.wins.list run.moves place id v
 
--- so it is in a table
+-- the rule of a table: its words and its passes' views are kept
 abbrev pub TableHolds : {S : Type 0} → Geometry → TableState S View → Type 0
 TableHolds g s = KeptTable g s.words s.views
 
--- and so it is in memory, where each word lies at its place
+-- the rule of a table in memory, where each word lies at its place
 abbrev pub PlacesHold : {S : Type 0} → Geometry → TableState S View → Type 0
 PlacesHold g s = HoldsAtPlaces g (TableHolds g) s

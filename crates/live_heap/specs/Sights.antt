@@ -44,7 +44,7 @@ pub record TakesStep (e : ErrandFields) (n : ℕ) (v w : View) : Type 0 where
   pub served : IsServed e.geometry e.caller (settle_of e (found_in e n)) w.seen
   pub alone : e.geometry.callers ≡ 1 → (settle_of e (found_in e n)).lost ≡ 0
 
--- so it did, and it holds what it held
+-- a pass made the step of the errand e, which found n, and holds what it held
 abbrev pub Saw : {S : Type 0} → ErrandFields → ℕ → Me S View → Me S View → Type 0
 Saw e n before after = TakesStep e n before.0 after.0 × (after.1 ≡ before.1)
 

@@ -9,16 +9,16 @@ use Rattle.live_heap.specs.declared.view.View.{View}
 abbrev pub idle_standing : Geometry → ℕ → Standing
 idle_standing g caller = record { errand = open_errand caller g; seen = []; accesses = 0 }
 
--- such callers, so many from a number on
+-- callers in no call that have seen nothing and made no step, so many from a number on
 abbrev pub idles_from : Geometry → ℕ → ℕ → List Standing
 idles_from g caller zero = []
 idles_from g caller (suc more) = idle_standing g caller ∷ idles_from g (suc caller) more
 
--- nothing is seen yet by who stands for so many callers from a number on
+-- the view of a pass that stands for so many callers from a number on, and has seen nothing yet
 abbrev pub idle_view : Geometry → ℕ → ℕ → View
 idle_view g caller more = record { callers = idles_from g caller more; seen = []; wins = [] }
 
--- the first pass stands for all callers
+-- the view of the first pass, which stands for all callers
 abbrev pub opening_view : Geometry → View
 opening_view g = idle_view g 0 g.callers
 
@@ -31,7 +31,7 @@ abbrev pub other_callers : List Standing → List Standing
 other_callers [] = []
 other_callers (x ∷ xs) = xs
 
--- a pass that is cut in two: its first caller stays, and the others go
+-- the two parts of a pass that is cut: its first caller stays, and the others go
 abbrev pub first_part : View → View
 first_part v = record { callers = first_caller v.callers; seen = v.seen; wins = v.wins }
 
@@ -46,6 +46,6 @@ longer xs ys = if nat_lt (length xs) (length ys) then ys else xs
 abbrev pub gathered : View → View → View
 gathered v w = record { callers = v.callers ++ w.callers; seen = longer v.seen w.seen; wins = longer v.wins w.wins }
 
--- what is left of the one that was taken in
+-- the view that is left of a pass that was taken in
 abbrev pub spent_view : View
 spent_view = record { callers = []; seen = []; wins = [] }

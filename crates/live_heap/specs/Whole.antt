@@ -33,7 +33,7 @@ pub data MadeByPass (p : Pass) (call : Call) (answer : Reply) (q : Pass) : Type 
   by_steps : HasEndedCall p call answer q → MadeByPass p call answer q
   at_once : (words : ℕ) → call ≡ alloc words → answer ≡ reply.Spent → IsSpentAtOnce p words q → MadeByPass p call answer q
 
--- the call that was under way has ended so
+-- the call that was under way has ended with this answer
 abbrev pub ResumesTo : Pass → Call → Resumed → Pass → Type 0
 ResumesTo first call (resumed.Given block) q = HasEndedCall first call (reply.Given block.place block.need) q
 ResumesTo first call resumed.Freed q = HasEndedCall first call reply.Freed q

@@ -1,48 +1,6 @@
-//! What the calls of a heap answer.
+//! What the whole calls of a heap answer.
 
 use crate::block::Block;
-
-/// What a step came to.
-#[derive(Debug, PartialEq, Eq, Drop)]
-pub enum Step {
-    /// The pass was in no call, and made no step.
-    Idle,
-    /// The call goes on.
-    More,
-    /// The call goes on after a lost exchange.
-    Lost,
-    /// The call goes on after it took an empty superblock for a partial one.
-    Cleared,
-    /// The call has ended.
-    Done(Ending),
-}
-
-/// The answer of a call that has ended.
-#[derive(Debug, PartialEq, Eq, Drop)]
-pub enum Ending {
-    /// The allocation is given this block.
-    Given(Block),
-    /// The allocation is refused.
-    Refused,
-    /// The allocation would have begun a turn, and the pass has none left.
-    Spent,
-    /// The block is freed.
-    Freed,
-    /// The word is written.
-    Wrote,
-    /// The word that was read.
-    Word(u64),
-    /// The block lies on the shelf.
-    Put,
-    /// The shelf holds a block already, `found` is its word, and the pass has its own back.
-    Full { block: Block, found: u64 },
-    /// The block that was taken from the shelf.
-    Got(Block),
-    /// The shelf is empty.
-    Empty,
-    /// The shelf's word was another one than the one that was read before.
-    Missed { expected: u64, found: u64 },
-}
 
 /// The answer of `Heap::alloc`.
 #[derive(Debug, PartialEq, Eq, Drop)]

@@ -4,6 +4,7 @@ ghost use Rattle.std.specs.Prelude.{◌≡◌};
 ghost use Rattle.heap_geometry.specs.Need.{IsNeed, usable_words};
 ghost use Rattle.step_machine.specs.Needs.{IsNeed-prop};
 
+use errand_steps::told::MakesBlocks;
 use heap_geometry::need::{Need, usable};
 
 /// A block that a caller of a heap owns, or owned: it can't be copied, cloned or made, and whoever frees
@@ -35,5 +36,21 @@ impl Block {
         ensures { result ≡ self.now.place }
     {
         self.place
+    }
+}
+
+/// Who makes the blocks that steps tell of: the heap alone.
+pub(crate) struct Tokens;
+
+impl MakesBlocks for Tokens {
+    type Block = Block;
+
+    ghost place_of = { λ block. block.place };
+
+    ghost need_of = { λ block. block.need };
+
+    #[inline(always)]
+    fn made(place: u32, need: Need) -> Block {
+        Block { place, need }
     }
 }

@@ -7,21 +7,22 @@ ghost use Rattle.heap_geometry.specs.declared.limits.TheConstants.{LARGE_MOST, S
 ghost use Rattle.pool_model.specs.Histories.{Begins};
 ghost use Rattle.errand_steps.specs.declared.reply.Begun.TheVariants as begun;
 ghost use Rattle.errand_steps.specs.declared.reply.Reply.TheVariants as reply;
+ghost use Rattle.errand_steps.specs.declared.told.Ending.{Ending};
 ghost use Rattle.errand_steps.specs.Begins.{IsIdle, IsBusy, alloc_answer};
 ghost use Rattle.errand_steps.specs.Calls.{Call, put, read, write};
 ghost use Rattle.live_heap.specs.declared.answers.AllocAnswer.{AllocAnswer};
-ghost use Rattle.live_heap.specs.declared.answers.Ending.{Ending};
 ghost use Rattle.live_heap.specs.declared.answers.Resumed.{Resumed};
 ghost use Rattle.live_heap.specs.declared.pass.Pass.{Pass};
 ghost use Rattle.live_heap.specs.Answers.{AllocTells, FreeTells, IsAllocEnding, IsContents, IsResumable, PutTellsFull, ResumeTells, TakeTells, IsTriedEnding, alloc_ended, resumed_ended, reply_in};
 ghost use Rattle.live_heap.specs.Calls.{GoesOn, HasCalled, IsCalling};
 ghost use Rattle.live_heap.specs.Passes.{IsOf, Owns, seen};
 
-use crate::answers::{AllocAnswer, Ending, FreeAnswer, Full, Resumed, Step, Taken};
+use crate::answers::{AllocAnswer, FreeAnswer, Full, Resumed, Taken};
 use crate::block::Block;
 use crate::heap::Heap;
 use crate::pass::Pass;
 use errand_steps::reply::Begun;
+use errand_steps::told::{Ending, Stepped};
 use heap_geometry::need::{Need, class_of};
 
 impl Heap {
@@ -152,8 +153,8 @@ impl Heap {
     {
         self.begin_put(pass, block, shelf);
         match self.step(pass) {
-            Step::Done(Ending::Put) => Ok(()),
-            Step::Done(Ending::Full { block, found }) => Err(Full { block, found }),
+            Stepped::Done(Ending::Put) => Ok(()),
+            Stepped::Done(Ending::Full { block, found }) => Err(Full { block, found }),
             _ => unreachable!(),
         }
     }
@@ -169,16 +170,16 @@ impl Heap {
         self.begin_take(pass, shelf);
         let _ = self.step(pass);
         match self.step(pass) {
-            Step::Done(Ending::Got(block)) => Taken::Got(block),
-            Step::Done(Ending::Empty) => Taken::Empty,
-            Step::Done(Ending::Missed { expected, found }) => Taken::Missed { expected, found },
+            Stepped::Done(Ending::Got(block)) => Taken::Got(block),
+            Stepped::Done(Ending::Empty) => Taken::Empty,
+            Stepped::Done(Ending::Missed { expected, found }) => Taken::Missed { expected, found },
             _ => unreachable!(),
         }
     }
 
     /// Makes steps to the end of the call that is under way, or until as many of them lost or cleared as
     /// there are tries.
-    fn go_on(&self, pass: &mut Pass, tries: u32) -> Option<Ending>
+    fn go_on(&self, pass: &mut Pass, tries: u32) -> Option<Ending<Block>>
         requires of { IsOf self.now pass.old }
         requires busy { IsBusy pass.old.errand }
         requires tries { 0 < tries }
@@ -193,7 +194,7 @@ impl Heap {
 
 /// The answer of an allocation that has ended so.
 #[inline(always)]
-pub(crate) fn alloc_ended(ending: Ending) -> AllocAnswer
+pub(crate) fn alloc_ended(ending: Ending<Block>) -> AllocAnswer
     requires { IsAllocEnding ending }
     ensures { result ≡ alloc_ended ending }
 {
@@ -206,7 +207,7 @@ pub(crate) fn alloc_ended(ending: Ending) -> AllocAnswer
 }
 
 /// The answer of a resumed call that has ended so.
-fn resumed_ended(ending: Ending) -> Resumed
+fn resumed_ended(ending: Ending<Block>) -> Resumed
     requires { IsTriedEnding ending }
     ensures { result ≡ resumed_ended ending }
 {

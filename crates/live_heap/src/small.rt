@@ -17,12 +17,13 @@ ghost use Rattle.live_heap.specs.Going.{HasAllocated, HasFreed, HasGone, IsWalki
 ghost use Rattle.live_heap.specs.Passes.{IsOf, seen};
 ghost use Rattle.live_heap.specs.Sights.{after_events};
 
-use crate::answers::{AllocAnswer, Ending, FreeAnswer};
+use crate::answers::{AllocAnswer, FreeAnswer};
 use crate::block::Block;
 use crate::calls::alloc_ended;
 use crate::heap::Heap;
 use crate::pass::Pass;
 use errand_steps::continuation::Continuation;
+use errand_steps::told::Ending;
 use superblock_parts::point::BlockPoint;
 use word_table::action::Found;
 
@@ -85,7 +86,7 @@ impl Heap {
         pass: &mut Pass,
         prefix: BlockPoint,
         tries: u32,
-    ) -> Result<Ending, Found>
+    ) -> Result<Ending<Block>, Found>
         ghost start: { Pass }
         requires { IsWalking self.now start tries prefix continuation.Free pass.old }
         ensures ends { IfOk result (λ ending. HasGone self.now start tries (Some ending) pass.new) }
@@ -196,7 +197,7 @@ impl Heap {
         active: BlockPoint,
         need: u32,
         tries: u32,
-    ) -> Result<Ending, Found>
+    ) -> Result<Ending<Block>, Found>
         ghost start: { Pass }
         requires { IsWalking self.now start tries active (continuation.Alloc need) pass.old }
         ensures ends { IfOk result (λ ending. HasGone self.now start tries (Some ending) pass.new) }

@@ -1,47 +1,44 @@
 //! One atomic step of a pass.
 
-ghost use Rattle.std.specs.Prelude.{◌≡◌, Some, IsSomeAnd};
-ghost use Rattle.heap_geometry.specs.Need.{IsNeed};
+ghost use Rattle.std.specs.Prelude.{◌≡◌};
 ghost use Rattle.word_table.specs.Actions.{name_of};
 ghost use Rattle.word_table.specs.Table.{Exists};
-ghost use Rattle.errand_steps.specs.declared.reply.Progress.{Progress};
+ghost use Rattle.errand_steps.specs.declared.told.Stepped.{Stepped};
 ghost use Rattle.errand_steps.specs.Begins.{IsIdle, IsBusy};
 ghost use Rattle.errand_steps.specs.Errands.{plan_of};
-ghost use Rattle.live_heap.specs.declared.answers.Step.{Step};
-ghost use Rattle.live_heap.specs.Answers.{HasStepped, GivesBack, IsAnswerable, progress_of, reply_of};
+ghost use Rattle.live_heap.specs.Answers.{HasStepped};
 ghost use Rattle.live_heap.specs.Going.{HasFound};
 ghost use Rattle.live_heap.specs.Passes.{IsOf};
 ghost use Rattle.live_heap.specs.Sights.{IsSightOf};
 
-use crate::answers::{Ending, Step};
-use crate::block::Block;
+use crate::block::{Block, Tokens};
 use crate::heap::Heap;
 use crate::pass::Pass;
 use crate::plays::{Doing, Finds, Stores};
 use crate::view::View;
 use atomic_table::Seat;
 use errand_steps::errand::{Errand, plan};
-use errand_steps::reply::{Offer, Progress, Reply};
+use errand_steps::told::{Stepped, told};
 use std::marker::Brand;
 use word_table::action::{Action, Found};
 
 impl Heap {
     /// Makes one step of the pass, and says what it came to; none where the pass is in no call.
-    pub fn step(&self, pass: &mut Pass) -> Step
+    pub fn step(&self, pass: &mut Pass) -> Stepped<Block>
         requires { IsOf self.now pass.old }
         ensures of { IsOf self.now pass.new }
         ensures caller { pass.new.errand.caller ≡ pass.old.errand.caller }
-        ensures idle { IsIdle pass.old.errand → (result ≡ Step.Idle) × (pass.new ≡ pass.old) }
+        ensures idle { IsIdle pass.old.errand → (result ≡ Stepped.Idle) × (pass.new ≡ pass.old) }
         ensures busy { IsBusy pass.old.errand → HasStepped pass.old pass.new result }
     {
         if pass.errand.idle() {
-            return Step::Idle;
+            return Stepped::Idle;
         }
         let offer = pass.errand.offered();
         let action = plan(&pass.errand);
         let found = self.act::<Brand>(&mut pass.seat, &pass.errand, action);
         let progress = pass.errand.go_on(action, found);
-        told(progress, offer)
+        told::<Tokens>(progress, offer)
     }
 
     /// Makes the action of the errand that `E` names for the proof, and answers what it found. A store
@@ -95,56 +92,5 @@ impl Heap {
                 Found { value, won: true }
             }
         }
-    }
-}
-
-/// What a step came to, with blocks for their places and needs. A put that was under way offered this
-/// block.
-fn told(progress: Progress, offer: Option<Offer>) -> Step
-    requires { IsAnswerable offer progress }
-    ensures progress { progress_of result ≡ progress }
-    ensures back { GivesBack offer result }
-{
-    match progress {
-        Progress::Idle => Step::Idle,
-        Progress::More => Step::More,
-        Progress::Lost => Step::Lost,
-        Progress::Cleared => Step::Cleared,
-        Progress::Done(reply) => Step::Done(ended(reply, offer)),
-    }
-}
-
-/// The same of the step that ends a call.
-pub(crate) fn ended(reply: Reply, offer: Option<Offer>) -> Ending
-    requires { IsAnswerable offer (Progress.Done reply) }
-    ensures reply { reply_of result ≡ reply }
-    ensures back { GivesBack offer (Step.Done result) }
-{
-    match reply {
-        Reply::Given { place, need } => Ending::Given(Block { place, need }),
-        Reply::Refused => Ending::Refused,
-        Reply::Spent => Ending::Spent,
-        Reply::Freed => Ending::Freed,
-        Reply::Wrote => Ending::Wrote,
-        Reply::Word(word) => Ending::Word(word),
-        Reply::Put => Ending::Put,
-        Reply::Full { found } => Ending::Full {
-            block: given_back(offer),
-            found,
-        },
-        Reply::Got { place, need } => Ending::Got(Block { place, need }),
-        Reply::Empty => Ending::Empty,
-        Reply::Missed { expected, found } => Ending::Missed { expected, found },
-    }
-}
-
-/// The block that a put offered, which its pass has back.
-fn given_back(offer: Option<Offer>) -> Block
-    requires { IsSomeAnd offer (λ own. IsNeed own.need) }
-    ensures { offer ≡ Some (record { place = result.place; need = result.need }) }
-{
-    match offer {
-        Some(Offer { place, need }) => Block { place, need },
-        None => unreachable!(),
     }
 }

@@ -5,11 +5,11 @@ ghost use Rattle.std.specs.Prelude.{◌≡◌, IfErr, IfOk, IfSome, Some, true};
 ghost use Rattle.live_heap.specs.declared.pass.Pass.{Pass};
 ghost use Rattle.live_heap.specs.Going.{EndsBy, HasGone, IsWalking, Rejoins};
 
-use crate::answers::Ending;
 use crate::block::Block;
 use crate::heap::Heap;
 use crate::pass::Pass;
 use errand_steps::continuation::Continuation;
+use errand_steps::told::Ending;
 use heap_geometry::need::Need;
 use superblock_parts::exit::BlockExit;
 use superblock_parts::point::{BlockPoint, plan_block, settle_block};
@@ -53,7 +53,7 @@ impl Heap {
         at: &BlockPoint,
         goes: &Continuation,
         tries: u32,
-    ) -> Result<Ending, Found>
+    ) -> Result<Ending<Block>, Found>
         ghost start: { Pass }
         requires { IsWalking self.now start tries at.now goes.now pass.old }
         ensures ends { IfOk result (λ ending. HasGone self.now start tries (Some ending) pass.new) }
@@ -74,7 +74,7 @@ impl Heap {
 
 /// How the call ends that leaves a superblock by this exit, by a step that is not lost.
 #[inline(always)]
-fn ending_by(exit: Option<BlockExit>, won: bool) -> Option<Ending>
+fn ending_by(exit: Option<BlockExit>, won: bool) -> Option<Ending<Block>>
     ensures { IfSome result (λ ending. (won ≡ true) × EndsBy exit ending) }
 {
     match exit {

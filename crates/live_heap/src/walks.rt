@@ -10,16 +10,16 @@ ghost use Rattle.live_heap.specs.Going.{HasFound, HasGone, HasWalked, IsGoing, I
 ghost use Rattle.live_heap.specs.Passes.{IsOf};
 ghost use Rattle.live_heap.specs.Sights.{IsSightOf};
 
-use crate::answers::{Ending, Step};
+use crate::block::{Block, Tokens};
 use crate::heap::Heap;
 use crate::pass::Pass;
 use crate::plays::Doing;
-use crate::steps::ended;
 use crate::view::View;
 use atomic_table::Seat;
 use errand_steps::continuation::Continuation;
 use errand_steps::errand::{Errand, plan};
 use errand_steps::reply::Progress;
+use errand_steps::told::{Ending, Stepped, ended};
 use std::marker::Brand;
 use superblock_parts::point::BlockPoint;
 use word_table::action::{Action, Found};
@@ -66,7 +66,7 @@ impl Heap {
     }
 
     /// Goes on from a step that found this, by the errand, which stands at its point.
-    pub(crate) fn rejoin(&self, pass: &mut Pass, found: Found, tries: u32) -> Option<Ending>
+    pub(crate) fn rejoin(&self, pass: &mut Pass, found: Found, tries: u32) -> Option<Ending<Block>>
         ghost start: { Pass }
         requires tries { 0 < tries }
         requires joins { Rejoins self.now start tries found pass.old }
@@ -78,12 +78,17 @@ impl Heap {
             Progress::More => self.drive(pass, tries, tries),
             Progress::Lost => self.drive(pass, tries, tries - 1),
             Progress::Cleared => self.drive(pass, tries, tries - 1),
-            Progress::Done(reply) => Some(ended(reply, None)),
+            Progress::Done(reply) => Some(ended::<Tokens>(reply, None)),
         }
     }
 
     /// Makes steps to the end of the call that is under way, or until none of the tries is left.
-    pub(crate) fn drive(&self, pass: &mut Pass, _tries: u32, tries_left: u32) -> Option<Ending>
+    pub(crate) fn drive(
+        &self,
+        pass: &mut Pass,
+        _tries: u32,
+        tries_left: u32,
+    ) -> Option<Ending<Block>>
         ghost start: { Pass }
         requires of { IsOf self.now pass.old }
         requires going { IsGoing self.now start _tries tries_left pass.old }
@@ -92,11 +97,11 @@ impl Heap {
         let mut left = tries_left;
         while left > 0 {
             match self.step(pass) {
-                Step::Idle => unreachable!(),
-                Step::More => {}
-                Step::Lost => left -= 1,
-                Step::Cleared => left -= 1,
-                Step::Done(ending) => return Some(ending),
+                Stepped::Idle => unreachable!(),
+                Stepped::More => {}
+                Stepped::Lost => left -= 1,
+                Stepped::Cleared => left -= 1,
+                Stepped::Done(ending) => return Some(ending),
             }
         }
         None

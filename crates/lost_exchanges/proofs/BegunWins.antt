@@ -1,25 +1,20 @@
 -- A call that begins keeps what was won and noted.
-use Rattle.std.proofs.Common.{ℕ, false, Some, ◌≡◌, ◌<◌, ◌≤◌, ◌+◌, [], length, refl, arith, ap, sym, subst, ◌∙◌, ◌^◌, ◌-◌, All, IsTrue, min, drop, count_by}
+use Rattle.std.proofs.Common.{ℕ, false, Some, ◌≡◌, ◌<◌, ◌≤◌, ◌+◌, [], length, refl, arith, ap, sym, subst, ◌∙◌, ◌^◌, ◌-◌, All, IsTrue, min, drop, count_by, true≢false}
 use Rattle.std.specs.Prelude as list
-use Rattle.std.proofs.lemmas.Bool.{cond_both, true≢false}
+use Rattle.std.proofs.lemmas.Bool.{cond_both}
 use Rattle.std.proofs.lemmas.List.Elements.{All-nil}
-use Rattle.sound_state.proofs.Common.{Geometry, Need, Small, need_of, ErrandFields, State, Moves, turn_stage_of, gives_small, refuses_small}
-use Rattle.heap_geometry.specs.declared.need.Need.TheVariants.{Large, TooLarge}
-use Rattle.errand_steps.specs.Begins.{IsIdle, begins_alloc, alloc_begun, free_begun, write_begun, read_begun, put_begun, take_begun}
-use Rattle.errand_steps.specs.Calls.{Call, alloc, free, begun_by}
-use Rattle.errand_steps.specs.Errands.{is_spent}
+use Rattle.sound_state.proofs.Common.{Geometry, Need, Small, need_of, ErrandFields, State, Moves, turn_stage_of, gives_small, refuses_small, TooLarge, IsIdle}
+use Rattle.sound_state.proofs.Common.{begins_alloc, alloc_begun, free_begun, write_begun, read_begun, put_begun, take_begun, Call, alloc, free, begun_by, is_spent}
+use Rattle.sound_state.proofs.Common.{BeginsCall, with_errands, is_seeking, turn_unanswered, errand_discards}
+use Rattle.heap_geometry.specs.declared.need.Need.TheVariants.{Large}
 use Rattle.lost_exchanges.specs.Contention.{is_by, IsExpected, lost_of}
 use Rattle.lost_exchanges.specs.Expectations.{expects_of}
 use Rattle.lost_exchanges.specs.Installs.{IsInstalledSince, installs_by, installs_against, errand_offers}
-use Rattle.sound_state.specs.Runs.{BeginsCall}
-use Rattle.sound_state.specs.Sound.{with_errands}
-use Rattle.sound_state.specs.TurnStages.{is_seeking}
-use Rattle.sound_state.specs.Turns.{turn_unanswered, errand_discards}
 use Rattle.lost_exchanges.specs.Wins.{Wins}
 use Rattle.lost_exchanges.specs.Won.{IsWon}
 use Rattle.errand_steps.proofs.BegunErrands.{idle-is}
-use Rattle.sound_state.proofs.shared.ShownLemmas.{each-caller}
 use Rattle.sound_state.proofs.shared.SumLemmas.{callers-moved}
+use Rattle.sound_state.proofs.shared.CallerLemmas.{each-caller}
 
 -- what a caller noted when it found no superblock active bounds its errand
 abbrev SinceBounds : State → Wins → ℕ → ErrandFields → Type 0
@@ -32,7 +27,7 @@ SinceBounds s w caller e =
     × All (IsInstalledSince s w.list caller wins) (expects_of e.point)
     × (errand_discards e ≤ count_by (installs_against caller) (drop wins w.list))
 
--- an errand that begins counts as the idle one before it, and its turn is one that has no answer yet
+-- an errand that begins counts as the idle one before it, expects nothing, and has at most one turn more, which has no answer yet
 record BeginsAs (e f : ErrandFields) : Type 0 where
   won : f.won ≡ e.won
   lost : f.lost ≡ e.lost
@@ -73,7 +68,7 @@ begun-as e (alloc words) idle = alloc-begins e words (need_of words) idle
 begun-as e (free place need) idle = free-begins e place need idle
 begun-as e call idle = grind (arith)
 
--- so it expects nothing
+-- a call that begins expects nothing
 pub begun-expects : (e : ErrandFields) (call : Call) → IsIdle e → expects_of (begun_by e call).point ≡ []
 begun-expects e call idle = (begun-as e call idle).expects
 

@@ -1,15 +1,13 @@
 -- A step keeps the bound on what callers lose: a win makes at most one pair of each other caller dirty, and a lost exchange uses one up.
-use Rattle.std.proofs.Common.{ℕ, true, false, ◌≡◌, ◌≢◌, ◌<◌, ◌≤◌, ◌+◌, ◌-◌, ◌*◌, List, length, refl, arith, ap, sym, subst, inl, inr, ◌∙◌, ◌⊎◌, ◌==◌, not, option_to_list}
+use Rattle.std.proofs.Common.{ℕ, true, false, ◌≡◌, ◌≢◌, ◌<◌, ◌≤◌, ◌+◌, ◌-◌, ◌*◌, List, length, refl, arith, ap, sym, subst, inl, inr, ◌∙◌, ◌⊎◌, ◌==◌, not}
+use Rattle.std.proofs.Common.{option_to_list}
 use Rattle.std.proofs.lemmas.Bool.{cases_Bool, and_parts, not-true, not_from_true, false≢true}
 use Rattle.sound_state.proofs.Common.{Geometry, Found, WordName, word_count, Exists, word_name, Point, Desc, Large, settle_of, raised, counts_lost, plan_point_of}
-use Rattle.sound_state.proofs.Common.{State, Step, action_at, name_at, word_at, found_at, callers_sum, one_if}
-use Rattle.word_table.specs.declared.action.Action.{Action}
-use Rattle.word_table.specs.declared.action.Action.TheVariants.{Load, Store, Cas, Swap, And}
-use Rattle.word_table.specs.Table.{word_index}
-use Rattle.word_table.proofs.TableLemmas.{word_index-within, word_name-word_index, word_index-word_name}
+use Rattle.sound_state.proofs.Common.{State, Step, action_at, name_at, word_at, found_at, callers_sum, one_if, Action, Store, Cas, word_index, word_index-within}
+use Rattle.sound_state.proofs.Common.{word_name-word_index, word_index-word_name, counts_won, is_lost_exchange}
+use Rattle.word_table.specs.declared.action.Action.TheVariants.{Load, Swap, And}
 use Rattle.hazard_parts.specs.declared.point.DescPoint.TheVariants as desc
 use Rattle.large_parts.specs.declared.point.LargePoint.TheVariants as large
-use Rattle.errand_steps.specs.Errands.{counts_won, is_lost_exchange}
 use Rattle.lost_exchanges.specs.Contention.{IsExpected, IsNoted, IsContended, is_against, dirty_since, is_dirty, dirty_on, dirty_pairs, lost_of}
 use Rattle.lost_exchanges.specs.Expectations.{expects_of}
 use Rattle.lost_exchanges.specs.Wins.{Win, Wins, win_at, win_list_after, is_self_exchange, wins_after}
@@ -18,7 +16,8 @@ use Rattle.sound_state.proofs.shared.TurnEffects.{one_if-most}
 use Rattle.sound_state.proofs.shared.SumLemmas.{sum-most-but, sum-same, sum-change, callers-moved}
 use Rattle.lost_exchanges.proofs.DirtyLemmas.{dirty-same, clean-now}
 use Rattle.lost_exchanges.proofs.ExpectLemmas.{some-all}
-use Rattle.lost_exchanges.proofs.StepWins.{list-stays, list-longer, no-count, no-won, against-own, against-apart, noted-others, noted-apart, noted-own, note-seen, note-lost, note-confirmed}
+use Rattle.lost_exchanges.proofs.StepWins.{list-stays, list-longer, no-count, no-won, against-own, against-apart, noted-others, noted-apart, noted-own, note-seen}
+use Rattle.lost_exchanges.proofs.StepWins.{note-lost, note-confirmed}
 use Rattle.lost_exchanges.proofs.WinDefs.{LosesOn}
 
 -- a change that is won is no lost exchange, and no exchange of a number for itself
@@ -31,7 +30,7 @@ won-new (Cas name expected new) x won =
 won-new (Swap name new) x won = (refl, refl)
 won-new (And name mask) x won = (refl, refl)
 
--- so it doesn't count as lost
+-- a change that is won doesn't count as lost
 won-not-lost : (p : Point) (x : Found) → counts_won (plan_point_of p) x ≡ true → counts_lost p x ≡ false
 unfolding plan_point_of
 won-not-lost (Desc (desc.ReloadDescHead s d) o) x won = absurd (false≢true won)
@@ -47,7 +46,7 @@ lost-cases (Desc (desc.ReloadDescHead s d) o) x lost = inr (refl, refl)
 lost-cases (Large (large.PutBlock shelf place need) o) x lost = absurd (false≢true lost)
 lost-cases p x lost = inl lost
 
--- on another word than that of the step a pair is dirty if it was
+-- a step leaves the pairs of callers with other words than its own as dirty as they were
 dirty-apart :
     (g : Geometry) (s : State) (caller : ℕ) (w : Wins) → IsNoted g s w → (i : ℕ) (m : WordName) → m ≢ name_at s caller
     → is_dirty (wins_after s caller w) i m ≡ is_dirty w i m
@@ -56,7 +55,7 @@ dirty-apart g s caller w old i m differ =
     ∙ dirty-same w.list (option_to_list (win_at s caller)) i m (w.noted i m) (old.past i m)
     (no-count (is_against i m) s caller (against-apart s caller i m differ))
 
--- and so is one of another caller, where nothing is won
+-- a step that wins nothing leaves other callers' pairs as dirty as they were
 dirty-others :
     (g : Geometry) (s : State) (caller : ℕ) (w : Wins) → IsNoted g s w → counts_won (action_at s caller) (found_at s caller) ≡ false → (i : ℕ) (m : WordName)
     → i ≢ caller → is_dirty (wins_after s caller w) i m ≡ is_dirty w i m
@@ -72,7 +71,7 @@ own-lost s caller w lost =
     ap (dirty_since (win_list_after s caller w.list) caller (name_at s caller))
     (noted-own s caller w (name_at s caller) refl ∙ note-lost s caller (length (win_list_after s caller w.list)) (w.noted caller (name_at s caller)) lost)
 
--- and where it saw or changed the word
+-- the caller's own pair with its word is clean where it saw or changed the word
 own-seen :
     (s : State) (caller : ℕ) (w : Wins) → is_lost_exchange (action_at s caller) (found_at s caller) ≡ false → is_self_exchange (action_at s caller) ≡ false
     → is_dirty (wins_after s caller w) caller (name_at s caller) ≡ false
@@ -81,7 +80,7 @@ own-seen s caller w kept new =
     (noted-own s caller w (name_at s caller) refl ∙ note-seen s caller (length (win_list_after s caller w.list)) (w.noted caller (name_at s caller)) kept new)
     ∙ clean-now (win_list_after s caller w.list) caller (name_at s caller)
 
--- what it confirmed is as it was
+-- the caller's own pair is as dirty as it was after an exchange of a number for itself that isn't lost
 own-confirmed :
     (g : Geometry) (s : State) (caller : ℕ) (w : Wins) → IsNoted g s w → is_lost_exchange (action_at s caller) (found_at s caller) ≡ false
     → is_self_exchange (action_at s caller) ≡ true → is_dirty (wins_after s caller w) caller (name_at s caller) ≡ is_dirty w caller (name_at s caller)
@@ -92,7 +91,7 @@ own-confirmed g s caller w old kept same =
     ∙ dirty-same w.list (option_to_list (win_at s caller)) caller m (w.noted caller m) (old.past caller m)
     (no-count (is_against caller m) s caller (against-own s caller m))
 
--- so the own pair is no more dirty than it was
+-- the caller's own pair with its word is no more dirty than it was
 own-most :
     (g : Geometry) (s : State) (caller : ℕ) (w : Wins) → IsNoted g s w
     → one_if (is_dirty (wins_after s caller w) caller (name_at s caller)) ≤ one_if (is_dirty w caller (name_at s caller))
@@ -106,7 +105,7 @@ own-most g s caller w old =
           ]
     ]
 
--- where it counts as lost the own pair was dirty, and is clean
+-- a step that counts as lost found its caller's own pair dirty, and leaves it clean
 pub was-dirty :
     (g : Geometry) (s : State) (caller : ℕ) (w : Wins) → caller < g.callers → IsNoted g s w → LosesOn (s.errand caller).point (word_at s caller)
     → counts_lost (s.errand caller).point (found_at s caller) ≡ true → is_dirty w caller (name_at s caller) ≡ true
@@ -128,7 +127,7 @@ now-clean s caller w lost =
       | inr seen ↦ own-seen s caller w seen.0 seen.1
     ]
 
--- on its word no more pairs are dirty after a win than there are other callers
+-- after a win no more pairs are dirty on its word than there are other callers
 on-won :
     (g : Geometry) (s : State) (caller : ℕ) (w : Wins) → caller < g.callers → counts_won (action_at s caller) (found_at s caller) ≡ true
     → dirty_on g (wins_after s caller w) (name_at s caller) + 1 ≤ g.callers
@@ -140,7 +139,7 @@ on-won g s caller w has won =
           (λ i lt. one_if-most (is_dirty (wins_after s caller w) i (name_at s caller))),
     )
 
--- where nothing is won the own pair alone changes
+-- a step that wins nothing changes at most the caller's own pair on its word
 on-none :
     (g : Geometry) (s : State) (caller : ℕ) (w : Wins) → caller < g.callers → IsNoted g s w → counts_won (action_at s caller) (found_at s caller) ≡ false
     → dirty_on g (wins_after s caller w) (name_at s caller) + one_if (is_dirty w caller (name_at s caller))
@@ -149,7 +148,7 @@ on-none g s caller w has old none =
     sum-change g.callers (λ i. one_if (is_dirty w i (name_at s caller))) (λ i. one_if (is_dirty (wins_after s caller w) i (name_at s caller))) caller has
     (λ i lt other. ap one_if (dirty-others g s caller w old none i (name_at s caller) other))
 
--- on every other word all stay
+-- on every other word than the step's all pairs stay
 on-apart :
     (g : Geometry) (s : State) (caller : ℕ) (w : Wins) → IsNoted g s w → (m : WordName) → m ≢ name_at s caller
     → dirty_on g (wins_after s caller w) m ≡ dirty_on g w m
@@ -157,7 +156,7 @@ on-apart g s caller w old m differ =
     sum-same g.callers (λ i. one_if (is_dirty w i m)) (λ i. one_if (is_dirty (wins_after s caller w) i m))
     (λ i lt. ap one_if (dirty-apart g s caller w old i m differ))
 
--- so all pairs change as those on its word do
+-- all dirty pairs change in a step as those on its word do
 pairs-changed :
     (g : Geometry) (s : State) (caller : ℕ) (w : Wins) → Exists g (name_at s caller) → IsNoted g s w
     → dirty_pairs g (wins_after s caller w) + dirty_on g w (name_at s caller) ≡ dirty_pairs g w + dirty_on g (wins_after s caller w) (name_at s caller)
@@ -171,7 +170,7 @@ pairs-changed g s caller w exists old =
     λ m. dirty_pairs g (wins_after s caller w) + dirty_on g w m ≡ dirty_pairs g w + dirty_on g (wins_after s caller w) m in
     subst P (word_name-word_index g n exists) changed
 
--- what all callers lost changes as the caller's count does
+-- what all callers lost changes in a step as its caller's count does
 losses-after :
     (g : Geometry) (s : State) (caller : ℕ) (s' : State) → caller < g.callers → Step s caller s'
     → callers_sum g lost_of s'.errand + (s.errand caller).lost
@@ -209,7 +208,7 @@ pairs-after g s caller w has exists loses noted =
           ]
     ]
 
--- the list is longer by what is won
+-- the list of wins is longer after a step by what its caller wins
 list-length :
     (s : State) (caller : ℕ) (list : List Win)
     → length (win_list_after s caller list) ≡ length list + one_if (counts_won (action_at s caller) (found_at s caller))

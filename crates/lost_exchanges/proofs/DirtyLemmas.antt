@@ -1,6 +1,5 @@
 -- Whether another caller has won on a word since a note: what one more win changes, and what it leaves.
-use Rattle.std.proofs.Common.{ℕ, false, Option, Some, None, ◌≡◌, ◌<◌, ◌≤◌, List, ◌++◌, length, drop, refl, arith, ap, nat_lt, count_by, IsTrue}
-use Rattle.std.proofs.lemmas.Bool.{lt-ltb, ltb-true}
+use Rattle.std.proofs.Common.{ℕ, false, Option, Some, None, ◌≡◌, ◌<◌, ◌≤◌, List, ◌++◌, length, drop, refl, arith, ap, nat_lt, count_by, IsTrue, lt-ltb, ltb-true}
 use Rattle.std.proofs.lemmas.List.{drop_all}
 use Rattle.word_table.specs.declared.name.WordName.{WordName}
 use Rattle.lost_exchanges.specs.Contention.{is_against, dirty_since}
@@ -11,7 +10,7 @@ use Rattle.lost_exchanges.proofs.CountLemmas.{count-behind}
 abbrev pub IsPast : List Win → Option ℕ → Type 0
 IsPast list o = (wins : ℕ) → o ≡ Some wins → wins ≤ length list
 
--- another caller's win stays one
+-- a word on which another caller has won since a note stays dirty as wins are added
 pub dirty-stays :
     (list more : List Win) (caller : ℕ) (m : WordName) (o : Option ℕ) → IsPast list o → IsTrue (dirty_since list caller m o)
     → IsTrue (dirty_since (list ++ more) caller m o)
@@ -21,7 +20,7 @@ dirty-stays list more caller m (Some wins) past dirty =
     let some = ltb-true 0 (count_by (is_against caller m) (drop wins list)) dirty in
     lt-ltb 0 (count_by (is_against caller m) (drop wins (list ++ more))) (omega (arith, behind, some))
 
--- wins that aren't against the caller on the word change nothing there
+-- wins that aren't against the caller on the word leave it as dirty as it was
 pub dirty-same :
     (list more : List Win) (caller : ℕ) (m : WordName) (o : Option ℕ) → IsPast list o → count_by (is_against caller m) more ≡ 0
     → dirty_since (list ++ more) caller m o ≡ dirty_since list caller m o
@@ -32,7 +31,7 @@ dirty-same list more caller m (Some wins) past none =
     omega (arith, behind, none) in
     ap (nat_lt 0) same
 
--- a win against the caller on the word is one since every note
+-- a win against the caller on the word makes it dirty since every note
 pub dirty-now :
     (list more : List Win) (caller : ℕ) (m : WordName) (wins : ℕ) → wins ≤ length list → 0 < count_by (is_against caller m) more
     → IsTrue (dirty_since (list ++ more) caller m (Some wins))
@@ -40,6 +39,6 @@ dirty-now list more caller m wins within some =
     lt-ltb 0 (count_by (is_against caller m) (drop wins (list ++ more)))
     (omega (arith, count-behind (is_against caller m) list more wins within, some))
 
--- nothing is won since the note of all wins
+-- a word is clean since a note of all wins
 pub clean-now : (list : List Win) (caller : ℕ) (m : WordName) → dirty_since list caller m (Some (length list)) ≡ false
 clean-now list caller m = ap (λ xs. nat_lt 0 (count_by (is_against caller m) xs)) (drop_all (length list) list (omega arith))

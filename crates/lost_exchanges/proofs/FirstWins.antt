@@ -1,17 +1,14 @@
 -- Before the first step nothing is won.
-use Rattle.std.proofs.Common.{ℕ, ◌≡◌, ◌<◌, refl, arith, ap, sym, subst, All, IsTrue}
-use Rattle.std.proofs.lemmas.Bool.{true≢false}
+use Rattle.std.proofs.Common.{ℕ, ◌≡◌, ◌<◌, refl, arith, ap, sym, subst, All, IsTrue, true≢false}
 use Rattle.std.proofs.lemmas.List.Elements.{All-nil}
-use Rattle.sound_state.proofs.Common.{Geometry, WordName, word_count, word_name, State, turn_stage_of}
-use Rattle.errand_steps.specs.Openings.{IsOpening}
+use Rattle.sound_state.proofs.Common.{Geometry, WordName, word_count, word_name, State, turn_stage_of, IsOpening, is_seeking}
 use Rattle.lost_exchanges.specs.Contention.{IsExpected, dirty_on, dirty_pairs, lost_of}
 use Rattle.lost_exchanges.specs.Expectations.{expects_of}
-use Rattle.sound_state.specs.TurnStages.{is_seeking}
 use Rattle.lost_exchanges.specs.Wins.{no_wins}
 use Rattle.lost_exchanges.specs.Won.{IsWon}
 use Rattle.sound_state.proofs.shared.SumLemmas.{sum-none, callers-none}
 
--- no note is dirty
+-- no pair is dirty where nothing is won or noted
 none-dirty : (g : Geometry) → dirty_pairs g no_wins ≡ 0
 none-dirty g = sum-none (word_count g) (λ k. dirty_on g no_wins (word_name g k)) (λ k lt. sum-none g.callers _ (λ caller has. refl))
 

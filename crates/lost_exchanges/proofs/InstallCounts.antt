@@ -1,9 +1,8 @@
 -- How one more win and one more event are counted.
-use Rattle.std.proofs.Common.{ℕ, Bool, true, false, cond, Option, Some, None, ◌≡◌, ◌≢◌, ◌≤◌, ◌+◌, List, refl, arith, sym, ◌&&◌, if◌then◌else◌, count_by, IsTrue}
-use Rattle.std.proofs.lemmas.Bool.{eq-eqb, ne_eqb}
+use Rattle.std.proofs.Common.{ℕ, Bool, true, false, cond, Option, Some, None, ◌≡◌, ◌≢◌, ◌≤◌, ◌+◌, List, refl, arith, sym, ◌&&◌, if◌then◌else◌, count_by, IsTrue, eq-eqb}
+use Rattle.std.proofs.Common.{ne_eqb}
 use Rattle.std.proofs.lemmas.List.Sums.{sum_by_push}
-use Rattle.sound_state.proofs.Common.{WordName, Event, State, with_event, action_at, found_at, name_at, one_if, gives_small, refuses_small}
-use Rattle.errand_steps.specs.Errands.{counts_won}
+use Rattle.sound_state.proofs.Common.{WordName, Event, State, with_event, action_at, found_at, name_at, one_if, gives_small, refuses_small, counts_won}
 use Rattle.lost_exchanges.specs.Installs.{installs_by, installs_against, installs_on}
 use Rattle.lost_exchanges.specs.Wins.{Win, win_at, offers}
 use Rattle.lost_exchanges.proofs.ActiveChanges.{install-won}
@@ -11,12 +10,12 @@ use Rattle.lost_exchanges.proofs.CountLemmas.{counted, count-most}
 use Rattle.lost_exchanges.proofs.SameNames.{same-name-refl}
 use Rattle.lost_exchanges.proofs.WinDefs.{given_by, refused_by}
 
--- an install of others on a word is one of others
+-- as many installs of others at most are on a word as there are
 pub on-against : (caller : ℕ) (word : WordName) (xs : List Win) → count_by (installs_on caller word) xs ≤ count_by (installs_against caller) xs
 on-against caller word xs =
     count-most (installs_on caller word) (installs_against caller) xs (λ x. grind (arith))
 
--- with one more event
+-- the small blocks given to a caller and refused to it are counted with one more event
 pub count-gives :
     (caller : ℕ) (history : List Event) (o : Option Event)
     → count_by (gives_small caller) (with_event history o) ≡ count_by (gives_small caller) history + given_by caller o
@@ -29,7 +28,7 @@ pub count-refuses :
 count-refuses caller history None = omega arith
 count-refuses caller history (Some e) = sum_by_push (λ x. cond (refuses_small caller x) 1 0) history e
 
--- a caller's win counts for it where it is an offer that was won, and never against it
+-- a caller's win counts as its install where it is an offer that was won, and never against it
 by-offer : (caller : ℕ) (word : WordName) (b won : Bool)
     → counted (installs_by caller) (if won then Some (record { caller = caller; word = word; install = b }) else None) ≤ one_if (b && won)
 by-offer caller word b won = grind (arith)
@@ -48,7 +47,7 @@ no-install-against-own caller word b false = refl
 pub none-against : (s : State) (caller : ℕ) → counted (installs_against caller) (win_at s caller) ≡ 0
 none-against s caller = no-install-against-own caller (name_at s caller) (offers (s.errand caller).point) (counts_won (action_at s caller) (found_at s caller))
 
--- another caller's win doesn't count for a caller
+-- another caller's win doesn't count as an install of a caller
 by-other : (caller i : ℕ) (word : WordName) (b won : Bool) → i ≢ caller
     → counted (installs_by i) (if won then Some (record { caller = caller; word = word; install = b }) else None) ≡ 0
 by-other caller i word b true ne = rw (ne_eqb caller i (λ same. ne (sym same))) (grind (arith))
@@ -57,7 +56,7 @@ by-other caller i word b false ne = refl
 pub other-install : (s : State) (caller i : ℕ) → i ≢ caller → counted (installs_by i) (win_at s caller) ≡ 0
 other-install s caller i ne = by-other caller i (name_at s caller) (offers (s.errand caller).point) (counts_won (action_at s caller) (found_at s caller)) ne
 
--- an install that was won counts against each other caller on its word
+-- an install that was won counts on its word against each other caller
 pub installs-there :
     (s : State) (caller i : ℕ) → i ≢ caller → IsTrue (offers (s.errand caller).point) → counts_won (action_at s caller) (found_at s caller) ≡ true
     → counted (installs_on i (name_at s caller)) (win_at s caller) ≡ 1

@@ -1,14 +1,11 @@
 -- A step keeps what bounds the turns by the installs.
-use Rattle.std.proofs.Common.{ℕ, false, Some, None, ◌≡◌, ◌≢◌, ◌<◌, ◌≤◌, ◌+◌, List, length, take, drop, refl, arith, ap, sym, subst, inl, inr, ◌∙◌}
-use Rattle.std.specs.Prelude.{◌&&◌, ◌==◌, not, All, Any, count_by, IsTrue}
-use Rattle.std.proofs.lemmas.Bool.{cases_Bool, eq-eqb, ne_eqb, cond-true, cond-false}
-use Rattle.std.proofs.lemmas.List.{take_all}
+use Rattle.std.proofs.Common.{ℕ, false, Some, None, ◌≡◌, ◌≢◌, ◌<◌, ◌≤◌, ◌+◌, List, length, take, drop, refl, arith, ap, sym, subst, inl, inr, ◌∙◌, ◌&&◌, ◌==◌, not, All}
+use Rattle.std.proofs.Common.{Any, count_by, IsTrue, eq-eqb, ne_eqb, take_all}
+use Rattle.std.proofs.lemmas.Bool.{cases_Bool, cond-true, cond-false}
 use Rattle.sound_state.proofs.Common.{Geometry, Null, active_word, after_action, cases_name, ErrandFields, FitsPoint, State, Step, action_at, name_at, word_at}
-use Rattle.sound_state.proofs.Common.{found_at, turn_stage_of, one_if, gives_small, refuses_small}
+use Rattle.sound_state.proofs.Common.{found_at, turn_stage_of, one_if, gives_small, refuses_small, is_seeking, turn_unanswered, errand_discards}
 use Rattle.lost_exchanges.specs.Expectations.{Expected, expects_of}
 use Rattle.lost_exchanges.specs.Installs.{IsInstalled, HoldsSince, IsInstalledSince, IsActiveName, installs_by, installs_against, installs_on, errand_offers}
-use Rattle.sound_state.specs.TurnStages.{is_seeking}
-use Rattle.sound_state.specs.Turns.{turn_unanswered, errand_discards}
 use Rattle.lost_exchanges.specs.Wins.{Win, Wins, win_at, wins_after, win_list_after, found_none_by, found_none_after, is_between}
 use Rattle.sound_state.proofs.shared.CallerLemmas.{each-other}
 use Rattle.sound_state.proofs.shared.ListFacts.{any-none}
@@ -21,13 +18,13 @@ use Rattle.lost_exchanges.proofs.StepWins.{list-least}
 use Rattle.lost_exchanges.proofs.ExpectLemmas.{in-all}
 use Rattle.lost_exchanges.proofs.WinDefs.{IsCarried, IsSeen, MayExpect, offers_new, looks_active}
 
--- what the step sees or leaves is as expected
+-- what the step sees or leaves of an active word is as expected
 seen-installed :
     (s : State) (caller : ℕ) (s' : State) (list : List Win) (n : ℕ) (e : Expected) → Step s caller s'
     → IsSeen (action_at s caller) (found_at s caller) e → IsInstalledSince s' list caller n e
 seen-installed s caller s' list n e step seen = λ active null differs. absurd (differs (ap s'.word seen.word ∙ step.word.here ∙ seen.value))
 
--- what a caller expected before, of another word than the step's
+-- what a caller expected of another active word than the step's is as expected, or another has installed there since
 carried-installed :
     (s : State) (w : Wins) (caller : ℕ) (s' : State) (n : ℕ) (e : Expected) → Step s caller s' → HoldsSince s w caller n
     → IsCarried (s.errand caller).point (name_at s caller) e → IsInstalledSince s' (win_list_after s caller w.list) caller n e
@@ -37,7 +34,7 @@ carried-installed s w caller s' n e step since carried = λ active null differs.
     in-all (IsInstalledSince s w.list caller n) (expects_of (s.errand caller).point) e since.installed carried.0 active null (λ is. differs (same ∙ is)) in
     omega (arith, before, drop-win (installs_on caller e.word) n w.list (win_at s caller) since.past)
 
--- the discards of a step that loses no new superblock, and of one that does
+-- the discards of a caller are at most the installs of others since its note, after its step
 discards-after :
     (s : State) (w : Wins) (caller : ℕ) (s' : State) (n : ℕ) → Turned s caller s' → HoldsSince s w caller n
     → errand_discards (settled s caller) ≤ count_by (installs_against caller) (drop n (win_list_after s caller w.list))
@@ -65,11 +62,11 @@ record HoldsSinceBy (s : State) (list : List Win) (caller n : ℕ) (e : ErrandFi
   installed : All (IsInstalledSince s list caller n) (expects_of e.point)
   discards : errand_discards e ≤ count_by (installs_against caller) (drop n list)
 
--- so it is since
+-- what HoldsSince says of an errand holds of the caller's own
 holds-since : (s : State) (w : Wins) (caller n : ℕ) → HoldsSinceBy s w.list caller n (s.errand caller) → HoldsSince s w caller n
 holds-since s w caller n h = record { past = h.past; turns = h.turns; installed = h.installed; discards = h.discards }
 
--- the caller still seeks what it sought
+-- a caller that still is in its turn after a step keeps what held since its note
 still-since :
     (s : State) (w : Wins) (caller : ℕ) (s' : State) (n : ℕ) → Turned s caller s' → Step s caller s' → HoldsSince s w caller n
     → is_between (settled s caller).point ≡ false
@@ -86,7 +83,7 @@ still-since s w caller s' n h step since inside expects = record {
   discards = discards-after s w caller s' n h since;
 }
 
--- it finds none active now
+-- a caller that finds no superblock active now notes so, and it holds since
 newly-since :
     (g : Geometry) (s : State) (w : Wins) (caller : ℕ) (s' : State) → caller < g.callers → Turned s caller s' → Step s caller s' → IsInstalled g s w
     → IsTrue (looks_active (s.errand caller).point)
@@ -108,7 +105,7 @@ newly-since g s w caller s' has h step old looks expects =
           omega (arith, h.settles.to.discards, h.goes.discards, only.discards, none);
     }
 
--- what another caller expects: the step leaves it so, or installs a superblock there
+-- a step leaves what another caller expects of an active word, or installs a superblock there
 other-installed :
     (s : State) (w : Wins) (caller : ℕ) (s' : State) (i n : ℕ) (e : Expected) → Step s caller s' → i ≢ caller → n ≤ length w.list
     → IsInstalledSince s w.list i n e → IsInstalledSince s' (win_list_after s caller w.list) i n e
@@ -127,7 +124,7 @@ other-installed s w caller s' i n e step ne past installed active null differs =
       | inr apart ↦ omega (arith, installed active null (λ same. differs (step.word.elsewhere e.word apart ∙ same)), longer)
     ]
 
--- and what it noted of the superblock that it seeks
+-- a step keeps what holds since another caller's note
 other-since :
     (s : State) (w : Wins) (caller : ℕ) (s' : State) (i n : ℕ) → Turned s caller s' → Step s caller s' → i ≢ caller → HoldsSince s w i n
     → HoldsSinceBy s' (win_list_after s caller w.list) i n (s.errand i)
@@ -138,7 +135,7 @@ other-since s w caller s' i n h step ne since = record {
   discards = omega (arith, since.discards, drop-win (installs_against i) n w.list (win_at s caller) since.past);
 }
 
--- what is noted after the step: of its caller, and of another one
+-- what its caller has noted after a step of finding none active; what another caller has noted
 found_none-own :
     (s : State) (w : Wins) (caller n : ℕ) → (wins_after s caller w).found_none caller ≡ Some n
     → (is_between (settled s caller).point ≡ false)
@@ -155,7 +152,7 @@ found_none-own s w caller n is =
       | inr inside ↦ (inside, sym (cond-false _ _ _ inside) ∙ own)
     ]
 
--- the other way round
+-- what its caller notes in a step is its note afterwards; another caller's note stays
 own-note :
     (s : State) (w : Wins) (caller n : ℕ) → is_between (settled s caller).point ≡ false
     → found_none_by (s.errand caller).point (found_at s caller) (length (win_list_after s caller w.list)) (w.found_none caller) ≡ Some n
@@ -165,7 +162,7 @@ own-note s w caller n inside is = cond-true _ _ _ (eq-eqb caller caller refl) �
 other-note : (s : State) (w : Wins) (caller i : ℕ) → i ≢ caller → (wins_after s caller w).found_none i ≡ w.found_none i
 other-note s w caller i ne = cond-false _ _ _ (ne_eqb i caller ne)
 
--- its caller, where it noted so many wins
+-- what a caller has noted after its step holds since so many wins
 own-since :
     (g : Geometry) (s : State) (w : Wins) (caller : ℕ) (s' : State) (n : ℕ) → caller < g.callers → Turned s caller s' → Step s caller s' → IsInstalled g s w
     → All (MayExpect (s.errand caller).point (action_at s caller) (found_at s caller)) (expects_of (settled s caller).point)
@@ -179,7 +176,7 @@ own-since g s w caller s' n has h step old expects is =
           (newly-since g s w caller s' has h step old looks.0 expects)
     ]
 
--- who seeks a superblock has noted when it found none active
+-- a caller that seeks a superblock after its step has noted when it found none active
 own-seeking :
     (g : Geometry) (s : State) (w : Wins) (caller : ℕ) (s' : State) → caller < g.callers → Turned s caller s' → IsInstalled g s w
     → IsTrue (is_seeking (turn_stage_of (settled s caller).point)) → (n : ℕ) × ((wins_after s caller w).found_none caller ≡ Some n)
@@ -200,7 +197,7 @@ own-seeking g s w caller s' has h old seeks =
       )
     ]
 
--- each step keeps it, where what its caller expects after it is carried or seen
+-- each step keeps what bounds turns by installs, where what its caller expects after it is carried or seen
 pub step-installed :
     (g : Geometry) (s : State) (w : Wins) (caller : ℕ) (s' : State) → caller < g.callers → FitsPoint g caller (s.errand caller).point → Step s caller s'
     → IsInstalled g s w → All (MayExpect (s.errand caller).point (action_at s caller) (found_at s caller)) (expects_of (settled s caller).point)

@@ -1,6 +1,5 @@
 -- Callers lose no more than others win.
-use Rattle.std.proofs.Common.{ℕ, ◌≡◌, ◌<◌, ◌≤◌, ◌*◌, List, [], ◌∷◌, length, refl, arith, ◌-◌, ◌^◌, All, count_by, min}
-use Rattle.std.proofs.lemmas.Bool.{eq-eqb}
+use Rattle.std.proofs.Common.{ℕ, ◌≡◌, ◌<◌, ◌≤◌, ◌*◌, List, [], ◌∷◌, length, refl, arith, ◌-◌, ◌^◌, All, count_by, min, eq-eqb}
 use Rattle.std.proofs.lemmas.List.Elements.{All-head, All-tail}
 use Rattle.sound_state.proofs.Common.{Geometry, State, sum_below, callers_sum}
 use Rattle.lost_exchanges.specs.Contention.{is_by, lost_of, won_of}
@@ -9,7 +8,7 @@ use Rattle.lost_exchanges.specs.Won.{IsWon}
 use Rattle.sound_state.proofs.shared.SumLemmas.{sum-same, term-sum}
 use Rattle.lost_exchanges.proofs.CountLemmas.{counts-first, count-one}
 
--- each win is one of its caller's
+-- there are no more wins than those of each caller together
 all-won :
     (n : ℕ) (xs : List Win) → All (λ x. x.caller < n) xs → length xs ≤ sum_below n (λ caller. count_by (is_by caller) xs)
 all-won n [] all = omega arith
@@ -23,7 +22,7 @@ all-won n (x ∷ xs) all =
       count-one (is_by x.caller) x (eq-eqb x.caller x.caller refl),
     )
 
--- what is won counts each win, where no count is at its end
+-- a count of wins that isn't at its end is their number
 won-counted : (won count : ℕ) → won ≡ min count (2 ^ 64 - 1) → won < 2 ^ 64 - 1 → count ≡ won
 won-counted won count is below = grind (arith, is, below)
 

@@ -2,11 +2,10 @@
 use Rattle.std.proofs.Common.{ℕ, ◌≡◌, List, [], ◌∷◌, ◌++◌, refl, ap, sym, subst, inl, inr, ◌∙◌}
 use Rattle.std.proofs.Math.Path.{fun_ext}
 use Rattle.std.proofs.lemmas.Bool.{cases_eq}
-use Rattle.sound_state.proofs.Common.{Geometry, WordName, Writes, cases_name, Event, ErrandFields, State, Step, Moves, IsSound}
+use Rattle.sound_state.proofs.Common.{Geometry, WordName, Writes, cases_name, Event, ErrandFields, State, Step, Moves, IsSound, Move, begins, steps, Moved, Reaches}
+use Rattle.sound_state.proofs.Common.{with_errands}
 use Rattle.errand_steps.specs.Steps.{IsSame}
 use Rattle.lost_exchanges.specs.Made.{ReachesWith, made_by}
-use Rattle.sound_state.specs.Runs.{Move, begins, steps, Moved, Reaches}
-use Rattle.sound_state.specs.Sound.{with_errands}
 use Rattle.lost_exchanges.specs.Wins.{Wins}
 use Rattle.lost_exchanges.specs.Won.{IsWon}
 use Rattle.sound_state.proofs.CountedLemmas.{without-counts}
@@ -17,7 +16,7 @@ use Rattle.lost_exchanges.proofs.WonSteps.{steps-won}
 abbrev state_with : (WordName → ℕ) → (ℕ → ErrandFields) → List Event → State
 state_with words errands history = record { word = words; errand = errands; history = history }
 
--- one word is written in one way, and one errand moved in one way
+-- one word is written in one way only, and one errand is moved in one way only
 writes-one :
     (before a b : WordName → ℕ) (name : WordName) (value : ℕ) → Writes before name value a → Writes before name value b → (n : WordName)
     → a n ≡ b n
@@ -36,14 +35,14 @@ moves-one before a b caller e first second other =
       | inr differ ↦ first.elsewhere other differ ∙ sym (second.elsewhere other differ)
     ]
 
--- a state is its words, its errands and its events
+-- two states with the same words, errands and events are one
 pub same-one : (a b : State) → IsSame a b → a ≡ b
 same-one a b same =
     let words = ap (λ w. state_with w a.errand a.history) (fun_ext same.word) in
     let errands = ap (λ e. state_with b.word e a.history) (fun_ext same.errand) in
     words ∙ (errands ∙ ap (λ h. state_with b.word b.errand h) same.history)
 
--- so a step has one outcome, and a move has one
+-- a caller's step has one outcome only, and so has a move
 pub step-one : (s a b : State) (caller : ℕ) → Step s caller a → Step s caller b → a ≡ b
 step-one s a b caller first second =
     same-one a b
@@ -59,7 +58,7 @@ moved-one g s a b (begins caller call) first second =
     ∙ (ap (with_errands s) (fun_ext (moves-one s.errand first.1.errands second.1.errands caller _ first.1.moves second.1.moves)) ∙ sym second.1.after)
 moved-one g s a b (steps caller) first second = step-one s a b caller first.1 second.1
 
--- every run makes a list
+-- every run makes a list of wins
 pub reached-made :
     (g : Geometry) (s : State) (w : Wins) (moves : List Move) (s' : State) → Reaches g s moves s'
     → (w' : Wins) × ReachesWith g s w moves s' w'
@@ -68,13 +67,13 @@ reached-made g s w (move ∷ rest) s' (next, moved, reached) =
     let (w', made) = reached-made g next (made_by s move w) rest s' reached in
     (w', (next, moved, made))
 
--- what makes it is a run
+-- moves that make a list of wins are a run
 pub made-reached :
     (g : Geometry) (s : State) (w : Wins) (moves : List Move) (s' : State) (w' : Wins) → ReachesWith g s w moves s' w' → Reaches g s moves s'
 made-reached g s w [] s' w' made = made.0
 made-reached g s w (move ∷ rest) s' w' (next, moved, made) = (next, moved, made-reached g next (made_by s move w) rest s' w' made)
 
--- one more move
+-- a run that makes a list makes a longer one by one more move
 pub made-more :
     (g : Geometry) (s : State) (w : Wins) (moves : List Move) (s' : State) (w' : Wins) (move : Move) (t : State)
     → ReachesWith g s w moves s' w' → Moved g s' move t → ReachesWith g s w (moves ++ move ∷ []) t (made_by s' move w')
@@ -83,7 +82,7 @@ made-more g s w [] s' w' move t made moved =
 made-more g s w (first ∷ rest) s' w' move t (next, is, made) moved =
     (next, is, made-more g next (made_by s first w) rest s' w' move t made moved)
 
--- there is one state that the moves lead to, and one list that they make
+-- moves from a state lead to one state only, and make one list only
 pub made-one :
     (g : Geometry) (s : State) (w : Wins) (moves : List Move) (a b : State) (u v : Wins) → ReachesWith g s w moves a u
     → ReachesWith g s w moves b v → (a ≡ b) × (u ≡ v)
@@ -99,7 +98,7 @@ moved-won :
 moved-won g s w (begins caller call) s' sound won moved = begins-won g s w caller call s' won moved.0 moved.1
 moved-won g s w (steps caller) s' sound won moved = steps-won g s w caller s' (without-counts g s sound) won moved.0 moved.1
 
--- and so does a run
+-- a run keeps what was won and noted
 pub made-won :
     (g : Geometry) (s : State) (w : Wins) (moves : List Move) (s' : State) (w' : Wins) → IsSound g s → IsWon g s w
     → ReachesWith g s w moves s' w' → IsWon g s' w'

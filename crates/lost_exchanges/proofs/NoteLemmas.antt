@@ -1,10 +1,10 @@
 -- A step keeps what the callers have noted of each other's wins.
-use Rattle.std.proofs.Common.{ℕ, Bool, true, false, Option, ◌≡◌, ◌≢◌, ◌<◌, ◌+◌, ◌-◌, ◌^◌, List, ◌++◌, length, refl, arith, ap, sym, subst, inl, inr, ◌∙◌}
-use Rattle.std.specs.Prelude.{min, count_by, option_to_list, All, IsTrue}
-use Rattle.std.proofs.lemmas.Bool.{cases_Bool, cases_eq, eq-eqb, ne_eqb}
+use Rattle.std.proofs.Common.{ℕ, Bool, true, false, Option, ◌≡◌, ◌≢◌, ◌<◌, ◌+◌, ◌-◌, ◌^◌, List, ◌++◌, length, refl, arith, ap, sym, subst, inl, inr, ◌∙◌, min, count_by}
+use Rattle.std.proofs.Common.{option_to_list, All, IsTrue, eq-eqb, ne_eqb}
+use Rattle.std.proofs.lemmas.Bool.{cases_Bool, cases_eq}
 use Rattle.std.proofs.lemmas.List.Elements.{All-append}
-use Rattle.sound_state.proofs.Common.{Geometry, WordName, cases_name, settle_of, raised, State, Step, action_at, name_at, word_at, found_at}
-use Rattle.errand_steps.specs.Errands.{counts_won, is_lost_exchange}
+use Rattle.sound_state.proofs.Common.{Geometry, WordName, cases_name, settle_of, raised, State, Step, action_at, name_at, word_at, found_at, counts_won}
+use Rattle.sound_state.proofs.Common.{is_lost_exchange}
 use Rattle.lost_exchanges.specs.Contention.{IsExpected, IsNoted, IsDirty, is_by, is_against, dirty_since}
 use Rattle.lost_exchanges.specs.Expectations.{Expected, expects_of}
 use Rattle.lost_exchanges.specs.Wins.{Win, Wins, win_at, win_list_after, note_at, is_self_exchange, wins_after}
@@ -12,7 +12,8 @@ use Rattle.sound_state.proofs.shared.CallerLemmas.{each-other}
 use Rattle.lost_exchanges.proofs.CountLemmas.{count-append}
 use Rattle.lost_exchanges.proofs.DirtyLemmas.{IsPast, dirty-stays, dirty-now}
 use Rattle.lost_exchanges.proofs.ExpectLemmas.{in-all}
-use Rattle.lost_exchanges.proofs.StepWins.{IsStore, word-stays, the_win, list-least, all-win, no-count, no-won, one-count, against-other, noted-others, noted-apart, noted-own, note-seen, note-lost, note-confirmed}
+use Rattle.lost_exchanges.proofs.StepWins.{IsStore, word-stays, the_win, list-least, all-win, no-count, no-won, one-count, against-other, noted-others, noted-apart}
+use Rattle.lost_exchanges.proofs.StepWins.{noted-own, note-seen, note-lost, note-confirmed}
 use Rattle.lost_exchanges.proofs.WinDefs.{IsSeen, MayExpect}
 
 -- the step carries or sees all that its caller expects after it
@@ -20,31 +21,31 @@ abbrev pub ExpectsAfter : State → ℕ → Type 0
 ExpectsAfter s caller =
     All (MayExpect (s.errand caller).point (action_at s caller) (found_at s caller)) (expects_of (settle_of (s.errand caller) (found_at s caller)).point)
 
--- where it stores, no other caller expects anything of its word
+-- a step that stores is into a word of which no other caller expects anything
 abbrev pub StoresAlone : Geometry → State → ℕ → Type 0
 StoresAlone g s caller =
     (other : ℕ) → other < g.callers → other ≢ caller
     → All (λ e. IsStore (action_at s caller) → e.word ≢ name_at s caller) (expects_of (s.errand other).point)
 
--- the caller's count of its wins
+-- the caller's count of its wins after its step
 own-won :
     (s : State) (caller : ℕ) (s' : State) → Step s caller s'
     → (s'.errand caller).won ≡ raised (counts_won (action_at s caller) (found_at s caller)) (s.errand caller).won
 unfolding settle_of
 own-won s caller s' step = ap (λ e. e.won) step.errand.here
 
--- a win raises it by one, up to its end
+-- a count of wins goes on being their number, up to its end, where a step wins one or none
 won-more :
     (b : Bool) (before after list list' : ℕ) → after ≡ raised b before → before ≡ min list (2 ^ 64 - 1) → (b ≡ true → list' ≡ list + 1)
     → (b ≡ false → list' ≡ list) → after ≡ min list' (2 ^ 64 - 1)
 won-more true before after list list' is was more same = omega (arith, is, was, more refl)
 won-more false before after list list' is was more same = omega (arith, is, was, same refl)
 
--- the caller's win is by it
+-- a caller's win is by that caller
 is-own : (s : State) (caller : ℕ) → is_by caller (the_win s caller) ≡ true
 is-own s caller = eq-eqb caller caller refl
 
--- each caller counts its own
+-- each caller counts its own wins after a step
 won-after :
     (g : Geometry) (s : State) (caller : ℕ) (s' : State) (w : Wins) → caller < g.callers → Step s caller s' → IsNoted g s w → (i : ℕ) → i < g.callers
     → (s'.errand i).won ≡ min (count_by (is_by i) (win_list_after s caller w.list)) (2 ^ 64 - 1)
@@ -59,7 +60,7 @@ won-after g s caller s' w has step old =
     (λ none. omega (arith, both caller, no-won (is_by caller) s caller none)))
     (λ i has_i other. omega (arith, both i, no-count (is_by i) s caller (ne_eqb caller i (λ is. other (sym is))), old.won i has_i))
 
--- no note is of wins to come
+-- no note is of wins to come after a step
 note-past :
     (s : State) (caller : ℕ) (list : List Win) (old : Option ℕ) → IsPast list old
     → IsPast (win_list_after s caller list) (note_at s caller (length (win_list_after s caller list)) old)
@@ -96,7 +97,7 @@ past-after g s caller w old i m =
           ]
     ]
 
--- where the note stays, a win of another since stays one
+-- a pair that is dirty stays so where its note stays
 still-dirty :
     (g : Geometry) (s : State) (caller : ℕ) (w : Wins) → IsNoted g s w → (i : ℕ) (m : WordName)
     → (wins_after s caller w).noted i m ≡ w.noted i m → IsDirty w i m → IsDirty (wins_after s caller w) i m
@@ -104,7 +105,7 @@ still-dirty g s caller w old i m same dirty =
     subst (λ o. IsTrue (dirty_since (win_list_after s caller w.list) i m o)) (sym same)
     (dirty-stays w.list (option_to_list (win_at s caller)) i m (w.noted i m) (old.past i m) dirty)
 
--- what another caller expects
+-- what another caller expects is still noted and as expected, or dirty, after the step
 expected-others :
     (g : Geometry) (s : State) (caller : ℕ) (s' : State) (w : Wins) → Step s caller s' → IsNoted g s w → (i : ℕ) → i ≢ caller → (e : Expected)
     → (IsStore (action_at s caller) → e.word ≢ name_at s caller) → IsExpected s w i e → IsExpected s' (wins_after s caller w) i e
@@ -134,7 +135,7 @@ expected-others g s caller s' w step old i other e store h =
       ];
     }
 
--- what the caller expects, of another word than that of its step
+-- what its caller expected of another word than the step's is still noted and as expected, or dirty
 expected-carried :
     (g : Geometry) (s : State) (caller : ℕ) (s' : State) (w : Wins) → Step s caller s' → IsNoted g s w → (e : Expected)
     → e.word ≢ name_at s caller → IsExpected s w caller e → IsExpected s' (wins_after s caller w) caller e
@@ -149,7 +150,7 @@ expected-carried g s caller s' w step old e differ h =
       ];
     }
 
--- and of that word
+-- what a step sees is expected rightly after it
 expected-seen :
     (s : State) (caller : ℕ) (s' : State) (w : Wins) → Step s caller s' → (e : Expected) → IsSeen (action_at s caller) (found_at s caller) e
     → IsExpected s' (wins_after s caller w) caller e
@@ -179,7 +180,7 @@ expected-after g s caller s' w has step expects stores old =
     (λ i has_i other k d within.
     expected-others g s caller s' w step old i other _ (stores i has_i other k d within) (old.expected i has_i k d within))
 
--- a step keeps what is noted
+-- a step keeps what the callers have noted, where what its caller expects is carried or seen and it stores alone
 pub step-noted :
     (g : Geometry) (s : State) (caller : ℕ) (s' : State) (w : Wins) → caller < g.callers → Step s caller s' → ExpectsAfter s caller → StoresAlone g s caller
     → IsNoted g s w → IsNoted g s' (wins_after s caller w)

@@ -1,26 +1,22 @@
 -- What a caller expects after a step at a partial superblock it expected before, or its step saw it.
-use Rattle.std.proofs.Common.{ℕ, ◌≢◌, ◌<◌, ◌+◌, ◌^◌, refl, arith, All, ◌==◌}
-use Rattle.std.proofs.lemmas.Bool.{cond_both, eqb-true}
+use Rattle.std.proofs.Common.{ℕ, ◌≢◌, ◌<◌, ◌+◌, ◌^◌, refl, arith, All, ◌==◌, eqb-true}
+use Rattle.std.proofs.lemmas.Bool.{cond_both}
 use Rattle.sound_state.proofs.Common.{Geometry, anchor_word, anchor_of, name_of, info_in, active_name, PartialPoint, is_empty, Continuation, Partial, next_of}
-use Rattle.sound_state.proofs.Common.{plan_point_of}
+use Rattle.sound_state.proofs.Common.{plan_point_of, Onward, desc_named, anchor_in, slot_name, PartialExit, plan_partial_of, seat_of_partial, slot_of, FitsInPartial}
+use Rattle.sound_state.proofs.Common.{enter_partial}
 use Rattle.word_table.specs.declared.name.WordName.TheVariants as name
-use Rattle.word_table.specs.declared.onward.Onward.{Onward}
 use Rattle.word_table.specs.declared.onward.Onward.TheVariants.{Stays, Leaves}
-use Rattle.word_table.specs.Seats.{desc_named, anchor_in}
-use Rattle.word_table.specs.Sites.{slot_name}
-use Rattle.partial_parts.specs.declared.exit.PartialExit.{PartialExit}
 use Rattle.partial_parts.specs.declared.exit.PartialExit.TheVariants as exit
 use Rattle.partial_parts.specs.declared.point.PartialPoint.TheVariants as partial
 use Rattle.partial_parts.specs.Grants.{grant_more}
-use Rattle.partial_parts.specs.Points.{plan_partial_of, seat_of_partial, slot_of, after_kept, after_taken_info, after_live, after_owner, after_displaced}
-use Rattle.errand_steps.specs.Fits.{FitsInPartial}
-use Rattle.errand_steps.specs.Nexts.{enter_partial}
+use Rattle.partial_parts.specs.Points.{after_kept, after_taken_info, after_live, after_owner, after_displaced}
 use Rattle.lost_exchanges.specs.Expectations.{expects_of, continuation_expects}
-use Rattle.lost_exchanges.proofs.ExpectLemmas.{read-anchor, IsIn, MayOne, MayAll, all-in, all-in_rest, continuation-carried, load-seen, expects-none, option_both, named-desc, alloc-active}
+use Rattle.lost_exchanges.proofs.ExpectLemmas.{read-anchor, IsIn, MayOne, MayAll, all-in, all-in_rest, continuation-carried, load-seen, expects-none, option_both}
+use Rattle.lost_exchanges.proofs.ExpectLemmas.{named-desc, alloc-active}
 use Rattle.lost_exchanges.proofs.StackExpects.{put-leads}
 use Rattle.lost_exchanges.proofs.WinDefs.{ExpectsOn, next_expects}
 
--- what waits behind the part is expected in it
+-- what waits behind a part at a partial superblock is expected there
 partial-holds :
     (p : PartialPoint) (o : Continuation) → All (IsIn (expects_of (Partial p o))) (continuation_expects (seat_of_partial p) o)
 unfolding expects_of
@@ -30,14 +26,14 @@ partial-holds p o = grind (arith, all-in, all-in_rest)
 partial-apart : (p : PartialPoint) → active_name (seat_of_partial p) ≢ name_of (plan_partial_of p)
 partial-apart p = grind (arith)
 
--- where a step from p leads to the point q, or wherever it leads, it carries or sees all that its caller expects after it
+-- a step from p to the point q, or to n, carries or sees all that its caller expects after it
 abbrev PartialCarries : PartialPoint → Continuation → ℕ → PartialPoint → Type 0
 PartialCarries p o v q = MayAll (Partial p o) v (expects_of (Partial q o))
 
 abbrev PartialLeads : PartialPoint → Continuation → ℕ → Onward PartialPoint PartialExit → Type 0
 PartialLeads p o v n = MayAll (Partial p o) v (next_expects (enter_partial n o))
 
--- what waits behind the part is carried
+-- what waits behind a part at a partial superblock is carried by the step
 partial-continuation-carried : (p : PartialPoint) (o : Continuation) (v : ℕ) → MayAll (Partial p o) v (continuation_expects (seat_of_partial p) o)
 unfolding plan_point_of
 partial-continuation-carried p o v = continuation-carried (Partial p o) v (seat_of_partial p) o (partial-holds p o) (partial-apart p)
@@ -52,11 +48,6 @@ partial-expects g caller (partial.LoadSlot s) o v fits below =
     (λ some.
     option_both (after_kept s) (desc_named s.geometry v) (PartialCarries p o v) (partial-continuation-carried p o v)
     (λ d is. load-seen (Partial p o) v (slot_name s) (d + 1) (continuation_expects s o) refl (named-desc s.geometry v d is) (partial-continuation-carried p o v)))
-partial-expects g caller (partial.TakeSlot s d) o v fits below = grind (arith, partial-continuation-carried (partial.TakeSlot s d) o v)
-partial-expects g caller (partial.LoadTakenInfo s d) o v fits below =
-    let p = partial.LoadTakenInfo s d in
-    option_both (after_taken_info s d) (info_in s.geometry v) (PartialCarries p o v) (partial-continuation-carried p o v) (λ info is. partial-continuation-carried p o v)
-partial-expects g caller (partial.StoreOwner at) o v fits below = partial-continuation-carried (partial.StoreOwner at) o v
 partial-expects g caller (partial.LoadGrantAnchor at) o v fits below =
     let p = partial.LoadGrantAnchor at in
     cond_both (is_empty (anchor_of v).state) (Leaves (exit.TookEmpty at)) (Stays (after_live at (anchor_in at.seat.class v))) (PartialLeads p o v)
@@ -69,9 +60,6 @@ partial-expects g caller (partial.Grant at a) o v fits below =
     let p = partial.Grant at a in
     cond_both (v == anchor_word a) (Leaves (exit.Granted at (grant_more a.count))) (Stays (partial.LoadGrantAnchor at)) (PartialLeads p o v)
     (λ won. alloc-active (MayOne (Partial p o) v) at.seat o fits.goes (partial-continuation-carried p o v)) (λ lost. partial-continuation-carried p o v)
-partial-expects g caller (partial.LoadOwner s d) o v fits below =
-    let p = partial.LoadOwner s d in
-    option_both (after_owner s d) (info_in s.geometry v) (PartialCarries p o v) (partial-continuation-carried p o v) (λ info is. partial-continuation-carried p o v)
 partial-expects g caller (partial.PutSlot s d heap) o v fits below =
     let p = partial.PutSlot s d heap in
     cond_both (v == 0) (Leaves (exit.SlotFilled s)) (after_displaced s d heap (desc_named s.geometry v)) (PartialLeads p o v)
@@ -84,7 +72,10 @@ partial-expects g caller (partial.LoadHeldSlot s d heap) o v fits below =
     cond_both (v == d + 1) (Stays (partial.RemoveFromSlot s d heap)) (Leaves (exit.NotInSlot s)) (PartialLeads p o v)
     (λ same. load-seen (Partial p o) v (slot_of s heap) (d + 1) (continuation_expects s o) refl (eqb-true v (d + 1) same) (partial-continuation-carried p o v))
     (λ other. expects-none (Partial p o) v)
-partial-expects g caller (partial.RemoveFromSlot s d heap) o v fits below =
-    grind (arith, expects-none (Partial (partial.RemoveFromSlot s d heap) o) v)
-partial-expects g caller (partial.LoadListedAnchor s d) o v fits below =
-    grind (arith, expects-none (Partial (partial.LoadListedAnchor s d) o) v)
+partial-expects g caller (partial.LoadTakenInfo s d) o v fits below =
+    let p = partial.LoadTakenInfo s d in
+    option_both (after_taken_info s d) (info_in s.geometry v) (PartialCarries p o v) (partial-continuation-carried p o v) (λ info is. partial-continuation-carried p o v)
+partial-expects g caller (partial.LoadOwner s d) o v fits below =
+    let p = partial.LoadOwner s d in
+    option_both (after_owner s d) (info_in s.geometry v) (PartialCarries p o v) (partial-continuation-carried p o v) (λ info is. partial-continuation-carried p o v)
+partial-expects g caller p o v fits below = grind (arith, partial-continuation-carried p o v, expects-none (Partial p o) v)

@@ -1,11 +1,11 @@
 -- When two names are the same.
-use Rattle.std.proofs.Common.{true, false, ◌≡◌, ◌≢◌, refl, arith, ap, subst, inl, inr, ◌==◌}
-use Rattle.std.proofs.lemmas.Bool.{cases_Bool, eq-eqb, eqb-true, and_parts}
+use Rattle.std.proofs.Common.{true, false, ◌≡◌, ◌≢◌, refl, arith, ap, subst, inl, inr, ◌==◌, eq-eqb, eqb-true}
+use Rattle.std.proofs.lemmas.Bool.{cases_Bool, and_parts}
 use Rattle.word_table.specs.declared.name.WordName.{WordName}
 use Rattle.word_table.specs.declared.name.WordName.TheVariants.{Arena, Anchor, Next, Info, Active, Slot, ListHead, FrameNext, FrameHead, DescHead, Hazard, Units, Shelf}
 use Rattle.lost_exchanges.specs.Wins.{same_name}
 
--- names that pass the test are one
+-- two names that pass the test of being the same are one
 pub same-name-is : (m n : WordName) → same_name m n ≡ true → m ≡ n
 same-name-is (Arena a) (Arena b) is = ap Arena (eqb-true a b is)
 same-name-is (Anchor a) (Anchor b) is = ap Anchor (eqb-true a b is)
@@ -26,11 +26,11 @@ same-name-is Units Units is = refl
 same-name-is (Shelf a) (Shelf b) is = ap Shelf (eqb-true a b is)
 same-name-is m n is = cc
 
--- a name passes it with itself
+-- each name passes the test of being the same as itself
 pub same-name-refl : (m : WordName) → same_name m m ≡ true
 same-name-refl m = grind (arith, eq-eqb)
 
--- so two names that are one pass it, and two that differ don't
+-- two names that are one pass the test of being the same, and two that differ don't
 pub same-name-one : (m n : WordName) → m ≡ n → same_name m n ≡ true
 same-name-one m n is = subst (λ k. same_name m k ≡ true) is (same-name-refl m)
 

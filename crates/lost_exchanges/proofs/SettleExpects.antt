@@ -1,25 +1,14 @@
 -- What a caller expects after a step, where the retired list and the turn limit say how it goes on.
-use Rattle.std.proofs.Common.{ℕ, Bool, true, false, Option, Some, None, ◌≡◌, List, refl, ◌∙◌, arith, ap, sym, All}
-use Rattle.std.proofs.lemmas.Bool.{cond_both, true≢false}
+use Rattle.std.proofs.Common.{ℕ, Bool, true, false, Option, Some, None, ◌≡◌, List, refl, ◌∙◌, arith, ap, sym, All, true≢false}
+use Rattle.std.proofs.lemmas.Bool.{cond_both}
 use Rattle.std.proofs.lemmas.List.Elements.{All-nil}
-use Rattle.sound_state.proofs.Common.{Found, SeatFields, BlockPoint, StackPoint, DescPoint, PartialPoint, LargePoint, Continuation, Next, At, End, Retire, Pick}
-use Rattle.sound_state.proofs.Common.{Unlist, Point, ErrandFields, settle_of, course_of, next_of}
-use Rattle.word_table.specs.declared.onward.Onward.{Onward}
+use Rattle.sound_state.proofs.Common.{Found, SeatFields, BlockPoint, StackPoint, DescPoint, PartialPoint, LargePoint, Continuation, Next, At, End, Retire, Pick, Unlist}
+use Rattle.sound_state.proofs.Common.{Point, ErrandFields, settle_of, course_of, next_of, Onward, settle_block_of, StackExit, settle_stack_of, first_unheld}
+use Rattle.sound_state.proofs.Common.{settle_desc_of, PartialExit, settle_partial_of, LargeExit, settle_large_of, Turn, after_list, after_turn, picked, turned, is_full}
+use Rattle.sound_state.proofs.Common.{no_words, point_after, resumed, enter_block, enter_stack, enter_desc, enter_partial, enter_large}
 use Rattle.superblock_parts.specs.declared.exit.BlockExit.{BlockExit}
-use Rattle.superblock_parts.specs.Points.{settle_block_of}
-use Rattle.stack_parts.specs.declared.exit.StackExit.{StackExit}
-use Rattle.stack_parts.specs.Points.{settle_stack_of}
 use Rattle.hazard_parts.specs.declared.point.DescPoint.TheVariants as desc
-use Rattle.hazard_parts.specs.Retired.{first_unheld}
-use Rattle.hazard_parts.specs.Points.{settle_desc_of}
-use Rattle.partial_parts.specs.declared.exit.PartialExit.{PartialExit}
-use Rattle.partial_parts.specs.Points.{settle_partial_of}
-use Rattle.large_parts.specs.declared.exit.LargeExit.{LargeExit}
-use Rattle.large_parts.specs.Points.{settle_large_of}
-use Rattle.errand_steps.specs.declared.next.Next.TheVariants.{Turn}
 use Rattle.errand_steps.specs.declared.point.Point.TheVariants as point
-use Rattle.errand_steps.specs.Errands.{after_list, after_turn, picked, turned, is_full, no_words, point_after}
-use Rattle.errand_steps.specs.Nexts.{resumed, enter_block, enter_stack, enter_desc, enter_partial, enter_large}
 use Rattle.lost_exchanges.specs.Expectations.{Expected, expects_of, continuation_expects, desc_expects}
 use Rattle.lost_exchanges.proofs.WinDefs.{next_expects}
 
@@ -28,7 +17,7 @@ abbrev pub is_pick : Next → Bool
 is_pick (Pick s held o) = true
 is_pick n = false
 
--- no part but that of the descriptors has scans
+-- no step of another part than that of the descriptors ends a scan
 pub no-pick-block : (n : Onward BlockPoint BlockExit) (o : Continuation) → is_pick (enter_block n o) ≡ false
 no-pick-block n o = grind (arith)
 
@@ -41,14 +30,14 @@ no-pick-partial n o = grind (arith)
 pub no-pick-large : (n : Onward LargePoint LargeExit) (o : Continuation) → is_pick (enter_large n o) ≡ false
 no-pick-large n o = grind (arith)
 
--- a scan that is over leaves the point where its last hazard word was read
+-- a scan's last hazard word is read where no more is expected than by what waits behind the part
 scanned-expects :
     (P : Expected → Type 0) (q : DescPoint) (r : Continuation) (x : Found) (s : SeatFields) (held : List ℕ) (o : Continuation)
     → enter_desc (settle_desc_of q x) r ≡ Pick s held o → All P (continuation_expects s o) → All P (desc_expects q r)
 scanned-expects P (desc.ReadHazard t words at) r x s held o is all = grind (arith, is)
 scanned-expects P q r x s held o is all = grind (arith, is, All-nil P)
 
--- a scan ends where the last hazard word is read: the caller expects there what it expected
+-- a caller whose scan ends expects at its point no more than by what waits behind the part
 picked-expects :
     (P : Expected → Type 0) (p : Point) (x : Found) (s : SeatFields) (held : List ℕ) (o : Continuation) → next_of p x ≡ Pick s held o
     → All P (continuation_expects s o) → All P (expects_of p)
@@ -64,14 +53,14 @@ picked-expects P (point.Partial p r) x s held o is all =
 picked-expects P (point.Large p r) x s held o is all =
     absurd (true≢false (ap is_pick (sym is) ∙ no-pick-large (settle_large_of p x) r))
 
--- how a call goes on after a retirement: where it takes a partial superblock it expects what it expected
+-- a call that is resumed behind a retirement expects no more than by what waits behind the part
 resumed-expects :
     (P : Expected → Type 0) (e : ErrandFields) (s : SeatFields) (o : Continuation) → All P (continuation_expects s o)
     → All P (expects_of (point_after (after_turn e (resumed s o))))
 unfolding expects_of
 resumed-expects P e s o all = grind (arith, all)
 
--- so it does where it picks a descriptor, and where none can be picked
+-- a call whose scan picks a descriptor, or none, expects no more than by what waits behind the part
 first-expects :
     (P : Expected → Type 0) (e : ErrandFields) (x : Found) (s : SeatFields) (held : List ℕ) (o : Continuation) (first : Option ℕ)
     → next_of e.point x ≡ Pick s held o → All P (continuation_expects s o)
@@ -80,12 +69,12 @@ unfolding expects_of
 first-expects P e x s held o None is all = picked-expects P e.point x s held o is all
 first-expects P e x s held o (Some d) is all = all
 
--- and where its next turn begins, or its call ends
+-- a call whose next turn begins, or that ends, expects nothing
 turned-expects : (P : Expected → Type 0) (e : ErrandFields) (s : SeatFields) (need : ℕ) → All P (expects_of (point_after (turned e s need)))
 unfolding expects_of
 turned-expects P e s need = grind (arith)
 
--- and where it scans
+-- a call that retires a descriptor, and scans or not, expects no more than by what waits behind the part
 retired-expects :
     (P : Expected → Type 0) (e : ErrandFields) (s : SeatFields) (d : ℕ) (o : Continuation) → All P (continuation_expects s o)
     → All P (expects_of (point_after (after_turn e (after_list e (Retire s d o)))))
@@ -94,7 +83,7 @@ retired-expects P e s d o all =
     cond_both (is_full e) (At (point.Desc (desc.ReadHazard s no_words 0) o)) (resumed s o)
     (λ n. All P (expects_of (point_after (after_turn e n)))) (λ full. all) (λ room. resumed-expects P e s o all)
 
--- whatever follows its step
+-- what holds of all that is expected where a step leads holds of all that its caller expects then, whatever its list says
 listed-expects :
     (P : Expected → Type 0) (e : ErrandFields) (x : Found) (n : Next) → next_of e.point x ≡ n → All P (next_expects n)
     → All P (expects_of (point_after (after_turn e (after_list e n))))
@@ -106,7 +95,7 @@ listed-expects P e x (Retire s d o) is all = retired-expects P e s d o all
 listed-expects P e x (Pick s held o) is all = first-expects P e x s held o (first_unheld held e.retired) is all
 listed-expects P e x (Unlist s d o) is all = resumed-expects P e s o all
 
--- what holds of all that a caller expects where its step leads, holds of all that it expects then
+-- what holds of all that a caller expects where its step leads holds of all that it expects after the step
 pub expects-settled :
     (e : ErrandFields) (x : Found) (P : Expected → Type 0) → All P (next_expects (next_of e.point x))
     → All P (expects_of (settle_of e x).point)

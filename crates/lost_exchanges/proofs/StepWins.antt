@@ -1,13 +1,10 @@
 -- What a step adds to the wins, and what its caller notes then.
-use Rattle.std.proofs.Common.{ℕ, Bool, true, false, Option, Some, None, ◌≡◌, ◌≢◌, ◌≤◌, ◌+◌, List, [], ◌∷◌, ◌++◌, length, refl, arith, ap, sym, subst, inl, inr, ◌∙◌, length-append, append-nil}
-use Rattle.std.specs.Prelude.{◌==◌, ◌&&◌, not, if◌then◌else◌, count_by, option_to_list, All}
-use Rattle.std.proofs.lemmas.Bool.{cases_Bool, cond-true, cond-false, eq-eqb, ne_eqb, eqb-true, and_from, and_left, and_right, true≢false}
+use Rattle.std.proofs.Common.{ℕ, Bool, true, false, Option, Some, None, ◌≡◌, ◌≢◌, ◌≤◌, ◌+◌, List, [], ◌∷◌, ◌++◌, length, refl, arith, ap, sym, subst, inl, inr, ◌∙◌}
+use Rattle.std.proofs.Common.{length-append, append-nil, ◌==◌, ◌&&◌, not, if◌then◌else◌, count_by, option_to_list, All, eq-eqb, ne_eqb, eqb-true, true≢false}
+use Rattle.std.proofs.lemmas.Bool.{cases_Bool, cond-true, cond-false, and_from, and_left, and_right}
 use Rattle.std.proofs.lemmas.List.Elements.{All-cons, All-nil}
-use Rattle.word_table.specs.declared.action.Action.{Action}
-use Rattle.word_table.specs.declared.action.Action.TheVariants.{Load, Store, Cas, Swap, And}
-use Rattle.sound_state.proofs.Common.{WordName, after_action, State, action_at, name_at, found_at}
-use Rattle.word_table.specs.Actions.{found_by}
-use Rattle.errand_steps.specs.Errands.{counts_won, is_lost_exchange}
+use Rattle.word_table.specs.declared.action.Action.TheVariants.{Load, Swap, And}
+use Rattle.sound_state.proofs.Common.{Action, Store, Cas, WordName, after_action, State, action_at, name_at, found_at, found_by, counts_won, is_lost_exchange}
 use Rattle.lost_exchanges.specs.Contention.{is_against}
 use Rattle.lost_exchanges.specs.Wins.{Win, Wins, same_name, offers, win_at, win_list_after, note_at, is_self_exchange, wins_after}
 use Rattle.lost_exchanges.proofs.CountLemmas.{count-one, count-other}
@@ -34,7 +31,7 @@ word-stays (Cas name expected new) v won store =
 word-stays (Swap name new) v won store = absurd (true≢false won)
 word-stays (And name mask) v won store = absurd (true≢false won)
 
--- what the caller wins by its step, where it wins
+-- what a caller wins by its step, should it win
 abbrev pub the_win : State → ℕ → Win
 the_win s caller = record { caller = caller; word = name_at s caller; install = offers (s.errand caller).point }
 
@@ -44,7 +41,7 @@ win-some s caller won = cond-true (counts_won (action_at s caller) (found_at s c
 pub win-none : (s : State) (caller : ℕ) → counts_won (action_at s caller) (found_at s caller) ≡ false → win_at s caller ≡ None
 win-none s caller none = cond-false (counts_won (action_at s caller) (found_at s caller)) (Some (the_win s caller)) None none
 
--- so the list stays, or has one more
+-- the list of wins stays where a step wins nothing, has one more where it wins, and never gets shorter
 pub list-stays :
     (s : State) (caller : ℕ) (list : List Win) → counts_won (action_at s caller) (found_at s caller) ≡ false → win_list_after s caller list ≡ list
 list-stays s caller list none = ap (λ o. list ++ option_to_list o) (win-none s caller none) ∙ append-nil list
@@ -58,7 +55,7 @@ list-longer s caller list won =
 pub list-least : (s : State) (caller : ℕ) (list : List Win) → length list ≤ length (win_list_after s caller list)
 list-least s caller list = omega (arith, length-append list (option_to_list (win_at s caller)))
 
--- what holds of what it wins, if anything, holds of each such win
+-- what holds of a caller's win, should it win, holds of all that its step adds
 pub all-win : (P : Win → Type 0) (s : State) (caller : ℕ) → P (the_win s caller) → All P (option_to_list (win_at s caller))
 all-win P s caller h =
     elim (cases_Bool (counts_won (action_at s caller) (found_at s caller))) [
@@ -66,7 +63,7 @@ all-win P s caller h =
       | inr none ↦ subst (λ o. All P (option_to_list o)) (sym (win-none s caller none)) (All-nil P)
     ]
 
--- where its win isn't of a kind, it adds none of that kind
+-- a step whose win isn't of a kind adds none of that kind
 pub no-count :
     (p : Win → Bool) (s : State) (caller : ℕ) → p (the_win s caller) ≡ false → count_by p (option_to_list (win_at s caller)) ≡ 0
 no-count p s caller h =
@@ -75,19 +72,19 @@ no-count p s caller h =
       | inr none ↦ ap (λ o. count_by p (option_to_list o)) (win-none s caller none)
     ]
 
--- where it wins nothing, it adds none of any kind
+-- a step that wins nothing adds no win of any kind
 pub no-won :
     (p : Win → Bool) (s : State) (caller : ℕ) → counts_won (action_at s caller) (found_at s caller) ≡ false
     → count_by p (option_to_list (win_at s caller)) ≡ 0
 no-won p s caller none = ap (λ o. count_by p (option_to_list o)) (win-none s caller none)
 
--- where it wins, and its win is of the kind, it adds one
+-- a step that wins, and whose win is of the kind, adds one of that kind
 pub one-count :
     (p : Win → Bool) (s : State) (caller : ℕ) → counts_won (action_at s caller) (found_at s caller) ≡ true → p (the_win s caller) ≡ true
     → count_by p (option_to_list (win_at s caller)) ≡ 1
 one-count p s caller won h = ap (λ o. count_by p (option_to_list o)) (win-some s caller won) ∙ count-one p (the_win s caller) h
 
--- its win isn't against itself, nor against anyone on another word; on its word it is against every other caller
+-- a caller's win isn't against itself, nor on another word against anyone; on its word it is against every other caller
 pub against-own : (s : State) (caller : ℕ) (m : WordName) → is_against caller m (the_win s caller) ≡ false
 against-own s caller m = rw (eq-eqb caller caller refl) refl
 
@@ -114,7 +111,7 @@ noted-apart s caller w i m differ =
     cond-false ((i == caller) && same_name m (name_at s caller)) (note_at s caller (length (win_list_after s caller w.list)) (w.noted caller m)) (w.noted i m)
     (and_right (i == caller) (same_name m (name_at s caller)) (same-name-differs m (name_at s caller) differ))
 
--- the caller notes its word
+-- a caller notes its step's word
 pub noted-own :
     (s : State) (caller : ℕ) (w : Wins) (m : WordName) → m ≡ name_at s caller
     → (wins_after s caller w).noted caller m ≡ note_at s caller (length (win_list_after s caller w.list)) (w.noted caller m)
@@ -122,7 +119,7 @@ noted-own s caller w m is =
     cond-true ((caller == caller) && same_name m (name_at s caller)) (note_at s caller (length (win_list_after s caller w.list)) (w.noted caller m)) (w.noted caller m)
     (and_from (caller == caller) (same_name m (name_at s caller)) (eq-eqb caller caller refl) (same-name-one m (name_at s caller) is))
 
--- of a load, a store and a change that it won it notes all wins; of an exchange that it lost none
+-- a caller notes all wins where it sees or changes its word, and none where it lost an exchange
 pub note-seen :
     (s : State) (caller wins : ℕ) (old : Option ℕ) → is_lost_exchange (action_at s caller) (found_at s caller) ≡ false → is_self_exchange (action_at s caller) ≡ false
     → note_at s caller wins old ≡ Some wins
@@ -135,7 +132,7 @@ pub note-lost :
 note-lost s caller wins old lost =
     cond-true (is_lost_exchange (action_at s caller) (found_at s caller)) None (if is_self_exchange (action_at s caller) then old else Some wins) lost
 
--- of an exchange of a number for itself what it had noted
+-- a caller keeps its note of a word in an exchange of a number for itself that isn't lost
 pub note-confirmed :
     (s : State) (caller wins : ℕ) (old : Option ℕ) → is_lost_exchange (action_at s caller) (found_at s caller) ≡ false → is_self_exchange (action_at s caller) ≡ true
     → note_at s caller wins old ≡ old

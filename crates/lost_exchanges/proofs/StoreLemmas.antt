@@ -1,26 +1,24 @@
 -- A store is into no word that another caller expects anything of.
-use Rattle.std.proofs.Common.{ℕ, ◌≡◌, ◌≢◌, ◌<◌, ◌≤◌, List, refl, arith, subst, inl, inr, ◌∙◌, ◌⊎◌, IsTrue}
-use Rattle.std.specs.List.{All, AllByRecursion}
-use Rattle.std.proofs.lemmas.Bool.{eq-eqb}
+use Rattle.std.proofs.Common.{ℕ, ◌≡◌, ◌≢◌, ◌<◌, ◌≤◌, List, refl, arith, subst, inl, inr, ◌∙◌, ◌⊎◌, IsTrue, All, eq-eqb}
+use Rattle.std.specs.List.{AllByRecursion}
 use Rattle.std.proofs.lemmas.List.Elements.{All-from_recursion, recursion_from_All}
 use Rattle.sound_state.proofs.Common.{Geometry, WordName, name_of, descriptor_count, SeatFields, Exists, BlockPoint, Share, Credit, LastCredit, Grant, Pile, Frames}
 use Rattle.sound_state.proofs.Common.{Partials, StackPoint, head_name, next_name, DescPoint, PartialPoint, LargePoint, Continuation, Point, plan_point_of, State}
-use Rattle.sound_state.proofs.Common.{partly_used, on_its_way, holds_of, Lists, IsSo, recalls_of, IsSoundWith, is_bound, kept_among, errand_keeps}
+use Rattle.sound_state.proofs.Common.{partly_used, on_its_way, holds_of, Lists, IsSo, recalls_of, IsSoundWith, is_bound, kept_among, errand_keeps, plan-exists, keep}
+use Rattle.sound_state.proofs.Common.{partial_holds, block_recalls}
 use Rattle.word_table.specs.declared.name.WordName.TheVariants as name
 use Rattle.superblock_parts.specs.declared.point.BlockPoint.TheVariants as block
 use Rattle.stack_parts.specs.declared.point.StackPoint.TheVariants as stack
 use Rattle.partial_parts.specs.declared.point.PartialPoint.TheVariants as partial
 use Rattle.errand_steps.specs.declared.point.Point.TheVariants as point
-use Rattle.errand_steps.proofs.PlanLemmas.{plan-exists}
-use Rattle.lost_exchanges.specs.Expectations.{Expected, unless_credit, continuation_expects, block_expects, stack_expects, desc_expects, partial_expects, large_expects, expects_of}
-use Rattle.sound_state.specs.Holdings.{keep, partial_holds}
-use Rattle.sound_state.specs.Recalls.{block_recalls}
+use Rattle.lost_exchanges.specs.Expectations.{Expected, unless_credit, continuation_expects, block_expects, stack_expects, desc_expects, partial_expects, large_expects}
+use Rattle.lost_exchanges.specs.Expectations.{expects_of}
 use Rattle.sound_state.proofs.shared.HasLemmas.{kept-itself}
 use Rattle.sound_state.proofs.shared.UnplacedLemmas.{IsUnplaced, way-unplaced}
 use Rattle.lost_exchanges.proofs.StepWins.{IsStore}
 use Rattle.sound_state.proofs.shared.RecallTables.{bound-differs}
 
--- a word on which callers exchange; of a descriptor's anchor also this
+-- a word on which callers exchange; where it is an anchor, Q holds of its descriptor
 abbrev pub IsApartFrom : (ℕ → Type 0) → WordName → Type 0
 IsApartFrom Q (name.Anchor e) = Q e
 IsApartFrom Q (name.Active heap class) = Unit {0}
@@ -38,29 +36,20 @@ AreApart Q = AllByRecursion (λ e. IsApartFrom Q e.word)
 way-here : (d class : ℕ) → 1 ≤ kept_among on_its_way d (keep d class on_its_way)
 way-here d class = rw (eq-eqb d d refl) (omega arith)
 
--- what a caller expects is of such words, where Q holds of what is bound and of what the caller keeps
+-- what a caller expects is of words of exchange, where Q holds of what is bound and of what the caller keeps
 module _ (g : Geometry) (s : State) (l : Lists) (i : ℕ) (Q : ℕ → Type 0) where
   apart-share : (seat : SeatFields) (share : Share) → AreApart Q (unless_credit seat share)
   apart-share seat Credit = tt
   apart-share seat LastCredit = (tt, tt)
   apart-share seat (Grant more) = (tt, tt)
 
-  -- in a superblock, whose descriptor is bound
+  -- what a caller expects in a superblock is of such words, where Q holds of what is bound
   expects-apart-block :
       (p : BlockPoint) → ((d : ℕ) → IsTrue (is_bound g s l d) → Q d) → AllByRecursion (IsSo g s l i) (block_recalls p)
       → AreApart Q (block_expects p)
-  expects-apart-block (block.LoadInfo seat e share) free so = apart-share seat share
-  expects-apart-block (block.LoadAnchor at share) free so = apart-share at.seat share
-  expects-apart-block (block.LoadLink at share a) free so = (free at.desc so.1.0.0, apart-share at.seat share)
-  expects-apart-block (block.PopBlock at share a prefix) free so = (free at.desc so.1.1.0.0, apart-share at.seat share)
-  expects-apart-block (block.ReturnCredits at k more a) free so = (free at.desc so.0.0, tt)
-  expects-apart-block (block.StoreGuard at k a) free so = (free at.desc so.0.0, tt)
-  expects-apart-block (block.LoadOwner at k a) free so = (free at.desc so.0.0, tt)
-  expects-apart-block (block.StoreLink at k a stored heap) free so = (free at.desc so.0.0, tt)
-  expects-apart-block (block.PushBlock at k a stored heap) free so = (free at.desc so.1.0.0, tt)
-  expects-apart-block p free so = grind (arith)
+  expects-apart-block p free so = grind (arith, so, free, apart-share)
 
-  -- behind a part
+  -- what a caller expects by what waits behind a part is of such words
   expects-apart-continuation : (seat : SeatFields) (o : Continuation) → AreApart Q (continuation_expects seat o)
   expects-apart-continuation seat o = grind (arith)
 
@@ -68,21 +57,21 @@ module _ (g : Geometry) (s : State) (l : Lists) (i : ℕ) (Q : ℕ → Type 0) w
   apart-head seat Frames = tt
   apart-head seat Partials = tt
 
-  -- at a stack
+  -- what a caller expects at a stack is of such words
   expects-apart-stack : (p : StackPoint) (o : Continuation) → AreApart Q (stack_expects p o)
   expects-apart-stack p o = grind (arith, apart-head, expects-apart-continuation)
 
-  -- at the descriptors or the hazard words
+  -- what a caller expects at the descriptors or the hazard words is of such words
   expects-apart-desc : (p : DescPoint) (o : Continuation) → AreApart Q (desc_expects p o)
   expects-apart-desc p o = grind (arith, expects-apart-continuation)
 
-  -- at a partial superblock: a grant keeps its descriptor
+  -- what a caller expects at a partial superblock is of such words, where Q holds of what it keeps partly used
   expects-apart-partial :
       (p : PartialPoint) (o : Continuation) → ((d : ℕ) → 1 ≤ kept_among partly_used d (partial_holds p o).kept → Q d) → AreApart Q (partial_expects p o)
   expects-apart-partial (partial.Grant at a) o kept = (kept at.desc (kept-itself partly_used at.desc at.seat.class), expects-apart-continuation at.seat o)
   expects-apart-partial p o kept = grind (arith, expects-apart-continuation)
 
-  -- at a large block or a shelf
+  -- what a caller expects at a large block or a shelf is of such words
   expects-apart-large : (p : LargePoint) → AreApart Q (large_expects p)
   expects-apart-large p = grind (arith)
 
@@ -94,7 +83,7 @@ module _ (g : Geometry) (s : State) (l : Lists) (i : ℕ) (Q : ℕ → Type 0) w
   expects-apart-point (point.Partial p o) free kept so = expects-apart-partial p o kept
   expects-apart-point p free kept so = grind (arith, apart-head, expects-apart-continuation)
 
--- a point that stores a word: it is one that nobody exchanges, or the anchor of its caller's new superblock
+-- the word that a point stores is one on which nobody exchanges, or the anchor of its caller's new superblock
 abbrev StoresApart : Point → Type 0
 StoresApart p =
     IsStore (plan_point_of p)
@@ -111,7 +100,7 @@ stores-point (point.Block (block.StoreAnchor at) o) = λ is. inr (at.desc, way-h
 stores-point (point.Stack (stack.StoreBelow seat pile k h) o) = λ is. inl (stores-next pile k)
 stores-point p = grind (arith)
 
--- what a caller stores no other one expects
+-- no other caller expects anything of a word into which a caller stores
 pub stores-unexpected :
     (g : Geometry) (s : State) (l : Lists) (caller other : ℕ) → IsSoundWith g s l → caller < g.callers → other < g.callers → other ≢ caller
     → All (λ e. IsStore (plan_point_of (s.errand caller).point) → e.word ≢ name_of (plan_point_of (s.errand caller).point)) (expects_of (s.errand other).point)

@@ -1,18 +1,17 @@
 -- Callers take no more turns than small blocks are given.
-use Rattle.std.proofs.Common.{ℕ, Bool, true, false, cond, ◌≡◌, ◌<◌, ◌≤◌, ◌+◌, List, [], ◌∷◌, refl, arith, inl, inr, ◌==◌, ◌&&◌, not, if◌then◌else◌, nat_le, All, count_by}
-use Rattle.std.proofs.lemmas.Bool.{cases_eq, cond-true, cond-false, eq-eqb, ne_eqb}
+use Rattle.std.proofs.Common.{ℕ, Bool, true, false, cond, ◌≡◌, ◌<◌, ◌≤◌, ◌+◌, List, [], ◌∷◌, refl, arith, inl, inr, ◌==◌, ◌&&◌, not, if◌then◌else◌, nat_le, All}
+use Rattle.std.proofs.Common.{count_by, eq-eqb, ne_eqb}
+use Rattle.std.proofs.lemmas.Bool.{cases_eq, cond-true, cond-false}
 use Rattle.std.proofs.lemmas.List.Elements.{All-head, All-tail}
-use Rattle.heap_geometry.specs.declared.limits.TheConstants.{SMALL_MOST}
-use Rattle.sound_state.proofs.Common.{Geometry, Event, State, sum_below, one_if, gives_small, refuses_small}
+use Rattle.sound_state.proofs.Common.{SMALL_MOST, Geometry, Event, State, sum_below, one_if, gives_small, refuses_small, is_small_alloc, turn_unanswered}
 use Rattle.pool_model.specs.declared.event.Event.TheVariants.{Alloc}
 use Rattle.lost_exchanges.specs.Installs.{installs_by, installs_against}
-use Rattle.sound_state.specs.Turns.{is_small_alloc, turn_unanswered}
 use Rattle.lost_exchanges.specs.Wins.{Win, Wins}
 use Rattle.lost_exchanges.specs.Won.{IsWon}
 use Rattle.sound_state.proofs.shared.SumLemmas.{sum-same, sum-none, sum-once, sum-least, sum-change, term-sum}
 use Rattle.lost_exchanges.proofs.CountLemmas.{counts-first, count-append}
 
--- an install is its caller's
+-- an install counts once at most: as its caller's, or as another's
 install-of-one :
     (caller by : ℕ) (install : Bool)
     → one_if (install && not (by == caller)) + one_if (install && (by == caller)) ≤ one_if (install && (by == by))
@@ -34,7 +33,7 @@ all-installs n caller (x ∷ xs) all =
       all-installs n caller xs (All-tail (λ y. y.caller < n) x xs all),
     )
 
--- a small block is given to one caller
+-- a small block is given to at most one caller
 given : (n by : ℕ) (small : Bool) → sum_below n (λ caller. cond {A = ℕ} ((by == caller) && small) 1 0) ≤ one_if small
 given n by true = omega (
   arith,
@@ -61,7 +60,7 @@ all-given n (e ∷ history) =
       all-given n history,
     )
 
--- what the callers but one install is no more than what they are given
+-- what all callers but one install is no more than what they are given
 others-given :
     (n caller : ℕ) (f h : ℕ → ℕ) → caller < n → ((k : ℕ) → k < n → f k ≤ h k) → sum_below n f + h caller ≤ sum_below n h + f caller
 others-given n caller f h has least =

@@ -1,20 +1,13 @@
 -- What a step does to its caller's turn: in a superblock, at a stack, at the descriptors, at a partial superblock or at a large block.
 use Rattle.std.proofs.Common.{ℕ, true, ◌≡◌, arith, Option, Some, None, refl, nat_le, IsTrue}
-use Rattle.heap_geometry.specs.declared.limits.TheConstants.{SMALL_MOST}
-use Rattle.sound_state.proofs.Common.{ActiveWord, Null, Held, active_word, active_of, Found, SeatFields, BlockPoint, StackPoint, DescPoint, PartialPoint, LargePoint}
-use Rattle.sound_state.proofs.Common.{Continuation, event_of, asked}
+use Rattle.sound_state.proofs.Common.{SMALL_MOST, ActiveWord, Null, Held, active_word, active_of, Found, SeatFields, BlockPoint, StackPoint, DescPoint, PartialPoint}
+use Rattle.sound_state.proofs.Common.{LargePoint, Continuation, event_of, asked, after_active, settle_block_of, settle_stack_of, settle_desc_of, settle_partial_of}
+use Rattle.sound_state.proofs.Common.{settle_large_of, enter_stack, enter_desc, enter_partial, enter_large, enter_block, goes_desc, continuation_turn_stage, is_turn}
 use Rattle.superblock_parts.specs.declared.point.BlockPoint.TheVariants as block
-use Rattle.superblock_parts.specs.Points.{after_active, settle_block_of}
 use Rattle.stack_parts.specs.declared.point.StackPoint.TheVariants as stack
-use Rattle.stack_parts.specs.Points.{settle_stack_of}
-use Rattle.hazard_parts.specs.Points.{settle_desc_of}
-use Rattle.partial_parts.specs.Points.{settle_partial_of}
-use Rattle.large_parts.specs.Points.{settle_large_of}
 use Rattle.errand_steps.specs.declared.point.Point.TheVariants as point
-use Rattle.errand_steps.specs.Nexts.{enter_stack, enter_desc, enter_partial, enter_large, enter_block}
-use Rattle.errand_steps.specs.Continuations.{goes_block, goes_stack, goes_desc, goes_partial, GoesLarge}
+use Rattle.errand_steps.specs.Continuations.{goes_block, goes_stack, goes_partial, GoesLarge}
 use Rattle.errand_steps.specs.declared.continuation.Continuation.TheVariants as continuation
-use Rattle.sound_state.specs.TurnStages.{continuation_turn_stage, is_turn}
 use Rattle.lost_exchanges.proofs.WinDefs.{TurnsTo}
 
 -- an active word that says null is null
@@ -22,7 +15,7 @@ null-read : (v : ℕ) → active_of v ≡ Some Null → v ≡ active_word Null
 unfolding active_of active_word
 null-read v is = grind (arith, is)
 
--- where an active word leads
+-- a load of an active word
 active-turns :
     (caller : ℕ) (s : SeatFields) (words : ℕ) (x : Found) (w : Option ActiveWord) → active_of x.value ≡ w
     → TurnsTo caller (point.Block (block.LoadActive s) (continuation.Alloc words)) x.value x.won
@@ -32,7 +25,7 @@ active-turns caller s words x None is = grind (arith)
 active-turns caller s words x (Some Null) is = grind (arith, null-read x.value is)
 active-turns caller s words x (Some (Held d credits)) is = grind (arith)
 
--- in a superblock, where an allocation is of a small block
+-- what a step in a superblock does to its caller's turn, where an allocation is of a small block
 pub block-turns :
     (caller : ℕ) (p : BlockPoint) (o : Continuation) (x : Found) → (IsTrue (is_turn (continuation_turn_stage o)) → nat_le (asked o) SMALL_MOST ≡ true)
     → IsTrue (goes_block p o)
@@ -41,20 +34,17 @@ unfolding event_of
 block-turns caller (block.LoadActive s) (continuation.Alloc words) x small goes = active-turns caller s words x (active_of x.value) refl
 block-turns caller p o x small goes = grind (arith)
 
--- at a stack, where an allocation is of a small block
+-- what a step at a stack does to its caller's turn, where an allocation is of a small block
 pub stack-turns :
     (caller : ℕ) (p : StackPoint) (o : Continuation) (x : Found) → (IsTrue (is_turn (continuation_turn_stage o)) → nat_le (asked o) SMALL_MOST ≡ true)
     → IsTrue (goes_stack p o)
     → TurnsTo caller (point.Stack p o) x.value x.won (event_of caller (point.Stack p o) x)
     (enter_stack (settle_stack_of p x) o)
 unfolding event_of
-stack-turns caller (stack.LoadTop s pile) o x small goes = grind (arith)
-stack-turns caller (stack.PopTop s pile h below) o x small goes = grind (arith)
-stack-turns caller (stack.ConfirmEmpty s pile h) o x small goes = grind (arith)
-stack-turns caller (stack.PushTop s pile i h) o x small goes = grind (arith)
+stack-turns caller (stack.LoadBelow s pile h) o x small goes = grind (arith)
 stack-turns caller p o x small goes = grind (arith)
 
--- at the descriptors or the hazard words
+-- what a step at the descriptors or the hazard words does to its caller's turn
 pub desc-turns :
     (caller : ℕ) (p : DescPoint) (o : Continuation) (x : Found) → IsTrue (goes_desc p o)
     → TurnsTo caller (point.Desc p o) x.value x.won (event_of caller (point.Desc p o) x)
@@ -62,7 +52,7 @@ pub desc-turns :
 unfolding event_of
 desc-turns caller p o x goes = grind (arith)
 
--- at a partial superblock
+-- what a step at a partial superblock does to its caller's turn
 pub partial-turns :
     (caller : ℕ) (p : PartialPoint) (o : Continuation) (x : Found) → IsTrue (goes_partial p o)
     → TurnsTo caller (point.Partial p o) x.value x.won (event_of caller (point.Partial p o) x)
@@ -70,7 +60,7 @@ pub partial-turns :
 unfolding event_of
 partial-turns caller p o x goes = grind (arith)
 
--- at a large block, a usable word or a shelf
+-- what a step at a large block, a usable word or a shelf does to its caller's turn
 pub large-turns :
     (caller : ℕ) (p : LargePoint) (o : Continuation) (x : Found) → GoesLarge p o
     → TurnsTo caller (point.Large p o) x.value x.won (event_of caller (point.Large p o) x)

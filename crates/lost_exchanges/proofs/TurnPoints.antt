@@ -1,12 +1,9 @@
 -- What a step does to its caller's turn, at every point.
 use Rattle.std.proofs.Common.{ℕ, true, ◌≡◌, arith, nat_le, IsTrue}
-use Rattle.sound_state.proofs.Common.{Geometry, Found, SeatFields, Continuation, Point, event_of, FitsPoint, next_of, asked}
-use Rattle.heap_geometry.specs.declared.limits.TheConstants.{SMALL_MOST}
+use Rattle.sound_state.proofs.Common.{Geometry, Found, SeatFields, Continuation, Point, event_of, FitsPoint, next_of, asked, SMALL_MOST, seat_of_stack}
+use Rattle.sound_state.proofs.Common.{FitsContinuation, continuation_turn_stage, is_turn}
 use Rattle.superblock_parts.specs.Points.{seat_of_block}
-use Rattle.stack_parts.specs.Points.{seat_of_stack}
 use Rattle.errand_steps.specs.declared.point.Point.TheVariants as point
-use Rattle.errand_steps.specs.Fits.{FitsContinuation}
-use Rattle.sound_state.specs.TurnStages.{continuation_turn_stage, is_turn}
 use Rattle.sound_state.proofs.shared.TurnEffects.{small-served}
 use Rattle.lost_exchanges.proofs.TurnParts.{block-turns, stack-turns, desc-turns, partial-turns, large-turns}
 use Rattle.lost_exchanges.proofs.WinDefs.{TurnsOn, TurnsTo, found_in}
@@ -17,7 +14,7 @@ pub giving-small :
     → nat_le (asked o) SMALL_MOST ≡ true
 giving-small g caller s o fits gives = grind (arith, small-served)
 
--- at each point
+-- what a step at each point does to its caller's turn
 point-turns :
     (g : Geometry) (caller : ℕ) (p : Point) (x : Found) → FitsPoint g caller p → TurnsTo caller p x.value x.won (event_of caller p x) (next_of p x)
 unfolding next_of event_of
@@ -28,6 +25,6 @@ point-turns g caller (point.Desc p o) x fits = desc-turns caller p o x fits.goes
 point-turns g caller (point.Partial p o) x fits = partial-turns caller p o x fits.goes
 point-turns g caller (point.Large p o) x fits = large-turns caller p o x fits.goes
 
--- with what the step finds where its word is v
+-- what a step at each point does to its caller's turn, with what it finds where its word is v
 pub turns-on : (g : Geometry) (caller : ℕ) (p : Point) (v : ℕ) → FitsPoint g caller p → TurnsOn caller p v
 turns-on g caller p v fits = point-turns g caller p (found_in p v) fits

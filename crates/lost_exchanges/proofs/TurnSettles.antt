@@ -1,15 +1,14 @@
 -- What the retired list and the turn limit make of a caller's turn.
 use Rattle.std.proofs.Common.{ℕ, Bool, false, ◌≡◌, ◌≤◌, ◌+◌, arith, IsTrue}
 use Rattle.sound_state.proofs.Common.{Geometry, Found, Next, At, Point, ErrandFields, settle_of, course_of, FitsPoint, next_of, turn_stage_of, is_unneeded, one_if}
-use Rattle.errand_steps.specs.Errands.{after_list, after_turn, point_after, begins_turn}
-use Rattle.sound_state.specs.TurnStages.{lacks_answer, is_seeking, is_offering}
-use Rattle.sound_state.specs.Turns.{errand_discards}
+use Rattle.sound_state.proofs.Common.{after_list, after_turn, point_after, begins_turn, lacks_answer, is_seeking, errand_discards}
+use Rattle.sound_state.specs.TurnStages.{is_offering}
 use Rattle.lost_exchanges.specs.Wins.{is_between}
 use Rattle.sound_state.proofs.shared.StepLemmas.{raised-most}
 use Rattle.lost_exchanges.proofs.TurnEnds.{ResumesFrom, next_ends, ends-to}
 use Rattle.lost_exchanges.proofs.WinDefs.{next_unanswered, next_discards, next_offers, next_seeks}
 
--- where a step that leads to n ends up at a point, and a turn begins there or not
+-- what a step that leads to n leaves of its caller's turn at the point where it ends up, whether a turn begins there or not
 pub record SettlesTo (begins_one : Bool) (q : Point) (n : Next) : Type 0 where
   pub turn : one_if begins_one + next_unanswered n ≤ one_if (lacks_answer (turn_stage_of q)) + next_ends n
   pub stays : is_between q ≡ false → next_unanswered n ≤ one_if (lacks_answer (turn_stage_of q))
@@ -18,26 +17,26 @@ pub record SettlesTo (begins_one : Bool) (q : Point) (n : Next) : Type 0 where
   pub seeks : IsTrue (is_seeking (turn_stage_of q)) → IsTrue (next_seeks n)
   pub begins : is_between q ≡ false → begins_one ≡ false
 
--- where m follows the list's part in what follows the step
+-- what a step that leads to n leaves of its caller's turn, where m is made of that by the retired list
 abbrev SettlesBy : ErrandFields → Next → Next → Type 0
 SettlesBy e n m = SettlesTo (begins_turn e m) (point_after (after_turn e m)) n
 
--- where a point follows
+-- a step that leads to a point leaves its caller's turn so
 at-settles : (e : ErrandFields) (p : Point) → SettlesBy e (At p) (At p)
 at-settles e p = grind (arith)
 
--- by what follows
+-- what follows a step leaves its caller's turn so, with the retired list's part in it
 settles-to : (e : ErrandFields) (n : Next) → ResumesFrom e.point n → SettlesBy e n (after_list e n)
 settles-to e (At p) goes = at-settles e p
 settles-to e n goes = grind (arith)
 
--- what a step makes of its caller's turn, where the list and the turn limit have had their part
+-- what a step makes of its caller's turn, with the parts of the retired list and the turn limit in it
 pub record TurnSettles (e : ErrandFields) (x : Found) : Type 0 where
   pub to : SettlesTo (begins_turn e (after_list e (next_of e.point x))) (settle_of e x).point (next_of e.point x)
   pub ends : next_ends (next_of e.point x) ≤ errand_discards e
   pub turns : (settle_of e x).turns ≤ e.turns + one_if (begins_turn e (after_list e (next_of e.point x)))
 
--- at each point where the caller may stand
+-- what a step makes of its caller's turn at each point where the caller may stand
 pub settles-turn : (g : Geometry) (caller : ℕ) (e : ErrandFields) (x : Found) → FitsPoint g caller e.point → TurnSettles e x
 unfolding settle_of course_of
 settles-turn g caller e x fits =

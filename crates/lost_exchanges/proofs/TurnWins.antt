@@ -2,11 +2,8 @@
 use Rattle.std.proofs.Common.{ℕ, false, ◌≡◌, ◌<◌, ◌≤◌, ◌+◌, List, arith, ap, inl, inr, ◌∙◌, count_by}
 use Rattle.std.proofs.lemmas.Bool.{cases_Bool}
 use Rattle.sound_state.proofs.Common.{Geometry, ErrandFields, settle_of, FitsPoint, next_of, State, Step, word_at, found_at, turn_stage_of, is_unneeded, one_if}
-use Rattle.sound_state.proofs.Common.{gives_small, refuses_small}
-use Rattle.errand_steps.specs.Errands.{after_list, begins_turn}
-use Rattle.errand_steps.specs.Steps.{event_at}
+use Rattle.sound_state.proofs.Common.{gives_small, refuses_small, after_list, begins_turn, event_at, turn_unanswered, errand_discards}
 use Rattle.lost_exchanges.specs.Installs.{IsInstalled, HoldsSince, installs_by, installs_against, errand_offers, turns_allowed}
-use Rattle.sound_state.specs.Turns.{turn_unanswered, errand_discards}
 use Rattle.lost_exchanges.specs.Wins.{Win, Wins, win_at, win_list_after, is_between}
 use Rattle.lost_exchanges.proofs.ActiveChanges.{discards-seeks}
 use Rattle.lost_exchanges.proofs.InstallCounts.{count-gives, count-refuses, own-install, none-against}
@@ -16,7 +13,7 @@ use Rattle.lost_exchanges.proofs.TurnPoints.{turns-on}
 use Rattle.lost_exchanges.proofs.TurnSettles.{TurnSettles, settles-turn}
 use Rattle.lost_exchanges.proofs.WinDefs.{TurnsOn, given_by, refused_by}
 
--- the errand after a step, and what followed that step
+-- the errand of a caller after its next step
 abbrev pub settled : State → ℕ → ErrandFields
 settled s caller = settle_of (s.errand caller) (found_at s caller)
 
@@ -27,7 +24,7 @@ pub record Turned (s : State) (caller : ℕ) (s' : State) : Type 0 where
   pub goes : TurnsOn caller (s.errand caller).point (word_at s caller)
   pub settles : TurnSettles (s.errand caller) (found_at s caller)
 
--- so does each step
+-- each step does so to its caller's turn and to the counts of the events
 pub step-turned :
     (g : Geometry) (s : State) (caller : ℕ) (s' : State) → FitsPoint g caller (s.errand caller).point → Step s caller s' → Turned s caller s'
 step-turned g s caller s' fits step = record {
@@ -37,7 +34,7 @@ step-turned g s caller s' fits step = record {
   settles = settles-turn g caller (s.errand caller) (found_at s caller) fits;
 }
 
--- its own installs
+-- a caller's own installs, and what it offers, stay below the small blocks that it is given
 pub own-after :
     (g : Geometry) (s : State) (w : Wins) (caller : ℕ) (s' : State) → caller < g.callers → Turned s caller s' → IsInstalled g s w
     → count_by (installs_by caller) (win_list_after s caller w.list) + errand_offers (settled s caller) ≤ count_by (gives_small caller) s'.history
@@ -52,7 +49,7 @@ own-after g s w caller s' has h old =
       h.settles.to.offers,
     )
 
--- its turns, where one may end only as the installs of others allow
+-- a caller's turns stay below those that installs allow, where its turn may end only as these allow it
 turn-after :
     (s : State) (caller : ℕ) (s' : State) (installs : ℕ) → Turned s caller s'
     → (s.errand caller).turns + next_ends (next_of (s.errand caller).point (found_at s caller)) ≤ turns_allowed s caller installs
@@ -61,7 +58,7 @@ turn-after :
 turn-after s caller s' installs h before =
     omega (arith, before, h.gives caller, h.refuses caller, h.goes.unanswered, h.settles.to.turn, h.settles.turns)
 
--- and where none ends
+-- a caller's turns stay below those that installs allow, where no turn of its ends
 pub stay-after :
     (s : State) (caller : ℕ) (s' : State) (installs : ℕ) → Turned s caller s' → is_between (settled s caller).point ≡ false
     → (s.errand caller).turns ≤ turns_allowed s caller installs
@@ -72,7 +69,7 @@ stay-after s caller s' installs h inside before =
     ap one_if (h.settles.to.begins inside) in
     omega (arith, before, h.gives caller, h.refuses caller, h.goes.unanswered, h.settles.to.stays inside, h.settles.turns, none)
 
--- a turn ends where a superblock that wasn't needed was given back: another one has been installed since the caller found none active
+-- a turn ends only where a superblock wasn't needed: another has been installed since the caller found none active
 ends-installed :
     (g : Geometry) (s : State) (w : Wins) (caller : ℕ) (s' : State) → caller < g.callers → Turned s caller s' → IsInstalled g s w
     → (s.errand caller).turns + next_ends (next_of (s.errand caller).point (found_at s caller)) ≤ turns_allowed s caller (count_by (installs_against caller) w.list)
@@ -88,12 +85,12 @@ ends-installed g s w caller s' has h old =
           omega (arith, old.turns caller has, none, h.settles.ends)
     ]
 
--- its own step adds no install of others to the list
+-- a caller's own step adds no install of others to the list
 pub against-stays :
     (s : State) (caller : ℕ) (list : List Win) → count_by (installs_against caller) (win_list_after s caller list) ≡ count_by (installs_against caller) list
 against-stays s caller list = omega (arith, count-win (installs_against caller) list (win_at s caller), none-against s caller)
 
--- its turns after the step
+-- a caller's turns after its step stay below what the installs of others allow
 pub own-turns :
     (g : Geometry) (s : State) (w : Wins) (caller : ℕ) (s' : State) → caller < g.callers → Turned s caller s' → IsInstalled g s w
     → (settled s caller).turns

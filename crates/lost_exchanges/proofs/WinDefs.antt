@@ -1,22 +1,19 @@
 -- What a step does to what its caller expects, and to its turn: the statements that the points owe.
 use Rattle.std.proofs.Common.{ℕ, Bool, true, false, ◌≡◌, ◌≢◌, ◌≤◌, ◌+◌, List, [], ◌⊎◌, ◌&&◌, not, All, Any, Option, Some, None, IsTrue}
 use Rattle.sound_state.proofs.Common.{Null, active_word, Found, WordName, name_of, after_action, BlockPoint, Event, Next, At, End, Retire, Pick, Unlist, Point}
-use Rattle.sound_state.proofs.Common.{counts_lost, event_of, next_of, plan_point_of, turn_stage_of, is_unneeded, one_if, gives_small, refuses_small}
-use Rattle.word_table.specs.declared.action.Action.{Action}
-use Rattle.word_table.specs.Actions.{found_by}
+use Rattle.sound_state.proofs.Common.{counts_lost, event_of, next_of, plan_point_of, turn_stage_of, is_unneeded, one_if, gives_small, refuses_small, Action, found_by}
+use Rattle.sound_state.proofs.Common.{Turn, is_lost_exchange, continuation_turn_stage, is_turn, lacks_answer, is_seeking}
 use Rattle.superblock_parts.specs.declared.point.BlockPoint.TheVariants as block
-use Rattle.errand_steps.specs.declared.next.Next.TheVariants.{Turn}
 use Rattle.errand_steps.specs.declared.point.Point.TheVariants as point
-use Rattle.errand_steps.specs.Errands.{is_lost_exchange}
 use Rattle.lost_exchanges.specs.Expectations.{Expected, expects_of, continuation_expects}
-use Rattle.sound_state.specs.TurnStages.{continuation_turn_stage, is_turn, lacks_answer, is_seeking, is_offering}
+use Rattle.sound_state.specs.TurnStages.{is_offering}
 use Rattle.lost_exchanges.specs.Wins.{is_self_exchange, offers}
 
--- what a caller expected before, of another word than that of the step
+-- an expectation that a caller had before its step, of another word than the step's
 abbrev pub IsCarried : Point → WordName → Expected → Type 0
 IsCarried p n e = Any (λ x. x ≡ e) (expects_of p) × (e.word ≢ n)
 
--- what it sees or leaves in the word of the step, by a load, a store or a change that it won
+-- an expectation that the step meets: it sees or leaves that number in its word, by a load, a store or a change that it won
 pub record IsSeen (a : Action) (x : Found) (e : Expected) : Type 0 where
   pub word : e.word ≡ name_of a
   pub value : after_action a x.value ≡ e.value
@@ -35,7 +32,7 @@ next_expects (Retire s d o) = continuation_expects s o
 next_expects (Pick s held o) = continuation_expects s o
 next_expects (Unlist s d o) = continuation_expects s o
 
--- 1 where it has no answer yet there; where its new superblock wasn't needed; where it found none active
+-- 1 where the turn has no answer yet when a caller goes on; where its superblock wasn't needed; whether it found none active
 abbrev pub next_unanswered : Next → ℕ
 next_unanswered (At p) = one_if (lacks_answer (turn_stage_of p))
 next_unanswered (End r) = 0
@@ -64,12 +61,12 @@ abbrev pub next_offers : Next → ℕ
 next_offers (At p) = one_if (is_offering (turn_stage_of p))
 next_offers n = 0
 
--- the caller loads the active word
+-- whether a caller at the point loads the active word
 abbrev pub looks_active : Point → Bool
 looks_active (point.Block (block.LoadActive s) o) = true
 looks_active p = false
 
--- it offers a new superblock
+-- whether a caller at the point offers a new superblock
 abbrev pub is_new_offer : BlockPoint → Bool
 is_new_offer (block.InstallSuperblock at) = true
 is_new_offer p = false
@@ -82,7 +79,7 @@ offers_new p = false
 abbrev pub found_in : Point → ℕ → Found
 found_in p v = found_by (plan_point_of p) v
 
--- the step carries or sees all that its caller expects after it
+-- a step that finds v in its word carries or sees all that its caller expects after it
 abbrev pub ExpectsOn : Point → ℕ → Type 0
 ExpectsOn p v = All (MayExpect p (plan_point_of p) (found_in p v)) (next_expects (next_of p (found_in p v)))
 
@@ -101,13 +98,13 @@ abbrev pub refused_by : ℕ → Option Event → ℕ
 refused_by caller None = 0
 refused_by caller (Some e) = one_if (refuses_small caller e)
 
--- what a step does to its caller's turn that finds v, is won or isn't, adds this event and leads there
+-- what a step from p that finds v, is won or not, adds this event and leads to n does to its caller's turn
 pub record TurnsTo (caller : ℕ) (p : Point) (v : ℕ) (won : Bool) (e : Option Event) (n : Next) : Type 0 where
   pub unanswered : one_if (lacks_answer (turn_stage_of p)) ≤ given_by caller e + refused_by caller e + next_unanswered n
   pub discards : next_discards n ≤ one_if (is_unneeded (turn_stage_of p)) + one_if (offers_new p && not won)
   pub offers : next_offers n + one_if (offers p && won) ≤ one_if (is_offering (turn_stage_of p)) + given_by caller e
   pub seeks : IsTrue (next_seeks n) → IsTrue (is_seeking (turn_stage_of p)) ⊎ (IsTrue (looks_active p) × (v ≡ active_word Null))
 
--- the same, with what the step finds where its word is v
+-- what a step does to its caller's turn, with what it finds where its word is v
 abbrev pub TurnsOn : ℕ → Point → ℕ → Type 0
 TurnsOn caller p v = TurnsTo caller p v (found_in p v).won (event_of caller p (found_in p v)) (next_of p (found_in p v))

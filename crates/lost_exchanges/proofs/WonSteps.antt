@@ -2,9 +2,7 @@
 use Rattle.std.proofs.Common.{ℕ, true, ◌≡◌, ◌≢◌, ◌<◌, ◌≤◌, ◌+◌, ◌-◌, ◌*◌, ◌^◌, List, [], ◌∷◌, arith, subst, refl, ◌==◌, not, Any}
 use Rattle.std.proofs.lemmas.List.Elements.{All-nil}
 use Rattle.sound_state.proofs.Common.{Geometry, WordName, name_of, Exists, Point, Idle, Block, Stack, Desc, Partial, Large, counts_lost, FitsPoint, next_of}
-use Rattle.sound_state.proofs.Common.{plan_point_of, State, Step, action_at, name_at, word_at, found_at, IsSound, IsSoundWithoutCounts, one_if}
-use Rattle.errand_steps.specs.Errands.{counts_won}
-use Rattle.errand_steps.proofs.PlanLemmas.{plan-exists}
+use Rattle.sound_state.proofs.Common.{plan_point_of, State, Step, action_at, name_at, word_at, found_at, IsSound, IsSoundWithoutCounts, one_if, counts_won, plan-exists}
 use Rattle.lost_exchanges.specs.Contention.{IsDirty, dirty_pairs}
 use Rattle.lost_exchanges.specs.Expectations.{Expected, expects_of}
 use Rattle.lost_exchanges.specs.Wins.{Wins, wins_after}
@@ -24,7 +22,7 @@ use Rattle.lost_exchanges.proofs.StackExpects.{stack-expects}
 use Rattle.lost_exchanges.proofs.StoreLemmas.{stores-unexpected}
 use Rattle.lost_exchanges.proofs.WinDefs.{ExpectsOn, LosesOn, MayExpect, found_in}
 
--- what a caller expects after a step it carries or sees
+-- a step carries or sees all that its caller expects after it
 expects-on : (g : Geometry) (caller : ℕ) (p : Point) (v : ℕ) → FitsPoint g caller p → v < 2 ^ 64 → ExpectsOn p v
 unfolding next_of expects_of
 expects-on g caller Idle v fits below = All-nil (MayExpect Idle (plan_point_of Idle) (found_in Idle v))
@@ -34,7 +32,7 @@ expects-on g caller (Desc p o) v fits below = desc-expects g caller p o v fits
 expects-on g caller (Partial p o) v fits below = partial-expects g caller p o v fits below
 expects-on g caller (Large p o) v fits below = large-expects p o v below
 
--- the first of these is of the word, and expects another number there
+-- the first expectation of a list is of the word, and of another number there
 abbrev FirstDiffers : WordName → ℕ → List Expected → Type 0
 FirstDiffers n v [] = ⊥
 FirstDiffers n v (e ∷ es) = (e.word ≡ n) × (not (v == e.value) ≡ true)
@@ -43,17 +41,17 @@ first-differs : (n : WordName) (v : ℕ) (es : List Expected) → FirstDiffers n
 first-differs n v [] none = absurd none
 first-differs n v (e ∷ es) is = any-first (λ e. (e.word ≡ n) × (v ≢ e.value)) e es (is.0, lost-differs v e.value is.1)
 
--- such is what is expected where a step counts as lost
+-- a step that counts as lost has first an expectation of its word, of another number there
 lost-expects :
     (p : Point) (v : ℕ) → counts_lost p (found_in p v) ≡ true → FirstDiffers (name_of (plan_point_of p)) v (expects_of p)
 unfolding plan_point_of expects_of
 lost-expects p v lost = grind (arith, lost)
 
--- what it loses it expected otherwise
+-- a step that counts as lost expected another number in its word
 pub loses-on : (p : Point) (v : ℕ) → LosesOn p v
 loses-on p v lost = first-differs (name_of (plan_point_of p)) v (expects_of p) (lost-expects p v lost)
 
--- the errand after a step expects what its caller carries or sees
+-- a caller in a sound state carries or sees by its step all that it expects after it
 pub expects-after : (g : Geometry) (s : State) (caller : ℕ) → IsSoundWithoutCounts g s → caller < g.callers → ExpectsAfter s caller
 expects-after g s caller sound has =
     let e = s.errand caller in
@@ -61,7 +59,7 @@ expects-after g s caller sound has =
     expects-settled e (found_at s caller) (MayExpect e.point (action_at s caller) (found_at s caller))
     (expects-on e.geometry e.caller e.point (word_at s caller) own.rule.point (sound.parts.1.words (name_at s caller)))
 
--- so a step keeps what was won and noted, and what that bounds
+-- a step keeps what was won and noted, and what these bound
 pub steps-won :
     (g : Geometry) (s : State) (w : Wins) (caller : ℕ) (s' : State) → IsSoundWithoutCounts g s → IsWon g s w → caller < g.callers → Step s caller s'
     → IsWon g s' (wins_after s caller w)
@@ -81,13 +79,13 @@ steps-won g s w caller s' sound won has step =
       installed = step-installed g s w caller s' has (fits-at g s l caller e.point old has refl) step won.installed expects;
     }
 
--- the pair of who loses was dirty
+-- the pair of a caller and the word on which it loses was dirty
 pub lost-dirty :
     (g : Geometry) (s : State) (w : Wins) (caller : ℕ) → IsWon g s w → caller < g.callers → counts_lost (s.errand caller).point (found_at s caller) ≡ true
     → IsDirty w caller (name_at s caller)
 lost-dirty g s w caller won has lost = was-dirty g s caller w has won.noted (loses-on (s.errand caller).point (word_at s caller)) lost
 
--- and so the dirty pairs change with what is won and lost
+-- the dirty pairs change in a step with what is won and lost
 pub step-pairs :
     (g : Geometry) (s : State) (w : Wins) (caller : ℕ) → IsSound g s → IsWon g s w → caller < g.callers
     → dirty_pairs g (wins_after s caller w) + one_if (counts_lost (s.errand caller).point (found_at s caller))

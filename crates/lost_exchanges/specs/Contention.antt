@@ -11,7 +11,7 @@ use Rattle.sound_state.specs.Sums.{sum_below, callers_sum}
 use Rattle.sound_state.specs.Turns.{one_if}
 use Rattle.lost_exchanges.specs.Wins.{Win, Wins, same_name}
 
--- a win of this caller; one of another caller on this word
+-- whether a win is this caller's; whether it is another caller's, on this word
 abbrev pub is_by : ℕ → Win → Bool
 is_by caller x = x.caller == caller
 
@@ -29,7 +29,7 @@ is_dirty w caller word = dirty_since w.list caller word (w.noted caller word)
 abbrev pub IsDirty : Wins → ℕ → WordName → Type 0
 IsDirty w caller word = IsTrue (is_dirty w caller word)
 
--- how many pairs of a caller and a word of the table are dirty
+-- how many callers are dirty on a word; how many pairs of a caller and a word of the table are dirty
 abbrev pub dirty_on : Geometry → Wins → WordName → ℕ
 dirty_on g w word = sum_below g.callers (λ caller. one_if (is_dirty w caller word))
 
@@ -42,19 +42,19 @@ lost_of e = e.lost
 abbrev pub won_of : ErrandFields → ℕ
 won_of e = e.won
 
--- the caller has noted the word, which is as expected, or another caller has won on it since
+-- what a caller expects of a word: it has noted the word, which is as expected, or another caller has won there since
 pub record IsExpected (s : State) (w : Wins) (caller : ℕ) (e : Expected) : Type 0 where
   pub wins : ℕ
   pub noted : w.noted caller e.word ≡ Some wins
   pub so : (s.word e.word ≡ e.value) ⊎ IsDirty w caller e.word
 
--- the list is that of the callers' wins, as they count them; no note is of wins to come; and what callers expect they have noted
+-- the wins are the callers', as they count them; no note is of wins to come; and what callers expect they have noted
 pub record IsNoted (g : Geometry) (s : State) (w : Wins) : Type 0 where
   pub callers : All (λ x. x.caller < g.callers) w.list
   pub won : (caller : ℕ) → caller < g.callers → (s.errand caller).won ≡ min (count_by (is_by caller) w.list) (2 ^ 64 - 1)
   pub past : (caller : ℕ) (word : WordName) (wins : ℕ) → w.noted caller word ≡ Some wins → wins ≤ length w.list
   pub expected : (caller : ℕ) → caller < g.callers → All (IsExpected s w caller) (expects_of (s.errand caller).point)
 
--- a win makes at most one pair of each other caller dirty, and a lost exchange uses one up
+-- the dirty pairs and the lost exchanges together are at most the wins times the callers but one
 pub record IsContended (g : Geometry) (s : State) (w : Wins) : Type 0 where
   pub most : dirty_pairs g w + callers_sum g lost_of s.errand ≤ (g.callers - 1) * length w.list

@@ -38,7 +38,7 @@ pub record Expected : Type 0 where
 abbrev pub expect : WordName → ℕ → List Expected → List Expected
 expect word value rest = record { word = word; value = value } ∷ rest
 
--- no superblock is the active one: who found that, or took the last credit, expects it until it offers one
+-- a caller expects no superblock to be the active one: who found that, or took the last credit, does until it offers one
 abbrev pub none_active : SeatFields → List Expected
 none_active s = expect (active_name s) (active_word Null) []
 
@@ -47,11 +47,11 @@ unless_credit s Credit = []
 unless_credit s LastCredit = none_active s
 unless_credit s (Grant more) = none_active s
 
--- the anchor is the one that was read
+-- a caller expects the anchor of a superblock to be the one that it read
 abbrev pub anchor_still : ℕ → AnchorFields → List Expected → List Expected
 anchor_still d a rest = expect (name.Anchor d) (anchor_word a) rest
 
--- in a superblock
+-- what a caller expects in a superblock
 abbrev pub block_expects : BlockPoint → List Expected
 block_expects (block.TakeCredit s d credits) = expect (active_name s) (active_word (Held d credits)) []
 block_expects (block.LoadInfo s d share) = unless_credit s share
@@ -70,18 +70,18 @@ block_expects (block.StoreInfo at) = none_active at.seat
 block_expects (block.StoreAnchor at) = none_active at.seat
 block_expects p = []
 
--- what waits behind a part: an allocation that found none active
+-- what a caller expects by what waits behind a part: an allocation found no superblock active
 abbrev pub continuation_expects : SeatFields → Continuation → List Expected
 continuation_expects s (continuation.Alloc words) = none_active s
 continuation_expects s (continuation.TakeFrame words d) = none_active s
 continuation_expects s (continuation.Look words) = none_active s
 continuation_expects s o = []
 
--- the head is the one that was read
+-- a caller expects the head of a stack to be the one that it read
 abbrev pub head_still : SeatFields → Pile → HeadFields → Continuation → List Expected
 head_still s pile h o = expect (head_name s pile) (head_word h) (continuation_expects s o)
 
--- at a stack
+-- what a caller expects at a stack
 abbrev pub stack_expects : StackPoint → Continuation → List Expected
 stack_expects (stack.LoadTop s pile) o = continuation_expects s o
 stack_expects (stack.LoadBelow s pile h) o = head_still s pile h o
@@ -91,11 +91,11 @@ stack_expects (stack.LoadTopToPush s pile i) o = continuation_expects s o
 stack_expects (stack.StoreBelow s pile i h) o = head_still s pile h o
 stack_expects (stack.PushTop s pile i h) o = head_still s pile h o
 
--- the top one of the available descriptors is the one that was read
+-- a caller expects the top one of the available descriptors to be the one that it read
 abbrev pub top_still : ℕ → SeatFields → Continuation → List Expected
 top_still top s o = expect name.DescHead top (continuation_expects s o)
 
--- at the descriptors or the hazard words
+-- what a caller expects at the descriptors or the hazard words
 abbrev pub desc_expects : DescPoint → Continuation → List Expected
 desc_expects (desc.LoadDescHead s) o = continuation_expects s o
 desc_expects (desc.StoreHazard s d) o = top_still (d + 1) s o
@@ -109,7 +109,7 @@ desc_expects (desc.LoadHeadToPush s d) o = continuation_expects s o
 desc_expects (desc.StoreNextDesc s d top) o = top_still top s o
 desc_expects (desc.PushDesc s d top) o = top_still top s o
 
--- at a partial superblock
+-- what a caller expects at a partial superblock
 abbrev pub partial_expects : PartialPoint → Continuation → List Expected
 partial_expects (partial.LoadSlot s) o = continuation_expects s o
 partial_expects (partial.TakeSlot s d) o = expect (slot_name s) (d + 1) (continuation_expects s o)
@@ -123,7 +123,7 @@ partial_expects (partial.LoadHeldSlot s d heap) o = continuation_expects s o
 partial_expects (partial.RemoveFromSlot s d heap) o = expect (slot_of s heap) (d + 1) (continuation_expects s o)
 partial_expects (partial.LoadListedAnchor s d) o = continuation_expects s o
 
--- at a large block, a usable word or a shelf; a put has not seen the shelf
+-- what a caller expects at a large block, a usable word or a shelf; a put has not seen the shelf
 abbrev pub large_expects : LargePoint → List Expected
 large_expects (large.TakeRun want bits) = expect name.Units bits []
 large_expects (large.TakeBlock shelf place need) = expect (name.Shelf shelf) (shelf_word (lies.Block place need)) []

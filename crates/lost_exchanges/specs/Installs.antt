@@ -13,7 +13,7 @@ use Rattle.sound_state.specs.TurnStages.{turn_stage_of, is_seeking, is_offering}
 use Rattle.sound_state.specs.Turns.{one_if, gives_small, refuses_small, errand_discards, turn_unanswered}
 use Rattle.lost_exchanges.specs.Wins.{Win, Wins}
 
--- an install of this caller; of another one; and of another one on this word
+-- whether a win is an install of this caller; of another one; of another one on this word
 abbrev pub installs_by : ℕ → Win → Bool
 installs_by caller x = x.install && is_by caller x
 
@@ -32,18 +32,18 @@ abbrev pub IsActiveName : WordName → Type 0
 IsActiveName (name.Active heap class) = Unit {0}
 IsActiveName n = ⊥
 
--- what the events and the installs of others before a length allow
+-- how many turns a caller may have taken, by its events, its turn that awaits an answer, and so many installs of others
 abbrev pub turns_allowed : State → ℕ → ℕ → ℕ
 turns_allowed s caller installs =
     count_by (gives_small caller) s.history + count_by (refuses_small caller) s.history + installs
     + turn_unanswered (s.errand caller)
 
--- on an active word that a caller expects to be null, and that isn't, another has installed since there were so many wins
+-- another caller has installed on an active word since there were so many wins, where a caller expects it to be null and it isn't
 abbrev pub IsInstalledSince : State → List Win → ℕ → ℕ → Expected → Type 0
 IsInstalledSince s list caller wins e =
     IsActiveName e.word → e.value ≡ active_word Null → s.word e.word ≢ e.value → 0 < count_by (installs_on caller e.word) (drop wins list)
 
--- since a caller found none active, when there were so many wins, in the turn that it is in: it takes no more turns than the installs before allow; what it expects of an active word is so, or another has installed since; and another has where it lost its own install
+-- a caller found no superblock active when there were so many wins, in the turn that it is in: it takes no more turns than the installs before allow; what it expects of an active word is so, or another has installed since; and another has where it lost its own install
 pub record HoldsSince (s : State) (w : Wins) (caller wins : ℕ) : Type 0 where
   pub past : wins ≤ length w.list
   pub turns : (s.errand caller).turns ≤ turns_allowed s caller (count_by (installs_against caller) (take wins w.list))

@@ -24,9 +24,9 @@ pub record Win : Type 0 where
 pub record Wins : Type 0 where
   -- all wins so far, the oldest first
   pub list : List Win
-  -- for each caller and word, when it last saw or changed that word, unless its own exchange there was lost since
+  -- when a caller last saw or changed a word, unless its own exchange there was lost since
   pub noted : ℕ → WordName → Option ℕ
-  -- for each caller, when it found no superblock active, in the turn that it is in
+  -- when a caller found no superblock active, in the turn that it is in
   pub found_none : ℕ → Option ℕ
 
 -- whether two names are the same
@@ -56,7 +56,7 @@ abbrev pub offers : Point → Bool
 offers (point.Block p o) = is_offer p
 offers p = false
 
--- what a caller wins by its next step, if anything
+-- what a caller wins by its next step, if anything; and the list of wins after it
 abbrev pub win_at : State → ℕ → Option Win
 win_at s caller =
     if counts_won (action_at s caller) (found_at s caller)
@@ -66,25 +66,25 @@ win_at s caller =
 abbrev pub win_list_after : State → ℕ → List Win → List Win
 win_list_after s caller list = list ++ option_to_list (win_at s caller)
 
--- an exchange of a number for itself changes nothing
+-- whether the action is an exchange of a number for itself, which changes nothing
 abbrev pub is_self_exchange : Action → Bool
 is_self_exchange (Cas word expected new) = expected == new
 is_self_exchange action = false
 
--- what it notes of the word of that step: nothing where it lost, and that it sees or changes it now; by a self-exchange it notes nothing new
+-- what a caller notes of its step's word: nothing where it lost, nothing new by a self-exchange, else that it sees or changes it now
 abbrev pub note_at : State → ℕ → ℕ → Option ℕ → Option ℕ
 note_at s caller wins old =
     if is_lost_exchange (action_at s caller) (found_at s caller)
     then None
     else (if is_self_exchange (action_at s caller) then old else Some wins)
 
--- the turn that the caller was in has ended at this point, or begins here
+-- whether the point is between turns: the caller's turn has ended there, or begins there
 abbrev pub is_between : Point → Bool
 is_between point.Idle = true
 is_between (point.Block (block.LoadActive s) o) = true
 is_between p = false
 
--- it found no superblock active; or what it noted when it did
+-- what a caller notes of finding no superblock active: at a load of an active word whether it finds that now; else what it noted before
 abbrev pub found_none_by : Point → Found → ℕ → Option ℕ → Option ℕ
 found_none_by (point.Block (block.LoadActive s) o) x wins old = if x.value == active_word Null then Some wins else None
 found_none_by p x wins old = old
@@ -95,7 +95,7 @@ found_none_after s caller wins old =
     then None
     else found_none_by (s.errand caller).point (found_at s caller) wins old
 
--- the wins and the notes after that step
+-- the wins and the notes after a caller's next step
 abbrev pub wins_after : State → ℕ → Wins → Wins
 wins_after s caller w =
     let list = win_list_after s caller w.list in

@@ -8,21 +8,21 @@ use Rattle.packed_words.specs.Fields.{IsExact, Fit, joined, parted}
 use Rattle.packed_words.specs.Active.{IsActiveWord, active_word, active_of}
 use Rattle.packed_words.proofs.ExactLemmas.{exact}
 
--- the widths of the credits and of what stands above them
+-- the widths of an active word's fields: the credits, and what stands above them
 abbrev widths : List ℕ
 widths = CREDIT_BITS ∷ (64 - CREDIT_BITS) ∷ []
 
--- the numbers in them
+-- the numbers in an active word's fields
 abbrev numbers : ActiveWord → List ℕ
 numbers Null = 0 ∷ 0 ∷ []
 numbers (Held desc credits) = credits ∷ (desc + 1) ∷ []
 
--- they fit
+-- the numbers of an active word fit its fields
 numbers-Fit : (a : ActiveWord) → IsActiveWord a → Fit widths (numbers a)
 numbers-Fit Null is = (omega arith, (omega arith, tt))
 numbers-Fit (Held desc credits) is = (omega arith, (omega arith, tt))
 
--- joined, they are its word
+-- the numbers of an active word, joined, are its word
 active_word-joined : (a : ActiveWord) → active_word a ≡ joined widths (numbers a)
 unfolding active_word joined
 active_word-joined Null = omega arith
@@ -47,13 +47,13 @@ unfolding active_of
 active-rule word Null below says = tt
 active-rule word (Held desc credits) below says = grind (arith, nat_tests)
 
--- its numbers are those in the word's fields
+-- the numbers of what an active word says are those in the word's fields
 active-says : (word : ℕ) (a : ActiveWord) → word < 2 ^ 64 → active_of word ≡ Some a → numbers a ≡ parted widths word
 unfolding active_of parted
 active-says word Null below says = grind (arith, nat_tests)
 active-says word (Held desc credits) below says = grind (arith, nat_tests)
 
--- values and words lead to each other, both ways
+-- active words lead to what they say and back, both ways
 pub active-exact : IsExact IsActiveWord active_word active_of
 active-exact =
     exact {widths = widths} {numbers = numbers}

@@ -11,7 +11,7 @@ use Rattle.packed_words.proofs.ExactLemmas.{exact}
 abbrev widths : List ℕ
 widths = AVAIL_BITS ∷ COUNT_BITS ∷ STATE_BITS ∷ TAG_BITS ∷ []
 
--- the numbers in them
+-- the numbers in an anchor's fields
 abbrev numbers : AnchorFields → List ℕ
 numbers a = a.avail ∷ a.count ∷ state_code a.state ∷ a.tag ∷ []
 
@@ -22,14 +22,14 @@ state_code-below Full = omega arith
 state_code-below Partial = omega arith
 state_code-below Empty = omega arith
 
--- and gives the state back
+-- the state of a state's code is that state
 state_of-state_code : (state : AnchorState) → state_of (state_code state) ≡ state
 state_of-state_code Active = refl
 state_of-state_code Full = refl
 state_of-state_code Partial = refl
 state_of-state_code Empty = refl
 
--- joined, the numbers are the word
+-- the numbers of an anchor, joined, are its word
 anchor_word-joined : (a : AnchorFields) → anchor_word a ≡ joined widths (numbers a)
 unfolding anchor_word joined
 anchor_word-joined a = omega arith
@@ -52,7 +52,7 @@ anchor-says word below =
     let tag : bits_at TAG_AT TAG_BITS word ≡ word / 2 ^ AVAIL_BITS / 2 ^ COUNT_BITS / 2 ^ STATE_BITS % 2 ^ TAG_BITS = omega arith in
     cc
 
--- its numbers tell an anchor
+-- anchors with the same numbers are one
 numbers-one : (a b : AnchorFields) → numbers a ≡ numbers b → a ≡ b
 numbers-one a b same =
     let state_a : state_of (state_code a.state) ≡ a.state = state_of-state_code a.state in
@@ -69,7 +69,7 @@ pub IsAnchor-anchor_of : (word : ℕ) → IsAnchor (anchor_of word)
 unfolding anchor_of
 IsAnchor-anchor_of word = record { avail = omega arith; count = omega arith; tag = omega arith }
 
--- values and words lead to each other, both ways
+-- anchors and their words lead to each other, both ways
 pub anchor-exact : IsExact IsAnchor anchor_word (λ word. Some (anchor_of word))
 anchor-exact = exact {widths = widths} {numbers = numbers} (record {
   whole = refl;
@@ -84,7 +84,7 @@ anchor-exact = exact {widths = widths} {numbers = numbers} (record {
 pub anchor_word-below : (a : AnchorFields) → IsAnchor a → anchor_word a < 2 ^ 64
 anchor_word-below a is = anchor-exact.fits a is
 
--- and says the anchor
+-- an anchor's word says the anchor
 pub anchor_of-anchor_word : (a : AnchorFields) → IsAnchor a → anchor_of (anchor_word a) ≡ a
 anchor_of-anchor_word a is = let said : Some (anchor_of (anchor_word a)) ≡ Some a = anchor-exact.back a is in cc
 

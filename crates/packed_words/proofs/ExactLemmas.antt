@@ -12,7 +12,7 @@ pub record HasFields {V : Type 0} (Is : V → Type 0) (word_of : V → ℕ) (val
   pub rule : (word : ℕ) (value : V) → word < 2 ^ 64 → value_of word ≡ Some value → Is value
   pub says : (word : ℕ) (value : V) → word < 2 ^ 64 → value_of word ≡ Some value → numbers value ≡ parted widths word
 
--- its words have 64 bits
+-- the word of a value, where the kind of word has fields, has 64 bits
 word-below :
     {V : Type 0} {Is : V → Type 0} {word_of : V → ℕ} {value_of : ℕ → Option V} {widths : List ℕ} {numbers : V → List ℕ}
     → HasFields Is word_of value_of widths numbers → (value : V) → Is value → word_of value < 2 ^ 64
@@ -27,7 +27,7 @@ word-back {V} {Is} {word_of} {value_of} {widths} {numbers} h value is =
     h.parts (word_of value) value (word-below h value is) is
     (rw (h.joins value is) (parted-joined widths (numbers value) (h.fit value is)))
 
--- what a word says has that word, and where it says nothing, nothing has
+-- a value that a word says has that word, and no value has a word that says nothing
 word-reads :
     {V : Type 0} {Is : V → Type 0} {word_of : V → ℕ} {value_of : ℕ → Option V} {widths : List ℕ} {numbers : V → List ℕ}
     → HasFields Is word_of value_of widths numbers
@@ -62,7 +62,7 @@ pub back :
     → IsExact Is word_of value_of → (word : ℕ) (value : V) → Is value → word ≡ word_of value → value_of word ≡ Some value
 back {V} {Is} {word_of} {value_of} h word value is same = rw same (h.back value is)
 
--- what a word says, it reads
+-- a word of an exact kind reads as what it says
 pub reads :
     {V : Type 0} {Is : V → Type 0} {word_of : V → ℕ} {value_of : ℕ → Option V}
     → IsExact Is word_of value_of → (word : ℕ) (said : Option V) → word < 2 ^ 64 → said ≡ value_of word → Reads Is word_of word said

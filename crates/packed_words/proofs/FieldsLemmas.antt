@@ -9,11 +9,11 @@ use Rattle.packed_words.specs.Fields.{Fit, joined, parted}
 low_bits : (bits low high : ℕ) → low < 2 ^ bits → (low + high * 2 ^ bits) % 2 ^ bits ≡ low
 low_bits bits low high fits = rw (add_comm low (high * 2 ^ bits)) (mod-mul-add high (2 ^ bits) low fits)
 
--- what stands above them
+-- the high bits of a number above another
 high_bits : (bits low high : ℕ) → low < 2 ^ bits → (low + high * 2 ^ bits) / 2 ^ bits ≡ high
 high_bits bits low high fits = rw (add_comm low (high * 2 ^ bits)) (div-mul-add high (2 ^ bits) low fits)
 
--- the bits of a field and of those above it
+-- the bits of some fields: those of the first, and those above it
 sum-cons : (bits : ℕ) (more : List ℕ) → sum (bits ∷ more) ≡ bits + sum more
 sum-cons = sum_by-cons (λ bits. bits)
 

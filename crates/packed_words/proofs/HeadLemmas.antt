@@ -9,11 +9,11 @@ use Rattle.packed_words.proofs.ExactLemmas.{exact}
 abbrev widths : List ℕ
 widths = TOP_BITS ∷ HEAD_TAG_BITS ∷ []
 
--- the numbers in them
+-- the numbers in a head's fields
 abbrev numbers : HeadFields → List ℕ
 numbers h = h.top ∷ h.tag ∷ []
 
--- joined, they are the word
+-- the numbers of a head, joined, are its word
 head_word-joined : (h : HeadFields) → head_word h ≡ joined widths (numbers h)
 unfolding head_word joined
 head_word-joined h = omega arith
@@ -24,7 +24,7 @@ unfolding head_of parted
 head-says word =
     let top : bits_at 0 TOP_BITS word ≡ word % 2 ^ TOP_BITS = omega arith in cc
 
--- its numbers tell a head
+-- heads with the same numbers are one
 numbers-one : (g h : HeadFields) → numbers g ≡ numbers h → g ≡ h
 numbers-one g h same =
     let top : g.top ≡ h.top = cc in
@@ -37,7 +37,7 @@ pub IsHead-head_of : (word : ℕ) → IsHead (head_of word)
 unfolding head_of
 IsHead-head_of word = record { top = omega arith; tag = omega arith }
 
--- values and words lead to each other, both ways
+-- heads and their words lead to each other, both ways
 pub head-exact : IsExact IsHead head_word (λ word. Some (head_of word))
 head-exact =
     exact {widths = widths} {numbers = numbers}
@@ -56,7 +56,7 @@ head-exact =
 pub head_word-below : (h : HeadFields) → IsHead h → head_word h < 2 ^ 64
 head_word-below h is = head-exact.fits h is
 
--- and says the head
+-- a head's word says the head
 pub head_of-head_word : (h : HeadFields) → IsHead h → head_of (head_word h) ≡ h
 head_of-head_word h is = let said : Some (head_of (head_word h)) ≡ Some h = head-exact.back h is in cc
 

@@ -8,21 +8,21 @@ use Rattle.packed_words.specs.Fields.{IsExact, Fit, joined, parted}
 use Rattle.packed_words.specs.Prefix.{IsPrefix, prefix_word, prefix_of}
 use Rattle.packed_words.proofs.ExactLemmas.{exact}
 
--- the widths of the kind and of what stands above it
+-- the widths of a prefix word's fields: the kind, and what stands above it
 abbrev widths : List ℕ
 widths = KIND_BITS ∷ (64 - KIND_BITS) ∷ []
 
--- the numbers in them
+-- the numbers in a prefix word's fields
 abbrev numbers : Prefix → List ℕ
 numbers (Small desc) = 0 ∷ desc ∷ []
 numbers (Large units) = 1 ∷ units ∷ []
 
--- they fit
+-- the numbers of a prefix word fit its fields
 numbers-Fit : (p : Prefix) → IsPrefix p → Fit widths (numbers p)
 numbers-Fit (Small desc) is = (omega arith, (omega arith, tt))
 numbers-Fit (Large units) is = (omega arith, (omega arith, tt))
 
--- joined, they are its word
+-- the numbers of a prefix, joined, are its word
 prefix_word-joined : (p : Prefix) → prefix_word p ≡ joined widths (numbers p)
 unfolding prefix_word joined
 prefix_word-joined (Small desc) = omega arith
@@ -47,13 +47,13 @@ unfolding prefix_of
 prefix-rule word (Small desc) below says = grind (arith, nat_tests)
 prefix-rule word (Large units) below says = grind (arith, nat_tests)
 
--- its numbers are those in the word's fields
+-- the numbers of what a prefix word says are those in the word's fields
 prefix-says : (word : ℕ) (p : Prefix) → word < 2 ^ 64 → prefix_of word ≡ Some p → numbers p ≡ parted widths word
 unfolding prefix_of parted
 prefix-says word (Small desc) below says = grind (arith, nat_tests)
 prefix-says word (Large units) below says = grind (arith, nat_tests)
 
--- values and words lead to each other, both ways
+-- prefixes and their words lead to each other, both ways
 pub prefix-exact : IsExact IsPrefix prefix_word prefix_of
 prefix-exact =
     exact {widths = widths} {numbers = numbers}

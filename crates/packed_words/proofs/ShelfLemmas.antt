@@ -10,11 +10,11 @@ use Rattle.packed_words.specs.Fields.{IsExact, Fit, joined, parted}
 use Rattle.packed_words.specs.Shelf.{IsBlockNeed, IsShelfWord, need_code, need_of_code, shelf_word, shelf_of}
 use Rattle.packed_words.proofs.ExactLemmas.{exact}
 
--- the widths of the need's code and of what stands above it
+-- the widths of the fields of a shelf's word: the need's code, and what stands above it
 abbrev widths : List ℕ
 widths = CODE_BITS ∷ (64 - CODE_BITS) ∷ []
 
--- the numbers in them
+-- the numbers in the fields of a shelf's word
 abbrev numbers : ShelfWord → List ℕ
 numbers Nothing = 0 ∷ 0 ∷ []
 numbers (Block place need) = need_code need ∷ (place + 1) ∷ []
@@ -25,7 +25,7 @@ need_code-below (Small class) is = omega arith
 need_code-below (Large units) is = omega arith
 need_code-below TooLarge is = elim is [ ]
 
--- and gives the need back
+-- the need of a need's code is that need, where blocks serve it
 need_of_code-need_code : (need : Need) → IsBlockNeed need → need_of_code (need_code need) ≡ Some need
 need_of_code-need_code (Small class) is = grind (arith, nat_tests)
 need_of_code-need_code (Large units) is = grind (arith, nat_tests)
@@ -37,18 +37,18 @@ need_of_code-rule code (Small class) says = grind (arith, nat_tests)
 need_of_code-rule code (Large units) says = grind (arith, nat_tests)
 need_of_code-rule code TooLarge says = grind (arith, nat_tests)
 
--- with that code
+-- the code of a need that a code says is that code
 need_code-need_of_code : (code : ℕ) (need : Need) → need_of_code code ≡ Some need → need_code need ≡ code
 need_code-need_of_code code (Small class) says = grind (arith, nat_tests)
 need_code-need_of_code code (Large units) says = grind (arith, nat_tests)
 need_code-need_of_code code TooLarge says = grind (arith, nat_tests)
 
--- they fit
+-- the numbers of a shelf's word fit its fields
 numbers-Fit : (s : ShelfWord) → IsShelfWord s → Fit widths (numbers s)
 numbers-Fit Nothing is = (omega arith, (omega arith, tt))
 numbers-Fit (Block place need) is = (need_code-below need is.1, (omega arith, tt))
 
--- joined, they are its word
+-- the numbers of a shelf's word, joined, are the word
 shelf_word-joined : (s : ShelfWord) → shelf_word s ≡ joined widths (numbers s)
 unfolding shelf_word joined
 shelf_word-joined Nothing = omega arith
@@ -74,13 +74,13 @@ unfolding shelf_of
 shelf-rule word Nothing below says = tt
 shelf-rule word (Block place need) below says = grind (arith, nat_tests, need_of_code-rule)
 
--- its numbers are those in the word's fields
+-- the numbers of what a shelf's word says are those in the word's fields
 shelf-says : (word : ℕ) (s : ShelfWord) → word < 2 ^ 64 → shelf_of word ≡ Some s → numbers s ≡ parted widths word
 unfolding shelf_of parted
 shelf-says word Nothing below says = grind (arith, nat_tests)
 shelf-says word (Block place need) below says = grind (arith, nat_tests, need_code-need_of_code)
 
--- values and words lead to each other, both ways
+-- shelves' words lead to what they say and back, both ways
 pub shelf-exact : IsExact IsShelfWord shelf_word shelf_of
 shelf-exact =
     exact {widths = widths} {numbers = numbers}

@@ -5,12 +5,12 @@ use Rattle.packed_words.specs.declared.active.ActiveWord.TheVariants.{Null, Held
 use Rattle.packed_words.specs.declared.widths.TheConstants.{CREDIT_BITS, DESC_BITS}
 use Rattle.packed_words.specs.Fields.{bits_at, is_within}
 
--- each number fits its bits
+-- the descriptor and the credits of an active word fit their bits
 abbrev pub IsActiveWord : ActiveWord → Type 0
 IsActiveWord Null = Unit {0}
 IsActiveWord (Held desc credits) = (desc < 2 ^ DESC_BITS) × (credits < 2 ^ CREDIT_BITS)
 
--- the word that says it: 0 for null, else the credits, and above them the descriptor plus 1
+-- the word that says an active word: 0 for null, else the credits, and above them the descriptor plus 1
 unfoldable pub active_word : ActiveWord → ℕ
 active_word Null = 0
 active_word (Held desc credits) = credits + (desc + 1) * 2 ^ CREDIT_BITS

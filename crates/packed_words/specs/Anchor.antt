@@ -12,7 +12,7 @@ pub record AnchorFields : Type 0 where
   pub state : AnchorState
   pub tag : ℕ
 
--- each number fits its bits
+-- each number of an anchor fits its bits
 pub record IsAnchor (a : AnchorFields) : Type 0 where
   pub avail : a.avail < 2 ^ AVAIL_BITS
   pub count : a.count < 2 ^ COUNT_BITS

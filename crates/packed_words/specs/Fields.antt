@@ -20,7 +20,7 @@ unfoldable pub parted : List ℕ → ℕ → List ℕ
 parted [] word = []
 parted (bits ∷ more) word = word % 2 ^ bits ∷ parted more (word / 2 ^ bits)
 
--- there is a number for each field, and it fits the field's bits
+-- the numbers are one for each field, and each fits its field's bits
 abbrev pub Fit : List ℕ → List ℕ → Type 0
 Fit [] [] = Unit {0}
 Fit [] (value ∷ rest) = ⊥

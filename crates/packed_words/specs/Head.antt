@@ -8,7 +8,7 @@ pub record HeadFields : Type 0 where
   pub top : ℕ
   pub tag : ℕ
 
--- each number fits its bits
+-- each number of a head fits its bits
 pub record IsHead (h : HeadFields) : Type 0 where
   pub top : h.top < 2 ^ TOP_BITS
   pub tag : h.tag < 2 ^ HEAD_TAG_BITS

@@ -10,17 +10,17 @@ pub record InfoFields : Type 0 where
   pub heap : ℕ
   pub class : ℕ
 
--- each number is within the limits of a heap
+-- each number of a descriptor's word is within the limits of a heap
 pub record IsInfo (i : InfoFields) : Type 0 where
   pub frame : i.frame < MAX_FRAMES
   pub heap : i.heap < MAX_HEAPS
   pub class : i.class < CLASSES
 
--- the word that says it
+-- the word of a descriptor, which says the frame, the processor heap and the class of its superblock
 unfoldable pub info_word : InfoFields → ℕ
 info_word i = i.frame + i.heap * 2 ^ HEAP_AT + i.class * 2 ^ CLASS_AT
 
--- what a word says, where all of it is within the limits of a heap
+-- what a descriptor's word says, where all of it is within the limits of a heap
 unfoldable pub info_of : ℕ → Option InfoFields
 info_of word =
     let frame = bits_at 0 FRAME_BITS word in

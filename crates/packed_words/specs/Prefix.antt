@@ -7,12 +7,12 @@ use Rattle.packed_words.specs.declared.prefix.Prefix.TheVariants.{Small, Large}
 use Rattle.packed_words.specs.declared.widths.TheConstants.{AVAIL_BITS, KIND_BITS, DESC_BITS}
 use Rattle.packed_words.specs.Fields.{bits_at, is_within}
 
--- a descriptor that fits its bits, or units that a heap has
+-- a prefix has a descriptor that fits its bits, or units that a heap has
 abbrev pub IsPrefix : Prefix → Type 0
 IsPrefix (Small desc) = desc < 2 ^ DESC_BITS
 IsPrefix (Large units) = IsWithin 1 MAX_UNITS units
 
--- the word that says it: even for a small block, odd for a large one
+-- the word of a prefix: even for a small block, odd for a large one
 unfoldable pub prefix_word : Prefix → ℕ
 prefix_word (Small desc) = 0 + desc * 2 ^ KIND_BITS
 prefix_word (Large units) = 1 + units * 2 ^ KIND_BITS

@@ -16,7 +16,7 @@ IsBlockNeed (Small class) = class < CLASSES
 IsBlockNeed (Large units) = IsWithin LEAST_UNITS MAX_UNITS units
 IsBlockNeed TooLarge = ⊥
 
--- nothing, or a place of the arena and a need that blocks serve
+-- a shelf has nothing, or a place of the arena and a need that blocks serve
 abbrev pub IsShelfWord : ShelfWord → Type 0
 IsShelfWord Nothing = Unit {0}
 IsShelfWord (Block place need) = (place < MAX_ARENA_WORDS) × IsBlockNeed need
@@ -37,7 +37,7 @@ need_of_code code =
     then Some (Large (code - LARGE_CODE))
     else None)
 
--- the word that says it: 0 for nothing, else the need's code, and above it the place plus 1
+-- the word of a shelf: 0 for nothing, else the need's code, and above it the place plus 1
 unfoldable pub shelf_word : ShelfWord → ℕ
 shelf_word Nothing = 0
 shelf_word (Block place need) = need_code need + (place + 1) * 2 ^ CODE_BITS

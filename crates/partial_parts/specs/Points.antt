@@ -21,7 +21,7 @@ use Rattle.heap_geometry.specs.declared.geometry.Geometry.{Geometry}
 use Rattle.word_table.specs.declared.limits.TheConstants.{MOST_CREDITS}
 use Rattle.word_table.specs.Counts.{descriptor_count}
 
--- for whom the point is
+-- the seat that a point of a partial superblock is for
 abbrev pub seat_of_partial : PartialPoint → SeatFields
 seat_of_partial (LoadSlot s) = s
 seat_of_partial (TakeSlot s d) = s
@@ -35,7 +35,7 @@ seat_of_partial (LoadHeldSlot s d heap) = s
 seat_of_partial (RemoveFromSlot s d heap) = s
 seat_of_partial (LoadListedAnchor s d) = s
 
--- for whom the exit is
+-- the seat that an exit from a partial superblock is for
 abbrev pub seat_of_partial_exit : PartialExit → SeatFields
 seat_of_partial_exit (SlotEmpty s) = s
 seat_of_partial_exit (Granted at more) = at.seat
@@ -65,53 +65,53 @@ plan_partial_of (LoadHeldSlot s d heap) = Load (slot_of s heap)
 plan_partial_of (RemoveFromSlot s d heap) = Cas (slot_of s heap) (d + 1) 0
 plan_partial_of (LoadListedAnchor s d) = Load (name.Anchor d)
 
--- where what a slot names leads, for who takes it; the point stays where the heap has no such descriptor
+-- the point after a slot was read that names a descriptor, for who takes it; it stays where the heap has no such one
 abbrev pub after_kept : SeatFields → Option ℕ → PartialPoint
 after_kept s None = LoadSlot s
 after_kept s (Some d) = TakeSlot s d
 
--- where the slot of the caller's processor heap leads
+-- the point or exit after the slot of the caller's processor heap was read
 abbrev pub after_slot : SeatFields → ℕ → Onward PartialPoint PartialExit
 after_slot s word = if word == 0 then Leaves (SlotEmpty s) else Stays (after_kept s (desc_named s.geometry word))
 
--- where the word of a taken descriptor leads
+-- the point after the word of a taken descriptor was read
 abbrev pub after_taken_info : SeatFields → ℕ → Option InfoFields → PartialPoint
 after_taken_info s d None = LoadTakenInfo s d
 after_taken_info s d (Some info) = StoreOwner (record { seat = s; desc = d; frame = info.frame })
 
--- where the anchor of a superblock leads that is not empty, for a grant
+-- the point after the anchor of a superblock that is not empty was read for a grant
 abbrev pub after_live : Site → Option AnchorFields → PartialPoint
 after_live at None = LoadGrantAnchor at
 after_live at (Some a) = Grant at a
 
--- where the anchor of a taken superblock leads, by all that it says, and by what is expected
+-- the point or exit after the anchor of a taken superblock was read, by all that it says, and by what is expected
 abbrev pub after_grant_anchor : Site → AnchorFields → Option AnchorFields → Onward PartialPoint PartialExit
 after_grant_anchor at a expected = if is_empty a.state then Leaves (TookEmpty at) else Stays (after_live at expected)
 
--- where the word of a descriptor leads whose superblock became partial
+-- the point after the word of a descriptor was read whose superblock became partial
 abbrev pub after_owner : SeatFields → ℕ → Option InfoFields → PartialPoint
 after_owner s d None = LoadOwner s d
 after_owner s d (Some info) = PutSlot s d info.heap
 
--- where what a slot named leads, for who put another one there
+-- the point or exit after a superblock was put into a slot that named another one, by what the slot named
 abbrev pub after_displaced : SeatFields → ℕ → ℕ → Option ℕ → Onward PartialPoint PartialExit
 after_displaced s d heap None = Stays (PutSlot s d heap)
 after_displaced s d heap (Some other) = Leaves (Displaced s other)
 
--- where the slot leads into which a superblock was put
+-- the point or exit after a superblock was put into a slot, by the word that stood there
 abbrev pub after_put : SeatFields → ℕ → ℕ → ℕ → Onward PartialPoint PartialExit
 after_put s d heap word =
     if word == 0 then Leaves (SlotFilled s) else after_displaced s d heap (desc_named s.geometry word)
 
--- where the slot leads in which an empty superblock may stand
+-- the point or exit after the slot was read in which an empty superblock may stand
 abbrev pub after_held_slot : SeatFields → ℕ → ℕ → ℕ → Onward PartialPoint PartialExit
 after_held_slot s d heap word = if word == d + 1 then Stays (RemoveFromSlot s d heap) else Leaves (NotInSlot s)
 
--- where the anchor of a superblock from the list leads
+-- the exit after the anchor of a superblock from the list was read
 abbrev pub after_listed_anchor : SeatFields → ℕ → AnchorFields → PartialExit
 after_listed_anchor s d a = if is_empty a.state then ListedEmpty s d else ListedPartial s d
 
--- where a point leads, by what its action found
+-- the point or exit after a step at a point of a partial superblock, by what its action found
 abbrev pub settle_partial_of : PartialPoint → Found → Onward PartialPoint PartialExit
 settle_partial_of (LoadSlot s) x = after_slot s x.value
 settle_partial_of (TakeSlot s d) x = Stays (if x.won then LoadTakenInfo s d else LoadSlot s)
@@ -127,7 +127,7 @@ settle_partial_of (LoadHeldSlot s d heap) x = after_held_slot s d heap x.value
 settle_partial_of (RemoveFromSlot s d heap) x = Leaves (if x.won then Removed s d else NotInSlot s)
 settle_partial_of (LoadListedAnchor s d) x = Leaves (after_listed_anchor s d (anchor_of x.value))
 
--- the same, and the processor heap that the superblock was last taken for
+-- a seat of this caller of this heap, a descriptor that the heap has, and the processor heap that its superblock was last taken for
 pub record IsOwnedBy (g : Geometry) (caller : ℕ) (s : SeatFields) (d heap : ℕ) : Type 0 where
   pub seat : IsSeatOf g caller s
   pub desc : d < descriptor_count g

@@ -6,13 +6,13 @@ use Rattle.block_pipe.specs.declared.pipe.Pipe.{Pipe}
 use Rattle.block_pipe.specs.declared.receiver.Receiver.{Receiver}
 use Rattle.block_pipe.specs.Ends.{ComesTo, IsNextIn, popped_by}
 
--- it has kept the note, which is the next one behind those that it had popped
+-- the receiver has kept the note, which is the next one behind those that it had popped
 pub record HasKept (pipe : Pipe) (r : Receiver) (note : Note) (t : Receiver) : Type 0 where
   pub kept : t.kept ≡ Some note
   pub popped : popped_by t ≡ popped_by r ++ note ∷ []
   pub next : IsNextIn pipe (popped_by r) note
 
--- it has come to no note yet, or to one that it keeps
+-- the receiver has come to no note yet, or to one that it keeps
 abbrev pub HasCome : Pipe → Receiver → Receiver → Type 0
 HasCome pipe r t = ((t.kept ≡ None) × (popped_by t ≡ popped_by r)) ⊎ ((note : Note) × HasKept pipe r note t)
 
@@ -30,7 +30,7 @@ comes-to pipe r t u note (inr has) (inl comes) =
     )
 comes-to pipe r t u note (inr has) (inr comes) = absurd (none-some has.0 (sym comes.0 ∙ has.1.kept))
 
--- where it finds the queue empty it has come to none
+-- a receiver that finds the queue empty has come to no note
 pub comes-to-nothing : (pipe : Pipe) (r t u : Receiver) → HasCome pipe r t → t.kept ≡ None → popped_by u ≡ popped_by t → popped_by u ≡ popped_by r
 comes-to-nothing pipe r t u (inl here) none same = same ∙ here.1
 comes-to-nothing pipe r t u (inr has) none same = absurd (none-some has.0 (sym none ∙ has.1.kept))

@@ -94,7 +94,7 @@ fresh c block = fresh_block c 3 block.place
 given-serves : (h : Heap) (p q : Pass) (block : Block) → IsWhole h p (alloc 3) (reply.Given block.place block.need) h q → block.need ≡ need_of 3
 given-serves h p q block whole = pass-serves h h p q 3 block.place block.need whole
 
--- one that was, behind others that were not
+-- an allocation that was given a block, behind others that were not
 pub has-allocated :
     (h : Heap) (p q r : Pass) (block : Block) → KeepsBlocks h p q
     → IsWhole h q (alloc 3) (reply.Given block.place block.need) h r → HasAllocated h p 3 block r
@@ -132,7 +132,7 @@ read-keeps h p q block i word of owned called =
     keeps-whole h p q (read block.place block.need i) (reply.Word word) ended.read
     (one-step h p q (read block.place block.need i) (reply.Word word) of called owned) refl tt (λ place. tt) (λ blocks. refl)
 
--- the block has one word more then
+-- the block has one word more behind a write
 wrote-there :
     (h : Heap) (p q : Pass) (block : Block) (i v : ℕ) (b : PoolBlock) → IsOf h q
     → HasCalled p (write block.place block.need i v) 0 reply.Wrote q → owned_in p block.place ≡ Some b
@@ -233,7 +233,7 @@ pub three-usable : 3 ≤ usable_words (need_of 3)
 unfolding need_of needs.least
 three-usable = omega arith
 
--- a put on the sender's next shelf, which it came to so
+-- a put on the shelf that a sender had come to as its next one
 pub handed :
     (h : Heap) (pipe : Pipe) (p last q : Pass) (e f : Sender) (block left : Block) → KeepsBlocks h p last → OwnsSame p last → IsOf h q
     → HasPutNext pipe f last left q → f ≡ e → left ≡ block → HasHandedOver h p block (shelf_for pipe.shelves e.number e.sent) q

@@ -49,7 +49,7 @@ quiet-closed g n events legal each =
       | inr far ↦ subst (IsQuiet n 8) (sym (own-none g events k legal (omega (arith, far)))) (EachAfter-nil (IsQuietAfter n 8))
     ])
 
--- and puts on no other shelf where theirs do not
+-- the history puts on no other shelf where the callers' own events do not
 tail-own :
     (P : Event → Type 0) (c : ℕ) (event : Event) (events : List Event) → All P (own c (event ∷ events)) → All P (own c events)
 tail-own P c event events all =
@@ -79,7 +79,7 @@ within-closed g n events legal each =
       | inr far ↦ subst (All (PutsWithin n)) (sym (own-none g events k legal (omega (arith, far)))) (All-nil (PutsWithin n))
     ])
 
--- so nothing was put on another shelf, and nothing lies there
+-- nothing was put on a shelf that is not the pipe's, and nothing lies there
 off-one : (n shelf : ℕ) (event : Event) → n * 8 ≤ shelf → PutsWithin n event → is_put_on shelf event ≡ false
 off-one n shelf (Alloc caller need place) far within = refl
 off-one n shelf (Looked caller class) far within = refl

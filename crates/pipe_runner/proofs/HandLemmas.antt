@@ -54,7 +54,7 @@ one-more c h rest before event is whole owned =
           (more, sym front, nil_from_length (own c more) (omega (arith, long, one, sum, two)))
     ]
 
--- behind what was seen, and behind events of others, a block that lies there is handed over by the last event; these are its words
+-- a block that lies at this place is handed over by the last event, behind what was seen and events of others
 pub record IsHandedAt (c : ℕ) (h now : List Event) (event : Event) (place : ℕ) (b : PoolBlock) : Type 0 where
   pub own_more : own c now ≡ own c h ++ event ∷ []
   pub more : List Event

@@ -40,7 +40,7 @@ all-home (event ∷ events) out =
     All-cons StaysHome event events (one-home event (λ n m. All-head (IsOutside n m) event events (out n m)))
     (all-home events (λ n m. All-tail (IsOutside n m) event events (out n m)))
 
--- and the other way round
+-- an event that stays home is outside of each pipe, and so is each of a list
 one-outside : (n m : ℕ) (event : Event) → StaysHome event → IsOutside n m event
 one-outside n m (Alloc caller need place) home = tt
 one-outside n m (Looked caller class) home = tt
@@ -57,7 +57,7 @@ home-outside n m (event ∷ events) home =
     All-cons (IsOutside n m) event events (one-outside n m event (All-head StaysHome event events home))
     (home-outside n m events (All-tail StaysHome event events home))
 
--- none of them is chosen where a chosen event is a hand-over
+-- no event that stays home is chosen where a chosen event is a hand-over
 pub home-none :
     (chosen : Event → Bool) (events : List Event) → ((event : Event) → StaysHome event → chosen event ≡ false) → All StaysHome events
     → count_by chosen events ≡ 0
@@ -136,7 +136,7 @@ whole-goes h p q call answer end (by_steps made, may, same, is) there home =
     called-goes p q call made.0 answer end made.1 there home
 whole-goes h p q call answer end (at_once words is_alloc spent once, may, same, is) there home = goes-here p q once.same
 
--- what it has seen of its own, and what of that counts
+-- what a pass that goes on has seen of its own, and what of that counts
 pub goes-own : (p q : Pass) (g : PassGoesOn p q) → own p.errand.caller (seen q) ≡ own p.errand.caller (seen p) ++ own p.errand.caller g.more
 goes-own p q g = ap (own p.errand.caller) g.grows ∙ own-append p.errand.caller (seen p) g.more
 

@@ -75,7 +75,7 @@ pub push-long : {X : Type 0} (xs ys : List X) (x : X) → xs ≡ ys ++ x ∷ [] 
 push-long xs ys x is = ap length is ∙ length-append ys (x ∷ [])
 
 module _ (passed : ℕ → ℕ → Type 0) (h : Heap) (pipe : Pipe) (start : ℕ) where
-  -- one more behind threads that are numbered downwards, and the last one of them gone
+  -- threads that are numbered downwards: one more behind them, and the last one of them gone
   pub sending-push :
       (count number : ℕ) (ws : List SenderThread) (w : SenderThread) → AreSending passed h pipe start count (suc number) ws
       → IsSending passed h pipe start count w → w.end.number ≡ number → AreSending passed h pipe start count number (ws ++ w ∷ [])
@@ -106,7 +106,7 @@ module _ (passed : ℕ → ℕ → Type 0) (h : Heap) (pipe : Pipe) (start : ℕ
     has = fresh-sent passed h pipe.senders start p fresh;
   })
 
-  -- one pass and one end more, of the next sender
+  -- the passes and ends of senders, with one more of the next sender
   pub done-push :
       (count number : ℕ) (ps : List Pass) (es : List Sender) (p : Pass) (e : Sender) → AreDone passed h pipe start count number ps es
       → HasDone passed h pipe start count (number + length ps) p e → AreDone passed h pipe start count number (ps ++ p ∷ []) (es ++ e ∷ [])

@@ -10,7 +10,7 @@ use Rattle.pipe_runner.specs.declared.sender.SenderThread.{SenderThread}
 use Rattle.pipe_runner.specs.Senders.{AreSending, IsSending, MaySend, SendsUntil}
 
 module _ (passed : ℕ → ℕ → Type 0) (h : Heap) (pipe : Pipe) (start : ℕ) where
-  -- each of them may send
+  -- each sender's thread may send in a round
   pub sending-may :
       (from until number : ℕ) (ws : List SenderThread) → AreSending passed h pipe start from number ws → from ≤ until → until ≤ 100000
       → All (λ w. MaySend passed h pipe start until w) ws
@@ -23,7 +23,7 @@ module _ (passed : ℕ → ℕ → Type 0) (h : Heap) (pipe : Pipe) (start : ℕ
         few = few;
       }) (sending-may from until number ws all.2 more few)
 
-  -- and has sent then
+  -- each sender's thread has sent behind a round
   pub sending-done :
       (from until number : ℕ) (ws xs : List SenderThread) → length xs ≡ length ws
       → ((i : ℕ) (d : SenderThread) → i < length ws → SendsUntil passed h pipe start until (get_or ws i d) (get_or xs i d))

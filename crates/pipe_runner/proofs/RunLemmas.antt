@@ -69,7 +69,7 @@ over-nothing h n c k place rests o =
     (closed-owned c o.p place rests o.in_it ∙ o.between.nothing.1 place (All-nil (λ block. block.place ≢ place)))
 
 module _ (passed : ℕ → ℕ → Type 0) (h : Heap) (pipe : Pipe) (start count : ℕ) where
-  -- the one with a number
+  -- the pass and the end of the sender with a number
   pub done-find :
       (number : ℕ) (ps : List Pass) (es : List Sender) (P : Pass → Type 0) (Q : Sender → Type 0) → AreDone passed h pipe start count number ps es
       → All P ps → All Q es → (k : ℕ) → number ≤ k → k < number + length ps
@@ -84,7 +84,7 @@ module _ (passed : ℕ → ℕ → Type 0) (h : Heap) (pipe : Pipe) (start count
   done-find number (p ∷ ps) [] P Q all ps_all es_all k least lt = absurd all
   done-find number [] (e ∷ es) P Q all ps_all es_all k least lt = absurd all
 
-  -- all are idle, and all ends are theirs
+  -- all passes of senders are idle, and all ends are theirs
   pub done-idle :
       (number : ℕ) (ps : List Pass) (es : List Sender) → AreDone passed h pipe start count number ps es → All (λ p. IsOf h p × IsIdle p.errand) ps
   done-idle number [] [] all = All-nil (λ p. IsOf h p × IsIdle p.errand)

@@ -66,7 +66,7 @@ sent-goes passed h senders start count p q below has g = record {
   passed_gate = has.passed_gate;
 }
 
--- with the put of the next message on the next shelf
+-- a sender has sent one more message, with the put of it on its next shelf
 pub sent-more :
     (passed : ℕ → ℕ → Type 0) (senders start count c place shelf : ℕ) (h now : List Event) (b : PoolBlock) → c < senders
     → HasSentIn passed senders start count c h → passed c count → shelf ≡ turn_of 8 c count → b.contents ≡ message_of start c count

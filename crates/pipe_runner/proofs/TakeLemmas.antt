@@ -61,7 +61,7 @@ pub record HasOneMore (s : ℕ) (counts folds counts_now folds_now : ℕ → ℕ
   pub fold : HasThreeWords b.contents → folds_now s ≡ with_words (folds s) b.contents
   pub other_folds : (k : ℕ) → k ≢ s → folds_now k ≡ folds k
 
--- with the take of the next block of a sender from its next shelf
+-- what was taken of each sender, with the take of a sender's next block from its next shelf
 taken-here :
     (n s place shelf : ℕ) (h now : List Event) (b : PoolBlock) → sender_of 8 shelf ≡ s → IsHandedAt n h now (Take n shelf place) place b
     → taken n 8 s now ≡ taken n 8 s h ++ parcel_of b ∷ []

@@ -10,7 +10,7 @@ three_from first = Some first ∷ Some ((first + 1) % 2 ^ 64) ∷ Some ((first +
 abbrev pub first_word : ℕ → ℕ → ℕ → ℕ
 first_word start sender i = (start + (1000 * sender + i)) % 2 ^ 64
 
--- what the message contains
+-- what message i of a sender contains
 abbrev pub message_of : ℕ → ℕ → ℕ → List (Option ℕ)
 message_of start sender i = three_from (first_word start sender i)
 
@@ -27,13 +27,13 @@ contents_of parcels = map (λ parcel. parcel.contents) parcels
 abbrev pub with_word : ℕ → ℕ → ℕ
 with_word fold word = (fold * 31 + word) % 2 ^ 64
 
--- all words that were written are, in their order
+-- all words of a block that were written are folded in, in their order
 abbrev pub with_words : ℕ → List (Option ℕ) → ℕ
 with_words fold [] = fold
 with_words fold (Some word ∷ words) = with_words (with_word fold word) words
 with_words fold (None ∷ words) = with_words fold words
 
--- so are those of parcels, one parcel after the other
+-- all words of parcels that were written are folded in, one parcel after the other
 abbrev pub fold_from : ℕ → List Parcel → ℕ
 fold_from fold [] = fold
 fold_from fold (parcel ∷ parcels) = fold_from (with_words fold parcel.contents) parcels
@@ -42,10 +42,10 @@ fold_from fold (parcel ∷ parcels) = fold_from (with_words fold parcel.contents
 abbrev pub fold_of : List Parcel → ℕ
 fold_of parcels = fold_from 0 parcels
 
--- it has three words, all of them written
+-- a block has three words, all of them written
 abbrev pub HasThreeWords : List (Option ℕ) → Type 0
 HasThreeWords contents = (a b c : ℕ) × (contents ≡ Some a ∷ Some b ∷ Some c ∷ [])
 
--- so has each of the parcels
+-- each of some parcels has three words, all of them written
 abbrev pub HaveThreeWords : List Parcel → Type 0
 HaveThreeWords parcels = All (λ parcel. HasThreeWords parcel.contents) parcels

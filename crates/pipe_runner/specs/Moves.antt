@@ -29,12 +29,12 @@ pub record PassGoesOn (p q : Pass) : Type 0 where
   pub grows : seen q ≡ seen p ++ more
   pub home : All StaysHome (own p.errand.caller more)
 
--- a pass at rest has gone on so, and is at rest
+-- a pass has gone on without a hand-over, and is at rest
 pub record HasMoved (h : Heap) (p q : Pass) : Type 0 where
   pub goes : PassGoesOn p q
   pub rest : IsAtRest h q
 
--- it owns just this block now, as it is given, and nothing else; before it owned nothing
+-- a pass has been given this block and owns it, as it is given; and it owns nothing else if it owned nothing before
 pub record HasAllocated (h : Heap) (p : Pass) (words : ℕ) (block : Block) (q : Pass) : Type 0 where
   pub moves : HasMoved h p q
   pub given : owned_in q block.place ≡ Some (fresh_block p.errand.caller words block.place)
@@ -42,13 +42,13 @@ pub record HasAllocated (h : Heap) (p : Pass) (words : ℕ) (block : Block) (q :
   pub serves : block.need ≡ need_of words
   pub holds : HoldsExactly p [] → HoldsExactly q (block ∷ [])
 
--- it has changed nothing of what it owns but the words in its block
+-- a pass has changed nothing of what it owns but the words in its blocks
 pub record KeepsBlocks (h : Heap) (p q : Pass) : Type 0 where
   pub moves : HasMoved h p q
   pub owns : (block : Block) → Owns p block → Owns q block
   pub holds : (blocks : List Block) → HoldsExactly p blocks → HoldsExactly q blocks
 
--- it has gone on so, without a change of what it owns, and then put its block on a shelf; and then it may have gone on
+-- a pass has gone on without a change of what it owns, and then put this block on a shelf; it is at rest
 pub record HasHandedOver (h : Heap) (p : Pass) (block : Block) (shelf : ℕ) (q : Pass) : Type 0 where
   pub last : Pass
   pub keeps : KeepsBlocks h p last
@@ -56,7 +56,7 @@ pub record HasHandedOver (h : Heap) (p : Pass) (block : Block) (shelf : ℕ) (q 
   pub called : HasCalled last (put block.place block.need shelf) 0 reply.Put q
   pub rest : IsAtRest h q
 
--- it has gone on so, and then taken a block from a shelf
+-- a pass has gone on with its blocks kept, and then taken this block from a shelf
 pub record HasTakenOff (h : Heap) (p : Pass) (shelf : ℕ) (block : Block) (q : Pass) : Type 0 where
   pub last : Pass
   pub keeps : KeepsBlocks h p last

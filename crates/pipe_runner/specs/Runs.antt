@@ -42,7 +42,7 @@ pub record HasDone (passed : ℕ → ℕ → Type 0) (h : Heap) (pipe : Pipe) (s
   pub pending : e.pending ≡ None
   pub pushed : length (pushed_by e) ≡ count
 
--- so have all senders from a number on
+-- each sender from a number on has sent so many messages, with a note of each
 abbrev pub AreDone : (ℕ → ℕ → Type 0) → Heap → Pipe → ℕ → ℕ → ℕ → List Pass → List Sender → Type 0
 AreDone passed h pipe start count number [] [] = Unit {0}
 AreDone passed h pipe start count number (p ∷ ps) (e ∷ es) =

@@ -49,12 +49,12 @@ AreSending passed h pipe start count number [] = Unit {0}
 AreSending passed h pipe start count number (w ∷ ws) =
     IsSending passed h pipe start count w × (w.end.number ≡ number + length ws) × AreSending passed h pipe start count number ws
 
--- the sender's thread has not sent more than so many, and may send until it has
+-- a sender's thread has not sent more than so many messages, and may send until it has
 pub record MaySend (passed : ℕ → ℕ → Type 0) (h : Heap) (pipe : Pipe) (start until : ℕ) (w : SenderThread) : Type 0 where
   pub stands : IsSending passed h pipe start w.end.sent w
   pub more : w.end.sent ≤ until
   pub few : until ≤ MAX_MESSAGES
 
--- it has sent so many
+-- a sender's thread has sent so many messages
 abbrev pub SendsUntil : (ℕ → ℕ → Type 0) → Heap → Pipe → ℕ → ℕ → SenderThread → SenderThread → Type 0
 SendsUntil passed h pipe start until w x = IsSending passed h pipe start until x × (x.end.number ≡ w.end.number)

@@ -16,7 +16,7 @@ use Rattle.placed_words.specs.declared.placement.TheConstants.{APART}
 use Rattle.std.proofs.lemmas.Bool.{cases_lt}
 use Rattle.placed_words.specs.Places.{IsApart, place}
 
--- where the stretches begin
+-- the numbers of the first words of the stretches
 record AreAt (g : Geometry) : Type 0 where
   superblocks : word_index g (Anchor 0) ≡ arena_words g
   heaps : word_index g (Active 0 0) ≡ arena_words g + 3 * descriptor_count g
@@ -55,13 +55,13 @@ start-place g (Hazard caller) checked is = omega (arith, checked.frames.0, by-pl
 start-place g Units checked is = refl
 start-place g (Shelf shelf) checked is = omega (arith, checked.frames.0, by-place g (word_index g (Shelf shelf)), by-place g (word_index g (Shelf 0)))
 
--- where they are known
+-- the place of a word by the places of the first words, where these are known
 pub known-place :
     (g value : Geometry) (s : Starts) (name : WordName) → g ≡ value → IsChecked g → s ≡ starts_of g → Exists value name
     → place_from s name ≡ place_of value name
 known-place g value s name view checked is exists = rw (is, view) (start-place value name (subst IsChecked view checked) exists)
 
--- it is no large number
+-- the place of a word is below 2 ^ 32, where the places of the first words are known
 pub known-fits :
     (g value : Geometry) (s : Starts) (name : WordName) → g ≡ value → IsChecked g → s ≡ starts_of g → Exists value name → place_from s name < 2 ^ 32
 known-fits g value s name view checked is exists =
@@ -104,7 +104,7 @@ apart-before g (Hazard caller) checked is apart = omega (arith, checked.frames.0
 apart-before g Units checked is apart = omega (arith, checked.frames.0, by-place g (word_index g Units), by-place g (word_index g Units - 1))
 apart-before g (Shelf shelf) checked is apart = absurd apart
 
--- so it does from every other word
+-- a word that is apart lies far enough from every other word
 pub apart-from :
     (g : Geometry) (m n : WordName) → IsChecked g → Exists g m → Exists g n → IsApart m → n ≢ m
     → (place_of g m + APART ≤ place_of g n) ⊎ (place_of g n + APART ≤ place_of g m)

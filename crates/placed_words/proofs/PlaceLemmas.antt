@@ -34,7 +34,7 @@ place-rises g i j lt =
     sums : (a b c d e f : ℕ) → a ≤ b → c ≤ d → e ≤ f → i + (APART - 1) * (a + c + e) < j + (APART - 1) * (b + d + f)
     sums a b c d e f p q r = omega arith
 
--- so two numbers have two places
+-- two numbers have two places
 pub place-apart : (g : Geometry) (i j : ℕ) → j ≢ i → place g j ≢ place g i
 place-apart g i j differ same =
     elim (cases_lt i j) [
@@ -50,7 +50,7 @@ place-apart g i j differ same =
 pub place-within : (g : Geometry) (i : ℕ) → i < word_count g → place g i < placed_count g
 place-within g i below = place-rises g i (word_count g) below
 
--- no gap is large
+-- no place of a number up to the table's end is 2 ^ 32 or more
 pub place-most : (g : Geometry) (i : ℕ) → IsChecked g → i ≤ word_count g → place g i < 2 ^ 32
 unfolding place
 place-most g i checked within =
@@ -69,7 +69,7 @@ pub placed-is :
 unfolding place
 placed-is g s index a b c is is_a is_b is_c = rw (is_a, is_b, is_c, is) refl
 
--- the gaps of two stretches before a number are few
+-- the gaps of two stretches before a number are fewer than 2 ^ 32
 pub two-fit :
     (g : Geometry) (s : Stretches) (index a b : ℕ) → IsChecked g → s ≡ stretches_of g → a ≡ passed s.superblocks index
     → b ≡ passed s.heaps index → a + b < 2 ^ 32

@@ -75,7 +75,7 @@ wrote g placed name new whole is =
           (place-apart g (word_index g name) (word_index g other) (λ same. differ (word_index-one g other name there is same)));
     }
 
--- the word of a number is that of the name there
+-- the word of a number is that of the number's name
 pub at-word_name :
     (g : Geometry) (placed : List ℕ) (i : ℕ) → i < word_count g → slice_index (words_at g placed) i ≡ word_at g placed (word_name g i)
 at-word_name g placed i below =

@@ -10,15 +10,15 @@ use Rattle.word_table.specs.declared.name.WordName.TheVariants.{Arena, Anchor, N
 use Rattle.placed_words.specs.declared.placement.Stretch.{Stretch}
 use Rattle.placed_words.specs.declared.placement.TheConstants.{APART}
 
--- the anchors
+-- the stretch of the anchors
 abbrev pub stretch_of_superblocks : Geometry → Stretch
 stretch_of_superblocks g = record { before = word_index g (Anchor 0) - 1; gaps = descriptor_count g + 1 }
 
--- the active words, the slots and the heads of the lists
+-- the stretch of the active words, the slots and the heads of the lists
 abbrev pub stretch_of_heaps : Geometry → Stretch
 stretch_of_heaps g = record { before = word_index g (Active 0 0) - 1; gaps = 2 * (g.heaps * CLASSES) + CLASSES + 1 }
 
--- the heads of the frames and of the descriptors, the hazard words, and the word of the units
+-- the stretch of the heads of the frames and of the descriptors, the hazard words, and the word of the units
 abbrev pub stretch_of_heads : Geometry → Stretch
 stretch_of_heads g = record { before = word_index g FrameHead - 1; gaps = g.callers + 3 + 1 }
 

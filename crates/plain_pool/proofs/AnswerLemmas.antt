@@ -41,7 +41,7 @@ pub taken-geometry :
 taken-geometry old new caller shelf (Got place words) h = gains-geometry old new (Take caller shelf place ∷ []) h.2
 taken-geometry old new caller shelf Empty h = gains-geometry old new (TakeNone caller shelf ∷ []) h.1
 
--- who is given a block owns it, with each of its words
+-- a caller that is given a block owns it, with each of its words
 pub given-live :
     (old new : PlainState) (caller need place words : ℕ) → IsAllocated old new caller need (Given place words)
     → block_at place (pool_in new) ≡ Some (fresh_block caller need place)
@@ -60,7 +60,7 @@ pub given-word :
 given-word old new caller need place words i h below =
     (fresh_block caller need place, given-live old new caller need place words h, refl, subst (λ (n : ℕ). i < n) h.1 below)
 
--- who writes a word still owns it
+-- a caller that writes a word of a block still owns that word
 pub written-word :
     (old new : PlainState) (caller place i v : ℕ) → AddsEvents old new (Write caller place i v ∷ []) → OwnsWord (pool_in old) caller place i
     → OwnsWord (pool_in new) caller place i
@@ -72,7 +72,7 @@ written-word old new caller place i v h owns = (
   owns.3,
 )
 
--- who takes a block owns it
+-- a caller that takes a block from a shelf owns it
 pub taken-owns :
     (old new : PlainState) (caller shelf place words : ℕ) → IsTaken old new caller shelf (Got place words)
     → Owns (pool_in new) (Caller caller) place

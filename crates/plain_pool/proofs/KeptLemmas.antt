@@ -41,7 +41,7 @@ kept-caller g blocks events kept place caller block found owned =
     let formed = kept-formed g blocks events kept place block found in
     rw owned at formed.owner
 
--- one event more that leaves the pool
+-- what a plain pool keeps is kept by one more event that leaves the pool
 pub kept-still :
     (g : Geometry) (blocks : BTreeMap ℕ LiveBlock) (events : List Event) (event : Event) → IsPlainKept g blocks events
     → IsLegalEvent g events event → pool_after (pool_of events) event ≡ pool_of events → IsPlainKept g blocks (events ++ event ∷ [])
@@ -52,7 +52,7 @@ kept-still g blocks events event kept legal same =
       stored = λ place. kept.stored place ∙ ap (block_at place) (sym (pool_of-push events event ∙ same));
     }
 
--- one event more that replaces the block at a place
+-- what a plain pool keeps is kept by one more event that replaces the block at a place
 pub kept-replaced :
     (g : Geometry) (blocks new : BTreeMap ℕ LiveBlock) (events : List Event) (event : Event) (place : ℕ) (after : Option Block)
     → IsPlainKept g blocks events → IsLegalEvent g events event → Replaces blocks new place after
@@ -159,7 +159,7 @@ each-live P blocks events is each place block found =
     let stored = stored-from_live blocks events is place block found in
     subst P stored.2 (each place stored.0 stored.1)
 
--- the stored blocks are those of the same entries
+-- what a plain pool keeps is kept by a map with the same entries
 pub kept-unchanged :
     (g : Geometry) (blocks new : BTreeMap ℕ LiveBlock) (events : List Event) → IsPlainKept g blocks events → new.entries ≡ blocks.entries
     → IsPlainKept g new events
@@ -201,7 +201,7 @@ pub shelf-empty :
     → ((place : ℕ) (block : LiveBlock) → IsStored blocks place block → block.owner ≢ Shelf shelf) → IsEmptyShelf (pool_of events) shelf
 shelf-empty blocks events shelf is empty = each-live (λ block. block.owner ≢ Shelf shelf) blocks events is empty
 
--- what callers see after events were added
+-- a plain pool whose list of events has grown has gained those events, as callers see it
 pub gains :
     (old : PlainState) (g : Geometry) (items after added : List Event) → record { geometry = g; events = items } ≡ old
     → after ≡ items ++ added → AddsEvents old (record { geometry = g; events = after }) added
@@ -216,7 +216,7 @@ pub kept-geometry :
     → caller < old.geometry.callers → caller < g.callers
 kept-geometry old g items caller view below = subst (λ (s : PlainState). caller < s.geometry.callers) (sym view) below
 
--- a block at the place that a plain pool chose
+-- a block can be given at the place that a plain pool chose
 pub chosen-free : (g : Geometry) (pool : Pool) (n : Need) (place : ℕ) → IsChosen g pool n place → IsFree g pool n place
 chosen-free g pool (Small class) place (inl beside) = beside.holds.0
 chosen-free g pool (Small class) place (inr bare) = bare.1.holds

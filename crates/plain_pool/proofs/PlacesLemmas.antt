@@ -23,7 +23,7 @@ pub reaches-higher :
 reaches-higher blocks None low high le reached = reached
 reaches-higher blocks (Some found) low high le reached = omega arith
 
--- a lower least reaches what the one before reached
+-- a lower least place reaches what the least place before it reached
 pub reaches-lower :
     (blocks : BTreeMap ℕ LiveBlock) (before after : Option ℕ) (place : ℕ) → IfSome before (λ b. IsSomeAnd after (λ found. found ≤ b))
     → Reaches blocks before place → Reaches blocks after place
@@ -206,7 +206,7 @@ mark-only old new first count below above k marked =
           elim (cases_lt k (first + count)) [ inl within ↦ inr (from, within) | inr over ↦ inl (sym (above k over) ∙ marked) ]
     ]
 
--- the least so far is open where it was, or comes from a block of the class
+-- a least place is open beside a block, if it was the least before or is open in the frame of a block of the class
 pub spot-more :
     (blocks : BTreeMap ℕ LiveBlock) (before after : Option ℕ) (class place : ℕ) (block : LiveBlock) → IsStored blocks place block
     → IfSome before (IsOpenBeside blocks class)

@@ -7,7 +7,7 @@ use Rattle.std.specs.Map.{lookup}
 use Rattle.plain_pool.specs.declared.live_block.LiveBlock.{LiveBlock}
 use Rattle.plain_pool.specs.Stored.{IsStored}
 
--- each stored block is left, or has a property
+-- each stored block is one of those left to visit, or has a property
 abbrev pub AllBut : (ℕ → LiveBlock → Type 0) → BTreeMap ℕ LiveBlock → List (ℕ × LiveBlock) → Type 0
 AllBut P blocks left =
     (place : ℕ) (block : LiveBlock) → IsStored blocks place block → (lookup (is_at (nat_cmp place)) left ≡ Some block) ⊎ P place block

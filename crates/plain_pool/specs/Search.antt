@@ -45,7 +45,7 @@ Reaches blocks least place = IsSome (get nat_cmp blocks place) ⊎ IsSomeAnd lea
 abbrev pub IsOpenIn : BTreeMap ℕ LiveBlock → ℕ → ℕ → ℕ → Type 0
 IsOpenIn blocks class frame place = (index : ℕ) × (index < block_count_of class) × (place ≡ block_place frame class index) × IsUnstored blocks place
 
--- where the search goes on from a stored block: the first place of its frame, and the place behind it
+-- the search around a stored block reaches the first place of its frame, and the place behind the block, if there is one
 pub record ReachesAround (blocks : BTreeMap ℕ LiveBlock) (least : Option ℕ) (class place : ℕ) : Type 0 where
   pub first : Reaches blocks least (block_place (frame_of place) class 0)
   pub behind :
@@ -73,10 +73,10 @@ pub record TakesUnit (blocks : BTreeMap ℕ LiveBlock) (frames unit : ℕ) : Typ
   pub from : first ≤ unit
   pub before : unit < first + units
 
--- whether a number is marked; those past the end are not
+-- whether a number is marked; numbers past the end of the marks are not
 abbrev pub IsMarked : List Bool → ℕ → Type 0
 IsMarked marks k = slice_index_or marks k false ≡ true
 
--- so many numbers from one on are within the marks, and none of them is marked
+-- so many numbers from `first` on are within the marks, and none of them is marked
 abbrev pub IsGap : List Bool → ℕ → ℕ → Type 0
 IsGap marks count first = (first + count ≤ length marks) × ((k : ℕ) → first ≤ k → k < first + count → ¬ IsMarked marks k)

@@ -27,12 +27,12 @@ stored_at blocks place = option_map (block_of place) (get nat_cmp blocks place)
 abbrev pub IsPoolOf : BTreeMap ℕ LiveBlock → List Event → Type 0
 IsPoolOf blocks events = (place : ℕ) → stored_at blocks place ≡ block_at place (pool_of events)
 
--- this is stored at the place now, and at every other place what was there
+-- at the place the new map has just this block, if any, and at every other place what the old map has
 pub record Replaces (old new : BTreeMap ℕ LiveBlock) (place : ℕ) (after : Option Block) : Type 0 where
   pub here : stored_at new place ≡ after
   pub others : (other : ℕ) → other ≢ place → stored_at new other ≡ stored_at old other
 
--- what a plain pool keeps
+-- what a plain pool keeps: numbers in range, legal events, and stored blocks that are the live blocks of the events
 pub record IsPlainKept (g : Geometry) (blocks : BTreeMap ℕ LiveBlock) (events : List Event) : Type 0 where
   pub checked : IsChecked g
   pub legal : IsLegal g events

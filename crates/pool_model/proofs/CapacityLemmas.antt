@@ -68,7 +68,7 @@ span_words : Pool → ℕ
 span_words [] = 0
 span_words (block ∷ pool) = (1 + usable_words block.need) + span_words pool
 
--- which is one more for each block than their usable words
+-- the words of all blocks are one more for each block than their usable words
 span_words-is : (pool : Pool) → span_words pool ≡ length pool + live_words pool
 unfolding span_words
 span_words-is [] = refl
@@ -113,7 +113,7 @@ covers-once a word =
       ]
     ]
 
--- where a block covers a word, no block apart from it does
+-- a word that a block covers is covered by no block apart from it
 covered-none :
     (block : Block) (pool : Pool) (word : ℕ) → covers (span_of block) word ≢ 0 → Every (λ other. IsApart (span_of block) (span_of other)) pool
     → covered pool word ≡ 0

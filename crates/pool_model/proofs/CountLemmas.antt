@@ -69,7 +69,7 @@ live_words-changed place change (first ∷ pool) keeps =
     rw (ne_eqb first.place place past) (omega arith))
     (cases_eq first.place place)
 
--- every event but a free and an allocation leaves both
+-- every event but a free and an allocation leaves the number of live blocks and that of their words
 pub live_words-still : (pool : Pool) (event : Event) → is_alloc event ≡ false → is_free event ≡ false → live_words (pool_after pool event) ≡ live_words pool
 live_words-still pool (Alloc caller need place) no_alloc no_free = absurd (cc)
 live_words-still pool (Looked caller class) no_alloc no_free = refl

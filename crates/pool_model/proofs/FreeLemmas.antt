@@ -130,7 +130,7 @@ bare-free g pool sound class frame is_class below bare =
       clear = clear-block g pool sound frame class 0 below in_frame only none;
     }
 
--- at most so many where there is none
+-- at most `most` numbers below a bound have a property that none of them has
 pub at_most-none : (most bound : ℕ) (P : ℕ → Type 0) → ((k : ℕ) → k < bound → ¬ P k) → AtMost most bound P
 at_most-none most bound P none [] increasing all = omega arith
 at_most-none most bound P none (k ∷ ks) increasing all =

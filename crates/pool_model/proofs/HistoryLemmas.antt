@@ -15,7 +15,7 @@ pool_from-append pool (event ∷ events) more = pool_from-append (pool_after poo
 pub pool_of-push : (history : List Event) (event : Event) → pool_of (history ++ event ∷ []) ≡ pool_after (pool_of history) event
 pool_of-push history event = pool_from-append [] history (event ∷ [])
 
--- one event, and then the others
+-- a history with one event more, and then others, is the history with that event and the others
 pub push-append : (history rest : List Event) (event : Event) → (history ++ event ∷ []) ++ rest ≡ history ++ event ∷ rest
 push-append history rest event = append_assoc history (event ∷ []) rest
 

@@ -17,7 +17,7 @@ least-at_most (suc bound) (suc k) test below passes =
           rw later (omega arith)
     ]
 
--- where the numbers below one fail, the least number that passes isn't among them
+-- the least number that passes is none of the first numbers, if those fail
 pub least-above : (bound low : ℕ) (test : ℕ → Bool) → low ≤ bound → ((j : ℕ) → j < low → test j ≡ false) → low ≤ least bound test
 unfolding least
 least-above bound zero test room fails = omega arith

@@ -17,7 +17,7 @@ use Rattle.pool_model.proofs.OwnerLemmas.{free-elsewhere, own-none}
 use Rattle.pool_model.proofs.WellFormedLemmas.{sound-of, sound-differ}
 use Rattle.pool_model.specs.Owned.{is_of, if_of, owned_at}
 
--- another owner is not this caller
+-- an owner other than a caller fails the test for that caller
 pub of-other : (caller : ℕ) (owner : Owner) → owner ≢ Caller caller → is_of caller owner ≡ false
 of-other caller (Caller other) ne = ne_eqb other caller (λ e. ne (ap Caller e))
 of-other caller (Shelf shelf) ne = refl
@@ -25,7 +25,7 @@ of-other caller (Shelf shelf) ne = refl
 pub if-other : (caller : ℕ) (block : Block) → block.owner ≢ Caller caller → if_of caller (Some block) ≡ None
 if-other caller block ne = rw (of-other caller block.owner ne) refl
 
--- who is a caller is of itself
+-- a block that a caller owns is found as the caller's
 pub of-self : (caller : ℕ) (block : Block) → block.owner ≡ Caller caller → if_of caller (Some block) ≡ Some block
 of-self caller block owned = rw owned (rw (eq-eqb caller caller refl) refl)
 
@@ -45,21 +45,21 @@ owned-found caller (Some b) block is =
       | inr off ↦ absurd (none-some block (rw off at is))
     ]
 
--- a block of another owner, before and after
+-- a caller owns the same at a place that has another owner's block before and after
 pub both-none :
     (caller place : ℕ) (pool new : Pool) (a b : Block) → block_at place pool ≡ Some a → a.owner ≢ Caller caller
     → block_at place new ≡ Some b → b.owner ≢ Caller caller → owned_at caller place new ≡ owned_at caller place pool
 both-none caller place pool new a b found before now after =
     ap (if_of caller) now ∙ if-other caller b after ∙ sym (ap (if_of caller) found ∙ if-other caller a before)
 
--- other callers, and shelves, are not this one
+-- an owner that is another caller, or a shelf, is not the caller
 pub caller-differs : (caller other : ℕ) (owner : Owner) → owner ≡ Caller other → other ≢ caller → owner ≢ Caller caller
 caller-differs caller other owner is ne same = ne (let e : Caller other ≡ Caller caller = sym is ∙ same in cc)
 
 pub shelf-differs : (caller shelf : ℕ) (owner : Owner) → owner ≡ Shelf shelf → owner ≢ Caller caller
 shelf-differs caller shelf owner is same = let e : Shelf shelf ≡ Caller caller = sym is ∙ same in absurd (cc)
 
--- nothing is live where a block can be given
+-- no block is live at a place where a block can be given
 pub clear-none :
     (g : Geometry) (pool : Pool) (caller need place : ℕ) (o : Option Block) → IsFree g pool (need_of need) place → block_at place pool ≡ o → o ≡ None
 clear-none g pool caller need place None free is = refl
@@ -79,7 +79,7 @@ changed caller place at other change pool block keeps found before after =
       | inr differ ↦ ap (if_of caller) (block_at-changed_other at place change pool keeps differ)
     ]
 
--- one event of another caller
+-- an event of another caller leaves what a caller owns at a place
 pub others-event :
     (g : Geometry) (before : List Event) (event : Event) (caller place : ℕ) → Pairs Differ (pool_of before) → IsAllowed g before event
     → caller_of event ≢ caller → owned_at caller place (pool_after (pool_of before) event) ≡ owned_at caller place (pool_of before)
@@ -113,7 +113,7 @@ others-event g before (Take other shelf at) caller place differ allowed ne =
     (shelf-differs caller shelf allowed.0.0.owner allowed.0.2) (caller-differs caller other (Caller other) refl ne)
 others-event g before (TakeNone other shelf) caller place differ allowed ne = refl
 
--- all events of others
+-- events of other callers leave what a caller owns at a place
 pub others-all :
     (g : Geometry) (history rest : List Event) (caller place : ℕ) → IsLegalWithoutCounts g (history ++ rest) → own caller rest ≡ []
     → owned_at caller place (pool_of (history ++ rest)) ≡ owned_at caller place (pool_of history)

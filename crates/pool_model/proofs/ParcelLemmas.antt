@@ -15,7 +15,7 @@ use Rattle.pool_model.proofs.HistoryLemmas.{kept, pool_of-push}
 use Rattle.pool_model.proofs.WellFormedLemmas.{IsSoundPool, sound-after, sound-differ, sound-of}
 use Rattle.pool_model.specs.Parcels.{Parcel, handed, is_put_on, is_shelf, is_take_off, lying_on, parcel_of, parcels, parcels_from, parcels_in, puts_on, takes_off}
 
--- events that are added at the end
+-- the parcels of two lists of events joined: those of the first, and those of the second from the pool after it
 pub from-append :
     (chosen : Event → Bool) (pool : Pool) (events more : List Event)
     → parcels_from chosen pool (events ++ more) ≡ parcels_from chosen pool events ++ parcels_from chosen (pool_from pool events) more
@@ -45,7 +45,7 @@ pub push-add :
 push-add chosen history event on =
     push chosen history event ∙ ap (λ (b : Bool). parcels chosen history ++ (if b then handed (pool_of history) event else [])) on
 
--- which shelf an owner is
+-- the owner that is a shelf passes the test for that shelf, and no other owner does
 pub shelf-off : (shelf : ℕ) (owner : Owner) → owner ≢ Shelf shelf → is_shelf shelf owner ≡ false
 shelf-off shelf (Caller caller) ne = refl
 shelf-off shelf (Shelf at) ne = ne_eqb at shelf (λ e. ne (ap Shelf e))
@@ -58,7 +58,7 @@ pub shelf-is : (shelf : ℕ) (owner : Owner) → is_shelf shelf owner ≡ true �
 shelf-is shelf (Caller caller) is = absurd (true≢false (sym is))
 shelf-is shelf (Shelf at) is = ap Shelf (eqb-true at shelf is)
 
--- the first block lies there, or not
+-- what lies on a shelf, by whether the first block of the pool lies there
 pub lying-off : (shelf : ℕ) (block : Block) (pool : Pool) → block.owner ≢ Shelf shelf → lying_on shelf (block ∷ pool) ≡ lying_on shelf pool
 lying-off shelf block pool off = rw (shelf-off shelf block.owner off) refl
 
@@ -75,7 +75,7 @@ pub lying-none : (shelf : ℕ) (pool : Pool) → Every (λ block. block.owner �
 lying-none shelf [] every = refl
 lying-none shelf (block ∷ pool) every = lying-off shelf block pool every.0 ∙ lying-none shelf pool every.1
 
--- the block that is found first is the first one
+-- the block that is found at the place of a pool's first block is that first one
 first-is : (place : ℕ) (first block : Block) (pool : Pool) → first.place ≡ place → block_at place (first ∷ pool) ≡ Some block → first ≡ block
 first-is place first block pool here found =
     let e : block_at place (first ∷ pool) ≡ Some first = block_at-here place first pool here in cc
@@ -83,7 +83,7 @@ first-is place first block pool here found =
 later-is : (place : ℕ) (first block : Block) (pool : Pool) → first.place ≢ place → block_at place (first ∷ pool) ≡ Some block → block_at place pool ≡ Some block
 later-is place first block pool past found = sym (block_at-past place first pool past) ∙ found
 
--- a block that lies not there is changed, and still lies not there
+-- a change of a block that lies not on a shelf, before or after, leaves what lies there
 pub lying-changed :
     (shelf place : ℕ) (change : Block → Block) (pool : Pool) (block : Block) → block_at place pool ≡ Some block → block.owner ≢ Shelf shelf
     → (change block).owner ≢ Shelf shelf → lying_on shelf (with_changed place change pool) ≡ lying_on shelf pool
@@ -101,7 +101,7 @@ lying-changed shelf place change (first ∷ pool) block found before after =
           (lying-changed shelf place change pool block (later-is place first block pool past found) before after))
     ]
 
--- a block that lies not there goes
+-- the pool without a block that lies not on a shelf has the same blocks on that shelf
 pub lying-without :
     (shelf place : ℕ) (pool : Pool) (block : Block) → block_at place pool ≡ Some block → block.owner ≢ Shelf shelf
     → lying_on shelf (without place pool) ≡ lying_on shelf pool
@@ -116,7 +116,7 @@ lying-without shelf place (first ∷ pool) block found off =
           (lying-more shelf first pool (without place pool) (lying-without shelf place pool block (later-is place first block pool past found) off))
     ]
 
--- a block is put where none lies
+-- a block that is put on a shelf where none lies is all that lies there
 pub lying-put :
     (shelf place : ℕ) (pool : Pool) (block : Block) → Every (λ b. b.owner ≢ Shelf shelf) pool → block_at place pool ≡ Some block
     → lying_on shelf (with_changed place (handed_to (Shelf shelf)) pool) ≡ parcel_of block ∷ []
@@ -134,7 +134,7 @@ lying-put shelf place (first ∷ pool) block every found =
           ∙ lying-put shelf place pool block every.1 (later-is place first block pool past found))
     ]
 
--- where one lies, it is alone
+-- no block that is separate from a block on a shelf lies on that shelf
 alone : (shelf : ℕ) (block : Block) (pool : Pool) → Every (IsSeparate block) pool → block.owner ≡ Shelf shelf → Every (λ b. b.owner ≢ Shelf shelf) pool
 alone shelf block pool every on = every-map (IsSeparate block) (λ b. b.owner ≢ Shelf shelf) pool (λ b separate. separate.shelves shelf on) every
 
@@ -162,7 +162,7 @@ lying-at shelf place (first ∷ pool) block pairs found on =
           ∙ lying-at shelf place pool block pairs.1 found_later on
     ]
 
--- the block that lies there is taken
+-- nothing lies on a shelf after the block there is taken
 pub lying-taken :
     (shelf place caller : ℕ) (pool : Pool) (block : Block) → Pairs IsSeparate pool → block_at place pool ≡ Some block
     → block.owner ≡ Shelf shelf → lying_on shelf (with_changed place (handed_to (Caller caller)) pool) ≡ []
@@ -182,7 +182,7 @@ lying-taken shelf place caller (first ∷ pool) block pairs found on =
           ∙ lying-taken shelf place caller pool block pairs.1 found_later on)
     ]
 
--- one block at most lies on a shelf
+-- at most one block lies on a shelf
 pub lying-few : (shelf : ℕ) (pool : Pool) → Pairs IsSeparate pool → length (lying_on shelf pool) ≤ 1
 lying-few shelf [] pairs = omega arith
 lying-few shelf (block ∷ pool) pairs =
@@ -197,11 +197,11 @@ lying-few shelf (block ∷ pool) pairs =
           subst (λ (l : List Parcel). length l ≤ 1) (sym is) (lying-few shelf pool pairs.1)
     ]
 
--- the shelf so far: what was put is what was taken, and then what lies there
+-- a shelf is in order: what was put on it is what was taken off it, and then what lies there
 abbrev pub InOrder : ℕ → List Event → Pool → Type 0
 InOrder shelf history pool = puts_on shelf history ≡ takes_off shelf history ++ lying_on shelf pool
 
--- an event that concerns it not
+-- an event that neither puts on a shelf nor takes from it, and leaves what lies there, keeps the shelf in order
 still :
     (shelf : ℕ) (before : List Event) (event : Event) (new : Pool) → is_put_on shelf event ≡ false → is_take_off shelf event ≡ false
     → lying_on shelf new ≡ lying_on shelf (pool_of before) → InOrder shelf before (pool_of before) → InOrder shelf (before ++ event ∷ []) new
@@ -210,7 +210,7 @@ still shelf before event new put take lies is =
     ∙ ap (λ (l : List Parcel). l ++ lying_on shelf (pool_of before)) (sym (push-skip (is_take_off shelf) before event take))
     ∙ ap (λ (l : List Parcel). takes_off shelf (before ++ event ∷ []) ++ l) (sym lies)
 
--- a put on it, and a take from it
+-- a put on a shelf, and a take from a shelf, keep the shelf in order
 put-on :
     (shelf : ℕ) (before : List Event) (event : Event) (new : Pool) (parcel : Parcel) → is_put_on shelf event ≡ true → is_take_off shelf event ≡ false
     → handed (pool_of before) event ≡ parcel ∷ [] → lying_on shelf (pool_of before) ≡ [] → lying_on shelf new ≡ parcel ∷ []
@@ -230,7 +230,7 @@ take-off shelf before event new parcel put take is_handed lay lies is =
     ∙ sym (push-add (is_take_off shelf) before event take) ∙ sym (append-nil (takes_off shelf (before ++ event ∷ [])))
     ∙ ap (λ (l : List Parcel). takes_off shelf (before ++ event ∷ []) ++ l) (sym lies)
 
--- a caller is no shelf; other shelves are not this one
+-- an owner that is a caller, or another shelf, is not the shelf
 caller-off : (shelf caller : ℕ) (owner : Owner) → owner ≡ Caller caller → owner ≢ Shelf shelf
 caller-off shelf caller owner is on = let e : Caller caller ≡ Shelf shelf = sym is ∙ on in absurd (cc)
 

@@ -80,7 +80,7 @@ each-every P (block ∷ pool) differ each = (
       each place other (block_at-past place block pool past ∙ found)),
 )
 
--- without a block
+-- the pool without the block at a place: properties and relations stay, other places are as before, and that one is empty
 pub every-without : (P : Block → Type 0) (place : ℕ) (pool : Pool) → Every P pool → Every P (without place pool)
 every-without P place [] every = tt
 every-without P place (block ∷ pool) every =
@@ -123,7 +123,7 @@ block_at-without_same place (block ∷ pool) differ =
     (block_at-past place block (without place pool) past ∙ block_at-without_same place pool differ.1))
     (cases_eq block.place place)
 
--- with a block changed, where the change leaves its place
+-- each block has a property after a change at a place, where both the changed and the unchanged blocks get it from another one
 pub every-changed :
     (P Q : Block → Type 0) (place : ℕ) (change : Block → Block) (pool : Pool) → ((block : Block) → P block → Q (change block))
     → ((block : Block) → P block → Q block) → Every P pool → Every Q (with_changed place change pool)
@@ -134,7 +134,7 @@ every-changed P Q place change (block ∷ pool) on off every =
     (λ past. rw (ne_eqb block.place place past) (off block every.0, every-changed P Q place change pool on off every.1))
     (cases_eq block.place place)
 
--- a property of the block at the place that the change needs
+-- a property of each block is kept by a change that keeps it for the block at the place
 pub every-changed_at :
     (P : Block → Type 0) (place : ℕ) (change : Block → Block) (pool : Pool)
     → ((block : Block) → block_at place pool ≡ Some block → P block → P (change block)) → Every P pool
@@ -147,7 +147,7 @@ every-changed_at P place change (block ∷ pool) on every =
     (every.0, every-changed_at P place change pool (λ b found. on b (block_at-past place block pool past ∙ found)) every.1))
     (cases_eq block.place place)
 
--- the change keeps the relation with each block that has a property, on both sides
+-- a change that keeps a relation with each block that has a property, on both sides, keeps it between each two of the pool
 pub pairs-changed :
     (R : Block → Block → Type 0) (P : Block → Type 0) (place : ℕ) (change : Block → Block) (pool : Pool)
     → ((a b : Block) → P b → R a b → R (change a) b) → ((a b : Block) → P a → R a b → R a (change b)) → Every P pool
@@ -224,7 +224,7 @@ pairs-found R (first ∷ pool) turn pairs p q a b at_p at_q ne =
     (cases_eq first.place q))
     (cases_eq first.place p)
 
--- what is said by recursion, said by index
+-- a property of each block of a pool, said by recursion, holds of each block by its index
 pub every-All : (P : Block → Type 0) (pool : Pool) → Every P pool → All P pool
 every-All P [] every = All-nil P
 every-All P (block ∷ pool) every = All-cons P block pool every.0 (every-All P pool every.1)

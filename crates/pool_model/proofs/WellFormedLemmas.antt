@@ -21,7 +21,7 @@ use Rattle.pool_model.proofs.PoolLemmas.{Every, Pairs, Differ, every-found, ever
 use Rattle.pool_model.proofs.HistoryLemmas.{kept, pool_of-push}
 use Rattle.pool_model.proofs.NeedOfLemmas.{need_of-within}
 
--- a pool of a legal history
+-- a pool is sound: each block is well-formed, and each two are separate
 pub record IsSoundPool (g : Geometry) (pool : Pool) : Type 0 where
   pub each : Every (IsWellFormed g) pool
   pub pairs : Pairs IsSeparate pool
@@ -60,7 +60,7 @@ free-apart g pool (Large units) block need within free place other found =
     (free.clear place other found)
 free-apart g pool TooLarge block need within free place other found = absurd free
 
--- the place is one of the heap's
+-- a place where a block can be given is one of the heap's places for the need
 pub free-place : (g : Geometry) (pool : Pool) (n : Need) (place : ℕ) → IsFree g pool n place → IsPlaceFor g n place
 free-place g pool (Small class) place free = (free.frame, free.index, free.in_heap, free.in_frame, free.is_place)
 free-place g pool (Large units) place free = (free.unit, free.in_heap, free.is_place)
@@ -122,7 +122,7 @@ fresh-formed g pool caller need place below free =
       full = length-replicate (usable_words (need_of need)) None;
     }
 
--- a change of a block's contents or owner
+-- a write into a block keeps a pool sound, and a well-formed block stays so with another owner
 pub written-sound :
     (g : Geometry) (pool : Pool) (place i v : ℕ) → IsSoundPool g pool → IsSoundPool g (with_changed place (written i v) pool)
 written-sound g pool place i v sound =
@@ -140,14 +140,14 @@ written-sound g pool place i v sound =
 pub handed-formed : (g : Geometry) (owner : Owner) (block : Block) → IsOwner g owner → IsWellFormed g block → IsWellFormed g (handed_to owner block)
 handed-formed g owner block new h = record { need = h.need; place = h.place; owner = new; full = h.full }
 
--- the same, block by block
+-- no block lies on a shelf that the owner is, said block by block
 none-on :
     (pool : Pool) (owner : Owner) → ((shelf : ℕ) → owner ≡ Shelf shelf → Every (λ block. block.owner ≢ Shelf shelf) pool)
     → Every (λ block. (shelf : ℕ) → owner ≡ Shelf shelf → block.owner ≢ Shelf shelf) pool
 none-on [] owner free = tt
 none-on (block ∷ pool) owner free = (λ shelf e. (free shelf e).0, none-on pool owner (λ shelf e. (free shelf e).1))
 
--- handed to an owner that is no shelf, or a shelf that no block lies on
+-- a block handed to an owner that is no shelf, or a shelf that no block lies on, leaves the pool sound
 pub handed-sound :
     (g : Geometry) (pool : Pool) (place : ℕ) (owner : Owner) → IsOwner g owner
     → ((shelf : ℕ) → owner ≡ Shelf shelf → Every (λ block. block.owner ≢ Shelf shelf) pool) → IsSoundPool g pool

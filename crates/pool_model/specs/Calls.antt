@@ -22,7 +22,7 @@ pub data Ended : Type 0 where
   take_empty : (shelf : ℕ) → Ended
   take_missed : Ended
 
--- some looks for a class, so many
+-- so many looks of a caller for a class
 abbrev pub looks : ℕ → ℕ → ℕ → List Event
 looks caller class count = replicate count (Looked caller class)
 
@@ -44,7 +44,7 @@ IsSpending caller (Small class) events = (count : ℕ) × (events ≡ looks call
 IsSpending caller (Large units) events = ⊥
 IsSpending caller TooLarge events = ⊥
 
--- these are the events of a call of the caller that has ended so, in their order
+-- the list has the events of a call of the caller that has ended with this answer, in their order
 abbrev pub EventsOf : ℕ → Ended → List Event → Type 0
 EventsOf caller (alloc_given need place) events = IsGiving caller need place (need_of need) events
 EventsOf caller (alloc_refused need) events = IsRefusing caller need (need_of need) events
@@ -59,6 +59,6 @@ EventsOf caller (take_got shelf place) events = events ≡ Take caller shelf pla
 EventsOf caller (take_empty shelf) events = events ≡ TakeNone caller shelf ∷ []
 EventsOf caller take_missed events = events ≡ []
 
--- these are the events so far of a call that is under way, if it can end so
+-- the list has the events so far of a call of the caller that can end with this answer
 abbrev pub EventsSoFar : ℕ → Ended → List Event → Type 0
 EventsSoFar caller ended events = (all : List Event) × EventsOf caller ended all × Begins events all

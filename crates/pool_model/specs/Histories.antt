@@ -3,7 +3,7 @@ use Rattle.std.specs.Prelude.{ℕ, ◌==◌, ◌≡◌, List, [], ◌∷◌, ◌
 use Rattle.pool_model.specs.declared.event.Event.{Event}
 use Rattle.pool_model.specs.declared.event.Event.TheVariants.{Alloc, Looked, Refuse, Free, Write, Put, Take, TakeNone}
 
--- whose event it is
+-- the caller that makes an event
 abbrev pub caller_of : Event → ℕ
 caller_of (Alloc caller need place) = caller
 caller_of (Looked caller class) = caller

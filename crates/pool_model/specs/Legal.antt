@@ -54,7 +54,7 @@ IsRefusable g before caller (Small class) = EndsWith (own caller before) (Looked
 IsRefusable g before caller (Large units) = (place : ℕ) → ¬ IsFreeRun g (pool_of before) units place
 IsRefusable g before caller TooLarge = ⊥
 
--- what an event wants of the events before it, but for the two numbers below
+-- what an event wants of the events before it, but for the numbers of part-used and of bare frames
 abbrev pub IsAllowed : Geometry → List Event → Event → Type 0
 IsAllowed g before (Alloc caller need place) = IsFree g (pool_of before) (need_of need) place
 IsAllowed g before (Looked caller class) = class < CLASSES
@@ -93,7 +93,7 @@ IsWorn g pool class = AtMost (2 * g.heaps + 2 * g.callers - 2) g.frames (IsPartU
 abbrev pub IsCrowded : Geometry → Pool → Type 0
 IsCrowded g pool = AtMost (g.heaps * CLASSES + g.callers - 1) g.frames (IsBare pool)
 
--- the two numbers: who looks for a class in vain finds it worn, and who is refused a small need finds the heap crowded
+-- the numbers of frames at an event: a look in vain finds its class worn, and the refusal of a small need finds the heap crowded
 abbrev pub IsCountedFor : Geometry → Pool → Need → Type 0
 IsCountedFor g pool (Small class) = IsCrowded g pool
 IsCountedFor g pool (Large units) = Unit {0}
@@ -109,7 +109,7 @@ IsCounted g pool (Put caller place shelf) = Unit {0}
 IsCounted g pool (Take caller shelf place) = Unit {0}
 IsCounted g pool (TakeNone caller shelf) = Unit {0}
 
--- an event is legal after others, but for the two numbers
+-- an event is legal after others, but for the numbers of part-used and of bare frames
 abbrev pub IsLegalEventWithoutCounts : Geometry → List Event → Event → Type 0
 IsLegalEventWithoutCounts g before event = (caller_of event < g.callers) × IsAllowed g before event
 
@@ -117,7 +117,7 @@ IsLegalEventWithoutCounts g before event = (caller_of event < g.callers) × IsAl
 abbrev pub IsLegalEvent : Geometry → List Event → Event → Type 0
 IsLegalEvent g before event = IsLegalEventWithoutCounts g before event × IsCounted g (pool_of before) event
 
--- each event of a history is legal after those before it, but for the two numbers
+-- each event of a history is legal after those before it, but for the numbers of part-used and of bare frames
 abbrev pub IsLegalWithoutCounts : Geometry → List Event → Type 0
 IsLegalWithoutCounts g history = EachAfter (IsLegalEventWithoutCounts g) history
 

@@ -24,7 +24,7 @@ handed pool (Put caller place shelf) = parcels_in (block_at place pool)
 handed pool (Take caller shelf place) = parcels_in (block_at place pool)
 handed pool event = []
 
--- what those events hand over that are chosen, in their order, from a pool on
+-- the parcels that the chosen ones of a list of events hand over, in their order, from a pool on
 abbrev pub parcels_from : (Event → Bool) → Pool → List Event → List Parcel
 parcels_from chosen pool [] = []
 parcels_from chosen pool (event ∷ events) =
@@ -33,7 +33,7 @@ parcels_from chosen pool (event ∷ events) =
 abbrev pub parcels : (Event → Bool) → List Event → List Parcel
 parcels chosen history = parcels_from chosen [] history
 
--- the event puts a block on the shelf; it takes one off
+-- tests of an event: it puts a block on the shelf; it takes one off the shelf
 abbrev pub is_put_on : ℕ → Event → Bool
 is_put_on shelf (Put caller place at) = at == shelf
 is_put_on shelf event = false
@@ -42,7 +42,7 @@ abbrev pub is_take_off : ℕ → Event → Bool
 is_take_off shelf (Take caller at place) = at == shelf
 is_take_off shelf event = false
 
--- what was put on a shelf, and what was taken off it
+-- the parcels that were put on a shelf; those that were taken off it
 abbrev pub puts_on : ℕ → List Event → List Parcel
 puts_on shelf history = parcels (is_put_on shelf) history
 
@@ -54,7 +54,7 @@ abbrev pub is_shelf : ℕ → Owner → Bool
 is_shelf shelf (Caller caller) = false
 is_shelf shelf (Shelf at) = at == shelf
 
--- what lies on it
+-- the parcels that lie on a shelf
 abbrev pub lying_on : ℕ → Pool → List Parcel
 lying_on shelf [] = []
 lying_on shelf (block ∷ pool) = if is_shelf shelf block.owner then parcel_of block ∷ lying_on shelf pool else lying_on shelf pool

@@ -15,14 +15,14 @@ abbrev pub IsOwner : Geometry → Owner → Type 0
 IsOwner g (Caller caller) = caller < g.callers
 IsOwner g (Shelf shelf) = shelf < SHELVES
 
--- such a block of this heap lies at the place
+-- the place is one of this heap's places for blocks of the need
 abbrev pub IsPlaceFor : Geometry → Need → ℕ → Type 0
 IsPlaceFor g (Small class) place =
     (frame : ℕ) × (index : ℕ) × (frame < g.frames) × (index < block_count_of class) × (place ≡ block_place frame class index)
 IsPlaceFor g (Large units) place = (unit : ℕ) × (unit + units ≤ g.units) × (place ≡ unit_place g.frames unit)
 IsPlaceFor g TooLarge place = ⊥
 
--- a block of this heap: its place, its owner and its words are those of such a block
+-- a block of this heap: its need is in range, its place and its words are those of the need, and its owner exists
 pub record IsWellFormed (g : Geometry) (block : Block) : Type 0 where
   pub need : IsNeed block.need
   pub place : IsPlaceFor g block.need block.place

@@ -17,7 +17,7 @@ use Rattle.lane_outcomes.proofs.HoldLemmas.{held-inside}
 use Rattle.roomy_traces.specs.Roomy.{Filled, IsPlain, filled_in, moves}
 use Rattle.roomy_traces.proofs.RegisterLemmas.{IsAlike, words_held, own_by, words_filled, need_held, need_filled, alike-at, need-at, mismatch, moves-on}
 
--- what a register holds counts so much
+-- what the block in a register counts, if it holds one
 abbrev weigh : (ℕ → ℕ) → Option Held → ℕ
 weigh f held = count_with f (words_held held)
 
@@ -110,7 +110,7 @@ row-sided setting position filled (op.Resize r need) result piece alike row =
     (alike-at position.registers filled r alike) (need-at position.registers filled r alike) row
 row-sided setting position filled operation result piece alike row = inr (inl refl)
 
--- it gives at most one block
+-- an operation gives at most one block
 pub gives-one : (operation : Op) (result : Outcome) → count_with as_one (words_given operation result) ≤ 1
 gives-one (op.Alloc r need v) (outcome.Given words place) = omega arith
 gives-one (op.Resize r need) (outcome.Resized words place) = omega arith

@@ -29,11 +29,11 @@ pub record HasContents (caller place : ℕ) (contents : List (Option ℕ)) (pool
   pub owned : block.owner ≡ Caller caller
   pub contents_are : block.contents ≡ contents
 
--- so it is at each moment of a history at which these are the caller's events
+-- a property holds of the pool at each moment of a history at which these are the caller's events
 abbrev pub AtMoments : List Event → ℕ → List Event → (Pool → Type 0) → Type 0
 AtMoments history caller done P = (before : List Event) → Begins before history → own caller before ≡ done → P (pool_of before)
 
--- a property that others' events leave is another one after an event of the caller's own
+-- a property that a caller's event brings, and others' events leave, holds at each moment behind that event
 moments-step :
     (g : Geometry) (history : List Event) (caller : ℕ) (done : List Event) (event : Event) (P Q : Pool → Type 0) → IsLegalWithoutCounts g history
     → ((before rest : List Event) → IsLegalWithoutCounts g (before ++ rest) → own caller rest ≡ [] → Q (pool_of before) → Q (pool_of (before ++ rest)))
@@ -49,7 +49,7 @@ moments-step g history caller done event P Q legal others step at events (more, 
     subst Q (sym (pool_of-push cut.front event)) (step (pool_of cut.front) (at cut.front (event ∷ (cut.back ++ more), before) cut.own_front)) in
     subst (λ (xs : List Event). Q (pool_of xs)) past (others (cut.front ++ event ∷ []) cut.back legal_past cut.own_back stepped)
 
--- contents are such a property
+-- others' events leave the contents of a caller's block
 others-contents :
     (g : Geometry) (caller place : ℕ) (contents : List (Option ℕ)) (before rest : List Event) → IsLegalWithoutCounts g (before ++ rest)
     → own caller rest ≡ [] → HasContents caller place contents (pool_of before) → HasContents caller place contents (pool_of (before ++ rest))
@@ -68,7 +68,7 @@ contents-step :
 contents-step g history caller done event place contents P legal step at =
     moments-step g history caller done event P (HasContents caller place contents) legal (others-contents g caller place contents) step at
 
--- an event of other blocks
+-- the event is of another block than the one at the place
 abbrev pub IsAway : ℕ → Event → Type 0
 IsAway place (Alloc by need other) = place ≢ other
 IsAway place (Looked by class) = Unit {0}
@@ -89,7 +89,7 @@ away-live place (Put by other shelf) pool away = absurd away
 away-live place (Take by shelf other) pool away = absurd away
 away-live place (TakeNone by shelf) pool away = refl
 
--- leaves the contents
+-- events of other blocks leave the contents of a caller's block
 pub at-away :
     (g : Geometry) (history : List Event) (caller : ℕ) (done events : List Event) (place : ℕ) (contents : List (Option ℕ))
     → IsLegalWithoutCounts g history → AllByRecursion (IsAway place) events → AtMoments history caller done (HasContents caller place contents)
@@ -161,7 +161,7 @@ at-writing g history caller place words value done contents legal many at =
     (map-map (λ n. Some n) value (range_with_len 0 words))
     (at-writes g history caller place value words 0 done [] contents legal refl many at)
 
--- so does a filling
+-- a filling puts rising numbers into a block, whatever it contained
 pub at-filling :
     (g : Geometry) (history : List Event) (caller place words v : ℕ) (done : List Event) (contents : List (Option ℕ))
     → IsLegalWithoutCounts g history → length contents ≡ words → AtMoments history caller done (HasContents caller place contents)
@@ -169,7 +169,7 @@ pub at-filling :
 at-filling g history caller place words v done contents legal many at =
     at-writing g history caller place words (λ i. (v + i) % 2 ^ 64) done contents legal many at
 
--- and so does an allocation that is given a block and writes it
+-- an allocation that is given a block and writes it puts the written values into it
 pub at-given :
     (g : Geometry) (history : List Event) (caller need place words : ℕ) (value : ℕ → ℕ) (done calls : List Event) → IsLegalWithoutCounts g history
     → words ≡ usable_words (need_of need) → IsGivenBy caller need place calls
@@ -195,7 +195,7 @@ at-given g history caller need place words value done calls legal words_are give
     ap (λ xs. xs ++ all) (append_assoc done given.looked (alloc ∷ []) ∙ ap (λ xs. done ++ xs) (sym given.whole)) ∙ append_assoc done calls all in
     subst (λ (xs : List Event). AtMoments history caller xs (HasContents caller place (with_numbers numbers))) same filled
 
--- after the free of another block, which lies elsewhere at that moment, the contents are the same
+-- the contents of a block stay after the free of another block, which lies elsewhere at that moment
 pub at-freed :
     (g : Geometry) (history : List Event) (caller place gone : ℕ) (done : List Event) (contents : List (Option ℕ)) → IsLegalWithoutCounts g history
     → AtMoments history caller done (λ pool. place ≢ gone) → AtMoments history caller done (HasContents caller place contents)
@@ -242,7 +242,7 @@ range-same value other (suc count) first same =
     ap (λ n. n ∷ map value (range_with_len (first + 1) count)) (same first (omega arith))
     ∙ ap (λ ns. other first ∷ ns) (range-same value other count (first + 1) (λ i lt. same i (omega (arith, lt))))
 
--- so what a resize writes is a copy of the old block's numbers
+-- the values that a resize writes are a copy of the old block's numbers
 pub known-copy :
     (numbers : List ℕ) (contents : List (Option ℕ)) (words : ℕ) (value : ℕ → ℕ) → contents ≡ with_numbers numbers
     → ((i : ℕ) → i < words → IsWord (slice_index_or contents i (Some 0)) (value i)) → map value (range_with_len 0 words) ≡ copied numbers words

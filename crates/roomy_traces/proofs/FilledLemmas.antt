@@ -43,7 +43,7 @@ pub filled-start : (history : List Event) (caller n : ℕ) (filled : List (Optio
 filled-start history caller n filled r held now full there =
     absurd (let e : None ≡ Some held = sym (nothing-in n r) ∙ full in cc)
 
--- no events leave it so
+-- held blocks contain what they were filled with after a piece without events
 filled-none :
     (history : List Event) (caller : ℕ) (done piece : List Event) (registers : List (Option Held)) (filled : List (Option Filled)) → piece ≡ []
     → AreFilled history caller done registers filled → AreFilled history caller (done ++ piece) registers filled
@@ -55,7 +55,7 @@ same-many : (registers : List (Option Held)) (filled : List (Option Filled)) →
 same-many registers filled alike =
     sym (length-map registers words_held) ∙ ap (length {A = Option ℕ}) alike.words ∙ length-map filled words_filled
 
--- after an allocation
+-- held blocks contain what they were filled with after an allocation
 given-filled :
     (g : Geometry) (setting : Setting) (position : Position) (filled : List (Option Filled)) (r need v words place : ℕ) (calls piece : List Event)
     → IsLegalWithoutCounts g setting.history → IsAlike position.registers filled → r < length position.registers
@@ -121,7 +121,7 @@ alloc-filled g setting position filled r need v None outcome.Refused now piece l
 alloc-filled g setting position filled r need v None outcome.Spent now piece legal alike same within answered row once at = absurd answered
 alloc-filled g setting position filled r need v held result now piece legal alike same within answered row once at = absurd row
 
--- after a free
+-- held blocks contain what they were filled with after a free
 freed-filled :
     (g : Geometry) (setting : Setting) (position : Position) (filled : List (Option Filled)) (r : ℕ) (gone : Held) (piece : List Event)
     → IsLegalWithoutCounts g setting.history → held_in position.registers r ≡ Some gone → piece ≡ Free setting.caller gone.place ∷ []
@@ -159,7 +159,7 @@ free-filled g setting position filled r (Some held) outcome.Freed None piece leg
     absurd (let e : Some held.words ≡ None = same in cc)
 free-filled g setting position filled r held result now piece legal full same row once at = absurd row
 
--- after a filling
+-- held blocks contain what they were filled with after a filling
 refilled-filled :
     (g : Geometry) (setting : Setting) (position : Position) (filled : List (Option Filled)) (r v : ℕ) (hers : Held) (was : Filled) (piece : List Event)
     → IsLegalWithoutCounts g setting.history → IsAlike position.registers filled → held_in position.registers r ≡ Some hers
@@ -215,14 +215,14 @@ fill-filled g setting position filled r v (Some held) outcome.Filled None piece 
     absurd (let e : Some held.words ≡ None = same in cc)
 fill-filled g setting position filled r v held result now piece legal alike full there same row once at = absurd row
 
--- after a check
+-- a check adds no event
 check-none :
     (setting : Setting) (position : Position) (held : Option Held) (result : Outcome) (piece : List Event) → CheckRow setting position held result piece → piece ≡ []
 check-none setting position None outcome.Skipped piece row = row
 check-none setting position (Some held) (outcome.Sum total) piece row = row.0
 check-none setting position held result piece row = absurd row
 
--- after a resize
+-- held blocks contain what they were filled with after a resize
 module _ (g : Geometry) (setting : Setting) (legal : IsLegalWithoutCounts g setting.history) (position : Position) (filled : List (Option Filled))
     (piece : List Event) (given freed : ℕ) (alike : IsAlike position.registers filled) (stands : Before as_one setting position given freed) (once : HoldsOnce position.registers)
     (at : AreFilled setting.history setting.caller position.done position.registers filled) where
@@ -311,7 +311,7 @@ module _ (g : Geometry) (setting : Setting) (legal : IsLegalWithoutCounts g sett
   resize-filled r need held outcome.Spent now full there same same_need answered row after = absurd answered
   resize-filled r need held result now full there same same_need answered row after = absurd row
 
--- so it is after each plain operation
+-- held blocks contain what they were filled with after each plain operation
 pub row-filled :
     (g : Geometry) (setting : Setting) (position : Position) (filled : List (Option Filled)) (operation : Op) (result : Outcome) (piece : List Event)
     (given freed : ℕ) → IsPlain operation → IsOp operation → IsLegalWithoutCounts g setting.history → IsAlike position.registers filled → IsAnswered result

@@ -24,7 +24,7 @@ sum-lanes x f d first (lane ∷ xs) each =
     subst (λ n. x n ≤ f (get_or xs k d)) next (each (suc k) (omega arith))) in
     omega (arith, sum_by-cons f lane xs)
 
--- and leaves room for a lane that has no share in it
+-- a sum over lane numbers leaves room, among the lanes, for one that has no share in it
 pub sum-lanes_but :
     {X : Type 0} (x : ℕ → ℕ) (f : X → ℕ) (d : X) (first : ℕ) (xs : List X) → ((k : ℕ) → k < length xs → x (first + k) ≤ f (get_or xs k d))
     → (s : ℕ) → s < length xs → x (first + s) ≡ 0 → sum_from x first (length xs) + f (get_or xs s d) ≤ sum_by f xs
@@ -94,7 +94,7 @@ by-caller test callers events all =
     ∙ partition (weight_of test) callers [] events all
     ∙ all-count test [] events
 
--- a part counts no more
+-- a beginning of a list of events has no more that pass a test than the list
 pub count-begins : (test : Event → Bool) (part whole : List Event) → Begins part whole → count_by test part ≤ count_by test whole
 count-begins test part whole (rest, is) =
     let parts : count_by test (part ++ rest) ≡ count_by test part + count_by test rest = sum_by-append (λ e. cond (test e) 1 0) part rest in
@@ -121,7 +121,7 @@ pub all-map : (P Q : Event → Type 0) (events : List Event) → ((event : Event
 all-map P Q [] f all = tt
 all-map P Q (event ∷ events) f all = (f event all.0, all-map P Q events f all.1)
 
--- so of a caller's events
+-- what holds of each event of a list holds of a caller's own ones
 pub all-own : (P : Event → Type 0) (caller : ℕ) (events : List Event) → AllByRecursion P events → AllByRecursion P (own caller events)
 all-own P caller [] all = tt
 all-own P caller (event ∷ events) all =
@@ -134,7 +134,7 @@ all-own P caller (event ∷ events) all =
 pub own-begins : (caller : ℕ) (before history : List Event) → Begins before history → Begins (own caller before) (own caller history)
 own-begins caller before history (rest, is) = (own caller rest, ap (own caller) is ∙ own-append caller before rest)
 
--- and each beginning of its events is that of some moment
+-- a list of events is a caller's own at some moment of a history
 abbrev HasMoment : ℕ → List Event → List Event → Type 0
 HasMoment caller history part = (before : List Event) × Begins before history × (own caller before ≡ part)
 

@@ -124,7 +124,7 @@ IsBounded filled operations tail =
     (part : List Event) → Begins part tail → AllByRecursion IsUnrefusing part
     → count_by is_alloc part + held_by as_one filled ≤ count_by is_free part + most_held filled operations
 
--- inside the events of one operation, during which the lane holds so many blocks at most
+-- a part of the events of one operation leaves the lane at most the most blocks from there on
 inside-most :
     (filled next : List (Option Filled)) (operations : List Op) (part piece : List Event) (given freed during : ℕ) → Counts piece given freed
     → given + held_by as_one filled ≡ freed + held_by as_one next → held_by as_one filled ≤ during
@@ -144,7 +144,7 @@ refused-most :
 refused-most filled next operations part piece freed during counts least begins =
     omega (arith, counts.gives, least, count-begins is_alloc part piece begins)
 
--- behind them
+-- a part that goes on behind the events of one operation leaves the lane at most the most blocks from there on
 behind-most :
     (filled next : List (Option Filled)) (operations : List Op) (part piece more : List Event) (given freed during : ℕ) → Counts piece given freed
     → given + held_by as_one filled ≡ freed + held_by as_one next → part ≡ piece ++ more
@@ -176,7 +176,7 @@ pub record WalkHolds (from to : Position) (filled : List (Option Filled)) (opera
   pub adds : Adds from to
   pub bounded : IsBounded filled operations adds.tail
 
--- where the row is answered, by what comes behind it
+-- an answered row, and what comes behind it, leave the lane at most its most blocks
 answered-holds :
     (setting : Setting) (from to : Position) (filled : List (Option Filled)) (operation : Op) (operations : List Op) (result : Outcome) (piece : List Event)
     → IsPlain operation → IsOp operation → IsAlike from.registers filled → IsAnswered result → FitsRow setting from operation result piece

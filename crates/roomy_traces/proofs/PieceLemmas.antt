@@ -282,7 +282,7 @@ tame-resize setting position need (Some held) outcome.Spent piece small row =
     all-looks IsTame setting.caller piece (λ class. tt) (spent-looks setting position need piece position.spent row.1)
 tame-resize setting position need held result piece small row = absurd row
 
--- so are those of a plain operation
+-- the events of a plain operation refuse small needs alone
 pub row-tame :
     (setting : Setting) (position : Position) (operation : Op) (result : Outcome) (piece : List Event) → IsPlain operation
     → FitsRow setting position operation result piece → AllByRecursion IsTame piece

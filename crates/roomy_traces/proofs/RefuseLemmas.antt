@@ -35,7 +35,7 @@ use Rattle.roomy_traces.proofs.RegisterLemmas.{IsAlike, words_held, words_filled
 use Rattle.roomy_traces.proofs.MostHeldLemmas.{IsUnrefusing, walk-holds}
 use Rattle.roomy_traces.proofs.FrameLemmas.{crowded-live}
 
--- before the first operation
+-- empty registers hold no words, in a lane that runs and in one computed on its own
 nothing-held : (n : ℕ) → map words_held (replicate n None) ≡ map words_filled (replicate n None)
 nothing-held zero = refl
 nothing-held (suc n) = ap (λ ws. None ∷ ws) (nothing-held n)
@@ -116,7 +116,7 @@ own-tame trace history lost outcomes roomy fit k below =
     (walk-tame (setting_in history k trace.heap.turn_limit lost) start fits.end (get_or trace.lanes k []) (get_or outcomes k [])
     (lane-plain trace roomy k below) fits.walks tt)
 
--- so each event does
+-- each event of a roomy trace, where it refuses, refuses a small need
 event-tame :
     (trace : Trace) (history before rest : List Event) (event : Event) (lost : ℕ) (outcomes : List (List Outcome)) → IsRoomy trace
     → OutcomesFit trace.heap history lost trace.lanes outcomes → history ≡ before ++ event ∷ rest → IsTame event
@@ -162,7 +162,7 @@ event-unrefusing trace history before rest (Refuse caller need) lost outcomes na
     no-refusal trace history before rest caller need lost outcomes named roomy legal fit is none
 event-unrefusing trace history before rest event lost outcomes named roomy legal fit is none = tt
 
--- so there is none
+-- no event of a roomy trace is a refusal
 pub never-refused :
     (trace : Trace) (history : List Event) (lost : ℕ) (outcomes : List (List Outcome)) → IsTrace trace → IsRoomy trace
     → IsLegal trace.heap history → OutcomesFit trace.heap history lost trace.lanes outcomes → AllByRecursion IsUnrefusing history

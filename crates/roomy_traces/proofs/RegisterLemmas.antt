@@ -27,14 +27,14 @@ words_held held = option_map (λ (h : Held). h.words) held
 abbrev pub words_filled : Option Filled → Option ℕ
 words_filled filled = option_map (λ (b : Filled). length b.numbers) filled
 
--- the need that it serves
+-- the need that the block in a register serves
 abbrev pub need_held : Option Held → Option Need
 need_held held = option_map (λ (h : Held). h.need) held
 
 abbrev pub need_filled : Option Filled → Option Need
 need_filled filled = option_map (λ (b : Filled). b.need) filled
 
--- as many numbers as words
+-- a block that was filled from a number on has as many numbers as words
 pub from-length : (first words : ℕ) → length (numbers_from first words) ≡ words
 from-length first words = length-map-range_with_len (λ i. (first + i) % 2 ^ 64) 0 words
 
@@ -75,7 +75,7 @@ get-map h [] r d = refl
 get-map h (x ∷ xs) zero d = refl
 get-map h (x ∷ xs) (suc r) d = get-map h xs r d
 
--- so each holds a block where the other does
+-- each of the alike registers holds a block of the same words on both sides, or none
 pub alike-at :
     (registers : List (Option Held)) (filled : List (Option Filled)) (r : ℕ) → IsAlike registers filled
     → words_held (held_in registers r) ≡ words_filled (slice_index_or filled r None)
@@ -135,7 +135,7 @@ abbrev pub IsSummed : Option Filled → Outcome → Type 0
 IsSummed (Some filled) (outcome.Sum total) = total ≡ sum filled.numbers % 2 ^ 64
 IsSummed filled result = Unit {0}
 
--- so where the operation is a check
+-- the sum of a check is that of the numbers with which its register's block was filled
 abbrev pub IsSummedAt : List (Option Filled) → Op → Outcome → Type 0
 IsSummedAt filled (op.Check r) result = IsSummed (slice_index_or filled r None) result
 IsSummedAt filled operation result = Unit {0}
@@ -214,7 +214,7 @@ check-serial setting position filled r (Some held) (outcome.Sum total) (Some now
 check-serial setting position filled r (Some held) (outcome.Sum total) None piece same alike summed row = mismatch held _ same
 check-serial setting position filled r held result now piece same alike summed row = absurd row
 
--- whether the block moves, where the lane is computed on its own
+-- whether the block of a resize moves, where the lane is computed on its own
 pub moves-not :
     (need : ℕ) (held : Held) (now : Filled) → need_held (Some held) ≡ need_filled (Some now) → need_of need ≡ held.need
     → is_same (need_of need) now.need ≡ true
@@ -251,7 +251,7 @@ resize-serial setting position filled r need held outcome.Refused now piece same
 resize-serial setting position filled r need held outcome.Spent now piece same same_need alike answered row = absurd answered
 resize-serial setting position filled r need held result now piece same same_need alike answered row = absurd row
 
--- so does each plain operation
+-- a plain operation does what it does where the lane is computed on its own
 pub row-serial :
     (setting : Setting) (position : Position) (filled : List (Option Filled)) (operation : Op) (result : Outcome) (piece : List Event) → IsPlain operation
     → IsAlike position.registers filled → IsAnswered result → IsSummedAt filled operation result
@@ -274,7 +274,7 @@ row-serial setting position filled (op.Resize r need) result piece plain alike a
 row-serial setting position filled (op.Put r shelf) result piece plain alike answered summed row = absurd plain
 row-serial setting position filled (op.Take r shelf) result piece plain alike answered summed row = absurd plain
 
--- the registers are alike again, whatever a sum was
+-- a check leaves the registers of a lane computed on its own
 pub step-check : (filled : List (Option Filled)) (now : Option Filled) (r : ℕ) → filled ≡ serial_step filled now (op.Check r)
 step-check filled None r = refl
 step-check filled (Some now) r = refl

@@ -104,7 +104,7 @@ left-live f trace history lost outcomes named roomy legal fit =
           (lane-even f trace history lost outcomes named roomy legal fit),
     )
 
--- so many blocks and words
+-- as many blocks and words are live at the end as the lanes hold there
 pub live-left :
     (trace : Trace) (history : List Event) (lost : ℕ) (outcomes : List (List Outcome)) → IsTrace trace → IsRoomy trace
     → IsLegal trace.heap history → OutcomesFit trace.heap history lost trace.lanes outcomes
@@ -114,7 +114,7 @@ live-left trace history lost outcomes named roomy legal fit = (
   sym (measure-words (pool_of history)) ∙ left-live as_words trace history lost outcomes named roomy legal fit,
 )
 
--- so the report is that of the trace
+-- the report of a roomy trace is the one computed lane by lane
 pub one-report :
     (trace : Trace) (history : List Event) (lost : ℕ) (outcomes : List (List Outcome)) → IsTrace trace → IsRoomy trace
     → IsLegal trace.heap history → OutcomesFit trace.heap history lost trace.lanes outcomes

@@ -32,7 +32,7 @@ use Rattle.roomy_traces.proofs.MostHeldLemmas.{Adds, IsUnrefusing, answered-or, 
 use Rattle.roomy_traces.proofs.RefuseLemmas.{alike-start, lane-ranges, never-refused}
 use Rattle.roomy_traces.proofs.FilledLemmas.{AreFilled, filled-start, row-filled, row-summed}
 
--- where a lane stands, its registers beside those of the lane computed on its own
+-- a lane stands at a position, its registers beside those of the lane computed on its own
 record Stands (setting : Setting) (position : Position) (filled : List (Option Filled)) : Type 0 where
   pub alike : IsAlike position.registers filled
   pub are_filled : AreFilled setting.history setting.caller position.done position.registers filled
@@ -144,7 +144,7 @@ walk-serial g setting from to filled (operation ∷ operations) (result ∷ resu
       alike = later.alike;
     }
 
--- each lane of a roomy trace
+-- each lane of a roomy trace has the outcomes of the lane computed on its own, and ends with its registers
 pub lane-serial :
     (trace : Trace) (history : List Event) (lost : ℕ) (outcomes : List (List Outcome)) → IsTrace trace → IsRoomy trace
     → IsLegal trace.heap history → (fit : OutcomesFit trace.heap history lost trace.lanes outcomes) → (k : ℕ) → (below : k < length trace.lanes)
@@ -157,7 +157,7 @@ lane-serial trace history lost outcomes named roomy legal fit k below =
     (all-own IsUnrefusing k history (never-refused trace history lost outcomes named roomy legal fit)))
     (legal-weaker trace.heap history legal) fits.all_used fits.walks (stands-start (setting_in history k trace.heap.turn_limit lost))
 
--- so their outcomes are those, but for the places
+-- the outcomes of a roomy trace are those of its lanes computed on their own, but for the places
 pub outcomes-serial :
     (trace : Trace) (history : List Event) (lost : ℕ) (outcomes : List (List Outcome)) → IsTrace trace → IsRoomy trace
     → IsLegal trace.heap history → OutcomesFit trace.heap history lost trace.lanes outcomes

@@ -135,7 +135,7 @@ row-unspent setting position others (op.Resize r need) result piece plain few ro
 row-unspent setting position others (op.Put r shelf) result piece plain few room fresh row = absurd plain
 row-unspent setting position others (op.Take r shelf) result piece plain few room fresh row = absurd plain
 
--- where the limit has room for what the lane asks for and what others are given, no turn is wanting
+-- no turn is wanting where the limit has room for what the lane asks for and what others are given
 walk-unspent :
     (setting : Setting) (others : ℕ) (from to : Position) (operations : List Op) (results : List Outcome) → AllByRecursion IsPlain operations
     → AreFewOthers setting others → from.answered + count_by may_allocate operations + others ≤ setting.turn_limit → from.spent ≡ false
@@ -154,7 +154,7 @@ walk-unspent setting others from to (operation ∷ operations) (result ∷ resul
           (spent-stays from.spent result here ∙ fresh) walks.2,
     )
 
--- a caller isn't another
+-- a caller's own events are its own, and give no block to another
 own-hers : (caller : ℕ) (events : List Event) → AllByRecursion (λ event. eqb (caller_of event) caller ≡ true) (own caller events)
 own-hers caller [] = tt
 own-hers caller (event ∷ events) =

@@ -25,7 +25,7 @@ numbers_from first words = map (λ i. (first + i) % 2 ^ 64) (range_with_len 0 wo
 abbrev pub copied : List ℕ → ℕ → List ℕ
 copied numbers words = map (λ i. slice_index_or numbers i 0) (range_with_len 0 words)
 
--- whether the same blocks serve both
+-- whether the same blocks serve two needs
 abbrev pub is_same : Need → Need → Bool
 is_same (Small class) (Small other) = class == other
 is_same (Large units) (Large other) = units == other
@@ -81,7 +81,7 @@ abbrev pub most_held : List (Option Filled) → List Op → ℕ
 most_held registers [] = held_by as_one registers
 most_held registers (operation ∷ operations) = max (held_during registers operation) (most_held (serial_after registers operation) operations)
 
--- before the first operation
+-- the registers of a lane before its first operation: no block
 abbrev pub no_blocks : List (Option Filled)
 no_blocks = replicate REGISTERS None
 

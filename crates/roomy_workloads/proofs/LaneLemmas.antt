@@ -22,7 +22,7 @@ pub record IsSlim (most : ℕ) (operations : List Op) : Type 0 where
   pub low : All (IsLow 64) operations
   pub few : count_by may_allocate operations ≤ most
 
--- such a lane, whatever the draws
+-- operations that are drawn: plain, on the first 64 registers, with at most so many allocations, whatever the draws
 abbrev IsSlimDrawn : ℕ → Draws (List Op) → Type 0
 IsSlimDrawn most operations = (g : Lcg) → IsSlim most (operations g).0
 
@@ -53,7 +53,7 @@ check r low =
       few = omega arith;
     }
 
--- one behind the other: allocations add up
+-- two lists of slim operations, one behind the other, are slim: their allocations add up
 joined : (m n most : ℕ) (before after : List Op) → m + n ≤ most → IsSlim m before → IsSlim n after → IsSlim most (before ++ after)
 joined m n most before after below is also =
     record {

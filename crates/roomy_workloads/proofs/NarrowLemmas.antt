@@ -30,7 +30,7 @@ weighs-one (Some filled) = omega arith
 weighs-none : (held : Option Filled) → held ≡ None → weigh held ≡ 0
 weighs-none held none = rw none refl
 
--- so they hold at most so many blocks
+-- registers that are empty from one on hold at most so many blocks
 narrow-held : (n : ℕ) (registers : List (Option Filled)) → IsNarrow n registers → held_by as_one registers ≤ n
 narrow-held n [] narrow = omega arith
 narrow-held zero (held ∷ registers) narrow =
@@ -73,7 +73,7 @@ during-narrow :
 during-narrow n registers operation low narrow =
     rw (never-moves n (filled_in registers operation) operation low) (omega (arith, narrow-held n registers narrow))
 
--- at no moment does the lane hold more
+-- operations on the first n registers hold at most n blocks at any moment, where the others are empty
 narrow-most :
     (n : ℕ) (registers : List (Option Filled)) (operations : List Op) → All (IsLow n) operations → IsNarrow n registers → most_held registers operations ≤ n
 narrow-most n registers [] low narrow = narrow-held n registers narrow
@@ -90,6 +90,6 @@ none-full zero k = refl
 none-full (suc many) zero = refl
 none-full (suc many) (suc k) = none-full many k
 
--- so from the start
+-- operations on the first n registers hold at most n blocks at any moment from the start
 pub lane-most : (n : ℕ) (operations : List Op) → All (IsLow n) operations → most_held no_blocks operations ≤ n
 lane-most n operations low = narrow-most n no_blocks operations low (λ k above. none-full REGISTERS k)

@@ -14,7 +14,7 @@ use Rattle.roomy_traces.specs.Roomy.{IsPlain, may_allocate, most_held, no_blocks
 use Rattle.roomy_workloads.proofs.NarrowLemmas.{lane-most}
 use Rattle.roomy_workloads.proofs.LaneLemmas.{IsSlim, lane-slim}
 
--- so many lanes: plain, each with at most so many allocations, and with at most 64 blocks at a time
+-- lanes that are plain, with no more allocations in all than so many lanes of `most`, and no more blocks than so many of 64
 record AreSlim (many most : ℕ) (lanes : List (List Op)) : Type 0 where
   plain : All (All IsPlain) lanes
   turns : sum_by (count_by may_allocate) lanes ≤ many * most

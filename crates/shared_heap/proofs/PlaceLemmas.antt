@@ -16,7 +16,7 @@ use Rattle.live_heap.specs.declared.pass.Pass.{Pass}
 use Rattle.live_heap.specs.Passes.{IsOf, seen}
 use Rattle.shared_heap.specs.Places.{HasTaken, IsGiven, PlacesHold}
 
--- a step that takes a place
+-- a step that takes a place keeps the rule of the places
 pub arrives :
     (h : Heap) (slots place : ℕ) → place < slots
     → Arrives (PlacesHold h) slots place (λ _. 1) (λ found me. HasTaken place found me.1)
@@ -56,7 +56,7 @@ arrives h slots place within s holds count small =
       λ _. (it.0, refl),
     ))
 
--- a step that gives a place free again, in which lies a pass of the heap or nothing
+-- a step that frees a place, in which lies a pass of the heap or nothing, keeps the rule of the places
 pub frees :
     (h : Heap) (slots id : ℕ) (me : Me (Option Pass) (Unit {0})) (place : ℕ) (given : Option Pass) → place < slots
     → me.1 ≡ (place, given) ∷ [] → IsGiven h given

@@ -9,12 +9,12 @@ use Rattle.live_heap.specs.declared.pass.Pass.{Pass}
 use Rattle.live_heap.specs.Endings.{AreAllIdle, ClosedFields, HasClosed, IsResting}
 use Rattle.live_heap.specs.Passes.{IsOf}
 
--- a pass of the heap, in no call; or nothing
+-- what lies in a place: a pass of the heap, in no call; or nothing
 abbrev pub IsGiven : Heap → Option Pass → Type 0
 IsGiven h None = Unit {0}
 IsGiven h (Some p) = IsOf h p × IsIdle p.errand
 
--- a place has a word, and where that isn't 1 the place is not taken, and has such a pass, or nothing
+-- each place has a word, and where that isn't 1 the place is not taken, and has a pass in no call, or nothing
 pub record PlacesHold (h : Heap) (s : State (Option Pass) (Unit {0})) : Type 0 where
   pub words : length s.homes ≤ length s.words
   pub each :

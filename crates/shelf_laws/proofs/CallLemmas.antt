@@ -11,7 +11,7 @@ use Rattle.pool_model.specs.Calls.{Ended, EventsOf, EventsSoFar, IsGiving, IsRef
 use Rattle.pool_model.specs.Calls.Ended.{alloc_given, alloc_refused, alloc_spent, alloc_too_large, freed, read, wrote, put_done, put_full, take_got, take_empty, take_missed}
 use Rattle.shelf_laws.specs.Quiet.{HandsNothingOver, IsOutside}
 
--- every event of the list is outside
+-- no event of the list puts on a shelf of the pipe or takes from one
 abbrev pub AreOutside : ℕ → ℕ → List Event → Type 0
 AreOutside senders shelves events = All (IsOutside senders shelves) events
 

@@ -16,7 +16,7 @@ use Rattle.pool_model.proofs.PoolLemmas.{each-every}
 use Rattle.pool_model.proofs.WellFormedLemmas.{sound-differ, sound-of}
 use Rattle.pool_model.specs.declared.owner.Owner.TheVariants.{Shelf}
 
--- how many events of a longer list are chosen
+-- the number of chosen events of a list with one event more
 pub count-push :
     (chosen : Event → Bool) (events : List Event) (event : Event)
     → count_by chosen (events ++ event ∷ []) ≡ count_by chosen events + cond (chosen event) 1 0
@@ -41,7 +41,7 @@ count-same chosen events event off =
     count-push chosen events event ∙ ap (λ (b : Bool). count_by chosen events + cond b 1 0) off in
     omega (arith, last)
 
--- no event of the list is chosen
+-- a list of which no event is chosen has none as its first, and none in its rest
 pub count-none-first :
     (chosen : Event → Bool) (event : Event) (events : List Event) → count_by chosen (event ∷ events) ≡ 0
     → (chosen event ≡ false) × (count_by chosen events ≡ 0)
@@ -56,7 +56,7 @@ count-none-first chosen event events none =
           (off, omega (arith, zero_more))
     ]
 
--- and so nothing more is handed over
+-- a list of which no event is chosen hands nothing over
 pub from-none :
     (chosen : Event → Bool) (pool : Pool) (events : List Event) → count_by chosen events ≡ 0 → parcels_from chosen pool events ≡ []
 from-none chosen pool [] none = refl
@@ -72,7 +72,7 @@ parcels-none chosen history more none =
     ∙ ap (λ (l : List Parcel). parcels chosen history ++ l) (from-none chosen (pool_of history) more none)
     ∙ append-nil (parcels chosen history)
 
--- what is chosen are puts and takes
+-- the event is a put or a take
 abbrev pub IsHandOver : Event → Type 0
 IsHandOver (Put caller place shelf) = Unit {0}
 IsHandOver (Take caller shelf place) = Unit {0}
@@ -116,7 +116,7 @@ parcels-length g chosen history hands legal =
           ap (λ (l : List Parcel). length l) (push-skip chosen before event off) ∙ same ∙ sym (count-same chosen before event off)
     ]) legal refl
 
--- where no block lies on a shelf, all that was put there was taken
+-- all that was put on a shelf on which no block lies was taken off it
 pub puts-taken :
     (g : Geometry) (history : List Event) (shelf : ℕ) → IsLegalWithoutCounts g history → IsEmptyShelf (pool_of history) shelf
     → puts_on shelf history ≡ takes_off shelf history

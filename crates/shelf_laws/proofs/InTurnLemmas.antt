@@ -17,7 +17,7 @@ use Rattle.pool_model.proofs.WellFormedLemmas.{separate-found, sound-differ, sou
 use Rattle.shelf_laws.specs.Turns.{IsPutInTurn}
 use Rattle.shelf_laws.proofs.GrowLemmas.{IsHandOver, count-same, parcels-length, puts-taken}
 
--- puts and takes hand over
+-- events that pass the tests for a shelf's puts and takes are puts and takes
 pub put-on-hands : (shelf : ℕ) (event : Event) → is_put_on shelf event ≡ true → IsHandOver event
 put-on-hands shelf (Put caller place at) is = tt
 put-on-hands shelf event is = absurd (true≢false (sym is))
@@ -36,7 +36,7 @@ pub takes-counted :
     → length (takes_off shelf history) ≡ count_by (is_take_off shelf) history
 takes-counted g history shelf legal = parcels-length g (is_take_off shelf) history (take-off-hands shelf) legal
 
--- on an empty shelf as many were put as were taken
+-- an empty shelf has had as many puts as takes
 even :
     (g : Geometry) (history : List Event) (shelf : ℕ) → IsLegalWithoutCounts g history → IsEmptyShelf (pool_of history) shelf
     → count_by (is_put_on shelf) history ≡ count_by (is_take_off shelf) history
@@ -44,12 +44,12 @@ even g history shelf legal empty =
     sym (puts-counted g history shelf legal) ∙ ap (λ (l : List Parcel). length l) (puts-taken g history shelf legal empty)
     ∙ takes-counted g history shelf legal
 
--- what lies there was put there in turn
+-- each block that lies on a shelf was put there in turn
 abbrev pub LiesInTurn : ℕ → List Event → Pool → Type 0
 LiesInTurn shelf history pool =
     (place : ℕ) (block : Block) → block_at place pool ≡ Some block → block.owner ≡ Shelf shelf → IsPutInTurn history shelf place block
 
--- an event that is no take from the shelf leaves that so
+-- a block that was put on a shelf in turn stays so after an event that is no take from the shelf
 extend :
     (shelf place : ℕ) (block : Block) (before : List Event) (event : Event) → is_take_off shelf event ≡ false
     → IsPutInTurn before shelf place block → IsPutInTurn (before ++ event ∷ []) shelf place block
@@ -69,7 +69,7 @@ extend shelf place block before event off is =
 caller-no-shelf : (caller shelf : ℕ) (owner : Owner) → owner ≡ Caller caller → owner ≢ Shelf shelf
 caller-no-shelf caller shelf owner is on = let e : Caller caller ≡ Shelf shelf = sym is ∙ on in absurd (cc)
 
--- where a block is changed that is a caller's then, what lies on a shelf lies elsewhere
+-- a block that lies on a shelf is at another place than a block that was changed to a caller's
 changed-elsewhere :
     (at place caller shelf : ℕ) (change : Block → Block) (pool : Pool) (was block : Block) → ((b : Block) → (change b).place ≡ b.place)
     → block_at at pool ≡ Some was → (change was).owner ≡ Caller caller → block_at place (with_changed at change pool) ≡ Some block
@@ -85,7 +85,7 @@ changed-found :
     → block_at place (with_changed at change pool) ≡ Some block → block_at place pool ≡ Some block
 changed-found at place change pool block keeps apart now = sym (block_at-changed_other at place change pool keeps apart) ∙ now
 
--- the block that is put is the one that lies there
+-- a block that is put on an empty shelf is put there in turn
 put-here :
     (g : Geometry) (before : List Event) (caller at shelf : ℕ) (was : Block) → IsLegalWithoutCounts g before
     → block_at at (pool_of before) ≡ Some was → IsEmptyShelf (pool_of before) shelf
@@ -192,7 +192,7 @@ lies-in-turn g history shelf legal =
       subst (LiesInTurn shelf (before ++ event ∷ [])) (sym (pool_of-push before event)) (after g shelf before event parts.0 ok.1 parts.1),
     )) legal (EachAfter-nil (IsLegalEventWithoutCounts g), λ place block found on. absurd (let e : None ≡ Some block = found in cc))).1
 
--- so a take answers the put of its turn
+-- a block that is taken from a shelf was put there in turn
 pub take-in-turn :
     (g : Geometry) (history rest : List Event) (caller shelf place : ℕ) (block : Block)
     → IsLegalWithoutCounts g (history ++ Take caller shelf place ∷ rest) → block_at place (pool_of history) ≡ Some block

@@ -11,13 +11,13 @@ use Rattle.pool_model.proofs.HistoryLemmas.{EachAfter-nil, EachAfter-push, kept,
 use Rattle.shelf_laws.specs.Quiet.{IsOutside, IsQuiet, IsQuietAfter, is_put_of, is_take_of, sender_of, turn_of}
 use Rattle.shelf_laws.proofs.GrowLemmas.{count-cons, count-same}
 
--- the shelves of the senders are those of the pipe
+-- a shelf of a sender is one of the pipe's
 pub from-sender :
     (senders shelves sender shelf : ℕ) → 0 < shelves → sender < senders → sender_of shelves shelf ≡ sender → shelf < senders * shelves
 from-sender senders shelves sender shelf some_shelves below is =
     (div-lt_iff_lt-mul {k = shelves} {x = shelf} {y = senders} some_shelves).0 (subst (λ (k : ℕ). k < senders) (sym is) below)
 
--- whose events they are
+-- the caller of a put of a sender's messages, and that of a take of them
 pub put-caller : (shelves sender : ℕ) (event : Event) → is_put_of shelves sender event ≡ true → caller_of event ≡ sender
 put-caller shelves sender (Put caller place shelf) is = eqb-true caller sender (and_parts (eqb caller sender) (eqb (sender_of shelves shelf) sender) is).0
 put-caller shelves sender event is = absurd (true≢false (sym is))
@@ -28,7 +28,7 @@ take-caller senders shelves sender (Take caller shelf place) is =
     eqb-true caller senders (and_parts (eqb caller senders) (eqb (sender_of shelves shelf) sender) is).0
 take-caller senders shelves sender event is = absurd (true≢false (sym is))
 
--- the first event is the caller's, or another's
+-- a caller's own events, by whether the first event is the caller's or another's
 own-hers : (caller : ℕ) (event : Event) (events : List Event) → caller_of event ≡ caller → own caller (event ∷ events) ≡ event ∷ own caller events
 own-hers caller event events hers = rw (eq-eqb (caller_of event) caller hers) refl
 
@@ -36,7 +36,7 @@ own-other :
     (caller : ℕ) (event : Event) (events : List Event) → eqb (caller_of event) caller ≡ false → own caller (event ∷ events) ≡ own caller events
 own-other caller event events other = rw other refl
 
--- events of one caller are counted in its own events
+-- events that are one caller's are as many among its own events as among all
 pub count-own :
     (chosen : Event → Bool) (caller : ℕ) (events : List Event) → ((event : Event) → chosen event ≡ true → caller_of event ≡ caller)
     → count_by chosen (own caller events) ≡ count_by chosen events
@@ -59,7 +59,7 @@ count-own chosen caller (event ∷ events) whose =
           ap (count_by chosen) (own-other caller event events other) ∙ rest ∙ omega (arith, whole)
     ]
 
--- what is quiet behind some events is quiet behind others with the same turns
+-- an event that is quiet behind some events is quiet behind others with the same turns
 same-turns :
     (senders shelves : ℕ) (before other : List Event) (event : Event)
     → count_by (is_put_of shelves (caller_of event)) before ≡ count_by (is_put_of shelves (caller_of event)) other
@@ -132,7 +132,7 @@ quiet-each senders shelves history each before rest event e =
     (λ sender is. sym (own-takes senders shelves caller before sender is))
     (each caller (own caller before) (own caller rest) event split)
 
--- events that touch no shelf of the pipe
+-- an event that touches no shelf of the pipe leaves it quiet
 pub outside-quiet :
     (senders shelves : ℕ) (before : List Event) (event : Event) → IsOutside senders shelves event → IsQuietAfter senders shelves before event
 outside-quiet senders shelves before (Put caller place shelf) out = λ within. absurd (omega (arith, within, out))
@@ -154,7 +154,7 @@ quiet-more senders shelves events (event ∷ more) quiet out =
     (quiet-more senders shelves (events ++ event ∷ []) more (EachAfter-push (IsQuietAfter senders shelves) events event quiet last)
     (All-tail (IsOutside senders shelves) event more out))
 
--- and the turns stay
+-- an event that touches no shelf of the pipe is no put of a sender, and no take from one
 outside-put :
     (senders shelves sender : ℕ) (event : Event) → 0 < shelves → sender < senders → IsOutside senders shelves event
     → is_put_of shelves sender event ≡ false

@@ -20,20 +20,20 @@ use Rattle.shelf_laws.proofs.GrowLemmas.{IsHandOver, count-more, count-same, han
 use Rattle.shelf_laws.proofs.OwnLemmas.{from-sender}
 use Rattle.shelf_laws.proofs.TurnLemmas.{column, column-none, column-push, columns-prefix}
 
--- the shelves of the pipe are those of its senders
+-- a shelf of the pipe is one of its senders'
 pub to-sender : (senders shelves shelf : ℕ) → 0 < shelves → shelf < senders * shelves → sender_of shelves shelf < senders
 to-sender senders shelves shelf some_shelves within = (div-lt_iff_lt-mul {k = shelves} {x = shelf} {y = senders} some_shelves).1 within
 
 pub turn-home : (shelves sender i : ℕ) → 0 < shelves → sender_of shelves (turn_of shelves sender i) ≡ sender
 turn-home shelves sender i some_shelves = div-mul-add sender shelves (i % shelves) (mod-lt i {m = shelves} some_shelves)
 
--- behind some events, an event is one of a whole only where it is one of the part whose turn it is
+-- behind some events, an event is one of a part just where it is one of the whole and its turn there is the shelf's
 abbrev pub Goes : (Event → Bool) → (Event → Bool) → (ℕ → ℕ) → ℕ → List Event → Event → Type 0
 Goes whole part turn shelf before event =
     ((whole event ≡ false) × (part event ≡ false))
     ⊎ ((whole event ≡ true) × (part event ≡ eqb (turn (count_by whole before)) shelf))
 
--- what the whole hands over, and what the part does
+-- a whole hands over a parcel for each of its events, and the part hands over those whose turn is the shelf's
 abbrev pub HasColumn : (Event → Bool) → (Event → Bool) → (ℕ → ℕ) → ℕ → List Event → Type 0
 HasColumn whole part turn shelf history =
     (length (parcels whole history) ≡ count_by whole history) × (parcels part history ≡ column turn shelf 0 (parcels whole history))
@@ -84,7 +84,7 @@ columns-of g whole part turn shelf history hands legal goes =
           column-on whole part turn shelf before event one.0 on.0 on.1 one.1 has
     ]) (λ before rest event e. (legal before rest event e, goes before rest event e)) (refl, refl)
 
--- puts and takes hand over
+-- events that pass the tests for a sender's puts and the takes of its messages are puts and takes
 pub put-hands : (shelves sender : ℕ) (event : Event) → is_put_of shelves sender event ≡ true → IsHandOver event
 put-hands shelves sender (Put caller place shelf) is = tt
 put-hands shelves sender event is = absurd (true≢false (sym is))
@@ -173,7 +173,7 @@ take-goes senders shelves shelf before (Free caller place) some_shelves within q
 take-goes senders shelves shelf before (Write caller place i v) some_shelves within quiet = inl (refl, refl)
 take-goes senders shelves shelf before (TakeNone caller at) some_shelves within quiet = inl (refl, refl)
 
--- so what goes over a shelf of the pipe are its sender's messages of the shelf's turns
+-- the parcels that go over a shelf of the pipe are its sender's messages of the shelf's turns
 pub puts-column :
     (g : Geometry) (history : List Event) (senders shelves shelf : ℕ) → 0 < shelves → shelf < senders * shelves
     → IsLegalWithoutCounts g history → IsQuiet senders shelves history
@@ -272,7 +272,7 @@ shelf-empty g history senders shelves shelf some_shelves within legal quiet as_m
     lying-at shelf place (pool_of history) block (sound-of g history legal).pairs found on in
     absurd (cc)
 
--- no shelf of the sender holds a block: so all that was put there was taken
+-- of a sender's shelf that holds no block, the part that was sent begins the part that was taken
 drained-shelf :
     (g : Geometry) (history : List Event) (senders shelves sender shelf : ℕ) → 0 < shelves → sender < senders
     → IsLegalWithoutCounts g history → IsQuiet senders shelves history → IsEmptyShelf (pool_of history) shelf
@@ -316,7 +316,7 @@ taken-drained g history senders shelves sender some_shelves below legal quiet em
     let down = prefix-length (sent shelves sender history) (taken senders shelves sender history) back in
     whole-prefix (taken senders shelves sender history) (sent shelves sender history) first (omega (arith, up, down))
 
--- a message on the shelf of its turn
+-- a message that is put on the shelf of its turn, or taken off it, leaves the pipe quiet
 pub put-turn :
     (senders shelves sender place : ℕ) (events : List Event) → 0 < shelves
     → IsQuietAfter senders shelves events (Put sender place (turn_of shelves sender (count_by (is_put_of shelves sender) events)))

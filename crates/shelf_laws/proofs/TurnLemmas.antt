@@ -20,12 +20,12 @@ pub column-else :
     → column turn shelf c (x ∷ xs) ≡ column turn shelf (suc c) xs
 column-else turn shelf c x xs ne = rw (ne_eqb (turn c) shelf ne) refl
 
--- no turn is the shelf's
+-- a shelf that no turn is has no parcel of a list in its column
 pub column-none : (turn : ℕ → ℕ) (shelf c : ℕ) (xs : List Parcel) → ((i : ℕ) → turn i ≢ shelf) → column turn shelf c xs ≡ []
 column-none turn shelf c [] none = refl
 column-none turn shelf c (x ∷ xs) none = column-else turn shelf c x xs (none c) ∙ column-none turn shelf (suc c) xs none
 
--- one more at the end
+-- the column of a list with one parcel more at its end
 pub column-push :
     (turn : ℕ → ℕ) (shelf c : ℕ) (xs : List Parcel) (x : Parcel)
     → column turn shelf c (xs ++ x ∷ []) ≡ column turn shelf c xs ++ (if eqb (turn (c + length xs)) shelf then x ∷ [] else [])
@@ -64,7 +64,7 @@ column-past turn shelf c x y xs ys ne is = (
   sym (column-else turn shelf c y ys ne) ∙ is.1 ∙ ap (λ (l : List Parcel). l ++ is.0) (column-else turn shelf c x xs ne),
 )
 
--- nothing begins with more than nothing
+-- an empty list begins with no column of a list whose first parcel has its turn
 column-ends :
     (turn : ℕ → ℕ) (c : ℕ) (x : Parcel) (xs rest : List Parcel) → [] ≢ column turn (turn c) c (x ∷ xs) ++ rest
 column-ends turn c x xs rest is =

@@ -7,7 +7,7 @@ use Rattle.pool_model.specs.Calls.Ended.{put_done, take_got}
 use Rattle.pool_model.specs.Histories.{EachAfter}
 use Rattle.pool_model.specs.Parcels.{Parcel, parcels}
 
--- whose shelf it is, where each sender has so many: the first ones are sender 0's, and so on
+-- the sender of a shelf, where each sender has so many: the first ones are sender 0's, and so on
 abbrev pub sender_of : ℕ → ℕ → ℕ
 sender_of shelves shelf = shelf / shelves
 

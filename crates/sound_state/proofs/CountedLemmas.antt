@@ -1,9 +1,9 @@
 -- The counts of a legal history: a step whose event has its count keeps them.
 use Rattle.std.proofs.Common.{ℕ, Option, Some, None, ◌≡◌, ◌<◌, List, sym, subst, refl}
-use Rattle.sound_state.proofs.Common.{Geometry, Event, IsLegalWithoutCounts, pool_of, State, Step, with_event, IsSound, IsSoundWithoutCounts}
-use Rattle.pool_model.specs.Legal.{IsLegal, IsLegalEvent, IsLegalEventWithoutCounts, IsCounted}
-use Rattle.pool_model.proofs.HistoryLemmas.{EachAfter-last, EachAfter-push, legal-weaker}
-use Rattle.errand_steps.specs.Steps.{event_at}
+use Rattle.sound_state.proofs.Common.{Geometry, Event, IsLegalWithoutCounts, pool_of, State, Step, with_event, IsSound, IsSoundWithoutCounts, IsLegalEvent}
+use Rattle.sound_state.proofs.Common.{IsLegalEventWithoutCounts, EachAfter-push, event_at}
+use Rattle.pool_model.specs.Legal.{IsLegal, IsCounted}
+use Rattle.pool_model.proofs.HistoryLemmas.{EachAfter-last, legal-weaker}
 use Rattle.sound_state.specs.Sound.{TellsCounted}
 use Rattle.sound_state.proofs.counts.BareLemmas.{refusal-counted}
 use Rattle.sound_state.proofs.counts.PartUsedLemmas.{look-counted}
@@ -17,7 +17,7 @@ without-counts g s sound = record { checked = sound.checked; legal = legal-weake
 pub with-counts : (g : Geometry) (s : State) → IsSoundWithoutCounts g s → IsLegal g s.history → IsSound g s
 with-counts g s sound legal = record { checked = sound.checked; legal = legal; parts = sound.parts }
 
--- a legal history with one more event that is legal but for its count, and has it
+-- a legal history stays legal with one more event that is legal but for its count, and has that
 legal-with :
     (g : Geometry) (history : List Event) (event : Option Event) → ((e : Event) → event ≡ Some e → IsCounted g (pool_of history) e)
     → IsLegal g history → IsLegalWithoutCounts g (with_event history event) → IsLegal g (with_event history event)
@@ -35,7 +35,7 @@ tells-all g s caller sound has =
     (λ class is bare unkept unpaid. look-counted g s l caller class old has is bare unkept unpaid)
     (refusal-counted g s l caller old has)
 
--- so every step keeps the counts too
+-- every step keeps the counts of a legal history too
 pub steps-counted : (g : Geometry) (s : State) (caller : ℕ) (s' : State) → IsSound g s → caller < g.callers → Step s caller s' → IsSound g s'
 steps-counted g s caller s' sound has step =
     let before = without-counts g s sound in

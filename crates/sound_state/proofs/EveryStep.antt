@@ -1,22 +1,23 @@
 -- Every step of every caller keeps the state sound.
-use Rattle.std.proofs.Common.{ℕ, Bool, ◌≡◌, ◌<◌, refl, ap, sym, inl, inr, ◌∙◌, IsTrue}
-use Rattle.std.proofs.lemmas.Bool.{cases_eq, cases_Bool, true≢false}
+use Rattle.std.proofs.Common.{ℕ, Bool, ◌≡◌, ◌<◌, refl, ap, sym, inl, inr, ◌∙◌, IsTrue, true≢false}
+use Rattle.std.proofs.lemmas.Bool.{cases_eq, cases_Bool}
 use Rattle.sound_state.proofs.Common.{Geometry, head_of, SeatFields, Site, BlockPoint, DescPoint, PartialPoint, is_empty, Pile, StackPoint, head_name, Continuation}
-use Rattle.sound_state.proofs.Common.{Point, Idle, Block, Stack, Desc, Partial, Large, asked, plan_point_of, State, Step, IsSoundWithoutCounts, anchor_for}
+use Rattle.sound_state.proofs.Common.{Point, Idle, Block, Stack, Desc, Partial, Large, asked, plan_point_of, State, Step, IsSoundWithoutCounts, anchor_for, clears}
+use Rattle.sound_state.proofs.Common.{is_idle}
 use Rattle.superblock_parts.specs.declared.point.BlockPoint.TheVariants as block
 use Rattle.hazard_parts.specs.declared.point.DescPoint.TheVariants as desc
 use Rattle.partial_parts.specs.declared.point.PartialPoint.TheVariants as partial
 use Rattle.stack_parts.specs.declared.point.StackPoint.TheVariants as stack
 use Rattle.errand_steps.specs.declared.continuation.Continuation.TheVariants as continuation
-use Rattle.errand_steps.specs.Continuations.{is_finish, is_clearing, clears}
-use Rattle.errand_steps.specs.Points.{is_idle}
+use Rattle.errand_steps.specs.Continuations.{is_finish, is_clearing}
 use Rattle.sound_state.proofs.descriptors.DescPushes.{push_desc-sound}
 use Rattle.sound_state.proofs.descriptors.DescSteps.{pop_desc-sound}
 use Rattle.sound_state.proofs.discards.DiscardSteps.{install_superblock-sound}
 use Rattle.sound_state.proofs.pushes.PushSound.{push_block-sound}
 use Rattle.sound_state.proofs.stores.InfoSteps.{store_owner-sound, store_info-sound}
 use Rattle.sound_state.proofs.stores.PrefixSteps.{store_prefix-sound, store_link-sound, link_block-sound}
-use Rattle.sound_state.proofs.hazards.HazardSteps.{store_hazard-sound, reload_desc_head-sound, clear_after_pop-sound, clear_hazard_looks-sound, clear_hazard_ends-sound, store_guard-sound, read_hazard-sound}
+use Rattle.sound_state.proofs.hazards.HazardSteps.{store_hazard-sound, reload_desc_head-sound, clear_after_pop-sound, clear_hazard_looks-sound, clear_hazard_ends-sound}
+use Rattle.sound_state.proofs.hazards.HazardSteps.{store_guard-sound, read_hazard-sound}
 use Rattle.sound_state.proofs.shared.PointLemmas.{fits-now, the-alloc, the-free}
 use Rattle.sound_state.proofs.pops.PopSteps.{pop_block-sound}
 use Rattle.sound_state.proofs.shifts.ShiftSteps.{return_credits-sound, grant-sound}
@@ -37,7 +38,7 @@ use Rattle.sound_state.proofs.quiet.QuietLinks.{store_below-sound, store_next_de
 use Rattle.sound_state.proofs.quiet.QuietStacks.{load_top-sound, load_below-sound, load_top_to_push-sound}
 use Rattle.sound_state.proofs.shared.KeepsSound.{KeepsSound, KeepsSoundWhere}
 
--- an empty head: a clearing that has popped nothing ends
+-- the load of an empty head keeps the state sound: an allocation or a clearing goes on, and a clearing without a superblock ends
 empty-sound :
     (seat : SeatFields) (pile : Pile) (o : Continuation)
     → KeepsSoundWhere (Stack (stack.LoadTop seat pile) o) (λ s. (head_of (s.word (head_name seat pile))).top ≡ 0)
@@ -46,7 +47,7 @@ empty-sound seat pile o =
     λ g s caller s' sound has stands empty step.
     load_top-sound seat pile o g s caller s' sound has stands (λ is. absurd (cc)) step
 
--- the load of a head, which may end a clearing
+-- the load of a head, which may end a clearing, keeps the state sound
 top-sound : (seat : SeatFields) (pile : Pile) (o : Continuation) → KeepsSound (Stack (stack.LoadTop seat pile) o)
 top-sound seat pile o g s caller s' sound has stands step =
     elim (cases_eq (head_of (s.word (head_name seat pile))).top 0) [
@@ -90,7 +91,7 @@ block-sound (block.LinkBlock site i) o = link_block-sound site i o
 block-sound (block.StoreInfo site) o = store_info-sound site o
 block-sound (block.StoreAnchor site) o = store_anchor-sound site o
 
--- a free clears its hazard word to look through the list, to retire what it removed, or to end
+-- what holds of the continuations with which a free clears its hazard word: to look through the list, to retire, or to end
 clears-cases :
     (P : Continuation → Type 0) → P continuation.Clear → P continuation.EndFree → ((d : ℕ) → P (continuation.Retire d)) → (o : Continuation) → IsTrue (clears o) → P o
 clears-cases P looks ends retires continuation.Clear is = looks
@@ -117,20 +118,20 @@ desc-sound (desc.LoadHeadToPush seat d) o = load_head_to_push-sound seat d o
 desc-sound (desc.StoreNextDesc seat d top) o = store_next_desc-sound seat d top o
 desc-sound (desc.PushDesc seat d top) o = push_desc-sound seat d top o
 
--- a clearing has popped none yet, or one
+-- what holds of the continuations of a clearing, which has popped no superblock yet, or one
 clearing-cases :
     (P : Continuation → Type 0) → P continuation.Clear → ((first : ℕ) → P (continuation.ClearSecond first)) → (o : Continuation) → IsTrue (is_clearing o) → P o
 clearing-cases P none one continuation.Clear is = none
 clearing-cases P none one (continuation.ClearSecond first) is = one first
 clearing-cases P none one o is = absurd (true≢false (sym is))
 
--- a free finishes
+-- what holds of a free that finishes holds of a continuation that is one
 finish-cases :
     (P : Continuation → Type 0) → ((guarded : Bool) → P (continuation.Finish guarded)) → (o : Continuation) → IsTrue (is_finish o) → P o
 finish-cases P finishes (continuation.Finish guarded) is = finishes guarded
 finish-cases P finishes o is = absurd (true≢false (sym is))
 
--- the look at a superblock that was taken
+-- the look at the anchor of a superblock that was taken keeps the state sound
 taken-sound : (site : Site) (need : ℕ) → KeepsSound (Partial (partial.LoadGrantAnchor site) (continuation.Alloc need))
 taken-sound site need g s caller s' sound has stands step =
     elim (cases_Bool (is_empty (anchor_for s site.desc).state)) [
@@ -138,7 +139,7 @@ taken-sound site need g s caller s' sound has stands step =
       | inr used ↦ partials.load_grant_anchor-sound site need g s caller s' sound has stands used step
     ]
 
--- at the first one that was popped from the list
+-- the look at the first superblock that a free popped from the list keeps the state sound
 first-listed-sound : (seat : SeatFields) (d : ℕ) → KeepsSound (Partial (partial.LoadListedAnchor seat d) continuation.Clear)
 first-listed-sound seat d g s caller s' sound has stands step =
     elim (cases_Bool (is_empty (anchor_for s d).state)) [
@@ -146,7 +147,7 @@ first-listed-sound seat d g s caller s' sound has stands step =
       | inr used ↦ partials.load_first_listed-sound seat d g s caller s' sound has stands used step
     ]
 
--- and at any
+-- the look at a superblock that was popped from the list keeps the state sound
 listed-sound : (seat : SeatFields) (d : ℕ) (o : Continuation) → KeepsSound (Partial (partial.LoadListedAnchor seat d) o)
 listed-sound seat d o g s caller s' sound has stands step =
     clearing-cases (λ o. (s.errand caller).point ≡ Partial (partial.LoadListedAnchor seat d) o → IsSoundWithoutCounts g s')

@@ -1,14 +1,14 @@
 -- Every state that callers reach is sound.
 use Rattle.std.proofs.Common.{ℕ, ◌<◌, List, [], ◌∷◌, sym, subst}
-use Rattle.sound_state.proofs.Common.{Geometry, State, IsSound, IsSoundWithoutCounts}
-use Rattle.errand_steps.specs.Calls.{Call, alloc, free, write, read, put, take}
-use Rattle.sound_state.specs.Runs.{BeginsCall, Move, begins, steps, Moved, Reaches}
+use Rattle.sound_state.proofs.Common.{Geometry, State, IsSound, IsSoundWithoutCounts, Call, alloc, free, write, read, put, BeginsCall, Move, begins, steps, Moved}
+use Rattle.sound_state.proofs.Common.{Reaches}
+use Rattle.errand_steps.specs.Calls.{take}
 use Rattle.pool_model.specs.Legal.{IsLegal}
 use Rattle.sound_state.proofs.CountedLemmas.{without-counts, with-counts, steps-counted}
 use Rattle.sound_state.proofs.EveryStep.{steps-sound}
 use Rattle.sound_state.proofs.beginnings.BegunLemmas.{alloc-sound, free-sound, write-sound, read-sound, put-sound, take-sound}
 
--- a call that begins
+-- a call that begins keeps the state sound, but for the counts
 pub begins-sound :
     (g : Geometry) (s : State) (caller : ℕ) (call : Call) (s' : State) → IsSoundWithoutCounts g s → caller < g.callers → BeginsCall s caller call s'
     → IsSoundWithoutCounts g s'
@@ -26,14 +26,14 @@ begins-sound g s caller (put place need shelf) s' sound has b =
 begins-sound g s caller (take shelf) s' sound has b =
     subst (IsSoundWithoutCounts g) (sym b.after) (take-sound g s caller shelf b.errands sound has b.idle b.may b.moves)
 
--- it leaves the history, and so its counts
+-- a call that begins leaves the history, and so its counts
 pub begins-counted :
     (g : Geometry) (s : State) (caller : ℕ) (call : Call) (s' : State) → IsSound g s → caller < g.callers → BeginsCall s caller call s' → IsSound g s'
 begins-counted g s caller call s' sound has b =
     with-counts g s' (begins-sound g s caller call s' (without-counts g s sound) has b)
     (subst (λ t. IsLegal g t.history) (sym b.after) sound.legal)
 
--- a call that begins, or a step
+-- a call that begins, or a step, keeps the state sound
 pub moved-sound : (g : Geometry) (s : State) (move : Move) (s' : State) → IsSound g s → Moved g s move s' → IsSound g s'
 moved-sound g s (begins caller call) s' sound moved = begins-counted g s caller call s' sound moved.0 moved.1
 moved-sound g s (steps caller) s' sound moved = steps-counted g s caller s' sound moved.0 moved.1

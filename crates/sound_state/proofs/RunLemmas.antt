@@ -1,11 +1,11 @@
 -- Whatever callers make steps in whatever order, the state stays sound.
 use Rattle.std.proofs.Common.{ℕ, ◌<◌, List, [], ◌∷◌, sym, subst, inl, inr, All}
 use Rattle.std.proofs.lemmas.List.Elements.{All-head, All-tail}
-use Rattle.sound_state.proofs.Common.{Geometry, State, IsSound}
-use Rattle.errand_steps.specs.Steps.{ScheduleSlot, Run}
+use Rattle.sound_state.proofs.Common.{Geometry, State, IsSound, Run}
+use Rattle.errand_steps.specs.Steps.{ScheduleSlot}
 use Rattle.sound_state.proofs.CountedLemmas.{steps-counted}
 
--- a turn makes a step, or none
+-- a turn of a schedule, in which a caller makes a step or none, keeps the state sound
 turn-sound :
     (g : Geometry) (s : State) (caller n : ℕ) (s' : State) → IsSound g s → caller < g.callers → ScheduleSlot s caller n s'
     → IsSound g s'

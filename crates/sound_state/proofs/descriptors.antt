@@ -1,4 +1,3 @@
-pub mod DescEffects
 pub mod DescPushes
 pub mod DescRecalls
 pub mod DescSteps

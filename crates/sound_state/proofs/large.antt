@@ -2,7 +2,6 @@ pub mod TouchEffects
 pub mod TouchFrees
 pub mod TouchPrefix
 pub mod TouchPrefixes
-pub mod TouchRecalls
 pub mod TouchShelves
 pub mod TouchShown
 pub mod TouchSteps

@@ -1,5 +1,6 @@
 pub mod ActiveReserves
 pub mod AlikeLemmas
+pub mod BackedRecalls
 pub mod BoundLemmas
 pub mod CallerLemmas
 pub mod ClearedLemmas
@@ -33,6 +34,7 @@ pub mod StepLemmas
 pub mod StockLemmas
 pub mod SumLemmas
 pub mod SuperblockEffects
+pub mod SuperblocksStay
 pub mod TagLemmas
 pub mod TallyLemmas
 pub mod TieLemmas

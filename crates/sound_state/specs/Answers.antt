@@ -26,7 +26,7 @@ use Rattle.errand_steps.specs.Steps.{State, event_at}
 use Rattle.sound_state.specs.Recalls.{EndsRefused, IsOwned}
 use Rattle.sound_state.specs.Ties.{IsLive}
 
--- what waits behind the part in which a caller is; for who is in no call, nothing
+-- what waits behind the part in which a caller is; nothing where it is in no call
 abbrev pub continuation_at : Point → Continuation
 continuation_at point.Idle = continuation.Nothing
 continuation_at (point.Block p o) = o
@@ -43,11 +43,11 @@ Allocates s caller words = continuation_at (s.errand caller).point ≡ continuat
 abbrev pub StandsAt : State → ℕ → LargePoint → Type 0
 StandsAt s caller p = (o : Continuation) × ((s.errand caller).point ≡ point.Large p o)
 
--- and tells this event
+-- the caller's next step is that of this point of a large block, a usable word or a shelf, and tells this event
 abbrev pub TellsAt : State → ℕ → LargePoint → Event → Type 0
 TellsAt s caller p event = StandsAt s caller p × (event_at s caller ≡ Some event)
 
--- a live block lies on the shelf, and the word names it; nothing lies there, and the word says so
+-- a live block lies on the shelf, and the word names it; the shelf is empty, and the word says so
 abbrev pub ShelfHolds : State → ℕ → ℕ → Type 0
 ShelfHolds s k word =
     (b : Block) × IsLive s b.place b × (b.owner ≡ Shelf k) × (word ≡ shelf_word (lies.Block b.place b.need))
@@ -55,34 +55,34 @@ ShelfHolds s k word =
 abbrev pub ShelfIsEmpty : State → ℕ → ℕ → Type 0
 ShelfIsEmpty s k word = IsEmptyShelf (pool_of s.history) k × (word ≡ shelf_word lies.Nothing)
 
--- the allocation has the block: it serves the words that were asked for, and is the caller's, who may free it
+-- the caller's allocation is given the block: it serves the words that were asked for, and the caller owns it
 abbrev pub IsGiven : State → ℕ → ℕ → Need → State → Type 0
 IsGiven s caller place n after = (words : ℕ) × Allocates s caller words × (need_of words ≡ n) × IsOwned after caller place n
 
--- no frame was left for a small need, behind a look in vain for its class; or no run for a large one, and that is the step's event
+-- the caller's allocation is refused: its last events are a look in vain and a refusal, or its step's event refuses a large need
 abbrev pub IsRefused : State → ℕ → State → Type 0
 IsRefused s caller after =
     ((class : ℕ) × EndsRefused (own caller after.history) caller class)
     ⊎ ((words : ℕ) × (units : ℕ) × Allocates s caller words × (need_of words ≡ need.Large units) × (event_at s caller ≡ Some (Refuse caller words)))
 
--- a large block is freed by the last step of its call; a small one mostly by an earlier step, which the events of the whole call show
+-- a step that frees a large block tells so; a small block's free mostly is an earlier step's, which the whole call's events show
 abbrev pub IsFreed : State → ℕ → Type 0
 IsFreed s caller = (place : ℕ) (run : RunFields) → StandsAt s caller (large.FreeRun place run) → event_at s caller ≡ Some (Free caller place)
 
--- the word was read in a live block of the caller's; it is what the block holds there, where that was written
+-- the word was read in a live block of the caller's; where it was written it is what the block holds there
 abbrev pub IsRead : State → ℕ → ℕ → State → Type 0
 IsRead s caller v after =
     (place : ℕ) × (i : ℕ) × (b : Block) × StandsAt s caller (large.LoadWord place i) × IsLive after place b × (b.owner ≡ Caller caller)
     × (i < usable_words b.need) × (v ≡ after.word (name.Arena (place + 1 + i)))
     × ((w : ℕ) → slice_index_or b.contents i None ≡ Some w → v ≡ w)
 
--- another block lies on the shelf, whose word was found; the caller still owns the one that it has not put there
+-- a put finds another block on the shelf, whose word was found; the caller still owns the block that it has not put there
 abbrev pub IsFull : State → ℕ → ℕ → State → Type 0
 IsFull s caller found after =
     (shelf : ℕ) × (place : ℕ) × (n : Need) × StandsAt s caller (large.PutBlock shelf place n) × IsOwned after caller place n
     × ShelfHolds after shelf found
 
--- the block that lay on the shelf is the caller's
+-- a take's step takes the block that lay on the shelf, and the caller owns it
 abbrev pub IsGot : State → ℕ → ℕ → Need → State → Type 0
 IsGot s caller place n after =
     (shelf : ℕ) × TellsAt s caller (large.TakeBlock shelf place n) (Take caller shelf place) × IsOwned after caller place n
@@ -93,12 +93,12 @@ IsAboutToTake s caller shelf saw =
     ((place : ℕ) × (n : Need) × StandsAt s caller (large.TakeBlock shelf place n) × (saw ≡ shelf_word (lies.Block place n)))
     ⊎ (StandsAt s caller (large.ConfirmNothing shelf) × (saw ≡ shelf_word lies.Nothing))
 
--- something else lies there now than what the caller saw
+-- something else lies on the shelf now than the caller saw there
 abbrev pub IsMissed : State → ℕ → ℕ → ℕ → State → Type 0
 IsMissed s caller saw found after =
     (shelf : ℕ) × IsAboutToTake s caller shelf saw × (saw ≢ found) × (ShelfHolds after shelf found ⊎ ShelfIsEmpty after shelf found)
 
--- what the answer of the caller's last step of a call says: of that step, from one state to the other
+-- what the answer of the caller's last step of a call says of that step, from one state to the other
 abbrev pub IsMeant : Geometry → State → ℕ → Reply → State → Type 0
 IsMeant g s caller (reply.Given place n) after = IsGiven s caller place n after
 IsMeant g s caller reply.Refused after = IsRefused s caller after

@@ -14,7 +14,7 @@ pub record IsInCall (caller : ℕ) (call : Call) (before : List Event) (s : Stat
   pub events : own caller s.history ≡ before ++ added
   pub under_way : IsUnderWay caller call (s.errand caller).point added
 
--- its call has ended with this answer: what it added since are the call's events
+-- a caller's call has ended with this answer: the events of its own that it added since the call began are the call's events
 pub record HasEndedCall (caller : ℕ) (call : Call) (before : List Event) (reply : Reply) (s : State) : Type 0 where
   pub added : List Event
   pub events : own caller s.history ≡ before ++ added

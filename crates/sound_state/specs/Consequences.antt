@@ -31,6 +31,6 @@ pub record IsBound (g : Geometry) (s : State) (d : ℕ) : Type 0 where
 abbrev pub live_in : Superblock → ℕ
 live_in b = sum_below b.size b.live
 
--- its free blocks, those that nobody has reserved and the reserved ones, its live blocks, and the one that is held back are all its blocks
+-- a superblock's free blocks, reserved or not, its live blocks and the one that is held back add up to its size
 abbrev pub AddsUp : Superblock → Type 0
 AddsUp b = b.anchor.count + b.reserved + live_in b + b.waiting ≡ b.size

@@ -14,7 +14,7 @@ use Rattle.sound_state.specs.Superblocks.{info_for, is_bound, waiting_of}
 abbrev pub errand_frames : ℕ → ErrandFields → ℕ
 errand_frames f e = occurs f (holds_of e.point).frames
 
--- 1 where the superblock of d fills_frame the frame; that of one that waits is still in its caller's hand
+-- 1 where the superblock of d fills the frame; a waiting superblock's frame is still in its caller's hand
 abbrev pub fills_frame : Geometry → State → Lists → ℕ → ℕ → ℕ
 fills_frame g s l f d = if is_bound g s l d && (waiting_of g s d == 0) && ((info_for s d).frame == f) then 1 else 0
 

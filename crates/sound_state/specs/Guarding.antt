@@ -28,7 +28,7 @@ pub record IsAvailable (g : Geometry) (s : State) (d : ℕ) : Type 0 where
 abbrev pub StoresHazard : State → ℕ → Type 0
 StoresHazard s caller = (new : ℕ) × (action_at s caller ≡ Store (name.Hazard caller) new)
 
--- the move isn't such a step of this caller
+-- the move isn't a step by which this caller stores to its own hazard word
 abbrev pub LeavesHazard : State → ℕ → Move → Type 0
 LeavesHazard s caller (begins other call) = Unit {0}
 LeavesHazard s caller (steps other) = other ≡ caller → StoresHazard s caller → ⊥

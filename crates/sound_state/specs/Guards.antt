@@ -10,7 +10,7 @@ use Rattle.errand_steps.specs.Fits.{spare_of, pushed_by}
 use Rattle.errand_steps.specs.Steps.{State}
 use Rattle.sound_state.specs.Holdings.{HazardState, clear, left, named, guarded, owned, holds_of}
 
--- the hazard word is as the caller's point asks
+-- the caller's hazard word is as its state at the caller's point asks
 abbrev pub IsHazard : HazardState → ℕ → Type 0
 IsHazard clear word = word ≡ 0
 IsHazard left word = Unit {0}
@@ -18,7 +18,7 @@ IsHazard (named d) word = word ≡ d + 1
 IsHazard (guarded d) word = word ≡ d + 1
 IsHazard owned word = Unit {0}
 
--- whatever the hazard word names isn't reused: it was confirmed, or stored while its caller owned a block there
+-- a hazard word in this state guards: what it names was confirmed, or stored while its caller owned a block there, and isn't reused
 abbrev pub IsGuard : HazardState → Type 0
 IsGuard clear = ⊥
 IsGuard left = ⊥
@@ -31,7 +31,7 @@ pub record Guards (s : State) (caller d : ℕ) : Type 0 where
   pub word : s.word (name.Hazard caller) ≡ d + 1
   pub guard : IsGuard (holds_of (s.errand caller).point).hazard
 
--- how many hazard words a caller's scan has passed, and what they named
+-- how many hazard words a caller's scan has passed, and what the hazard words named that it noted
 abbrev pub passed_by_desc : DescPoint → ℕ
 passed_by_desc (desc.ReadHazard s held at) = at
 passed_by_desc p = 0

@@ -55,17 +55,17 @@ pub record Freed : Type 0 where
   pub need : Need
   pub overwritten : Bool
 
--- what a caller's hazard word is, and whether it guards: whether what it names isn't reused meanwhile
+-- what a caller's hazard word is, and whether it guards the descriptor that it names from being reused
 pub data HazardState : Type 0 where
-  -- 0, and guards nothing
+  -- the hazard word is 0, and guards nothing
   clear : HazardState
-  -- anything, as a lost pop left it, and guards nothing
+  -- the hazard word is anything, as a lost pop left it, and guards nothing
   left : HazardState
-  -- this descriptor, and doesn't guard it yet: it may have been reused before it was stored
+  -- the hazard word names this descriptor, and doesn't guard it yet: it may have been reused before the word was stored
   named : (d : ℕ) → HazardState
-  -- this descriptor, and guards it
+  -- the hazard word names this descriptor, and guards it
   guarded : (d : ℕ) → HazardState
-  -- anything, as a free stored it, and guards whatever it names
+  -- the hazard word is anything, as a free stored it, and guards whatever it names
   owned : HazardState
 
 -- what a caller holds: the blocks that it has reserved; the descriptors that it keeps; the frames in its hand; the block that it hands out, and the one that it frees; and its hazard word
@@ -80,14 +80,14 @@ pub record Holding : Type 0 where
 abbrev pub nothing : Holding
 nothing = record { credits = []; kept = []; frames = []; hands = []; frees = []; hazard = clear }
 
--- one descriptor, kept so; blocks of one superblock
+-- one descriptor kept in a state for a class; blocks of one superblock reserved
 abbrev pub keep : ℕ → ℕ → Status → List Kept
 keep d class status = record { desc = d; class = class; status = status } ∷ []
 
 abbrev pub reserve : ℕ → ℕ → List Reserved
 reserve d blocks = record { desc = d; blocks = blocks } ∷ []
 
--- the block of a superblock at hand, and a run of units, handed out
+-- the block of a superblock at hand that is handed out; a run of units that is handed out
 abbrev pub block_handed : Site → ℕ → List Handed
 block_handed at i =
     record { place = block_place at.frame at.seat.class i; need = need.Small at.seat.class } ∷ []
@@ -95,14 +95,14 @@ block_handed at i =
 abbrev pub run_handed : ℕ → ℕ → List Handed
 run_handed place units = record { place = place; need = need.Large units } ∷ []
 
--- a block that is freed, and a superblock's one
+-- a block that is freed; a block of a superblock at hand that is freed
 abbrev pub freed : ℕ → Need → Bool → List Freed
 freed place need overwritten = record { place = place; need = need; overwritten = overwritten } ∷ []
 
 abbrev pub block_freed : Site → ℕ → List Freed
 block_freed at i = freed (block_place at.frame at.seat.class i) (need.Small at.seat.class) true
 
--- before a pop: who took the last credit, or was granted more than one block, keeps the descriptor
+-- what a caller holds before a pop: who took the last credit, or was granted more than one block, keeps the descriptor
 abbrev pub holds_before_pop : ℕ → ℕ → Share → Holding
 holds_before_pop d class Credit = record nothing { credits = reserve d 1 }
 holds_before_pop d class LastCredit = record nothing { credits = reserve d 1; kept = keep d class reserving }
@@ -111,7 +111,7 @@ holds_before_pop d class (Grant more) = record nothing {
   kept = if nat_lt 0 more then keep d class reserving else [];
 }
 
--- after a pop, with more blocks reserved
+-- what a caller holds after a pop, with more blocks reserved
 abbrev pub holds_after_pop : Site → ℕ → ℕ → Holding
 holds_after_pop at i more = record nothing {
   credits = reserve at.desc more;
@@ -119,18 +119,18 @@ holds_after_pop at i more = record nothing {
   hands = block_handed at i;
 }
 
--- a superblock in the making
+-- what a caller holds whose superblock is in the making
 abbrev pub making : Site → Holding
 making at = record nothing { kept = keep at.desc at.seat.class on_its_way; frames = at.frame ∷ [] }
 
--- a free that knows its descriptor; where it stored its hazard word the descriptor isn't reused
+-- what a free holds that knows its descriptor; where it stored its hazard word that guards the descriptor
 abbrev pub pushing : Site → ℕ → HazardState → Holding
 pushing at i hazard = record nothing { frees = block_freed at i; hazard = hazard }
 
 abbrev pub if_stored : Bool → ℕ → HazardState
 if_stored stored d = if stored then guarded d else clear
 
--- in a superblock
+-- what a caller holds in a superblock
 abbrev pub block_holds : BlockPoint → Holding
 block_holds (block.LoadActive s) = nothing
 block_holds (block.TakeCredit s d credits) = nothing
@@ -157,7 +157,7 @@ block_holds (block.LinkBlock at i) = making at
 block_holds (block.StoreInfo at) = making at
 block_holds (block.StoreAnchor at) = making at
 
--- what waits behind a part: a descriptor on its way, or partly used ones; the block that is handed out; the hazard word
+-- what a caller holds by what waits behind a part: descriptors on their way or partly used, a block handed out, the hazard word
 abbrev pub continuation_holds : SeatFields → Continuation → Holding
 continuation_holds s (continuation.TakeFrame words d) = record nothing { kept = keep d s.class on_its_way }
 continuation_holds s (continuation.GiveBlock words d frame i) = record nothing { hands = block_handed (site_of s d frame) i }
@@ -169,19 +169,19 @@ continuation_holds s (continuation.PushFirst first) = record nothing { kept = ke
 continuation_holds s (continuation.Finish stored) = record nothing { hazard = if stored then owned else clear }
 continuation_holds s o = nothing
 
--- and one more partly used descriptor at hand; and a frame
+-- what a caller holds with one more partly used descriptor; with one more frame
 abbrev pub with_partial : ℕ → ℕ → Holding → Holding
 with_partial d class h = record h { kept = record { desc = d; class = class; status = partly_used } ∷ h.kept }
 
 abbrev pub with_frame : ℕ → Holding → Holding
 with_frame f h = record h { frames = f ∷ h.frames }
 
--- what is pushed on a stack
+-- what a caller holds that pushes an index on a stack: the frame or the descriptor, and what waits behind
 abbrev pub pushed_too : Pile → ℕ → SeatFields → Continuation → Holding
 pushed_too Frames i s o = with_frame i (continuation_holds s o)
 pushed_too Partials i s o = with_partial i s.class (continuation_holds s o)
 
--- at a stack
+-- what a caller holds at a stack
 abbrev pub stack_holds : StackPoint → Continuation → Holding
 stack_holds (stack.LoadTop s pile) o = continuation_holds s o
 stack_holds (stack.LoadBelow s pile h) o = continuation_holds s o
@@ -191,7 +191,7 @@ stack_holds (stack.LoadTopToPush s pile i) o = pushed_too pile i s o
 stack_holds (stack.StoreBelow s pile i h) o = pushed_too pile i s o
 stack_holds (stack.PushTop s pile i h) o = pushed_too pile i s o
 
--- at the descriptors or the hazard words; the hazard word of a free that clears it names what it removed, or anything
+-- what a caller holds at the descriptors or the hazard words; a free that clears its hazard word left there what it removed, or anything
 abbrev pub cleared_holds : SeatFields → Continuation → Holding
 cleared_holds s (continuation.Retire d) = record nothing { kept = keep d s.class partly_used; hazard = guarded d }
 cleared_holds s o = record nothing { hazard = owned }
@@ -206,7 +206,7 @@ desc_holds (desc.ClearAfterPop s d) o = record nothing { kept = keep d s.class o
 desc_holds (desc.ClearHazard s) o = cleared_holds s o
 desc_holds p o = nothing
 
--- at a partial superblock
+-- what a caller holds at a partial superblock
 abbrev pub partial_holds : PartialPoint → Continuation → Holding
 partial_holds (partial.LoadTakenInfo s d) o = record nothing { kept = keep d s.class partly_used }
 partial_holds (partial.StoreOwner at) o = record nothing { kept = keep at.desc at.seat.class partly_used }
@@ -219,7 +219,7 @@ partial_holds (partial.RemoveFromSlot s d heap) o = record nothing { hazard = gu
 partial_holds (partial.LoadListedAnchor s d) o = with_partial d s.class (continuation_holds s o)
 partial_holds p o = nothing
 
--- at a large block
+-- what a caller holds at a large block
 abbrev pub large_holds : LargePoint → Holding
 large_holds (large.StoreRunPrefix place run) = record nothing { hands = run_handed place run.units }
 large_holds (large.LoadRunPrefix place run) = record nothing { frees = freed place (need.Large run.units) false }

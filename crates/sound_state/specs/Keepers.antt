@@ -29,7 +29,7 @@ word_keeps d (name.Active heap class) word = active_keeps d (active_of word)
 word_keeps d (name.Slot heap class) word = if word == d + 1 then 1 else 0
 word_keeps d other word = 0
 
--- 1 where a superblock is FULL, which stands nowhere else
+-- 1 where a superblock is FULL, and so stands in no word, list or errand
 abbrev pub full_keeps : Phase → ℕ
 full_keeps phase.Full = 1
 full_keeps other = 0
@@ -53,11 +53,11 @@ in_available l d = occurs d l.available
 abbrev pub with_callers : Geometry → State → ℕ → ℕ
 with_callers g s d = callers_sum g (errand_has d) s.errand
 
--- and 1 where it is FULL, and so nowhere
+-- 1 where the superblock of d is FULL, and so d stands nowhere
 abbrev pub full_nowhere : State → ℕ → ℕ
 full_nowhere s d = full_keeps (anchor_for s d).state
 
--- in how many places d stands
+-- in how many places d stands, with 1 where its superblock is FULL
 abbrev pub places_of : Geometry → State → Lists → ℕ → ℕ
 places_of g s l d = in_words g s d + in_lists l d + in_available l d + with_callers g s d + full_nowhere s d
 
@@ -71,18 +71,18 @@ pub record IsActive (s : State) (d c : ℕ) : Type 0 where
   pub class : (info_for s d).class ≡ c
   pub state : (anchor_for s d).state ≡ phase.Active
 
--- a descriptor without a superblock says ACTIVE or EMPTY
+-- a descriptor without a superblock: its anchor says ACTIVE or EMPTY
 abbrev pub IsWithout : State → ℕ → Type 0
 IsWithout s d = ((anchor_for s d).state ≡ phase.Active) ⊎ ((anchor_for s d).state ≡ phase.Empty)
 
--- what a caller keeps is in the state in which it keeps it
+-- a descriptor that a caller keeps is in the state in which it is kept
 abbrev pub IsKeptAs : State → Status → ℕ → ℕ → Type 0
 IsKeptAs s reserving d class = IsActive s d class
 IsKeptAs s waiting d class = IsActive s d class
 IsKeptAs s partly_used d class = IsPartlyUsed s d class
 IsKeptAs s on_its_way d class = IsWithout s d
 
--- each descriptor stands in one place, and is in the state that belongs there
+-- each descriptor stands in one place, and is in the state that belongs to that place
 pub record IsKept (g : Geometry) (s : State) (l : Lists) : Type 0 where
   pub once : (d : ℕ) → d < descriptor_count g → places_of g s l d ≡ 1
   pub active_words :

@@ -15,7 +15,7 @@ pub record Lists : Type 0 where
   pub available : List ℕ
   pub partials : ℕ → List ℕ
 
--- these are the lists that the heads and the next words make; every next word is 0 or names an index that the heap has
+-- the lists are those that the heads and the next words make; every next word is 0 or names an index that the heap has
 pub record IsListed (g : Geometry) (words : WordName → ℕ) (l : Lists) : Type 0 where
   pub nexts : (d : ℕ) → d < descriptor_count g → words (name.Next d) ≤ descriptor_count g
   pub frame_nexts : (f : ℕ) → f < g.frames → words (name.FrameNext f) ≤ g.frames

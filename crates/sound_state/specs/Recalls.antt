@@ -57,38 +57,38 @@ pub data Recall : Type 0 where
   bound_at : (d frame class : ℕ) → Recall
   -- a is an anchor of d that was read for a pop
   pops : (d : ℕ) → (a : AnchorFields) → Recall
-  -- prefix is the word of a's first block: its link, while no block was popped since
+  -- prefix is the prefix word of a's first block, and so its link while no block was popped since
   links : (d : ℕ) → (a : AnchorFields) → (prefix : ℕ) → Recall
   -- h is a head of the stack that was read for a pop
   tops : (s : SeatFields) → (pile : Pile) → (h : HeadFields) → Recall
-  -- below is the next word of h's index, while none was popped since
+  -- below is the next word of h's index, while no index was popped since
   nexts : (s : SeatFields) → (pile : Pile) → (h : HeadFields) → (below : ℕ) → Recall
   -- h's index is one that the heap has, or none
   tops_exist : (s : SeatFields) → (pile : Pile) → (h : HeadFields) → Recall
   -- the word is this number
   says : (word_name : WordName) → (word : ℕ) → Recall
-  -- so many links of a superblock in the making are stored in the frame
+  -- the links of so many blocks of a superblock in the making are stored in the frame
   made : (frame class blocks : ℕ) → Recall
-  -- a isn't EMPTY
+  -- the anchor a isn't EMPTY
   in_use : (a : AnchorFields) → Recall
   -- d is EMPTY, and neither available nor on its way
   emptied : (d : ℕ) → Recall
   -- next is the next word of d, while d is available
   noted : (d next : ℕ) → Recall
-  -- the caller owns the block at the place, and i is one of its usable words
+  -- the caller owns the block at the place, which has a usable word i
   owns : (place i : ℕ) → Recall
-  -- the caller owns the block at the place
+  -- the caller owns the block at the place, which serves the need
   owns_all : (place : ℕ) → (need : Need) → Recall
-  -- its last event is a look for the class in vain
+  -- the caller's last event is a look for the class in vain
   looked : (class : ℕ) → Recall
-  -- its last two events are such a look and a refusal of such a need
+  -- the caller's last two events are a look for the class in vain and a refusal of a need of the class
   refused : (class : ℕ) → Recall
 
--- the superblock at hand has this descriptor, fills this frame and is of this class
+-- what a caller remembers of the superblock at hand: its descriptor has one, which fills this frame and is of this class
 abbrev pub bound_here : Site → List Recall
 bound_here at = bound_at at.desc at.frame at.seat.class ∷ []
 
--- in a superblock
+-- what a caller remembers in a superblock
 abbrev pub block_recalls : BlockPoint → List Recall
 block_recalls (block.LoadInfo s d share) = bound_for d s.class ∷ []
 block_recalls (block.LoadAnchor at share) = bound_here at
@@ -110,7 +110,7 @@ block_recalls (block.StoreAnchor at) =
     says (name.Info at.desc) (info_word (info_at at)) ∷ made at.frame at.seat.class (block_count_of at.seat.class) ∷ []
 block_recalls p = []
 
--- what waits behind a part
+-- what a caller remembers by what waits behind a part
 abbrev pub continuation_recalls : SeatFields → Continuation → List Recall
 continuation_recalls s (continuation.TakeFrame words d) = looked s.class ∷ []
 continuation_recalls s (continuation.GiveBlock words d frame i) = bound_here (site_of s d frame)
@@ -118,7 +118,7 @@ continuation_recalls s (continuation.Remove d heap) = emptied d ∷ []
 continuation_recalls s (continuation.Retire d) = emptied d ∷ []
 continuation_recalls s o = []
 
--- at a stack
+-- what a caller remembers at a stack
 abbrev pub stack_recalls : StackPoint → Continuation → List Recall
 stack_recalls (stack.LoadTop s pile) o = continuation_recalls s o
 stack_recalls (stack.LoadBelow s pile h) o = tops s pile h ∷ continuation_recalls s o
@@ -128,12 +128,12 @@ stack_recalls (stack.LoadTopToPush s pile i) o = continuation_recalls s o
 stack_recalls (stack.StoreBelow s pile i h) o = tops_exist s pile h ∷ continuation_recalls s o
 stack_recalls (stack.PushTop s pile i h) o = says (next_name pile i) h.top ∷ tops_exist s pile h ∷ continuation_recalls s o
 
--- what waits behind a retirement: who is refused has told so
+-- what a caller remembers by what waits behind a retirement: who is refused has told so
 abbrev pub resumed_recalls : SeatFields → Continuation → List Recall
 resumed_recalls s continuation.Refuse = refused s.class ∷ []
 resumed_recalls s o = []
 
--- at the descriptors or the hazard words
+-- what a caller remembers at the descriptors or the hazard words
 abbrev pub desc_recalls : DescPoint → Continuation → List Recall
 desc_recalls (desc.LoadDescHead s) o = looked s.class ∷ []
 desc_recalls (desc.StoreHazard s d) o = looked s.class ∷ []
@@ -147,7 +147,7 @@ desc_recalls (desc.LoadHeadToPush s d) o = resumed_recalls s o
 desc_recalls (desc.StoreNextDesc s d top) o = resumed_recalls s o
 desc_recalls (desc.PushDesc s d top) o = says (name.Next d) top ∷ resumed_recalls s o
 
--- at a partial superblock
+-- what a caller remembers at a partial superblock
 abbrev pub partial_recalls : PartialPoint → Continuation → List Recall
 partial_recalls (partial.StoreOwner at) o = located at.desc at.frame at.seat.class ∷ []
 partial_recalls (partial.LoadGrantAnchor at) o = located at.desc at.frame at.seat.class ∷ []
@@ -157,7 +157,7 @@ partial_recalls (partial.LoadHeldSlot s d heap) o = emptied d ∷ []
 partial_recalls (partial.RemoveFromSlot s d heap) o = emptied d ∷ []
 partial_recalls p o = []
 
--- at a usable word or a shelf
+-- what a caller remembers at a usable word or a shelf
 abbrev pub large_recalls : LargePoint → List Recall
 large_recalls (large.StoreWord place i value) = owns place i ∷ []
 large_recalls (large.LoadWord place i) = owns place i ∷ []
@@ -193,7 +193,7 @@ pub record IsTopStill (s : State) (l : Lists) (seat : SeatFields) (p : Pile) (h 
   pub tag : h.tag ≤ (head_of (s.word (head_name seat p))).tag
   pub top : h.tag ≡ (head_of (s.word (head_name seat p))).tag → 0 < occurs (h.top - 1) (list_of l seat p)
 
--- the links of the first blocks of a superblock in the making are stored
+-- the links of so many first blocks of a superblock in the making are stored
 abbrev pub AreMade : State → ℕ → ℕ → ℕ → Type 0
 AreMade s frame class blocks = (i : ℕ) → i < blocks → s.word (prefix_name frame class i) ≡ new_link class i
 
@@ -203,7 +203,7 @@ pub record IsEmptied (g : Geometry) (s : State) (l : Lists) (d : ℕ) : Type 0 w
   pub unavailable : occurs d l.available ≡ 0
   pub standing : callers_sum g (errand_keeps on_its_way d) s.errand ≡ 0
 
--- the caller owns the live block at the place
+-- the caller owns the live block at the place, which serves the need
 pub record IsOwned (s : State) (caller p : ℕ) (n : Need) : Type 0 where
   pub block : (b : Block) × (block_at p (pool_of s.history) ≡ Some b) × (b.owner ≡ Caller caller) × (b.need ≡ n)
 
@@ -212,14 +212,14 @@ abbrev pub EndsRefused : List Event → ℕ → ℕ → Type 0
 EndsRefused events caller class =
     (before : List Event) × (words : ℕ) × (need_of words ≡ Small class) × (events ≡ before ++ Looked caller class ∷ Refuse caller words ∷ [])
 
--- the word is none of a processor heap's and no hazard word
+-- the word is no active word, no slot and no hazard word
 abbrev pub IsPlain : WordName → Type 0
 IsPlain (name.Active heap class) = ⊥
 IsPlain (name.Slot heap class) = ⊥
 IsPlain (name.Hazard caller) = ⊥
 IsPlain n = Unit {0}
 
--- what a caller remembers is so
+-- a thing that a caller remembers is so
 abbrev pub IsSo : Geometry → State → Lists → ℕ → Recall → Type 0
 IsSo g s l caller (bound_for d class) = IsTrue (is_bound g s l d) × ((info_for s d).class ≡ class)
 IsSo g s l caller (located d frame class) = IsLocated s d frame class

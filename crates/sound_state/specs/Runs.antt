@@ -10,7 +10,7 @@ use Rattle.errand_steps.specs.Steps.{State, Moves, Step}
 use Rattle.sound_state.specs.Recalls.{IsOwned}
 use Rattle.sound_state.specs.Sound.{with_errands}
 
--- a caller may begin it: a block that it is about is the caller's, and the word or the shelf is there
+-- a caller may begin the call: a block that it is about is the caller's, and the word or the shelf is there
 abbrev pub MayBegin : State → ℕ → Call → Type 0
 MayBegin s caller (alloc words) = Unit {0}
 MayBegin s caller (free place need) = IsOwned s caller place need
@@ -19,7 +19,7 @@ MayBegin s caller (read place need i) = IsOwned s caller place need × (i < usab
 MayBegin s caller (put place need shelf) = IsOwned s caller place need × (shelf < SHELVES)
 MayBegin s caller (take shelf) = shelf < SHELVES
 
--- a caller that is in no call begins one
+-- a caller that is in no call begins this call
 pub record BeginsCall (s : State) (caller : ℕ) (call : Call) (s' : State) : Type 0 where
   pub idle : IsIdle (s.errand caller)
   pub may : MayBegin s caller call

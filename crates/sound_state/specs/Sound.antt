@@ -18,7 +18,7 @@ use Rattle.sound_state.specs.Superblocks.{AreChained}
 use Rattle.sound_state.specs.Ties.{IsTied}
 use Rattle.sound_state.specs.Turns.{IsTurned}
 
--- the same words and events, with these errands
+-- the state with the same words and events, and with these errands
 abbrev pub with_errands : State → (ℕ → ErrandFields) → State
 with_errands s errands = record { word = s.word; errand = errands; history = s.history }
 
@@ -29,7 +29,7 @@ pub record IsOwnErrand (g : Geometry) (caller : ℕ) (e : ErrandFields) : Type 0
   pub rule : IsErrand e
   pub lost : e.lost < 2 ^ 64
 
--- the words, the errands and the events go together, with these lists
+-- the words, the errands and the events of the state go together, with these lists
 pub record IsSoundWith (g : Geometry) (s : State) (l : Lists) : Type 0 where
   pub words : (n : WordName) → s.word n < 2 ^ 64
   pub errands : (caller : ℕ) → caller < g.callers → IsOwnErrand g caller (s.errand caller)

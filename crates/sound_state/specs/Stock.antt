@@ -23,12 +23,12 @@ word_stock class (name.Active heap c) word = if (c == class) && (word == 0) then
 word_stock class (name.Slot heap c) word = if (c == class) && (word == 0) then 0 else (if c == class then 1 else 0)
 word_stock class other word = 0
 
--- the descriptors that a caller keeps for the class
+-- how many descriptors a caller keeps for the class
 abbrev pub stock_among : ℕ → List Kept → ℕ
 stock_among class [] = 0
 stock_among class (k ∷ rest) = (if k.class == class then 1 else 0) + stock_among class rest
 
--- 1 where a caller saw the class's list empty and has no descriptor yet
+-- 1 where a caller saw the class's list empty and has no descriptor yet; and with how many descriptors it keeps for the class
 abbrev pub waits_in_desc : ℕ → DescPoint → ℕ
 waits_in_desc class (desc.LoadDescHead s) = if s.class == class then 1 else 0
 waits_in_desc class (desc.StoreHazard s d) = if s.class == class then 1 else 0
@@ -48,12 +48,12 @@ errand_stock class e = stock_among class (holds_of e.point).kept + waits_in clas
 abbrev pub full_stock : State → ℕ → ℕ → ℕ
 full_stock s class d = if (info_for s d).class == class then full_keeps (anchor_for s d).state else 0
 
--- the descriptors that are out for the class, and the callers that wait for one
+-- how many descriptors are out for the class, and callers that wait for one
 abbrev pub stock_of : Geometry → State → Lists → ℕ → ℕ
 stock_of g s l class =
     words_sum g (word_stock class) s.word + length (l.partials class) + callers_sum g (errand_stock class) s.errand
     + sum_below (descriptor_count g) (full_stock s class)
 
--- they are never more than a class has descriptors; so the available ones never run out
+-- no class has more descriptors out, and callers that wait for one, than frames, heaps and twice the callers
 pub record IsStocked (g : Geometry) (s : State) (l : Lists) : Type 0 where
   pub most : (class : ℕ) → class < CLASSES → stock_of g s l class ≤ g.frames + g.heaps + 2 * g.callers

@@ -22,7 +22,7 @@ use Rattle.sound_state.specs.Holdings.{Reserved, Kept, Status, reserving, waitin
 use Rattle.sound_state.specs.Lists.{Lists}
 use Rattle.sound_state.specs.Sums.{words_sum, callers_sum}
 
--- what a descriptor's word says; where it says nothing, the same as a word of 0
+-- what a descriptor's info word says, or what a word of 0 would where it says nothing; and what its anchor word says
 abbrev pub info_or_zero : Option InfoFields → InfoFields
 info_or_zero None = record { frame = 0; heap = 0; class = 0 }
 info_or_zero (Some info) = info
@@ -54,7 +54,7 @@ errand_reserves d e = reserved_among d (holds_of e.point).credits
 abbrev pub reserved_of : Geometry → State → ℕ → ℕ
 reserved_of g s d = words_sum g (word_reserves d) s.word + callers_sum g (errand_reserves d) s.errand
 
--- how often d is kept in this state, and in any
+-- whether two states of kept descriptors are the same; how often a list, and a caller, keeps d in this state
 abbrev pub same_status : Status → Status → Bool
 same_status reserving reserving = true
 same_status waiting waiting = true
@@ -74,7 +74,7 @@ errand_keeps status d e = kept_among status d (holds_of e.point).kept
 abbrev pub waiting_of : Geometry → State → ℕ → ℕ
 waiting_of g s d = callers_sum g (errand_keeps waiting d) s.errand
 
--- how often d is away from the superblocks: available, retired, or on its way from or to there
+-- how often d is away from the superblocks: available, retired, or on its way
 abbrev pub errand_away : ℕ → ErrandFields → ℕ
 errand_away d e = occurs d e.retired + errand_keeps on_its_way d e
 
@@ -93,7 +93,7 @@ is_there (Some block) = 1
 abbrev pub live_at : State → ℕ → ℕ
 live_at s place = is_there (block_at place (pool_of s.history))
 
--- what there is to say of a superblock
+-- what there is to say of a superblock: its anchor, its reserved blocks, whether it waits, its links, its live blocks and its size
 pub record Superblock : Type 0 where
   pub anchor : AnchorFields
   pub reserved : ℕ
@@ -114,15 +114,15 @@ superblock_of g s d =
       size = block_count_of info.class;
     }
 
--- its free blocks, from the first available one on: those that nobody has reserved, and the reserved ones
+-- a superblock's free blocks, from the first available one on: those that nobody has reserved, and the reserved ones
 abbrev pub free_chain : Superblock → List ℕ
 free_chain b = chain_of b.next (b.anchor.count + b.reserved) b.anchor.avail
 
--- block 0 of a new superblock that waits is neither free nor live yet
+-- 1 where a block is held back: block 0 of a new superblock that waits is neither free nor live yet
 abbrev pub held_back : Superblock → ℕ → ℕ
 held_back b i = if i == 0 then b.waiting else 0
 
--- each block of a superblock is free, live or held back, once
+-- each block of a superblock is free, live or held back, and just one of these
 pub record IsChained (b : Superblock) : Type 0 where
   pub avail : b.anchor.avail < b.size
   pub within : (i : ℕ) → 0 < occurs i (free_chain b) → i < b.size

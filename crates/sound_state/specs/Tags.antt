@@ -19,11 +19,11 @@ abbrev pub pops_at : ℕ → Point → Bool
 pops_at d (point.Block p o) = pops_block d p
 pops_at d p = false
 
--- 1 where the caller's step pops a block of d: it is about to, and its exchange is won
+-- 1 where the caller's next step pops a block of d: the caller is about to, and its exchange is won
 abbrev pub pops_from : State → ℕ → ℕ → ℕ
 pops_from s caller d = one_if (pops_at d (s.errand caller).point && (found_at s caller).won)
 
--- 1 where the move is such a step
+-- 1 where the move is a step that pops a block of d
 abbrev pub pops_in : State → ℕ → Move → ℕ
 pops_in s d (begins caller call) = 0
 pops_in s d (steps caller) = pops_from s caller d

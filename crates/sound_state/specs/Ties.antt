@@ -27,14 +27,14 @@ pub record IsBlockOfDesc (g : Geometry) (s : State) (l : Lists) (place class d :
   pub bound : IsTrue (is_bound g s l d)
   pub located : IsLocated s d (frame_of place) class
 
--- a caller hands the block at the place out, and has not stored its prefix word; or frees it, and may have stored its link
+-- a caller hands out the block at the place, and has not stored its prefix word; or frees that block, and may have stored its link
 pub record IsExcepted (g : Geometry) (s : State) (place : ℕ) : Type 0 where
   pub caller :
       (caller : ℕ) × (caller < g.callers)
       × (Any (λ b. b.place ≡ place) (holds_of (s.errand caller).point).hands
       ⊎ Any (λ b. (b.place ≡ place) × IsTrue b.overwritten) (holds_of (s.errand caller).point).frees)
 
--- a unit is one of a live run's
+-- a unit is one of the units of a live run
 abbrev pub IsCovered : Geometry → State → ℕ → Type 0
 IsCovered g s unit =
     (b : Block) × (first : ℕ) × (units : ℕ) × IsLive s (unit_place g.frames first) b × (b.need ≡ need.Large units)

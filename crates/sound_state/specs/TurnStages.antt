@@ -11,26 +11,26 @@ use Rattle.errand_steps.specs.declared.continuation.Continuation.TheVariants as 
 use Rattle.errand_steps.specs.declared.point.Point.{Point}
 use Rattle.errand_steps.specs.declared.point.Point.TheVariants as point
 
--- how far a caller is in a turn of such an allocation
+-- how far a caller is in a turn of a small block's allocation
 pub data TurnStage : Type 0 where
-  -- in no turn: it allocates no small block, or has it already
+  -- in no turn: the caller allocates no small block, or has its block already
   out_of_turn : TurnStage
-  -- at the active word, or at a block that it takes of the active superblock
+  -- the caller is at the active word, or at a block that it takes of the active superblock
   at_active : TurnStage
-  -- it found none active, and looks for a partial one, or for a descriptor and a frame
+  -- the caller found no superblock active, and looks for a partial one, or for a descriptor and a frame
   searching : TurnStage
-  -- it has taken a partial one, or a grant of it
+  -- the caller has taken a partial superblock, or a grant of it
   partial_taken : TurnStage
-  -- it has popped a frame: its superblock is in the making, or waits
+  -- the caller has popped a frame: its new superblock is in the making, or waits
   frame_taken : TurnStage
-  -- that superblock wasn't needed
+  -- the caller's new superblock wasn't needed
   not_needed : TurnStage
-  -- it was refused, and retires its descriptor before it ends
+  -- the caller was refused, and retires its descriptor before its call ends
   turned_down : TurnStage
-  -- it has its block, and offers what it reserved beside
+  -- the caller has its block, and offers what it reserved beside
   offering : TurnStage
 
--- in a superblock
+-- how far a turn is at a point in a superblock, for who has this share of one
 abbrev pub share_turn_stage : Share → TurnStage
 share_turn_stage (Grant more) = partial_taken
 share_turn_stage share = at_active
@@ -50,7 +50,7 @@ block_turn_stage (block.StoreInfo at) = frame_taken
 block_turn_stage (block.StoreAnchor at) = frame_taken
 block_turn_stage p = out_of_turn
 
--- what waits behind a part
+-- how far a turn is by what waits behind a part
 abbrev pub continuation_turn_stage : Continuation → TurnStage
 continuation_turn_stage (continuation.Alloc words) = searching
 continuation_turn_stage (continuation.TakeFrame words d) = searching
@@ -60,7 +60,7 @@ continuation_turn_stage (continuation.Turn words) = not_needed
 continuation_turn_stage continuation.Refuse = turned_down
 continuation_turn_stage o = out_of_turn
 
--- at a partial superblock
+-- how far a turn is at a partial superblock
 abbrev pub partial_turn_stage : PartialPoint → Continuation → TurnStage
 partial_turn_stage (partial.LoadTakenInfo s d) o = partial_taken
 partial_turn_stage (partial.StoreOwner at) o = partial_taken
@@ -68,7 +68,7 @@ partial_turn_stage (partial.LoadGrantAnchor at) o = partial_taken
 partial_turn_stage (partial.Grant at a) o = partial_taken
 partial_turn_stage p o = continuation_turn_stage o
 
--- at any point
+-- how far a turn is at any point
 abbrev pub turn_stage_of : Point → TurnStage
 turn_stage_of point.Idle = out_of_turn
 turn_stage_of (point.Block p o) = block_turn_stage p
@@ -77,7 +77,7 @@ turn_stage_of (point.Desc p o) = continuation_turn_stage o
 turn_stage_of (point.Partial p o) = partial_turn_stage p o
 turn_stage_of (point.Large p o) = out_of_turn
 
--- a turn that has given no block yet
+-- whether a stage, and a point, is one of a turn that has given no block yet
 abbrev pub is_turn : TurnStage → Bool
 is_turn out_of_turn = false
 is_turn offering = false
@@ -86,7 +86,7 @@ is_turn stage = true
 abbrev pub in_turn : Point → Bool
 in_turn p = is_turn (turn_stage_of p)
 
--- such a turn has popped no frame; has no partial superblock; has neither a block nor a refusal
+-- whether a turn that has given no block has popped no frame; has no partial superblock; has neither a block nor a refusal
 abbrev pub lacks_frame : TurnStage → Bool
 lacks_frame frame_taken = false
 lacks_frame not_needed = false
@@ -100,12 +100,12 @@ abbrev pub lacks_answer : TurnStage → Bool
 lacks_answer turned_down = false
 lacks_answer stage = is_turn stage
 
--- it found no superblock active
+-- whether a turn that has given no block found no superblock active
 abbrev pub is_seeking : TurnStage → Bool
 is_seeking at_active = false
 is_seeking stage = is_turn stage
 
--- its new superblock wasn't needed; and it has its block, and offers the others
+-- whether a turn's new superblock wasn't needed; whether a turn has given its block, and the caller offers what it reserved beside
 abbrev pub is_unneeded : TurnStage → Bool
 is_unneeded not_needed = true
 is_unneeded stage = false

@@ -39,7 +39,7 @@ abbrev pub is_small_free : Geometry → Event → Bool
 is_small_free g (Free by place) = nat_le (frame_of place + 1) g.frames
 is_small_free g e = false
 
--- 1 where it is so, else 0
+-- 1 where the condition is so, else 0
 abbrev pub one_if : Bool → ℕ
 one_if b = if b then 1 else 0
 
@@ -53,7 +53,7 @@ turn_unframed e = one_if (lacks_frame (turn_stage_of e.point))
 abbrev pub turn_unlisted : ErrandFields → ℕ
 turn_unlisted e = one_if (lacks_partial (turn_stage_of e.point))
 
--- how many pops of a class's list a free that made EMPTY may still make
+-- how many pops of a class's list a free that made its superblock EMPTY may still make
 abbrev pub continuation_pops : Continuation → ℕ
 continuation_pops (continuation.Remove d heap) = 2
 continuation_pops continuation.Clear = 2
@@ -72,22 +72,22 @@ pops_left p = 0
 abbrev pub errand_pops : ErrandFields → ℕ
 errand_pops e = pops_left e.point
 
--- all callers' turns, and their cleared counts
+-- a caller's turns, and its cleared count
 abbrev pub turns_of : ErrandFields → ℕ
 turns_of e = e.turns
 
 abbrev pub cleared_of : ErrandFields → ℕ
 cleared_of e = e.cleared
 
--- 1 where d is EMPTY and out, and not on its way
+-- 1 where d is EMPTY, and neither available, retired nor on its way
 abbrev pub emptied_out : Geometry → State → Lists → ℕ → ℕ
 emptied_out g s l d = one_if ((away_of g s l d == 0) && is_empty (anchor_for s d).state)
 
--- 1 where a new superblock wasn't needed, and the next turn hasn't begun yet
+-- 1 where a caller's new superblock wasn't needed, and its next turn hasn't begun yet
 abbrev pub errand_discards : ErrandFields → ℕ
 errand_discards e = one_if (is_unneeded (turn_stage_of e.point))
 
--- 1 where the turn has neither given a block nor been refused one
+-- 1 where a caller is in a turn that has neither given a block nor been refused one
 abbrev pub turn_unanswered : ErrandFields → ℕ
 turn_unanswered e = one_if (lacks_answer (turn_stage_of e.point))
 
@@ -101,11 +101,11 @@ all_cleared g s = callers_sum g cleared_of s.errand
 abbrev pub small_frees : Geometry → State → ℕ
 small_frees g s = count_by (is_small_free g) s.history
 
--- how many superblocks are EMPTY and out
+-- how many superblocks are EMPTY, their descriptors neither available, retired nor on their way
 abbrev pub all_emptied : Geometry → State → Lists → ℕ
 all_emptied g s l = sum_below (descriptor_count g) (emptied_out g s l)
 
--- how many pops of lists may still come: by frees that made EMPTY, and by the turns that have no partial superblock yet
+-- how many pops of lists may still come: by frees that made a superblock EMPTY, and by the turns that have no partial superblock yet
 abbrev pub pops_to_come : Geometry → State → ℕ
 pops_to_come g s = callers_sum g errand_pops s.errand + callers_sum g turn_unlisted s.errand
 

@@ -16,7 +16,7 @@ use Rattle.stack_parts.specs.Stacks.{Stacked, next_in}
 occurs-here : (i : ℕ) (xs : List ℕ) → occurs i (i ∷ xs) ≡ 1 + occurs i xs
 occurs-here i xs = grind (arith, nat_tests)
 
--- one that begins with another has it as often as the rest
+-- a list that begins with another index has an index as often as the rest
 occurs-other : (i x : ℕ) (xs : List ℕ) → x ≢ i → occurs i (x ∷ xs) ≡ occurs i xs
 occurs-other i x xs differ = grind (arith, nat_tests)
 
@@ -46,7 +46,7 @@ stacked-one next top (x ∷ xs) (y ∷ ys) first second =
     let rest : Stacked next (next x) ys = subst (λ (z : ℕ). Stacked next (next z) ys) same second.1 in
     rw same (ap (λ zs. x ∷ zs) (stacked-one next (next x) xs ys first.1 rest))
 
--- from an index that is on a stack, the stack goes on as one that is no longer
+-- a stack goes on, from an index that is on it, as a stack that is no longer
 record IsRest (next : ℕ → ℕ) (i : ℕ) (xs ys : List ℕ) : Type 0 where
   stack : Stacked next (i + 1) ys
   short : length ys ≤ length xs
@@ -62,7 +62,7 @@ stacked-rest next i top (x ∷ xs) stack on =
           (rest.0, record { stack = rest.1.stack; short = omega (arith, rest.1.short) })
     ]
 
--- so the index on top is not below
+-- the index on top of a stack is not among those below it
 top-once : (next : ℕ → ℕ) (top x : ℕ) (xs : List ℕ) → Stacked next top (x ∷ xs) → occurs x xs ≡ 0
 top-once next top x xs stack =
     elim (cases_eq (occurs x xs) 0) [
@@ -117,7 +117,7 @@ pub stacked-elsewhere :
 stacked-elsewhere words words' name new p top xs writes apart stack =
     stacked-same (next_in words p) (next_in words' p) top xs (λ j on. writes.elsewhere (next_name p j) (apart j on)) stack
 
--- so does a change of the next word of an index that is not on it
+-- a change of the next word of an index that is not on a stack leaves the stack
 pub stacked-off :
     (words words' : WordName → ℕ) (new : ℕ) (p : Pile) (top i : ℕ) (xs : List ℕ) → Writes words (next_name p i) new words'
     → occurs i xs ≡ 0 → Stacked (next_in words p) top xs → Stacked (next_in words' p) top xs

@@ -17,7 +17,7 @@ use Rattle.heap_geometry.specs.declared.geometry.Geometry.{Geometry}
 use Rattle.heap_geometry.specs.Geometry.{IsWithin}
 use Rattle.word_table.specs.Sites.{IsSeatOf}
 
--- for whom the point is
+-- the seat that a point of a stack is for
 abbrev pub seat_of_stack : StackPoint → SeatFields
 seat_of_stack (LoadTop s p) = s
 seat_of_stack (LoadBelow s p h) = s
@@ -27,7 +27,7 @@ seat_of_stack (LoadTopToPush s p i) = s
 seat_of_stack (StoreBelow s p i h) = s
 seat_of_stack (PushTop s p i h) = s
 
--- for whom the exit is
+-- the seat that an exit from a stack is for
 abbrev pub seat_of_stack_exit : StackExit → SeatFields
 seat_of_stack_exit (Popped s p i) = s
 seat_of_stack_exit (FoundEmpty s p h) = s
@@ -44,18 +44,18 @@ plan_stack_of (LoadTopToPush s p i) = Load (head_name s p)
 plan_stack_of (StoreBelow s p i h) = Store (next_name p i) h.top
 plan_stack_of (PushTop s p i h) = Cas (head_name s p) (head_word h) (head_word (pushed_head h i))
 
--- where a head leads that is read for a pop; the point stays where the heap has no such index
+-- the point or exit after a head was read for a pop; the point stays where the heap has no such index
 abbrev pub after_top : SeatFields → Pile → HeadFields → Onward StackPoint StackExit
 after_top s p h =
     if h.top == 0
     then Leaves (FoundEmpty s p h)
     else Stays (if nat_le h.top (pile_limit s.geometry p) then LoadBelow s p h else LoadTop s p)
 
--- where the next word of the index on top leads
+-- the point after the next word of the index on top was read
 abbrev pub after_below : SeatFields → Pile → HeadFields → ℕ → StackPoint
 after_below s p h below = if nat_le below (pile_limit s.geometry p) then PopTop s p h below else LoadBelow s p h
 
--- where a step leads in which the action found this
+-- the point or exit after a step at a point of a stack, by what its action found
 abbrev pub settle_stack_of : StackPoint → Found → Onward StackPoint StackExit
 settle_stack_of (LoadTop s p) x = after_top s p (head_of x.value)
 settle_stack_of (LoadBelow s p h) x = Stays (after_below s p h x.value)
@@ -92,7 +92,7 @@ FitsStack g caller (LoadTopToPush s p i) = IsIndexOf g caller s p i
 FitsStack g caller (StoreBelow s p i h) = IsIndexOf g caller s p i × IsHead h
 FitsStack g caller (PushTop s p i h) = IsIndexOf g caller s p i × IsHead h
 
--- the same of an exit
+-- the exit is of this caller of this heap, and everything that it remembers exists there
 abbrev pub FitsStackExit : Geometry → ℕ → StackExit → Type 0
 FitsStackExit g caller (Popped s p i) = IsIndexOf g caller s p i
 FitsStackExit g caller (FoundEmpty s p h) = IsBare g caller s h

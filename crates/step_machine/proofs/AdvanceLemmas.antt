@@ -89,7 +89,7 @@ unfolding stepped
 made-stepped c caller n x e events steps next here is_errand are_events are_steps =
     rw (are_steps, are_events, is_errand, here, next.index, next.word, next.found, next.event) refl
 
--- what a step has made of the lists: the machine's rule is kept, and it is the step
+-- a step made on the lists keeps the machine's rule, and is the machine's step
 pub record IsKeptStep (c : CoreFields) (caller : ℕ) (answer : Progress) (after : CoreFields) : Type 0 where
   pub core : IsCore after
   pub is : IsStepped c caller answer after

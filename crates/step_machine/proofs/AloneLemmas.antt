@@ -27,17 +27,17 @@ pub record IsSoFar (old now : CoreFields) (caller steps : ℕ) : Type 0 where
   pub alone : RunsAlone old caller steps now
   pub idle : IsIdle (errand_at old.errands caller) → (steps ≡ 0) × (now ≡ old)
 
--- no steps yet
+-- a sound machine has come so far from itself in no steps
 pub none-so-far : (c : CoreFields) (caller : ℕ) → IsSound c.geometry (state_of c) → IsSoFar c c caller 0
 none-so-far c caller sound = record { sound = sound; geometry = refl; alone = ((refl, refl), refl); idle = λ idle. (refl, refl) }
 
--- what that leads to
+-- what a caller's steps so far, made alone, lead to
 pub so-far-leads :
     (old now : CoreFields) (caller steps : ℕ) → caller < old.geometry.callers → IsSoFar old now caller steps
     → LeadsAlone old.geometry (state_of old) caller steps (state_of now)
 so-far-leads old now caller steps has h = runs-alone old.geometry steps (state_of old) caller steps (state_of now) h.sound has h.alone.0
 
--- the machine is sound
+-- what is so of a caller is so of each place in a list of that caller alone; the machine is sound after the steps so far
 replicate-all : (P : ℕ → Type 0) (n caller : ℕ) → P caller → All P (replicate n caller)
 replicate-all P zero caller is = All-nil P
 replicate-all P (suc n) caller is = All-cons P caller (replicate n caller) is (replicate-all P n caller is)
@@ -49,7 +49,7 @@ so-far-sound old now caller steps has h =
     runs-sound old.geometry (state_of old) (replicate steps caller) steps (state_of now) h.sound
     (replicate-all (λ caller. caller < old.geometry.callers) steps caller has) h.alone.0
 
--- a step leaves fewer to make
+-- a step of the caller alone leaves it fewer steps to make
 pub so-far-falls :
     (old now next : CoreFields) (caller steps : ℕ) → caller < old.geometry.callers → IsSoFar old now caller steps
     → Step (state_of now) caller (state_of next) → next.geometry ≡ now.geometry
@@ -59,7 +59,7 @@ so-far-falls old now next caller steps has h step same =
     subst (λ g. alone_left g (state_of next) caller < alone_left now.geometry (state_of now) caller) (sym (same ∙ h.geometry))
     (subst (λ g. alone_left old.geometry (state_of next) caller < alone_left g (state_of now) caller) (sym h.geometry) falls)
 
--- so there is room for one more
+-- the steps so far and one more are fewer than 2 ^ 64
 pub so-far-room :
     (old now next : CoreFields) (caller steps : ℕ) → caller < old.geometry.callers → IsSoFar old now caller steps
     → Step (state_of now) caller (state_of next) → steps + 1 < 2 ^ 64
@@ -68,7 +68,7 @@ so-far-room old now next caller steps has h step =
     let below = alone-below old.geometry (state_of old) caller h.sound has in
     omega (arith, falls, below, (so-far-leads old now caller steps has h).left)
 
--- one more turn of the same caller
+-- a run of turns of one caller, with one more turn of that caller
 run-more :
     (turns : ℕ) (s : State) (caller n : ℕ) (t : State) (s' : State) → Run s (replicate turns caller) n t → Step t caller s'
     → Run s (replicate (suc turns) caller) (n + 1) s'
@@ -97,14 +97,14 @@ so-far-next old now next caller steps answer has h stepped same =
           absurd (true≢false (sym still ∙ stepped.step.busy));
     }
 
--- fewer steps than stale words and superblocks to clear allow
+-- the steps so far are fewer than the caller's stale words and the superblocks to clear allow
 pub so-far-bound :
     (old now : CoreFields) (caller steps : ℕ) → caller < old.geometry.callers → IsSoFar old now caller steps
     → steps < CALL_STEPS * (1 + stale_words old.geometry (state_of old) caller + clearings old.geometry (state_of old) caller)
 so-far-bound old now caller steps has h =
     omega (arith, (so-far-leads old now caller steps has h).left, alone-most old.geometry (state_of old) caller h.sound has)
 
--- and than those that were met allow
+-- the steps so far are fewer than the exchanges lost and the superblocks cleared in them allow
 pub so-far-few :
     (old now : CoreFields) (caller steps : ℕ) → caller < old.geometry.callers → IsSoFar old now caller steps
     → (errand_at now.errands caller).lost + 1 < 2 ^ 64
@@ -114,7 +114,7 @@ pub so-far-few :
 so-far-few old now caller steps has h room =
     leads-few old.geometry (state_of old) caller steps (state_of now) h.sound has (so-far-leads old now caller steps has h) room
 
--- what it lost, and cleared
+-- what the caller lost in its steps so far, and what it cleared
 pub so-far-lost :
     (old now : CoreFields) (caller steps : ℕ) → caller < old.geometry.callers → IsSoFar old now caller steps
     → ((errand_at old.errands caller).lost ≤ (errand_at now.errands caller).lost)

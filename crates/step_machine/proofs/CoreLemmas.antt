@@ -46,7 +46,7 @@ first-none g s first =
       | inr has ↦ first-won g (installed g has.0) s has.2
     ]
 
--- so the state that was reached is sound, and what the run's steps won and noted keeps its bounds
+-- a state that was reached is sound, and what its run's steps won and noted keeps its bounds
 pub run-sound : (g : Geometry) (s : State) (made : ℕ) → IsReached g s made → IsSound g s
 run-sound g s made run =
     reached-sound g run.first run.moves s (first-sound g run.first run.checked run.opens)
@@ -57,7 +57,7 @@ run-won g s made run =
     made-won g run.first no_wins run.moves s run.wins (first-sound g run.first run.checked run.opens)
     (first-none g run.first run.opens) run.reaches
 
--- the machine is sound
+-- a machine under its rule is sound
 pub core-sound : (c : CoreFields) → IsCore c → IsSound c.geometry (state_of c)
 core-sound c core = run-sound c.geometry (state_of c) c.steps core.run
 
@@ -108,7 +108,7 @@ errand-read c value caller x core view below read =
     get_or_read c.errands caller x (omega (arith, core.errands, callers)) read no_errand
     ∙ ap (λ (v : CoreFields). errand_at v.errands caller) view
 
--- it is of this caller and of this heap
+-- the errand that is read at a caller's number is of this caller and of the machine's heap
 pub errand-own :
     (c value : CoreFields) (caller : ℕ) (x : ErrandFields) → IsCore c → c ≡ value → caller < value.geometry.callers
     → x ≡ slice_index_or c.errands caller x → IsOwnErrand c.geometry caller x
@@ -118,14 +118,14 @@ errand-own c value caller x core view below read =
     let P : ErrandFields → Type 0 = IsOwnErrand c.geometry caller in
     subst P (sym (get_or_read c.errands caller x (omega (arith, core.errands)) read no_errand)) ((core-sound c core).parts.1.errands caller below')
 
--- so a word of its heap is one of the machine's
+-- a word of the heap of an errand that is read is one of the machine's
 pub errand-heap :
     (c value : CoreFields) (caller : ℕ) (x : ErrandFields) (name : WordName) → IsCore c → c ≡ value → caller < value.geometry.callers
     → x ≡ slice_index_or c.errands caller x → Exists x.geometry name → Exists c.geometry name
 errand-heap c value caller x name core view below read is =
     subst (λ g. Exists g name) (errand-own c value caller x core view below read).geometry is
 
--- the rule is kept where the caller's errand has begun a call
+-- the machine's rule is kept where the caller's errand has begun a call
 pub core-begun :
     (c value : CoreFields) (caller : ℕ) (call : Call) (x e : ErrandFields) → IsCore c → c ≡ value → caller < value.geometry.callers
     → x ≡ slice_index_or c.errands caller x → IsIdle (errand_at value.errands caller) → MayBegin (state_of value) caller call

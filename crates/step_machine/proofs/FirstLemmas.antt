@@ -23,7 +23,7 @@ use Rattle.step_machine.specs.Cores.{IsCore, IsFirst, IsReached, no_errand, stat
 use Rattle.step_machine.specs.Firsts.{AreErrands, IsTable}
 use Rattle.step_machine.specs.Openings.{first_words}
 
--- what holds of each element so far and of one more
+-- what holds of each element of a list and of one more holds of all of them in the longer list
 each-push :
     {X : Type 0} (P : ℕ → X → Type 0) (xs : List X) (x d : X) (count : ℕ) → length xs ≡ count
     → ((k : ℕ) → k < count → P k (slice_index_or xs k d)) → P count x → (k : ℕ) → k < count + 1
@@ -78,7 +78,7 @@ table-opening g first words name table =
       | inr isnt ↦ rw isnt refl
     ]
 
--- such a machine is one before its first step
+-- a machine of a whole table and idle errands is one before its first step
 pub core-opening :
     (g : Geometry) (first : WordName → ℕ) (words : List ℕ) (errands : List ErrandFields) (steps : ℕ)
     → IsTable g first (word_count g) words → AreErrands g g.callers errands
@@ -89,7 +89,7 @@ core-opening g first words errands steps table are = record {
   history = refl;
 }
 
--- the run of a machine that has made none
+-- the run of a machine that has made no step
 run-none : (g : Geometry) (s : State) → IsChecked g → IsFirst g s → IsReached g s 0
 run-none g s checked opens = record {
   checked = checked;

@@ -23,7 +23,7 @@ spare-append place (event ∷ events) more h = spare-append place events more h.
 abbrev Keeps : Pool → ℕ → Block → Type 0
 Keeps pool place block = (now : Block) × (block_at place pool ≡ Some now) × (now.owner ≡ block.owner) × (now.need ≡ block.need)
 
--- one event of the caller's
+-- a caller's block keeps its owner and need through an event of the caller that spares its place
 own-keeps :
     (g : Geometry) (before : List Event) (event : Event) (caller place : ℕ) (block : Block) → IsAllowed g before event
     → Spares place event → block_at place (pool_of before) ≡ Some block → block.owner ≡ Caller caller
@@ -56,7 +56,7 @@ own-keeps g before (Take by shelf at) caller place block allowed spares found ow
     (block, block_at-changed_other at place (handed_to (Caller by)) (pool_of before) (λ b. refl) differ ∙ found, refl, refl)
 own-keeps g before (TakeNone by shelf) caller place block allowed spares found owned = (block, found, refl, refl)
 
--- one event, whosever it is
+-- a caller's block stays its own through one event, whosever it is, where the caller's own spares the place
 owns-event :
     (g : Geometry) (before : List Event) (event : Event) (caller place : ℕ) (need : Need) → IsLegalWithoutCounts g (before ++ event ∷ [])
     → AllSpare place (own caller (event ∷ [])) → OwnsAfter before caller place need → OwnsAfter (before ++ event ∷ []) caller place need
@@ -79,7 +79,7 @@ owns-event g before event caller place need legal spares owns =
       )
     ]
 
--- the first event's part of a caller's events, and the others'
+-- where all of a caller's own events spare a place, the first event does if it is the caller's, and the caller's later ones do
 own-first : (caller place : ℕ) (event : Event) (rest : List Event) → AllSpare place (own caller (event ∷ rest))
     → AllSpare place (own caller (event ∷ [])) × AllSpare place (own caller rest)
 own-first caller place event rest spares =

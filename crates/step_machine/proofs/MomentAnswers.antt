@@ -32,7 +32,7 @@ module _ (e f : ErrandFields) (before after : List Event) (answer : Progress) (m
   abbrev pub found : Find
   found = found_at m.state e.caller
 
-  -- the errand goes on by that
+  -- the errand goes on by what the step found
   pub moment-settles : f ≡ settle_of e found
   moment-settles = sym m.there ∙ (m.step.errand.here ∙ ap (λ x. settle_of x found) m.here)
 
@@ -48,7 +48,7 @@ module _ (e f : ErrandFields) (before after : List Event) (answer : Progress) (m
   pub moment-own_after : IsOwnErrand e.geometry e.caller f
   moment-own_after = subst (IsOwnErrand e.geometry e.caller) m.there (moment-sound.parts.1.errands e.caller m.has)
 
-  -- what it answers is so
+  -- the reply with which the step ends its call is so
   pub moment-meant : (r : Reply) → answer ≡ progress.Done r → IsMeant e.geometry m.state e.caller r m.next
   moment-meant r is =
       answers-meant e.geometry m.state e.caller r m.next (without-counts e.geometry m.state m.sound) m.has m.step
@@ -60,12 +60,12 @@ module _ (e f : ErrandFields) (before after : List Event) (answer : Progress) (m
   pub moment-geometry : f.geometry ≡ e.geometry
   moment-geometry = ap (λ (d : ErrandFields). d.geometry) moment-settles ∙ settle-geometry e found
 
-  -- what the caller owns behind it
+  -- what the caller owns in the state after the step it owns by the events seen then
   pub moment-owns : (place : ℕ) (need : Need) → IsOwned m.next e.caller place need → OwnsAfter after f.caller place need
   moment-owns place need owned =
       subst (λ c. OwnsAfter after c place need) (sym moment-caller) (subst (λ h. OwnsAfter h e.caller place need) m.now owned.block)
 
-  -- a block that it gives or takes is the caller's
+  -- a block that the step's reply gives, or got from a shelf, is the caller's
   pub moment-given : (place : ℕ) (need : Need) → answer ≡ progress.Done (reply.Given place need) → OwnsAfter after f.caller place need
   moment-given place need is = moment-owns place need (moment-meant (reply.Given place need) is).3
 

@@ -15,7 +15,7 @@ use Rattle.step_machine.specs.Moments.{IsMoment, HasSeenMore, IsServed}
 use Rattle.step_machine.specs.Steps.{IsStepped}
 use Rattle.step_machine.proofs.CoreLemmas.{core-sound, run-sound, run-won}
 
--- what is so of each caller in a state that is reached
+-- each caller in a state that was reached has its own errand, and legal events that bound its turns
 pub reached-served :
     (g : Geometry) (s : State) (made caller : ℕ) → IsReached g s made → caller < g.callers → IsServed g caller (s.errand caller) s.history
 reached-served g s made caller run has =
@@ -30,13 +30,13 @@ reached-served g s made caller run has =
       by_given = turns-bounded g s run.wins caller (run-won g s made run) has;
     }
 
--- so of each caller of a machine
+-- each caller of a machine has its own errand, and legal events that bound its turns
 pub core-served :
     (c : CoreFields) (caller : ℕ) → IsCore c → caller < c.geometry.callers
     → IsServed c.geometry caller (errand_at c.errands caller) c.events
 core-served c caller core has = reached-served c.geometry (state_of c) c.steps caller core.run has
 
--- its caller's step, before which nobody else made an event
+-- a step of the machine as its caller's moment, before which nobody else made an event
 pub core-moment :
     (c after : CoreFields) (caller : ℕ) (answer : Progress) → IsCore c → caller < c.geometry.callers → IsStepped c caller answer after
     → IsMoment (errand_at c.errands caller) (errand_at after.errands caller) c.events after.events answer
@@ -71,11 +71,11 @@ seen-more :
 seen-more other before None differ = record { more = []; seen = sym (append-nil before); not_own = refl }
 seen-more other before (Some event) differ = record { more = event ∷ []; seen = refl; not_own = not-own other event (differ event refl) }
 
--- no step was made
+-- a caller sees nothing more where no event was added
 pub same-seen : (other : ℕ) (before after : List Event) → after ≡ before → HasSeenMore other before after
 same-seen other before after same = record { more = []; seen = same ∙ sym (append-nil before); not_own = refl }
 
--- another caller's errand stays, and it sees what the step added
+-- another caller's errand stays through a step, and that caller sees what the step added
 pub core-beside :
     (c after : CoreFields) (caller other : ℕ) (answer : Progress) → IsStepped c caller answer after → other ≢ caller
     → (errand_at after.errands other ≡ errand_at c.errands other) × HasSeenMore other c.events after.events

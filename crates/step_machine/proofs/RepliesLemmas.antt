@@ -6,7 +6,7 @@ use Rattle.errand_steps.specs.declared.reply.Reply.{Reply}
 use Rattle.errand_steps.specs.Steps.{State, ScheduleSlot}
 use Rattle.step_machine.specs.Replies.{RunReplies, Replies, replied_in}
 
--- one more slot
+-- a run with its replies, and one more slot
 replies-push :
     (s m t : State) (first : List ℕ) (caller n k : ℕ) (replies : List (ℕ × Reply)) → RunReplies s first n replies m → ScheduleSlot m caller k t
     → RunReplies s (first ++ caller ∷ []) (n + k) (replies ++ replied_in m caller) t
@@ -32,7 +32,7 @@ replies-push s m t (other ∷ first) caller n k replies run turn = (
   ap (λ r. r ++ replied_in m caller) run.7 ∙ append_assoc (replied_in s other) run.3 (replied_in m caller),
 )
 
--- the slot of the next caller of a list
+-- a run with its replies goes on by the slot of the next caller of a list
 pub replies-next :
     (s m t : State) (seats : List ℕ) (i caller n k : ℕ) (before after more : List (ℕ × Reply)) → i < length seats
     → caller ≡ slice_index seats i → Replies s (take i seats) n before after m → ScheduleSlot m caller k t → more ≡ after ++ replied_in m caller

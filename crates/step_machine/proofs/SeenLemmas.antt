@@ -41,7 +41,7 @@ changed-at place change (block ∷ pool) stays =
     (block_at-past place block (with_changed place change pool) past ∙ changed-at place change pool stays))
     (cases_eq block.place place)
 
--- another owner is the last one, if none is named behind it; a write changes nothing that is seen
+-- a block handed on is seen with that owner as the last, if none is named behind; a write changes nothing that is seen
 handed-seen :
     (last : Option Owner) (owner : Owner) (live : Option Block)
     → handed_on last (seen (changed (handed_to owner) live)) ≡ handed_on (Some (owner_or last owner)) (seen live)
@@ -114,7 +114,7 @@ begun-differ g events k legal =
 abbrev pub seen_before : List Event → ℕ → ℕ → Option Owner → Option (Need × Owner)
 seen_before events k place last = handed_on last (seen (block_at place (pool_of (take k events))))
 
--- by one event more
+-- what the events up to one more leave at a place is what that one tells of what the earlier ones left
 pub seen-next :
     (g : Geometry) (events : List Event) (k place : ℕ) (d : Event) (last : Option Owner) → IsLegalWithoutCounts g events
     → k < length events

@@ -44,7 +44,7 @@ spare-spending place caller (Small class) events h = spare-as place events _ h.1
 spare-spending place caller (Large units) events h = absurd h
 spare-spending place caller TooLarge events h = absurd h
 
--- so far
+-- the events of a call so far spare a place that the call leaves; those of a write, a read, a put or a take are none
 alloc-spares : (place caller n : ℕ) (stage : StageOfCall) (events : List Event) → SoFar caller (alloc n) stage events → AllSpare place events
 alloc-spares place caller n (asking words class looked) events h = spare-looked place caller class looked events h.2
 alloc-spares place caller n (asking_run words units) events h = spare-as place events [] h.2 tt
@@ -81,7 +81,7 @@ so_far-spares place caller (read p n j) stage events leaves h = spare-as place e
 so_far-spares place caller (put p n k) stage events leaves h = spare-as place events [] (put-none caller p n k stage events h) tt
 so_far-spares place caller (take k) stage events leaves h = spare-as place events [] (take-none caller k stage events h) tt
 
--- and at the end
+-- the events of a call that has ended spare a place that its end leaves
 pub events-spare : (place caller : ℕ) (end : Ended) (events : List Event) → LeavesAtEnd end place → EventsOf caller end events → AllSpare place events
 events-spare place caller (ended.alloc_given need at) events leaves h = spare-giving place caller need at (need_of need) events h
 events-spare place caller (ended.alloc_refused need) events leaves h = spare-refusing place caller need (need_of need) events h

@@ -25,13 +25,13 @@ step-stepped c caller core below busy is =
       history = refl;
     }
 
--- the lists stay as long
+-- a step leaves the lists of words and of errands as long as they were
 lists-stepped :
     (c : CoreFields) (caller : ℕ) → (length (stepped c caller).words ≡ length c.words) × (length (stepped c caller).errands ≡ length c.errands)
 unfolding stepped
 lists-stepped c caller = (length-set c.words _ _, length-set c.errands caller _)
 
--- the rule is kept by a step
+-- the machine's rule is kept by a step
 pub core-stepped :
     (c : CoreFields) (caller : ℕ) → IsCore c → caller < c.geometry.callers → IsBusy (errand_at c.errands caller)
     → Exists c.geometry (name_at (state_of c) caller) → IsCore (stepped c caller)
@@ -72,7 +72,7 @@ run-join s t (caller ∷ first) rest n runs =
     let run = runs.3 in
     (run.0, run.1, run.2 + runs.2, run.3, run-join run.0 t first rest (run.2 + runs.2) (runs.0, run.2, runs.2, run.4, runs.4, refl), omega (arith, run.5, runs.5))
 
--- one more turn
+-- a run with one more slot
 pub run-push :
     (s m t : State) (first : List ℕ) (caller n k : ℕ) → Run s first n m → ScheduleSlot m caller k t → Run s (first ++ caller ∷ []) (n + k) t
 run-push s m t first caller n k run turn =
@@ -85,7 +85,7 @@ counted-add before a (suc b) =
     let e : suc (a + b) ≡ a + suc b = omega arith in
     ap one_more (counted-add before a b) ∙ ap (counted before) e
 
--- the turn of the next caller of a list
+-- a run goes on by the slot of the next caller of a list
 pub run-next :
     (s m t : State) (callers : List ℕ) (i caller n k : ℕ) → i < length callers → caller ≡ slice_index callers i → Run s (take i callers) n m
     → ScheduleSlot m caller k t → Run s (take (i + 1) callers) (n + k) t

@@ -41,7 +41,7 @@ with_errand c caller e = record c { errands = slice_set c.errands caller e }
 abbrev pub state_of : CoreFields → State
 state_of c = record { word = word_in c.geometry c.words; errand = errand_at c.errands; history = c.events }
 
--- no step is made: the heap is as it opens, or has a superblock of some class installed
+-- a state before the first step: the heap is as it opens, or has a superblock of some class installed
 abbrev pub IsFirst : Geometry → State → Type 0
 IsFirst g s = IsOpening g (opening g) s ⊎ ((class : ℕ) × (class < CLASSES) × IsOpening g (installed g class) s)
 
@@ -76,6 +76,6 @@ abbrev pub OwnsAfter : List Event → ℕ → ℕ → Need → Type 0
 OwnsAfter events caller place need =
     (block : Block) × (block_at place (pool_of events) ≡ Some block) × (block.owner ≡ Caller caller) × (block.need ≡ need)
 
--- so it is in a machine
+-- by a machine's events the caller owns the live block at the place, and that serves this need
 abbrev pub OwnsBlock : CoreFields → ℕ → ℕ → Need → Type 0
 OwnsBlock c caller place need = OwnsAfter c.events caller place need

@@ -16,7 +16,7 @@ abbrev pub AllSpare : ℕ → List Event → Type 0
 AllSpare place [] = Unit {0}
 AllSpare place (event ∷ events) = Spares place event × AllSpare place events
 
--- the call gives no block away that lies at this place; it ends so that it has given none away
+-- the call gives away no block that lies at this place; the call's end gave away none that lies there
 abbrev pub LeavesPlace : Call → ℕ → Type 0
 LeavesPlace (free p need) place = place ≢ p
 LeavesPlace (put p need shelf) place = place ≢ p

@@ -4,7 +4,7 @@ use Rattle.heap_geometry.specs.declared.need.Need.{Need}
 use Rattle.heap_geometry.specs.declared.need.Need.TheVariants.{Small, Large, TooLarge}
 use Rattle.heap_geometry.specs.Need.{IsNeed}
 
--- that there are such blocks has at most one proof, so that a block in hand may keep it
+-- the rule of a need has at most one proof, so a block in hand may keep one
 pub IsNeed-prop : (need : Need) → IsProp (IsNeed need)
 IsNeed-prop (Small class) = le_prop
 IsNeed-prop (Large units) = ×_prop le_prop le_prop

@@ -8,7 +8,7 @@ use Rattle.errand_steps.specs.Errands.{open_errand}
 use Rattle.errand_steps.specs.Openings.{opening, installed}
 use Rattle.step_machine.specs.Cores.{CoreFields, errand_at}
 
--- the words at opening, with such a superblock where a class is named
+-- the words at opening, with a superblock of the class installed where one is named
 abbrev pub first_words : Geometry → Option ℕ → WordName → ℕ
 first_words g None = opening g
 first_words g (Some class) = installed g class

@@ -15,7 +15,7 @@ ended_by caller Lost = []
 ended_by caller Cleared = []
 ended_by caller (Done reply) = (caller, reply) ∷ []
 
--- that of the caller's slot in a schedule
+-- the reply, with the caller, that ends the caller's call in its slot of a schedule, if one does
 abbrev pub replied_in : State → ℕ → List (ℕ × Reply)
 replied_in s caller = if is_idle (s.errand caller).point then [] else ended_by caller (answer_of (s.errand caller) (found_at s caller))
 
@@ -26,12 +26,12 @@ RunReplies s (caller ∷ rest) n replies s' =
     (next : State) × (first : ℕ) × (others : ℕ) × (later : List (ℕ × Reply)) × ScheduleSlot s caller first next
     × RunReplies next rest others later s' × (n ≡ first + others) × (replies ≡ replied_in s caller ++ later)
 
--- the second list is the first one with the replies of such a run behind it
+-- the second list is the first one with the replies of a run of these callers behind it
 abbrev pub Replies : State → List ℕ → ℕ → List (ℕ × Reply) → List (ℕ × Reply) → State → Type 0
 Replies s callers n before after s' =
     (replies : List (ℕ × Reply)) × RunReplies s callers n replies s' × (after ≡ before ++ replies)
 
--- such a run of a beginning of these callers, but not of all of them
+-- the second list adds the replies of a run of a beginning of these callers, but not of all of them
 abbrev pub RepliesPart : State → List ℕ → ℕ → List (ℕ × Reply) → List (ℕ × Reply) → State → Type 0
 RepliesPart s callers n before after s' =
     (turns : ℕ) × (turns < length callers) × Replies s (take turns callers) n before after s'

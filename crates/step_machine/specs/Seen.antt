@@ -20,7 +20,7 @@ abbrev pub owner_or : Option Owner → Owner → Owner
 owner_or None owner = owner
 owner_or (Some last) owner = last
 
--- the same block, with the last owner where one is named
+-- what is seen of a block, with the last owner in place of its own where one is named
 abbrev pub handed_on : Option Owner → Option (Need × Owner) → Option (Need × Owner)
 handed_on last None = None
 handed_on last (Some live) = Some (live.0, owner_or last live.1)

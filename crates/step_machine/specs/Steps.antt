@@ -11,7 +11,7 @@ use Rattle.sound_state.specs.Answers.{IsMeant}
 use Rattle.step_machine.specs.declared.machine.NextStep.{NextStep}
 use Rattle.step_machine.specs.Cores.{CoreFields, errand_at, state_of}
 
--- the machine after a step of a caller: the same step of the lists
+-- the machine after a step of a caller, made on the machine's lists
 unfoldable pub stepped : CoreFields → ℕ → CoreFields
 stepped c caller =
     let s = state_of c in
@@ -30,7 +30,7 @@ pub record IsStepped (c : CoreFields) (caller : ℕ) (answer : Progress) (after 
   pub answers : answer ≡ answer_of (errand_at c.errands caller) (found_at (state_of c) caller)
   pub some : answer ≢ progress.Idle
 
--- where the step ends a call, what it answers is so
+-- the reply of a step that ends its caller's call is so
 abbrev pub AnswersSo : CoreFields → ℕ → Progress → CoreFields → Type 0
 AnswersSo c caller answer after =
     (reply : Reply) → answer ≡ progress.Done reply → IsMeant c.geometry (state_of c) caller reply (state_of after)

@@ -94,7 +94,7 @@ pub answer-counts :
 answer-counts h p q words tries (block, given, tells, rests) =
     counts-then 1 0 0 0 p given q (given-counts p given words tells.0.steps block.place block.need tells.0.called) (rests-count h given q rests)
 
--- a call that waited goes on, whatever it waited for
+-- a store's call that waited goes on, whatever it waited for
 pub busy-goes :
     (h : Heap) (waits : Pending) (p q : Pass) (tries : ℕ) → IsResumedAnswer h waits p tries stored.Busy q → GoesOnTo p tries resumed.Busy q
 busy-goes h pending.Nothing p q tries is = is
@@ -148,7 +148,7 @@ resumed-spent h waits first p q tries asked made is calling =
     let tells = spent-goes h waits p q tries is first (alloc asked) made calling in
     spent-counts first q asked tells.0.steps tells.0.called
 
--- what is held meanwhile
+-- the pairs that a store holds stay while its call waits
 pub busy-pairs : (waits : Pending) (pairs : List (ℕ × ℕ)) → pairs_after waits stored.Busy pairs ≡ pairs
 busy-pairs pending.Nothing pairs = refl
 busy-pairs (pending.Pair key value) pairs = refl

@@ -44,7 +44,7 @@ one-idle h rest passes p of idle none with_it callers =
       only,
     )
 
--- where there is one caller, all events are its own
+-- all events are the caller's own where there is only one
 own-all :
     (events : List Event) → ((before rest : List Event) (event : Event) → events ≡ before ++ event ∷ rest → caller_of event < 1)
     → own 0 events ≡ events

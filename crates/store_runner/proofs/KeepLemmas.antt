@@ -50,7 +50,7 @@ store-keeps h s pairs words ready list records =
       others = exactly.1;
     }
 
--- what is owned elsewhere is the same
+-- blocks spell the same where the same is owned at every place
 node-same : (owned now : ℕ → Option PoolBlock) (o : Option Slot) → ((place : ℕ) → now place ≡ owned place) → node_in now o ≡ node_in owned o
 node-same owned now None same = refl
 node-same owned now (Some (Node b)) same = ap node_at (same b.place)

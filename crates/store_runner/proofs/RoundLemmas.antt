@@ -19,7 +19,7 @@ use Rattle.store_runner.specs.Scripts.{IsBehind, latest, list_after, values_of}
 use Rattle.store_runner.proofs.CallLemmas.{Frees}
 use Rattle.store_runner.proofs.ScriptLemmas.{latest-without}
 
--- a list goes on to this one, and all records stay
+-- the store's list has changed so; and all its records stay
 abbrev Lists : Store → Store → (List (ℕ × ℕ) → List (ℕ × ℕ)) → Type 0
 Lists s t change = (pairs : List (ℕ × ℕ)) → HasList s pairs → HasList t (change pairs)
 
@@ -47,7 +47,7 @@ round-behind h rounds s t u behind out kept frees ready front stay counts =
       freed = omega (arith, counts.freed_is, freed.1.freed_is, behind.freed, less);
     })
 
--- so it is by whatever number is that of the rounds
+-- the store stands behind one round more, by whatever number is that of the rounds
 pub round-at :
     (h : Heap) (rounds n : ℕ) (s t u : Store) → n ≡ rounds → IsBehind h rounds s → Lists s t (without_first ((n + 1) % 7)) → Records s t
     → ((pairs : List (ℕ × ℕ)) → HasList s pairs → Frees s t ((n + 1) % 7) pairs) → IsReady h u
@@ -56,7 +56,7 @@ round-at h rounds n s t u is behind out kept frees ready front stay counts =
     subst (λ k. IsBehind h (k + 1) u) is
     (round-behind h n s t u (subst (λ k. IsBehind h k s) (sym is) behind) out kept frees ready front stay counts)
 
--- before the first round
+-- a new store stands before the first round
 pub none-behind :
     (h : Heap) (p : Pass) (s : Store) → IsFresh h p → p.errand.caller ≡ 0 → IsReady h s → HasList s [] → HasRecords s [] → s.pass ≡ p
     → IsBehind h 0 s
@@ -75,7 +75,7 @@ none-behind h p s fresh caller ready list records same =
 one-list : (s : Store) (pairs others : List (ℕ × ℕ)) → HasList s pairs → HasList s others → pairs ≡ others
 one-list s pairs others has too = leads-one (nodes_at (owned_in s.pass) s.slots.items) s.head pairs others has.0 too.0
 
--- behind the last one: the list is read, its values are noted, and both are read back
+-- the script has run, behind its last round: the list is read, its values are noted, and both are read back
 pub script-ran :
     (h : Heap) (rounds : ℕ) (s t u : Store) (listed : List (ℕ × ℕ)) (values : List ℕ) (script : Script) → IsBehind h rounds s → HasList s listed
     → values ≡ values_of listed → Rests h s.pass t.pass → Lists s t (λ pairs. pairs) → Lists t u (λ pairs. pairs) → HasRecords u (values ∷ [])

@@ -9,7 +9,7 @@ apart : (n d : ℕ) → 0 < d → d < 7 → n % 7 ≢ (n + d) % 7
 apart n d some few same =
     omega (arith, div-add-mod n 7, div-add-mod (n + d) 7, same, some, few)
 
--- of the last rounds, the one that is seven before this one is the last of the list, and it alone has this key
+-- the round that is seven before this one is the last of the latest rounds, and it alone has this key
 pub latest-without :
     (a d many : ℕ) → 0 < d → d + suc many ≡ 8 → without_first ((a + d) % 7) (latest a (suc many)) ≡ latest a many
 latest-without zero d zero some sum = refl

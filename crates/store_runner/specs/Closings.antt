@@ -14,7 +14,7 @@ use Rattle.store_runner.specs.Scripts.{list_after, values_of}
 abbrev pub store_heap : Geometry
 store_heap = record { frames = 64; heaps = 1; units = 0; callers = 1; turn_limit = MAX_TURNS }
 
--- so many rounds were run on such a heap: by the pool of its history its caller's blocks spell the list and the record of its values, and no other block is live; and it was given a block for each round and for the record, and has freed all but those
+-- the heap of a script of so many rounds: its caller's blocks spell the list and the record of its values, by the pool of its history, and no other block is live; the caller was given a block for each round and for the record, and has freed all but those
 pub record IsStored (rounds : ℕ) (c : ClosedFields) : Type 0 where
   pub heap : c.geometry ≡ store_heap
   pub rests : IsResting c

@@ -5,7 +5,7 @@ use Rattle.typed_store.specs.declared.store.Stored.{Stored}
 use Rattle.typed_store.specs.declared.store.Stored.TheVariants.{Done}
 use Rattle.typed_store.specs.Passings.{freed_in, given_in}
 
--- since it stood as p the caller was given so many blocks, and freed so many
+-- a caller was given so many blocks, and freed so many, since its pass stood as p
 pub record CountsBlocks (given freed : ℕ) (p q : Pass) : Type 0 where
   pub caller : q.errand.caller ≡ p.errand.caller
   pub given_is : given_in q ≡ given_in p + given

@@ -22,6 +22,6 @@ text_of rounds pairs words =
     ++ line (codes "record" ∷ decimal (length words) ∷ codes "sum" ∷ decimal (sum words % 2 ^ 64) ∷ [])
     ++ line (codes "live" ∷ decimal (length pairs + 1) ∷ codes "words" ∷ decimal (words_with (length pairs)) ∷ [])
 
--- the text of so many rounds
+-- the text of a script of so many rounds
 abbrev pub store_text : ℕ → List ℕ
 store_text rounds = text_of rounds (list_after rounds) (values_of (list_after rounds))

@@ -18,6 +18,6 @@ pub record Waits (h : Heap) (s : Store) (pending : Pending) (words : List ℕ) :
 abbrev pub IsTwin : Heap → Twin → Type 0
 IsTwin h twin = Waits h twin.store twin.waits twin.words.items
 
--- the other caller has these blocks in its hand
+-- the other caller of the heap has its blocks in its hand
 abbrev pub IsRival : Heap → Rival → Type 0
 IsRival h rival = IsHand h rival.pass rival.blocks.items

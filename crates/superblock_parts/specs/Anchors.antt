@@ -44,7 +44,7 @@ returned more a = record { avail = a.avail; count = (a.count + more) % 2 ^ COUNT
 abbrev pub is_last : ℕ → AnchorFields → Bool
 is_last class a = a.count + 1 == block_count_of class
 
--- the state after a push that doesn't
+-- the state after a push that does not make the superblock empty
 abbrev pub pushed_state : AnchorState → AnchorState
 pushed_state Active = Active
 pushed_state Full = Partial

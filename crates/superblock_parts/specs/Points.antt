@@ -34,7 +34,7 @@ use Rattle.heap_geometry.specs.Geometry.{IsWithin}
 use Rattle.packed_words.specs.declared.widths.TheConstants.{CREDIT_BITS}
 use Rattle.word_table.specs.declared.limits.TheConstants.{MOST_CREDITS}
 
--- for whom the point is
+-- the seat that a point of a superblock is for
 abbrev pub seat_of_block : BlockPoint → SeatFields
 seat_of_block (LoadActive s) = s
 seat_of_block (TakeCredit s d credits) = s
@@ -57,7 +57,7 @@ seat_of_block (LinkBlock at i) = at.seat
 seat_of_block (StoreInfo at) = at.seat
 seat_of_block (StoreAnchor at) = at.seat
 
--- for whom the exit is
+-- the seat that an exit from a superblock is for
 abbrev pub seat_of_block_exit : BlockExit → SeatFields
 seat_of_block_exit (WantsPartial s) = s
 seat_of_block_exit (Returned at i) = at.seat
@@ -99,33 +99,33 @@ plan_block_of (LinkBlock at i) = Store (block_name at i) (new_link at.seat.class
 plan_block_of (StoreInfo at) = Store (name.Info at.desc) (info_word (info_at at))
 plan_block_of (StoreAnchor at) = Store (name.Anchor at.desc) (anchor_word (new_anchor at.seat.class))
 
--- where an active word leads; the point stays where the heap has no such descriptor
+-- the point or exit after an active word was read; the point stays where the heap has no such descriptor
 abbrev pub after_active : SeatFields → Option ActiveWord → Onward BlockPoint BlockExit
 after_active s None = Stays (LoadActive s)
 after_active s (Some Null) = Leaves (WantsPartial s)
 after_active s (Some (Held d credits)) =
     Stays (if nat_lt d (descriptor_count s.geometry) then TakeCredit s d credits else LoadActive s)
 
--- where a descriptor's word leads
+-- the point after a descriptor's word was read
 abbrev pub after_info : SeatFields → ℕ → Share → Option InfoFields → BlockPoint
 after_info s d share None = LoadInfo s d share
 after_info s d share (Some info) = LoadAnchor (record { seat = s; desc = d; frame = info.frame }) share
 
--- where an anchor leads that is read for a pop
+-- the point after an anchor was read for a pop
 abbrev pub after_anchor : Site → Share → Option AnchorFields → BlockPoint
 after_anchor at share None = LoadAnchor at share
 after_anchor at share (Some a) = LoadLink at share a
 
--- where a pop leads
+-- the point after a pop
 abbrev pub after_pop : Site → ℕ → ℕ → BlockPoint
 after_pop at i more = if nat_lt 0 more then InstallCredits at i more else StorePrefix at i
 
--- where an anchor leads that is read for a return
+-- the point after an anchor was read for a return
 abbrev pub after_return_anchor : Site → ℕ → ℕ → Option AnchorFields → BlockPoint
 after_return_anchor at i more None = LoadReturn at i more
 after_return_anchor at i more (Some a) = ReturnCredits at i more a
 
--- where the prefix word of a freed block leads
+-- the point after the prefix word of a freed block was read
 abbrev pub after_prefix : SeatFields → ℕ → ℕ → Option Prefix → BlockPoint
 after_prefix s frame i None = LoadPrefix s frame i
 after_prefix s frame i (Some (Large units)) = LoadPrefix s frame i
@@ -134,13 +134,13 @@ after_prefix s frame i (Some (Small d)) =
     then LoadPushAnchor (record { seat = s; desc = d; frame = frame }) i false
     else LoadPrefix s frame i
 
--- where an anchor leads that is read for a push
+-- the point after an anchor was read for a push
 abbrev pub after_push_anchor : Site → ℕ → Bool → Option AnchorFields → BlockPoint
 after_push_anchor at i stored None = LoadPushAnchor at i stored
 after_push_anchor at i stored (Some a) =
     if is_last at.seat.class a then StoreGuard at i a else StoreLink at i a stored 0
 
--- where the word of a guarded descriptor leads
+-- the point after the word of a guarded descriptor was read
 abbrev pub after_owner : Site → ℕ → AnchorFields → Option InfoFields → BlockPoint
 after_owner at i a None = LoadOwner at i a
 after_owner at i a (Some info) = StoreLink at i a true info.heap
@@ -156,11 +156,11 @@ after_push_to at stored state.Empty = Pushed at.seat stored
 abbrev pub after_push : Site → AnchorFields → Bool → ℕ → BlockExit
 after_push at a stored heap = if is_last at.seat.class a then BecameEmpty at heap else after_push_to at stored a.state
 
--- where the link of a new superblock's block leads
+-- the point after a block of a new superblock was linked
 abbrev pub after_link : Site → ℕ → BlockPoint
 after_link at i = if nat_lt (i + 1) (block_count_of at.seat.class) then LinkBlock at (i + 1) else StoreInfo at
 
--- where a step leads in which the action found this
+-- the point or exit after a step at a point of a superblock, by what its action found
 abbrev pub settle_block_of : BlockPoint → Found → Onward BlockPoint BlockExit
 settle_block_of (LoadActive s) x = after_active s (active_of x.value)
 settle_block_of (TakeCredit s d credits) x =
@@ -211,7 +211,7 @@ pub record IsPop (g : Geometry) (caller : ℕ) (at : Site) (share : Share) (a : 
   pub paid : IsShare share
   pub anchor : IsAnchorOf at.seat.class a
 
--- a block that is freed, the anchor that was read, and the heap; the hazard word is stored before the last one
+-- a block that is freed, the anchor that was read, and the heap; a push that empties the superblock has its hazard word stored
 pub record IsPush (g : Geometry) (caller : ℕ) (at : Site) (i : ℕ) (a : AnchorFields) (stored : Bool) (heap : ℕ) : Type 0 where
   pub block : IsBlockOf g caller at i
   pub anchor : IsAnchorOf at.seat.class a
@@ -248,7 +248,7 @@ FitsBlock g caller (LinkBlock at i) = IsBlockOf g caller at i
 FitsBlock g caller (StoreInfo at) = IsSiteOf g caller at
 FitsBlock g caller (StoreAnchor at) = IsSiteOf g caller at
 
--- the same of an exit
+-- the exit is of this caller of this heap, and everything that it remembers exists there
 abbrev pub FitsBlockExit : Geometry → ℕ → BlockExit → Type 0
 FitsBlockExit g caller (WantsPartial s) = IsSeatOf g caller s
 FitsBlockExit g caller (Returned at i) = IsBlockOf g caller at i

@@ -9,7 +9,7 @@ range-more f a (suc n) =
     ap (λ (rest : List ℕ). f a ++ rest) (range-more f (a + 1) n ∙ ap (λ k. flat_map f (range_with_len (a + 1) n) ++ f k) next)
     ∙ sym (append_assoc (f a) (flat_map f (range_with_len (a + 1) n)) (f (a + suc n)))
 
--- a line more, of the next number
+-- lines of numbers in a row, with one more of the next number
 pub lines-more :
     (f : ℕ → List ℕ) (n : ℕ) (so_far line all : List ℕ) → so_far ≡ flat_map f (range_with_len 0 n) → line ≡ f n → all ≡ so_far ++ line
     → all ≡ flat_map f (range_with_len 0 (n + 1))

@@ -20,7 +20,7 @@ reported-answers false = (0, lit< tt, refl)
 pub refused-answers : (input : Bool) → input ≡ true → IsAnswer input REFUSED
 refused-answers input is = rw is (1, lit< tt, refl)
 
--- so is want of memory, and an input that is too long
+-- want of memory is an answer to each command, and an input that is too long to one with an input
 pub memory-answers : (input : Bool) → IsAnswer input OUT_OF_MEMORY
 memory-answers true = (3, lit< tt, refl)
 memory-answers false = (1, lit< tt, refl)

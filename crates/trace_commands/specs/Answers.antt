@@ -74,7 +74,7 @@ counted_text trace counts outcomes closing = report_of trace outcomes (history_o
 abbrev pub make_text : Workload → List (List Outcome) → Closing → List ℕ
 make_text workload outcomes closing = summary_of workload outcomes (history_of closing)
 
--- what they tell of a roomy trace: the machine's steps and the heap's census are still those of the run
+-- the texts of a roomy trace, lane by lane: the machine's steps and the heap's census are still those of the run
 abbrev pub serial_replay : Trace → Closing → List ℕ
 serial_replay trace closing = serial_report_of trace
 

@@ -28,7 +28,7 @@ census_text census =
     flat_map (line_of census) (range_with_len 0 CLASSES)
     ++ line (codes "free" ∷ codes "frames" ∷ decimal census.free_frames ∷ codes "units" ∷ decimal census.free_units ∷ [])
 
--- this is the census of the heap that threads shared
+-- the census is that of the heap that threads shared
 abbrev pub IsCensusOf : Option Closing → Census → Type 0
 IsCensusOf (Some (Ran closed)) census = IsCensus closed census
 IsCensusOf (Some (Piped run)) census = ⊥

@@ -25,7 +25,7 @@ geometry_of (Stepped core) = core.geometry
 geometry_of (Ran closed) = closed.geometry
 geometry_of (Piped run) = run.closed.geometry
 
--- its history
+-- the history of the heap
 abbrev pub history_of : Closing → List Event
 history_of (Plain pool) = pool.events
 history_of (Stepped core) = core.events
@@ -36,14 +36,14 @@ history_of (Piped run) = run.closed.events
 abbrev pub lost_by_threads : ClosedFields → ℕ
 lost_by_threads closed = callers_sum closed.geometry lost_by (errand_at closed.errands)
 
--- the turns that a caller has taken in it; in a pool none takes any
+-- the turns that a caller has taken in the heap; in a pool none takes any
 abbrev pub turns_of : Closing → ℕ → ℕ
 turns_of (Plain pool) caller = 0
 turns_of (Stepped core) caller = (errand_at core.errands caller).turns
 turns_of (Ran closed) caller = (errand_at closed.errands caller).turns
 turns_of (Piped run) caller = (errand_at run.closed.errands caller).turns
 
--- the exchanges that its callers lost, as a whole number
+-- the exchanges that the heap's callers lost, as a whole number
 abbrev pub lost_of : Closing → ℕ
 lost_of (Plain pool) = 0
 lost_of (Stepped core) = lost_by_all core
@@ -66,7 +66,7 @@ IsSharedIn trace (Stepped core) outcomes = ⊥
 IsSharedIn trace (Ran closed) outcomes = IsShared trace closed outcomes
 IsSharedIn trace (Piped run) outcomes = ⊥
 
--- so they did, but each lane through a cache of its own of this depth, which served so many of its allocations and was emptied at the lane's end
+-- threads ran the lanes of the trace over one heap, each through a cache of this depth, emptied at its end, which served so many allocations
 abbrev pub IsSharedThroughIn : Trace → ℕ → List ℕ → Closing → List (List Outcome) → Type 0
 IsSharedThroughIn trace depth hits (Plain pool) outcomes = ⊥
 IsSharedThroughIn trace depth hits (Stepped core) outcomes = ⊥
@@ -88,7 +88,7 @@ steps_line core =
     ∷ decimal (cleared_by_all core) ∷ []
     )
 
--- a pool makes no steps, and those of threads are not counted
+-- the line of a machine's steps; a pool makes no steps, and those of threads are not counted
 abbrev pub steps_of : Closing → List ℕ
 steps_of (Plain pool) = []
 steps_of (Stepped core) = steps_line core

@@ -9,7 +9,7 @@ use Rattle.command_line.specs.Command.{IsCommandLine, has_input}
 use Rattle.command_line.specs.Input.{TakesAll, TakesFirst, TakesUntil}
 use Rattle.command_line.specs.Output.{WritesAll, WritesSome}
 
--- the program ends so: the words are no command, an edge failed, or it gave its answer
+-- the program ends with this status: the words are no command, an edge failed, or it gave its answer
 abbrev pub IsStatus : ℕ → Type 0
 IsStatus status = Contains (REPORTED ∷ USAGE ∷ REFUSED ∷ READ_FAULT ∷ WRITE_FAULT ∷ OUT_OF_MEMORY ∷ TOO_MANY ∷ []) status
 
@@ -24,7 +24,7 @@ abbrev pub AsksInput : List (List ℕ) → Type 0
 AsksInput words = (command : Command) × IsCommandLine command words × (has_input command ≡ true)
 
 module _ {S : Type 0} (left : S → Option (List ℕ)) (gave : S → ℕ → Result ℕ Failed → S → Type 0) (source_before source_after : S) where
-  -- where memory was not found, the source was not read, or not to its end, or to its end
+  -- what was read where memory was not found: nothing of the source, a part of it, or all
   abbrev pub ReadsInVain : Type 0
   ReadsInVain =
       ((counts : List ℕ) × TakesFirst gave MAX_INPUT source_before counts source_after)
@@ -51,7 +51,7 @@ module _
       pub answers : IsText command bytes closed text
       pub written : WritesAll holds wrote sink_before sink_after text
 
-    -- the same, but less than the text was written
+    -- the words are a command, what it takes was taken, and less than such a text of that was written
     pub record WritesPart : Type 0 where
       pub command : Command
       pub asked : IsCommandLine command words

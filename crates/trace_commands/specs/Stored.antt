@@ -6,6 +6,6 @@ use Rattle.store_runner.specs.Texts.{store_text}
 use Rattle.trace_commands.specs.declared.closing.Closing.{Closing}
 use Rattle.trace_commands.specs.declared.closing.Closing.TheVariants.{Ran}
 
--- so many rounds were run on a heap of threads, whose pool spells what they leave; and the text is the one of so many rounds
+-- a script of so many rounds was run on a heap of threads, whose pool spells what the rounds leave; and the text is that script's
 abbrev pub IsStoreTold : ℕ → Option Closing → List ℕ → Type 0
 IsStoreTold rounds closed text = (heap : ClosedFields) × (closed ≡ Some (Ran heap)) × IsStored rounds heap × (text ≡ store_text rounds)

@@ -49,7 +49,7 @@ OnScriptWith operations old new more =
     (calls : List Call) → IsOnScript operations old.registers old.results old.at calls
     → IsOnScript operations new.registers new.results new.at (calls ++ more)
 
--- less is left of it
+-- less is left of the lane's script
 abbrev pub Falls : List Op → Progressed → Progressed → Type 0
 Falls operations old new = script_left operations new.results new.at < script_left operations old.results old.at
 
@@ -61,7 +61,7 @@ stays-left : (operations : List Op) (old new : Progressed) → Stays old new →
 stays-left operations old new stays =
     ap (λ results. script_left operations results new.at) stays.0 ∙ ap (λ at. script_left operations old.results at) stays.1
 
--- nothing happens
+-- an advance in which nothing happens
 pub advance-none : (s : CoreFields) (caller : ℕ) (operations : List Op) (p : Progressed) → HasAdvanced s s caller operations p p false
 advance-none s caller operations p =
     record {
@@ -96,7 +96,7 @@ advance-begins before after caller call operations old new move script falls =
       goes_on = inl falls;
     }
 
--- the step of the call under way, and nothing begins behind it
+-- an advance by the step of the call under way, behind which nothing begins
 pub advance-steps :
     (before after : CoreFields) (caller : ℕ) (operations : List Op) (old new : Progressed) → MovesCore before (steps caller) after
     → OnScriptWith operations old new [] → Falls operations old new ⊎ Stays old new
@@ -114,7 +114,7 @@ advance-steps before after caller operations old new move script goes =
       ];
     }
 
--- the step, and a call that begins behind it: a take again where the operation stays where it is, and then the step added no event
+-- a take that begins again, where no event of the caller was added; and an advance by a step and a call behind it
 abbrev pub IsTakenAgain : ℕ → Call → CoreFields → CoreFields → Type 0
 IsTakenAgain caller call before after = (shelf : ℕ) × (call ≡ take_call shelf) × (own caller after.events ≡ own caller before.events)
 
@@ -154,7 +154,7 @@ no-step caller seen now moves none goes =
       | inr empty ↦ empty
     ]
 
--- where no move was made nothing changed
+-- an advance stays in its call, too, when no move is put before it
 stays-on :
     (before middle after : CoreFields) (caller : ℕ) (moves more : List Move) → moves ≡ [] → MovesLead before moves middle
     → StaysInCall caller middle.events after.events more ⊎ (more ≡ [])
@@ -165,7 +165,7 @@ stays-on before middle after caller moves more none leads goes =
     subst (λ ms. StaysInCall caller before.events after.events ms ⊎ (ms ≡ [])) (sym whole)
     (subst (λ (s : CoreFields). StaysInCall caller s.events after.events more ⊎ (more ≡ [])) same goes)
 
--- what happens without a step, and then more
+-- an advance without a step, and then another advance
 pub advance-then :
     (before middle after : CoreFields) (caller : ℕ) (operations : List Op) (old between new : Progressed) (made : Bool)
     → HasAdvanced before middle caller operations old between false

@@ -33,6 +33,7 @@ use Rattle.errand_steps.specs.Nexts.{next_of}
 use Rattle.errand_steps.specs.Offers.{offered_at}
 use Rattle.errand_steps.specs.Points.{is_idle}
 use Rattle.errand_steps.specs.Steps.{found_at, event_at, name_at, with_event}
+use Rattle.errand_steps.specs.Told.{ended_as}
 use Rattle.errand_steps.specs.declared.next.Next.{Next}
 use Rattle.errand_steps.specs.declared.point.Point.TheVariants as point
 use Rattle.errand_steps.specs.declared.reply.Begun.TheVariants as begun
@@ -41,6 +42,9 @@ use Rattle.errand_steps.specs.declared.reply.Progress.{Progress}
 use Rattle.errand_steps.specs.declared.reply.Progress.TheVariants as progress
 use Rattle.errand_steps.specs.declared.reply.Reply.{Reply}
 use Rattle.errand_steps.specs.declared.reply.Reply.TheVariants as reply
+use Rattle.errand_steps.specs.declared.told.Ending.{Ending}
+use Rattle.errand_steps.specs.declared.told.Ending.TheVariants as ending
+use Rattle.errand_steps.specs.declared.told.Stepped.TheVariants as stepped
 use Rattle.errand_steps.proofs.AnswerLemmas.{done-told}
 use Rattle.errand_steps.proofs.EventLemmas.{event_own}
 use Rattle.errand_steps.proofs.SpentLemmas.{ends-spent, begins-at_limit}
@@ -57,9 +61,7 @@ use Rattle.sound_state.proofs.events.OwnEvents.{own-with_event}
 use Rattle.lane_outcomes.specs.Rows.{IsWord, IsFullShelf}
 use Rattle.step_machine.specs.Cores.{OwnsAfter}
 use Rattle.step_machine.specs.Moments.{IsMoment, IsServed}
-use Rattle.lane_engine.specs.declared.stepped.Stepped.{Stepped}
-use Rattle.lane_engine.specs.declared.stepped.Stepped.TheVariants as stepped
-use Rattle.lane_engine.specs.Told.{HasStepped, Tells}
+use Rattle.lane_engine.specs.Told.{HasStepped}
 
 -- what every step does: more events are seen, of which the caller's own are these; its number and its heap stay, what it lost does not fall, and its turns stay where they are all begun
 pub record HasMovedOn (e f : ErrandFields) (before after more : List Event) : Type 0 where
@@ -72,14 +74,14 @@ pub record HasMovedOn (e f : ErrandFields) (before after more : List Event) : Ty
   pub lost : e.lost ≤ f.lost
   pub at_limit : e.turns ≡ e.geometry.turn_limit → f.turns ≡ e.geometry.turn_limit
 
--- the call goes on
+-- the call under way goes on: more events are seen, and its caller is busy with it still
 pub record CallGoesOn (e f : ErrandFields) (call : Call) (before after added : List Event) : Type 0 where
   pub more : List Event
   pub moved_on : HasMovedOn e f before after more
   pub busy : IsBusy f
   pub under_way : IsUnderWay e.caller call f.point (added ++ more)
 
--- the call has ended so
+-- the call under way has ended with this end, and its caller is idle
 pub record Ends (e f : ErrandFields) (end : Ended) (before after added : List Event) : Type 0 where
   pub more : List Event
   pub moved_on : HasMovedOn e f before after more
@@ -168,7 +170,7 @@ behind : (events : List Event) (event : Option Event) → with_event events even
 behind events None = sym (append-nil events)
 behind events (Some event) = refl
 
--- a count doesn't fall
+-- a count that is raised or stays doesn't fall
 raised-above : (rises : Bool) (n : ℕ) → n < 2 ^ 64 → n ≤ raised rises n
 raised-above true n small = omega arith
 raised-above false n small = omega arith
@@ -195,7 +197,7 @@ settled-geometry : (e : ErrandFields) (x : Found) → (settle_of e x).geometry �
 unfolding settle_of
 settled-geometry e x = refl
 
--- the events of the step
+-- a step moves its caller on, by the event of the step if it has one
 pub moved-on :
     (e f : ErrandFields) (before after : List Event) (answer : Progress) (s : IsSettled e f before after answer)
     → HasMovedOn e f before after (with_event [] (event_of e.caller e.point s.x))
@@ -220,7 +222,7 @@ moved-on e f before after answer s =
       at_limit = λ is. ap (λ (d : ErrandFields). d.turns) s.settled ∙ settled-limit e s.x is;
     }
 
--- where the step doesn't end the call, it goes on
+-- a call that the step doesn't end goes on
 pub goes-on :
     (e f : ErrandFields) (call : Call) (before after added : List Event) (answer : Progress)
     → ((r : Reply) → answer ≢ progress.Done r) → IsMoment e f before after answer → IsUnderWay e.caller call e.point added
@@ -278,7 +280,7 @@ pub answer-not_idle : (e : ErrandFields) (x : Found) → answer_of e x ≢ progr
 unfolding answer_of
 answer-not_idle e x is = told-not_idle (course_of e x) (counts_lost e.point x) (counts_cleared e.point x) is
 
--- what the answer says, in the state after the step
+-- what the answer of a call says, in the state after the step
 meant :
     (e f : ErrandFields) (before after : List Event) (r : Reply) (m : IsMoment e f before after (progress.Done r))
     → IsMeant e.geometry m.state e.caller r m.next
@@ -292,7 +294,7 @@ owned-after :
     → IsOwned m.next e.caller place need → OwnsAfter after e.caller place need
 owned-after e f before after answer m place need owned = subst (λ h. OwnsAfter h e.caller place need) m.now owned.block
 
--- where the caller stands
+-- the call under way stands where its caller does
 stands-at :
     (e f : ErrandFields) (before after added : List Event) (answer : Progress) (call : Call) (m : IsMoment e f before after answer)
     (p : LargePoint) (stands : StandsAt m.state e.caller p) → IsUnderWay e.caller call e.point added
@@ -408,277 +410,91 @@ ends-spent_call e f before after added words m way =
       limit = ap (λ (d : ErrandFields). d.turns) s.settled ∙ (ends-spent e s.x (sym s.answers)).1;
     }
 
--- which call ends doesn't depend on the words of a shelf
-full-same : (call : Call) (x y : ℕ) → end_of call (reply.Full x) ≡ end_of call (reply.Full y)
-full-same (alloc words) x y = refl
-full-same (free place need) x y = refl
-full-same (write place need i value) x y = refl
-full-same (read place need i) x y = refl
-full-same (put place need shelf) x y = refl
-full-same (take shelf) x y = refl
+-- the caller of a step is in a call
+pub never-idle : (e f : ErrandFields) (before after : List Event) → IsMoment e f before after progress.Idle → ⊥
+never-idle e f before after m =
+    let s = settled-of e f before after progress.Idle m in
+    answer-not_idle e s.x (sym s.answers)
 
-missed-same : (call : Call) (x y z w : ℕ) → end_of call (reply.Missed x y) ≡ end_of call (reply.Missed z w)
-missed-same (alloc words) x y z w = refl
-missed-same (free place need) x y z w = refl
-missed-same (write place need i value) x y z w = refl
-missed-same (read place need i) x y z w = refl
-missed-same (put place need shelf) x y z w = refl
-missed-same (take shelf) x y z w = refl
-
--- what each answer says of each call; no other answer comes
+-- the ending that each call has, and no other one
 module _ {B : Type 0} (place_of : B → ℕ) (block_need : B → Need) (e f : ErrandFields) (before after added : List Event) where
-  abbrev pub ToldOfAlloc : ℕ → Stepped B → Type 0
-  ToldOfAlloc words stepped.More = CallGoesOn e f (alloc words) before after added
-  ToldOfAlloc words stepped.Lost = CallGoesOn e f (alloc words) before after added
-  ToldOfAlloc words stepped.Cleared = CallGoesOn e f (alloc words) before after added
-  ToldOfAlloc words (stepped.Given b) = EndsGiven e f words (place_of b) (block_need b) before after added
-  ToldOfAlloc words stepped.Refused = Ends e f (ended.alloc_refused words) before after added
-  ToldOfAlloc words stepped.Spent = EndsSpent e f words before after added
+  abbrev pub ToldOfAlloc : ℕ → Ending B → Type 0
+  ToldOfAlloc words (ending.Given b) = EndsGiven e f words (place_of b) (block_need b) before after added
+  ToldOfAlloc words ending.Refused = Ends e f (ended.alloc_refused words) before after added
+  ToldOfAlloc words ending.Spent = EndsSpent e f words before after added
   ToldOfAlloc words told = ⊥
 
-  abbrev pub ToldOfFree : ℕ → Need → Stepped B → Type 0
-  ToldOfFree place need stepped.More = CallGoesOn e f (free place need) before after added
-  ToldOfFree place need stepped.Lost = CallGoesOn e f (free place need) before after added
-  ToldOfFree place need stepped.Cleared = CallGoesOn e f (free place need) before after added
-  ToldOfFree place need stepped.Freed = Ends e f (ended.freed place) before after added
+  abbrev pub ToldOfFree : ℕ → Need → Ending B → Type 0
+  ToldOfFree place need ending.Freed = Ends e f (ended.freed place) before after added
   ToldOfFree place need told = ⊥
 
-  abbrev pub ToldOfWrite : ℕ → Need → ℕ → ℕ → Stepped B → Type 0
-  ToldOfWrite place need i v stepped.More = CallGoesOn e f (write place need i v) before after added
-  ToldOfWrite place need i v stepped.Lost = CallGoesOn e f (write place need i v) before after added
-  ToldOfWrite place need i v stepped.Cleared = CallGoesOn e f (write place need i v) before after added
-  ToldOfWrite place need i v stepped.Wrote = Ends e f (ended.wrote place i v) before after added
+  abbrev pub ToldOfWrite : ℕ → Need → ℕ → ℕ → Ending B → Type 0
+  ToldOfWrite place need i v ending.Wrote = Ends e f (ended.wrote place i v) before after added
   ToldOfWrite place need i v told = ⊥
 
-  abbrev pub ToldOfRead : ℕ → Need → ℕ → Stepped B → Type 0
-  ToldOfRead place need i stepped.More = CallGoesOn e f (read place need i) before after added
-  ToldOfRead place need i stepped.Lost = CallGoesOn e f (read place need i) before after added
-  ToldOfRead place need i stepped.Cleared = CallGoesOn e f (read place need i) before after added
-  ToldOfRead place need i (stepped.Word word) = EndsRead e f place i word before after added
+  abbrev pub ToldOfRead : ℕ → Need → ℕ → Ending B → Type 0
+  ToldOfRead place need i (ending.Word word) = EndsRead e f place i word before after added
   ToldOfRead place need i told = ⊥
 
-  abbrev pub ToldOfPut : ℕ → Need → ℕ → Stepped B → Type 0
-  ToldOfPut place need shelf stepped.More = CallGoesOn e f (put place need shelf) before after added
-  ToldOfPut place need shelf stepped.Lost = CallGoesOn e f (put place need shelf) before after added
-  ToldOfPut place need shelf stepped.Cleared = CallGoesOn e f (put place need shelf) before after added
-  ToldOfPut place need shelf stepped.Put = Ends e f (ended.put_done place shelf) before after added
-  ToldOfPut place need shelf (stepped.Full b) = EndsFull e f place need shelf (place_of b) (block_need b) before after added
+  abbrev pub ToldOfPut : ℕ → Need → ℕ → Ending B → Type 0
+  ToldOfPut place need shelf ending.Put = Ends e f (ended.put_done place shelf) before after added
+  ToldOfPut place need shelf (ending.Full b found) = EndsFull e f place need shelf (place_of b) (block_need b) before after added
   ToldOfPut place need shelf told = ⊥
 
-  abbrev pub ToldOfTake : ℕ → Stepped B → Type 0
-  ToldOfTake shelf stepped.More = CallGoesOn e f (take shelf) before after added
-  ToldOfTake shelf stepped.Lost = CallGoesOn e f (take shelf) before after added
-  ToldOfTake shelf stepped.Cleared = CallGoesOn e f (take shelf) before after added
-  ToldOfTake shelf (stepped.Got b) = EndsGot e f shelf (place_of b) (block_need b) before after added
-  ToldOfTake shelf stepped.Empty = Ends e f (ended.take_empty shelf) before after added
-  ToldOfTake shelf stepped.Missed = Ends e f ended.take_missed before after added
+  abbrev pub ToldOfTake : ℕ → Ending B → Type 0
+  ToldOfTake shelf (ending.Got b) = EndsGot e f shelf (place_of b) (block_need b) before after added
+  ToldOfTake shelf ending.Empty = Ends e f (ended.take_empty shelf) before after added
+  ToldOfTake shelf (ending.Missed expected found) = Ends e f ended.take_missed before after added
   ToldOfTake shelf told = ⊥
 
-  -- what the step came to, by what is told
-  abbrev Came : Option Offer → Progress → Stepped B → Type 0
-  Came offer answer stepped.Idle = answer ≡ progress.Idle
-  Came offer answer stepped.More = answer ≡ progress.More
-  Came offer answer stepped.Lost = answer ≡ progress.Lost
-  Came offer answer stepped.Cleared = answer ≡ progress.Cleared
-  Came offer answer (stepped.Given b) = answer ≡ progress.Done (reply.Given (place_of b) (block_need b))
-  Came offer answer stepped.Refused = answer ≡ progress.Done reply.Refused
-  Came offer answer stepped.Spent = answer ≡ progress.Done reply.Spent
-  Came offer answer stepped.Freed = answer ≡ progress.Done reply.Freed
-  Came offer answer stepped.Wrote = answer ≡ progress.Done reply.Wrote
-  Came offer answer (stepped.Word word) = answer ≡ progress.Done (reply.Word word)
-  Came offer answer stepped.Put = answer ≡ progress.Done reply.Put
-  Came offer answer (stepped.Full b) =
-      (found : ℕ) × (answer ≡ progress.Done (reply.Full found)) × (offer ≡ Some (record { place = place_of b; need = block_need b }))
-  Came offer answer (stepped.Got b) = answer ≡ progress.Done (reply.Got (place_of b) (block_need b))
-  Came offer answer stepped.Empty = answer ≡ progress.Done reply.Empty
-  Came offer answer stepped.Missed = (saw : ℕ) × (found : ℕ) × (answer ≡ progress.Done (reply.Missed saw found))
-
-  came : (offer : Option Offer) (answer : Progress) (told : Stepped B) → Tells place_of block_need offer answer told → Came offer answer told
-  came offer progress.Idle stepped.Idle tells = refl
-  came offer progress.More stepped.More tells = refl
-  came offer progress.Lost stepped.Lost tells = refl
-  came offer progress.Cleared stepped.Cleared tells = refl
-  came offer (progress.Done (reply.Given place need)) (stepped.Given b) tells =
-      ap (λ p. progress.Done (reply.Given p need)) (sym tells.0) ∙ ap (λ n. progress.Done (reply.Given (place_of b) n)) (sym tells.1)
-  came offer (progress.Done reply.Refused) stepped.Refused tells = refl
-  came offer (progress.Done reply.Spent) stepped.Spent tells = refl
-  came offer (progress.Done reply.Freed) stepped.Freed tells = refl
-  came offer (progress.Done reply.Wrote) stepped.Wrote tells = refl
-  came offer (progress.Done (reply.Word word)) (stepped.Word told) tells = ap (λ w. progress.Done (reply.Word w)) (sym tells)
-  came offer (progress.Done reply.Put) stepped.Put tells = refl
-  came offer (progress.Done (reply.Full found)) (stepped.Full b) tells = (found, refl, tells)
-  came offer (progress.Done (reply.Got place need)) (stepped.Got b) tells =
-      ap (λ p. progress.Done (reply.Got p need)) (sym tells.0) ∙ ap (λ n. progress.Done (reply.Got (place_of b) n)) (sym tells.1)
-  came offer (progress.Done reply.Empty) stepped.Empty tells = refl
-  came offer (progress.Done (reply.Missed saw found)) stepped.Missed tells = (saw, found, refl)
-  came offer answer told tells = absurd tells
-
-  -- an answer like the one that is told, up to the numbers of a shelf's words
-  abbrev like : Stepped B → Option Reply
-  like (stepped.Given b) = Some (reply.Given (place_of b) (block_need b))
-  like stepped.Refused = Some reply.Refused
-  like stepped.Spent = Some reply.Spent
-  like stepped.Freed = Some reply.Freed
-  like stepped.Wrote = Some reply.Wrote
-  like (stepped.Word word) = Some (reply.Word word)
-  like stepped.Put = Some reply.Put
-  like (stepped.Full b) = Some (reply.Full 0)
-  like (stepped.Got b) = Some (reply.Got (place_of b) (block_need b))
-  like stepped.Empty = Some reply.Empty
-  like stepped.Missed = Some (reply.Missed 0 0)
-  like told = None
-
-  -- the moment of an answer
-  done : (told : Stepped B) (r : Reply) (h : HasStepped place_of block_need e f before after told) → h.answer ≡ progress.Done r
-      → IsMoment e f before after (progress.Done r)
-  done told r h is = subst (IsMoment e f before after) is h.moment
+  abbrev Done : Ending B → Type 0
+  Done told = HasStepped place_of block_need e f before after (stepped.Done told)
 
   -- no call ends with an answer of another one
   not-so :
-      (call : Call) (told : Stepped B) (r : Reply) → like told ≡ Some r → end_of call r ≡ None → HasStepped place_of block_need e f before after told
-      → IsUnderWay e.caller call e.point added → ⊥
-  not-so call stepped.Idle r is none h way = absurd (let both : None ≡ Some r = is in cc)
-  not-so call stepped.More r is none h way = absurd (let both : None ≡ Some r = is in cc)
-  not-so call stepped.Lost r is none h way = absurd (let both : None ≡ Some r = is in cc)
-  not-so call stepped.Cleared r is none h way = absurd (let both : None ≡ Some r = is in cc)
-  not-so call (stepped.Given b) r is none h way =
-      ends-not e f call before after added r none (done (stepped.Given b) r h (let is_told = came (offered_at e.point) h.answer (stepped.Given b) h.tells in cc)) way
-  not-so call stepped.Refused r is none h way =
-      ends-not e f call before after added r none (done stepped.Refused r h (let is_told = came (offered_at e.point) h.answer stepped.Refused h.tells in cc)) way
-  not-so call stepped.Spent r is none h way =
-      ends-not e f call before after added r none (done stepped.Spent r h (let is_told = came (offered_at e.point) h.answer stepped.Spent h.tells in cc)) way
-  not-so call stepped.Freed r is none h way =
-      ends-not e f call before after added r none (done stepped.Freed r h (let is_told = came (offered_at e.point) h.answer stepped.Freed h.tells in cc)) way
-  not-so call stepped.Wrote r is none h way =
-      ends-not e f call before after added r none (done stepped.Wrote r h (let is_told = came (offered_at e.point) h.answer stepped.Wrote h.tells in cc)) way
-  not-so call (stepped.Word word) r is none h way =
-      ends-not e f call before after added r none (done (stepped.Word word) r h (let is_told = came (offered_at e.point) h.answer (stepped.Word word) h.tells in cc)) way
-  not-so call stepped.Put r is none h way =
-      ends-not e f call before after added r none (done stepped.Put r h (let is_told = came (offered_at e.point) h.answer stepped.Put h.tells in cc)) way
-  not-so call (stepped.Got b) r is none h way =
-      ends-not e f call before after added r none (done (stepped.Got b) r h (let is_told = came (offered_at e.point) h.answer (stepped.Got b) h.tells in cc)) way
-  not-so call stepped.Empty r is none h way =
-      ends-not e f call before after added r none (done stepped.Empty r h (let is_told = came (offered_at e.point) h.answer stepped.Empty h.tells in cc)) way
-  not-so call (stepped.Full b) r is none h way =
-      let is_told = came (offered_at e.point) h.answer (stepped.Full b) h.tells in
-      ends-not e f call before after added (reply.Full is_told.0)
-      (full-same call is_told.0 0 ∙ ap (end_of call) (let same : reply.Full 0 ≡ r = cc in same) ∙ none) (done (stepped.Full b) _ h is_told.1) way
-  not-so call stepped.Missed r is none h way =
-      let is_told = came (offered_at e.point) h.answer stepped.Missed h.tells in
-      ends-not e f call before after added (reply.Missed is_told.0 is_told.1)
-      (missed-same call is_told.0 is_told.1 0 0 ∙ ap (end_of call) (let same : reply.Missed 0 0 ≡ r = cc in same) ∙ none)
-      (done stepped.Missed _ h is_told.2) way
+      (call : Call) (told : Ending B) → end_of call (ended_as place_of block_need told) ≡ None → Done told → IsUnderWay e.caller call e.point added → ⊥
+  not-so call told none h way = ends-not e f call before after added (ended_as place_of block_need told) none h.moment way
 
-  -- the call goes on
-  on : (call : Call) (told : Stepped B) (h : HasStepped place_of block_need e f before after told) → ((r : Reply) → h.answer ≢ progress.Done r)
-      → IsUnderWay e.caller call e.point added → CallGoesOn e f call before after added
-  on call told h going way = goes-on e f call before after added h.answer going h.moment way
-
-  more : (call : Call) → HasStepped place_of block_need e f before after stepped.More → IsUnderWay e.caller call e.point added → CallGoesOn e f call before after added
-  more call h way =
-      on call stepped.More h
-      (λ r is. absurd (let both : progress.More ≡ progress.Done r = sym (came (offered_at e.point) h.answer stepped.More h.tells) ∙ is in cc)) way
-
-  lost : (call : Call) → HasStepped place_of block_need e f before after stepped.Lost → IsUnderWay e.caller call e.point added → CallGoesOn e f call before after added
-  lost call h way =
-      on call stepped.Lost h
-      (λ r is. absurd (let both : progress.Lost ≡ progress.Done r = sym (came (offered_at e.point) h.answer stepped.Lost h.tells) ∙ is in cc)) way
-
-  cleared :
-      (call : Call) → HasStepped place_of block_need e f before after stepped.Cleared → IsUnderWay e.caller call e.point added → CallGoesOn e f call before after added
-  cleared call h way =
-      on call stepped.Cleared h
-      (λ r is. absurd (let both : progress.Cleared ≡ progress.Done r = sym (came (offered_at e.point) h.answer stepped.Cleared h.tells) ∙ is in cc)) way
-
-  -- its caller is in a call
-  never-idle : HasStepped place_of block_need e f before after stepped.Idle → ⊥
-  never-idle h =
-      let s = settled-of e f before after h.answer h.moment in
-      answer-not_idle e s.x (sym s.answers ∙ came (offered_at e.point) h.answer stepped.Idle h.tells)
-
-  pub told-of_alloc :
-      (words : ℕ) (told : Stepped B) → HasStepped place_of block_need e f before after told → IsUnderWay e.caller (alloc words) e.point added
-      → ToldOfAlloc words told
-  told-of_alloc words stepped.Idle h way = absurd (never-idle h)
-  told-of_alloc words stepped.More h way = more (alloc words) h way
-  told-of_alloc words stepped.Lost h way = lost (alloc words) h way
-  told-of_alloc words stepped.Cleared h way = cleared (alloc words) h way
-  told-of_alloc words (stepped.Given b) h way =
-      ends-given e f before after added words (place_of b) (block_need b) (done (stepped.Given b) _ h (came (offered_at e.point) h.answer (stepped.Given b) h.tells))
-      way
-  told-of_alloc words stepped.Refused h way =
-      ends-as e f (alloc words) before after added reply.Refused (ended.alloc_refused words) refl
-      (done stepped.Refused _ h (came (offered_at e.point) h.answer stepped.Refused h.tells)) way
-  told-of_alloc words stepped.Spent h way =
-      ends-spent_call e f before after added words (done stepped.Spent _ h (came (offered_at e.point) h.answer stepped.Spent h.tells)) way
-  told-of_alloc words told h way = absurd (not-so (alloc words) told _ refl refl h way)
+  pub told-of_alloc : (words : ℕ) (told : Ending B) → Done told → IsUnderWay e.caller (alloc words) e.point added → ToldOfAlloc words told
+  told-of_alloc words (ending.Given b) h way = ends-given e f before after added words (place_of b) (block_need b) h.moment way
+  told-of_alloc words ending.Refused h way =
+      ends-as e f (alloc words) before after added reply.Refused (ended.alloc_refused words) refl h.moment way
+  told-of_alloc words ending.Spent h way = ends-spent_call e f before after added words h.moment way
+  told-of_alloc words told h way = absurd (not-so (alloc words) told refl h way)
 
   pub told-of_free :
-      (place : ℕ) (need : Need) (told : Stepped B) → HasStepped place_of block_need e f before after told
-      → IsUnderWay e.caller (free place need) e.point added → ToldOfFree place need told
-  told-of_free place need stepped.Idle h way = absurd (never-idle h)
-  told-of_free place need stepped.More h way = more (free place need) h way
-  told-of_free place need stepped.Lost h way = lost (free place need) h way
-  told-of_free place need stepped.Cleared h way = cleared (free place need) h way
-  told-of_free place need stepped.Freed h way =
-      ends-as e f (free place need) before after added reply.Freed (ended.freed place) refl
-      (done stepped.Freed _ h (came (offered_at e.point) h.answer stepped.Freed h.tells)) way
-  told-of_free place need told h way = absurd (not-so (free place need) told _ refl refl h way)
+      (place : ℕ) (need : Need) (told : Ending B) → Done told → IsUnderWay e.caller (free place need) e.point added → ToldOfFree place need told
+  told-of_free place need ending.Freed h way = ends-as e f (free place need) before after added reply.Freed (ended.freed place) refl h.moment way
+  told-of_free place need told h way = absurd (not-so (free place need) told refl h way)
 
   pub told-of_write :
-      (place : ℕ) (need : Need) (i v : ℕ) (told : Stepped B) → HasStepped place_of block_need e f before after told
-      → IsUnderWay e.caller (write place need i v) e.point added → ToldOfWrite place need i v told
-  told-of_write place need i v stepped.Idle h way = absurd (never-idle h)
-  told-of_write place need i v stepped.More h way = more (write place need i v) h way
-  told-of_write place need i v stepped.Lost h way = lost (write place need i v) h way
-  told-of_write place need i v stepped.Cleared h way = cleared (write place need i v) h way
-  told-of_write place need i v stepped.Wrote h way =
-      ends-as e f (write place need i v) before after added reply.Wrote (ended.wrote place i v) refl
-      (done stepped.Wrote _ h (came (offered_at e.point) h.answer stepped.Wrote h.tells)) way
-  told-of_write place need i v told h way = absurd (not-so (write place need i v) told _ refl refl h way)
+      (place : ℕ) (need : Need) (i v : ℕ) (told : Ending B) → Done told → IsUnderWay e.caller (write place need i v) e.point added
+      → ToldOfWrite place need i v told
+  told-of_write place need i v ending.Wrote h way =
+      ends-as e f (write place need i v) before after added reply.Wrote (ended.wrote place i v) refl h.moment way
+  told-of_write place need i v told h way = absurd (not-so (write place need i v) told refl h way)
 
   pub told-of_read :
-      (place : ℕ) (need : Need) (i : ℕ) (told : Stepped B) → HasStepped place_of block_need e f before after told
-      → IsUnderWay e.caller (read place need i) e.point added → ToldOfRead place need i told
-  told-of_read place need i stepped.Idle h way = absurd (never-idle h)
-  told-of_read place need i stepped.More h way = more (read place need i) h way
-  told-of_read place need i stepped.Lost h way = lost (read place need i) h way
-  told-of_read place need i stepped.Cleared h way = cleared (read place need i) h way
-  told-of_read place need i (stepped.Word word) h way =
-      ends-read e f before after added place need i word (done (stepped.Word word) _ h (came (offered_at e.point) h.answer (stepped.Word word) h.tells)) way
-  told-of_read place need i told h way = absurd (not-so (read place need i) told _ refl refl h way)
+      (place : ℕ) (need : Need) (i : ℕ) (told : Ending B) → Done told → IsUnderWay e.caller (read place need i) e.point added
+      → ToldOfRead place need i told
+  told-of_read place need i (ending.Word word) h way = ends-read e f before after added place need i word h.moment way
+  told-of_read place need i told h way = absurd (not-so (read place need i) told refl h way)
 
   pub told-of_put :
-      (place : ℕ) (need : Need) (shelf : ℕ) (told : Stepped B) → HasStepped place_of block_need e f before after told
-      → IsUnderWay e.caller (put place need shelf) e.point added → ToldOfPut place need shelf told
-  told-of_put place need shelf stepped.Idle h way = absurd (never-idle h)
-  told-of_put place need shelf stepped.More h way = more (put place need shelf) h way
-  told-of_put place need shelf stepped.Lost h way = lost (put place need shelf) h way
-  told-of_put place need shelf stepped.Cleared h way = cleared (put place need shelf) h way
-  told-of_put place need shelf stepped.Put h way =
-      ends-as e f (put place need shelf) before after added reply.Put (ended.put_done place shelf) refl
-      (done stepped.Put _ h (came (offered_at e.point) h.answer stepped.Put h.tells)) way
-  told-of_put place need shelf (stepped.Full b) h way =
-      let is = came (offered_at e.point) h.answer (stepped.Full b) h.tells in
-      ends-full e f before after added place need shelf is.0 (place_of b) (block_need b) (done (stepped.Full b) _ h is.1) is.2 way
-  told-of_put place need shelf told h way = absurd (not-so (put place need shelf) told _ refl refl h way)
+      (place : ℕ) (need : Need) (shelf : ℕ) (told : Ending B) → Done told → IsUnderWay e.caller (put place need shelf) e.point added
+      → ToldOfPut place need shelf told
+  told-of_put place need shelf ending.Put h way =
+      ends-as e f (put place need shelf) before after added reply.Put (ended.put_done place shelf) refl h.moment way
+  told-of_put place need shelf (ending.Full b found) h way =
+      ends-full e f before after added place need shelf found (place_of b) (block_need b) h.moment h.back way
+  told-of_put place need shelf told h way = absurd (not-so (put place need shelf) told refl h way)
 
-  pub told-of_take :
-      (shelf : ℕ) (told : Stepped B) → HasStepped place_of block_need e f before after told → IsUnderWay e.caller (take shelf) e.point added
-      → ToldOfTake shelf told
-  told-of_take shelf stepped.Idle h way = absurd (never-idle h)
-  told-of_take shelf stepped.More h way = more (take shelf) h way
-  told-of_take shelf stepped.Lost h way = lost (take shelf) h way
-  told-of_take shelf stepped.Cleared h way = cleared (take shelf) h way
-  told-of_take shelf (stepped.Got b) h way =
-      ends-got e f before after added shelf (place_of b) (block_need b) (done (stepped.Got b) _ h (came (offered_at e.point) h.answer (stepped.Got b) h.tells)) way
-  told-of_take shelf stepped.Empty h way =
-      ends-as e f (take shelf) before after added reply.Empty (ended.take_empty shelf) refl
-      (done stepped.Empty _ h (came (offered_at e.point) h.answer stepped.Empty h.tells)) way
-  told-of_take shelf stepped.Missed h way =
-      let is = came (offered_at e.point) h.answer stepped.Missed h.tells in
-      ends-as e f (take shelf) before after added (reply.Missed is.0 is.1) ended.take_missed refl (done stepped.Missed _ h is.2) way
-  told-of_take shelf told h way = absurd (not-so (take shelf) told _ refl refl h way)
+  pub told-of_take : (shelf : ℕ) (told : Ending B) → Done told → IsUnderWay e.caller (take shelf) e.point added → ToldOfTake shelf told
+  told-of_take shelf (ending.Got b) h way = ends-got e f before after added shelf (place_of b) (block_need b) h.moment way
+  told-of_take shelf ending.Empty h way = ends-as e f (take shelf) before after added reply.Empty (ended.take_empty shelf) refl h.moment way
+  told-of_take shelf (ending.Missed expected found) h way =
+      ends-as e f (take shelf) before after added (reply.Missed expected found) ended.take_missed refl h.moment way
+  told-of_take shelf told h way = absurd (not-so (take shelf) told refl h way)
 
 -- a caller may begin a call: the block that it is about is its own; an allocation has a turn, if it wants one
 abbrev pub MayCall : ErrandFields → List Event → Call → Type 0
@@ -709,7 +525,7 @@ heap-block g events caller place need legal owned =
       subst (λ n. IsPlaceFor g n place) owned.3 (subst (IsPlaceFor g owned.0.need) (place-found place (pool_of events) owned.0 owned.1) well.place),
     )
 
--- there are blocks as the one that the caller owns
+-- the need of a block that a caller owns is one that blocks have
 pub owned-need :
     (g : Geometry) (events : List Event) (caller place : ℕ) (need : Need) → IsLegal g events → OwnsAfter events caller place need → IsNeed need
 owned-need g events caller place need legal owned = (heap-block g events caller place need legal owned).0

@@ -88,7 +88,7 @@ module _ (g : Geometry) (events : List Event) (e : ErrandFields) (operations : L
       lane-goes g e.caller events events e f operations registers now results stage.Between to [] lane
       (later-begun g e f events call begun served.own_errand.geometry served.legal) done-none stands size holds
 
-  -- it has its outcome at once, and adds no event
+  -- the operation has its outcome at once, and adds no event
   lane-ends_at_once :
       (f : ErrandFields) (now : List (Option Held)) (result : Outcome) → f ≡ e
       → FitsRow (setting_in events e.caller g.turn_limit e.lost) lane.position operation result []

@@ -73,7 +73,7 @@ pub live-seen :
     → block_at place (pool_of before) ≡ Some block → block.owner ≡ Caller caller → block_at place (pool_of after) ≡ Some block
 live-seen g caller before after place block seen legal = block-beside g caller before after place block (beside-of g caller before after seen legal)
 
--- so does the block whose words are read
+-- a read of a block's words stands as it stood, with their sum so far
 summing-beside :
     (g : Geometry) (caller : ℕ) (before after : List Event) (point : Point) (held : Held) (next total : ℕ) → IsBeside g caller before after
     → OwnsHeld (pool_of before) caller held → IsSumming caller point (pool_of before) held next total

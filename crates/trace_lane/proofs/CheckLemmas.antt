@@ -34,7 +34,7 @@ pub record IsSummed (pool : Pool) (held : Held) (next total : ℕ) : Type 0 wher
   pub each : (i : ℕ) → i < next → IsWord (slice_index_or block.contents i None) (slice_index_or words i 0)
   pub total_is : total ≡ sum words % 2 ^ 64
 
--- it is what a check under way says, beside its call
+-- the sum of a check is that of the words before the one whose read is under way
 pub summed-of : (caller : ℕ) (point : Point) (pool : Pool) (held : Held) (next total : ℕ) → IsSumming caller point pool held next total → IsSummed pool held next total
 summed-of caller point pool held next total s =
     record { block = s.block; live = s.live; words = s.words; all = s.all; each = s.each; total_is = s.total_is }
@@ -56,7 +56,7 @@ summing-of caller point pool held next total need s serves inside way =
       total_is = s.total_is;
     }
 
--- before the first word
+-- a check has the sum 0 before the first word
 pub summed-none : (pool : Pool) (caller : ℕ) (held : Held) → OwnsHeld pool caller held → IsSummed pool held 0 0
 summed-none pool caller held owns =
     record {
@@ -68,12 +68,12 @@ summed-none pool caller held owns =
       total_is = refl;
     }
 
--- a step that adds no event of the caller's: it has seen more of others
+-- a caller has seen more events of others by a step that adds none of its own
 pub seen-more :
     (e f : ErrandFields) (before after more : List Event) → HasMovedOn e f before after more → more ≡ [] → HasSeenMore e.caller before after
 seen-more e f before after more moved none = record { more = moved.rest; seen = moved.seen; not_own = moved.own_rest ∙ none }
 
--- a read adds none
+-- a read adds no event of the caller's, which has seen more of others
 pub read-adds_none :
     (e f : ErrandFields) (place i word : ℕ) (before after : List Event) → EndsRead e f place i word before after [] → HasSeenMore e.caller before after
 read-adds_none e f place i word before after ends = seen-more e f before after ends.ends.more ends.ends.moved_on ends.ends.all
@@ -99,7 +99,7 @@ summed-more g caller before after held next total e f word added seen legal owns
       total_is = sum-one s.words total word s.total_is;
     }
 
--- with all words it is the block's sum
+-- the sum of a check with all words is the block's
 pub zip-of :
     (contents : List (Option ℕ)) (words : List ℕ) → length contents ≡ length words
     → ((i : ℕ) → i < length words → IsWord (slice_index_or contents i None) (slice_index_or words i 0)) → AllZip IsWord contents words

@@ -9,14 +9,15 @@ use Rattle.pool_model.specs.Calls as ended
 use Rattle.pool_model.specs.Histories.{own}
 use Rattle.pool_model.specs.Legal.{IsLegal}
 use Rattle.pool_model.specs.declared.event.Event.{Event}
+use Rattle.errand_steps.specs.declared.told.Ending.{Ending}
+use Rattle.errand_steps.specs.declared.told.Ending.TheVariants as ending
+use Rattle.errand_steps.specs.declared.told.Stepped.TheVariants as stepped
 use Rattle.errand_steps.specs.Begins.{IsIdle}
 use Rattle.errand_steps.specs.Calls.{read as read_call, take as take_call}
 use Rattle.errand_steps.specs.Errands.{ErrandFields}
 use Rattle.step_machine.specs.Cores.{OwnsAfter}
 use Rattle.trace_text.specs.declared.trace.Op.{Op}
 use Rattle.trace_text.specs.declared.trace.Op.TheVariants as op
-use Rattle.lane_engine.specs.declared.stepped.Stepped.{Stepped}
-use Rattle.lane_engine.specs.declared.stepped.Stepped.TheVariants as stepped
 use Rattle.lane_engine.specs.Told.{HasStepped}
 use Rattle.lane_outcomes.specs.declared.registers.Held.{Held}
 use Rattle.lane_outcomes.specs.declared.outcome.Outcome.{Outcome}
@@ -29,7 +30,6 @@ use Rattle.trace_lane.specs.Operations.{IsDoing, IsOfNeed}
 use Rattle.trace_lane.specs.Paths.{held_by}
 use Rattle.trace_lane.proofs.AnswerLemmas.{Ends, EndsRead, HasBegun, HasMovedOn, ToldOfPut, ToldOfRead, ToldOfTake, told-of_put, told-of_read, told-of_take}
 use Rattle.trace_lane.proofs.EndsLemmas.{check-ends_lane, check-on_lane, missed-own, put-ends_lane, put-full_lane, take-again_lane, take-empty_lane, take-got_lane}
-use Rattle.trace_lane.proofs.LaneGoes.{IsOn}
 use Rattle.step_machine.specs.Keeping.{LeavesAtEnd}
 use Rattle.step_machine.proofs.SpareLemmas.{events-spare}
 use Rattle.trace_lane.proofs.LaneSpares.{SparesAll}
@@ -38,33 +38,25 @@ use Rattle.step_machine.proofs.KeepLemmas.{spare-append}
 -- the answers that each of these calls may have
 module _ {B : Type 0} (place_of : B → ℕ) (need_of : B → Need) (e f : ErrandFields) (before events added : List Event) where
   pub read-only :
-      (place : ℕ) (need : Need) (i : ℕ) (told : Stepped B) → ToldOfRead place_of need_of e f before events added place need i told
-      → IsOn told ⊎ ((word : ℕ) × (told ≡ stepped.Word word))
-  read-only place need i stepped.More is = inl tt
-  read-only place need i stepped.Lost is = inl tt
-  read-only place need i stepped.Cleared is = inl tt
-  read-only place need i (stepped.Word word) is = inr (word, refl)
+      (place : ℕ) (need : Need) (i : ℕ) (told : Ending B) → ToldOfRead place_of need_of e f before events added place need i told
+      → (word : ℕ) × (told ≡ ending.Word word)
+  read-only place need i (ending.Word word) is = (word, refl)
   read-only place need i told is = absurd is
 
   pub put-only :
-      (place : ℕ) (need : Need) (shelf : ℕ) (told : Stepped B) → ToldOfPut place_of need_of e f before events added place need shelf told
-      → IsOn told ⊎ ((told ≡ stepped.Put) ⊎ ((block : B) × (told ≡ stepped.Full block)))
-  put-only place need shelf stepped.More is = inl tt
-  put-only place need shelf stepped.Lost is = inl tt
-  put-only place need shelf stepped.Cleared is = inl tt
-  put-only place need shelf stepped.Put is = inr (inl refl)
-  put-only place need shelf (stepped.Full block) is = inr (inr (block, refl))
+      (place : ℕ) (need : Need) (shelf : ℕ) (told : Ending B) → ToldOfPut place_of need_of e f before events added place need shelf told
+      → (told ≡ ending.Put) ⊎ ((block : B) × (found : ℕ) × (told ≡ ending.Full block found))
+  put-only place need shelf ending.Put is = inl refl
+  put-only place need shelf (ending.Full block found) is = inr (block, found, refl)
   put-only place need shelf told is = absurd is
 
   pub take-only :
-      (shelf : ℕ) (told : Stepped B) → ToldOfTake place_of need_of e f before events added shelf told
-      → IsOn told ⊎ (((block : B) × (told ≡ stepped.Got block)) ⊎ ((told ≡ stepped.Empty) ⊎ (told ≡ stepped.Missed)))
-  take-only shelf stepped.More is = inl tt
-  take-only shelf stepped.Lost is = inl tt
-  take-only shelf stepped.Cleared is = inl tt
-  take-only shelf (stepped.Got block) is = inr (inl (block, refl))
-  take-only shelf stepped.Empty is = inr (inr (inl refl))
-  take-only shelf stepped.Missed is = inr (inr (inr refl))
+      (shelf : ℕ) (told : Ending B) → ToldOfTake place_of need_of e f before events added shelf told
+      → ((block : B) × (told ≡ ending.Got block))
+      ⊎ ((told ≡ ending.Empty) ⊎ ((expected : ℕ) × (found : ℕ) × (told ≡ ending.Missed expected found)))
+  take-only shelf (ending.Got block) is = inl (block, refl)
+  take-only shelf ending.Empty is = inr (inl refl)
+  take-only shelf (ending.Missed expected found) is = inr (inr (expected, found, refl))
   take-only shelf told is = absurd is
 
 -- a call that has ended so spares what it leaves
@@ -95,7 +87,7 @@ module _ {B : Type 0} (place_of : B → ℕ) (need_of : B → Need) (g : Geometr
     pub seen : HasSeen
     pub stands : IsLane g e.caller events f operations now (results ++ result ∷ []) stage.Between
 
-  -- and a block is in its register
+  -- the operation has ended with this outcome, and this block of the caller's is in its register
   pub record EndsWithBlock (at : OperationStage) (r : ℕ) (block : B) (result : Outcome) : Type 0 where
     pub ends : EndsCalling at (slice_set registers r (Some (held_by place_of need_of block))) result
     pub owned : OwnsAfter events e.caller (place_of block) (need_of block)
@@ -104,9 +96,9 @@ module _ {B : Type 0} (place_of : B → ℕ) (need_of : B → Need) (g : Geometr
       (r shelf : ℕ) (at : OperationStage) (lane : IsLane g e.caller before e operations registers results at)
       → drop (length results) operations ≡ op.Put r shelf ∷ rest
       → IsDoing e.caller before e.point lane.position registers (op.Put r shelf) at lane.added
-      → HasStepped place_of need_of e f before events stepped.Put → EndsCalling at registers outcome.Put
+      → HasStepped place_of need_of e f before events (stepped.Done ending.Put) → EndsCalling at registers outcome.Put
   put-puts r shelf stage.Calling lane next doing step =
-      let ends = told-of_put place_of need_of e f before events lane.added doing.held.place doing.need shelf stepped.Put step doing.under_way in
+      let ends = told-of_put place_of need_of e f before events lane.added doing.held.place doing.need shelf ending.Put step doing.under_way in
       record {
         calling = refl;
         seen = seen-of (ended.put_done doing.held.place shelf) lane.added ends doing.apart;
@@ -119,12 +111,12 @@ module _ {B : Type 0} (place_of : B → ℕ) (need_of : B → Need) (g : Geometr
   put-puts r shelf stage.Releasing lane next doing step = absurd doing
 
   pub put-finds :
-      (r shelf : ℕ) (block : B) (at : OperationStage) (lane : IsLane g e.caller before e operations registers results at)
+      (r shelf found : ℕ) (block : B) (at : OperationStage) (lane : IsLane g e.caller before e operations registers results at)
       → drop (length results) operations ≡ op.Put r shelf ∷ rest
       → IsDoing e.caller before e.point lane.position registers (op.Put r shelf) at lane.added
-      → HasStepped place_of need_of e f before events (stepped.Full block) → EndsWithBlock at r block outcome.ShelfFull
-  put-finds r shelf block stage.Calling lane next doing step =
-      let full = told-of_put place_of need_of e f before events lane.added doing.held.place doing.need shelf (stepped.Full block) step doing.under_way in
+      → HasStepped place_of need_of e f before events (stepped.Done (ending.Full block found)) → EndsWithBlock at r block outcome.ShelfFull
+  put-finds r shelf found block stage.Calling lane next doing step =
+      let full = told-of_put place_of need_of e f before events lane.added doing.held.place doing.need shelf (ending.Full block found) step doing.under_way in
       record {
         ends = record {
           calling = refl;
@@ -136,20 +128,20 @@ module _ {B : Type 0} (place_of : B → ℕ) (need_of : B → Need) (g : Geometr
             subst (λ n. OwnsAfter events e.caller (place_of block) n) (sym full.same_need)
             (subst (λ p. OwnsAfter events e.caller p doing.need) (sym full.same_place) full.owned);
       }
-  put-finds r shelf block stage.Between lane next doing step = absurd doing
-  put-finds r shelf block (stage.Filling i) lane next doing step = absurd doing
-  put-finds r shelf block (stage.Summing i total) lane next doing step = absurd doing
-  put-finds r shelf block (stage.Copying from i w) lane next doing step = absurd doing
-  put-finds r shelf block stage.Releasing lane next doing step = absurd doing
+  put-finds r shelf found block stage.Between lane next doing step = absurd doing
+  put-finds r shelf found block (stage.Filling i) lane next doing step = absurd doing
+  put-finds r shelf found block (stage.Summing i total) lane next doing step = absurd doing
+  put-finds r shelf found block (stage.Copying from i w) lane next doing step = absurd doing
+  put-finds r shelf found block stage.Releasing lane next doing step = absurd doing
 
   pub take-gets :
       (r shelf : ℕ) (block : B) (at : OperationStage) (lane : IsLane g e.caller before e operations registers results at)
       → drop (length results) operations ≡ op.Take r shelf ∷ rest
       → IsDoing e.caller before e.point lane.position registers (op.Take r shelf) at lane.added
-      → HasStepped place_of need_of e f before events (stepped.Got block)
+      → HasStepped place_of need_of e f before events (stepped.Done (ending.Got block))
       → EndsWithBlock at r block (outcome.Took (usable_words (need_of block)) (place_of block) (need_of block))
   take-gets r shelf block stage.Calling lane next doing step =
-      let got = told-of_take place_of need_of e f before events lane.added shelf (stepped.Got block) step doing.2 in
+      let got = told-of_take place_of need_of e f before events lane.added shelf (ending.Got block) step doing.2 in
       record {
         ends = record {
           calling = refl;
@@ -169,9 +161,9 @@ module _ {B : Type 0} (place_of : B → ℕ) (need_of : B → Need) (g : Geometr
       (r shelf : ℕ) (at : OperationStage) (lane : IsLane g e.caller before e operations registers results at)
       → drop (length results) operations ≡ op.Take r shelf ∷ rest
       → IsDoing e.caller before e.point lane.position registers (op.Take r shelf) at lane.added
-      → HasStepped place_of need_of e f before events stepped.Empty → EndsCalling at registers outcome.ShelfEmpty
+      → HasStepped place_of need_of e f before events (stepped.Done ending.Empty) → EndsCalling at registers outcome.ShelfEmpty
   take-finds r shelf stage.Calling lane next doing step =
-      let ends = told-of_take place_of need_of e f before events lane.added shelf stepped.Empty step doing.2 in
+      let ends = told-of_take place_of need_of e f before events lane.added shelf ending.Empty step doing.2 in
       record {
         calling = refl;
         seen = seen-of (ended.take_empty shelf) lane.added ends (λ q other is. tt);
@@ -191,23 +183,23 @@ module _ {B : Type 0} (place_of : B → ℕ) (need_of : B → Need) (g : Geometr
     pub stands : (d : ErrandFields) → HasBegun f d (take_call shelf) → IsLane g e.caller events d operations registers results stage.Calling
 
   pub take-misses :
-      (r shelf : ℕ) (at : OperationStage) (lane : IsLane g e.caller before e operations registers results at)
+      (r shelf expected found : ℕ) (at : OperationStage) (lane : IsLane g e.caller before e operations registers results at)
       → drop (length results) operations ≡ op.Take r shelf ∷ rest
       → IsDoing e.caller before e.point lane.position registers (op.Take r shelf) at lane.added
-      → HasStepped place_of need_of e f before events stepped.Missed → HasMissed at shelf
-  take-misses r shelf stage.Calling lane next doing step =
-      let ends = told-of_take place_of need_of e f before events lane.added shelf stepped.Missed step doing.2 in
+      → HasStepped place_of need_of e f before events (stepped.Done (ending.Missed expected found)) → HasMissed at shelf
+  take-misses r shelf expected found stage.Calling lane next doing step =
+      let ends = told-of_take place_of need_of e f before events lane.added shelf (ending.Missed expected found) step doing.2 in
       record {
         calling = refl;
         seen = seen-of ended.take_missed lane.added ends (λ q other is. tt);
         own_same = missed-own g e f before events operations registers results lane heap legal rest r shelf doing ends;
         stands = λ d begun. take-again_lane g e f before events operations registers results lane heap legal rest r shelf d next doing ends begun;
       }
-  take-misses r shelf stage.Between lane next doing step = absurd doing
-  take-misses r shelf (stage.Filling i) lane next doing step = absurd doing
-  take-misses r shelf (stage.Summing i total) lane next doing step = absurd doing
-  take-misses r shelf (stage.Copying from i w) lane next doing step = absurd doing
-  take-misses r shelf stage.Releasing lane next doing step = absurd doing
+  take-misses r shelf expected found stage.Between lane next doing step = absurd doing
+  take-misses r shelf expected found (stage.Filling i) lane next doing step = absurd doing
+  take-misses r shelf expected found (stage.Summing i total) lane next doing step = absurd doing
+  take-misses r shelf expected found (stage.Copying from i w) lane next doing step = absurd doing
+  take-misses r shelf expected found stage.Releasing lane next doing step = absurd doing
 
   -- a word of a check was read: it was the last one, or the check goes on with the next one
   pub record HasRead (at : OperationStage) (r word : ℕ) : Type 0 where
@@ -229,11 +221,11 @@ module _ {B : Type 0} (place_of : B → ℕ) (need_of : B → Need) (g : Geometr
       (r word : ℕ) (at : OperationStage) (lane : IsLane g e.caller before e operations registers results at)
       → drop (length results) operations ≡ op.Check r ∷ rest
       → IsDoing e.caller before e.point lane.position registers (op.Check r) at lane.added
-      → HasStepped place_of need_of e f before events (stepped.Word word) → HasRead at r word
+      → HasStepped place_of need_of e f before events (stepped.Done (ending.Word word)) → HasRead at r word
   check-reads r word (stage.Summing i total) lane next doing step =
       let held = doing.0 in
       let read : EndsRead e f held.place i word before events [] =
-      told-of_read place_of need_of e f before events [] held.place doing.3.need i (stepped.Word word) step doing.3.under_way in
+      told-of_read place_of need_of e f before events [] held.place doing.3.need i (ending.Word word) step doing.3.under_way in
       record {
         i = i;
         total = total;

@@ -40,7 +40,7 @@ lane-between g caller events e operations registers results at lane between =
     subst (λ a. IsAt caller events e lane.position registers (drop (length results) operations) a lane.added) between lane.stands in
     (stands.0, stands.1, lane.own_events ∙ ap (λ xs. lane.position.done ++ xs) stands.2 ∙ append-nil lane.position.done)
 
--- with all outcomes they fit the events, however much more was lost
+-- the outcomes of a lane that has all of them fit the events, however much more was lost
 pub lane-fits :
     (g : Geometry) (caller : ℕ) (events : List Event) (e : ErrandFields) (operations : List Op) (registers : List (Option Held))
     (results : List Outcome) (at : OperationStage) (lost : ℕ) → IsLane g caller events e operations registers results at → at ≡ stage.Between
@@ -82,7 +82,7 @@ lane-start g caller events e operations none idle = record {
   spent = λ is. absurd (true≢false (sym is));
 }
 
--- so does a new one
+-- a new lane stands before its first operation, where its caller is idle and has no events
 pub lane-new :
     {B : Type 0} (engine : Engine B) (caller : ℕ) (operations : List Op) (lane : LaneState B) → IsNew caller (length operations) lane
     → own caller engine.events ≡ [] → IsIdle engine.errand → IsLaneOf engine operations lane
@@ -103,7 +103,7 @@ lane-new {B = B} engine caller operations lane new none idle =
       room = new.room;
     }
 
--- and it is on its script
+-- a new lane is on its script, and has begun no call
 pub script-new :
     {B : Type 0} (place_of : B → ℕ) (need_of : B → Need) (caller count : ℕ) (operations : List Op) (lane : LaneState B) → IsNew caller count lane
     → IsOnScript operations (held_blocks place_of need_of lane.registers.items) lane.outcomes.items lane.stage []

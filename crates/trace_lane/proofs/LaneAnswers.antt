@@ -16,6 +16,8 @@ use Rattle.pool_model.specs.Histories.{own}
 use Rattle.pool_model.specs.Pool.{pool_of}
 use Rattle.pool_model.proofs.HistoryLemmas.{legal-weaker}
 use Rattle.pool_model.proofs.NeedOfLemmas.{need_of-within}
+use Rattle.errand_steps.specs.declared.told.Ending.TheVariants as ending
+use Rattle.errand_steps.specs.declared.told.Stepped.TheVariants as stepped
 use Rattle.errand_steps.specs.Calls.{Call, write}
 use Rattle.errand_steps.specs.Errands.{ErrandFields}
 use Rattle.call_events.specs.UnderWay.{IsUnderWay}
@@ -23,7 +25,6 @@ use Rattle.step_machine.specs.Moments.{IsServed}
 use Rattle.trace_text.specs.declared.limits.TheConstants.{REGISTERS}
 use Rattle.trace_text.specs.declared.trace.Op.{Op}
 use Rattle.trace_text.specs.declared.trace.Op.TheVariants as op
-use Rattle.lane_engine.specs.declared.stepped.Stepped.TheVariants as stepped
 use Rattle.lane_engine.specs.Told.{HasStepped}
 use Rattle.lane_outcomes.specs.declared.registers.Held.{Held}
 use Rattle.lane_outcomes.specs.declared.outcome.Outcome.{Outcome}
@@ -57,7 +58,7 @@ first-of f zero a words within = refl
 first-of f (suc n) a zero within = absurd (omega arith)
 first-of f (suc n) a (suc words) within = ap (λ xs. f a ∷ xs) (first-of f n (a + 1) words (omega arith))
 
--- one word more is written
+-- the first events of a fill, with one more word that is written
 pub filled-more :
     (caller place words v i : ℕ) → i < words
     → take (i + 1) (filling caller place words v) ≡ take i (filling caller place words v) ++ Write caller place i ((v + i) % 2 ^ 64) ∷ []
@@ -66,7 +67,7 @@ filled-more caller place words v i inside =
     first-of f (i + 1) 0 words (omega arith) ∙ map-range_with_len_more f 0 i i (omega arith)
     ∙ ap (λ xs. xs ++ f i ∷ []) (sym (first-of f i 0 words (omega arith)))
 
--- all are
+-- the first events of a fill, with the last word, are all of them
 pub filled-all : (caller place words v i : ℕ) → i < words → words ≤ i + 1 → take (i + 1) (filling caller place words v) ≡ filling caller place words v
 filled-all caller place words v i inside last =
     let whole : i + 1 ≡ words = omega arith in
@@ -89,7 +90,7 @@ pub record EndsSo (g : Geometry) (e f : ErrandFields) (before events : List Even
       → IsOnScript operations now (results ++ result ∷ []) stage.Between (calls ++ [])
   pub few : stage_begun at < begun_bound
 
--- it has ended, and the next one of the operation has begun behind it
+-- the call under way has ended, and the next one of the operation has begun behind it
 pub record GoesSo (g : Geometry) (e f h : ErrandFields) (call : Call) (before events : List Event) (operations : List Op) (registers now : List (Option Held))
     (results : List Outcome) (at to : OperationStage) : Type 0 where
   pub more : List Event
@@ -135,11 +136,11 @@ module _ {B : Type 0} (place_of : B → ℕ) (block_need : B → Need) (g : Geom
       (r need v : ℕ) (at : OperationStage) (lane : IsLane g e.caller before e operations registers results at)
       → drop (length results) operations ≡ op.Alloc r need v ∷ rest
       → IsDoing e.caller before e.point lane.position registers (op.Alloc r need v) at lane.added
-      → HasStepped place_of block_need e f before events stepped.Refused
+      → HasStepped place_of block_need e f before events (stepped.Done ending.Refused)
       → EndsSo g e f before events operations registers registers results at outcome.Refused
   alloc-ends_refused r need v stage.Calling lane next doing step =
       let ends : Ends e f (ended.alloc_refused need) before events lane.added =
-      told-of_alloc place_of block_need e f before events lane.added need stepped.Refused step doing.3 in
+      told-of_alloc place_of block_need e f before events lane.added need ending.Refused step doing.3 in
       let empty : held_in lane.position.registers r ≡ None = ap (λ rs. held_in rs r) (sym doing.0) ∙ doing.1 in
       let here = lane-here g e.caller before e operations registers results stage.Calling (op.Alloc r need v) rest lane next in
       record {
@@ -155,7 +156,7 @@ module _ {B : Type 0} (place_of : B → ℕ) (block_need : B → Need) (g : Geom
       }
   alloc-ends_refused r need v stage.Between lane next doing step = absurd doing
   alloc-ends_refused r need v (stage.Filling i) lane next doing step =
-      absurd (told-of_write place_of block_need e f before events [] doing.0.place doing.4.writing.need i ((v + i) % 2 ^ 64) stepped.Refused step
+      absurd (told-of_write place_of block_need e f before events [] doing.0.place doing.4.writing.need i ((v + i) % 2 ^ 64) ending.Refused step
       doing.4.writing.under_way)
   alloc-ends_refused r need v (stage.Summing i total) lane next doing step = absurd doing
   alloc-ends_refused r need v (stage.Copying from i w) lane next doing step = absurd doing
@@ -166,11 +167,11 @@ module _ {B : Type 0} (place_of : B → ℕ) (block_need : B → Need) (g : Geom
       (r need v : ℕ) (at : OperationStage) (lane : IsLane g e.caller before e operations registers results at)
       → drop (length results) operations ≡ op.Alloc r need v ∷ rest
       → IsDoing e.caller before e.point lane.position registers (op.Alloc r need v) at lane.added
-      → HasStepped place_of block_need e f before events stepped.Spent
+      → HasStepped place_of block_need e f before events (stepped.Done ending.Spent)
       → EndsSo g e f before events operations registers registers results at outcome.Spent
   alloc-ends_spent r need v stage.Calling lane next doing step =
       let told : EndsSpent e f need before events lane.added =
-      told-of_alloc place_of block_need e f before events lane.added need stepped.Spent step doing.3 in
+      told-of_alloc place_of block_need e f before events lane.added need ending.Spent step doing.3 in
       let ends = told.ends in
       let empty : held_in lane.position.registers r ≡ None = ap (λ rs. held_in rs r) (sym doing.0) ∙ doing.1 in
       let limit : f.turns ≡ g.turn_limit = told.limit ∙ ap (λ (h : Geometry). h.turn_limit) heap in
@@ -188,7 +189,7 @@ module _ {B : Type 0} (place_of : B → ℕ) (block_need : B → Need) (g : Geom
       }
   alloc-ends_spent r need v stage.Between lane next doing step = absurd doing
   alloc-ends_spent r need v (stage.Filling i) lane next doing step =
-      absurd (told-of_write place_of block_need e f before events [] doing.0.place doing.4.writing.need i ((v + i) % 2 ^ 64) stepped.Spent step doing.4.writing.under_way)
+      absurd (told-of_write place_of block_need e f before events [] doing.0.place doing.4.writing.need i ((v + i) % 2 ^ 64) ending.Spent step doing.4.writing.under_way)
   alloc-ends_spent r need v (stage.Summing i total) lane next doing step = absurd doing
   alloc-ends_spent r need v (stage.Copying from i w) lane next doing step = absurd doing
   alloc-ends_spent r need v stage.Releasing lane next doing step = absurd doing
@@ -198,11 +199,11 @@ module _ {B : Type 0} (place_of : B → ℕ) (block_need : B → Need) (g : Geom
       (r : ℕ) (at : OperationStage) (lane : IsLane g e.caller before e operations registers results at)
       → drop (length results) operations ≡ op.Free r ∷ rest
       → IsDoing e.caller before e.point lane.position registers (op.Free r) at lane.added
-      → HasStepped place_of block_need e f before events stepped.Freed
+      → HasStepped place_of block_need e f before events (stepped.Done ending.Freed)
       → EndsSo g e f before events operations registers registers results at outcome.Freed
   free-ends_so r stage.Calling lane next doing step =
       let ends : Ends e f (ended.freed doing.held.place) before events lane.added =
-      told-of_free place_of block_need e f before events lane.added doing.held.place doing.need stepped.Freed step doing.under_way in
+      told-of_free place_of block_need e f before events lane.added doing.held.place doing.need ending.Freed step doing.under_way in
       let here = lane-here g e.caller before e operations registers results stage.Calling (op.Free r) rest lane next in
       record {
         more = ends.more;
@@ -226,7 +227,7 @@ module _ {B : Type 0} (place_of : B → ℕ) (block_need : B → Need) (g : Geom
       (r need v i : ℕ) (lane : IsLane g e.caller before e operations registers results (stage.Filling i))
       → drop (length results) operations ≡ op.Alloc r need v ∷ rest
       → (doing : IsDoing e.caller before e.point lane.position registers (op.Alloc r need v) (stage.Filling i) lane.added)
-      → HasStepped place_of block_need e f before events stepped.Wrote → doing.0.words ≤ i + 1 → held_in registers r ≡ Some doing.0
+      → HasStepped place_of block_need e f before events (stepped.Done ending.Wrote) → doing.0.words ≤ i + 1 → held_in registers r ≡ Some doing.0
       → EndsSo g e f before events operations registers registers results (stage.Filling i) (outcome.Given doing.0.words doing.0.place)
   alloc-ends_given r need v i lane next doing step last full =
       let held = doing.0 in
@@ -235,7 +236,7 @@ module _ {B : Type 0} (place_of : B → ℕ) (block_need : B → Need) (g : Geom
       let word = (v + i) % 2 ^ 64 in
       let result : Outcome = outcome.Given held.words held.place in
       let ends : Ends e f (ended.wrote held.place i word) before events [] =
-      told-of_write place_of block_need e f before events [] held.place writing.need i word stepped.Wrote step writing.under_way in
+      told-of_write place_of block_need e f before events [] held.place writing.need i word ending.Wrote step writing.under_way in
       let more_is : ends.more ≡ Write e.caller held.place i word ∷ [] = ends.all in
       let fill = filling e.caller held.place held.words v in
       let piece : lane.added ++ ends.more ≡ filled.given ++ fill =
@@ -264,14 +265,14 @@ module _ {B : Type 0} (place_of : B → ℕ) (block_need : B → Need) (g : Geom
       (r v i : ℕ) (lane : IsLane g e.caller before e operations registers results (stage.Filling i))
       → drop (length results) operations ≡ op.Fill r v ∷ rest
       → (doing : IsDoing e.caller before e.point lane.position registers (op.Fill r v) (stage.Filling i) lane.added)
-      → HasStepped place_of block_need e f before events stepped.Wrote → doing.0.words ≤ i + 1
+      → HasStepped place_of block_need e f before events (stepped.Done ending.Wrote) → doing.0.words ≤ i + 1
       → EndsSo g e f before events operations registers registers results (stage.Filling i) outcome.Filled
   fill-ends_so r v i lane next doing step last =
       let held = doing.0 in
       let writing = doing.3 in
       let word = (v + i) % 2 ^ 64 in
       let ends : Ends e f (ended.wrote held.place i word) before events [] =
-      told-of_write place_of block_need e f before events [] held.place writing.need i word stepped.Wrote step writing.under_way in
+      told-of_write place_of block_need e f before events [] held.place writing.need i word ending.Wrote step writing.under_way in
       let more_is : ends.more ≡ Write e.caller held.place i word ∷ [] = ends.all in
       let fill = filling e.caller held.place held.words v in
       let piece : lane.added ++ ends.more ≡ fill =
@@ -294,7 +295,7 @@ module _ {B : Type 0} (place_of : B → ℕ) (block_need : B → Need) (g : Geom
         few = few-begun held writing.need i writing.serves writing.inside;
       }
 
-  -- the next call begins behind it
+  -- the next call of the operation begins behind the one that has ended
   module _ (h : ErrandFields) where
     -- the registers hold their blocks still behind a write
     writes-hold :
@@ -321,7 +322,7 @@ module _ {B : Type 0} (place_of : B → ℕ) (block_need : B → Need) (g : Geom
         (r v i : ℕ) (n : Need) (lane : IsLane g e.caller before e operations registers results (stage.Filling i))
         → drop (length results) operations ≡ op.Fill r v ∷ rest
         → (doing : IsDoing e.caller before e.point lane.position registers (op.Fill r v) (stage.Filling i) lane.added)
-        → HasStepped place_of block_need e f before events stepped.Wrote → i + 1 < doing.0.words → IsOfNeed doing.0 n
+        → HasStepped place_of block_need e f before events (stepped.Done ending.Wrote) → i + 1 < doing.0.words → IsOfNeed doing.0 n
         → HasBegun f h (write doing.0.place n (i + 1) ((v + (i + 1)) % 2 ^ 64))
         → GoesSo g e f h (write doing.0.place n (i + 1) ((v + (i + 1)) % 2 ^ 64)) before events operations registers registers results (stage.Filling i)
         (stage.Filling (i + 1))
@@ -331,7 +332,7 @@ module _ {B : Type 0} (place_of : B → ℕ) (block_need : B → Need) (g : Geom
         let word = (v + i) % 2 ^ 64 in
         let call = write held.place n (i + 1) ((v + (i + 1)) % 2 ^ 64) in
         let ends : Ends e f (ended.wrote held.place i word) before events [] =
-        told-of_write place_of block_need e f before events [] held.place writing.need i word stepped.Wrote step writing.under_way in
+        told-of_write place_of block_need e f before events [] held.place writing.need i word ending.Wrote step writing.under_way in
         let more_is : ends.more ≡ Write e.caller held.place i word ∷ [] = ends.all in
         let fill = filling e.caller held.place held.words v in
         let so_far : lane.added ++ ends.more ≡ take (i + 1) fill =
@@ -361,7 +362,7 @@ module _ {B : Type 0} (place_of : B → ℕ) (block_need : B → Need) (g : Geom
         (r need v i : ℕ) (n : Need) (lane : IsLane g e.caller before e operations registers results (stage.Filling i))
         → drop (length results) operations ≡ op.Alloc r need v ∷ rest
         → (doing : IsDoing e.caller before e.point lane.position registers (op.Alloc r need v) (stage.Filling i) lane.added)
-        → HasStepped place_of block_need e f before events stepped.Wrote → i + 1 < doing.0.words → IsOfNeed doing.0 n
+        → HasStepped place_of block_need e f before events (stepped.Done ending.Wrote) → i + 1 < doing.0.words → IsOfNeed doing.0 n
         → held_in registers r ≡ Some doing.0 → HasBegun f h (write doing.0.place n (i + 1) ((v + (i + 1)) % 2 ^ 64))
         → GoesSo g e f h (write doing.0.place n (i + 1) ((v + (i + 1)) % 2 ^ 64)) before events operations registers registers results (stage.Filling i)
         (stage.Filling (i + 1))
@@ -372,7 +373,7 @@ module _ {B : Type 0} (place_of : B → ℕ) (block_need : B → Need) (g : Geom
         let word = (v + i) % 2 ^ 64 in
         let call = write held.place n (i + 1) ((v + (i + 1)) % 2 ^ 64) in
         let ends : Ends e f (ended.wrote held.place i word) before events [] =
-        told-of_write place_of block_need e f before events [] held.place writing.need i word stepped.Wrote step writing.under_way in
+        told-of_write place_of block_need e f before events [] held.place writing.need i word ending.Wrote step writing.under_way in
         let more_is : ends.more ≡ Write e.caller held.place i word ∷ [] = ends.all in
         let fill = filling e.caller held.place held.words v in
         let so_far : lane.added ++ ends.more ≡ filled.given ++ take (i + 1) fill =
@@ -412,13 +413,13 @@ module _ {B : Type 0} (place_of : B → ℕ) (block_need : B → Need) (g : Geom
         (r need v : ℕ) (block : B) (at : OperationStage) (lane : IsLane g e.caller before e operations registers results at)
         → drop (length results) operations ≡ op.Alloc r need v ∷ rest
         → IsDoing e.caller before e.point lane.position registers (op.Alloc r need v) at lane.added
-        → HasStepped place_of block_need e f before events (stepped.Given block) → r < REGISTERS
+        → HasStepped place_of block_need e f before events (stepped.Done (ending.Given block)) → r < REGISTERS
         → HasBegun f h (write (place_of block) (block_need block) 0 ((v + 0) % 2 ^ 64))
         → GoesSo g e f h (write (place_of block) (block_need block) 0 ((v + 0) % 2 ^ 64)) before events operations registers
         (slice_set registers r (Some (held_by place_of block_need block))) results at (stage.Filling 0)
     alloc-given_so r need v block stage.Calling lane next doing step within begun =
         let told : EndsGiven e f need (place_of block) (block_need block) before events lane.added =
-        told-of_alloc place_of block_need e f before events lane.added need (stepped.Given block) step doing.3 in
+        told-of_alloc place_of block_need e f before events lane.added need (ending.Given block) step doing.3 in
         let ends = told.ends in
         let held : Held = held_by place_of block_need block in
         let now : List (Option Held) = slice_set registers r (Some held) in
@@ -468,7 +469,7 @@ module _ {B : Type 0} (place_of : B → ℕ) (block_need : B → Need) (g : Geom
         }
     alloc-given_so r need v block stage.Between lane next doing step within begun = absurd doing
     alloc-given_so r need v block (stage.Filling i) lane next doing step within begun =
-        absurd (told-of_write place_of block_need e f before events [] doing.0.place doing.4.writing.need i ((v + i) % 2 ^ 64) (stepped.Given block) step
+        absurd (told-of_write place_of block_need e f before events [] doing.0.place doing.4.writing.need i ((v + i) % 2 ^ 64) (ending.Given block) step
         doing.4.writing.under_way)
     alloc-given_so r need v block (stage.Summing i total) lane next doing step within begun = absurd doing
     alloc-given_so r need v block (stage.Copying from i w) lane next doing step within begun = absurd doing

@@ -109,7 +109,7 @@ module _ {B : Type 0} (engine : Engine B) (again : Option Call → Type 0) (oper
       (operation : Op) (b : Before operation) (call : Call) → MayCall engine.errand engine.events call → HasBegun engine.errand (begun_by engine.errand call) call
   begun-call operation b call may = call-begun engine.geometry engine.errand.caller engine.errand engine.events call (served operation b) (idle-before operation b) may
 
-  -- it has its outcome at once
+  -- the operation has its outcome at once
   ends-part :
       (operation : Op) (b : Before operation) (f : ErrandFields) (begun : Option Call) (result : Outcome)
       → Became lane new lane.registers.items (lane.outcomes.items ++ result ∷ []) stage.Between
@@ -126,7 +126,7 @@ module _ {B : Type 0} (engine : Engine B) (again : Option Call → Type 0) (oper
       (sym b.between) (left-ends operations b.next.0 lane.outcomes.items operation result stage.Between b.next.1 (omega arith))))
       (count-ends engine.place_of engine.need_of lane.outcomes.items result)
 
-  -- its first call begins
+  -- the first call of the operation begins
   begins-part :
       (operation : Op) (b : Before operation) (f : ErrandFields) (call : Call) (blocks : List (Option B)) (to : OperationStage)
       → Became lane new blocks lane.outcomes.items to
@@ -198,7 +198,7 @@ module _ {B : Type 0} (engine : Engine B) (again : Option Call → Type 0) (oper
       resize-keeps operations lane.outcomes.items (stood (op.Resize r need) b).position.registers held held r need calls (here (op.Resize r need) b)
       (usable_words (engine.need_of block)) (engine.place_of block) script)
 
-  -- it asks for no block
+  -- a resize asks for no block
   unasked-at :
       (r need : ℕ) (result : Outcome) → Before (op.Resize r need) → (slot : Option B) → slice_index_or lane.registers.items r None ≡ slot
       → IsUnasked (option_map (held_at engine) slot) need (Some result)

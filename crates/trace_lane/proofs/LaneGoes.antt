@@ -12,13 +12,14 @@ use Rattle.errand_steps.specs.Begins.{IsBusy}
 use Rattle.errand_steps.specs.Calls.{Call, alloc, free, write, read, put, take as take_call}
 use Rattle.errand_steps.specs.Errands.{ErrandFields}
 use Rattle.errand_steps.specs.declared.point.Point.{Point}
+use Rattle.errand_steps.specs.declared.reply.Progress.TheVariants as progress
+use Rattle.errand_steps.specs.declared.told.Stepped.{Stepped}
+use Rattle.errand_steps.specs.declared.told.Stepped.TheVariants as stepped
 use Rattle.call_events.specs.Stages.{stage_of}
 use Rattle.call_events.specs.UnderWay.{IsUnderWay}
 use Rattle.trace_text.specs.declared.limits.TheConstants.{REGISTERS}
 use Rattle.trace_text.specs.declared.trace.Op.{Op}
 use Rattle.trace_text.specs.declared.trace.Op.TheVariants as op
-use Rattle.lane_engine.specs.declared.stepped.Stepped.{Stepped}
-use Rattle.lane_engine.specs.declared.stepped.Stepped.TheVariants as stepped
 use Rattle.lane_engine.specs.Told.{HasStepped}
 use Rattle.lane_outcomes.specs.declared.registers.Held.{Held}
 use Rattle.lane_outcomes.specs.declared.outcome.Outcome.{Outcome}
@@ -28,7 +29,7 @@ use Rattle.trace_lane.specs.declared.stage.OperationStage.{OperationStage}
 use Rattle.trace_lane.specs.declared.stage.OperationStage.TheVariants as stage
 use Rattle.trace_lane.specs.Lanes.{IsAt, IsLane}
 use Rattle.trace_lane.specs.Operations.{IsDoing}
-use Rattle.trace_lane.proofs.AnswerLemmas.{HasMovedOn, CallGoesOn, HasBegun, told-of_alloc, told-of_free, told-of_write, told-of_read, told-of_put, told-of_take}
+use Rattle.trace_lane.proofs.AnswerLemmas.{HasMovedOn, CallGoesOn, HasBegun, goes-on}
 use Rattle.trace_lane.proofs.BesideLemmas.{walks-on}
 use Rattle.step_machine.proofs.KeepLemmas.{spare-append}
 use Rattle.step_machine.specs.Keeping.{LeavesPlace}
@@ -55,12 +56,12 @@ moved-begun e f after call before events more moved begun =
           begun.at_limit limit ∙ ap (λ (g : Geometry). g.turn_limit) moved.same_geometry;
     }
 
--- no event of the caller's is added
+-- a caller has moved on, and added no event of its own
 pub moved-none :
     (e f : ErrandFields) (before events more : List Event) → more ≡ [] → HasMovedOn e f before events more → HasMovedOn e f before events []
 moved-none e f before events more none moved = subst (HasMovedOn e f before events) none moved
 
--- between two operations none is under way
+-- no operation is under way between two operations
 pub no-between :
     (caller : ℕ) (events : List Event) (point : Point) (position : Position) (registers : List (Option Held)) (operation : Op) (added : List Event)
     → IsDoing caller events point position registers operation stage.Between added → ⊥
@@ -138,7 +139,7 @@ module _ (g : Geometry) (e f : ErrandFields) (before events : List Event) (opera
             moved.at_limit limit ∙ ap (λ (h : Geometry). h.turn_limit) heap;
       }
 
-  -- where the caller adds no event
+  -- the lane stands behind a step to which its caller adds no event
   pub lane-stays_so :
       HasMovedOn e f before events [] → (after : List (Option Held)) (to : OperationStage)
       → IsDoing e.caller events f.point lane.position after operation to lane.added → length after ≡ REGISTERS
@@ -154,61 +155,23 @@ module _ (g : Geometry) (e f : ErrandFields) (before events : List Event) (opera
   lane-holds more moved legal spares =
       holds-rest g before events moved.rest more e.caller registers moved.seen moved.own_rest legal spares lane.holds
 
--- a step that goes on
+-- what is told of a step whose call goes on
 abbrev pub IsOn : {B : Type 0} → Stepped B → Type 0
 IsOn stepped.More = Unit {0}
 IsOn stepped.Lost = Unit {0}
 IsOn stepped.Cleared = Unit {0}
 IsOn told = ⊥
 
-module _ {B : Type 0} (place_of : B → ℕ) (need_of : B → Need) (e f : ErrandFields) (before events added : List Event) where
-  pub alloc-on :
-      (words : ℕ) (told : Stepped B) → IsOn told → HasStepped place_of need_of e f before events told → IsUnderWay e.caller (alloc words) e.point added
-      → CallGoesOn e f (alloc words) before events added
-  alloc-on words stepped.More on step way = told-of_alloc place_of need_of e f before events added words stepped.More step way
-  alloc-on words stepped.Lost on step way = told-of_alloc place_of need_of e f before events added words stepped.Lost step way
-  alloc-on words stepped.Cleared on step way = told-of_alloc place_of need_of e f before events added words stepped.Cleared step way
-  alloc-on words told on step way = absurd on
-
-  pub free-on :
-      (place : ℕ) (need : Need) (told : Stepped B) → IsOn told → HasStepped place_of need_of e f before events told
-      → IsUnderWay e.caller (free place need) e.point added → CallGoesOn e f (free place need) before events added
-  free-on place need stepped.More on step way = told-of_free place_of need_of e f before events added place need stepped.More step way
-  free-on place need stepped.Lost on step way = told-of_free place_of need_of e f before events added place need stepped.Lost step way
-  free-on place need stepped.Cleared on step way = told-of_free place_of need_of e f before events added place need stepped.Cleared step way
-  free-on place need told on step way = absurd on
-
-  pub write-on :
-      (place : ℕ) (need : Need) (i v : ℕ) (told : Stepped B) → IsOn told → HasStepped place_of need_of e f before events told
-      → IsUnderWay e.caller (write place need i v) e.point added → CallGoesOn e f (write place need i v) before events added
-  write-on place need i v stepped.More on step way = told-of_write place_of need_of e f before events added place need i v stepped.More step way
-  write-on place need i v stepped.Lost on step way = told-of_write place_of need_of e f before events added place need i v stepped.Lost step way
-  write-on place need i v stepped.Cleared on step way = told-of_write place_of need_of e f before events added place need i v stepped.Cleared step way
-  write-on place need i v told on step way = absurd on
-
-  pub read-on :
-      (place : ℕ) (need : Need) (i : ℕ) (told : Stepped B) → IsOn told → HasStepped place_of need_of e f before events told
-      → IsUnderWay e.caller (read place need i) e.point added → CallGoesOn e f (read place need i) before events added
-  read-on place need i stepped.More on step way = told-of_read place_of need_of e f before events added place need i stepped.More step way
-  read-on place need i stepped.Lost on step way = told-of_read place_of need_of e f before events added place need i stepped.Lost step way
-  read-on place need i stepped.Cleared on step way = told-of_read place_of need_of e f before events added place need i stepped.Cleared step way
-  read-on place need i told on step way = absurd on
-
-  pub put-on :
-      (place : ℕ) (need : Need) (shelf : ℕ) (told : Stepped B) → IsOn told → HasStepped place_of need_of e f before events told
-      → IsUnderWay e.caller (put place need shelf) e.point added → CallGoesOn e f (put place need shelf) before events added
-  put-on place need shelf stepped.More on step way = told-of_put place_of need_of e f before events added place need shelf stepped.More step way
-  put-on place need shelf stepped.Lost on step way = told-of_put place_of need_of e f before events added place need shelf stepped.Lost step way
-  put-on place need shelf stepped.Cleared on step way = told-of_put place_of need_of e f before events added place need shelf stepped.Cleared step way
-  put-on place need shelf told on step way = absurd on
-
-  pub take-on :
-      (shelf : ℕ) (told : Stepped B) → IsOn told → HasStepped place_of need_of e f before events told
-      → IsUnderWay e.caller (take_call shelf) e.point added → CallGoesOn e f (take_call shelf) before events added
-  take-on shelf stepped.More on step way = told-of_take place_of need_of e f before events added shelf stepped.More step way
-  take-on shelf stepped.Lost on step way = told-of_take place_of need_of e f before events added shelf stepped.Lost step way
-  take-on shelf stepped.Cleared on step way = told-of_take place_of need_of e f before events added shelf stepped.Cleared step way
-  take-on shelf told on step way = absurd on
+pub call-on :
+    {B : Type 0} (place_of : B → ℕ) (need_of : B → Need) (e f : ErrandFields) (before events added : List Event) (call : Call) (told : Stepped B)
+    → IsOn told → HasStepped place_of need_of e f before events told → IsUnderWay e.caller call e.point added → CallGoesOn e f call before events added
+call-on place_of need_of e f before events added call stepped.More on step way =
+    goes-on e f call before events added progress.More (λ r is. absurd cc) step.moment way
+call-on place_of need_of e f before events added call stepped.Lost on step way =
+    goes-on e f call before events added progress.Lost (λ r is. absurd cc) step.moment way
+call-on place_of need_of e f before events added call stepped.Cleared on step way =
+    goes-on e f call before events added progress.Cleared (λ r is. absurd cc) step.moment way
+call-on place_of need_of e f before events added call told on step way = absurd on
 
 -- a call that goes on spares what it leaves
 pub spares-on :
@@ -222,7 +185,7 @@ spares-on e f call before events added registers goes leaves q other full =
 module _ {B : Type 0} (place_of : B → ℕ) (need_of : B → Need) (g : Geometry) (e f : ErrandFields) (before events : List Event) (operations : List Op)
     (registers : List (Option Held)) (results : List Outcome) (heap : e.geometry ≡ g) (legal : IsLegalWithoutCounts g events) (rest : List Op)
     (told : Stepped B) (on : IsOn told) (step : HasStepped place_of need_of e f before events told) where
-  -- what stays beside it
+  -- the lane stands behind the step at this stage, with its registers spared
   pub record StaysSo (at : OperationStage) : Type 0 where
     pub more : List Event
     pub moved_on : HasMovedOn e f before events more
@@ -234,7 +197,7 @@ module _ {B : Type 0} (place_of : B → ℕ) (need_of : B → Need) (g : Geometr
       → drop (length results) operations ≡ op.Alloc r need v ∷ rest
       → IsDoing e.caller before e.point lane.position registers (op.Alloc r need v) at lane.added → StaysSo at
   alloc-stays r need v stage.Calling lane next doing =
-      let goes = alloc-on place_of need_of e f before events lane.added need told on step doing.3 in
+      let goes = call-on place_of need_of e f before events lane.added (alloc need) told on step doing.3 in
       let spares = spares-on e f (alloc need) before events lane.added registers goes (λ q other full. tt) in
       record {
         more = goes.more;
@@ -250,7 +213,7 @@ module _ {B : Type 0} (place_of : B → ℕ) (need_of : B → Need) (g : Geometr
       let held = doing.0 in
       let filling = doing.4 in
       let writing = filling.writing in
-      let goes = write-on place_of need_of e f before events [] held.place writing.need i ((v + i) % 2 ^ 64) told on step writing.under_way in
+      let goes = call-on place_of need_of e f before events [] (write held.place writing.need i ((v + i) % 2 ^ 64)) told on step writing.under_way in
       let none : goes.more ≡ [] = write-none e.caller held.place writing.need i ((v + i) % 2 ^ 64) (stage_of f.point) goes.more goes.under_way in
       let moved = moved-none e f before events goes.more none goes.moved_on in
       let way : IsUnderWay e.caller (write held.place writing.need i ((v + i) % 2 ^ 64)) f.point [] =
@@ -288,7 +251,7 @@ module _ {B : Type 0} (place_of : B → ℕ) (need_of : B → Need) (g : Geometr
       → drop (length results) operations ≡ op.Free r ∷ rest
       → IsDoing e.caller before e.point lane.position registers (op.Free r) at lane.added → StaysSo at
   free-stays r stage.Calling lane next doing =
-      let goes = free-on place_of need_of e f before events lane.added doing.held.place doing.need told on step doing.under_way in
+      let goes = call-on place_of need_of e f before events lane.added (free doing.held.place doing.need) told on step doing.under_way in
       let spares = spares-on e f (free doing.held.place doing.need) before events lane.added registers goes (λ q other full. doing.apart q other full) in
       record {
         more = goes.more;
@@ -323,7 +286,7 @@ module _ {B : Type 0} (place_of : B → ℕ) (need_of : B → Need) (g : Geometr
   fill-stays r v (stage.Filling i) lane next doing =
       let held = doing.0 in
       let writing = doing.3 in
-      let goes = write-on place_of need_of e f before events [] held.place writing.need i ((v + i) % 2 ^ 64) told on step writing.under_way in
+      let goes = call-on place_of need_of e f before events [] (write held.place writing.need i ((v + i) % 2 ^ 64)) told on step writing.under_way in
       let none : goes.more ≡ [] = write-none e.caller held.place writing.need i ((v + i) % 2 ^ 64) (stage_of f.point) goes.more goes.under_way in
       let moved = moved-none e f before events goes.more none goes.moved_on in
       let way : IsUnderWay e.caller (write held.place writing.need i ((v + i) % 2 ^ 64)) f.point [] =
@@ -356,7 +319,7 @@ module _ {B : Type 0} (place_of : B → ℕ) (need_of : B → Need) (g : Geometr
       → drop (length results) operations ≡ op.Put r shelf ∷ rest
       → IsDoing e.caller before e.point lane.position registers (op.Put r shelf) at lane.added → StaysSo at
   put-stays r shelf stage.Calling lane next doing =
-      let goes = put-on place_of need_of e f before events lane.added doing.held.place doing.need shelf told on step doing.under_way in
+      let goes = call-on place_of need_of e f before events lane.added (put doing.held.place doing.need shelf) told on step doing.under_way in
       let spares = spares-on e f (put doing.held.place doing.need shelf) before events lane.added registers goes (λ q other full. doing.apart q other full) in
       record {
         more = goes.more;
@@ -389,7 +352,7 @@ module _ {B : Type 0} (place_of : B → ℕ) (need_of : B → Need) (g : Geometr
       → drop (length results) operations ≡ op.Take r shelf ∷ rest
       → IsDoing e.caller before e.point lane.position registers (op.Take r shelf) at lane.added → StaysSo at
   take-stays r shelf stage.Calling lane next doing =
-      let goes = take-on place_of need_of e f before events lane.added shelf told on step doing.2 in
+      let goes = call-on place_of need_of e f before events lane.added (take_call shelf) told on step doing.2 in
       let spares = spares-on e f (take_call shelf) before events lane.added registers goes (λ q other full. tt) in
       record {
         more = goes.more;
@@ -414,7 +377,7 @@ module _ {B : Type 0} (place_of : B → ℕ) (need_of : B → Need) (g : Geometr
   check-stays r (stage.Summing i total) lane next doing =
       let held = doing.0 in
       let summing = doing.3 in
-      let goes = read-on place_of need_of e f before events [] held.place summing.need i told on step summing.under_way in
+      let goes = call-on place_of need_of e f before events [] (read held.place summing.need i) told on step summing.under_way in
       let none : goes.more ≡ [] = read-none e.caller held.place summing.need i (stage_of f.point) goes.more goes.under_way in
       let moved = moved-none e f before events goes.more none goes.moved_on in
       let way : IsUnderWay e.caller (read held.place summing.need i) f.point [] =
@@ -466,7 +429,7 @@ module _ {B : Type 0} (place_of : B → ℕ) (need_of : B → Need) (g : Geometr
       → drop (length results) operations ≡ op.Resize r need ∷ rest
       → IsDoing e.caller before e.point lane.position registers (op.Resize r need) at lane.added → StaysSo at
   resize-stays r need stage.Calling lane next doing =
-      let goes = alloc-on place_of need_of e f before events lane.added need told on step doing.under_way in
+      let goes = call-on place_of need_of e f before events lane.added (alloc need) told on step doing.under_way in
       let spares = spares-on e f (alloc need) before events lane.added registers goes (λ q other full. tt) in
       let quiet = quiet-append doing.old.place lane.added goes.more
       (quiet-asking doing.old.place e.caller need (stage_of f.point) (lane.added ++ goes.more) goes.under_way) in
@@ -494,7 +457,7 @@ module _ {B : Type 0} (place_of : B → ℕ) (need_of : B → Need) (g : Geometr
             legal spares);
       }
   resize-stays r need (stage.Copying old i None) lane next doing =
-      let goes = read-on place_of need_of e f before events [] old.place old.need i told on step doing.under_way in
+      let goes = call-on place_of need_of e f before events [] (read old.place old.need i) told on step doing.under_way in
       let none : goes.more ≡ [] = read-none e.caller old.place old.need i (stage_of f.point) goes.more goes.under_way in
       let moved = moved-none e f before events goes.more none goes.moved_on in
       let spares : SparesAll registers [] = λ q other full. tt in
@@ -524,7 +487,7 @@ module _ {B : Type 0} (place_of : B → ℕ) (need_of : B → Need) (g : Geometr
       }
   resize-stays r need (stage.Copying old i (Some word)) lane next doing =
       let to = doing.new.place in
-      let goes = write-on place_of need_of e f before events [] to (need_of_words need) i word told on step doing.under_way in
+      let goes = call-on place_of need_of e f before events [] (write to (need_of_words need) i word) told on step doing.under_way in
       let none : goes.more ≡ [] = write-none e.caller to (need_of_words need) i word (stage_of f.point) goes.more goes.under_way in
       let moved = moved-none e f before events goes.more none goes.moved_on in
       let spares : SparesAll registers [] = λ q other full. tt in
@@ -553,7 +516,7 @@ module _ {B : Type 0} (place_of : B → ℕ) (need_of : B → Need) (g : Geometr
             legal spares);
       }
   resize-stays r need stage.Releasing lane next doing =
-      let goes = free-on place_of need_of e f before events doing.part doing.old.place doing.old.need told on step doing.under_way in
+      let goes = call-on place_of need_of e f before events doing.part (free doing.old.place doing.old.need) told on step doing.under_way in
       let spares = spares-on e f (free doing.old.place doing.old.need) before events doing.part registers goes
       (λ q other full. doing.replacing.apart q other full) in
       record {

@@ -4,6 +4,7 @@ use Rattle.std.proofs.Common.{◌∙◌, subst, arith, get_or, drop-cons, below_
 use Rattle.heap_geometry.specs.declared.geometry.Geometry.{Geometry}
 use Rattle.heap_geometry.specs.Need.{need_of}
 use Rattle.pool_model.specs.declared.event.Event.{Event}
+use Rattle.errand_steps.specs.declared.told.Stepped.{Stepped}
 use Rattle.errand_steps.specs.Begins.{IsBusy}
 use Rattle.errand_steps.specs.Errands.{ErrandFields}
 use Rattle.errand_steps.specs.Calls.{alloc, free, write, read, put, take}
@@ -14,7 +15,6 @@ use Rattle.step_machine.specs.Moments.{HasSeenMore, IsServed}
 use Rattle.trace_text.specs.declared.trace.Op.{Op}
 use Rattle.trace_text.specs.declared.trace.Op.TheVariants as op
 use Rattle.lane_engine.specs.Engines.{machine_at}
-use Rattle.lane_engine.specs.declared.stepped.Stepped.{Stepped}
 use Rattle.lane_engine.specs.declared.grip.Grip.{Grip}
 use Rattle.lane_engine.specs.Machines.{MovesCore, grip_need, grip_place}
 use Rattle.lane_engine.specs.Told.{HasStepped}
@@ -34,7 +34,7 @@ use Rattle.trace_lane.proofs.AdvanceLemmas.{advance-none, advance-then}
 use Rattle.trace_lane.proofs.ScriptLemmas.{here-below}
 use Rattle.trace_lane.proofs.PartAdvances.{calls-kept, part-begins, part-steps}
 
--- where an operation is under way its caller is busy
+-- the caller of a lane is busy where an operation is under way
 doing-busy :
     (caller : ℕ) (events : List Event) (e : ErrandFields) (position : Position) (registers : List (Option Held)) (operation : Op) (at : OperationStage)
     (added : List Event) → IsDoing caller events e.point position registers operation at added → IsBusy e
@@ -89,7 +89,7 @@ doing-busy caller pool e position registers (op.Resize r need) stage.Between add
 doing-busy caller pool e position registers (op.Resize r need) (stage.Filling i) added doing = absurd doing
 doing-busy caller pool e position registers (op.Resize r need) (stage.Summing i total) added doing = absurd doing
 
--- which counts as begun
+-- an operation that is under way counts as begun
 pub count-under : (results : List Outcome) (at : OperationStage) → at ≢ stage.Between → begun_count results at ≡ length results + 1
 count-under results stage.Between not = absurd (not refl)
 count-under results stage.Calling not = omega arith
@@ -128,7 +128,7 @@ pub next-op :
 next-op operations results k d here below =
     (drop (suc k) operations, ap (λ n. drop n operations) here ∙ drop-cons operations k d below)
 
--- so many operations begun, and one more
+-- the first operations of a lane have passed the gate, with one more
 pub passed-more :
     (passed : ℕ → ℕ → Type 0) (caller count : ℕ) → FirstPassed passed caller count → passed caller (min count (2 ^ 32 - 1))
     → FirstPassed passed caller (count + 1)
@@ -162,7 +162,7 @@ pub before-next :
 before-next c operations lane operation on between next =
     record { next = next; between = between; stands = on.stands; served = core-served c lane.caller on.core on.has }
 
--- so it does with the operation at this place, where it has as many outcomes
+-- a lane with as many outcomes, between two operations, may begin the operation at this place
 pub next-ready :
     (c : CoreFields) (operations : List Op) (lane : LaneState Grip) (k : ℕ) (d : Op) → StandsOn c operations lane → lane.stage ≡ stage.Between
     → length lane.outcomes.items ≡ k → k < length operations → MayBeginOperation (get_or operations k d) c operations lane
@@ -190,7 +190,7 @@ pub record HasMade (t u : CoreFields) (lane : LaneState Grip) (told : Stepped Gr
       → (errand_at u.errands other ≡ errand_at t.errands other) × HasSeenMore other t.events u.events
 
 module _ (passed : ℕ → ℕ → Type 0) (operations : List Op) where
-  -- nothing has begun
+  -- a lane has gone on without a move, and nothing has begun
   pub onward-none : (c : CoreFields) (lane : LaneState Grip) → StandsOn c operations lane → AdvancesOn passed operations c c lane lane false
   onward-none c lane stands =
       record {
@@ -202,7 +202,7 @@ module _ (passed : ℕ → ℕ → Type 0) (operations : List Op) where
         gate = λ h. h;
       }
 
-  -- one more operation
+  -- a lane has gone on without a step, and one more operation has begun
   pub onward-more :
       (s t u : CoreFields) (lane mid after : LaneState Grip) (operation : Op) → AdvancesOn passed operations s t lane mid false → IsCore u
       → MayBeginOperation operation t operations mid → BeginsOperation operation t u mid after → passed lane.caller (min (length mid.outcomes.items) (2 ^ 32 - 1))
@@ -249,7 +249,7 @@ module _ (passed : ℕ → ℕ → Type 0) (operations : List Op) where
         count = (goes.gone_on [] operations ready).count;
       }
 
-  -- and then a step, of the operation that is under way
+  -- a step of the operation that is under way may be answered
   pub step-told :
       (s t u : CoreFields) (lane mid : LaneState Grip) (told : Stepped Grip) (k : ℕ) (d : Op) → AdvancesOn passed operations s t lane mid false
       → mid.stage ≢ stage.Between → HasMade t u mid told
@@ -269,7 +269,7 @@ module _ (passed : ℕ → ℕ → Type 0) (operations : List Op) where
         still_served = core-served u mid.caller made.rule (subst (λ (g : Geometry). mid.caller < g.callers) (sym made.geometry) on.has);
       }
 
-  -- which is answered
+  -- a lane has gone on by a step, which is answered
   pub onward-steps :
       (s t u v : CoreFields) (lane mid after : LaneState Grip) (told : Stepped Grip) (k : ℕ) (d : Op) → AdvancesOn passed operations s t lane mid false
       → t.events ≡ s.events → mid.stage ≢ stage.Between → HasMade t u mid told
@@ -302,7 +302,7 @@ module _ (passed : ℕ → ℕ → Type 0) (operations : List Op) where
             subst (FirstPassed passed lane.caller) (count ∙ sym gone.count) (so.gate first);
       }
 
--- where the lane is between two operations again, one more has its outcome
+-- a lane that is between two operations again has one outcome more
 pub begun-more :
     (before after : List Outcome) (at : OperationStage) (op : ℕ) → at ≡ stage.Between → begun_count after at ≡ length before + 1 → length before ≡ op
     → length after ≡ op + 1

@@ -147,7 +147,7 @@ module _ {B : Type 0} (place_of : B → ℕ) (need_of : B → Need) where
   pub count-ends : (results : List Outcome) (result : Outcome) → begun_count (results ++ result ∷ []) stage.Between ≡ length results + 1
   count-ends results result = let more = length-append results (result ∷ []) in omega arith
 
--- all together
+-- a lane has gone on: all parts of it together
 pub gone-on :
     {B : Type 0} (engine : Engine B) (h : ErrandFields) (begun : Option Call) (again : Option Call → Type 0) (operations : List Op)
     (lane new : LaneState B) (blocks : List (Option B)) (results : List Outcome) (at : OperationStage) → Became lane new blocks results at

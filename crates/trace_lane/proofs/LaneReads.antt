@@ -6,6 +6,9 @@ use Rattle.heap_geometry.specs.declared.need.Need.{Need}
 use Rattle.heap_geometry.specs.Need.{usable_words}
 use Rattle.pool_model.specs.declared.event.Event.{Event}
 use Rattle.pool_model.specs.Histories.{own}
+use Rattle.errand_steps.specs.declared.told.Ending.{Ending}
+use Rattle.errand_steps.specs.declared.told.Ending.TheVariants as ending
+use Rattle.errand_steps.specs.declared.told.Stepped.TheVariants as stepped
 use Rattle.errand_steps.specs.Begins.{IsIdle}
 use Rattle.errand_steps.specs.Calls.{Call, read, take, begun_by}
 use Rattle.errand_steps.specs.Errands.{ErrandFields}
@@ -13,8 +16,6 @@ use Rattle.step_machine.specs.Cores.{OwnsAfter}
 use Rattle.trace_text.specs.declared.trace.Op.{Op}
 use Rattle.trace_text.specs.declared.trace.Op.TheVariants as op
 use Rattle.lane_engine.specs.Engines.{Engine}
-use Rattle.lane_engine.specs.declared.stepped.Stepped.{Stepped}
-use Rattle.lane_engine.specs.declared.stepped.Stepped.TheVariants as stepped
 use Rattle.lane_outcomes.specs.declared.registers.Held.{Held}
 use Rattle.lane_outcomes.specs.declared.outcome.Outcome.{Outcome}
 use Rattle.lane_outcomes.specs.declared.outcome.Outcome.TheVariants as outcome
@@ -34,14 +35,14 @@ use Rattle.trace_lane.proofs.LaneTold.{behind-some, behind-none, heap, stood-at,
 use Rattle.trace_lane.proofs.ScriptLemmas.{lane-here, few-begun, check-goes_on, check-ends, put-ends, put-finds_full, take-again, take-got, take-finds_none}
 
 module _ {B : Type 0} (engine : Engine B) (seen : List Event) (operations : List Op) (lane : LaneState B) where
-  abbrev Told : Op → Stepped B → Type 0
-  Told operation told = IsTold engine operation told seen operations lane
+  abbrev Told : Op → Ending B → Type 0
+  Told operation told = IsTold engine operation (stepped.Done told) seen operations lane
 
   abbrev held : List (Option Held)
   held = registers_at engine lane.registers.items
 
   -- a word was read, of the block in the register
-  read-of : (r word : ℕ) (t : Told (op.Check r) (stepped.Word word))
+  read-of : (r word : ℕ) (t : Told (op.Check r) (ending.Word word))
       → HasRead engine.place_of engine.need_of engine.geometry t.e engine.errand seen engine.events operations held lane.outcomes.items
       (heap t) t.still_served.legal t.next.0 lane.stage r word
   read-of r word t =
@@ -60,7 +61,7 @@ module _ {B : Type 0} (engine : Engine B) (seen : List Event) (operations : List
     pub owned : OwnsAfter engine.events lane.caller (engine.place_of block) (engine.need_of block)
     pub inside : i < usable_words (engine.need_of block)
 
-  pub word-read : (r word : ℕ) → Told (op.Check r) (stepped.Word word) → IsReading r
+  pub word-read : (r word : ℕ) → Told (op.Check r) (ending.Word word) → IsReading r
   word-read r word t =
       let w = read-of r word t in
       let found = block-in engine.place_of engine.need_of lane.registers.items r w.held w.full in
@@ -94,7 +95,7 @@ module _ {B : Type 0} (engine : Engine B) (seen : List Event) (operations : List
     Gone h begun = HasGoneOn (record engine { errand = h }) begun again operations lane new
 
     pub part-check_on :
-        (r word next total : ℕ) (t : Told (op.Check r) (stepped.Word word))
+        (r word next total : ℕ) (t : Told (op.Check r) (ending.Word word))
         → let w = word-read r word t in
         next ≡ w.i + 1 → w.i + 1 < usable_words (engine.need_of w.block) → total ≡ total_with lane.stage word
         → Became lane new lane.registers.items lane.outcomes.items (stage.Summing next total)
@@ -139,7 +140,7 @@ module _ {B : Type 0} (engine : Engine B) (seen : List Event) (operations : List
         became
 
     pub part-check_ends :
-        (r word total : ℕ) (t : Told (op.Check r) (stepped.Word word))
+        (r word total : ℕ) (t : Told (op.Check r) (ending.Word word))
         → let w = word-read r word t in
         usable_words (engine.need_of w.block) ≤ w.i + 1 → total ≡ total_with lane.stage word
         → Became lane new lane.registers.items (lane.outcomes.items ++ outcome.Sum total ∷ []) stage.Between → Gone engine.errand None
@@ -171,7 +172,7 @@ module _ {B : Type 0} (engine : Engine B) (seen : List Event) (operations : List
 
     -- an operation of one call has its outcome
     calling-ends :
-        (operation : Op) (told : Stepped B) (t : Told operation told) (blocks : List (Option B)) (result : Outcome)
+        (operation : Op) (told : Ending B) (t : Told operation told) (blocks : List (Option B)) (result : Outcome)
         → (ends : EndsCalling engine.place_of engine.need_of engine.geometry t.e engine.errand seen engine.events operations held lane.outcomes.items
         (heap t) t.still_served.legal t.next.0 lane.stage
         (registers_at engine blocks) result)
@@ -184,11 +185,11 @@ module _ {B : Type 0} (engine : Engine B) (seen : List Event) (operations : List
         owned script (omega arith)
 
     pub part-put_ends :
-        (r shelf : ℕ) → Told (op.Put r shelf) stepped.Put
+        (r shelf : ℕ) → Told (op.Put r shelf) ending.Put
         → Became lane new lane.registers.items (lane.outcomes.items ++ outcome.Put ∷ []) stage.Between → Gone engine.errand None
     part-put_ends r shelf t became =
         let o = op.Put r shelf in
-        let s : Stepped B = stepped.Put in
+        let s : Ending B = ending.Put in
         let stood = stood-at t lane.stage refl in
         let ends = put-puts engine.place_of engine.need_of engine.geometry t.e engine.errand seen engine.events operations held lane.outcomes.items
         (heap t) t.still_served.legal t.next.0 r shelf lane.stage stood t.next.1
@@ -200,7 +201,7 @@ module _ {B : Type 0} (engine : Engine B) (seen : List Event) (operations : List
 
     -- a block comes into the register
     block-ends :
-        (operation : Op) (told : Stepped B) (t : Told operation told) (r : ℕ) (block : B) (result : Outcome)
+        (operation : Op) (told : Ending B) (t : Told operation told) (r : ℕ) (block : B) (result : Outcome)
         → EndsWithBlock engine.place_of engine.need_of engine.geometry t.e engine.errand seen engine.events operations held lane.outcomes.items
         (heap t) t.still_served.legal t.next.0 lane.stage r block result
         → Became lane new (slice_set lane.registers.items r (Some block)) (lane.outcomes.items ++ result ∷ []) stage.Between
@@ -221,14 +222,14 @@ module _ {B : Type 0} (engine : Engine B) (seen : List Event) (operations : List
         script (omega arith)
 
     pub part-put_full :
-        (r shelf : ℕ) (block : B) → Told (op.Put r shelf) (stepped.Full block)
+        (r shelf found : ℕ) (block : B) → Told (op.Put r shelf) (ending.Full block found)
         → Became lane new (slice_set lane.registers.items r (Some block)) (lane.outcomes.items ++ outcome.ShelfFull ∷ []) stage.Between → Gone engine.errand None
-    part-put_full r shelf block t became =
+    part-put_full r shelf found block t became =
         let o = op.Put r shelf in
-        let s = stepped.Full block in
+        let s = ending.Full block found in
         let stood = stood-at t lane.stage refl in
         let ends = put-finds engine.place_of engine.need_of engine.geometry t.e engine.errand seen engine.events operations held lane.outcomes.items
-        (heap t) t.still_served.legal t.next.0 r shelf block lane.stage stood t.next.1
+        (heap t) t.still_served.legal t.next.0 r shelf found block lane.stage stood t.next.1
         (doing-here t lane.stage refl) t.stepped in
         let here = lane-here engine.geometry t.e.caller seen t.e operations held lane.outcomes.items lane.stage o t.next.0 stood t.next.1 in
         block-ends o s t r block outcome.ShelfFull ends became
@@ -237,13 +238,13 @@ module _ {B : Type 0} (engine : Engine B) (seen : List Event) (operations : List
         (registers_at engine (slice_set lane.registers.items r (Some block))) r shelf calls here script)
 
     pub part-take_got :
-        (r shelf words place : ℕ) (need : Need) (block : B) → Told (op.Take r shelf) (stepped.Got block) → words ≡ usable_words (engine.need_of block)
+        (r shelf words place : ℕ) (need : Need) (block : B) → Told (op.Take r shelf) (ending.Got block) → words ≡ usable_words (engine.need_of block)
         → place ≡ engine.place_of block → need ≡ engine.need_of block
         → Became lane new (slice_set lane.registers.items r (Some block)) (lane.outcomes.items ++ outcome.Took words place need ∷ []) stage.Between
         → Gone engine.errand None
     part-take_got r shelf words place need block t words_are place_is need_is became =
         let o = op.Take r shelf in
-        let s = stepped.Got block in
+        let s = ending.Got block in
         let stood = stood-at t lane.stage refl in
         let result : Outcome = outcome.Took (usable_words (engine.need_of block)) (engine.place_of block) (engine.need_of block) in
         let is : outcome.Took words place need ≡ result =
@@ -261,11 +262,11 @@ module _ {B : Type 0} (engine : Engine B) (seen : List Event) (operations : List
         (engine.need_of block) script)
 
     pub part-take_none :
-        (r shelf : ℕ) → Told (op.Take r shelf) stepped.Empty
+        (r shelf : ℕ) → Told (op.Take r shelf) ending.Empty
         → Became lane new lane.registers.items (lane.outcomes.items ++ outcome.ShelfEmpty ∷ []) stage.Between → Gone engine.errand None
     part-take_none r shelf t became =
         let o = op.Take r shelf in
-        let s : Stepped B = stepped.Empty in
+        let s : Ending B = ending.Empty in
         let stood = stood-at t lane.stage refl in
         let ends = take-finds engine.place_of engine.need_of engine.geometry t.e engine.errand seen engine.events operations held lane.outcomes.items
         (heap t) t.still_served.legal t.next.0 r shelf lane.stage stood t.next.1
@@ -276,25 +277,25 @@ module _ {B : Type 0} (engine : Engine B) (seen : List Event) (operations : List
         (λ calls script. take-finds_none operations lane.outcomes.items stood.position.registers held held r shelf calls here script)
 
   -- a take that missed
-  missed-of : (r shelf : ℕ) (t : Told (op.Take r shelf) stepped.Missed)
+  missed-of : (r shelf expected found : ℕ) (t : Told (op.Take r shelf) (ending.Missed expected found))
       → HasMissed engine.place_of engine.need_of engine.geometry t.e engine.errand seen engine.events operations held lane.outcomes.items
       (heap t) t.still_served.legal t.next.0 lane.stage shelf
-  missed-of r shelf t =
+  missed-of r shelf expected found t =
       take-misses engine.place_of engine.need_of engine.geometry t.e engine.errand seen engine.events operations held lane.outcomes.items
-      (heap t) t.still_served.legal t.next.0 r shelf lane.stage
+      (heap t) t.still_served.legal t.next.0 r shelf expected found lane.stage
       (stood-at t lane.stage refl) t.next.1
       (doing-here t lane.stage refl) t.stepped
 
-  pub missed-idle : (r shelf : ℕ) → Told (op.Take r shelf) stepped.Missed → IsIdle engine.errand
-  missed-idle r shelf t = (missed-of r shelf t).seen.idle
+  pub missed-idle : (r shelf expected found : ℕ) → Told (op.Take r shelf) (ending.Missed expected found) → IsIdle engine.errand
+  missed-idle r shelf expected found t = (missed-of r shelf expected found t).seen.idle
 
   pub part-take_again :
-      (new : LaneState B) (r shelf : ℕ) → Told (op.Take r shelf) stepped.Missed
+      (new : LaneState B) (r shelf expected found : ℕ) → Told (op.Take r shelf) (ending.Missed expected found)
       → Became lane new lane.registers.items lane.outcomes.items lane.stage
       → HasGoneOn (record engine { errand = begun_by engine.errand (take shelf) }) (Some (take shelf)) (IsAgain lane.caller seen engine.events) operations lane new
-  part-take_again new r shelf t became =
+  part-take_again new r shelf expected found t became =
       let o = op.Take r shelf in
-      let missed = missed-of r shelf t in
+      let missed = missed-of r shelf expected found t in
       let call = take shelf in
       let begun : HasBegun engine.errand (begun_by engine.errand call) call = begun-behind t call missed.seen.idle tt in
       let stood = stood-at t lane.stage refl in

@@ -6,6 +6,7 @@ use Rattle.heap_geometry.specs.declared.need.Need.{Need}
 use Rattle.pool_model.specs.declared.event.Event.{Event}
 use Rattle.pool_model.specs.Histories.{own}
 use Rattle.pool_model.proofs.HistoryLemmas.{legal-weaker}
+use Rattle.errand_steps.specs.declared.told.Stepped.{Stepped}
 use Rattle.errand_steps.specs.Begins.{IsIdle, IsBusy}
 use Rattle.errand_steps.specs.Calls.{Call, begun_by}
 use Rattle.errand_steps.specs.Errands.{ErrandFields}
@@ -13,7 +14,6 @@ use Rattle.step_machine.specs.Cores.{OwnsAfter}
 use Rattle.step_machine.specs.Moments.{IsServed}
 use Rattle.trace_text.specs.declared.trace.Op.{Op}
 use Rattle.lane_engine.specs.Engines.{Engine}
-use Rattle.lane_engine.specs.declared.stepped.Stepped.{Stepped}
 use Rattle.lane_outcomes.specs.declared.registers.Held.{Held}
 use Rattle.lane_outcomes.specs.declared.outcome.Outcome.{Outcome}
 use Rattle.lane_outcomes.specs.Lane.{Position}
@@ -45,7 +45,7 @@ doing-begun caller events e position registers operation (stage.Copying old i No
 doing-begun caller events e position registers operation (stage.Copying old i (Some word)) added doing = omega arith
 doing-begun caller events e position registers operation stage.Releasing added doing = omega arith
 
--- the word behind, or none
+-- the word behind one of a block, or none
 pub behind-some : (i words next : ℕ) → Some next ≡ behind i words → (next ≡ i + 1) × (i + 1 < words)
 behind-some i words next is =
     elim (cases_Bool (nat_lt (i + 1) words)) [

@@ -8,6 +8,9 @@ use Rattle.heap_geometry.specs.declared.need.Need.{Need}
 use Rattle.heap_geometry.specs.Need.{usable_words}
 use Rattle.pool_model.specs.declared.event.Event.{Event}
 use Rattle.pool_model.specs.Calls as ended
+use Rattle.errand_steps.specs.declared.told.Ending.{Ending}
+use Rattle.errand_steps.specs.declared.told.Ending.TheVariants as ending
+use Rattle.errand_steps.specs.declared.told.Stepped.TheVariants as stepped
 use Rattle.errand_steps.specs.Begins.{IsIdle}
 use Rattle.errand_steps.specs.Calls.{Call, write, begun_by}
 use Rattle.errand_steps.specs.Errands.{ErrandFields}
@@ -16,8 +19,6 @@ use Rattle.trace_text.specs.declared.limits.TheConstants.{REGISTERS}
 use Rattle.trace_text.specs.declared.trace.Op.{Op}
 use Rattle.trace_text.specs.declared.trace.Op.TheVariants as op
 use Rattle.lane_engine.specs.Engines.{Engine}
-use Rattle.lane_engine.specs.declared.stepped.Stepped.{Stepped}
-use Rattle.lane_engine.specs.declared.stepped.Stepped.TheVariants as stepped
 use Rattle.lane_engine.specs.Told.{HasStepped}
 use Rattle.lane_outcomes.specs.declared.registers.Held.{Held}
 use Rattle.lane_outcomes.specs.declared.outcome.Outcome.{Outcome}
@@ -45,13 +46,13 @@ module _ {B : Type 0} (place_of : B → ℕ) (block_need : B → Need) (e f : Er
     (registers : List (Option Held)) (added : List Event) where
   is-given :
       (r need v : ℕ) (block : B) (at : OperationStage) → IsDoing e.caller before e.point position registers (op.Alloc r need v) at added
-      → HasStepped place_of block_need e f before events (stepped.Given block)
+      → HasStepped place_of block_need e f before events (stepped.Done (ending.Given block))
       → EndsGiven e f need (place_of block) (block_need block) before events added
   is-given r need v block stage.Calling doing step =
-      told-of_alloc place_of block_need e f before events added need (stepped.Given block) step doing.3
+      told-of_alloc place_of block_need e f before events added need (ending.Given block) step doing.3
   is-given r need v block stage.Between doing step = absurd doing
   is-given r need v block (stage.Filling i) doing step =
-      absurd (told-of_write place_of block_need e f before events [] doing.0.place doing.4.writing.need i ((v + i) % 2 ^ 64) (stepped.Given block) step
+      absurd (told-of_write place_of block_need e f before events [] doing.0.place doing.4.writing.need i ((v + i) % 2 ^ 64) (ending.Given block) step
       doing.4.writing.under_way)
   is-given r need v block (stage.Summing i total) doing step = absurd doing
   is-given r need v block (stage.Copying from i w) doing step = absurd doing
@@ -59,9 +60,9 @@ module _ {B : Type 0} (place_of : B → ℕ) (block_need : B → Need) (e f : Er
 
   alloc-fills :
       (r need v : ℕ) (at : OperationStage) → IsDoing e.caller before e.point position registers (op.Alloc r need v) at added
-      → HasStepped place_of block_need e f before events stepped.Wrote → (i : ℕ) × (at ≡ stage.Filling i)
+      → HasStepped place_of block_need e f before events (stepped.Done ending.Wrote) → (i : ℕ) × (at ≡ stage.Filling i)
   alloc-fills r need v stage.Calling doing step =
-      absurd (told-of_alloc place_of block_need e f before events added need stepped.Wrote step doing.3)
+      absurd (told-of_alloc place_of block_need e f before events added need ending.Wrote step doing.3)
   alloc-fills r need v stage.Between doing step = absurd doing
   alloc-fills r need v (stage.Filling i) doing step = (i, refl)
   alloc-fills r need v (stage.Summing i total) doing step = absurd doing
@@ -79,10 +80,10 @@ module _ {B : Type 0} (place_of : B → ℕ) (block_need : B → Need) (e f : Er
 
   -- a write has ended
   is-written :
-      (held : Held) (i v : ℕ) → IsWriting e.caller e.point held i v → HasStepped place_of block_need e f before events stepped.Wrote
+      (held : Held) (i v : ℕ) → IsWriting e.caller e.point held i v → HasStepped place_of block_need e f before events (stepped.Done ending.Wrote)
       → Ends e f (ended.wrote held.place i ((v + i) % 2 ^ 64)) before events []
   is-written held i v writing step =
-      told-of_write place_of block_need e f before events [] held.place writing.need i ((v + i) % 2 ^ 64) stepped.Wrote step writing.under_way
+      told-of_write place_of block_need e f before events [] held.place writing.need i ((v + i) % 2 ^ 64) ending.Wrote step writing.under_way
 
   -- the block in hand, in place of what the register holds of it
   given-by :
@@ -96,8 +97,8 @@ module _ {B : Type 0} (place_of : B → ℕ) (block_need : B → Need) (e f : Er
       subst D (sym same) (doing.1, doing.2, doing.3, doing.4)
 
 module _ {B : Type 0} (engine : Engine B) (seen : List Event) (operations : List Op) (lane : LaneState B) where
-  abbrev Told : Op → Stepped B → Type 0
-  Told operation told = IsTold engine operation told seen operations lane
+  abbrev Told : Op → Ending B → Type 0
+  Told operation told = IsTold engine operation (stepped.Done told) seen operations lane
 
   abbrev held : List (Option Held)
   held = registers_at engine lane.registers.items
@@ -108,7 +109,7 @@ module _ {B : Type 0} (engine : Engine B) (seen : List Event) (operations : List
     pub owned : OwnsAfter engine.events lane.caller (engine.place_of block) (engine.need_of block)
     pub some : 0 < usable_words (engine.need_of block)
 
-  pub given-facts : (r need v : ℕ) (block : B) → Told (op.Alloc r need v) (stepped.Given block) → HasGiven block
+  pub given-facts : (r need v : ℕ) (block : B) → Told (op.Alloc r need v) (ending.Given block) → HasGiven block
   given-facts r need v block t =
       let stood = stood-at t lane.stage refl in
       let doing = doing-here t lane.stage refl in
@@ -132,7 +133,7 @@ module _ {B : Type 0} (engine : Engine B) (seen : List Event) (operations : List
     pub owned : OwnsAfter engine.events lane.caller (engine.place_of block) (engine.need_of block)
     pub inside : i < usable_words (engine.need_of block)
 
-  pub alloc-written : (r need v : ℕ) → r < REGISTERS → Told (op.Alloc r need v) stepped.Wrote → HasWritten r
+  pub alloc-written : (r need v : ℕ) → r < REGISTERS → Told (op.Alloc r need v) ending.Wrote → HasWritten r
   alloc-written r need v within t =
       let first = stood-at t lane.stage refl in
       let at = alloc-fills engine.place_of engine.need_of t.e engine.errand seen engine.events first.position held first.added r need v lane.stage
@@ -157,7 +158,7 @@ module _ {B : Type 0} (engine : Engine B) (seen : List Event) (operations : List
         inside = subst (λ (h : Held). at.0 < h.words) (sym found.2) doing.4.writing.inside;
       }
 
-  pub fill-written : (r v : ℕ) → Told (op.Fill r v) stepped.Wrote → HasWritten r
+  pub fill-written : (r v : ℕ) → Told (op.Fill r v) ending.Wrote → HasWritten r
   fill-written r v t =
       let first = stood-at t lane.stage refl in
       let at = fill-fills engine.place_of engine.need_of t.e engine.errand seen engine.events first.position held first.added r v lane.stage
@@ -192,7 +193,7 @@ module _ {B : Type 0} (engine : Engine B) (seen : List Event) (operations : List
 
   -- the block in hand serves its need
   serves-own :
-      (operation : Op) (told : Stepped B) → Told operation told → (block : B) → OwnsAfter engine.events lane.caller (engine.place_of block) (engine.need_of block)
+      (operation : Op) (told : Ending B) → Told operation told → (block : B) → OwnsAfter engine.events lane.caller (engine.place_of block) (engine.need_of block)
       → IsOfNeed (held_at engine block) (engine.need_of block)
   serves-own operation told t block owned =
       (owned-need engine.geometry engine.events lane.caller (engine.place_of block) (engine.need_of block) t.still_served.legal owned, refl, refl)
@@ -203,7 +204,7 @@ module _ {B : Type 0} (engine : Engine B) (seen : List Event) (operations : List
 
     -- an allocation
     pub part-refused :
-        (r need v : ℕ) → Told (op.Alloc r need v) stepped.Refused
+        (r need v : ℕ) → Told (op.Alloc r need v) ending.Refused
         → Became lane new lane.registers.items (lane.outcomes.items ++ outcome.Refused ∷ []) stage.Between → Gone engine.errand None
     part-refused r need v t became =
         told-ends_so t again new lane.stage refl outcome.Refused
@@ -214,7 +215,7 @@ module _ {B : Type 0} (engine : Engine B) (seen : List Event) (operations : List
         (doing-here t lane.stage refl) t.stepped) became
 
     pub part-spent_later :
-        (r need v : ℕ) → Told (op.Alloc r need v) stepped.Spent
+        (r need v : ℕ) → Told (op.Alloc r need v) ending.Spent
         → Became lane new lane.registers.items (lane.outcomes.items ++ outcome.Spent ∷ []) stage.Between → Gone engine.errand None
     part-spent_later r need v t became =
         told-ends_so t again new lane.stage refl outcome.Spent
@@ -225,7 +226,7 @@ module _ {B : Type 0} (engine : Engine B) (seen : List Event) (operations : List
         (doing-here t lane.stage refl) t.stepped) became
 
     pub part-given :
-        (r need v : ℕ) (block : B) → Told (op.Alloc r need v) (stepped.Given block) → r < REGISTERS
+        (r need v : ℕ) (block : B) → Told (op.Alloc r need v) (ending.Given block) → r < REGISTERS
         → Became lane new (slice_set lane.registers.items r (Some block)) lane.outcomes.items (stage.Filling 0)
         → Gone (begun_by engine.errand (write (engine.place_of block) (engine.need_of block) 0 ((v + 0) % 2 ^ 64)))
         (Some (write (engine.place_of block) (engine.need_of block) 0 ((v + 0) % 2 ^ 64)))
@@ -252,7 +253,7 @@ module _ {B : Type 0} (engine : Engine B) (seen : List Event) (operations : List
         goes.few goes.rises
 
     pub part-given_on :
-        (r need v next : ℕ) (t : Told (op.Alloc r need v) stepped.Wrote) (within : r < REGISTERS)
+        (r need v next : ℕ) (t : Told (op.Alloc r need v) ending.Wrote) (within : r < REGISTERS)
         → let w = alloc-written r need v within t in
         next ≡ w.i + 1 → w.i + 1 < usable_words (engine.need_of w.block)
         → Became lane new lane.registers.items lane.outcomes.items (stage.Filling next)
@@ -278,7 +279,7 @@ module _ {B : Type 0} (engine : Engine B) (seen : List Event) (operations : List
         let goes = alloc-goes_so engine.place_of engine.need_of engine.geometry t.e engine.errand seen engine.events operations held lane.outcomes.items
         (heap t)
         (served-now t) t.next.0 (begun_by engine.errand call) r need v w.i (engine.need_of w.block)
-        stood t.next.1 (held_at engine w.block, by.0, by.1, by.2, by.3) t.stepped inside (serves-own o stepped.Wrote t w.block w.owned) full begun in
+        stood t.next.1 (held_at engine w.block, by.0, by.1, by.2, by.3) t.stepped inside (serves-own o ending.Wrote t w.block w.owned) full begun in
         subst (λ n. Became lane new lane.registers.items lane.outcomes.items (stage.Filling n)
         → Gone (begun_by engine.errand (write (engine.place_of w.block) (engine.need_of w.block) n ((v + n) % 2 ^ 64)))
         (Some (write (engine.place_of w.block) (engine.need_of w.block) n ((v + n) % 2 ^ 64)))) (sym is)
@@ -289,7 +290,7 @@ module _ {B : Type 0} (engine : Engine B) (seen : List Event) (operations : List
         became
 
     pub part-given_ends :
-        (r need v words place : ℕ) (t : Told (op.Alloc r need v) stepped.Wrote) (within : r < REGISTERS)
+        (r need v words place : ℕ) (t : Told (op.Alloc r need v) ending.Wrote) (within : r < REGISTERS)
         → let w = alloc-written r need v within t in
         usable_words (engine.need_of w.block) ≤ w.i + 1 → words ≡ usable_words (engine.need_of w.block) → place ≡ engine.place_of w.block
         → Became lane new lane.registers.items (lane.outcomes.items ++ outcome.Given words place ∷ []) stage.Between → Gone engine.errand None
@@ -317,7 +318,7 @@ module _ {B : Type 0} (engine : Engine B) (seen : List Event) (operations : List
 
     -- a fill
     pub part-fill_on :
-        (r v next : ℕ) (t : Told (op.Fill r v) stepped.Wrote)
+        (r v next : ℕ) (t : Told (op.Fill r v) ending.Wrote)
         → let w = fill-written r v t in
         next ≡ w.i + 1 → w.i + 1 < usable_words (engine.need_of w.block)
         → Became lane new lane.registers.items lane.outcomes.items (stage.Filling next)
@@ -341,7 +342,7 @@ module _ {B : Type 0} (engine : Engine B) (seen : List Event) (operations : List
         let goes = fill-goes_so engine.place_of engine.need_of engine.geometry t.e engine.errand seen engine.events operations held lane.outcomes.items
         (heap t)
         (served-now t) t.next.0 (begun_by engine.errand call) r v w.i (engine.need_of w.block)
-        stood t.next.1 (held_at engine w.block, by.0, by.1, by.2, by.3) t.stepped inside (serves-own o stepped.Wrote t w.block w.owned) begun in
+        stood t.next.1 (held_at engine w.block, by.0, by.1, by.2, by.3) t.stepped inside (serves-own o ending.Wrote t w.block w.owned) begun in
         subst (λ n. Became lane new lane.registers.items lane.outcomes.items (stage.Filling n)
         → Gone (begun_by engine.errand (write (engine.place_of w.block) (engine.need_of w.block) n ((v + n) % 2 ^ 64)))
         (Some (write (engine.place_of w.block) (engine.need_of w.block) n ((v + n) % 2 ^ 64)))) (sym is)
@@ -352,7 +353,7 @@ module _ {B : Type 0} (engine : Engine B) (seen : List Event) (operations : List
         became
 
     pub part-fill_ends :
-        (r v : ℕ) (t : Told (op.Fill r v) stepped.Wrote)
+        (r v : ℕ) (t : Told (op.Fill r v) ending.Wrote)
         → let w = fill-written r v t in
         usable_words (engine.need_of w.block) ≤ w.i + 1
         → Became lane new lane.registers.items (lane.outcomes.items ++ outcome.Filled ∷ []) stage.Between → Gone engine.errand None
@@ -371,7 +372,7 @@ module _ {B : Type 0} (engine : Engine B) (seen : List Event) (operations : List
 
     -- a free
     pub part-freed :
-        (r : ℕ) → Told (op.Free r) stepped.Freed
+        (r : ℕ) → Told (op.Free r) ending.Freed
         → Became lane new lane.registers.items (lane.outcomes.items ++ outcome.Freed ∷ []) stage.Between → Gone engine.errand None
     part-freed r t became =
         told-ends_so t again new lane.stage refl outcome.Freed

@@ -31,7 +31,7 @@ use Rattle.trace_lane.specs.Paths.{held_by, held_blocks}
 use Rattle.trace_lane.specs.Scripts.{registers_from}
 use Rattle.trace_lane.proofs.LaneParts.{set-held, slot-empty, slot-full}
 
--- one miss more
+-- takes that missed, with one more
 pub misses-more :
     (shelf : ℕ) (misses : List Made) (expected found : ℕ) → AreMisses shelf misses
     → AreMisses shelf (misses ++ answered (take shelf) (reply.Missed expected found) ∷ [])
@@ -39,13 +39,13 @@ misses-more shelf [] expected found are = (expected, found, refl, tt)
 misses-more shelf (m ∷ misses) expected found are = (are.0, are.1, are.2, misses-more shelf misses expected found are.3)
 
 module _ {S : Type 0} (called : S → Call → Reply → S → Type 0) where
-  -- calls and then others
+  -- calls and then others lead on from state to state
   pub leads-then :
       (s t u : S) (made more : List Made) → LeadsBy called s made t → LeadsBy called t more u → LeadsBy called s (made ++ more) u
   leads-then s t u [] more leads rest = subst (λ x. LeadsBy called x more u) leads rest
   leads-then s t u (m ∷ made) more leads rest = (leads.0, leads.1, leads-then leads.0 t u made more leads.2 rest)
 
-  -- one operation more
+  -- operations that were made, with one more
   pub all-more :
       (registers : List (Option Held)) (operations : List Op) (results : List Outcome) (s t u : S) (operation : Op) (result : Outcome) (rest : List Op)
       → drop (length results) operations ≡ operation ∷ rest → AllMade called registers operations results s t
@@ -148,7 +148,7 @@ module _ {B : Type 0} (place_of : B → ℕ) (need_of : B → Need) where
     once = holds.once;
   }
 
-  -- a register within
+  -- a register that holds a block is one of those that there are
   full-inside : (blocks : List (Option B)) (r : ℕ) (block : B) → slice_index_or blocks r None ≡ Some block → r < length blocks
   full-inside [] r block full = absurd (cc)
   full-inside (b ∷ blocks) zero block full = omega arith
@@ -317,7 +317,7 @@ module _ {B S : Type 0} (place_of : B → ℕ) (need_of_block : B → Need) (mak
       (holds-emptied place_of need_of_block (maker.owns s) (maker.owns t) old.registers.items r block full holds
       (λ place need differ owned. laws.keeps s t call reply.Put place need one differ owned))
 
-  -- the block that comes back is the same
+  -- a register that is set twice holds what it was set to last
   set-twice : (blocks : List (Option B)) (r : ℕ) (a b : Option B) → slice_set (slice_set blocks r a) r b ≡ slice_set blocks r b
   set-twice [] r a b = refl
   set-twice (x ∷ blocks) zero a b = refl

@@ -53,7 +53,7 @@ pub record IsLater (g : Geometry) (e f : ErrandFields) (before after : List Even
   pub at_limit : e.turns ≡ g.turn_limit → f.turns ≡ g.turn_limit
   pub legal : IsLegal g after
 
--- after a step; after a call began; where nothing happened
+-- the later moment after a step; after a call began; and where nothing happened
 pub later-moved :
     (g : Geometry) (e f : ErrandFields) (before after more : List Event) → HasMovedOn e f before after more → e.geometry ≡ g → IsLegal g after
     → IsLater g e f before after
@@ -200,7 +200,7 @@ given-by caller need place (Small class) events giving =
 given-by caller need place (Large units) events giving = record { looked = []; stills = tt; whole = giving }
 given-by caller need place TooLarge events giving = absurd giving
 
--- with the block that an allocation is given the registers hold the caller's blocks, and no two the same one
+-- the registers hold the caller's blocks with the one that an allocation is given, and no two the same one
 pub given-holds :
     (g : Geometry) (setting : Setting) (operations : List Op) (results : List Outcome) (position : Position) (r need place words : ℕ) (calls : List Event)
     → IsLegal g setting.history → Walks setting start operations results position → own setting.caller setting.history ≡ position.done ++ calls

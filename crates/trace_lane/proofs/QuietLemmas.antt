@@ -34,7 +34,7 @@ pub quiet-append : (place : ℕ) (events more : List Event) → AllQuiet place (
 quiet-append place [] more h = h
 quiet-append place (event ∷ events) more h = quiet-append place events more h.1
 
--- one event of the caller's
+-- an event that is quiet at a place leaves the block that a caller owns there as it is
 own-quiet :
     (g : Geometry) (before : List Event) (event : Event) (caller place : ℕ) (block : Block) → IsAllowed g before event → Quiet place event
     → block_at place (pool_of before) ≡ Some block → block.owner ≡ Caller caller

@@ -153,7 +153,7 @@ module _ {B : Type 0} (place_of : B → ℕ) (block_need : B → Need) (g : Geom
         few = omega arith;
       }
 
-  -- the next call begins behind it
+  -- the next call of the resize begins behind the one that has ended
   module _ (h : ErrandFields) where
     -- a block is given, and the first word of the old one is read
     pub resize-goes_given :

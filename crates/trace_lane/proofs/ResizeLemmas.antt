@@ -79,7 +79,7 @@ pub writing-more :
 writing-more caller place n value =
     map-range_with_len_more (λ i. Write caller place i (value i)) 0 n n (omega arith)
 
--- a word that is read later doesn't matter
+-- the writes of the first words of a copy don't depend on a word that is read later
 pub writing-longer :
     (caller place n word : ℕ) (copied : List ℕ) → n ≤ length copied
     → writing caller place n (λ i. slice_index_or (copied ++ word ∷ []) i 0) ≡ writing caller place n (λ i. slice_index_or copied i 0)
@@ -110,7 +110,7 @@ word-each contents words next word all each last i below =
           (subst (IsWord (slice_index_or contents next None)) (sym found) last)
     ]
 
--- one word more was read
+-- a resize has read one word more of its old block
 abbrev pub replacing-read :
     (caller : ℕ) (events : List Event) (position : Position) (registers : List (Option Held)) (r need : ℕ) (old new : Held) (copied : List ℕ)
     (next word : ℕ) (added : List Event) (replacing : IsReplacing caller events position registers r need old new copied next added)
@@ -135,7 +135,7 @@ replacing-read caller events position registers r need old new copied next word 
       so_far = replacing.so_far ∙ ap (λ xs. replacing.given ++ xs) (sym (writing-longer caller new.place next word copied (omega arith)));
     }
 
--- one word more was written
+-- a resize has written one word more of its new block
 abbrev pub replacing-wrote :
     (caller : ℕ) (events : List Event) (position : Position) (registers : List (Option Held)) (r need : ℕ) (old new : Held) (copied : List ℕ)
     (next word : ℕ) (added more : List Event) → IsReplacing caller events position registers r need old new copied next added

@@ -10,6 +10,9 @@ use Rattle.pool_model.specs.Calls as ended
 use Rattle.pool_model.specs.Legal.{IsLegalWithoutCounts}
 use Rattle.pool_model.specs.Pool.{pool_of}
 use Rattle.pool_model.proofs.HistoryLemmas.{legal-weaker}
+use Rattle.errand_steps.specs.declared.told.Ending.{Ending}
+use Rattle.errand_steps.specs.declared.told.Ending.TheVariants as ending
+use Rattle.errand_steps.specs.declared.told.Stepped.TheVariants as stepped
 use Rattle.errand_steps.specs.Begins.{IsIdle}
 use Rattle.errand_steps.specs.Calls.{Call, begun_by, free, read, write}
 use Rattle.step_machine.specs.Cores.{OwnsAfter}
@@ -17,8 +20,6 @@ use Rattle.trace_text.specs.declared.limits.TheConstants.{REGISTERS}
 use Rattle.trace_text.specs.declared.trace.Op.{Op}
 use Rattle.trace_text.specs.declared.trace.Op.TheVariants as op
 use Rattle.lane_engine.specs.Engines.{Engine}
-use Rattle.lane_engine.specs.declared.stepped.Stepped.{Stepped}
-use Rattle.lane_engine.specs.declared.stepped.Stepped.TheVariants as stepped
 use Rattle.lane_outcomes.specs.declared.registers.Held.{Held}
 use Rattle.lane_outcomes.specs.declared.outcome.Outcome.{Outcome}
 use Rattle.lane_outcomes.specs.declared.outcome.Outcome.TheVariants as outcome
@@ -45,7 +46,7 @@ use Rattle.trace_lane.proofs.QuietLemmas.{AllQuiet}
 use Rattle.trace_lane.proofs.ResizeAnswers.{resize-ends_freed, resize-ends_refused, resize-ends_spent, resize-goes_clear, resize-goes_given, resize-goes_on}
 use Rattle.trace_lane.proofs.ResizeAnswers.{resize-goes_read, resize-goes_release}
 use Rattle.trace_lane.proofs.ResizeLemmas.{still-moved}
-use Rattle.trace_lane.proofs.ResizeSays.{IsNoEnd, at-freed, at-given, at-refused, at-spent, at-word, at-wrote, on-rest, says}
+use Rattle.trace_lane.proofs.ResizeSays.{IsNoEnd, at-freed, at-given, at-refused, at-spent, at-word, at-wrote, no-rest, says}
 
 -- a block in hand by its numbers
 pub held-as :
@@ -58,14 +59,14 @@ held-as place_of need_of place words need block one two three =
     ∙ ap (λ (n : Need). record { place = place_of block; words = usable_words (need_of block); need = n }) three
 
 module _ {B : Type 0} (engine : Engine B) (seen : List Event) (operations : List Op) (lane : LaneState B) (r need : ℕ) (within : r < REGISTERS) where
-  abbrev Told : Stepped B → Type 0
-  Told told = IsTold engine (op.Resize r need) told seen operations lane
+  abbrev Told : Ending B → Type 0
+  Told told = IsTold engine (op.Resize r need) (stepped.Done told) seen operations lane
 
   abbrev held : List (Option Held)
   held = registers_at engine lane.registers.items
 
   -- the lane before the step, at this stage, and what it was at
-  module _ (told : Stepped B) (t : Told told) where
+  module _ (told : Ending B) (t : Told told) where
     number : t.e.caller ≡ lane.caller
     number = t.served.own_errand.number
 
@@ -84,14 +85,14 @@ module _ {B : Type 0} (engine : Engine B) (seen : List Event) (operations : List
     abbrev doing : (at : OperationStage) (is : lane.stage ≡ at) → Doing at (stood at is)
     doing at is = doing-here t at is
 
-    -- the blocks in hand after it
+    -- the lane owns the blocks in its registers behind a call that has ended and spares them
     blocks-still :
         (end : ended.Ended) (added : List Event) (ends : Ends t.e engine.errand end seen engine.events added) → SparesAll held ends.more
         → OwnsBlocks engine.place_of engine.need_of lane.caller engine.events lane.registers.items
     blocks-still end added ends spares =
         owned-now t ends.more ends.moved_on spares
 
-    -- the old block after it
+    -- the old block of the resize is still the lane's behind events that leave it alone
     old-still :
         (old : Held) (more : List Event) (had : OwnsHeld (pool_of seen) t.e.caller old) → HasMovedOn t.e engine.errand seen engine.events more → AllQuiet old.place more
         → OwnsAfter engine.events lane.caller old.place old.need
@@ -140,31 +141,31 @@ module _ {B : Type 0} (engine : Engine B) (seen : List Event) (operations : List
 
   -- the new block of a resize is in the register
   new-here :
-      (told : Stepped B) (t : Told told) (at : OperationStage) (before : Stood told t at) (old new : Held) (copied : List ℕ) (count : ℕ) (added : List Event)
+      (told : Ending B) (t : Told told) (at : OperationStage) (before : Stood told t at) (old new : Held) (copied : List ℕ) (count : ℕ) (added : List Event)
       → IsReplacing t.e.caller seen before.position held r need old new copied count added → held_in held r ≡ Some new
   new-here told t at before old new copied count added replacing =
       let size = position-size engine.geometry t.e.caller seen t.e operations held lane.outcomes.items at before in
       ap (λ rs. held_in rs r) replacing.replaced ∙ held-here before.position.registers r new (omega arith)
 
   -- a block is given
-  module _ (block : B) (t : Told (stepped.Given block)) where
+  module _ (block : B) (t : Told (ending.Given block)) where
     given-at : lane.stage ≡ stage.Calling
     given-at =
-        let at = stood (stepped.Given block) t lane.stage refl in
-        let d = doing (stepped.Given block) t lane.stage refl in
+        let at = stood (ending.Given block) t lane.stage refl in
+        let d = doing (ending.Given block) t lane.stage refl in
         at-given engine.place_of engine.need_of t.e engine.errand seen engine.events at.position held at.added r need lane.stage d block
-        (says engine.place_of engine.need_of t.e engine.errand seen engine.events at.position held at.added r need lane.stage d (stepped.Given block) t.stepped)
+        (says engine.place_of engine.need_of t.e engine.errand seen engine.events at.position held at.added r need lane.stage d (ending.Given block) t.stepped)
 
-    abbrev given-stood : Stood (stepped.Given block) t stage.Calling
-    given-stood = stood (stepped.Given block) t stage.Calling given-at
+    abbrev given-stood : Stood (ending.Given block) t stage.Calling
+    given-stood = stood (ending.Given block) t stage.Calling given-at
 
     abbrev given-asking : IsAsking t.e.caller seen t.e.point given-stood.position held r need given-stood.added
-    given-asking = doing (stepped.Given block) t stage.Calling given-at
+    given-asking = doing (ending.Given block) t stage.Calling given-at
 
     given-ends : EndsGiven t.e engine.errand need (engine.place_of block) (engine.need_of block) seen engine.events given-stood.added
     given-ends =
         says engine.place_of engine.need_of t.e engine.errand seen engine.events given-stood.position held given-stood.added r need stage.Calling given-asking
-        (stepped.Given block) t.stepped
+        (ending.Given block) t.stepped
 
     -- the code finds the old block in the register, which has a word
     pub record HasNew : Type 0 where
@@ -176,7 +177,7 @@ module _ {B : Type 0} (engine : Engine B) (seen : List Event) (operations : List
 
     pub given-owned : OwnsBlocks engine.place_of engine.need_of lane.caller engine.events lane.registers.items
     given-owned =
-        blocks-still (stepped.Given block) t (ended.alloc_given need (engine.place_of block)) given-stood.added given-ends.ends
+        blocks-still (ending.Given block) t (ended.alloc_given need (engine.place_of block)) given-stood.added given-ends.ends
         (spares-ended t.e engine.errand (ended.alloc_given need (engine.place_of block)) seen engine.events given-stood.added held given-ends.ends (λ q other full. tt))
 
     pub resize-new : HasNew
@@ -203,7 +204,7 @@ module _ {B : Type 0} (engine : Engine B) (seen : List Event) (operations : List
         let same : given-asking.old ≡ was = same-held old given-asking.old full given-asking.was in
         let owned = given-owned r old full in
         let begun : HasBegun engine.errand (begun_by engine.errand call) call =
-        begins (stepped.Given block) t call given-ends.ends.idle (owns (stepped.Given block) t (engine.place_of old) (engine.need_of old) owned) in
+        begins (ending.Given block) t call given-ends.ends.idle (owns (ending.Given block) t (engine.place_of old) (engine.need_of old) owned) in
         let now = slice_set lane.registers.items r (Some block) in
         let set : slice_set held r (Some (held_at engine block)) ≡ registers_at engine now =
         sym (set-held engine.place_of engine.need_of lane.registers.items r (Some block)) in
@@ -219,7 +220,7 @@ module _ {B : Type 0} (engine : Engine B) (seen : List Event) (operations : List
         block given-stood given-asking given-ends within
         (subst (λ (h : Held). HasBegun engine.errand (begun_by engine.errand call) (read h.place h.need 0)) (sym same) begun)) in
         let new_owned : OwnsAfter engine.events lane.caller (engine.place_of block) (engine.need_of block) =
-        subst (λ c. OwnsAfter engine.events c (engine.place_of block) (engine.need_of block)) (number (stepped.Given block) t) given-ends.owned in
+        subst (λ c. OwnsAfter engine.events c (engine.place_of block) (engine.need_of block)) (number (ending.Given block) t) given-ends.owned in
         told-goes t again new (begun_by engine.errand call) call stage.Calling
         (stage.Copying was 0 None) given-at now became
         (subst (λ rs. IsLane engine.geometry t.e.caller engine.events (begun_by engine.errand call) operations rs lane.outcomes.items (stage.Copying was 0 None)) set
@@ -228,13 +229,13 @@ module _ {B : Type 0} (engine : Engine B) (seen : List Event) (operations : List
         (λ calls script. subst (λ rs. IsOnScript operations rs lane.outcomes.items (stage.Copying was 0 None) (calls ++ call ∷ [])) set (goes.script calls script))
         goes.few goes.rises
 
-  -- none is given
+  -- the new block of a resize is refused
   pub part-resize_refused :
-      (t : Told stepped.Refused) (again : Option Call → Type 0) (new : LaneState B)
+      (t : Told ending.Refused) (again : Option Call → Type 0) (new : LaneState B)
       → Became lane new lane.registers.items (lane.outcomes.items ++ outcome.Refused ∷ []) stage.Between
       → HasGoneOn engine None again operations lane new
   part-resize_refused t again new became =
-      let told : Stepped B = stepped.Refused in
+      let told : Ending B = ending.Refused in
       let at = stood told t lane.stage refl in
       let d = doing told t lane.stage refl in
       let is = at-refused engine.place_of engine.need_of t.e engine.errand seen engine.events at.position held at.added r need lane.stage d
@@ -248,11 +249,11 @@ module _ {B : Type 0} (engine : Engine B) (seen : List Event) (operations : List
       (says engine.place_of engine.need_of t.e engine.errand seen engine.events before.position held before.added r need stage.Calling asking told t.stepped)) became
 
   pub part-resize_spent_later :
-      (t : Told stepped.Spent) (again : Option Call → Type 0) (new : LaneState B)
+      (t : Told ending.Spent) (again : Option Call → Type 0) (new : LaneState B)
       → Became lane new lane.registers.items (lane.outcomes.items ++ outcome.Spent ∷ []) stage.Between
       → HasGoneOn engine None again operations lane new
   part-resize_spent_later t again new became =
-      let told : Stepped B = stepped.Spent in
+      let told : Ending B = ending.Spent in
       let at = stood told t lane.stage refl in
       let d = doing told t lane.stage refl in
       let is = at-spent engine.place_of engine.need_of t.e engine.errand seen engine.events at.position held at.added r need lane.stage d
@@ -265,23 +266,23 @@ module _ {B : Type 0} (engine : Engine B) (seen : List Event) (operations : List
       (served-now t) t.next.0 r need t.next.1 before asking
       (says engine.place_of engine.need_of t.e engine.errand seen engine.events before.position held before.added r need stage.Calling asking told t.stepped)) became
 
-  -- at which stage a word is read, and written
-  pub reads-at : (word : ℕ) → Told (stepped.Word word) → (old : Held) × (i : ℕ) × (lane.stage ≡ stage.Copying old i None)
+  -- the stage at which a resize reads a word, and the one at which it writes one
+  pub reads-at : (word : ℕ) → Told (ending.Word word) → (old : Held) × (i : ℕ) × (lane.stage ≡ stage.Copying old i None)
   reads-at word t =
-      let at = stood (stepped.Word word) t lane.stage refl in
-      let d = doing (stepped.Word word) t lane.stage refl in
+      let at = stood (ending.Word word) t lane.stage refl in
+      let d = doing (ending.Word word) t lane.stage refl in
       at-word engine.place_of engine.need_of t.e engine.errand seen engine.events at.position held at.added r need lane.stage d word
-      (says engine.place_of engine.need_of t.e engine.errand seen engine.events at.position held at.added r need lane.stage d (stepped.Word word) t.stepped)
+      (says engine.place_of engine.need_of t.e engine.errand seen engine.events at.position held at.added r need lane.stage d (ending.Word word) t.stepped)
 
-  pub writes-at : Told stepped.Wrote → (old : Held) × (i : ℕ) × (word : ℕ) × (lane.stage ≡ stage.Copying old i (Some word))
+  pub writes-at : Told ending.Wrote → (old : Held) × (i : ℕ) × (word : ℕ) × (lane.stage ≡ stage.Copying old i (Some word))
   writes-at t =
-      let at = stood stepped.Wrote t lane.stage refl in
-      let d = doing stepped.Wrote t lane.stage refl in
+      let at = stood ending.Wrote t lane.stage refl in
+      let d = doing ending.Wrote t lane.stage refl in
       at-wrote engine.place_of engine.need_of t.e engine.errand seen engine.events at.position held at.added r need lane.stage d
-      (says engine.place_of engine.need_of t.e engine.errand seen engine.events at.position held at.added r need lane.stage d stepped.Wrote t.stepped)
+      (says engine.place_of engine.need_of t.e engine.errand seen engine.events at.position held at.added r need lane.stage d ending.Wrote t.stepped)
 
   -- a word of the old block is read
-  module _ (word : ℕ) (t : Told (stepped.Word word)) (old : Held) (i : ℕ) (had : Option ℕ) (is : lane.stage ≡ stage.Copying old i had) where
+  module _ (word : ℕ) (t : Told (ending.Word word)) (old : Held) (i : ℕ) (had : Option ℕ) (is : lane.stage ≡ stage.Copying old i had) where
     read-at : lane.stage ≡ stage.Copying old i None
     read-at =
         let found = reads-at word t in
@@ -289,21 +290,21 @@ module _ {B : Type 0} (engine : Engine B) (seen : List Event) (operations : List
         let none : had ≡ None = cc in
         is ∙ ap (λ h. stage.Copying old i h) none
 
-    abbrev read-stood : Stood (stepped.Word word) t (stage.Copying old i None)
-    read-stood = stood (stepped.Word word) t (stage.Copying old i None) read-at
+    abbrev read-stood : Stood (ending.Word word) t (stage.Copying old i None)
+    read-stood = stood (ending.Word word) t (stage.Copying old i None) read-at
 
     abbrev read-copying : IsCopyingFrom t.e.caller seen t.e.point read-stood.position held r need old i read-stood.added
-    read-copying = doing (stepped.Word word) t (stage.Copying old i None) read-at
+    read-copying = doing (ending.Word word) t (stage.Copying old i None) read-at
 
     read-ends : EndsRead t.e engine.errand old.place i word seen engine.events []
     read-ends =
         says engine.place_of engine.need_of t.e engine.errand seen engine.events read-stood.position held read-stood.added r need (stage.Copying old i None)
-        read-copying (stepped.Word word)
+        read-copying (ending.Word word)
         t.stepped
 
     read-full : held_in held r ≡ Some read-copying.new
     read-full =
-        new-here (stepped.Word word) t (stage.Copying old i None) read-stood old read-copying.new read-copying.copied i read-stood.added
+        new-here (ending.Word word) t (stage.Copying old i None) read-stood old read-copying.new read-copying.copied i read-stood.added
         read-copying.replacing
 
     -- the new block is in the register, and has the word
@@ -322,7 +323,7 @@ module _ {B : Type 0} (engine : Engine B) (seen : List Event) (operations : List
           full = found.1;
           idle = read-ends.ends.idle;
           owned =
-              blocks-still (stepped.Word word) t ended.read [] read-ends.ends
+              blocks-still (ending.Word word) t ended.read [] read-ends.ends
               (spares-ended t.e engine.errand ended.read seen engine.events [] held read-ends.ends (λ q other full. tt)) r found.0 found.1;
           inside = subst (λ (h : Held). i < h.words) (sym found.2) read-copying.within;
         }
@@ -338,11 +339,11 @@ module _ {B : Type 0} (engine : Engine B) (seen : List Event) (operations : List
         let same : read-copying.new ≡ held_at engine block = same-held block read-copying.new full read-full in
         let call_is : write read-copying.new.place (need_of_words need) i word ≡ call =
         ap (λ n. write read-copying.new.place n i word) (sym read-copying.replacing.new_serves.2) ∙ ap (λ (h : Held). write h.place h.need i word) same in
-        let owned = blocks-still (stepped.Word word) t ended.read [] read-ends.ends
+        let owned = blocks-still (ending.Word word) t ended.read [] read-ends.ends
         (spares-ended t.e engine.errand ended.read seen engine.events [] held read-ends.ends (λ q other is. tt)) r block full in
         let begun : HasBegun engine.errand (begun_by engine.errand call) call =
-        begins (stepped.Word word) t call read-ends.ends.idle (owns (stepped.Word word) t (engine.place_of block) (engine.need_of block) owned) in
-        goes-so (stepped.Word word) t again new call (stage.Copying old i None) (stage.Copying old i (Some word)) read-at
+        begins (ending.Word word) t call read-ends.ends.idle (owns (ending.Word word) t (engine.place_of block) (engine.need_of block) owned) in
+        goes-so (ending.Word word) t again new call (stage.Copying old i None) (stage.Copying old i (Some word)) read-at
         (subst (λ c. GoesSo engine.geometry t.e engine.errand (begun_by engine.errand call) c seen engine.events operations held held lane.outcomes.items
         (stage.Copying old i None)
         (stage.Copying old i (Some word))) call_is
@@ -352,7 +353,7 @@ module _ {B : Type 0} (engine : Engine B) (seen : List Event) (operations : List
         old i word read-stood read-copying read-full read-ends (subst (HasBegun engine.errand (begun_by engine.errand call)) (sym call_is) begun))) became
 
   -- a word of the new block is written
-  module _ (t : Told stepped.Wrote) (old : Held) (i : ℕ) (had : Option ℕ) (is : lane.stage ≡ stage.Copying old i had) where
+  module _ (t : Told ending.Wrote) (old : Held) (i : ℕ) (had : Option ℕ) (is : lane.stage ≡ stage.Copying old i had) where
     written-word : (word : ℕ) × (lane.stage ≡ stage.Copying old i (Some word))
     written-word =
         let found = writes-at t in
@@ -366,27 +367,27 @@ module _ {B : Type 0} (engine : Engine B) (seen : List Event) (operations : List
     abbrev at : OperationStage
     at = stage.Copying old i (Some word)
 
-    abbrev wrote-stood : Stood stepped.Wrote t at
-    wrote-stood = stood stepped.Wrote t at written-word.1
+    abbrev wrote-stood : Stood ending.Wrote t at
+    wrote-stood = stood ending.Wrote t at written-word.1
 
     abbrev wrote-copying : IsCopyingTo t.e.caller seen t.e.point wrote-stood.position held r need old i word wrote-stood.added
-    wrote-copying = doing stepped.Wrote t at written-word.1
+    wrote-copying = doing ending.Wrote t at written-word.1
 
     wrote-ends : Ends t.e engine.errand (ended.wrote wrote-copying.new.place i word) seen engine.events []
     wrote-ends =
-        says engine.place_of engine.need_of t.e engine.errand seen engine.events wrote-stood.position held wrote-stood.added r need at wrote-copying stepped.Wrote
+        says engine.place_of engine.need_of t.e engine.errand seen engine.events wrote-stood.position held wrote-stood.added r need at wrote-copying ending.Wrote
         t.stepped
 
     wrote-full : held_in held r ≡ Some wrote-copying.new
     wrote-full =
-        new-here stepped.Wrote t at wrote-stood old wrote-copying.new wrote-copying.copied i wrote-stood.added wrote-copying.replacing
+        new-here ending.Wrote t at wrote-stood old wrote-copying.new wrote-copying.copied i wrote-stood.added wrote-copying.replacing
 
     wrote-old : OwnsAfter engine.events lane.caller old.place old.need
     wrote-old =
         let copying = wrote-copying in
         let had = copying.replacing.was_held.had in
         let writes : wrote-ends.more ≡ Write t.e.caller copying.new.place i word ∷ [] = wrote-ends.all in
-        old-still stepped.Wrote t old wrote-ends.more
+        old-still ending.Wrote t old wrote-ends.more
         (record { block = had.block; live = copying.still; owned = had.owned; need_is = had.need_is; words_are = had.words_are }) wrote-ends.moved_on
         (subst (AllQuiet old.place) (sym writes) ((λ is. copying.replacing.apart r copying.new wrote-full (sym is)), tt))
 
@@ -402,7 +403,7 @@ module _ {B : Type 0} (engine : Engine B) (seen : List Event) (operations : List
 
     wrote-owned : OwnsBlocks engine.place_of engine.need_of lane.caller engine.events lane.registers.items
     wrote-owned =
-        blocks-still stepped.Wrote t (ended.wrote wrote-copying.new.place i word) [] wrote-ends
+        blocks-still ending.Wrote t (ended.wrote wrote-copying.new.place i word) [] wrote-ends
         (spares-ended t.e engine.errand (ended.wrote wrote-copying.new.place i word) seen engine.events [] held wrote-ends (λ q other full. tt))
 
     pub resize-copy : HasCopy
@@ -427,7 +428,7 @@ module _ {B : Type 0} (engine : Engine B) (seen : List Event) (operations : List
           → GoesSo engine.geometry t.e engine.errand (begun_by engine.errand call) call seen engine.events operations held held lane.outcomes.items at to
           → Became lane new lane.registers.items lane.outcomes.items to
           → HasGoneOn (record engine { errand = begun_by engine.errand call }) (Some call) again operations lane new
-      goes-to call to goes became = goes-so stepped.Wrote t again new call at to written-word.1 goes became
+      goes-to call to goes became = goes-so ending.Wrote t again new call at to written-word.1 goes became
 
       pub part-copy_on :
           i + 1 < old.words → i + 1 < usable_words (engine.need_of block)
@@ -442,7 +443,7 @@ module _ {B : Type 0} (engine : Engine B) (seen : List Event) (operations : List
           (heap t)
           (served-now t) t.next.0 r need t.next.1 (begun_by engine.errand call) old i
           word wrote-stood wrote-copying wrote-full wrote-ends inside (omega arith)
-          (begins stepped.Wrote t call wrote-ends.idle (owns stepped.Wrote t old.place old.need wrote-old))) became
+          (begins ending.Wrote t call wrote-ends.idle (owns ending.Wrote t old.place old.need wrote-old))) became
 
       pub part-copy_clear :
           old.words ≤ i + 1 → i + 1 < usable_words (engine.need_of block)
@@ -457,8 +458,8 @@ module _ {B : Type 0} (engine : Engine B) (seen : List Event) (operations : List
           ap (λ n. write wrote-copying.new.place n (i + 1) 0) (sym wrote-copying.replacing.new_serves.2)
           ∙ ap (λ (h : Held). write h.place h.need (i + 1) 0) same in
           let begun : HasBegun engine.errand (begun_by engine.errand call) call =
-          begins stepped.Wrote t call wrote-ends.idle
-          (owns stepped.Wrote t (engine.place_of block) (engine.need_of block) (wrote-owned r block full)) in
+          begins ending.Wrote t call wrote-ends.idle
+          (owns ending.Wrote t (engine.place_of block) (engine.need_of block) (wrote-owned r block full)) in
           goes-to call (stage.Copying old (i + 1) (Some 0))
           (subst (λ c. GoesSo engine.geometry t.e engine.errand (begun_by engine.errand call) c seen engine.events operations held held lane.outcomes.items at
           (stage.Copying old (i + 1) (Some 0))) call_is
@@ -479,9 +480,9 @@ module _ {B : Type 0} (engine : Engine B) (seen : List Event) (operations : List
           (heap t)
           (served-now t) t.next.0 r need t.next.1 (begun_by engine.errand call) old i
           word wrote-stood wrote-copying wrote-full wrote-ends (omega arith)
-          (begins stepped.Wrote t call wrote-ends.idle (owns stepped.Wrote t old.place old.need wrote-old))) became
+          (begins ending.Wrote t call wrote-ends.idle (owns ending.Wrote t old.place old.need wrote-old))) became
 
-    -- by the next word that the code finds
+    -- the copy goes on by the next word that the code finds
     module _ (block : B) (full : slice_index_or lane.registers.items r None ≡ Some block) (words : ℕ) where
       pub copy-next :
           (next : ℕ) → words ≡ usable_words (engine.need_of block) → Some next ≡ word_behind lane.stage words
@@ -521,12 +522,12 @@ module _ {B : Type 0} (engine : Engine B) (seen : List Event) (operations : List
 
   -- the old block is freed
   pub part-resized :
-      (t : Told stepped.Freed) (again : Option Call → Type 0) (new : LaneState B) (words place : ℕ)
+      (t : Told ending.Freed) (again : Option Call → Type 0) (new : LaneState B) (words place : ℕ)
       → ((block : B) → slice_index_or lane.registers.items r None ≡ Some block → (words ≡ usable_words (engine.need_of block)) × (place ≡ engine.place_of block))
       → Became lane new lane.registers.items (lane.outcomes.items ++ outcome.Resized words place ∷ []) stage.Between
       → HasGoneOn engine None again operations lane new
   part-resized t again new words place found became =
-      let told : Stepped B = stepped.Freed in
+      let told : Ending B = ending.Freed in
       let at = stood told t lane.stage refl in
       let d = doing told t lane.stage refl in
       let is = at-freed engine.place_of engine.need_of t.e engine.errand seen engine.events at.position held at.added r need lane.stage d
@@ -547,13 +548,10 @@ module _ {B : Type 0} (engine : Engine B) (seen : List Event) (operations : List
       (says engine.place_of engine.need_of t.e engine.errand seen engine.events before.position held before.added r need stage.Releasing releasing told t.stepped))
       (subst (λ (x : Outcome). Became lane new lane.registers.items (lane.outcomes.items ++ x ∷ []) stage.Between) (sym result) became)
 
-  -- whatever else is told, the call goes on
-  pub resize-rest :
-      (told : Stepped B) → IsNoEnd told → Told told
-      → HasGoneOn engine None (IsAgain lane.caller seen engine.events) operations lane lane
+  -- no other end of a resize's call is told
+  pub resize-rest : (told : Ending B) → IsNoEnd told → Told told → ⊥
   resize-rest told rest t =
       let at = stood told t lane.stage refl in
       let d = doing told t lane.stage refl in
-      stays-so engine seen operations lane told (op.Resize r need) t
-      (on-rest engine.place_of engine.need_of t.e engine.errand seen engine.events at.position held at.added r need lane.stage d told rest
-      (says engine.place_of engine.need_of t.e engine.errand seen engine.events at.position held at.added r need lane.stage d told t.stepped))
+      no-rest engine.place_of engine.need_of t.e engine.errand seen engine.events at.position held at.added r need lane.stage d told rest
+      (says engine.place_of engine.need_of t.e engine.errand seen engine.events at.position held at.added r need lane.stage d told t.stepped)

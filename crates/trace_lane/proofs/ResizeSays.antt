@@ -3,10 +3,11 @@ use Rattle.std.proofs.Common.{ℕ, ◌≡◌, List, [], Option, Some, None, refl
 use Rattle.heap_geometry.specs.declared.need.Need.{Need}
 use Rattle.heap_geometry.specs.Need.{need_of}
 use Rattle.pool_model.specs.declared.event.Event.{Event}
+use Rattle.errand_steps.specs.declared.told.Ending.{Ending}
+use Rattle.errand_steps.specs.declared.told.Ending.TheVariants as ending
+use Rattle.errand_steps.specs.declared.told.Stepped.TheVariants as stepped
 use Rattle.errand_steps.specs.Errands.{ErrandFields}
 use Rattle.trace_text.specs.declared.trace.Op.TheVariants as op
-use Rattle.lane_engine.specs.declared.stepped.Stepped.{Stepped}
-use Rattle.lane_engine.specs.declared.stepped.Stepped.TheVariants as stepped
 use Rattle.lane_engine.specs.Told.{HasStepped}
 use Rattle.lane_outcomes.specs.declared.registers.Held.{Held}
 use Rattle.lane_outcomes.specs.Lane.{Position}
@@ -14,27 +15,26 @@ use Rattle.trace_lane.specs.declared.stage.OperationStage.{OperationStage}
 use Rattle.trace_lane.specs.declared.stage.OperationStage.TheVariants as stage
 use Rattle.trace_lane.specs.Operations.{IsDoing}
 use Rattle.trace_lane.proofs.AnswerLemmas.{ToldOfAlloc, ToldOfFree, ToldOfRead, ToldOfWrite, told-of_alloc, told-of_free, told-of_read, told-of_write}
-use Rattle.trace_lane.proofs.LaneGoes.{IsOn}
 
 -- an answer that ends no call of a resize
-abbrev pub IsNoEnd : {B : Type 0} → Stepped B → Type 0
-IsNoEnd (stepped.Given block) = ⊥
-IsNoEnd stepped.Refused = ⊥
-IsNoEnd stepped.Spent = ⊥
-IsNoEnd (stepped.Word word) = ⊥
-IsNoEnd stepped.Wrote = ⊥
-IsNoEnd stepped.Freed = ⊥
+abbrev pub IsNoEnd : {B : Type 0} → Ending B → Type 0
+IsNoEnd (ending.Given block) = ⊥
+IsNoEnd ending.Refused = ⊥
+IsNoEnd ending.Spent = ⊥
+IsNoEnd (ending.Word word) = ⊥
+IsNoEnd ending.Wrote = ⊥
+IsNoEnd ending.Freed = ⊥
 IsNoEnd told = Unit {0}
 
 pub no-end :
-    {B : Type 0} (told : Stepped B) → ((block : B) → told ≡ stepped.Given block → ⊥) → (told ≡ stepped.Refused → ⊥) → (told ≡ stepped.Spent → ⊥)
-    → ((word : ℕ) → told ≡ stepped.Word word → ⊥) → (told ≡ stepped.Wrote → ⊥) → (told ≡ stepped.Freed → ⊥) → IsNoEnd told
-no-end (stepped.Given block) one two three four five six = one block refl
-no-end stepped.Refused one two three four five six = two refl
-no-end stepped.Spent one two three four five six = three refl
-no-end (stepped.Word word) one two three four five six = four word refl
-no-end stepped.Wrote one two three four five six = five refl
-no-end stepped.Freed one two three four five six = six refl
+    {B : Type 0} (told : Ending B) → ((block : B) → told ≡ ending.Given block → ⊥) → (told ≡ ending.Refused → ⊥) → (told ≡ ending.Spent → ⊥)
+    → ((word : ℕ) → told ≡ ending.Word word → ⊥) → (told ≡ ending.Wrote → ⊥) → (told ≡ ending.Freed → ⊥) → IsNoEnd told
+no-end (ending.Given block) one two three four five six = one block refl
+no-end ending.Refused one two three four five six = two refl
+no-end ending.Spent one two three four five six = three refl
+no-end (ending.Word word) one two three four five six = four word refl
+no-end ending.Wrote one two three four five six = five refl
+no-end ending.Freed one two three four five six = six refl
 no-end told one two three four five six = tt
 
 module _ {B : Type 0} (place_of : B → ℕ) (block_need : B → Need) (e f : ErrandFields) (before events : List Event) (position : Position)
@@ -43,7 +43,7 @@ module _ {B : Type 0} (place_of : B → ℕ) (block_need : B → Need) (e f : Er
   Doing at = IsDoing e.caller before e.point position registers (op.Resize r need) at added
 
   -- what is told of the call of the stage
-  abbrev pub Says : (at : OperationStage) → Doing at → Stepped B → Type 0
+  abbrev pub Says : (at : OperationStage) → Doing at → Ending B → Type 0
   Says stage.Calling doing told = ToldOfAlloc place_of block_need e f before events added need told
   Says (stage.Copying old i None) doing told = ToldOfRead place_of block_need e f before events [] old.place old.need i told
   Says (stage.Copying old i (Some word)) doing told =
@@ -51,7 +51,7 @@ module _ {B : Type 0} (place_of : B → ℕ) (block_need : B → Need) (e f : Er
   Says stage.Releasing doing told = ToldOfFree place_of block_need e f before events doing.part doing.old.place doing.old.need told
   Says at doing told = ⊥
 
-  pub says : (at : OperationStage) (doing : Doing at) (told : Stepped B) → HasStepped place_of block_need e f before events told → Says at doing told
+  pub says : (at : OperationStage) (doing : Doing at) (told : Ending B) → HasStepped place_of block_need e f before events (stepped.Done told) → Says at doing told
   says stage.Calling doing told step = told-of_alloc place_of block_need e f before events added need told step doing.under_way
   says (stage.Copying old i None) doing told step =
       told-of_read place_of block_need e f before events [] old.place old.need i told step doing.under_way
@@ -64,7 +64,7 @@ module _ {B : Type 0} (place_of : B → ℕ) (block_need : B → Need) (e f : Er
   says (stage.Summing i total) doing told step = absurd doing
 
   -- each answer comes at one stage
-  pub at-given : (at : OperationStage) (doing : Doing at) (block : B) → Says at doing (stepped.Given block) → at ≡ stage.Calling
+  pub at-given : (at : OperationStage) (doing : Doing at) (block : B) → Says at doing (ending.Given block) → at ≡ stage.Calling
   at-given stage.Calling doing block says = refl
   at-given stage.Between doing block says = absurd says
   at-given (stage.Filling i) doing block says = absurd says
@@ -73,7 +73,7 @@ module _ {B : Type 0} (place_of : B → ℕ) (block_need : B → Need) (e f : Er
   at-given (stage.Copying old i (Some word)) doing block says = absurd says
   at-given stage.Releasing doing block says = absurd says
 
-  pub at-refused : (at : OperationStage) (doing : Doing at) → Says at doing stepped.Refused → at ≡ stage.Calling
+  pub at-refused : (at : OperationStage) (doing : Doing at) → Says at doing ending.Refused → at ≡ stage.Calling
   at-refused stage.Calling doing says = refl
   at-refused stage.Between doing says = absurd says
   at-refused (stage.Filling i) doing says = absurd says
@@ -82,7 +82,7 @@ module _ {B : Type 0} (place_of : B → ℕ) (block_need : B → Need) (e f : Er
   at-refused (stage.Copying old i (Some word)) doing says = absurd says
   at-refused stage.Releasing doing says = absurd says
 
-  pub at-spent : (at : OperationStage) (doing : Doing at) → Says at doing stepped.Spent → at ≡ stage.Calling
+  pub at-spent : (at : OperationStage) (doing : Doing at) → Says at doing ending.Spent → at ≡ stage.Calling
   at-spent stage.Calling doing says = refl
   at-spent stage.Between doing says = absurd says
   at-spent (stage.Filling i) doing says = absurd says
@@ -92,7 +92,7 @@ module _ {B : Type 0} (place_of : B → ℕ) (block_need : B → Need) (e f : Er
   at-spent stage.Releasing doing says = absurd says
 
   pub at-word :
-      (at : OperationStage) (doing : Doing at) (word : ℕ) → Says at doing (stepped.Word word) → (old : Held) × (i : ℕ) × (at ≡ stage.Copying old i None)
+      (at : OperationStage) (doing : Doing at) (word : ℕ) → Says at doing (ending.Word word) → (old : Held) × (i : ℕ) × (at ≡ stage.Copying old i None)
   at-word (stage.Copying old i None) doing word says = (old, i, refl)
   at-word (stage.Copying old i (Some other)) doing word says = absurd says
   at-word stage.Calling doing word says = absurd says
@@ -102,7 +102,7 @@ module _ {B : Type 0} (place_of : B → ℕ) (block_need : B → Need) (e f : Er
   at-word stage.Releasing doing word says = absurd says
 
   pub at-wrote :
-      (at : OperationStage) (doing : Doing at) → Says at doing stepped.Wrote → (old : Held) × (i : ℕ) × (word : ℕ) × (at ≡ stage.Copying old i (Some word))
+      (at : OperationStage) (doing : Doing at) → Says at doing ending.Wrote → (old : Held) × (i : ℕ) × (word : ℕ) × (at ≡ stage.Copying old i (Some word))
   at-wrote (stage.Copying old i (Some word)) doing says = (old, i, word, refl)
   at-wrote (stage.Copying old i None) doing says = absurd says
   at-wrote stage.Calling doing says = absurd says
@@ -111,7 +111,7 @@ module _ {B : Type 0} (place_of : B → ℕ) (block_need : B → Need) (e f : Er
   at-wrote (stage.Summing i total) doing says = absurd says
   at-wrote stage.Releasing doing says = absurd says
 
-  pub at-freed : (at : OperationStage) (doing : Doing at) → Says at doing stepped.Freed → at ≡ stage.Releasing
+  pub at-freed : (at : OperationStage) (doing : Doing at) → Says at doing ending.Freed → at ≡ stage.Releasing
   at-freed stage.Releasing doing says = refl
   at-freed stage.Calling doing says = absurd says
   at-freed stage.Between doing says = absurd says
@@ -120,47 +120,34 @@ module _ {B : Type 0} (place_of : B → ℕ) (block_need : B → Need) (e f : Er
   at-freed (stage.Copying old i None) doing says = absurd says
   at-freed (stage.Copying old i (Some word)) doing says = absurd says
 
-  -- what is none of these goes on
-  alloc-rest : (told : Stepped B) → IsNoEnd told → ToldOfAlloc place_of block_need e f before events added need told → IsOn told
-  alloc-rest stepped.More rest says = tt
-  alloc-rest stepped.Lost rest says = tt
-  alloc-rest stepped.Cleared rest says = tt
-  alloc-rest (stepped.Given block) rest says = absurd rest
-  alloc-rest stepped.Refused rest says = absurd rest
-  alloc-rest stepped.Spent rest says = absurd rest
-  alloc-rest told rest says = absurd says
+  -- none else comes
+  alloc-rest : (told : Ending B) → IsNoEnd told → ToldOfAlloc place_of block_need e f before events added need told → ⊥
+  alloc-rest (ending.Given block) rest says = rest
+  alloc-rest ending.Refused rest says = rest
+  alloc-rest ending.Spent rest says = rest
+  alloc-rest told rest says = says
 
   read-rest :
-      (place : ℕ) (n : Need) (i : ℕ) (told : Stepped B) → IsNoEnd told → ToldOfRead place_of block_need e f before events [] place n i told → IsOn told
-  read-rest place n i stepped.More rest says = tt
-  read-rest place n i stepped.Lost rest says = tt
-  read-rest place n i stepped.Cleared rest says = tt
-  read-rest place n i (stepped.Word word) rest says = absurd rest
-  read-rest place n i told rest says = absurd says
+      (place : ℕ) (n : Need) (i : ℕ) (told : Ending B) → IsNoEnd told → ToldOfRead place_of block_need e f before events [] place n i told → ⊥
+  read-rest place n i (ending.Word word) rest says = rest
+  read-rest place n i told rest says = says
 
   write-rest :
-      (place : ℕ) (n : Need) (i v : ℕ) (told : Stepped B) → IsNoEnd told → ToldOfWrite place_of block_need e f before events [] place n i v told
-      → IsOn told
-  write-rest place n i v stepped.More rest says = tt
-  write-rest place n i v stepped.Lost rest says = tt
-  write-rest place n i v stepped.Cleared rest says = tt
-  write-rest place n i v stepped.Wrote rest says = absurd rest
-  write-rest place n i v told rest says = absurd says
+      (place : ℕ) (n : Need) (i v : ℕ) (told : Ending B) → IsNoEnd told → ToldOfWrite place_of block_need e f before events [] place n i v told → ⊥
+  write-rest place n i v ending.Wrote rest says = rest
+  write-rest place n i v told rest says = says
 
   free-rest :
-      (part : List Event) (place : ℕ) (n : Need) (told : Stepped B) → IsNoEnd told → ToldOfFree place_of block_need e f before events part place n told
-      → IsOn told
-  free-rest part place n stepped.More rest says = tt
-  free-rest part place n stepped.Lost rest says = tt
-  free-rest part place n stepped.Cleared rest says = tt
-  free-rest part place n stepped.Freed rest says = absurd rest
-  free-rest part place n told rest says = absurd says
+      (part : List Event) (place : ℕ) (n : Need) (told : Ending B) → IsNoEnd told → ToldOfFree place_of block_need e f before events part place n told
+      → ⊥
+  free-rest part place n ending.Freed rest says = rest
+  free-rest part place n told rest says = says
 
-  pub on-rest : (at : OperationStage) (doing : Doing at) (told : Stepped B) → IsNoEnd told → Says at doing told → IsOn told
-  on-rest stage.Calling doing told rest says = alloc-rest told rest says
-  on-rest (stage.Copying old i None) doing told rest says = read-rest old.place old.need i told rest says
-  on-rest (stage.Copying old i (Some word)) doing told rest says = write-rest doing.new.place (need_of need) i word told rest says
-  on-rest stage.Releasing doing told rest says = free-rest doing.part doing.old.place doing.old.need told rest says
-  on-rest stage.Between doing told rest says = absurd says
-  on-rest (stage.Filling i) doing told rest says = absurd says
-  on-rest (stage.Summing i total) doing told rest says = absurd says
+  pub no-rest : (at : OperationStage) (doing : Doing at) (told : Ending B) → IsNoEnd told → Says at doing told → ⊥
+  no-rest stage.Calling doing told rest says = alloc-rest told rest says
+  no-rest (stage.Copying old i None) doing told rest says = read-rest old.place old.need i told rest says
+  no-rest (stage.Copying old i (Some word)) doing told rest says = write-rest doing.new.place (need_of need) i word told rest says
+  no-rest stage.Releasing doing told rest says = free-rest doing.part doing.old.place doing.old.need told rest says
+  no-rest stage.Between doing told rest says = says
+  no-rest (stage.Filling i) doing told rest says = says
+  no-rest (stage.Summing i total) doing told rest says = says

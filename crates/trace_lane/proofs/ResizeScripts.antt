@@ -22,7 +22,7 @@ use Rattle.trace_lane.specs.Operations.{IsOfNeed}
 use Rattle.trace_lane.specs.Scripts.{HasCopied, IsOnScript, Replaces, begun_bound, copying, copying_word, stage_begun}
 use Rattle.trace_lane.proofs.ScriptLemmas.{IsHere, script-changes, script-ends, serves-words}
 
--- one word more
+-- numbers in a row, with one more
 range-more : (a n : ℕ) → range_with_len a (suc n) ≡ range_with_len a n ++ (a + n) ∷ []
 range-more a zero = let e : a ≡ a + 0 = omega arith in ap (λ k. k ∷ []) e
 range-more a (suc n) =
@@ -53,7 +53,7 @@ module _ (place : ℕ) (need : Need) (to : ℕ) (to_need : Need) where
         | inr not ↦ rw not refl
       ]
 
-  -- a word that is read later doesn't matter
+  -- the calls that copy the first words of a block don't depend on a word that is read later
   copying-longer :
       (words : List ℕ) (word n : ℕ) → n ≤ length words → copying place need to to_need (words ++ word ∷ []) n ≡ copying place need to to_need words n
   copying-longer words word zero few = refl
@@ -96,13 +96,13 @@ module _ (operations : List Op) (results : List Outcome) (before registers after
   abbrev Ended : Outcome → List Call → Type 0
   Ended result calls = IsOnScript operations after (results ++ result ∷ []) stage.Between calls
 
-  -- it keeps its block
+  -- a resize keeps its block, and has no call
   pub resize-keeps : (words place : ℕ) → On stage.Between calls → Ended (outcome.Kept words place) (calls ++ [])
   resize-keeps words place script =
       script-ends operations results (op.Resize r need) (outcome.Kept words place) before registers after stage.Between calls [] here
       (λ present none. append-nil present ∙ none) script
 
-  -- it asks for another one
+  -- a resize asks for another block
   pub resize-begins : On stage.Between calls → After stage.Calling (calls ++ alloc need ∷ [])
   resize-begins script =
       script-changes operations results (op.Resize r need) before registers after stage.Between stage.Calling calls (alloc need ∷ []) here tt
@@ -124,7 +124,7 @@ module _ (operations : List Op) (results : List Outcome) (before registers after
       (λ present so. append-nil present ∙ so) script
 
   module _ (old new : Held) (was : held_in before r ≡ Some old) (now : held_in after r ≡ Some new) where
-    -- it is given one: the first word is read
+    -- a resize is given its new block: the first word of the old one is read
     pub resize-given : On stage.Calling calls → After (stage.Copying old 0 None) (calls ++ read old.place old.need 0 ∷ [])
     resize-given script =
         script-changes operations results (op.Resize r need) before registers after stage.Calling (stage.Copying old 0 None) calls
@@ -234,7 +234,7 @@ module _ (operations : List Op) (results : List Outcome) (before registers after
             ),
           )) script
 
-  -- it was freed
+  -- the old block of a resize was freed: the resize has its outcome
   pub resize-ends :
       (new : Held) → held_in registers r ≡ Some new → On stage.Releasing calls → Ended (outcome.Resized new.words new.place) (calls ++ [])
   resize-ends new still script =
@@ -244,7 +244,7 @@ module _ (operations : List Op) (results : List Outcome) (before registers after
       subst (λ xs. Replaces (held_in before r) need new.words new.place xs) (sym (append-nil present))
       (subst (λ (h : Held). Replaces (held_in before r) need h.words h.place present) same so.2)) script
 
--- it has so few calls
+-- a resize has begun fewer calls than the bound, while it copies a word
 pub few-copied : (new : Held) (need : Need) (old : Held) (next : ℕ) (word : Option ℕ) → IsOfNeed new need → next < new.words
     → stage_begun (stage.Copying old next word) < begun_bound
 few-copied new need old next None serves within = let most = serves-words new need serves in omega arith

@@ -62,7 +62,7 @@ registers-cut registers [] (result ∷ results) = refl
 registers-cut registers (operation ∷ operations) (result ∷ results) =
     registers-cut (registers_after registers operation result) operations results
 
--- one outcome more
+-- the registers after operations with one outcome more
 registers-more :
     (registers : List (Option Held)) (operations rest : List Op) (results : List Outcome) (operation : Op) (result : Outcome)
     → drop (length results) operations ≡ operation ∷ rest
@@ -96,7 +96,7 @@ pub record IsHere (operations : List Op) (results : List Outcome) (operation : O
   pub next : drop (length results) operations ≡ operation ∷ rest
   pub stood : before ≡ registers_from empty operations results
 
--- as it is in a lane that stands
+-- the registers of a lane that stands are those after the operations with outcomes
 pub lane-stood :
     (g : Geometry) (caller : ℕ) (events : List Event) (e : ErrandFields) (operations : List Op) (registers : List (Option Held))
     (results : List Outcome) (at : OperationStage) (lane : IsLane g caller events e operations registers results at)
@@ -520,11 +520,11 @@ module _ (operations : List Op) (results : List Outcome) (before registers after
       script-ends operations results (op.Take r shelf) outcome.ShelfEmpty before registers after stage.Calling calls [] here
       (λ present so. (so.0, append-nil present ∙ so.1)) script
 
--- before its first operation a lane has begun nothing
+-- a lane has begun nothing before its first operation
 pub script-none : (operations : List Op) (registers : List (Option Held)) → IsOnScript operations registers [] stage.Between []
 script-none operations registers = record { past = []; present = []; all = refl; ended = refl; begun = refl }
 
--- at its end its calls are those of its operations
+-- the calls of a lane at its end are those of its operations
 pub script-whole :
     (operations : List Op) (registers : List (Option Held)) (results : List Outcome) (calls : List Call) → length results ≡ length operations
     → IsOnScript operations registers results stage.Between calls → Scripts empty operations results calls
@@ -534,7 +534,7 @@ script-whole operations registers results calls ended script =
     (subst (Scripts empty (take (length results) operations) results)
     (sym (script.all ∙ ap (λ xs. script.past ++ xs) script.begun ∙ append-nil script.past)) script.ended)
 
--- so many operations have their outcomes as come before the next one
+-- a lane that has a next operation has fewer outcomes than operations
 pub here-below :
     (operations rest : List Op) (results : List Outcome) (operation : Op) → drop (length results) operations ≡ operation ∷ rest
     → length results < length operations

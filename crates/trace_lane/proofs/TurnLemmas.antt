@@ -65,7 +65,7 @@ writes-none caller (suc count) first by place value =
     answered-cons caller (Write by place first (value first)) (writes_of by place value (first + 1) count)
     ∙ ap (λ n. 0 + n) (writes-none caller count (first + 1) by place value)
 
--- which needs are small
+-- a need is small where it is of at most `SMALL_MOST` words
 pub small-need : (need : ℕ) → is_small (need_of need) ≡ nat_le need SMALL_MOST
 unfolding need_of
 small-need need =
@@ -240,7 +240,7 @@ resize-answered setting position r need (Some held) outcome.Spent piece row so_f
     piece-none setting.caller position.done piece position.answered so_far (spent-count setting position need piece position.spent row.1)
 resize-answered setting position r need held result piece row so_far = absurd row
 
--- one operation more
+-- how many small allocations were answered, with one operation more
 pub answered-row :
     (setting : Setting) (position : Position) (operation : Op) (result : Outcome) (piece : List Event) → FitsRow setting position operation result piece
     → position.answered ≡ answered_in setting.caller position.done
@@ -265,7 +265,7 @@ others-answer caller (Put by place shelf) other = refl
 others-answer caller (Take by shelf place) other = refl
 others-answer caller (TakeNone by shelf) other = refl
 
--- its own events tell how many of its small allocations were answered
+-- a caller's own events tell how many of its small allocations were answered
 pub answered-own : (caller : ℕ) (events : List Event) → answered_in caller events ≡ answered_in caller (own caller events)
 answered-own caller [] = refl
 answered-own caller (event ∷ events) =
@@ -357,7 +357,7 @@ spent-row g caller after f position r need v piece served idle limit own_is answ
     subst (λ h. AllocRow (setting_in after caller g.turn_limit f.lost) position need v h outcome.Spent piece) (sym empty)
     (is-spent g caller after f position need piece served idle limit own_is answered events none)
 
--- so does a resize to another need
+-- a resize to another need that finds no turn left fits, where its caller has begun as many turns as it may
 pub resize-spent_row :
     (g : Geometry) (caller : ℕ) (after : List Event) (f : ErrandFields) (position : Position) (r need : ℕ) (held : Held) (piece : List Event)
     → IsServed g caller f after → IsIdle f → f.turns ≡ g.turn_limit → own caller after ≡ position.done ++ piece
@@ -384,7 +384,7 @@ pub may-ask :
 may-ask e position need limit starts =
     started-asks e (need_of need) position.spent (λ is. eq-eqb e.turns e.geometry.turn_limit (limit is)) starts
 
--- one that may ask and ends spent was not spent before
+-- a lane that was spent before, and may ask, adds no event where it finds no turn left
 pub asked-unspent :
     (position : Position) (need caller : ℕ) (piece : List Event) → MayAsk position need → EventsOf caller (alloc_spent need) piece
     → position.spent ≡ true → piece ≡ []

@@ -2,13 +2,15 @@
 use Rattle.std.specs.Prelude.{ℕ, ◌≡◌, ◌≢◌, ◌<◌, ◌+◌, ◌%◌, ◌^◌, ◌∷◌, ◌++◌, ◌⊎◌, List, [], Bool, Option, Some, None, drop, length, nat_lt, if◌then◌else◌}
 use Rattle.pool_model.specs.declared.event.Event.{Event}
 use Rattle.pool_model.specs.Histories.{own}
+use Rattle.errand_steps.specs.declared.told.Ending.{Ending}
+use Rattle.errand_steps.specs.declared.told.Stepped.{Stepped}
+use Rattle.errand_steps.specs.declared.told.Stepped.TheVariants as stepped
 use Rattle.errand_steps.specs.Calls.{Call, take}
 use Rattle.errand_steps.specs.Errands.{ErrandFields}
 use Rattle.sound_state.specs.Runs.{begins}
 use Rattle.step_machine.specs.Cores.{CoreFields, errand_at}
 use Rattle.step_machine.specs.Moments.{HasSeenMore, IsServed}
 use Rattle.trace_text.specs.declared.trace.Op.{Op}
-use Rattle.lane_engine.specs.declared.stepped.Stepped.{Stepped}
 use Rattle.lane_engine.specs.declared.grip.Grip.{Grip}
 use Rattle.lane_engine.specs.Engines.{Engine, machine_at}
 use Rattle.lane_engine.specs.Machines.{MovesCore}
@@ -50,7 +52,7 @@ abbrev pub calls_in : Option Call → List Call
 calls_in None = []
 calls_in (Some call) = call ∷ []
 
--- nothing began; or a take was tried again, which added no event of the caller
+-- no call began; or a take was tried again, and the step before it added no event of the caller
 abbrev pub IsAgain : ℕ → List Event → List Event → Option Call → Type 0
 IsAgain caller seen now begun = (begun ≡ None) ⊎ ((shelf : ℕ) × (begun ≡ Some (take shelf)) × (own caller now ≡ own caller seen))
 
@@ -93,19 +95,25 @@ pub record LaneGoesOn (again : List Event → Option Call → Type 0) (ready : L
       (seen : List Event) (operations : List Op) → ready seen operations lane
       → HasGoneOn (machine_at new lane.caller) begun (again seen) operations lane after
 
--- a lane is between two operations, and this one is the next; a step of this one came to what is told
+-- a lane is between two operations, and this one is the next; a step of this one came to what is told, or ended its call so
 abbrev pub MayBeginOperation : Op → CoreFields → List Op → LaneState Grip → Type 0
 MayBeginOperation operation c operations lane = IsBefore (machine_at c lane.caller) operation operations lane
 
 abbrev pub MayAnswer : Op → Stepped Grip → CoreFields → List Event → List Op → LaneState Grip → Type 0
 MayAnswer operation told c seen operations lane = IsTold (machine_at c lane.caller) operation told seen operations lane
 
--- the operation began, or has its outcome; what was told is answered
+abbrev pub MayAnswerEnd : Op → Ending Grip → CoreFields → List Event → List Op → LaneState Grip → Type 0
+MayAnswerEnd operation ended c seen operations lane = MayAnswer operation (stepped.Done ended) c seen operations lane
+
+-- a lane goes on as its operation begins or has its outcome; and as it answers what was told
 abbrev pub BeginsOperation : Op → CoreFields → CoreFields → LaneState Grip → LaneState Grip → Type 0
 BeginsOperation operation old new lane after = LaneGoesOn (λ seen begun. ⊥) (λ seen. MayBeginOperation operation old) old new lane after
 
 abbrev pub GoesOnBy : Op → Stepped Grip → CoreFields → CoreFields → LaneState Grip → LaneState Grip → Type 0
 GoesOnBy operation told old new lane after = LaneGoesOn (λ seen. IsAgain lane.caller seen new.events) (MayAnswer operation told old) old new lane after
+
+abbrev pub GoesOnByEnd : Op → Ending Grip → CoreFields → CoreFields → LaneState Grip → LaneState Grip → Type 0
+GoesOnByEnd operation ended old new lane after = GoesOnBy operation (stepped.Done ended) old new lane after
 
 -- a lane of these operations has gone on over a machine, by one step where it made one and by none else: it stands, no other caller moved, and what it has begun has passed the gate
 pub record AdvancesOn (passed : ℕ → ℕ → Type 0) (operations : List Op) (old new : CoreFields) (lane after : LaneState Grip) (made : Bool) : Type 0 where

@@ -18,7 +18,7 @@ use Rattle.trace_lane.specs.declared.stage.OperationStage.{OperationStage}
 use Rattle.trace_lane.specs.declared.stage.OperationStage.TheVariants as stage
 use Rattle.trace_lane.specs.Operations.{IsDoing}
 
--- between two operations nothing is under way; else the next one of the script is
+-- what a lane is at: between two operations nothing is under way, else the next one of its script is
 abbrev pub IsAt : ℕ → List Event → ErrandFields → Position → List (Option Held) → List Op → OperationStage → List Event → Type 0
 IsAt caller events e position registers operations stage.Between added = IsIdle e × (registers ≡ position.registers) × (added ≡ [])
 IsAt caller events e position registers operations stage added =

@@ -96,7 +96,7 @@ module _ {S : Type 0} (called : S → Call → Reply → S → Type 0) where
   OneMade registers operation result before after =
       (made : List Made) × MadeFor (held_in registers (register_of operation)) operation result made × LeadsBy called before made after
 
-  -- so did operations with these outcomes, from these registers on
+  -- operations with these outcomes led from one state to another, from these registers on
   abbrev pub AllMade : List (Option Held) → List Op → List Outcome → S → S → Type 0
   AllMade registers operations [] before after = after ≡ before
   AllMade registers [] (result ∷ results) before after = ⊥

@@ -106,7 +106,7 @@ pub record IsReplacing (caller : ℕ) (events : List Event) (position : Position
   pub giving : IsGiving caller need new.place (need_of need) given
   pub so_far : added ≡ given ++ writing caller new.place count (λ i. slice_index_or copied i 0)
 
--- it copies word `next`: the read of it is under way
+-- a resize copies word `next`: the read of it is under way
 pub record IsCopyingFrom (caller : ℕ) (events : List Event) (point : Point) (position : Position) (registers : List (Option Held)) (r need : ℕ) (old : Held)
     (next : ℕ) (added : List Event) : Type 0 where
   pub new : Held
@@ -118,7 +118,7 @@ pub record IsCopyingFrom (caller : ℕ) (events : List Event) (point : Point) (p
   pub within : next < new.words
   pub under_way : IsUnderWay caller (call.read old.place old.need next) point []
 
--- or the write of this word, 0 behind the old block's end
+-- a resize copies word `next`: the write of this word is under way, 0 behind the old block's end
 pub record IsCopyingTo (caller : ℕ) (events : List Event) (point : Point) (position : Position) (registers : List (Option Held)) (r need : ℕ) (old : Held)
     (next word : ℕ) (added : List Event) : Type 0 where
   pub new : Held

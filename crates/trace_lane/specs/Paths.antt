@@ -41,7 +41,7 @@ pub record Progressed : Type 0 where
   pub results : List Outcome
   pub at : OperationStage
 
--- where an advance goes on with the call that was under way before, or tries a take again that missed: a step that missed adds no event of the caller to those seen
+-- an advance goes on with the call that was under way before, or tries a take again that missed: a step that missed adds no event of the caller to those seen
 abbrev pub StaysInCall : ℕ → List Event → List Event → List Move → Type 0
 StaysInCall caller seen now moves =
     (moves ≡ steps caller ∷ [])

@@ -30,7 +30,7 @@ abbrev pub copying_word : ℕ → Need → ℕ → Need → List ℕ → ℕ →
 copying_word place need to to_need words i =
     if nat_lt i (length words) then read place need i ∷ write to to_need i (slice_index_or words i 0) ∷ [] else write to to_need i 0 ∷ []
 
--- those that copy the first words, in their order
+-- the calls that copy the first words of a block into another one, in their order
 abbrev pub copying : ℕ → Need → ℕ → Need → List ℕ → ℕ → List Call
 copying place need to to_need words count = flat_map (copying_word place need to to_need words) (range_with_len 0 count)
 
@@ -79,7 +79,7 @@ registers_from registers [] (result ∷ results) = registers
 registers_from registers (operation ∷ operations) (result ∷ results) =
     registers_from (registers_after registers operation result) operations results
 
--- the calls of a resize so far, where it has its new block, and the read of word `next` of the old one is under way, or the write of this one
+-- the calls of a resize so far, where it has its new block, and the read of word `next` of the old one is under way, or the write of this word
 abbrev pub HasCopied : Held → Held → ℕ → ℕ → Option ℕ → List Call → Type 0
 HasCopied old new need next None calls =
     (copied : List ℕ) × (length copied ≡ next)
@@ -132,7 +132,7 @@ stage_begun (stage.Copying old next None) = 2 * next + 2
 stage_begun (stage.Copying old next (Some word)) = 2 * next + 3
 stage_begun stage.Releasing = 2 * LARGE_MOST + 2
 
--- it is below this: no block has more words than the largest
+-- more than the calls that an operation begins: no block has more words than the largest
 abbrev pub begun_bound : ℕ
 begun_bound = 2 * LARGE_MOST + 3
 

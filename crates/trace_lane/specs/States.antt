@@ -51,16 +51,16 @@ pub record IsLaneOf {B : Type 0} (engine : Engine B) (operations : List Op) (lan
       → OwnsAfter engine.events lane.caller (engine.place_of block) (engine.need_of block)
   pub room : length operations ≤ vec_capacity lane.outcomes
 
--- so a lane stands on a machine
+-- the lane of these operations stands on a machine
 abbrev pub IsLaneOn : CoreFields → List Op → LaneState Grip → Type 0
 IsLaneOn c operations lane = IsLaneOf (machine_at c lane.caller) operations lane
 
--- it is one of the machine's callers, and stands so on it
+-- the lane of these operations is one of a machine's callers, and stands on it
 pub record StandsOn (c : CoreFields) (operations : List Op) (lane : LaneState Grip) : Type 0 where
   pub core : IsCore c
   pub has : lane.caller < c.geometry.callers
   pub stands : IsLaneOn c operations lane
 
--- and how far it is
+-- how far a lane on a machine is
 abbrev pub progress_on : LaneState Grip → Progressed
 progress_on lane = progress_of grip_place grip_need lane

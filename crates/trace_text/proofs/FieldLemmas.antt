@@ -3,7 +3,7 @@ use Rattle.std.proofs.Common.{◌≡◌, ℕ, List, [], ◌∷◌, Some, Ok, ref
 use Rattle.trace_text.specs.Causes.{◌>>=◌}
 use Rattle.trace_text.specs.Said.{some_in, none_in, numeral_in, three_in, heap_fields_in}
 
--- what is some is itself
+-- fields that are taken as at least one are the fields themselves
 some_is : (fields taken : List (List ℕ)) → some_in fields ≡ Ok taken → fields ≡ taken
 some_is [] taken e = absurd cc
 some_is (a ∷ fields) taken e = cc
@@ -19,7 +19,7 @@ four_fields fields one two three four a b c d e f g h =
     rest [] = refl
     rest (x ∷ four) = refl
 
--- three fields that should be numbers
+-- the numbers of three fields are those of each of them
 pub three_fields :
     (fields one two three : List (List ℕ)) (a b c : List ℕ) → some_in fields ≡ Ok (a ∷ one) → some_in one ≡ Ok (b ∷ two) → some_in two ≡ Ok (c ∷ three)
     → three ≡ [] → three_in fields ≡ (numeral_in a >>= λ a. numeral_in b >>= λ b. numeral_in c >>= λ c. Ok (a, b, c))

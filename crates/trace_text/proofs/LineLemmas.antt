@@ -17,7 +17,7 @@ not_passed p bytes k fails =
       | inr is ↦ is
     ]
 
--- the place that was found
+-- the place that a search finds is within the bytes
 pub position_found : (p : ℕ → Bool) (bytes : List ℕ) (i : ℕ) → Some i ≡ position p bytes → (position_or_len p bytes ≡ i) × (i < length bytes)
 position_found p bytes i e =
     elim (cases_Bool (ltb (position_or_len p bytes) (length bytes))) [
@@ -28,7 +28,7 @@ position_found p bytes i e =
       | inr past ↦ absurd (none-some i (sym (rw past at e)))
     ]
 
--- the first place whose byte passes
+-- the first byte that passes a test is at the place that a search finds, and the search finds none where none passes
 pub position_first : (p : ℕ → Bool) (bytes : List ℕ) (r : Option ℕ) → IsFirstByte p bytes r → r ≡ position p bytes
 position_first p bytes None h =
     let none = position_or_len_is p bytes (length bytes) 0 (omega arith) (λ k below. not_passed p bytes k (h k (omega arith) below)) (λ more. absurd (omega (arith, more))) in
@@ -39,7 +39,7 @@ position_first p bytes (Some i) h =
     let within : ltb (position_or_len p bytes) (length bytes) ≡ true = lt-ltb _ _ (omega (arith, is, h.0.high)) in
     rw (within, is) refl
 
--- no byte passes
+-- no byte passes a test for which a search finds no place
 pub position_lacks : (p : ℕ → Bool) (bytes : List ℕ) → None ≡ position p bytes → (k : ℕ) (d : ℕ) → k < length bytes → p (get_or bytes k d) ≡ false
 position_lacks p bytes e k d below =
     elim (cases_Bool (ltb (position_or_len p bytes) (length bytes))) [
@@ -49,7 +49,7 @@ position_lacks p bytes e k d below =
       | inr past ↦ fails_before_first p bytes k d (omega (arith, ltb-false _ _ past))
     ]
 
--- the parts of a list are some
+-- bytes that are split have at least one part
 parts_some : (p : ℕ → Bool) (bytes : List ℕ) → (part : List ℕ) × (parts : List (List ℕ)) × (slice_split p bytes ≡ part ∷ parts)
 parts_some p [] = ([], [], refl)
 parts_some p (b ∷ bytes) =
@@ -62,7 +62,7 @@ parts_some p (b ∷ bytes) =
 pub lines_in-cons : (part : List ℕ) (p : ℕ → Bool) (bytes : List ℕ) → lines_in (part ∷ slice_split p bytes) ≡ without_return part ∷ lines_in (slice_split p bytes)
 lines_in-cons part p bytes = let rest = parts_some p bytes in rw rest.2 refl
 
--- a line up to a line feed
+-- the lines of a text with a line feed: the first one, up to it, and those of the rest
 pub line_before : (text : List ℕ) (end : ℕ) → Some end ≡ position (λ b. eqb b 10) text → lines_of text ≡ without_return (take end text) ∷ lines_of (drop (end + 1) text)
 unfolding lines_of
 line_before text end e =
@@ -75,7 +75,7 @@ line_before text end e =
 lines_in-one : (text : List ℕ) → 0 < length text → lines_in (text ∷ []) ≡ without_return text ∷ []
 lines_in-one text some = let e : eqb (length text) 0 ≡ false = ne_eqb (length text) 0 (λ is. absurd (omega arith)) in rw e refl
 
--- no line feed: one line, if there is a byte
+-- a text without a line feed is one line, if it has a byte
 pub line_alone : (text : List ℕ) → None ≡ position (λ b. eqb b 10) text → 0 < length text → lines_of text ≡ without_return text ∷ []
 unfolding lines_of
 line_alone text e some =
@@ -87,7 +87,7 @@ pub no_lines : lines_of [] ≡ []
 unfolding lines_of
 no_lines = refl
 
--- the rest of a list, as a slice of it is seen
+-- the rest of a list is as many of its bytes as are left
 pub rest_from : (i : ℕ) (bytes : List ℕ) → take (length bytes - i) (drop i bytes) ≡ drop i bytes
 rest_from i bytes = take_all (length bytes - i) (drop i bytes) (omega (arith, length-drop i bytes))
 
@@ -147,7 +147,7 @@ some_before bytes zero begins within at = absurd (false≢true (sym begins.1 ∙
 some_before [] (suc end) begins within at = absurd (omega (arith, within))
 some_before (b ∷ bytes) (suc end) begins within at = refl
 
--- a field up to a blank
+-- the fields of bytes that begin one and have a blank: that one, up to the blank, and those of the rest
 pub field_before : (bytes : List ℕ) (end : ℕ) → BeginsField bytes → Some end ≡ position is_blank bytes → fields_of bytes ≡ take end bytes ∷ fields_of (drop (end + 1) bytes)
 unfolding fields_of
 field_before bytes end begins e =
@@ -158,7 +158,7 @@ field_before bytes end begins e =
     let some : has_bytes (take end bytes) ≡ true = some_before bytes end begins found.1 at in
     rw (split, some) refl
 
--- the last field of a line
+-- bytes that begin a field and have no blank are that one field
 pub field_alone : (bytes : List ℕ) → BeginsField bytes → None ≡ position is_blank bytes → fields_of bytes ≡ bytes ∷ []
 unfolding fields_of
 field_alone bytes begins e =

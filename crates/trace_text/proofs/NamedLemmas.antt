@@ -26,12 +26,12 @@ use Rattle.trace_text.specs.Stages.{HasTrace}
 use Rattle.trace_text.specs.Traces.{IsOp, IsAllowed, IsOrder, IsTrace, callers_of}
 use Rattle.trace_text.proofs.NumberLemmas.{number_found}
 
--- the value of a step that did not fail
+-- a step that did not fail gave a value, and what follows was made of it
 pub bind_ok : {A B : Type 0} (r : Result A Cause) (f : A → Result B Cause) (y : B) → (r >>= f) ≡ Ok y → (x : A) × (r ≡ Ok x) × (f x ≡ Ok y)
 bind_ok (Ok x) f y e = (x, refl, e)
 bind_ok (Err cause) f y e = absurd cc
 
--- a test that did not fail
+-- a test that did not fail was passed
 pub kept : {A : Type 0} (b : Bool) (r : Result A Cause) (cause : Cause) (y : A) → cond b r (Err cause) ≡ Ok y → (b ≡ true) × (r ≡ Ok y)
 kept true r cause y e = (refl, e)
 kept false r cause y e = absurd cc
@@ -42,7 +42,7 @@ done x = Ok x
 pub ok_is : {A : Type 0} (x y : A) → done x ≡ done y → x ≡ y
 ok_is x y e = cc
 
--- one of two ways
+-- what follows from each of two ways follows from a choice between them
 pub either : {A : Type 0} (b : Bool) (x y z : A) (P : Type 0) → cond b x y ≡ z → (x ≡ z → P) → (y ≡ z → P) → P
 either true x y z P e f g = f e
 either false x y z P e f g = g e
@@ -187,7 +187,7 @@ order_ok lanes fields run e =
 abbrev IsTraceOf : Version → Trace → Type 0
 IsTraceOf version trace = IsTrace trace × (trace.version ≡ version)
 
--- behind a heap line of this version
+-- the reading stands behind a heap line of this version
 abbrev pub IsBehind : Version → ReadingStage → Type 0
 IsBehind version Before = ⊥
 IsBehind version (Inside trace) = IsTraceOf version trace
@@ -244,12 +244,12 @@ All-last_with P op (lane ∷ next ∷ more) h is =
     All-cons (All P) lane (last_with op (next ∷ more)) (All-head (All P) lane (next ∷ more) h)
     (All-last_with P op (next ∷ more) (All-tail (All P) lane (next ∷ more) h) is)
 
--- no order run is in any range
+-- a list of no order runs fits any lanes
 no_orders : (lanes : List (List Op)) (orders : List OrderRun) → length orders ≡ 0 → All (IsOrder lanes) orders
 no_orders lanes [] none = All-nil (IsOrder lanes)
 no_orders lanes (run ∷ orders) none = absurd (omega (arith, none))
 
--- order runs see of the lanes how many they are
+-- order runs that fit some lanes fit as many others
 same_orders : (lanes more : List (List Op)) (orders : List OrderRun) → length more ≡ length lanes → All (IsOrder lanes) orders → All (IsOrder more) orders
 same_orders lanes more orders same h =
     let P : ℕ → Type 0 = λ n. All (λ (run : OrderRun). (run.lane < n) × IsWithin 1 ORDER_MOST run.steps) orders in
@@ -393,6 +393,6 @@ goes_named Before next (inr begun) = behind_named begun.0 next begun.1
 goes_named (Inside trace) next goes = behind_named trace.version next goes
 goes_named (Ended trace) next goes = behind_named trace.version next goes
 
--- a line that is not refused leaves such a trace
+-- a line that is not refused leaves a trace that a text can name, where there was one so far
 pub line_named : (known : Version) (stage next : ReadingStage) (line : List ℕ) → HasTrace stage → after_line known stage line ≡ Ok next → HasTrace next
 line_named known stage next line is e = goes_named stage next (line_goes known stage next line is e)

@@ -18,7 +18,7 @@ use Rattle.trace_text.specs.Numbers.{is_numeral, number_in}
 own : IsNumeralModel (λ ds. list_all is_ascii_digit ds ≡ true) (digits_value 10)
 own = numerals_by_value _ (search rules)
 
--- what a numeral is
+-- a numeral: at least one digit, and a first 0 only alone
 pub record IsNumeral (ds : List ℕ) : Type 0 where
   pub digits : list_all is_ascii_digit ds ≡ true
   pub some : 0 < length ds
@@ -51,7 +51,7 @@ test-from_IsNumeral (d ∷ ds) h =
       | inr other ↦ rw other h.digits
     ]
 
--- digits that don't begin with 0, or just `0`
+-- bytes that don't begin with 0, or just `0`, are a numeral where all of them are digits
 is_numeral-digits : (ds : List ℕ) → 0 < length ds → (get_or ds 0 0 ≡ 48 → length ds ≡ 1) → is_numeral ds ≡ list_all is_ascii_digit ds
 unfolding is_numeral
 is_numeral-digits [] some first = absurd (omega (arith, some))
@@ -64,7 +64,7 @@ is_numeral-digits (d ∷ ds) some first =
       | inr other ↦ rw other refl
     ]
 
--- one digit more
+-- digits with one digit more write ten times their number and that digit
 pub digits_more :
     (ds : List ℕ) (i : ℕ) → i < length ds → list_all is_ascii_digit (take i ds) ≡ true → is_ascii_digit (get_or ds i 0) ≡ true
     → (list_all is_ascii_digit (take (i + 1) ds) ≡ true) × (digits_value 10 (take (i + 1) ds) ≡ digits_value 10 (take i ds) * 10 + (get_or ds i 0 - 48))
@@ -80,7 +80,7 @@ digits_more ds i below front digit =
 pub few_digits : (ds : List ℕ) (i : ℕ) → length ds ≤ 19 → list_all is_ascii_digit (take i ds) ≡ true → digits_value 10 (take i ds) < 10 ^ 19
 few_digits ds i few front = digits_value_short own (take i ds) 19 front (omega (arith, length-take i ds))
 
--- a byte that is no digit
+-- bytes of which one is no digit are not all digits
 pub lacks_digit : (ds : List ℕ) (i : ℕ) → i < length ds → is_ascii_digit (get_or ds i 0) ≡ false → list_all is_ascii_digit ds ≡ false
 lacks_digit ds i below other = list_all_at is_ascii_digit ds i 0 below other
 
@@ -88,13 +88,13 @@ and_false : (a b : Bool) → b ≡ false → (a && b) ≡ false
 and_false true b e = e
 and_false false b e = refl
 
--- what the digits write is at least what the first of them write
+-- digits of which the first ones write 2^64 or more pass no test for a number below it
 pub too_large : (ds : List ℕ) (i : ℕ) → 2 ^ 64 ≤ digits_value 10 (take i ds) → (list_all is_ascii_digit ds && ltb (digits_value 10 ds) (2 ^ 64)) ≡ false
 too_large ds i large =
     let most = digits_value-take-le 10 ds i (omega arith) in
     and_false _ _ (le-ltb (digits_value 10 ds) (2 ^ 64) (omega (arith, large, most)))
 
--- what few digits write is what a field of them is
+-- at most 19 bytes that don't begin with 0, or just `0`, are the field of the number that they write, if all are digits
 pub number_in-few :
     (ds : List ℕ) → 0 < length ds → (get_or ds 0 0 ≡ 48 → length ds ≡ 1) → length ds ≤ 19
     → (if list_all is_ascii_digit ds then Some (digits_value 10 ds) else None) ≡ number_in ds
@@ -109,7 +109,7 @@ number_in-few ds some first few =
       | inr other ↦ rw (same, other) refl
     ]
 
--- the same of any digits
+-- bytes that don't begin with 0, or just `0`, are the field of the number that they write, if all are digits and it is below 2^64
 pub number_in-many :
     (ds : List ℕ) → 0 < length ds → (get_or ds 0 0 ≡ 48 → length ds ≡ 1)
     → (if list_all is_ascii_digit ds && ltb (digits_value 10 ds) (2 ^ 64) then Some (digits_value 10 ds) else None) ≡ number_in ds
@@ -130,7 +130,7 @@ number_in-zero (d ∷ ds) zero more =
     let longer : eqb (length ds) 0 ≡ false = ne_eqb (length ds) 0 (λ is. absurd (omega (arith, more, is))) in
     rw (first, longer) refl
 
--- what is read is spelled so
+-- a field that is read as a number is that number in decimal, and below 2^64
 pub number_found : (field : List ℕ) (n : ℕ) → number_in field ≡ Some n → (n < 2 ^ 64) × (field ≡ decimal n)
 unfolding number_in
 number_found field n e =
@@ -155,7 +155,7 @@ decimal_is_IsNumeral n small =
           ];
     }
 
--- what is spelled so is read
+-- a number below 2^64 in decimal is read as that number
 pub number_again : (n : ℕ) → n < 2 ^ 64 → number_in (decimal n) ≡ Some n
 unfolding number_in
 number_again n small =
@@ -164,7 +164,7 @@ number_again n small =
     let below : ltb (digits_value 10 (decimal n)) (2 ^ 64) ≡ true = rw v (lt-ltb n (2 ^ 64) small) in
     rw (e, below, v) refl
 
--- the same of a result that is what is read
+-- a result that is what a field is read as has the field as its number in decimal, if it has one
 pub IfSome-number_in : (r : Option ℕ) (field : List ℕ) → r ≡ number_in field → IfSome r (λ n. field ≡ decimal n)
 IfSome-number_in None field e = tt
 IfSome-number_in (Some n) field e = (number_found field n (sym e)).1

@@ -22,7 +22,7 @@ use Rattle.trace_text.proofs.NumberLemmas.{decimal_digits}
 abbrev pub is_graphic : ℕ → Bool
 is_graphic b = leb 33 b && leb b 126
 
--- bytes that a printed field has
+-- bytes that a printed field has: at least one, and graphic ones alone
 pub record IsField (field : List ℕ) : Type 0 where
   pub some : has_bytes field ≡ true
   pub graphic : list_all is_graphic field ≡ true
@@ -56,7 +56,7 @@ Printed-append : (front rest : List ℕ) → AllByRecursion Printed front → Al
 Printed-append [] rest h k = k
 Printed-append (b ∷ front) rest h k = (h.0, Printed-append front rest h.1 k)
 
--- fields parted by a space
+-- fields parted by a space are bytes of a printed line
 pub Printed-joined : (fields : List (List ℕ)) → AreFields fields → AllByRecursion Printed (join_with_byte SPACE fields)
 Printed-joined [] h = tt
 Printed-joined (field ∷ []) h = printed_bytes field (graphic_bytes field h.0.graphic)
@@ -67,7 +67,7 @@ Printed-joined (field ∷ next ∷ fields) h =
 apart : (field : List ℕ) → IsField field → All (λ b. is_blank b ≡ false) field
 apart field h = All-from_recursion (λ b. is_blank b ≡ false) field (no_blanks field (graphic_bytes field h.graphic))
 
--- the fields are found again
+-- the fields of a line of fields parted by a space are those fields
 pub fields_of-joined : (fields : List (List ℕ)) → AreFields fields → 0 < length fields → fields_of (join_with_byte SPACE fields) ≡ fields
 unfolding fields_of
 fields_of-joined [] h some = absurd (omega (arith, some))
@@ -82,7 +82,7 @@ plain_byte b h =
     let both : (leb 32 b && leb b 126) ≡ true = rw (le-leb 32 b h.0, le-leb b 126 h.1) refl in
     elim (cases_Bool (eqb b 9)) [ inl tab ↦ rw tab refl | inr other ↦ rw (other, both) refl ]
 
--- the test of a printed line's bytes
+-- the bytes of a printed line pass the test of a line's bytes
 pub plain_line : (bytes : List ℕ) → AllByRecursion Printed bytes → list_all is_plain bytes ≡ true
 plain_line [] h = refl
 plain_line (b ∷ bytes) h = rw (plain_byte b h.0, plain_line bytes h.1) refl
@@ -116,11 +116,11 @@ lines_of-line fields rest h =
     ∙ lines_in-cons joined p rest
     ∙ ap (λ first. first ∷ lines_in (slice_split p rest)) (without_return-printed joined printed)
 
--- a text is read so from here, whatever the number of its first line
+-- a text is read as this reading from a stage on, whatever the number of its first line
 abbrev pub ReadsTo : Reading → ReadingStage → List ℕ → Type 0
 ReadsTo reading stage text = (number : ℕ) → reading_from Two (lines_of text) number stage ≡ reading
 
--- a line that is printed, and what comes behind it
+-- a text that begins with a printed line is read as what comes behind the line is from the next stage on
 pub reads_line :
     (reading : Reading) (stage next : ReadingStage) (fields : List (List ℕ)) (rest : List ℕ) → AreFields fields → 0 < length fields
     → after_fields Two stage fields ≡ Ok next → ReadsTo reading next rest → ReadsTo reading stage (line fields ++ rest)

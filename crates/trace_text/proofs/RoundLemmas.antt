@@ -91,7 +91,7 @@ three_again a b c x y z = rw (numeral_again a x, numeral_again b y, numeral_agai
 need_again : (need : ℕ) → need ≤ LARGE_MOST → need_of need ≡ Ok need
 need_again need few = ranged_again OutOfRange 0 LARGE_MOST need (omega arith) few
 
--- an operation that every version has
+-- an operation whose word is not `r` is the same in every version
 op_of-common : (version : Version) (word : List ℕ) (fields : List (List ℕ)) → bytes_eq word (codes "r") ≡ false → op_of version word fields ≡ op_in word fields
 unfolding op_of
 op_of-common One word fields e = refl
@@ -102,7 +102,7 @@ unfolding op_of
 op_of-resize One fields e = absurd cc
 op_of-resize Two fields e = refl
 
--- a line in a lane
+-- the line of an operation, in a lane, leads to the trace with that operation more
 op_after :
     (trace : Trace) (op : Op) → IsOp op → IsAllowed trace.version op → 0 < length trace.lanes → length trace.orders ≡ 0
     → after_fields Two (Inside trace) (op_fields op) ≡ Ok (Inside (with_op trace op))
@@ -266,13 +266,13 @@ heap_are_fields t is =
 append_last : (lanes : List (List Op)) (last : List Op) (op : Op) → callers_of (lanes ++ last ∷ []) ≡ callers_of (lanes ++ (last ++ op ∷ []) ∷ [])
 append_last lanes last op = ap (λ n. max 1 n) (length-append lanes (last ∷ []) ∙ sym (length-append lanes ((last ++ op ∷ []) ∷ [])))
 
--- one operation more in the last lane
+-- a trace so far with one operation more has it in its last lane
 op_added : (t : Trace) (lanes : List (List Op)) (last : List Op) (op : Op) → with_op (so_far t (lanes ++ last ∷ []) []) op ≡ so_far t (lanes ++ (last ++ op ∷ []) ∷ []) []
 op_added t lanes last op =
     ap (λ (n : ℕ). record t { heap = record t.heap { callers = n }; lanes = last_with op (lanes ++ last ∷ []); orders = [] }) (append_last lanes last op)
     ∙ ap (λ (ls : List (List Op)). record t { heap = record t.heap { callers = callers_of (lanes ++ (last ++ op ∷ []) ∷ []) }; lanes = ls; orders = [] }) (last_with-append op lanes last)
 
--- the operations of a lane, and what comes behind them
+-- the printed operations of a lane are read, and then what comes behind them
 ops_read :
     (reading : Reading) (t : Trace) (lanes : List (List Op)) (ops last : List Op) (rest : List ℕ) → All IsOp ops → All (IsAllowed t.version) ops
     → ReadsTo reading (Inside (so_far t (lanes ++ (last ++ ops) ∷ []) [])) rest
@@ -289,7 +289,7 @@ ops_read reading t lanes (op ∷ ops) last rest h allowed reads =
     (op_are_fields op here) (op_some op) (said ∙ ap (λ (stage : ReadingStage). Ok stage) next) others in
     subst (λ (text : List ℕ). ReadsTo reading (Inside (so_far t (lanes ++ last ∷ []) [])) text) (sym (append_assoc (op_line op) (flat_map op_line ops) rest)) one
 
--- the lanes, and what comes behind them
+-- the printed lanes are read, and then what comes behind them
 lanes_read :
     (reading : Reading) (t : Trace) (before lanes : List (List Op)) (rest : List ℕ) → All (All IsOp) lanes → All (All (IsAllowed t.version)) lanes → length (before ++ lanes) ≤ MAX_LANES
     → ReadsTo reading (Inside (so_far t (before ++ lanes) [])) rest
@@ -308,7 +308,7 @@ lanes_read reading t before (ops ∷ lanes) rest h allowed few reads =
     subst (λ (text : List ℕ). ReadsTo reading (Inside (so_far t before [])) text)
     (sym (append_assoc lane_line (flat_map op_line ops) (flat_map lane_lines lanes ++ rest)) ∙ sym (append_assoc (lane_lines ops) (flat_map lane_lines lanes) rest)) one
 
--- the order lines, and what comes behind them
+-- the printed order lines are read, and then what comes behind them
 orders_read :
     (reading : Reading) (t : Trace) (lanes : List (List Op)) (before orders : List OrderRun) (rest : List ℕ) → All (IsOrder lanes) orders → length lanes ≤ MAX_LANES
     → ReadsTo reading (Inside (so_far t lanes (before ++ orders))) rest
@@ -328,12 +328,12 @@ nothing_left : (t : Trace) → ReadsTo (Read t) (Ended t) []
 unfolding reading_from at_end
 nothing_left t number = rw no_lines refl
 
--- the last line
+-- the printed last line ends the reading with the trace
 end_read : (t : Trace) → ReadsTo (Read t) (Inside t) (end_line ++ [])
 end_read t =
     reads_line (Read t) (Inside t) (Ended t) (codes "end" ∷ []) [] (record { some = refl; graphic = refl }, tt) (omega arith) (end_after t) (nothing_left t)
 
--- all of the trace
+-- the trace so far, with all lanes and order runs, is the trace
 all_of : (t : Trace) → IsTrace t → so_far t t.lanes t.orders ≡ t
 all_of t is = ap (λ (n : ℕ). record t { heap = record t.heap { callers = n } }) (sym is.callers)
 

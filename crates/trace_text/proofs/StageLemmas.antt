@@ -15,14 +15,14 @@ use Rattle.trace_text.specs.Causes.{StopsReading}
 use Rattle.trace_text.specs.Said.{after_line, after_op, op_of, is_unordered, last_with}
 use Rattle.trace_text.specs.Reading.{Reading, Read, AnswersReading, at_end, fault_of, reading_from}
 
--- the lines after one that was read
+-- the lines after one that was read are read as the whole from the next stage on
 pub goes_on :
     (line : List ℕ) (after lines : List (List ℕ)) (number : ℕ) (stage next : ReadingStage) (reading : Reading) → lines ≡ line ∷ after
     → reading_from Two lines number stage ≡ reading → after_line Two stage line ≡ Ok next → reading_from Two after (number + 1) next ≡ reading
 unfolding reading_from
 goes_on line after lines number stage next reading is reads said = rw (is, said) at reads
 
--- a line that is refused
+-- a stop at a line is told as what the text is read as
 pub stopped :
     (stop : Stop) (line : List ℕ) (after lines : List (List ℕ)) (number : ℕ) (stage : ReadingStage) (reading : Reading) → lines ≡ line ∷ after
     → reading_from Two lines number stage ≡ reading → StopsReading stop (after_line Two stage line) → AnswersReading (Err (fault_of number stop)) reading
@@ -31,18 +31,18 @@ stopped stops.OutOfMemory line after lines number stage reading is reads said = 
 stopped (stops.Because cause) line after lines number stage reading is reads said =
     subst (λ r. AnswersReading (Err (fault_of number (stops.Because cause))) r) (rw (is, said) at reads) (refl, refl)
 
--- the end of the text
+-- lines of which none is left are read as the end of the text
 pub ended : (lines : List (List ℕ)) (number : ℕ) (stage : ReadingStage) (reading : Reading) → lines ≡ [] → reading_from Two lines number stage ≡ reading → at_end number stage ≡ reading
 unfolding reading_from
 ended lines number stage reading is reads = rw is at reads
 
--- the last of some lanes has one operation more
+-- lanes with one operation more in the last one have it at that lane's end
 pub last_with-append : (op : Op) (lanes : List (List Op)) (last : List Op) → last_with op (lanes ++ last ∷ []) ≡ lanes ++ (last ++ op ∷ []) ∷ []
 last_with-append op [] last = refl
 last_with-append op (lane ∷ []) last = refl
 last_with-append op (lane ∷ next ∷ more) last = ap (λ lanes. lane ∷ lanes) (last_with-append op (next ∷ more) last)
 
--- the same of lanes that a view shows
+-- lanes that a view shows have one operation more where the last one was pushed it
 pub last_pushed :
     {V : Type 0} (items : V → List Op) (op : Op) (old rest new : List V) (last pushed : V) → old ≡ rest ++ last ∷ []
     → items pushed ≡ items last ++ op ∷ [] → new ≡ rest ++ pushed ∷ [] → map items new ≡ last_with op (map items old)
@@ -64,7 +64,7 @@ unfolding at_end
 no_end trace number stage reading is e =
     subst (λ r. AnswersReading (Err (fault_of number (stops.Because NoEnd))) r) (rw is at e) (refl, refl)
 
--- in a lane: some lane and no order run has come
+-- a trace with some lane and no order run passes the test for an operation's line
 in_lane : (trace : Trace) → (trace.lanes ≡ [] → ⊥) → trace.orders ≡ [] → (nat_lt 0 (length trace.lanes) && is_unordered trace) ≡ true
 in_lane trace some none = rw (none, lt-ltb 0 (length trace.lanes) (some_length trace.lanes some)) refl
   where
@@ -72,7 +72,7 @@ in_lane trace some none = rw (none, lt-ltb 0 (length trace.lanes) (some_length t
     some_length [] some = absurd (some refl)
     some_length (lane ∷ lanes) some = omega arith
 
--- an operation more in the last lane
+-- an operation that a line says in a lane is one more in the last lane
 pub op_taken :
     (trace : Trace) (word : List ℕ) (fields : List (List ℕ)) (op : Op) (lanes : List (List Op)) → (trace.lanes ≡ [] → ⊥) → trace.orders ≡ []
     → op_of trace.version word fields ≡ Ok op → lanes ≡ last_with op trace.lanes → after_op trace word fields ≡ Ok (Inside (record trace { lanes = lanes }))

@@ -12,7 +12,7 @@ pub join_with_byte-cons :
 join_with_byte-cons c first [] = sym (append-nil first)
 join_with_byte-cons c first (field ∷ fields) = ap (λ rest. first ++ c ∷ rest) (join_with_byte-cons c field fields)
 
--- a line of a first field, some fields and some more
+-- a line of a first field, some fields and some more: each but the first has a space before it
 pub line-append :
     (first : List ℕ) (fields more : List (List ℕ))
     → line (first ∷ fields ++ more)
@@ -21,7 +21,7 @@ line-append first fields more =
     rw (join_with_byte-cons SPACE first (fields ++ more), flat_map-append (λ field. SPACE ∷ field) fields more)
     (ap (λ text. text ++ LINE_FEED ∷ []) (sym (append_assoc first _ _)))
 
--- the same, behind a text that has the first fields already
+-- a line of some fields and some more, behind a text that has the first ones already
 pub line-joined :
     (first : List ℕ) (fields more : List (List ℕ))
     → line (first ∷ fields ++ more)

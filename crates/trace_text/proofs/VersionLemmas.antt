@@ -28,7 +28,7 @@ fields_alike known other version (Inside trace) (word ∷ fields) is = refl
 fields_alike known other version (Ended trace) [] is = refl
 fields_alike known other version (Ended trace) (word ∷ fields) is = refl
 
--- a line of fields that are answered alike
+-- a line whose fields are answered alike under two known versions is answered alike
 line_alike : (known other : Version) (stage : ReadingStage) (line : List ℕ) → after_fields known stage (fields_of line) ≡ after_fields other stage (fields_of line) → after_line known stage line ≡ after_line other stage line
 unfolding after_line
 line_alike known other stage line e = ap (λ said. cond (list_all is_plain line) said (Err NotAscii)) e
@@ -98,7 +98,7 @@ version_said Two version word e =
           (λ known. absurd cc, rw (← is) ((bytes_eq-Decides word (heap_word Two)).0 two.0))
     ]
 
--- before the heap line a line is passed over, or it is the heap line and has the word of its version
+-- a line before the heap line is passed over, or it is the heap line and has the word of its version
 abbrev Begins : Version → List (List ℕ) → List (List (List ℕ)) → ReadingStage → Type 0
 Begins known fields lines next =
     ((next ≡ Before) × (first_word_in (fields ∷ lines) ≡ first_word_in lines))
@@ -116,7 +116,7 @@ fields_begin known (word ∷ fields) lines next e =
           inr (begun.0, said.0, rw line (ap (λ w. Some w) said.1), begun.2)
     ]
 
--- the same of a line whose bytes are tested
+-- a line that is not refused before the heap line is passed over, or it is the heap line and has the word of its version
 line_begins : (known : Version) (line : List ℕ) (lines : List (List (List ℕ))) (next : ReadingStage) → after_line known Before line ≡ Ok next → Begins known (fields_of line) lines next
 unfolding after_line
 line_begins known line lines next e =

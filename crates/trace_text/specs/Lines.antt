@@ -39,7 +39,7 @@ fields_of line = filter has_bytes (slice_split is_blank line)
 abbrev pub BeginsField : List ℕ → Type 0
 BeginsField bytes = (0 < length bytes) × (is_blank (slice_index bytes 0) ≡ false)
 
--- a comment begins so
+-- the bytes begin with the mark of a comment
 abbrev pub is_comment : List ℕ → Bool
 is_comment [] = false
 is_comment (b ∷ bytes) = b == COMMENT

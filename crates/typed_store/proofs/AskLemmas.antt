@@ -43,7 +43,7 @@ given-to h p q words steps hand block of called held =
       same = given-same h p q words steps block.place block.need hand of called held.0;
     }
 
--- where none is given all is as before
+-- where no block is given all is as before
 pub refused-reads : (h : Heap) (p q : Pass) (words steps : ℕ) → IsOf h q → HasCalled p (alloc words) steps reply.Refused q → KeepsWords h p q
 refused-reads h p q words steps of called = record {
   rests =

@@ -92,7 +92,7 @@ spending P k (Small class) events blind is = ap (count_by P) is.1 ∙ count-look
 spending P k (Large units) events blind is = absurd is
 spending P k TooLarge events blind is = absurd is
 
--- what the calls of a store add
+-- how many events of a kind the calls of a store add
 pub reads-none :
     (P : Event → Bool) (k place i word : ℕ) (need : Need) (added : List Event) → HasEnded k (read place need i) (reply.Word word) added
     → count_by P added ≡ 0

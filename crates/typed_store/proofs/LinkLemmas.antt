@@ -19,7 +19,7 @@ leads-one at from (x ∷ xs) (y ∷ ys) (s, n, is, here, rest) (t, m, too, there
     let left : xs ≡ ys = leads-one at n xs ys rest (subst (λ k. Leads at k ys 0) (sym both.0) others) in
     ap (λ z. z ∷ xs) both.1 ∙ ap (λ l. y ∷ l) left
 
--- what stands first
+-- what stands first on a way that isn't empty
 pub leads-first :
     {A : Type 0} (at : ℕ → Option (ℕ × A)) (slot : ℕ) (xs : List A) → 0 < length xs → Leads at (suc slot) xs 0
     → (next : ℕ) × (x : A) × (at slot ≡ Some (next, x))
@@ -60,7 +60,7 @@ leads-kept at now Away keep tail mid end from (x ∷ xs) away (slot, next, is, h
           (λ s n ys leads_s many some few. away s n ys leads_s many some (omega (arith, few))) rest,
     )
 
--- so it does where nothing stood in the one slot that is changed
+-- a way stays where nothing stood in the one slot that is changed
 pub leads-new :
     {A : Type 0} (at now : ℕ → Option (ℕ × A)) (changed : ℕ) → at changed ≡ None → ((slot : ℕ) → slot ≢ changed → now slot ≡ at slot)
     → (from : ℕ) (xs : List A) → Leads at from xs 0 → Leads now from xs 0
@@ -68,7 +68,7 @@ leads-new at now changed none keep from xs leads =
     leads-kept at now (λ slot. slot ≢ changed) keep [] 0 refl from xs
     (λ slot n ys leads_s many some few. apart-empty at slot changed ys (omega (arith, many, some)) leads_s none) leads
 
--- and where the slot that is changed stands in front of it
+-- a way stays where the slot that is changed stands in front of it
 pub leads-behind :
     {A : Type 0} (at now : ℕ → Option (ℕ × A)) (changed : ℕ) (whole : List A) → Leads at (suc changed) whole 0
     → ((slot : ℕ) → slot ≢ changed → now slot ≡ at slot)
@@ -77,7 +77,7 @@ leads-behind at now changed whole front keep from xs short leads =
     leads-kept at now (λ slot. slot ≢ changed) keep [] 0 refl from xs
     (λ slot n ys leads_s many some few. apart at slot changed ys whole leads_s front (λ e. absurd (omega (arith, e, many, few, short)))) leads
 
--- where all stays
+-- a way stays where all slots do
 pub leads-same :
     {A : Type 0} (at now : ℕ → Option (ℕ × A)) → ((slot : ℕ) → now slot ≡ at slot) → (from : ℕ) (xs : List A) (to : ℕ)
     → Leads at from xs to → Leads now from xs to

@@ -53,7 +53,7 @@ on-list owned slots head (pair ∷ pairs) slot block (first, next, number, here,
           (pair ∷ on.0, (first, next, number, here, leads-wider (nodes_at owned left) at more next on.0 (suc slot) on.1))
     ]
 
--- a block is one record
+-- a block spells one record
 record-one : (p : Pass) (block : Block) (xs ys : List ℕ) → IsRecord p block xs → IsRecord p block ys → xs ≡ ys
 record-one p block xs ys a b =
     let many : Some (length xs) ≡ Some (length ys) = sym a.counted ∙ b.counted in

@@ -34,7 +34,7 @@ use Rattle.typed_store.proofs.CountLemmas.{allocs-blind, counts-on, frees-blind,
 abbrev pub IsCalm : ℕ → Call → Reply → Type 0
 IsCalm k call answer = (added : List Event) → HasEnded k call answer added → (count_by is_alloc added ≡ 0) × (count_by is_free added ≡ 0)
 
--- a call that leaves the hand
+-- a call that leaves the hand, and neither gives a block nor frees one, leaves the pass at rest
 pub called-rests :
     (h : Heap) (p q : Pass) (call : Call) (steps : ℕ) (answer : Reply) → IsOf h q → HasCalled p call steps answer q
     → ((blocks : List Block) → ChangesHand call answer blocks blocks) → IsCalm p.errand.caller call answer → Rests h p q
@@ -87,7 +87,7 @@ pub reads-self : (h : Heap) (p : Pass) → IsOf h p → Rattle.errand_steps.spec
 reads-self h p of idle =
     record { rests = record { of = of; idle = idle; caller = refl; hand = λ blocks holds. holds; given = refl; freed = refl }; same = λ place. refl }
 
--- the block of a token
+-- a token that is owned has its block at its place
 pub owned-token : (p : Pass) (token : Block) → (owns : Owns p token) → owned_in p token.place ≡ Some owns.0
 owned-token p token owns = ap (if_of p.errand.caller) owns.1 ∙ of-self p.errand.caller owns.0 owns.2
 
@@ -155,7 +155,7 @@ node-words o next pair is =
     λ i. ap (λ (x : Option PoolBlock). word_of x i) n.1 ∙ ap (λ (l : List (Option ℕ)). slice_index_or l i None) n.2 in
     (word 0, word 1, word 2)
 
--- a node that leads elsewhere
+-- a node whose first word is written leads elsewhere
 pub node-led :
     (o : Option PoolBlock) (was next : ℕ) (pair : ℕ × ℕ) → node_at o ≡ Some (was, pair) → node_at (option_map (written 0 next) o) ≡ Some (next, pair)
 node-led o was next pair is =
@@ -168,7 +168,7 @@ three-words : usable_words (need_of 3) ≡ 3
 unfolding need_of least
 three-words = refl
 
--- and when they are written, it holds the node
+-- a new block holds the node when its three words are written
 pub node-made :
     (caller place next key value : ℕ)
     → node_at (Some (written 2 value (written 1 key (written 0 next (fresh_block caller 3 place))))) ≡ Some (next, (key, value))

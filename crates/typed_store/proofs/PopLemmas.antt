@@ -6,7 +6,7 @@ use Rattle.typed_store.specs.declared.store.Store.{Store}
 use Rattle.typed_store.specs.Links.{Leads}
 use Rattle.typed_store.specs.Stores.{HasList, TellsPopped}
 
--- nothing stands in front where no number leads on
+-- no pair stands in front where no number leads on
 pub none-front :
     (s : Store) (pairs : List (ℕ × ℕ)) → s.head ≡ 0 → HasList s pairs → TellsPopped (slice_get pairs 0) Empty × HasList s (drop 1 pairs)
 none-front s [] none has = (refl, has)

@@ -12,7 +12,7 @@ use Rattle.live_heap.specs.Passes.{IsOf, Owns}
 use Rattle.typed_store.specs.Records.{IsRecord}
 use Rattle.typed_store.proofs.PassLemmas.{word-within}
 
--- a word that a list has
+-- a list has a word at each number below its length
 pub got : {A : Type 0} (words : List A) (i : ℕ) → i < length words → (v : A) × (slice_get words i ≡ Some v)
 got [] i within = absurd (omega (arith, within))
 got (x ∷ xs) zero within = (x, refl)
@@ -41,7 +41,7 @@ words-one (x ∷ xs) (y ∷ ys) long same =
     let one : x ≡ y = cc in
     ap (λ z. z ∷ xs) one ∙ ap (λ l. y ∷ l) (words-one xs ys (omega (arith, long)) (λ i within. same (suc i) (omega (arith, within))))
 
--- one word more at the end
+-- the word at the end of a list with one word more
 pub get-last : (xs : List ℕ) (x i : ℕ) → i ≡ length xs → slice_get (xs ++ x ∷ []) i ≡ Some x
 get-last [] x zero is = refl
 get-last [] x (suc i) is = absurd (omega (arith, is))
@@ -53,7 +53,7 @@ get-before [] x i within = absurd (omega (arith, within))
 get-before (y ∷ ys) x zero within = refl
 get-before (y ∷ ys) x (suc i) within = get-before ys x i (omega (arith, within))
 
--- as many records as blocks; one more of both; and the record of a number
+-- there are as many records as blocks; one more of both; and the record of a number
 pub records-counted : (p : Pass) (blocks : List Block) (records : List (List ℕ)) → AllZip (λ block words. IsRecord p block words) blocks records → length blocks ≡ length records
 records-counted p [] [] are = refl
 records-counted p [] (r ∷ rs) are = absurd are

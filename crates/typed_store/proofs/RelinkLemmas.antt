@@ -12,7 +12,7 @@ pub behind :
     → Leads at (suc sought.slot) ((sought.node.key, sought.node.value) ∷ after) 0
 behind at head before sought after stands = (sought.slot, sought.node.next, refl, stands.here, stands.left)
 
--- the first one goes
+-- the list without its first node
 pub unlinked-first :
     (at : ℕ → Option (ℕ × (ℕ × ℕ))) (head : ℕ) (before : List (ℕ × ℕ)) (sought : Sought) (after : List (ℕ × ℕ)) → StandsBetween at head before sought after
     → sought.previous ≡ 0 → Leads (but at sought.slot) sought.node.next (before ++ after) 0
@@ -25,7 +25,7 @@ unlinked-first at head before sought after stands none =
       | inr later ↦ absurd (omega (arith, later.4, none))
     ]
 
--- the node in front of it
+-- the node in front of the one that is sought
 pub record Follows (at : ℕ → Option (ℕ × (ℕ × ℕ))) (head : ℕ) (before : List (ℕ × ℕ)) (sought : Sought) : Type 0 where
   pub front : List (ℕ × ℕ)
   pub pair : ℕ × ℕ
@@ -52,7 +52,7 @@ follows at head before sought after stands some =
           }
     ]
 
--- a later one goes
+-- the list without a node that has one in front of it
 pub unlinked-later :
     (at now : ℕ → Option (ℕ × (ℕ × ℕ))) (head : ℕ) (before : List (ℕ × ℕ)) (sought : Sought) (after : List (ℕ × ℕ))
     → StandsBetween at head before sought after → (f : Follows at head before sought) → now (sought.previous - 1) ≡ Some (sought.node.next, f.pair)

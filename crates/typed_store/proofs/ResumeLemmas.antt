@@ -25,7 +25,7 @@ use Rattle.typed_store.proofs.AskLemmas.{given-to, refused-reads, spent-called-r
 use Rattle.typed_store.proofs.StayLemmas.{SameFor, calling-alloc-same, calling-free-same, freed-same, same-all, same-since}
 use Rattle.typed_store.proofs.StoreLemmas.{built-stays}
 
--- it waits for a block of so many words
+-- the store waits for a block of so many words
 pub record AsksFor (s : Store) (words : ℕ) : Type 0 where
   pub first : Pass
   pub steps : ℕ
@@ -60,7 +60,7 @@ asks-record h s many u is =
       w.3,
     )
 
--- the block that it is given then
+-- the block that a waiting store is given
 pub record GivenNow (s : Store) (words : ℕ) (block : Block) (q : Pass) : Type 0 where
   pub idle : IsIdle q.errand
   pub exactly : HoldsExactly q (block ∷ blocks_of s)
@@ -82,7 +82,7 @@ resumed-given h s words tries block q a of_s of tells =
       same = same-since a.first s.pass q (blocks_of s) (calling-alloc-same h a.first s.pass words a.steps (blocks_of s) of_s a.calling a.exactly.0) g.same;
     }
 
--- the call is over, and all that it holds is as before
+-- the store's call is over, and all that the store holds is as before
 pub record IsOver (h : Heap) (s : Store) (q : Pass) : Type 0 where
   pub ready : IsReady h (record s { pass = q })
   pub same : SameFor s.pass q (blocks_of s)
@@ -121,7 +121,7 @@ asked-again h s words tries q a of_s of tells =
     same-since a.first s.pass q (blocks_of s) (calling-alloc-same h a.first s.pass words a.steps (blocks_of s) of_s a.calling a.exactly.0)
     (calling-alloc-same h a.first q words (suc tells.steps) (blocks_of s) of tells.calling a.exactly.0)
 
--- it waits on
+-- the store waits on where its call is interrupted again
 pub busy-on :
     (h : Heap) (s : Store) (tries : ℕ) (q : Pass) → (u : IsUnderWay h s) → SameFor s.pass q (blocks_of s) → IsOf h q
     → IsInterrupted u.first u.call u.steps s.pass tries q → IsUnderWay h (record s { pass = q })
@@ -140,7 +140,7 @@ pub never : (p q : Pass) (call : Call) (steps : ℕ) (answer : Rattle.errand_ste
     → Rattle.call_events.specs.Ends.end_of call answer ≡ None → HasCalled p call steps answer q → ⊥
 never p q call steps answer none called = none-some called.ended.ended.0 (sym none ∙ called.ended.ended.1)
 
--- it waits for a free
+-- the store waits for the free of a block
 pub record FreesNow (s : Store) : Type 0 where
   pub first : Pass
   pub block : Block

@@ -72,7 +72,7 @@ node-token owned None next pair is = absurd (none-some (next, pair) is)
 node-token owned (Some (Node block)) next pair is = (block, refl, is)
 node-token owned (Some (Spare number)) next pair is = absurd (none-some (next, pair) is)
 
--- what is so of all tokens is so of one
+-- what is so of all tokens is so of those in front, and of one
 pub all-front : (P : Block → Type 0) (xs ys : List Block) → All P (xs ++ ys) → All P xs
 all-front P [] ys all = All-nil P
 all-front P (x ∷ xs) ys all = All-cons P x xs (All-head P x (xs ++ ys) all) (all-front P xs ys (All-tail P x (xs ++ ys) all))

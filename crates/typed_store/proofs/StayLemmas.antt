@@ -37,7 +37,7 @@ pub same-on : (p q r : Pass) (blocks : List Block) → SameFor p q blocks → Sa
 same-on p q r [] s t = tt
 same-on p q r (b ∷ bs) s t = (t.0 ∙ s.0, same-on p q r bs s.1 t.1)
 
--- both have gone on from the one
+-- two passes that own the same as one pass at the places of blocks own the same there
 pub same-since : (p q r : Pass) (blocks : List Block) → SameFor p q blocks → SameFor p r blocks → SameFor q r blocks
 same-since p q r [] s t = tt
 same-since p q r (b ∷ bs) s t = (t.0 ∙ sym s.0, same-since p q r bs s.1 t.1)
@@ -60,7 +60,7 @@ same-away p q place others (b ∷ bs) away = (
   same-away p q place others bs (All-tail (λ (x : Block). x.place ≢ place) b bs away),
 )
 
--- so they do where nothing was owned at the place
+-- blocks that are held stay where nothing was owned at the place that changes
 pub same-given :
     (p q : Pass) (place : ℕ) → owned_in p place ≡ None → ((other : ℕ) → other ≢ place → owned_in q other ≡ owned_in p other)
     → (blocks : List Block) → Holds p blocks → SameFor p q blocks
@@ -69,7 +69,7 @@ same-given p q place nothing others (b ∷ bs) held =
     let away : b.place ≢ place = λ same. none-some held.0.0 (sym nothing ∙ (ap (owned_in p) (sym same) ∙ owned-token p b held.0)) in
     (others b.place away, same-given p q place nothing others bs held.2)
 
--- through an allocation, and through a free of another block
+-- blocks that are held stay through an allocation, and through a free of another block
 so-far-alloc :
     (p q : Pass) (words : ℕ) (at : StageOfCall) (blocks : List Block) → HasChangedSoFar p (alloc words) at q → Holds p blocks → SameFor p q blocks
 so-far-alloc p q words (given place need) blocks changes held = same-given p q place changes.nothing changes.given.others blocks held
@@ -106,7 +106,7 @@ pub freed-same :
 freed-same h p q block steps blocks of called away =
     same-away p q block.place (called-changes h p q (free block.place block.need) steps reply.Freed of called).others blocks away
 
--- the nodes stay
+-- the nodes stay where what is owned at the places of their tokens does
 pub nodes-stay :
     (p q : Pass) (slots : List Slot) → SameFor p q (tokens_in slots) → (slot : ℕ) → nodes_at (owned_in q) slots slot ≡ nodes_at (owned_in p) slots slot
 nodes-stay p q [] same slot = refl
@@ -121,7 +121,7 @@ pub spells-stay :
 spells-stay p q slots head pairs same spells =
     leads-same (nodes_at (owned_in p) slots) (nodes_at (owned_in q) slots) (nodes-stay p q slots same) head pairs 0 spells
 
--- and the records
+-- the records stay where what is owned at their blocks' places does
 record-stays :
     (p q : Pass) (block : Block) (words : List ℕ) → owned_in q block.place ≡ owned_in p block.place → IsRecord p block words → IsRecord q block words
 record-stays p q block words same is = record {

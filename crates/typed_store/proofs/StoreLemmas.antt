@@ -47,7 +47,7 @@ exact-out p slots slot next block more is held =
     subst (λ (l : List Block). HoldsExactly p (block ∷ l)) (sym now)
     ((order-exact p a.before (a.after ++ more) block).0 (subst (HoldsExactly p) was held))
 
--- one token more, or less
+-- the slots have one token more, or one less
 pub more-tokens :
     (slots : List Slot) (slot next : ℕ) (block : Block) → slice_get slots slot ≡ Some (Spare next)
     → length (tokens_in (slice_set slots slot (Node block))) ≡ suc (length (tokens_in slots))
@@ -68,7 +68,7 @@ fewer-tokens slots slot next block is =
     ap (λ l. length l) (a.now (Spare next)) ∙ length-append a.before a.after in
     omega (arith, was, now)
 
--- the first spare slot
+-- a slot on the chain of spare slots is spare
 spare-token : (o : Option Slot) (next : ℕ) (u : Unit {0}) → spare_in o ≡ Some (next, u) → o ≡ Some (Spare next)
 spare-token None next u is = absurd (none-some (next, u) is)
 spare-token (Some (Node block)) next u is = absurd (none-some (next, u) is)
@@ -134,7 +134,7 @@ pub spare-none : (slots : List Slot) → IsSpare slots 0 → length (tokens_in s
 spare-none slots ([], leads, counted) = omega (arith, counted)
 spare-none slots (u ∷ rest, (slot, next, is, here, left), counted) = absurd (omega (arith, is))
 
--- a slot more
+-- where no slot is spare, one more slot is the first spare one
 pub spare-push : (slots : List Slot) → IsSpare slots 0 → IsSpare (slots ++ Spare 0 ∷ []) (suc (length slots))
 spare-push slots ([], leads, counted) =
     let now = slots ++ Spare 0 ∷ [] in
@@ -142,7 +142,7 @@ spare-push slots ([], leads, counted) =
     (tt ∷ [], (length slots, 0, refl, ap spare_in (get-push slots (Spare 0)), refl), omega (arith, counted, fewer, length-append slots (Spare 0 ∷ [])))
 spare-push slots (u ∷ rest, (slot, next, is, here, left), counted) = absurd (omega (arith, is))
 
--- a node comes in front
+-- the list with a node that comes in front
 pub list-linked :
     (p q : Pass) (slots : List Slot) (unused head next key value : ℕ) (block : Block) (pairs : List (ℕ × ℕ)) → unused ≢ 0
     → slice_get slots (unused - 1) ≡ Some (Spare next) → node_at (owned_in q block.place) ≡ Some (head, (key, value))
@@ -164,7 +164,7 @@ but-here at gone slot is = rw (eq-eqb slot gone is) refl
 pub but-away : (at : ℕ → Option (ℕ × (ℕ × ℕ))) (gone slot : ℕ) → slot ≢ gone → but at gone slot ≡ at slot
 but-away at gone slot away = rw (ne_eqb slot gone away) refl
 
--- a node that nothing leads to goes
+-- the list without a node that nothing leads to
 pub list-unlinked :
     (owned : ℕ → Option PoolBlock) (slots : List Slot) (slot unused head : ℕ) (block : Block) (pairs : List (ℕ × ℕ))
     → slice_get slots slot ≡ Some (Node block) → Leads (but (nodes_at owned slots) slot) head pairs 0
@@ -219,7 +219,7 @@ pub room-list :
 room-list s slots pairs nodes has =
     (leads-same (nodes_at (owned_in s.pass) s.slots.items) (nodes_at (owned_in s.pass) slots.items) (nodes (owned_in s.pass)) s.head pairs 0 has.0, has.1)
 
--- a slot more changes nothing
+-- a store with one slot more is ready still
 pub room-ready :
     (h : Heap) (s : Store) (slots : Vec Slot Global) (unused : ℕ) → tokens_in slots.items ≡ tokens_in s.slots.items
     → ((owned : ℕ → Option PoolBlock) (slot : ℕ) → nodes_at owned slots.items slot ≡ nodes_at owned s.slots.items slot) → IsSpare slots.items unused

@@ -44,7 +44,7 @@ stands-whole at head before sought after pairs stands leads =
     (leads-append at head (suc sought.slot) 0 before ((sought.node.key, sought.node.value) ∷ after) stands.come
     (behind at head before sought after stands))
 
--- so there is a pair less without it
+-- a list without one of its pairs has one pair less
 pub one-less :
     (before after pairs : List (ℕ × ℕ)) (pair : ℕ × ℕ) → pairs ≡ before ++ pair ∷ after → length pairs ≡ suc (length (before ++ after))
 one-less before after pairs pair whole =
@@ -113,7 +113,7 @@ taken-out h s r slots unused head block sought before after ready stands rests l
       records = λ records had. (records-stay s.pass r s.records.items records same had.0, had.1);
     }
 
--- its block is freed
+-- the store is ready once the block that is out of it is freed
 pub freed-ready :
     (h : Heap) (t : Store) (block : Block) (tries : ℕ) (q : Pass) → HoldsExactly t.pass (block ∷ blocks_of t) → IsBuilt t → IsOf h q
     → FreeTells t.pass block tries free_answer.Freed q → IsReady h (record t { pass = q })
@@ -129,7 +129,7 @@ freed-ready h t block tries q held built of tells =
       built = built-stays t q t.pending same built;
     }
 
--- or its free is interrupted
+-- the store is under way where the free of the block that is out of it is interrupted
 pub free-under-way :
     (h : Heap) (t : Store) (block : Block) (tries : ℕ) (q : Pass) → HoldsExactly t.pass (block ∷ blocks_of t) → IsBuilt t → IsOf h q
     → FreeTells t.pass block tries free_answer.Busy q → IsUnderWay h (record t { pass = q; pending = Free })
@@ -143,7 +143,7 @@ free-under-way h t block tries q held built of tells = record {
   built = built-stays t q Free (calling-free-same h t.pass q block (suc tells.steps) (blocks_of t) of tells.calling held.0.1) built;
 }
 
--- reads in front of a call that freed a block
+-- reads in front of a call that freed a block change nothing of what it says
 pub freed-behind :
     (h : Heap) (s : Store) (q : Pass) (tries : ℕ) (popped : Popped) (t : Store) → KeepsWords h s.pass q → IsFreed h (record s { pass = q }) tries popped t
     → IsFreed h s tries popped t
@@ -173,7 +173,7 @@ stands-read h s q before sought after reads stands =
       link = link-read at now s.head before sought.previous (suc sought.slot) stay stands.link;
     }
 
--- the first node
+-- the first node of a list stands in front
 pub first-stands :
     (at : ℕ → Option (ℕ × (ℕ × ℕ))) (head : ℕ) (pairs : List (ℕ × ℕ)) (node : declared_node.Node) → head ≢ 0 → Leads at head pairs 0
     → at (head - 1) ≡ Some (node.next, (node.key, node.value))

@@ -17,7 +17,7 @@ use Rattle.typed_store.specs.Passings.{FindsNode, IsLink, IsPassing, KeepsWords}
 use Rattle.typed_store.proofs.LinkLemmas.{leads-append, leads-one}
 use Rattle.typed_store.proofs.SlotLemmas.{node-token}
 
--- the node where a list goes on
+-- the node at which a list goes on
 pub record IsAt (at : ℕ → Option (ℕ × (ℕ × ℕ))) (here : ℕ) (after : List (ℕ × ℕ)) : Type 0 where
   pub next : ℕ
   pub pair : ℕ × ℕ
@@ -48,7 +48,7 @@ passing-at at head previous here passed pairs p few =
     let long : length pairs ≡ length p.before + length p.after = ap (λ l. length l) p.whole ∙ length-append p.before p.after in
     at-node at here p.after (omega (arith, long, p.passed_is, few)) p.left
 
--- the slot there has a token, which is the pass's, and its block holds a node
+-- the slot where a walk stands has a token, which is the pass's, and its block holds a node
 pub walk-token :
     (owned : ℕ → Option PoolBlock) (slots : List Slot) (head previous here passed : ℕ) (pairs : List (ℕ × ℕ))
     → IsPassing (nodes_at owned slots) head previous here passed pairs → passed < length pairs
@@ -66,7 +66,7 @@ walk-node h p q slots head previous here passed pairs block reads passing few is
     let a = passing-at (nodes_at (owned_in p) slots) head previous here passed pairs passing few in
     (a.next, a.pair, ap node_at (reads.same block.place) ∙ (ap (node_in (owned_in p)) (sym is) ∙ a.there))
 
--- what was read there stands there
+-- the node that was read in a slot stands there
 pub walk-read :
     (h : Heap) (p q : Pass) (slots : List Slot) (slot : ℕ) (block : Block) (next : ℕ) (pair : ℕ × ℕ) → KeepsWords h p q
     → slice_get slots slot ≡ Some (Node block) → node_at (owned_in q block.place) ≡ Some (next, pair)
@@ -74,7 +74,7 @@ pub walk-read :
 walk-read h p q slots slot block next pair reads is node =
     ap (node_in (owned_in p)) is ∙ (sym (ap node_at (reads.same block.place)) ∙ node)
 
--- so the walk goes on
+-- the walk goes on from one node to the next
 pub record GoesTo (at : ℕ → Option (ℕ × (ℕ × ℕ))) (head here next passed : ℕ) (pair : ℕ × ℕ) (before pairs : List (ℕ × ℕ)) : Type 0 where
   pub passing : IsPassing at head here next (passed + 1) pairs
   pub before_is : passing.before ≡ before ++ pair ∷ []
@@ -101,7 +101,7 @@ walk-on at head previous here passed next pair pairs p few there =
       before_is = refl;
     }
 
--- at first nothing is passed
+-- a walk that begins has passed nothing
 abbrev pub walk-begins :
     (at : ℕ → Option (ℕ × (ℕ × ℕ))) (head : ℕ) (pairs : List (ℕ × ℕ)) → Leads at head pairs 0 → IsPassing at head 0 head 0 pairs
 walk-begins at head pairs leads = record {
@@ -119,13 +119,13 @@ no-more before [] pairs whole long = sym (whole ∙ append-nil before)
 no-more before (x ∷ after) pairs whole long =
     absurd (omega (arith, long, ap (λ l. length l) whole, length-append before (x ∷ after)))
 
--- at the end all are
+-- a walk at its end has passed all pairs
 pub walk-ends :
     (at : ℕ → Option (ℕ × (ℕ × ℕ))) (head previous here passed : ℕ) (pairs : List (ℕ × ℕ))
     → (p : IsPassing at head previous here passed pairs) → length pairs ≡ passed → p.before ≡ pairs
 walk-ends at head previous here passed pairs p all = no-more p.before p.after pairs p.whole (p.passed_is ∙ sym all)
 
--- the first pair with a key
+-- no pair has a key where neither those before nor the next one has it; the first pair with a key is the next one where that has it
 pub first-none :
     (key : ℕ) (before : List (ℕ × ℕ)) (pair : ℕ × ℕ) → first_with key before ≡ None → pair.0 ≢ key → first_with key (before ++ pair ∷ []) ≡ None
 first-none key [] pair none differ = rw (ne_eqb pair.0 key differ) refl
@@ -154,7 +154,7 @@ pub counted :
     → Leads at head pairs 0 → length pairs ≡ count
 counted at head count known pairs leads is others = ap (λ l. length l) (leads-one at head pairs known others leads) ∙ sym is
 
--- the node that was sought
+-- the node that a walk finds is the one that was sought
 pub walk-finds :
     (at : ℕ → Option (ℕ × (ℕ × ℕ))) (head previous here passed key : ℕ) (node : declared_node.Node) (pairs : List (ℕ × ℕ))
     → (p : IsPassing at head previous here passed pairs) → first_with key p.before ≡ None → passed < length pairs
@@ -177,7 +177,7 @@ walk-finds at head previous here passed key node pairs p none few there is =
       };
     }
 
--- without a pair with the key all stay
+-- all pairs stay where none has the key
 pub first-kept : (key : ℕ) (pairs : List (ℕ × ℕ)) → first_with key pairs ≡ None → without_first key pairs ≡ pairs
 first-kept key [] none = refl
 first-kept key (x ∷ xs) none =

@@ -21,7 +21,7 @@ use Rattle.typed_store.specs.declared.store.Stored.{Stored}
 use Rattle.typed_store.specs.declared.store.Stored.TheVariants.{Done, Refused, Spent, Busy}
 use Rattle.typed_store.specs.Passings.{Rests}
 
--- an allocation of so many words: it was given a block, and behind it there are reads and writes of the store's; or it came to this
+-- what an allocation of so many words came to; where it was given a block, reads and writes of the store's are behind it
 abbrev pub IsAnswerOf : Heap → Pass → ℕ → ℕ → Stored → Pass → Type 0
 IsAnswerOf h p words tries Done q =
     (block : Block) × (given : Pass) × AllocTells p words tries (alloc_answer.Given block) given × Rests h given q
@@ -29,12 +29,12 @@ IsAnswerOf h p words tries Refused q = AllocTells p words tries alloc_answer.Ref
 IsAnswerOf h p words tries Spent q = AllocTells p words tries alloc_answer.Spent q
 IsAnswerOf h p words tries Busy q = AllocTells p words tries alloc_answer.Busy q
 
--- the call that was under way has gone on to this
+-- the call that was under way has gone on to this answer
 abbrev pub GoesOnTo : Pass → ℕ → Resumed → Pass → Type 0
 GoesOnTo p tries answer q =
     (first : Pass) (call : Call) (made : ℕ) → IsCalling first call made p → ResumeTells first call made p tries answer q
 
--- so it is of a call of a store that goes on: of a free, or of an allocation
+-- what a call of a store that goes on came to, of a free or of an allocation
 abbrev pub IsResumedAnswer : Heap → Pending → Pass → ℕ → Stored → Pass → Type 0
 IsResumedAnswer h Free p tries Done q = GoesOnTo p tries resumed.Freed q
 IsResumedAnswer h pending p tries Done q =
@@ -48,7 +48,7 @@ abbrev pub free_answer_of : Bool → FreeAnswer
 free_answer_of true = free_answer.Freed
 free_answer_of false = free_answer.Busy
 
--- a node's block was freed, behind reads and writes of the store's, and that came to this; where there is none, nothing was freed
+-- a node's block was freed, behind reads and writes of the store's, with this answer; where there is no node, nothing was freed
 abbrev pub IsFreed : Heap → Store → ℕ → Popped → Store → Type 0
 IsFreed h s tries Empty t = Rests h s.pass t.pass
 IsFreed h s tries (Got key value freed) t =

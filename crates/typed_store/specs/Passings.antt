@@ -29,12 +29,12 @@ pub record Rests (h : Heap) (p q : Pass) : Type 0 where
   pub given : given_in q ≡ given_in p
   pub freed : freed_in q ≡ freed_in p
 
--- and they have the words that they had
+-- the pass rests, and its blocks have the words that they had
 pub record KeepsWords (h : Heap) (p q : Pass) : Type 0 where
   pub rests : Rests h p q
   pub same : OwnsSame p q
 
--- who leads from the head, behind these pairs, to this number: nobody, or the last of the pairs
+-- which node leads to this number, behind these pairs from the head: none, or that of the last of the pairs
 abbrev pub IsLink : (ℕ → Option (ℕ × (ℕ × ℕ))) → ℕ → List (ℕ × ℕ) → ℕ → ℕ → Type 0
 IsLink at head before previous here =
     ((before ≡ []) × (previous ≡ 0))
@@ -58,7 +58,7 @@ pub record StandsBetween (at : ℕ → Option (ℕ × (ℕ × ℕ))) (head : ℕ
   pub left : Leads at sought.node.next after 0
   pub link : IsLink at head before sought.previous (suc sought.slot)
 
--- it is that of the first pair with this key
+-- the node that is sought is that of the first pair with this key
 pub record FindsNode (at : ℕ → Option (ℕ × (ℕ × ℕ))) (head key : ℕ) (pairs : List (ℕ × ℕ)) (sought : Sought) : Type 0 where
   pub before : List (ℕ × ℕ)
   pub after : List (ℕ × ℕ)
@@ -67,6 +67,6 @@ pub record FindsNode (at : ℕ → Option (ℕ × (ℕ × ℕ))) (head key : ℕ
   pub first : first_with key before ≡ None
   pub stands : StandsBetween at head before sought after
 
--- a slot without its node
+-- the nodes without that of one slot
 abbrev pub but : (ℕ → Option (ℕ × (ℕ × ℕ))) → ℕ → ℕ → Option (ℕ × (ℕ × ℕ))
 but at gone slot = if slot == gone then None else at slot

@@ -26,19 +26,19 @@ use Rattle.typed_store.specs.Records.{IsRecord}
 abbrev pub HasList : Store → List (ℕ × ℕ) → Type 0
 HasList s pairs = Spells (owned_in s.pass) s.slots.items s.head pairs × (s.count ≡ length pairs)
 
--- and its records have these words
+-- the store's records have these words
 abbrev pub HasRecords : Store → List (List ℕ) → Type 0
 HasRecords s records = AllZip (λ block words. IsRecord s.pass block words) s.records.items records × (s.recorded ≡ length records)
 
--- the blocks of its nodes and of its records
+-- the blocks of a store's nodes and of its records
 abbrev pub blocks_of : Store → List Block
 blocks_of s = tokens_in s.slots.items ++ s.records.items
 
--- how many slots it has, with a node or without
+-- how many slots a store has, with a node or without
 abbrev pub slot_count : Store → ℕ
 slot_count s = length s.slots.items
 
--- it has a list and records; no slot holds a token but for a node of the list, and the other slots are chained
+-- the store has a list and records; no slot holds a token but for a node of the list, and the other slots are chained
 pub record IsBuilt (s : Store) : Type 0 where
   pub pairs : List (ℕ × ℕ)
   pub list : HasList s pairs
@@ -47,14 +47,14 @@ pub record IsBuilt (s : Store) : Type 0 where
   pub records : HasRecords s words
   pub spare : IsSpare s.slots.items s.unused
 
--- it is in no call, and the blocks of its nodes and of its records are all that its caller owns, each once
+-- the store is in no call, and the blocks of its nodes and of its records are all that its caller owns, each once
 pub record IsReady (h : Heap) (s : Store) : Type 0 where
   pub of : IsOf h s.pass
   pub idle : IsIdle s.pass.errand
   pub exactly : HoldsExactly s.pass (blocks_of s)
   pub built : IsBuilt s
 
--- it waits for this call of the heap, since its pass stood so: an allocation, with room for what it is to hold; or the free of one block more
+-- the store waits for this call of the heap, since its pass stood so: an allocation, with room for what it is to hold; or the free of one block more
 abbrev pub IsWaitingFor : Store → Pass → Call → Pending → Type 0
 IsWaitingFor s first call Nothing = ⊥
 IsWaitingFor s first call (Pair key value) = (call ≡ alloc 3) × HoldsExactly first (blocks_of s) × (s.unused ≢ 0)
@@ -62,7 +62,7 @@ IsWaitingFor s first call (Record words) =
     (call ≡ alloc (words + 1)) × HoldsExactly first (blocks_of s) × (vec_len s.records < vec_capacity s.records) × (s.recorded < 1000000)
 IsWaitingFor s first call Free = (block : Block) × (call ≡ free block.place block.need) × HoldsExactly first (block ∷ blocks_of s)
 
--- a call of it was interrupted, and what it holds is as before that call's end
+-- a call of the store was interrupted, and what the store holds is as before that call's end
 pub record IsUnderWay (h : Heap) (s : Store) : Type 0 where
   pub of : IsOf h s.pass
   pub first : Pass
@@ -72,7 +72,7 @@ pub record IsUnderWay (h : Heap) (s : Store) : Type 0 where
   pub waits : IsWaitingFor s first call s.pending
   pub built : IsBuilt s
 
--- how an answer leaves it: interrupted, so that it waits for this; or in no call
+-- how an answer leaves a store: interrupted, so that it waits for this; or in no call
 abbrev pub LeavesStore : Heap → Stored → Pending → Store → Type 0
 LeavesStore h Busy pending s = IsUnderWay h s × (s.pending ≡ pending)
 LeavesStore h stored pending s = IsReady h s
@@ -81,7 +81,7 @@ abbrev pub LeavesPopped : Heap → Popped → Store → Type 0
 LeavesPopped h (Got key value false) s = IsUnderWay h s × (s.pending ≡ Free)
 LeavesPopped h popped s = IsReady h s
 
--- what becomes of the pairs, and of the records
+-- what an answer makes of the pairs, and of the records
 abbrev pub with_pair : Stored → ℕ × ℕ → List (ℕ × ℕ) → List (ℕ × ℕ)
 with_pair Done pair pairs = pair ∷ pairs
 with_pair stored pair pairs = pairs
@@ -91,7 +91,7 @@ abbrev pub TellsPopped : Option (ℕ × ℕ) → Popped → Type 0
 TellsPopped None popped = popped ≡ Empty
 TellsPopped (Some pair) popped = (freed : Bool) × (popped ≡ Got pair.0 pair.1 freed)
 
--- what becomes of them where a call goes on that waited for this; a record has the words that are given then
+-- what becomes of the pairs and of the records where a call goes on that waited for this; a record has the words that are given then
 abbrev pub pairs_after : Pending → Stored → List (ℕ × ℕ) → List (ℕ × ℕ)
 pairs_after (Pair key value) Done pairs = (key, value) ∷ pairs
 pairs_after pending stored pairs = pairs
@@ -104,6 +104,6 @@ abbrev pub with_record : Stored → List ℕ → List (List ℕ) → List (List 
 with_record Done words records = records ++ words ∷ []
 with_record stored words records = records
 
--- the list comes to the slot, behind some of its pairs
+-- the store's list comes to the slot, behind some of its pairs
 abbrev pub IsOnList : Store → ℕ → Type 0
 IsOnList s slot = (before : List (ℕ × ℕ)) × Leads (nodes_at (owned_in s.pass) s.slots.items) s.head before (suc slot)

@@ -13,7 +13,7 @@ after_action-lost (Cas name expected new) word lost = rw (ne_eqb word expected l
 after_action-lost (Swap name new) word lost = elim lost [ ]
 after_action-lost (And name mask) word lost = elim lost [ ]
 
--- an action that isn't won is such an exchange
+-- an action that isn't won is an exchange whose expected word differs
 pub IsLost-not_won : (action : Action) (word : ℕ) → is_won action word ≡ false → IsLost action word
 IsLost-not_won (Load name) word fails = cc
 IsLost-not_won (Store name new) word fails = cc

@@ -14,7 +14,7 @@ unfolding descriptor_count
 descriptor_count_within g h =
     omega (arith, mul-le g.callers (g.callers + 1) MAX_CALLERS (MAX_CALLERS + 1) (omega arith) (omega arith))
 
--- nor more words
+-- no heap has more words than the largest one
 pub word_count_within : (g : Geometry) → IsChecked g → word_count g ≤ MAX_WORDS
 unfolding word_count
 word_count_within g h = omega (arith, descriptor_count_within g h)

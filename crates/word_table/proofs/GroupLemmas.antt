@@ -24,7 +24,7 @@ offset_of-within g (Hazard caller) is = is
 offset_of-within g Units is = omega arith
 offset_of-within g (Shelf shelf) is = is
 
--- at that place stands the word
+-- the word at the place of a name in its group is that of the name
 pub name_at-offset_of : (g : Geometry) (name : WordName) → Exists g name → name_at (group_of name) (offset_of name) ≡ name
 name_at-offset_of g (Arena word) is = refl
 name_at-offset_of g (Anchor desc) is = refl
@@ -62,7 +62,7 @@ name_at-Exists g Hazards offset below = below
 name_at-Exists g UnitWords offset below = tt
 name_at-Exists g Shelves offset below = below
 
--- it is one of that group
+-- the word at a place of a group is one of that group
 pub group_of-name_at : (group : Group) (offset : ℕ) → group_of (name_at group offset) ≡ group
 group_of-name_at ArenaWords offset = refl
 group_of-name_at Anchors offset = refl
@@ -78,7 +78,7 @@ group_of-name_at Hazards offset = refl
 group_of-name_at UnitWords offset = refl
 group_of-name_at Shelves offset = refl
 
--- at that place
+-- the word at a place of a group has that place there
 pub offset_of-name_at :
     (g : Geometry) (group : Group) (offset : ℕ) → offset < group_words g group → offset_of (name_at group offset) ≡ offset
 offset_of-name_at g ArenaWords offset below = refl
@@ -111,7 +111,7 @@ groups-group_number Hazards = refl
 groups-group_number UnitWords = refl
 groups-group_number Shelves = refl
 
--- which is one of theirs
+-- the number of a group is below the number of groups
 pub group_number-within : (group : Group) → group_number group < length groups
 group_number-within ArenaWords = omega arith
 group_number-within Anchors = omega arith
@@ -132,7 +132,7 @@ abbrev IsNumbered : ℕ → List Group → Type 0
 IsNumbered first [] = Unit {0}
 IsNumbered first (group ∷ rest) = (group_number group ≡ first) × IsNumbered (first + 1) rest
 
--- then each has its place as its number
+-- each of some groups that are numbered from one on has its place as its number
 number-at :
     (first : ℕ) (list : List Group) (k : ℕ) → IsNumbered first list → k < length list
     → group_number (get_or list k ArenaWords) ≡ first + k

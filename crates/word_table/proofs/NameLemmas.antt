@@ -13,7 +13,7 @@ one_number :
 one_number kind one a b =
     elim (cases_eq a b) [ inl same ↦ inl (ap kind same) | inr differ ↦ inr (λ same. differ (one a b same)) ]
 
--- with two numbers
+-- two names of one kind with two numbers each are one or are not
 two_numbers :
     (kind : ℕ → ℕ → WordName) → ((a b c d : ℕ) → kind a b ≡ kind c d → a ≡ c)
     → ((a b c d : ℕ) → kind a b ≡ kind c d → b ≡ d) → (a b c d : ℕ) → (kind a b ≡ kind c d) ⊎ (kind a b ≢ kind c d)
@@ -60,7 +60,7 @@ exists-true g (Hazard caller) is = grind (arith, nat_tests)
 exists-true g Units is = refl
 exists-true g (Shelf shelf) is = grind (arith, nat_tests)
 
--- and no other
+-- a name that passes the test is one that the heap has
 pub true-Exists : (g : Geometry) (name : WordName) → exists g name ≡ true → Exists g name
 true-Exists g (Arena word) passes = grind (arith, nat_tests)
 true-Exists g (Anchor desc) passes = grind (arith, nat_tests)

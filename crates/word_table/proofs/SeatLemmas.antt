@@ -36,7 +36,7 @@ block_count_of-least class below =
     let most : 2 ^ (class + 1) ≤ 2 ^ CLASSES = pow_mono above in
     le-div 2 FRAME_WORDS (2 ^ (class + 1)) (pow_pos (class + 1)) (omega arith)
 
--- and at most as many as there are of two words each
+-- a superblock has at most as many blocks as there are of two words each
 pub block_count_of-most : (class : ℕ) → block_count_of class ≤ MAX_COUNT
 block_count_of-most class =
     let above : 1 ≤ class + 1 = omega arith in

@@ -20,7 +20,7 @@ words_in-take-le g [] k below = absurd (omega arith)
 words_in-take-le g (group ∷ rest) zero below = omega arith
 words_in-take-le g (group ∷ rest) (suc k) below = omega (arith, words_in-take-le g rest k (omega arith))
 
--- one group more
+-- the words of the first groups and of one more: those of the first, and its own
 pub words_in-take_more :
     (g : Geometry) (list : List Group) (k : ℕ) → k < length list
     → words_in g (take (suc k) list) ≡ words_in g (take k list) + group_words g (get_or list k ArenaWords)
@@ -42,7 +42,7 @@ next g number k words d below is =
     let within : k < length groups = omega (arith, length-take number groups) in
     record { group = within; is = is ∙ ap (group_words g) (get_or-take number groups k d before ∙ get_or_default groups k d ArenaWords within) }
 
--- the words before the next one
+-- the words of the first groups and of the next one: those of the first, and its own
 pub start_more :
     (g : Geometry) (number k words : ℕ) (d : Group) → k < length (take number groups)
     → words ≡ group_words g (get_or (take number groups) k d)
@@ -51,7 +51,7 @@ start_more g number k words d below is =
     let h = next g number k words d below is in
     rw (add-one, h.is) (words_in-take_more g groups k h.group)
 
--- are among the words of the table
+-- the words of the first groups and of the next one are among the words of the table
 pub start_more-within :
     (g : Geometry) (number k words : ℕ) (d : Group) → k < length (take number groups)
     → words ≡ group_words g (get_or (take number groups) k d)
@@ -60,7 +60,7 @@ start_more-within g number k words d below is =
     let h = next g number k words d below is in
     rw (h.is, ← words_in-groups g) (words_in-take-le g groups k h.group)
 
--- up to a group's number, they are the words before the group
+-- the words of the first groups, up to a group's number, are the words before the group
 pub start_of-is :
     (g : Geometry) (group : Group) (number k start : ℕ) → number ≡ group_number group → k ≤ length (take number groups)
     → length (take number groups) ≤ k → start ≡ words_in g (take k groups) → start ≡ start_of g group
@@ -82,7 +82,7 @@ pub words_in-drop :
 unfolding words_in
 words_in-drop g k words d below is = rw (drop_more groups k d below, is) refl
 
--- a place within the first of them
+-- a place among the groups from one on that is within the first of them is a place of that group
 pub name_in-here :
     (g : Geometry) (k words offset : ℕ) (d : Group) → k < length groups → words ≡ group_words g (get_or groups k d)
     → offset < words → name_in g (drop k groups) offset ≡ name_at (get_or groups k d) offset
@@ -91,7 +91,7 @@ name_in-here g k words offset d below is here =
     let first : offset < group_words g (get_or groups k d) = omega arith in
     rw (drop_more groups k d below, lt-ltb offset (group_words g (get_or groups k d)) first) refl
 
--- a place behind it
+-- a place among the groups from one on that is behind the first of them is one among the others
 pub name_in-behind :
     (g : Geometry) (k words offset : ℕ) (d : Group) → k < length groups → words ≡ group_words g (get_or groups k d)
     → words ≤ offset → name_in g (drop k groups) offset ≡ name_in g (drop (k + 1) groups) (offset - words)
@@ -100,7 +100,7 @@ name_in-behind g k words offset d below is behind =
     let past : group_words g (get_or groups k d) ≤ offset = omega arith in
     rw (drop_more groups k d below, le-ltb offset (group_words g (get_or groups k d)) past, is) refl
 
--- behind the last one there is no place
+-- no place is behind the last group
 pub none-left : (g : Geometry) (k offset : ℕ) → length groups ≤ k → offset < words_in g (drop k groups) → ⊥
 unfolding words_in
 none-left g k offset past below =
@@ -128,7 +128,7 @@ pub record IsAt (g : Geometry) (list : List Group) (index k offset : ℕ) : Type
   pub within : offset < group_words g (get_or list k ArenaWords)
   pub place : index ≡ words_in g (take k list) + offset
 
--- every place has them
+-- every place among the words of some groups is a place of one of them
 pub find : (g : Geometry) (list : List Group) (index : ℕ) → index < words_in g list → (k : ℕ) × (offset : ℕ) × IsAt g list index k offset
 unfolding words_in
 find g [] index below = absurd (omega arith)
@@ -164,7 +164,7 @@ word_name-word_index g name is =
     name_in-take g groups (group_number group) (offset_of name) (group_number-within group) within
     ∙ (rw at (name_at-offset_of g name is))
 
--- so two words have two places
+-- two words have two places in the table
 pub word_index-one :
     (g : Geometry) (m n : WordName) → Exists g m → Exists g n → word_index g m ≡ word_index g n → m ≡ n
 word_index-one g m n is_m is_n same =
@@ -188,7 +188,7 @@ word_name-Exists g index below =
     let (k, offset, is) = find g groups index (rw words_in-groups below) in
     rw (word_name-at g index k offset is) (name_at-Exists g (get_or groups k ArenaWords) offset is.within)
 
--- at that place
+-- the word at a place of the table has that place
 pub word_index-word_name : (g : Geometry) (index : ℕ) → index < word_count g → word_index g (word_name g index) ≡ index
 unfolding word_index
 word_index-word_name g index below =

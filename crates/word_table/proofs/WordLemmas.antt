@@ -24,7 +24,7 @@ pub word_in-there :
 unfolding word_in
 word_in-there g words name is = rw (exists-true g name is) refl
 
--- of one that it hasn't
+-- the word of a name that the heap hasn't is 0
 pub word_in-nowhere : (g : Geometry) (words : List ℕ) (name : WordName) → ¬ Exists g name → word_in g words name ≡ 0
 unfolding word_in
 word_in-nowhere g words name none =
@@ -42,7 +42,7 @@ written-here g words name new whole is =
     word_in-there g (slice_set words (word_index g name) new) name is
     ∙ get_or-set_same words (word_index g name) new 0 within
 
--- what stands elsewhere
+-- the word of another name stays after a write at a name's place
 written-elsewhere :
     (g : Geometry) (words : List ℕ) (name other : WordName) (new : ℕ) → Exists g name → other ≢ name
     → word_in g (slice_set words (word_index g name) new) other ≡ word_in g words other

@@ -8,12 +8,12 @@ abbrev pub exit_by : {P E : Type 0} → Onward P E → Option E
 exit_by (Stays p) = None
 exit_by (Leaves e) = Some e
 
--- the point at which it stands then; where it leaves, the one at which it stood before
+-- the point at which the caller stands after a step; where it leaves the part, the one at which it stood before
 abbrev pub point_by : {P E : Type 0} → P → Onward P E → P
 point_by before (Stays p) = p
 point_by before (Leaves e) = before
 
--- the next point is such a one, or the exit is
+-- the point where the caller stays has one property, or the exit by which it leaves has another
 abbrev pub IsOnward : {P E : Type 0} → (P → Type 0) → (E → Type 0) → Onward P E → Type 0
 IsOnward F G (Stays p) = F p
 IsOnward F G (Leaves e) = G e

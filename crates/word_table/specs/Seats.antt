@@ -15,7 +15,7 @@ pub record SeatFields : Type 0 where
   pub caller : ℕ
   pub class : ℕ
 
--- there is such a heap, it has the caller, and there is such a class
+-- a seat exists: its heap's numbers are in range, the heap has the caller, and the class is one of the heap's
 pub record IsSeat (s : SeatFields) : Type 0 where
   pub geometry : IsChecked s.geometry
   pub caller : s.caller < s.geometry.callers

@@ -110,7 +110,7 @@ group_of (Hazard caller) = Hazards
 group_of Units = UnitWords
 group_of (Shelf shelf) = Shelves
 
--- its place in the group
+-- the place of a word in its group
 abbrev pub offset_of : WordName → ℕ
 offset_of (Arena word) = word
 offset_of (Anchor desc) = desc
@@ -131,11 +131,11 @@ unfoldable pub words_in : Geometry → List Group → ℕ
 words_in g [] = 0
 words_in g (group ∷ rest) = group_words g group + words_in g rest
 
--- where a group begins: behind the words of all groups before it
+-- the beginning of a group in the table: behind the words of all groups before it
 unfoldable pub start_of : Geometry → Group → ℕ
 start_of g group = words_in g (take (group_number group) groups)
 
--- where each group begins
+-- the beginnings of all groups in the table
 abbrev pub starts_of : Geometry → List ℕ
 starts_of g = map (start_of g) groups
 

@@ -8,11 +8,11 @@ use Rattle.rand_pcg.specs.Pcg.{pcg32, pcg32_of_seed}
 abbrev pub Draws : Type 0 → Type 0
 Draws A = Lcg → A × Lcg
 
--- this thing, with no draw
+-- a thing that is made with no draw
 abbrev pub just : {A : Type 0} → A → Draws A
 just x g = (x, g)
 
--- one thing by the first draws, and what follows it by the next ones
+-- a thing by the first draws, and what follows it by the next ones
 infixl 10 ◌>>=◌
 abbrev pub ◌>>=◌ : {A B : Type 0} → Draws A → (A → Draws B) → Draws B
 (first >>= next) g = next (first g).0 (first g).1
@@ -25,6 +25,6 @@ draw = pcg32
 unfoldable pub seeded_by : ℕ → Lcg
 seeded_by start = pcg32_of_seed (pcg32_seed 16 start)
 
--- what was made, behind a list that was there
+-- items that were drawn, put behind a list
 abbrev pub behind : {A : Type 0} → List A → List A × Lcg → List A × Lcg
 behind before made = (before ++ made.0, made.1)

@@ -7,7 +7,7 @@ use crate::command::Steps;
 use crate::heap::tally::{Tally, count};
 use crate::heap::work::Work;
 use crate::heap::worker::Worker;
-use live_heap::answers::{Ending, Step};
+use errand_steps::told::{Ending, Stepped};
 use live_heap::heap::Heap;
 use live_heap::pass::Pass;
 use std::sync::Wait;
@@ -44,14 +44,14 @@ fn make_step(heap: &Heap, pass: &mut Pass, frees: bool, tally: &mut Tally)
 {
     count(&mut tally.made);
     match heap.step(pass) {
-        Step::Done(Ending::Given(block)) => {
+        Stepped::Done(Ending::Given(block)) => {
             count(&mut tally.given);
             if frees {
                 heap.begin_free(pass, block);
             }
         }
-        Step::Done(Ending::Freed) => count(&mut tally.freed),
-        Step::Done(Ending::Refused) => count(&mut tally.refused),
+        Stepped::Done(Ending::Freed) => count(&mut tally.freed),
+        Stepped::Done(Ending::Refused) => count(&mut tally.refused),
         _ => {}
     }
 }

@@ -3,17 +3,18 @@
 ghost use Rattle.std.specs.Prelude.{◌≡◌, IfSome};
 ghost use Rattle.errand_steps.specs.declared.continuation.Continuation.{Continuation};
 ghost use Rattle.errand_steps.specs.declared.next.Next.TheVariants.{End};
-ghost use Rattle.errand_steps.specs.Errands.{EndsUncounted, is_on_word};
+ghost use Rattle.errand_steps.specs.Errands.{EndsUncounted};
 ghost use Rattle.errand_steps.specs.Nexts.{leave_large};
 
 use crate::point::Point;
 use crate::reply::Reply;
 use heap_geometry::need::Need;
 use large_parts::exit::LargeExit;
-use large_parts::point::{LargePoint, settle_large};
+use large_parts::point::exit_on_word;
 use word_table::action::Found;
 
 /// The reply with which the call ends where a large block, a usable word or a shelf is left by this exit.
+#[inline(always)]
 pub(crate) fn ended(exit: LargeExit) -> Reply
     ensures { (o : Continuation) → leave_large exit o ≡ End result }
 {
@@ -41,25 +42,7 @@ pub(crate) fn ending_on_word(point: &Point, found: Found) -> Option<Reply>
     ensures { IfSome result (EndsUncounted point.now found) }
 {
     match *point {
-        Point::Large { at, .. } => {
-            if is_on_word(&at) {
-                let mut at = at;
-                Some(ended(settle_large(&mut at, found)?))
-            } else {
-                None
-            }
-        }
+        Point::Large { at, .. } => Some(ended(exit_on_word(&at, found)?)),
         _ => None,
     }
-}
-
-/// Whether the step is on a usable word.
-#[inline(always)]
-fn is_on_word(at: &LargePoint) -> bool
-    ensures { result ≡ is_on_word at.now }
-{
-    matches!(
-        *at,
-        LargePoint::StoreWord { .. } | LargePoint::LoadWord { .. }
-    )
 }

@@ -2,16 +2,16 @@
 
 ghost use Rattle.std.specs.Prelude.{ℕ, ◌≡◌, ◌<◌, ◌+◌, List, ◌∷◌, ◌++◌, All, IfOk, Result, length, take, drop, slice_index_or};
 ghost use Rattle.std.specs.Result.{IfErr};
+ghost use Rattle.errand_steps.specs.declared.told.Ending.{Ending};
+ghost use Rattle.errand_steps.specs.declared.told.Stepped.{Stepped};
 ghost use Rattle.errand_steps.specs.Begins.{IsBusy, IsIdle};
 ghost use Rattle.errand_steps.specs.declared.reply.Reply.TheVariants as reply;
 ghost use Rattle.errand_steps.specs.Calls.{Call, put};
 ghost use Rattle.step_machine.specs.Keeping.{LeavesPlace};
 ghost use Rattle.live_heap.specs.declared.answers.AllocAnswer.{AllocAnswer};
-ghost use Rattle.live_heap.specs.declared.answers.Ending.{Ending};
 ghost use Rattle.live_heap.specs.declared.answers.FreeAnswer.{FreeAnswer};
 ghost use Rattle.live_heap.specs.declared.answers.Full.{Full};
 ghost use Rattle.live_heap.specs.declared.answers.Resumed.{Resumed};
-ghost use Rattle.live_heap.specs.declared.answers.Step.{Step};
 ghost use Rattle.live_heap.specs.declared.answers.Taken.{Taken};
 ghost use Rattle.live_heap.specs.declared.block.Block.{Block};
 ghost use Rattle.live_heap.specs.declared.heap.Heap.{Heap};
@@ -48,7 +48,7 @@ pub fn hands_go_through_calls()
         → IfErr answer (λ full. PutTellsFull p block shelf full q) → IsHand h q (blocks ++ returned_by answer) }
     ensures take { (h : Heap) (p q : Pass) (blocks : List Block) (shelf : ℕ) (answer : Taken) → IsOf h p → Holds p blocks → IsOf h q
         → TakeTells p shelf answer q → IsHand h q (blocks ++ taken_by answer) }
-    ensures ended { (h : Heap) (p q : Pass) (blocks : List Block) (call : Call) (steps : ℕ) (end : Ending) → IsOf h p → Holds p blocks
+    ensures ended { (h : Heap) (p q : Pass) (blocks : List Block) (call : Call) (steps : ℕ) (end : Ending Block) → IsOf h p → Holds p blocks
         → IsOf h q → All (λ block. LeavesPlace call block.place) blocks → HasCalled p call steps (reply_of end) q → EndTells call end q
         → IsHand h q (blocks ++ brought_by end) }
 {}
@@ -57,6 +57,6 @@ pub fn hands_go_through_calls()
 pub fn hands_go_through_steps()
     ensures begun { (h : Heap) (p q : Pass) (blocks : List Block) (call : Call) → IsOf h p → Holds p blocks → IsOf h q
         → All (λ block. LeavesPlace call block.place) blocks → IsTried call → IsCalling p call 0 q → IsHand h q blocks }
-    ensures stepped { (h : Heap) (p q : Pass) (blocks : List Block) (told : Step) → IsHand h p blocks → IsBusy p.errand → IsOf h q
+    ensures stepped { (h : Heap) (p q : Pass) (blocks : List Block) (told : Stepped Block) → IsHand h p blocks → IsBusy p.errand → IsOf h q
         → HasStepped p q told → IsHand h q (blocks ++ brought_in told) }
 {}

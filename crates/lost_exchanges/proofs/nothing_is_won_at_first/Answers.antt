@@ -1,4 +1,4 @@
-use Rattle.errand_steps.specs.Openings.{opening, installed}
+use Rattle.sound_state.proofs.Common.{opening, installed}
 use Rattle.lost_exchanges.proofs.FirstWins.{first-won}
 use Rattle.lost_exchanges.proofs.nothing_is_won_at_first.Goals as goal
 

@@ -1,4 +1,4 @@
-use Rattle.errand_steps.specs.Openings.{opening, installed}
+use Rattle.sound_state.proofs.Common.{opening, installed}
 use Rattle.lost_exchanges.specs.Wins.{no_wins}
 use Rattle.sound_state.proofs.beginnings.OpeningLemmas.{opening-sound}
 use Rattle.sound_state.proofs.beginnings.InstalledLemmas.{installed-sound}

@@ -1,18 +1,16 @@
 -- A step that stores the anchor of a new superblock: its descriptor gets it, and nothing else changes.
 use Rattle.std.proofs.Common.{ℕ, true, ◌≡◌, ◌≢◌, ◌<◌, ◌≤◌, ◌+◌, refl, arith, ap, ◌∙◌}
-use Rattle.sound_state.proofs.Common.{Geometry, anchor_of, anchor_word, WordName, Site, IsSiteOf, Writes, new_credits, ErrandFields, State, Moves, waiting}
-use Rattle.sound_state.proofs.Common.{on_its_way, holds_of, errand_has, Lists, IsSoundWith, words_sum, callers_sum, anchor_for, info_for, is_bound, away_of}
-use Rattle.sound_state.proofs.Common.{errand_away, errand_keeps, kept_among, waiting_of, word_reserves, reserved_of}
-use Rattle.packed_words.proofs.AnchorLemmas.{anchor_of-anchor_word}
+use Rattle.sound_state.proofs.Common.{Geometry, anchor_of, anchor_word, WordName, Site, IsSiteOf, Writes, new_credits, ErrandFields, State, Moves, waiting, on_its_way}
+use Rattle.sound_state.proofs.Common.{holds_of, errand_has, Lists, IsSoundWith, words_sum, callers_sum, anchor_for, info_for, is_bound, away_of, errand_away}
+use Rattle.sound_state.proofs.Common.{errand_keeps, kept_among, waiting_of, word_reserves, reserved_of, anchor_of-anchor_word, new_anchor, making}
 use Rattle.word_table.specs.declared.name.WordName.TheVariants as name
-use Rattle.superblock_parts.specs.Anchors.{new_anchor}
-use Rattle.sound_state.specs.Holdings.{making}
 use Rattle.sound_state.proofs.shared.UnplacedLemmas.{IsUnplaced, way-unplaced}
 use Rattle.sound_state.proofs.shared.WaitsAlone.{new_anchor-fits}
 use Rattle.sound_state.proofs.anchors.NewSuperblocks.{unbound-reserves}
 use Rattle.sound_state.proofs.shared.SumLemmas.{callers-none, sum-least, term-sum}
 use Rattle.sound_state.proofs.shared.HoldingEffects.{HoldingEffects, waits-go, ways-go, credits-go, away-goes, places-go}
-use Rattle.sound_state.proofs.shared.MakingWeights.{is_it, it-elsewhere, installing_holds, making-others, making-places, installing-waits, installing-others, installing-credits, installing-apart, it-here, making-ways}
+use Rattle.sound_state.proofs.shared.MakingWeights.{is_it, it-elsewhere, installing_holds, making-others, making-places, installing-waits, installing-others}
+use Rattle.sound_state.proofs.shared.MakingWeights.{installing-credits, installing-apart, it-here, making-ways}
 use Rattle.sound_state.proofs.shared.SuperblockEffects.{AnchorEffects, anchor-still, anchors-stay, info-stays, weights-stay}
 
 -- a caller stores the anchor of its new superblock, and all else stays
@@ -33,7 +31,7 @@ module _ {g : Geometry} {s : State} {l : Lists} {caller : ℕ} {at : Site} {e : 
   pub anchored-write : AnchorEffects s at.desc s'
   anchored-write = record { elsewhere = h.writes.elsewhere }
 
-  -- the other anchors stay, and so does what the descriptors say
+  -- the other descriptors' anchors stay, and so does what all descriptors' info words say
   pub anchored-anchor : (d : ℕ) → d ≢ at.desc → anchor_for s' d ≡ anchor_for s d
   anchored-anchor = anchors-stay anchored-write
 
@@ -44,7 +42,7 @@ module _ {g : Geometry} {s : State} {l : Lists} {caller : ℕ} {at : Site} {e : 
   pub anchored-info : (d : ℕ) → info_for s' d ≡ info_for s d
   anchored-info = info-stays (anchor-still anchored-write)
 
-  -- the descriptor isn't on its way any more, and waits
+  -- the descriptor of a new superblock waits after the store of its anchor, and isn't on its way any more
   pub anchored-waits : (d : ℕ) → waiting_of g s' d ≡ waiting_of g s d + is_it at d
   anchored-waits d = omega (arith, waits-go anchored-holds d, making-others waiting at d refl, installing-waits at d)
 
@@ -58,7 +56,7 @@ module _ {g : Geometry} {s : State} {l : Lists} {caller : ℕ} {at : Site} {e : 
   pub anchored-has : (d : ℕ) → callers_sum g (errand_has d) s'.errand ≡ callers_sum g (errand_has d) s.errand
   anchored-has d = omega (arith, places-go anchored-holds d, making-places at d)
 
-  -- before it the descriptor is on its way, and nowhere else
+  -- before the store of its new superblock's anchor a descriptor is on its way, and nowhere else
   on-its-way : errand_keeps on_its_way at.desc (s.errand caller) ≡ 1
   on-its-way = ap (λ x. kept_among on_its_way at.desc x.kept) h.holds_before ∙ making-ways at at.desc ∙ it-here at
 
@@ -69,7 +67,7 @@ module _ {g : Geometry} {s : State} {l : Lists} {caller : ℕ} {at : Site} {e : 
   pub anchored-free : IsSoundWith g s l → IsUnplaced g s l at.desc
   anchored-free old = way-unplaced g s l caller at.desc old h.in_heap h.site.desc (omega (arith, on-its-way))
 
-  -- and after it it isn't away
+  -- after the store of its new superblock's anchor a descriptor isn't away
   pub anchored-home : IsSoundWith g s l → away_of g s' l at.desc ≡ 0
   unfolding callers_sum
   anchored-home old =
@@ -91,7 +89,7 @@ module _ {g : Geometry} {s : State} {l : Lists} {caller : ℕ} {at : Site} {e : 
       (weight : WordName → ℕ → ℕ) → ((w : ℕ) → weight (name.Anchor at.desc) w ≡ 0) → words_sum g weight s'.word ≡ words_sum g weight s.word
   anchored-words = weights-stay anchored-write g
 
-  -- all blocks but one are reserved
+  -- other descriptors keep their reserved blocks, and of the new superblock all blocks but one are reserved
   pub anchored-reserved : (d : ℕ) → d ≢ at.desc → reserved_of g s' d ≡ reserved_of g s d
   anchored-reserved d differ = omega (arith, credits-go anchored-holds d, installing-apart at d differ, anchored-words (word_reserves d) (λ w. refl))
 

@@ -3,18 +3,18 @@ use Rattle.std.proofs.Common.{ℕ, Bool, true, false, ◌≡◌, ◌≢◌, ◌<
 use Rattle.std.proofs.Math.Path.{fun_ext}
 use Rattle.std.proofs.lemmas.Bool.{cases_eq}
 use Rattle.sound_state.proofs.Common.{Geometry, block_count_of, block_place, Site, link_in, ErrandFields, State, IsFramed, fills_frame, Lists, IsListed, IsLocated}
-use Rattle.sound_state.proofs.Common.{IsSoundWith, AreChained, IsChained, info_for, is_bound, live_at, superblock_of, waiting_of}
-use Rattle.sound_state.specs.Recalls.{AreMade}
-use Rattle.sound_state.proofs.anchors.AnchorFacts.{Anchors, anchored-holds, anchored-write, anchored-anchor, anchored-here, anchored-waits, anchored-bound, anchored-reserved, anchored-credits, anchored-none, anchored-free}
+use Rattle.sound_state.proofs.Common.{IsSoundWith, AreChained, IsChained, info_for, is_bound, live_at, superblock_of, waiting_of, AreMade}
+use Rattle.sound_state.proofs.anchors.AnchorFacts.{Anchors, anchored-holds, anchored-write, anchored-anchor, anchored-here, anchored-waits, anchored-bound}
+use Rattle.sound_state.proofs.anchors.AnchorFacts.{anchored-reserved, anchored-credits, anchored-none, anchored-free}
 use Rattle.sound_state.proofs.shared.FrameLemmas.{waiting-fills}
 use Rattle.sound_state.proofs.shared.HoldingEffects.{framed-after}
 use Rattle.sound_state.proofs.shared.MakingWeights.{it-here, it-elsewhere}
-use Rattle.sound_state.proofs.shared.ShownLemmas.{same-superblock}
 use Rattle.sound_state.proofs.shared.SuperblockEffects.{of-each, LieStill, anchor-still, info-stays, infos-stay, next-stays, size-stays, live-stays, located-live}
 use Rattle.sound_state.proofs.anchors.NewSuperblocks.{new_superblock, new-chained}
 use Rattle.sound_state.proofs.shared.ListEffects.{IsListWord, listed-kept}
+use Rattle.sound_state.proofs.shared.SuperblocksStay.{same-superblock}
 
--- what isn't bound fills_frame no frame
+-- what isn't bound fills no frame
 unbound-fill : (b : Bool) (n x f : ℕ) → (IsTrue b → ⊥) → ◌≡◌ {A = ℕ} (if b && (n == 0) && (x == f) then 1 else 0) 0
 unbound-fill true n x f none = absurd (none refl)
 unbound-fill false n x f none = refl
@@ -26,13 +26,13 @@ module _ {g : Geometry} {s : State} {l : Lists} {caller : ℕ} {at : Site} {e : 
   anchored-others-wait : (d : ℕ) → d ≢ at.desc → waiting_of g s' d ≡ waiting_of g s d
   anchored-others-wait d differ = omega (arith, anchored-waits h d, it-elsewhere at d differ)
 
-  -- the other superblocks stay
+  -- all superblocks but the new one stay
   pub anchored-superblock : (d : ℕ) → d ≢ at.desc → superblock_of g s' d ≡ superblock_of g s d
   anchored-superblock d differ =
       same-superblock _ _ _ _ _ _ _ _ _ _ _ _ (anchored-anchor h d differ) (anchored-reserved h d differ)
       (anchored-others-wait d differ) (next-stays anchored-lie g d) (live-stays anchored-lie g h.history d) (size-stays anchored-lie g d)
 
-  -- the new one is as it was made
+  -- the new superblock is as it was made
   pub anchored-new :
       IsSoundWith g s l → IsLocated s at.desc at.frame at.seat.class → superblock_of g s' at.desc ≡ new_superblock s at.frame at.seat.class
   anchored-new old lies =
@@ -45,7 +45,7 @@ module _ {g : Geometry} {s : State} {l : Lists} {caller : ℕ} {at : Site} {e : 
       (live-stays anchored-lie g h.history d ∙ fun_ext (located-live g s d at.frame at.seat.class lies))
       (size-stays anchored-lie g d ∙ ap block_count_of lies.class)
 
-  -- so the chains are in order
+  -- the chains of bound superblocks are in order after the store of an anchor
   pub anchored-chained :
       IsSoundWith g s l → IsLocated s at.desc at.frame at.seat.class → AreMade s at.frame at.seat.class (block_count_of at.seat.class)
       → ((i : ℕ) → i < block_count_of at.seat.class → live_at s (block_place at.frame at.seat.class i) ≡ 0) → AreChained g s' l
@@ -63,7 +63,7 @@ module _ {g : Geometry} {s : State} {l : Lists} {caller : ℕ} {at : Site} {e : 
         ];
   }
 
-  -- it waits, so it fills_frame no frame; the frame stays in the caller's hand
+  -- the new superblock waits and fills no frame, which stays in the caller's hand
   pub anchored-framed : IsSoundWith g s l → IsFramed g s' l
   anchored-framed old =
       framed-after (anchored-holds h) l

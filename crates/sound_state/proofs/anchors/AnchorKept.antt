@@ -1,19 +1,18 @@
 -- The store of a new superblock's anchor keeps the places of the descriptors, their stock, and the ties to the events.
-use Rattle.std.proofs.Common.{ℕ, ◌≡◌, ◌≢◌, ◌<◌, ◌≤◌, ◌+◌, List, [], ◌∷◌, refl, arith, ap, sym, subst, inl, inr, ◌∙◌, ◌⊎◌, ◌==◌, IsSome}
-use Rattle.std.specs.List.{All, AllByRecursion}
-use Rattle.std.proofs.lemmas.Bool.{cases_eq, cond-true, eq-eqb}
+use Rattle.std.proofs.Common.{ℕ, ◌≡◌, ◌≢◌, ◌<◌, ◌≤◌, ◌+◌, List, [], ◌∷◌, refl, arith, ap, sym, subst, inl, inr, ◌∙◌, ◌⊎◌, ◌==◌, IsSome, All, eq-eqb}
+use Rattle.std.specs.List.{AllByRecursion}
+use Rattle.std.proofs.lemmas.Bool.{cases_eq, cond-true}
 use Rattle.std.proofs.lemmas.List.Elements.{All-nil, All-cons, All-from_recursion}
 use Rattle.sound_state.proofs.Common.{Geometry, active_of, Site, descriptor_count, occurs, ErrandFields, State, Kept, Status, reserving, waiting, partly_used}
 use Rattle.sound_state.proofs.Common.{on_its_way, holds_of, IsKept, IsPartlyUsed, IsWithout, IsKeptAs, word_keeps, full_keeps, Lists, IsLocated, IsSoundWith}
-use Rattle.sound_state.proofs.Common.{anchor_for, kept_among}
+use Rattle.sound_state.proofs.Common.{anchor_for, kept_among, IsActive}
 use Rattle.packed_words.specs.declared.anchor.AnchorState.TheVariants as phase
 use Rattle.word_table.specs.declared.name.WordName.TheVariants as name
-use Rattle.sound_state.specs.Keepers.{IsActive}
 use Rattle.sound_state.proofs.anchors.AnchorFacts.{Anchors, anchored-anchor, anchored-here, anchored-info, anchored-free, anchored-has, anchored-words}
 use Rattle.sound_state.proofs.shared.ListFacts.{all-occurring}
-use Rattle.sound_state.proofs.shared.ShownLemmas.{each-caller}
+use Rattle.sound_state.proofs.shared.CallerLemmas.{each-caller}
 
--- what isn't kept partly used is another descriptor
+-- a descriptor kept partly used is another one than d, where d isn't kept so
 others-partly :
     (d : ℕ) (ks : List Kept) → kept_among partly_used d ks ≡ 0 → AllByRecursion (λ k. k.status ≡ partly_used → k.desc ≢ d) ks
 others-partly d [] none = tt
@@ -25,7 +24,7 @@ others-partly d (k ∷ ks) none = (
 )
 
 module _ {g : Geometry} {s : State} {l : Lists} {caller : ℕ} {at : Site} {e : ErrandFields} {s' : State} (h : Anchors g s l caller at e s') where
-  -- the new superblock is ACTIVE, as is whatever was
+  -- the new superblock is ACTIVE, and so is every other one that was
   pub active-anchored : (d c : ℕ) → IsActive s d c → IsActive s' d c
   active-anchored d c k = record {
     class = ap (λ x. x.class) (anchored-info h d) ∙ k.class;
@@ -52,14 +51,14 @@ module _ {g : Geometry} {s : State} {l : Lists} {caller : ℕ} {at : Site} {e : 
         (sym (anchored-anchor h d differ)) k.state;
   }
 
-  -- what another caller keeps, and what this one does
+  -- what callers keep is in the state in which they keep it after the store of a new superblock's anchor
   kept_as-anchored : (status : Status) (d c : ℕ) → (status ≡ partly_used → d ≢ at.desc) → IsKeptAs s status d c → IsKeptAs s' status d c
   kept_as-anchored reserving d c apart k = active-anchored d c k
   kept_as-anchored waiting d c apart k = active-anchored d c k
   kept_as-anchored partly_used d c apart k = partly-anchored d c (apart refl) k
   kept_as-anchored on_its_way d c apart k = without-anchored d k
 
-  -- the places of the descriptors
+  -- the store of a new superblock's anchor keeps each descriptor in its place, in the state that belongs there
   pub anchored-kept : IsSoundWith g s l → IsLocated s at.desc at.frame at.seat.class → IsKept g s' l
   anchored-kept old lies =
       let kept = old.kept in

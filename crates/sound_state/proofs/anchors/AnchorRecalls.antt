@@ -1,26 +1,23 @@
 -- The store of a new superblock's anchor keeps what the other callers remember.
-use Rattle.std.proofs.Common.{ℕ, ◌≡◌, ◌≢◌, ◌<◌, ◌≤◌, ◌∷◌, arith, ap, sym, subst, ◌∙◌, IsTrue}
-use Rattle.std.specs.List.{All}
+use Rattle.std.proofs.Common.{ℕ, ◌≡◌, ◌≢◌, ◌<◌, ◌≤◌, arith, ap, sym, subst, ◌∙◌, IsTrue, All}
 use Rattle.std.proofs.lemmas.List.Elements.{All-cons, recursion_from_All}
-use Rattle.sound_state.proofs.Common.{Geometry, anchor_word, Site, is_empty, own, Point, ErrandFields, State, on_its_way, Lists, Recall, IsLocated, IsSo, bound_here}
-use Rattle.sound_state.proofs.Common.{recalls_of, bound_for, bound_at, pops, links, says, IsSoundWith, callers_sum, kept_among, is_bound, errand_keeps}
-use Rattle.word_table.specs.declared.name.WordName.TheVariants as name
-use Rattle.superblock_parts.specs.Anchors.{new_anchor}
+use Rattle.sound_state.proofs.Common.{Continuation, Geometry, Site, is_empty, own, Point, ErrandFields, State, on_its_way, Lists, IsLocated, IsSo, bound_here}
+use Rattle.sound_state.proofs.Common.{recalls_of, IsSoundWith, callers_sum, kept_among, is_bound, errand_keeps, IsEmptied, IsRemembered}
 use Rattle.superblock_parts.specs.declared.point.BlockPoint.TheVariants as block
 use Rattle.errand_steps.specs.declared.point.Point.TheVariants as point
-use Rattle.sound_state.specs.Recalls.{IsPopped, IsEmptied, IsRemembered}
 use Rattle.sound_state.proofs.shared.MakingWeights.{it-here, making-ways, is_it}
 use Rattle.sound_state.proofs.shared.RecallEffects.{IsSteadyWord, Leaves, IsLeft, here-so, remembered-left}
-use Rattle.sound_state.proofs.shared.RecallTables.{InstallsNone, IsBacked, bound-differs, backed-recalls}
+use Rattle.sound_state.proofs.shared.RecallFrame.{Part, bindings, chain-same, chains, single}
+use Rattle.sound_state.proofs.shared.RecallTables.{InstallsNone, IsSpared, bound-differs, spared-point}
 use Rattle.sound_state.proofs.shared.PointLemmas.{so-at}
 use Rattle.sound_state.proofs.shared.SumLemmas.{term-sum}
 use Rattle.sound_state.proofs.anchors.AnchorFacts.{Anchors, anchored-anchor, anchored-bound, anchored-bound_here, anchored-ways, anchored-free}
 use Rattle.sound_state.proofs.anchors.AnchorFields.{anchored-superblock}
 use Rattle.sound_state.proofs.anchors.AnchorRests.{owned-anchored}
 
--- the store of an anchor
+-- the store of a new superblock's anchor, seen by the other callers
 module _ {g : Geometry} {s : State} {l : Lists} {caller : ℕ} {at : Site} {e : ErrandFields} {s' : State} (h : Anchors g s l caller at e s') where
-  -- what is bound is another superblock, and so is what waits to be installed
+  -- a superblock that is bound or waits is another one than the new one
   others-bound : IsSoundWith g s l → (d : ℕ) → IsTrue (is_bound g s l d) → d ≢ at.desc
   others-bound old d bound = bound-differs g s l at.desc (anchored-free h old).bound d bound
 
@@ -31,7 +28,7 @@ module _ {g : Geometry} {s : State} {l : Lists} {caller : ℕ} {at : Site} {e : 
       let so = recursion_from_All (IsSo g s l i) (recalls_of p) (so-at g s l i p old has stands) in
       others-bound old site.desc so.1.0.0
 
-  -- what is EMPTY is on no way, and so another superblock
+  -- a superblock that is remembered as EMPTY isn't on its way, and so is another one than the new one
   emptied-differs : (d : ℕ) → IsEmptied g s l d → d ≢ at.desc
   unfolding callers_sum
   emptied-differs d so same =
@@ -43,7 +40,7 @@ module _ {g : Geometry} {s : State} {l : Lists} {caller : ℕ} {at : Site} {e : 
       subst (λ k. callers_sum g (errand_keeps on_its_way k) s.errand ≡ 0) same so.standing in
       omega (arith, none, some, mine, it-here at)
 
-  -- so it leaves what the others remember
+  -- the store of an anchor leaves what the others remember
   anchored-leaves : (i : ℕ) → Leaves g s l s' i
   unfolding callers_sum
   anchored-leaves i = record {
@@ -57,25 +54,20 @@ module _ {g : Geometry} {s : State} {l : Lists} {caller : ℕ} {at : Site} {e : 
   still-bound : IsSoundWith g s l → (d : ℕ) → IsTrue (is_bound g s l d) → IsTrue (is_bound g s' l d)
   still-bound old d bound = subst IsTrue (sym (anchored-bound h d (others-bound old d bound))) bound
 
-  anchored-left : IsSoundWith g s l → (r : Recall) → IsBacked g s l at.desc r → IsLeft g s l s' r
-  anchored-left old (bound_for d c) backed = still-bound old d
-  anchored-left old (bound_at d f c) backed = still-bound old d
-  anchored-left old (pops d a) backed =
-      subst (λ b. IsPopped b a) (sym (anchored-superblock h d (others-bound old d backed)))
-  anchored-left old (links d a prefix) backed =
-      λ is. is ∙ ap (λ x. x.tag) (anchored-anchor h d (others-bound old d backed.0))
-  anchored-left old (says n w) backed = h.writes.elsewhere n backed
-  anchored-left old r backed = tt
+  anchored-left : IsSoundWith g s l → (p : Part) → IsSpared at.desc p → IsLeft g s l s' p
+  anchored-left old (bindings d) spared = still-bound old d
+  anchored-left old (chains d) spared = λ here. chain-same g s s' d (anchored-superblock h d (others-bound old d here.1))
+  anchored-left old (single n) spared = λ said. h.writes.elsewhere n spared
+  anchored-left old p spared = tt
 
   pub anchored-remembered :
-      IsSoundWith g s l → IsLocated s at.desc at.frame at.seat.class
-      → recalls_of e.point ≡ says (name.Anchor at.desc) (anchor_word (new_anchor at.seat.class)) ∷ bound_here at → IsRemembered g s' l
-  anchored-remembered old lies recalls =
+      IsSoundWith g s l → IsLocated s at.desc at.frame at.seat.class → (o : Continuation) → e.point ≡ point.Block (block.InstallSuperblock at) o
+      → IsRemembered g s' l
+  unfolding recalls_of
+  anchored-remembered old lies o stands =
       remembered-left g s l caller e s' h.moves
-      (subst (All (IsSo g s' l caller)) (sym recalls)
-      (All-cons (IsSo g s' l caller) (says (name.Anchor at.desc) (anchor_word (new_anchor at.seat.class))) (bound_here at) (tt, h.writes.here)
+      (subst (λ p. All (IsSo g s' l caller) (recalls_of p)) (sym stands)
+      (All-cons (IsSo g s' l caller) _ (bound_here at) (tt, h.writes.here)
       (here-so g s l s' (anchored-leaves caller).steady caller at (anchored-bound_here h old) lies)))
       (λ i has ne. anchored-leaves i)
-      (λ i has ne k d lt.
-      anchored-left old _
-      (backed-recalls g s l i at.desc old has (anchored-installed old i has) k d lt)) old.remembered
+      (λ i has ne k d lt. anchored-left old _ (spared-point at.desc (s.errand i).point (anchored-installed old i has) k d lt)) old

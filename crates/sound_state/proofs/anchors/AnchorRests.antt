@@ -1,27 +1,25 @@
 -- The store of a new superblock's anchor keeps the stock of descriptors, the hazard words and the ties to the events.
-use Rattle.std.proofs.Common.{ℕ, ◌≡◌, ◌≢◌, ◌<◌, ◌+◌, ◌^◌, ◌*◌, length, refl, arith, ap, sym, subst, inl, inr, ◌∙◌, ◌⊎◌, ◌==◌, if◌then◌else◌, All, Any, IsTrue}
+use Rattle.std.proofs.Common.{ℕ, ◌≡◌, ◌≢◌, ◌<◌, ◌+◌, ◌^◌, ◌*◌, refl, arith, ap, sym, subst, inl, inr, ◌∙◌, ◌⊎◌, ◌==◌, if◌then◌else◌, All, Any, IsTrue}
 use Rattle.std.specs.Int.{bit_at}
 use Rattle.std.proofs.lemmas.List.Elements.{All-nil}
-use Rattle.sound_state.proofs.Common.{Geometry, Need, Site, descriptor_count, block_at, pool_of, Continuation, ErrandFields, spare_of, pushed_by, State, IsGuarded}
-use Rattle.sound_state.proofs.Common.{passed_by, held_by, holds_of, full_keeps, Lists, IsOwned, IsSoundWith, waits_in, word_stock, full_stock, sum_below, anchor_for}
-use Rattle.sound_state.proofs.Common.{info_for, is_bound, IsTied, IsLive}
-use Rattle.heap_geometry.specs.Place.{unit_place}
+use Rattle.sound_state.proofs.Common.{Geometry, Need, Site, descriptor_count, block_at, pool_of, Continuation, ErrandFields, State, IsGuarded}
+use Rattle.sound_state.proofs.Common.{holds_of, full_keeps, Lists, IsOwned, IsSoundWith, waits_in, word_stock, full_stock, sum_below, anchor_for}
+use Rattle.sound_state.proofs.Common.{info_for, is_bound, IsTied, IsLive, unit_place, making, IsStocked, IsExcepted}
 use Rattle.word_table.specs.declared.name.WordName.TheVariants as name
 use Rattle.superblock_parts.specs.declared.point.BlockPoint.TheVariants as block
 use Rattle.pool_model.specs.Pool.{Block}
 use Rattle.errand_steps.specs.declared.point.Point.TheVariants as point
-use Rattle.sound_state.specs.Holdings.{making}
-use Rattle.sound_state.specs.Stock.{IsStocked}
-use Rattle.sound_state.specs.Ties.{IsExcepted}
 use Rattle.sound_state.proofs.anchors.AnchorFacts.{Anchors, anchored-holds, anchored-write, anchored-here, anchored-info, anchored-bound, anchored-free, anchored-words}
 use Rattle.sound_state.proofs.shared.GuardEffects.{guarded-clear}
-use Rattle.sound_state.proofs.shared.ShownLemmas.{each-caller, Excepts}
 use Rattle.sound_state.proofs.shared.SumLemmas.{sum-same}
 use Rattle.sound_state.proofs.shared.SuperblockEffects.{field-stays}
 use Rattle.sound_state.proofs.shared.HoldingEffects.{stock-goes}
 use Rattle.sound_state.proofs.shared.MakingWeights.{making-stock}
+use Rattle.sound_state.proofs.shared.TieLemmas.{Excepts}
+use Rattle.sound_state.proofs.shared.CallerLemmas.{each-caller}
+use Rattle.sound_state.proofs.shared.TurnEffects.{IsQuiet}
 
--- how many descriptors are out
+-- the store of a new superblock's anchor leaves as many descriptors out as may be
 pub anchored-stocked :
     (g : Geometry) (s : State) (l : Lists) (caller : ℕ) (at : Site) (e : ErrandFields) (s' : State) (o : Continuation) → Anchors g s l caller at e s'
     → (s.errand caller).point ≡ point.Block (block.StoreAnchor at) o → e.point ≡ point.Block (block.InstallSuperblock at) o
@@ -53,9 +51,9 @@ pub anchored-guarded :
     → e.point ≡ point.Block (block.InstallSuperblock at) o → IsSoundWith g s l → IsGuarded g s'
 anchored-guarded g s l caller at e s' o h after old =
     guarded-clear g s caller e s' h.in_heap h.moves (λ i. h.writes.elsewhere (name.Hazard i) (λ is. cc)) (ap (λ x. x.hazard) h.holds_before)
-    (ap (λ x. x.hazard) h.holds_after) (ap pushed_by after) (ap passed_by after) (ap (λ p. length (held_by p)) after) (ap spare_of after) old.guarded
+    (ap (λ x. x.hazard) h.holds_after) (subst IsQuiet (sym after) (grind (arith))) old.guarded
 
--- who makes a superblock excepts no block
+-- a caller that makes a superblock excepts no block
 making-excepts :
     (at : Site) (place : ℕ)
     → Any (λ b. b.place ≡ place) (making at).hands ⊎ Any (λ b. (b.place ≡ place) × IsTrue b.overwritten) (making at).frees → ⊥

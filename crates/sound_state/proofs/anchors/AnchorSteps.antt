@@ -1,43 +1,36 @@
 -- The store of a new superblock's anchor keeps the state sound.
-use Rattle.std.proofs.Common.{ℕ, Option, Some, None, ◌≡◌, ◌<◌, ◌≤◌, ◌+◌, [], ◌∷◌, refl, arith, ap, sym, subst, inl, ◌∙◌}
-use Rattle.std.proofs.lemmas.List.Elements.{All-head}
+use Rattle.std.proofs.Common.{ℕ, Option, Some, None, ◌≡◌, ◌<◌, ◌≤◌, ◌+◌, refl, arith, ap, sym, inl, ◌∙◌}
 use Rattle.sound_state.proofs.Common.{Geometry, block_count_of, block_place, frame_of-block_place, anchor_word, info_of, Site, IsSiteOf, Writes, BlockPoint}
-use Rattle.sound_state.proofs.Common.{IsLegalWithoutCounts, block_at, pool_of, Continuation, Block, ErrandFields, counts_lost, event_of, next_of, plan_point_of}
-use Rattle.sound_state.proofs.Common.{State, Step, holds_of, Lists, IsSo, IsLocated, recalls_of, says, IsSoundWithoutCounts, IsSoundWith, IsOwnErrand, turn_stage_of}
-use Rattle.sound_state.proofs.Common.{info_or_zero, anchor_for, away_of, is_there, live_at, IsTurned, one_if, pops_left, emptied_out}
-use Rattle.packed_words.specs.Info.{info_word}
-use Rattle.packed_words.proofs.AnchorLemmas.{anchor_word-below}
-use Rattle.packed_words.proofs.InfoLemmas.{info-exact}
+use Rattle.sound_state.proofs.Common.{block_at, pool_of, Continuation, Block, ErrandFields, counts_lost, event_of, next_of, plan_point_of, State}
+use Rattle.sound_state.proofs.Common.{holds_of, Lists, IsLocated, recalls_of, IsSoundWith, IsOwnErrand, turn_stage_of, info_or_zero, anchor_for, away_of, is_there}
+use Rattle.sound_state.proofs.Common.{live_at, IsTurned, one_if, pops_left, emptied_out, anchor_word-below, info-exact, info_at, new_anchor, lacks_partial}
+use Rattle.sound_state.proofs.Common.{turn_unlisted, errand_pops}
 use Rattle.word_table.specs.declared.name.WordName.TheVariants as name
-use Rattle.word_table.specs.Sites.{info_at}
-use Rattle.superblock_parts.specs.Anchors.{new_anchor}
 use Rattle.superblock_parts.specs.declared.point.BlockPoint.TheVariants as block
 use Rattle.pool_model.specs.Pool.{Block as Live}
-use Rattle.sound_state.specs.Recalls.{AreMade, made}
-use Rattle.sound_state.specs.TurnStages.{lacks_partial, block_turn_stage, frame_taken}
-use Rattle.sound_state.specs.Turns.{turn_unlisted, errand_pops}
+use Rattle.sound_state.specs.TurnStages.{block_turn_stage, frame_taken}
 use Rattle.sound_state.proofs.anchors.AnchorFacts.{Anchors, anchored-anchor, anchored-here, anchored-away, anchored-home}
 use Rattle.sound_state.proofs.anchors.AnchorFields.{anchored-chained, anchored-framed, anchored-listed}
 use Rattle.sound_state.proofs.anchors.AnchorKept.{anchored-kept}
 use Rattle.sound_state.proofs.anchors.AnchorRecalls.{anchored-remembered}
 use Rattle.sound_state.proofs.anchors.AnchorRests.{anchored-stocked, anchored-guarded, anchored-tied}
 use Rattle.sound_state.proofs.shared.MakingPlaces.{is-making, live-unmade}
-use Rattle.sound_state.proofs.shared.ShownLemmas.{each-caller}
 use Rattle.sound_state.proofs.shared.WaitsAlone.{new_anchor-fits}
-use Rattle.sound_state.proofs.shared.PointLemmas.{fits-at, so-at, All-rest}
+use Rattle.sound_state.proofs.shared.PointLemmas.{fits-at, recalled-at}
 use Rattle.sound_state.proofs.shared.StepLemmas.{at_point, words-below, raised-least, found_from}
 use Rattle.sound_state.proofs.shared.TurnEffects.{TurnWeighs, emptied-kept, head-tag, no-event, stage-weighs, turned-after}
 use Rattle.sound_state.proofs.shared.MakingWeights.{it-here, it-elsewhere}
 use Rattle.sound_state.proofs.shared.WonEffects.{StepEffects, step-effects}
 use Rattle.sound_state.proofs.shared.SuperblockEffects.{of-each}
 use Rattle.sound_state.proofs.shared.WordFacts.{site-info}
-use Rattle.sound_state.proofs.shared.KeepsSound.{KeepsSound}
+use Rattle.sound_state.proofs.shared.KeepsSound.{KeepsSound, silent-sound}
+use Rattle.sound_state.proofs.shared.CallerLemmas.{each-caller}
 
 -- a caller that makes a superblock is in a turn
 making-weighs : (e : ErrandFields) (b : BlockPoint) (o : Continuation) → e.point ≡ Block b o → block_turn_stage b ≡ frame_taken → TurnWeighs e 1 0 0
 making-weighs e b o stands is = stage-weighs frame_taken e (ap turn_stage_of stands ∙ is) refl
 
--- the tags and the turns
+-- the store of a new superblock's anchor keeps the bounds of tags and turns
 anchored-turned :
     (g : Geometry) (s : State) (l : Lists) (caller : ℕ) (at : Site) (e : ErrandFields) (s' : State) (o : Continuation) → Anchors g s l caller at e s'
     → (s.errand caller).point ≡ Block (block.StoreAnchor at) o → e.point ≡ Block (block.InstallSuperblock at) o
@@ -84,7 +77,7 @@ no-block-there : (o : Option Live) → ((b : Live) → o ≡ Some b → ⊥) →
 no-block-there None none = refl
 no-block-there (Some b) none = absurd (none b refl)
 
--- the anchor of a new superblock
+-- the store of a new superblock's anchor keeps the state sound
 pub store_anchor-sound : (site : Site) (o : Continuation) → KeepsSound (Block (block.StoreAnchor site) o)
 unfolding plan_point_of next_of event_of holds_of recalls_of
 store_anchor-sound site o g s caller s' sound has stands step =
@@ -109,14 +102,9 @@ store_anchor-sound site o g s caller s' sound has stands step =
       holds_before = ap holds_of stands;
       holds_after = refl;
     } in
-    let so = so-at g s l caller p old has stands in
-    let said : s.word (name.Info site.desc) ≡ info_word (info_at site) =
-    (All-head (IsSo g s l caller) (says (name.Info site.desc) (info_word (info_at site))) (made site.frame c (block_count_of c) ∷ []) so).1 in
-    let links_made : AreMade s site.frame c (block_count_of c) =
-    All-head (IsSo g s l caller) (made site.frame c (block_count_of c)) []
-    (All-rest (IsSo g s l caller) (says (name.Info site.desc) (info_word (info_at site))) (made site.frame c (block_count_of c) ∷ []) so) in
+    let (said, (links_made, none)) = recalled-at g s l caller p old has stands in
     let back : info_of (s.word (name.Info site.desc)) ≡ Some (info_at site) =
-    ap info_of said ∙ info-exact.back (info_at site) (site-info g caller site sound.checked fit) in
+    ap info_of said.1 ∙ info-exact.back (info_at site) (site-info g caller site sound.checked fit) in
     let lies : IsLocated s site.desc site.frame c = record {
       frame = ap (λ i. (info_or_zero i).frame) back;
       class = ap (λ i. (info_or_zero i).class) back;
@@ -127,28 +115,22 @@ store_anchor-sound site o g s caller s' sound has stands step =
     (λ b live.
     live-unmade g s l caller site.frame (block_place site.frame c i) b b.need sound old has fit.frame
     (is-making s caller p site stands refl) live refl (frame_of-block_place site.frame c i lt)) in
-    record {
-      checked = sound.checked;
-      legal = subst (IsLegalWithoutCounts g) (sym past) sound.legal;
-      parts = (
-        l,
-        record {
-          words =
-              words-below s.word (name.Anchor site.desc) (anchor_word (new_anchor c)) s'.word w old.words
-              (anchor_word-below (new_anchor c) (new_anchor-fits c));
-          errands = each-caller g (IsOwnErrand g) s.errand caller e s'.errand effects.moves effects.rule old.errands;
-          listed = anchored-listed h old;
-          kept = anchored-kept h old lies;
-          chained = anchored-chained h old lies links_made unlive;
-          framed = anchored-framed h old;
-          remembered = anchored-remembered h old lies refl;
-          guarded = anchored-guarded g s l caller site e s' o h refl old;
-          stocked = anchored-stocked g s l caller site e s' o h stands refl old;
-          turned =
-              anchored-turned g s l caller site e s' o h stands refl refl
-              (raised-least (counts_lost (s.errand caller).point x) (s.errand caller).lost (old.errands caller has).lost)
-              effects.cleared old;
-          tied = anchored-tied h old;
-        },
-      );
-    }
+    silent-sound g s s' l sound past
+    (record {
+      words =
+          words-below s.word (name.Anchor site.desc) (anchor_word (new_anchor c)) s'.word w old.words
+          (anchor_word-below (new_anchor c) (new_anchor-fits c));
+      errands = each-caller g (IsOwnErrand g) s.errand caller e s'.errand effects.moves effects.rule old.errands;
+      listed = anchored-listed h old;
+      kept = anchored-kept h old lies;
+      chained = anchored-chained h old lies links_made unlive;
+      framed = anchored-framed h old;
+      remembered = anchored-remembered h old lies o refl;
+      guarded = anchored-guarded g s l caller site e s' o h refl old;
+      stocked = anchored-stocked g s l caller site e s' o h stands refl old;
+      turned =
+          anchored-turned g s l caller site e s' o h stands refl refl
+          (raised-least (counts_lost (s.errand caller).point x) (s.errand caller).lost (old.errands caller has).lost)
+          effects.cleared old;
+      tied = anchored-tied h old;
+    })

@@ -1,28 +1,25 @@
 -- A new superblock: before its anchor is stored nobody has reserved blocks of it, and after it its blocks are in order.
-use Rattle.std.proofs.Common.{ℕ, true, zero, suc, Option, Some, None, ◌≡◌, ◌≢◌, ◌<◌, ◌≤◌, ◌+◌, ◌-◌, List, refl, arith, ap, sym, subst, ◌∙◌}
+use Rattle.std.proofs.Common.{ℕ, true, zero, suc, Option, Some, None, ◌≡◌, ◌≢◌, ◌<◌, ◌≤◌, ◌+◌, ◌-◌, List, refl, arith, ap, sym, subst, ◌∙◌, ◌==◌, IsTrue, nat_lt}
+use Rattle.std.proofs.Common.{if◌then◌else◌, ne_eqb, lt-ltb, ltb-true}
 use Rattle.std.specs.List.{AllByRecursion}
-use Rattle.std.specs.Prelude.{◌==◌, IsTrue, nat_lt, if◌then◌else◌}
-use Rattle.std.proofs.lemmas.Bool.{cond-true, cond-false, cond_both, ne_eqb, lt-ltb, ltb-true}
+use Rattle.std.proofs.lemmas.Bool.{cond-true, cond-false, cond_both}
 use Rattle.std.proofs.lemmas.List.Elements.{recursion_from_All}
 use Rattle.sound_state.proofs.Common.{Geometry, CLASSES, block_count_of, block_place, ActiveWord, Null, Held, active_of, link_of, WordName, word_count, word_name}
 use Rattle.sound_state.proofs.Common.{occurs, new_credits, link_in, BlockPoint, Share, Credit, LastCredit, Grant, StackPoint, DescPoint, PartialPoint, LargePoint}
-use Rattle.sound_state.proofs.Common.{Continuation, Point, State, holds_before_pop, holds_of, word_keeps, Lists, IsSo, recalls_of, IsSoundWith, words_sum}
-use Rattle.sound_state.proofs.Common.{callers_sum, Superblock, IsChained, is_bound, free_chain, live_at, word_reserves, reserved_among, errand_reserves, reserved_of}
+use Rattle.sound_state.proofs.Common.{Continuation, Point, State, holds_before_pop, holds_of, word_keeps, Lists, IsSo, recalls_of, IsSoundWith, words_sum, callers_sum}
+use Rattle.sound_state.proofs.Common.{Superblock, IsChained, is_bound, free_chain, live_at, word_reserves, reserved_among, errand_reserves, reserved_of}
+use Rattle.sound_state.proofs.Common.{block_count_of-least, block_count_of-most, new_anchor, chain_of, block_holds, stack_holds, desc_holds, partial_holds}
+use Rattle.sound_state.proofs.Common.{active_keeps, AreMade, block_recalls, offered}
 use Rattle.word_table.specs.declared.name.WordName.TheVariants as name
-use Rattle.word_table.proofs.SeatLemmas.{block_count_of-least, block_count_of-most}
-use Rattle.superblock_parts.specs.Anchors.{new_anchor, new_link}
-use Rattle.superblock_parts.specs.Chains.{chain_of}
+use Rattle.superblock_parts.specs.Anchors.{new_link}
 use Rattle.superblock_parts.specs.declared.point.BlockPoint.TheVariants as block
 use Rattle.errand_steps.specs.declared.point.Point.TheVariants as point
-use Rattle.sound_state.specs.Holdings.{block_holds, stack_holds, desc_holds, partial_holds, large_holds}
-use Rattle.sound_state.specs.Keepers.{active_keeps}
-use Rattle.sound_state.specs.Recalls.{AreMade, block_recalls}
-use Rattle.sound_state.specs.Superblocks.{offered}
+use Rattle.sound_state.specs.Holdings.{large_holds}
 use Rattle.sound_state.proofs.beginnings.OpeningLists.{indexes, indexes-before, indexes-once, indexes-end, indexes-chained}
 use Rattle.sound_state.proofs.shared.SumLemmas.{sum-none, term-sum, callers-none}
 use Rattle.sound_state.proofs.shared.RecallTables.{bound-differs}
 
--- blocks of another descriptor
+-- blocks of another descriptor that a caller has reserved are none of this one
 before-other : (e d class : ℕ) (share : Share) → e ≢ d → reserved_among d (holds_before_pop e class share).credits ≡ 0
 before-other e d class Credit differ = grind (arith, ne_eqb e d differ)
 before-other e d class LastCredit differ = grind (arith, ne_eqb e d differ)
@@ -31,7 +28,7 @@ before-other e d class (Grant more) differ = grind (arith, ne_eqb e d differ)
 one-other : (e d blocks : ℕ) → e ≢ d → (if e == d then blocks else 0) + 0 ≡ 0
 one-other e d blocks differ = grind (arith, ne_eqb e d differ)
 
--- nobody has reserved blocks of a descriptor that isn't bound
+-- a descriptor that isn't bound, of which no caller has reserved blocks
 module _ (g : Geometry) (s : State) (l : Lists) (i d : ℕ) (free : IsTrue (is_bound g s l d) → ⊥) where
   unbound-block : (p : BlockPoint) → AllByRecursion (IsSo g s l i) (block_recalls p) → reserved_among d (block_holds p).credits ≡ 0
   unbound-block (block.LoadInfo seat e share) so = before-other e d seat.class share (bound-differs g s l d free _ so.0.0)
@@ -44,7 +41,7 @@ module _ (g : Geometry) (s : State) (l : Lists) (i d : ℕ) (free : IsTrue (is_b
   unbound-block (block.ReturnCredits at k more x) so = one-other at.desc d more (bound-differs g s l d free _ so.0.0)
   unbound-block p so = grind (arith)
 
-  -- outside of a superblock nothing is reserved
+  -- nothing is reserved at a point out of a superblock
   none-stack : (p : StackPoint) (o : Continuation) → reserved_among d (stack_holds p o).credits ≡ 0
   none-stack p o = grind (arith)
 
@@ -66,7 +63,7 @@ module _ (g : Geometry) (s : State) (l : Lists) (i d : ℕ) (free : IsTrue (is_b
   unbound-point (point.Partial p o) so = none-partial p o
   unbound-point (point.Large p o) so = none-large p
 
--- a word that doesn't hold it offers none
+-- an active word that doesn't hold a descriptor offers no blocks of it
 held-none : (d : ℕ) (o : Option ActiveWord) → active_keeps d o ≡ 0 → offered d o ≡ 0
 held-none d None none = refl
 held-none d (Some Null) none = refl
@@ -76,7 +73,7 @@ word-reserves-none : (d : ℕ) (n : WordName) (w : ℕ) → word_keeps d n w ≡
 word-reserves-none d (name.Active heap class) w none = held-none d (active_of w) none
 word-reserves-none d n w none = refl
 
--- so a descriptor that isn't bound, and that no processor heap holds, has no reserved blocks
+-- a descriptor that isn't bound, and that no active word or slot holds, has no reserved blocks
 pub unbound-reserves :
     (g : Geometry) (s : State) (l : Lists) (d : ℕ) → IsSoundWith g s l → (IsTrue (is_bound g s l d) → ⊥)
     → words_sum g (word_keeps d) s.word ≡ 0 → reserved_of g s d ≡ 0
@@ -94,7 +91,7 @@ unbound-reserves g s l d old free none =
     (recursion_from_All (IsSo g s l i) (recalls_of (s.errand i).point) (old.remembered.so i has))) in
     omega (arith, words, callers)
 
--- a new superblock whose first block is held back
+-- a new superblock, of which the first block is held back
 abbrev pub new_superblock : State → ℕ → ℕ → Superblock
 new_superblock s f c = record {
   anchor = new_anchor c;
@@ -105,7 +102,7 @@ new_superblock s f c = record {
   size = block_count_of c;
 }
 
--- its links
+-- the links of a new superblock are as they were made
 made-link : (s : State) (f c i : ℕ) → AreMade s f c (block_count_of c) → i < block_count_of c → link_in s.word f c i ≡ new_link c i
 made-link s f c i made_all has =
     ap link_of (made_all i has)
@@ -123,11 +120,11 @@ made-within s f c i made_all has =
     (cond_both (nat_lt (i + 1) (block_count_of c)) (i + 1) 0 (λ w. w < block_count_of c)
     (λ e. ltb-true (i + 1) (block_count_of c) e) (λ e. omega (arith, has)))
 
--- its credits
+-- the credits of a new superblock and one more are its blocks but one at most
 new-fit : (c : ℕ) → c < CLASSES → new_credits c + 1 ≤ block_count_of c - 1
 new-fit c has = grind (arith, block_count_of-least c has)
 
--- its blocks but the first one are free, one behind the other
+-- the blocks of a new superblock but its first one are free, one behind the other
 new-chain :
     (s : State) (f c : ℕ) → c < CLASSES → AreMade s f c (block_count_of c)
     → free_chain (new_superblock s f c) ≡ indexes 1 (block_count_of c - 1)
@@ -137,7 +134,7 @@ new-chain s f c has made_all =
     ∙ indexes-chained (link_in s.word f c) 1 (block_count_of c - 1) (block_count_of c)
     (omega (arith, block_count_of-least c has)) (λ i lt. made-next s f c i made_all lt)
 
--- each is free, or held back
+-- each block of a new superblock is free, or held back
 new-once :
     (count i live : ℕ) (xs : List ℕ) → xs ≡ indexes 1 (count - 1) → i < count → live ≡ 0
     → occurs i xs + live + (if i == 0 then 1 else 0) ≡ 1
@@ -147,7 +144,7 @@ new-once count (suc i) live xs chain lt none =
     cond-false {A = ℕ} (suc i == 0) 1 0 (ne_eqb (suc i) 0 (λ is. let bad : ⊥ = omega (arith, is) in bad)) in
     omega (arith, ap (occurs (suc i)) chain, indexes-once 1 (count - 1) (suc i) (omega arith) (omega (arith, lt)), none, behind)
 
--- so its blocks are in order
+-- the blocks of a new superblock are in order
 pub new-chained :
     (s : State) (f c : ℕ) → c < CLASSES → AreMade s f c (block_count_of c)
     → ((i : ℕ) → i < block_count_of c → live_at s (block_place f c i) ≡ 0) → IsChained (new_superblock s f c)

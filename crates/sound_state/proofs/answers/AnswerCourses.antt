@@ -1,14 +1,12 @@
 -- How a call comes to its answer: from a part, from a retirement, or from the turn limit.
 use Rattle.std.proofs.Common.{ℕ, Bool, true, false, Option, Some, None, ◌≡◌, ◌≢◌, refl, ap, subst, arith, inl, inr}
 use Rattle.std.proofs.lemmas.Bool.{cases_Bool}
-use Rattle.sound_state.proofs.Common.{Found, SeatFields, Next, At, End, Retire, Pick, Unlist, Continuation, Desc, Reply, ErrandFields, course_of, next_of}
+use Rattle.sound_state.proofs.Common.{Found, SeatFields, Next, At, End, Retire, Pick, Unlist, Continuation, Desc, Reply, ErrandFields, course_of, next_of, Turn, Done}
+use Rattle.sound_state.proofs.Common.{after_list, after_turn, answer_of, turned, is_full, is_spent, no_words, picked, resumed}
 use Rattle.hazard_parts.specs.declared.point.DescPoint.TheVariants as desc
-use Rattle.errand_steps.specs.declared.next.Next.TheVariants.{Turn}
 use Rattle.errand_steps.specs.declared.continuation.Continuation.TheVariants as continuation
-use Rattle.errand_steps.specs.declared.reply.Progress.TheVariants.{Done}
 use Rattle.errand_steps.specs.declared.reply.Reply.TheVariants as reply
-use Rattle.errand_steps.specs.Errands.{after_list, after_turn, answer_of, going_on, told, turned, is_full, is_spent, no_words, picked}
-use Rattle.errand_steps.specs.Nexts.{resumed}
+use Rattle.errand_steps.specs.Errands.{going_on, told}
 
 going-undone : (lost cleared : Bool) (r : Reply) → going_on lost cleared ≢ Done r
 going-undone true cleared r e = absurd cc
@@ -23,7 +21,7 @@ told-end (Retire s d o) lost cleared r e = absurd (going-undone lost cleared r e
 told-end (Pick s held o) lost cleared r e = absurd (going-undone lost cleared r e)
 told-end (Unlist s d o) lost cleared r e = absurd (going-undone lost cleared r e)
 
--- a call that is resumed behind a retirement: its answer, if it ends there
+-- a call that is resumed behind a retirement may end there with this answer
 abbrev pub IsResumed : ErrandFields → Continuation → Reply → Type 0
 IsResumed e (continuation.Turn words) r = (is_spent e ≡ true) × (r ≡ reply.Spent)
 IsResumed e (continuation.Look words) r = ⊥
@@ -42,7 +40,7 @@ resumed-end e s (continuation.Look words) r is = cc
 resumed-end e s continuation.Refuse r is = end-same reply.Refused r is
 resumed-end e s o r is = grind (arith, is)
 
--- where the call ends, by what follows the step
+-- a call may end with this answer by what follows its step
 abbrev pub EndsBy : ErrandFields → Next → Reply → Type 0
 EndsBy e (At p) r = ⊥
 EndsBy e (End q) r = r ≡ q
@@ -74,7 +72,7 @@ course-end e (Retire s d o) r is = retired-end e s d o r is
 course-end e (Pick s held o) r is = picked-end e s o _ r is
 course-end e (Unlist s d o) r is = resumed-end e s o r is
 
--- what the answer of a step tells
+-- a step that answers tells how its call ends by what follows it
 pub answer-ends : (e : ErrandFields) (x : Found) (r : Reply) → answer_of e x ≡ Done r → EndsBy e (next_of e.point x) r
 unfolding answer_of course_of
 answer-ends e x r is = course-end e (next_of e.point x) r (told-end _ _ _ r is)

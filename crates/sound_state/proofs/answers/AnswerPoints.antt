@@ -2,28 +2,21 @@
 use Rattle.std.proofs.Common.{ℕ, Bool, true, false, Option, Some, None, ◌≡◌, refl, arith, inl, inr, ◌⊎◌, if◌then◌else◌, IsTrue}
 use Rattle.heap_geometry.specs.declared.need.Need.TheVariants as need
 use Rattle.sound_state.proofs.Common.{block_place, Found, BlockPoint, StackPoint, DescPoint, PartialPoint, LargePoint, Continuation, At, Large, Reply, ErrandFields}
-use Rattle.packed_words.specs.declared.prefix.Prefix.{Prefix}
+use Rattle.sound_state.proofs.Common.{Prefix, ShelfWord, Onward, settle_block_of, settle_stack_of, settle_desc_of, settle_partial_of, LargeExit, after_shelf}
+use Rattle.sound_state.proofs.Common.{WantFields, RunFields, enter_block, enter_stack, enter_desc, enter_partial, enter_large}
 use Rattle.packed_words.specs.declared.prefix.Prefix.TheVariants as prefix
-use Rattle.packed_words.specs.declared.shelf.ShelfWord.{ShelfWord}
 use Rattle.packed_words.specs.declared.shelf.ShelfWord.TheVariants as lies
-use Rattle.word_table.specs.declared.onward.Onward.{Onward}
 use Rattle.superblock_parts.specs.declared.point.BlockPoint.TheVariants as block
-use Rattle.superblock_parts.specs.Points.{settle_block_of}
 use Rattle.stack_parts.specs.declared.point.StackPoint.TheVariants as stack
-use Rattle.stack_parts.specs.Points.{settle_stack_of}
 use Rattle.hazard_parts.specs.declared.point.DescPoint.TheVariants as desc
-use Rattle.hazard_parts.specs.Points.{settle_desc_of}
-use Rattle.partial_parts.specs.Points.{settle_partial_of}
-use Rattle.large_parts.specs.declared.exit.LargeExit.{LargeExit}
-use Rattle.large_parts.specs.Points.{after_take, after_run_prefix, after_shelf}
-use Rattle.large_parts.specs.Runs.{WantFields, RunFields}
+use Rattle.large_parts.specs.Points.{after_take, after_run_prefix}
 use Rattle.errand_steps.specs.declared.continuation.Continuation.TheVariants as continuation
 use Rattle.errand_steps.specs.declared.reply.Reply.TheVariants as reply
-use Rattle.errand_steps.specs.Nexts.{enter_block, enter_stack, enter_desc, enter_partial, enter_large, leave_large}
+use Rattle.errand_steps.specs.Nexts.{leave_large}
 use Rattle.errand_steps.specs.Continuations.{goes_partial}
 use Rattle.sound_state.proofs.answers.AnswerCourses.{IsResumed, EndsBy}
 
--- in a superblock: a block is given, or a free ends
+-- the answer of a call that ends in a superblock: a block is given, or a free ends
 abbrev pub BlockEnd : BlockPoint → Reply → Type 0
 BlockEnd (block.StorePrefix at i) r = r ≡ reply.Given (block_place at.frame at.seat.class i) (need.Small at.seat.class)
 BlockEnd p r = r ≡ reply.Freed
@@ -33,7 +26,7 @@ pub block-ends :
     → EndsBy e (enter_block (settle_block_of p x) o) r → BlockEnd p r
 block-ends e p o x r ends = grind (arith, ends)
 
--- at a stack: a call ends, or is resumed, where nothing has to be read again
+-- the answer of a call that ends at a stack: it is refused, is resumed behind a retirement, or its free ends
 abbrev pub StackEnd : ErrandFields → StackPoint → Continuation → Found → Reply → Type 0
 StackEnd e (stack.ConfirmEmpty s pile h) (continuation.TakeFrame words d) x r = (x.won ≡ true) × (r ≡ reply.Refused)
 StackEnd e (stack.ConfirmEmpty s pile h) o x r = ⊥
@@ -45,7 +38,7 @@ pub stack-ends :
     → EndsBy e (enter_stack (settle_stack_of p x) o) r → StackEnd e p o x r
 stack-ends e p o x r ends = grind (arith, ends)
 
--- at the descriptors or the hazard words: behind the push of a retired descriptor, or at the end of a free
+-- the answer of a call that ends at the descriptors or hazard words: behind a retired descriptor's won push, or of a free
 abbrev pub DescEnd : ErrandFields → DescPoint → Continuation → Found → Reply → Type 0
 DescEnd e (desc.PushDesc s d top) o x r = (x.won ≡ true) × IsResumed e o r
 DescEnd e p o x r = r ≡ reply.Freed
@@ -55,13 +48,13 @@ pub desc-ends :
     → EndsBy e (enter_desc (settle_desc_of p x) o) r → DescEnd e p o x r
 desc-ends e p o x r ends = grind (arith, ends)
 
--- at a partial superblock only a free ends
+-- a call that ends at a partial superblock is a free
 pub partial-ends :
     (e : ErrandFields) (p : PartialPoint) (o : Continuation) (x : Found) (r : Reply) → IsTrue (goes_partial p o)
     → EndsBy e (enter_partial (settle_partial_of p x) o) r → r ≡ reply.Freed
 partial-ends e p o x r goes ends = grind (arith, goes, ends)
 
--- at a large block, a usable word or a shelf: an exchange is won or lost
+-- a call that ends by an exchange at a large block, a usable word or a shelf ends by a won one or by a lost one
 pub either-ends :
     (e : ErrandFields) (won : Bool) (p q : Onward LargePoint LargeExit) (o : Continuation) (r : Reply) → EndsBy e (enter_large (if won then p else q) o) r
     → ((won ≡ true) × EndsBy e (enter_large p o) r) ⊎ ((won ≡ false) × EndsBy e (enter_large q o) r)
@@ -74,14 +67,14 @@ pub either-left :
 either-left e true a b o r ends = inl (refl, ends)
 either-left e false a b o r ends = inr (refl, ends)
 
--- no run is free
+-- a call that ends when it takes a run is refused: no run is free
 pub take-ends :
     (e : ErrandFields) (w : WantFields) (o : Continuation) (first : Option ℕ) (r : Reply) → EndsBy e (enter_large (after_take w first) o) r
     → (first ≡ None) × (r ≡ reply.Refused)
 take-ends e w o None r ends = (refl, ends)
 take-ends e w o (Some first) r ends = absurd ends
 
--- a load never ends a call
+-- a load of a run's prefix word or of a shelf never ends a call
 pub prefix-goes-on :
     (e : ErrandFields) (place : ℕ) (run : RunFields) (o : Continuation) (word : Option Prefix) (r : Reply)
     → EndsBy e (At (Large (after_run_prefix place run word) o)) r → ⊥

@@ -1,58 +1,46 @@
 -- What the answers mean at a large block, a usable word or a shelf.
-use Rattle.std.proofs.Common.{ℕ, true, false, Option, Some, None, [], ◌∷◌, ◌++◌, ◌≡◌, ◌≢◌, ◌<◌, ◌+◌, refl, arith, ap, sym, subst, inl, inr, ◌∙◌, ◌⊎◌, ◌==◌}
-use Rattle.std.proofs.lemmas.Bool.{eqb-true, eqb-false}
-use Rattle.sound_state.proofs.Common.{Geometry, Need, need_of, LargePoint, Event, IsLegalWithoutCounts, block_at, pool_of, place-found, sound-of, Continuation}
-use Rattle.sound_state.proofs.Common.{Point, Large, Reply, event_of, next_of, plan_point_of, State, Step, with_event, holds_of, IsOwned, recalls_of}
-use Rattle.sound_state.proofs.Common.{IsSoundWithoutCounts, IsLive}
-use Rattle.heap_geometry.specs.declared.limits.TheConstants.{SHELVES}
+use Rattle.std.proofs.Common.{ℕ, true, false, Option, Some, None, [], ◌∷◌, ◌++◌, ◌≡◌, ◌≢◌, ◌<◌, ◌+◌, refl, arith, ap, sym, subst, inl, inr, ◌∙◌, ◌⊎◌, ◌==◌, eqb-true}
+use Rattle.std.proofs.lemmas.Bool.{eqb-false}
+use Rattle.sound_state.proofs.Common.{Geometry, Need, need_of, LargePoint, Event, IsLegalWithoutCounts, block_at, pool_of, place-found, sound-of, Continuation, Point}
+use Rattle.sound_state.proofs.Common.{Large, Reply, event_of, next_of, plan_point_of, State, Step, with_event, holds_of, IsOwned, recalls_of, IsSoundWithoutCounts}
+use Rattle.sound_state.proofs.Common.{IsLive, SHELVES, usable_words, prefix_of, shelf_of, shelf_word, shelf-exact, first_wanted, WantFields, RunFields, Refuse, Write}
+use Rattle.sound_state.proofs.Common.{Put, Take, TakeNone, Caller, IsEmptyShelf, IsLegalEventWithoutCounts, handed_to, IsPlaceFor, IsWellFormed, every-each}
+use Rattle.sound_state.proofs.Common.{found-itself, sound-differ, IsRunFor, event_at}
 use Rattle.heap_geometry.specs.declared.need.Need.TheVariants as need
-use Rattle.heap_geometry.specs.Need.{usable_words}
 use Rattle.packed_words.specs.declared.shelf.ShelfWord.TheVariants as lies
-use Rattle.packed_words.specs.Prefix.{prefix_of}
-use Rattle.packed_words.specs.Shelf.{shelf_of, shelf_word}
-use Rattle.packed_words.proofs.ShelfLemmas.{shelf-exact}
 use Rattle.word_table.specs.declared.name.WordName.TheVariants as name
 use Rattle.word_table.specs.declared.onward.Onward.TheVariants.{Stays}
 use Rattle.large_parts.specs.declared.exit.LargeExit.TheVariants as exit
 use Rattle.large_parts.specs.declared.point.LargePoint.TheVariants as large
-use Rattle.large_parts.specs.Points.{first_wanted, after_take, payload_name}
-use Rattle.large_parts.specs.Runs.{WantFields, RunFields}
-use Rattle.pool_model.specs.declared.event.Event.TheVariants.{Refuse, Free, Write, Put, Take, TakeNone}
-use Rattle.pool_model.specs.declared.owner.Owner.TheVariants.{Caller, Shelf}
-use Rattle.pool_model.specs.Legal.{IsEmptyShelf, IsLegalEventWithoutCounts}
-use Rattle.pool_model.specs.Pool.{handed_to}
-use Rattle.pool_model.specs.WellFormed.{IsPlaceFor, IsWellFormed}
+use Rattle.large_parts.specs.Points.{after_take, payload_name}
+use Rattle.pool_model.specs.declared.event.Event.TheVariants.{Free}
+use Rattle.pool_model.specs.declared.owner.Owner.TheVariants.{Shelf}
 use Rattle.pool_model.proofs.HistoryLemmas.{EachAfter-last}
-use Rattle.pool_model.proofs.PoolLemmas.{every-each}
-use Rattle.pool_model.proofs.WellFormedLemmas.{found-itself, sound-differ}
 use Rattle.errand_steps.specs.declared.continuation.Continuation.TheVariants as continuation
 use Rattle.errand_steps.specs.declared.reply.Reply.TheVariants as reply
 use Rattle.errand_steps.specs.Events.{run_event}
-use Rattle.errand_steps.specs.Continuations.{IsRunFor}
 use Rattle.errand_steps.specs.Points.{asked as asked_by}
-use Rattle.errand_steps.specs.Steps.{event_at}
 use Rattle.sound_state.specs.Answers.{continuation_at, ShelfHolds, ShelfIsEmpty, IsFreed, IsMeant, IsAboutToTake}
-use Rattle.sound_state.specs.Recalls.{owns, owns_all}
 use Rattle.sound_state.proofs.answers.AnswerCourses.{EndsBy}
 use Rattle.sound_state.proofs.answers.AnswerPoints.{either-ends, either-left, take-ends, prefix-goes-on, shelf-goes-on}
 use Rattle.sound_state.proofs.EveryStep.{steps-sound}
 use Rattle.sound_state.proofs.large.TouchShelves.{changes-from}
 use Rattle.sound_state.proofs.quiet.QuietLinks.{written-at}
-use Rattle.sound_state.proofs.shared.PointLemmas.{fits-now, hands-at, so-at}
+use Rattle.sound_state.proofs.shared.PointLemmas.{fits-now, hands-at, recalled-at}
 use Rattle.sound_state.proofs.shared.ShelfFacts.{owned-or-none, shelf-fits}
 use Rattle.sound_state.proofs.shared.StepLemmas.{found_from}
 use Rattle.sound_state.proofs.shared.WordFacts.{payload-uncut}
 
--- who allocates a run asks for words that as many units serve
+-- a caller that allocates a run asks for words that as many units serve
 run-for-alloc : (units : ℕ) (o : Continuation) → IsRunFor units o → (words : ℕ) × (o ≡ continuation.Alloc words) × (need_of words ≡ need.Large units)
 run-for-alloc units (continuation.Alloc words) goes = (words, refl, goes)
 run-for-alloc units o goes = absurd goes
 
--- a caller makes a step
+-- the step of a caller from a sound state, behind which its answer is read
 module _
     (g : Geometry) (s : State) (caller : ℕ) (after : State) (sound : IsSoundWithoutCounts g s) (has : caller < g.callers)
     (step : Step s caller after) where
-  -- it tells what its point says, and where that is nothing the events stay
+  -- a step tells what its point says, and leaves the events where that is nothing
   pub event-told :
       (p : Point) (e : Option Event) → (s.errand caller).point ≡ p → event_of caller p (found_from s p) ≡ e → event_at s caller ≡ e
   event-told p e stands told = subst (λ q. event_of caller q (found_from s q) ≡ e) (sym stands) told
@@ -83,12 +71,12 @@ module _
   empty-stays : after.history ≡ s.history → (k word : ℕ) → ShelfIsEmpty s k word → ShelfIsEmpty after k word
   empty-stays same k word h = (subst (λ past. IsEmptyShelf (pool_of past) k) (sym same) h.0, h.1)
 
-  -- a large block that is freed
+  -- the answer of a large block that was freed means so
   pub freed-meant : IsFreed s caller
   unfolding plan_point_of event_of
   freed-meant place run at = event-told (Large (large.FreeRun place run) at.0) (Some (Free caller place)) at.1 refl
 
-  -- a run that is given
+  -- the answer that a run was given means so
   run-meant :
       (place : ℕ) (run : RunFields) (o : Continuation) → (s.errand caller).point ≡ Large (large.StoreRunPrefix place run) o
       → IsMeant g s caller (reply.Given place (need.Large run.units)) after
@@ -101,7 +89,7 @@ module _
       let same = past-stays p stands refl in
       (asked.0, ap continuation_at stands ∙ asked.1, asked.2, owned-after same place (need.Large run.units) mine)
 
-  -- no run is free
+  -- the answer that no run is free means so
   no_run-meant :
       (w : WantFields) (bits : ℕ) (o : Continuation) → (s.errand caller).point ≡ Large (large.TakeRun w bits) o → (s.word name.Units == bits) ≡ true
       → first_wanted w bits ≡ None → IsMeant g s caller reply.Refused after
@@ -115,7 +103,7 @@ module _
       (subst (λ f. Some (run_event caller (asked_by o) w f) ≡ Some (Refuse caller asked.0)) (sym none) (ap (λ q. Some (Refuse caller (asked_by q))) asked.1))) in
       inr (asked.0, w.units, ap continuation_at stands ∙ asked.1, asked.2, refused)
 
-  -- a word that is read
+  -- the answer of a word that is read means so
   read-meant :
       (place i : ℕ) (o : Continuation) → (s.errand caller).point ≡ Large (large.LoadWord place i) o
       → IsMeant g s caller (reply.Word (found_from s (Large (large.LoadWord place i) o)).value) after
@@ -123,7 +111,7 @@ module _
   read-meant place i o stands =
       let p = Large (large.LoadWord place i) o in
       let fits = fits-now g s caller p sound has stands in
-      let mine = so-at g s sound.parts.0 caller p sound.parts.1 has stands 0 (owns place i) (omega arith) in
+      let (mine, none) = recalled-at g s sound.parts.0 caller p sound.parts.1 has stands in
       let same = past-stays p stands refl in
       let owned = owned-after same place mine.0 mine.1 in
       let b = owned.block.0 in
@@ -142,7 +130,7 @@ module _
         λ w set. ap s.word uncut ∙ sound.parts.1.tied.contents place i w b live set,
       )
 
-  -- a put that finds the shelf full
+  -- the answer of a put that finds the shelf full means so
   full-meant :
       (k place : ℕ) (n : Need) (o : Continuation) → (s.errand caller).point ≡ Large (large.PutBlock k place n) o
       → (s.word (name.Shelf k) == shelf_word lies.Nothing) ≡ false → IsMeant g s caller (reply.Full (s.word (name.Shelf k))) after
@@ -151,13 +139,13 @@ module _
       let p = Large (large.PutBlock k place n) o in
       let fits = fits-now g s caller p sound has stands in
       let same = past-stays p stands (rw lost refl) in
-      let mine : IsOwned s caller place n = so-at g s sound.parts.0 caller p sound.parts.1 has stands 0 (owns_all place n) (omega arith) in
+      let (mine, none) = recalled-at g s sound.parts.0 caller p sound.parts.1 has stands in
       elim (shelf-says k fits.point.shelf) [
         | inl holds ↦ (k, place, n, (o, stands), owned-after same place n mine, holds-stays same k (s.word (name.Shelf k)) holds)
         | inr empty ↦ absurd (eqb-false (s.word (name.Shelf k)) (shelf_word lies.Nothing) lost empty.1)
       ]
 
-  -- a block that is taken
+  -- the answer of a block that is taken from a shelf means so
   got-meant :
       (k place : ℕ) (n : Need) (o : Continuation) → (s.errand caller).point ≡ Large (large.TakeBlock k place n) o
       → (s.word (name.Shelf k) == shelf_word (lies.Block place n)) ≡ true → IsMeant g s caller (reply.Got place n) after
@@ -186,7 +174,7 @@ module _
       let c = changes-from s after (Take caller k place) place (handed_to (Caller caller)) b grown refl (λ x. refl) (λ x. refl) live in
       (k, ((o, stands), taken), record { block = (handed_to (Caller caller) b, c.now, refl, (cc)) })
 
-  -- the shelf's word is another one
+  -- the answer of a take that finds another word on the shelf than it saw means so
   missed-meant :
       (k saw : ℕ) (p : LargePoint) (o : Continuation) → k < SHELVES → (s.errand caller).point ≡ Large p o → IsAboutToTake s caller k saw
       → event_of caller (Large p o) (found_from s (Large p o)) ≡ None → (s.word (name.Shelf k) == saw) ≡ false
@@ -201,7 +189,7 @@ module _
       ] in
       (k, takes, differ, lying)
 
-  -- the answer at each point
+  -- what an answer means is so of the one that is it; and at each point of a large block the answer means so
   pub answered : (q r : Reply) → r ≡ q → IsMeant g s caller q after → IsMeant g s caller r after
   answered q r is meant = subst (λ x. IsMeant g s caller x after) (sym is) meant
 

@@ -1,21 +1,16 @@
 -- What the answers mean, at every point.
-use Rattle.std.proofs.Common.{ℕ, true, false, Some, [], ◌∷◌, ◌++◌, ◌≡◌, ◌<◌, refl, arith, ap, sym, subst, inl, ◌∙◌, ◌==◌}
-use Rattle.std.proofs.lemmas.Bool.{eqb-true}
-use Rattle.sound_state.proofs.Common.{Geometry, Small, block_place, HeadFields, Site, SeatFields, BlockPoint, Pile, Frames, Partials, StackPoint, DescPoint, own}
-use Rattle.sound_state.proofs.Common.{Next, Continuation, Point, Idle, Block, Stack, Desc, Partial, Large, Reply, ErrandFields, raised, settle_of, event_of, next_of}
-use Rattle.sound_state.proofs.Common.{asked, plan_point_of, State, Step, found_at, with_event, holds_of, IsOwned, looked, recalls_of, IsSoundWithoutCounts}
+use Rattle.std.proofs.Common.{ℕ, true, false, Some, [], ◌∷◌, ◌++◌, ◌≡◌, ◌<◌, refl, arith, ap, sym, subst, inl, ◌∙◌, ◌==◌, eqb-true}
+use Rattle.sound_state.proofs.Common.{Geometry, Small, block_place, HeadFields, Site, SeatFields, BlockPoint, Pile, Frames, Partials, StackPoint, DescPoint, own, Next}
+use Rattle.sound_state.proofs.Common.{Continuation, Point, Idle, Block, Stack, Desc, Partial, Large, Reply, ErrandFields, raised, settle_of, event_of, next_of, asked}
+use Rattle.sound_state.proofs.Common.{plan_point_of, State, Step, found_at, with_event, holds_of, IsOwned, looked, recalls_of, IsSoundWithoutCounts, Refuse, Done}
+use Rattle.sound_state.proofs.Common.{after_list, answer_of, begins_turn, is_spent, FitsContinuation, EndsRefused, refused}
 use Rattle.word_table.specs.declared.name.WordName.TheVariants as name
 use Rattle.superblock_parts.specs.declared.point.BlockPoint.TheVariants as block
 use Rattle.stack_parts.specs.declared.point.StackPoint.TheVariants as stack
 use Rattle.hazard_parts.specs.declared.point.DescPoint.TheVariants as desc
-use Rattle.pool_model.specs.declared.event.Event.TheVariants.{Refuse}
 use Rattle.errand_steps.specs.declared.continuation.Continuation.TheVariants as continuation
-use Rattle.errand_steps.specs.declared.reply.Progress.TheVariants.{Done}
 use Rattle.errand_steps.specs.declared.reply.Reply.TheVariants as reply
-use Rattle.errand_steps.specs.Errands.{after_list, answer_of, begins_turn, is_spent}
-use Rattle.errand_steps.specs.Fits.{FitsContinuation}
 use Rattle.sound_state.specs.Answers.{IsMeant, continuation_at}
-use Rattle.sound_state.specs.Recalls.{EndsRefused, refused}
 use Rattle.sound_state.proofs.answers.AnswerCourses.{IsResumed, EndsBy, answer-ends}
 use Rattle.sound_state.proofs.answers.AnswerPoints.{block-ends, stack-ends, desc-ends, partial-ends}
 use Rattle.sound_state.proofs.answers.LargeAnswers.{answered, event-told, freed-meant, large-meant, owned-after, past-stays}
@@ -23,18 +18,18 @@ use Rattle.sound_state.proofs.shared.EventFacts.{refused-ends}
 use Rattle.sound_state.proofs.shared.PointLemmas.{fits-now, hands-at, so-at, the-alloc}
 use Rattle.sound_state.proofs.shared.StepLemmas.{found_from}
 
--- who has no turn left begins none
+-- a caller that has no turn left begins none
 no-turn : (e : ErrandFields) (n : Next) → is_spent e ≡ true → begins_turn e n ≡ false
 no-turn e n spent = grind (arith, spent)
 
--- a caller makes a step
+-- the step of a caller from a sound state, behind which its answer is read
 module _
     (g : Geometry) (s : State) (caller : ℕ) (after : State) (sound : IsSoundWithoutCounts g s) (has : caller < g.callers)
     (step : Step s caller after) where
   freed-answers : (r : Reply) → r ≡ reply.Freed → IsMeant g s caller r after
   freed-answers r is = answered g s caller after sound has step reply.Freed r is (freed-meant g s caller after sound has step)
 
-  -- no turn is left
+  -- the answer that no turn is left means so
   spent-meant : is_spent (s.errand caller) ≡ true → IsMeant g s caller reply.Spent after
   unfolding settle_of
   spent-meant spent =
@@ -44,7 +39,7 @@ module _
       ap (λ (f : ErrandFields). f.turns) step.errand.here ∙ turns ∙ eqb-true e.turns e.geometry.turn_limit spent
       ∙ ap (λ (h : Geometry). h.turn_limit) (sound.parts.1.errands caller has).geometry
 
-  -- a call that is resumed, where a refusal was told
+  -- the answer of a call that is resumed and ends means so, where a refusal was told
   resumed-meant :
       (o : Continuation) (r : Reply) → IsResumed (s.errand caller) o r → (o ≡ continuation.Refuse → IsMeant g s caller reply.Refused after)
       → IsMeant g s caller r after
@@ -53,7 +48,7 @@ module _
   resumed-meant continuation.Refuse r is refuses = answered g s caller after sound has step reply.Refused r is (refuses refl)
   resumed-meant o r is refuses = freed-answers r is
 
-  -- a small block is given
+  -- the answer that a small block was given means so
   given-meant :
       (at : Site) (i : ℕ) (o : Continuation) → (s.errand caller).point ≡ Block (block.StorePrefix at i) o
       → IsMeant g s caller (reply.Given (block_place at.frame at.seat.class i) (Small at.seat.class)) after
@@ -81,7 +76,7 @@ module _
   block-meant p o r stands ends =
       freed-answers r (block-ends (s.errand caller) p o (found_from s (Block p o)) r ends)
 
-  -- a small need is refused
+  -- the answer that a small need was refused means so
   confirm-meant :
       (seat : SeatFields) (pile : Pile) (h : HeadFields) (o : Continuation) (r : Reply) → (s.errand caller).point ≡ Stack (stack.ConfirmEmpty seat pile h) o
       → EndsBy (s.errand caller) (next_of (Stack (stack.ConfirmEmpty seat pile h) o) (found_from s (Stack (stack.ConfirmEmpty seat pile h) o))) r
@@ -115,7 +110,7 @@ module _
   stack-meant p o r stands ends =
       freed-answers r (stack-ends (s.errand caller) p o (found_from s (Stack p o)) r ends)
 
-  -- behind the push of a retired descriptor
+  -- what the answer means that a call gives behind the push of a retired descriptor
   push-meant :
       (seat : SeatFields) (d top : ℕ) (o : Continuation) (r : Reply) → (s.errand caller).point ≡ Desc (desc.PushDesc seat d top) o
       → (s.word name.DescHead == top) ≡ true → IsResumed (s.errand caller) o r → IsMeant g s caller r after

@@ -1,54 +1,43 @@
 -- A call that begins keeps the state sound.
-use Rattle.std.proofs.Common.{ℕ, false, None, ◌≡◌, ◌<◌, ◌≤◌, ◌+◌, List, [], ◌∷◌, refl, arith, sym, subst, inl, inr, ◌∙◌, ◌^◌, All, length, count_by}
+use Rattle.std.proofs.Common.{ℕ, false, ◌≡◌, ◌<◌, ◌≤◌, ◌+◌, List, [], ◌∷◌, refl, arith, sym, subst, inl, inr, ◌∙◌, ◌^◌, All, count_by}
 use Rattle.std.proofs.Math.Path.{fun_ext}
 use Rattle.std.proofs.lemmas.Bool.{cases_eq, cases_Bool, cond-true, cond-false}
 use Rattle.std.proofs.lemmas.List.Elements.{All-nil, All-cons}
 use Rattle.std.proofs.lemmas.Option.{none-some}
 use Rattle.sound_state.proofs.Common.{Geometry, Need, Small, need_of, block_place, frame_of, pool_of, place-found, sound-of, WordName, Writes, Point, Idle}
-use Rattle.sound_state.proofs.Common.{ErrandFields, spare_of, pushed_by, State, Moves, IsGuard, IsHazard, passed_by, held_by, Holding, holds_of, IsKeptAs, IsWithout}
+use Rattle.sound_state.proofs.Common.{ErrandFields, State, Moves, IsGuard, IsHazard, Holding, holds_of, IsKeptAs, IsWithout}
 use Rattle.sound_state.proofs.Common.{Lists, IsSo, IsOwned, recalls_of, IsSoundWith, IsOwnErrand, IsSoundWithoutCounts, turn_stage_of, in_turn, is_unneeded}
-use Rattle.sound_state.proofs.Common.{waits_in, gives_small, refuses_small, one_if, pops_left}
-use Rattle.heap_geometry.specs.declared.limits.TheConstants.{SHELVES}
-use Rattle.heap_geometry.specs.declared.need.Need.TheVariants.{Large, TooLarge}
-use Rattle.heap_geometry.specs.Need.{usable_words}
-use Rattle.heap_geometry.specs.Place.{index_of}
+use Rattle.sound_state.proofs.Common.{gives_small, refuses_small, one_if, pops_left, SHELVES, TooLarge, usable_words, index_of, IsWellFormed, every-each, IsIdle}
+use Rattle.sound_state.proofs.Common.{begins_alloc, alloc_begun, free_begun, write_begun, read_begun, put_begun, take_begun, IsErrand, is_spent, one_more, Freed}
+use Rattle.sound_state.proofs.Common.{nothing, with_errands, lacks_frame, lacks_partial, lacks_answer, out_of_turn, turn_open, turn_unanswered, errand_discards}
+use Rattle.heap_geometry.specs.declared.need.Need.TheVariants.{Large}
 use Rattle.heap_geometry.proofs.PlaceLemmas.{block_place-split}
-use Rattle.pool_model.specs.WellFormed.{IsWellFormed}
-use Rattle.pool_model.proofs.PoolLemmas.{every-each}
 use Rattle.word_table.specs.declared.name.WordName.TheVariants as name
-use Rattle.errand_steps.specs.Begins.{IsIdle, IsHeapBlock, begins_alloc, alloc_begun, free_begun, write_begun, read_begun, put_begun, take_begun}
-use Rattle.errand_steps.specs.Errands.{IsErrand, is_spent, one_more}
-use Rattle.sound_state.specs.Holdings.{Freed, nothing}
-use Rattle.sound_state.specs.Sound.{with_errands}
-use Rattle.sound_state.specs.TurnStages.{lacks_frame, lacks_partial, lacks_answer, out_of_turn}
-use Rattle.sound_state.specs.Turns.{turn_open, turn_unanswered, errand_discards}
+use Rattle.errand_steps.specs.Begins.{IsHeapBlock}
 use Rattle.errand_steps.proofs.BegunErrands.{idle-is, alloc-errand, free-errand, write-errand, read-errand, put-errand, take-errand}
 use Rattle.sound_state.proofs.shared.AlikeLemmas.{sound-alike}
 use Rattle.sound_state.proofs.shared.ShownLemmas.{MayGoOn, MayGuard}
 use Rattle.sound_state.proofs.shared.StepLemmas.{HoldsException, actives-stay}
 use Rattle.sound_state.proofs.shared.WeighLemmas.{WeighAlike, WeighMost, alike-most, weigh-alike, weigh-emptied}
+use Rattle.sound_state.proofs.shared.TurnEffects.{IsQuiet}
 
--- a caller that holds nothing but a block that it frees
+-- what a caller holds that holds nothing but blocks which it frees
 abbrev pub freeing : List Freed → Holding
 freeing blocks = record nothing { frees = blocks }
 
 -- a point at which a caller holds nothing but these blocks that it frees, and has not looked, pushed or scanned
 pub record HoldsOnlyFrees (p : Point) (blocks : List Freed) : Type 0 where
   pub holds : holds_of p ≡ freeing blocks
-  pub waits : (class : ℕ) → waits_in class p ≡ 0
-  pub pushed : pushed_by p ≡ None
-  pub passed : passed_by p ≡ 0
-  pub unread : length (held_by p) ≡ 0
-  pub spare : spare_of p ≡ 0
+  pub quiet : IsQuiet p
   pub pops : pops_left p ≡ 0
 
--- the point at which a call begins
+-- a call may begin at this point: what the caller frees there is its own, and what it remembers is so
 pub record BeginsAt (g : Geometry) (s : State) (l : Lists) (caller : ℕ) (p : Point) (blocks : List Freed) : Type 0 where
   pub fresh : HoldsOnlyFrees p blocks
   pub frees : All (λ x. IsOwned s caller x.place x.need) blocks
   pub so : All (IsSo g s l caller) (recalls_of p)
 
--- it takes so many turns, none or one, and is in as many
+-- a call that begins at the point takes so many turns, none or one, and is in as many there
 pub record TakesTurns (p : Point) (t before after : ℕ) : Type 0 where
   pub turns : after ≡ before + t
   pub under_way : one_if (in_turn p) ≡ t
@@ -60,7 +49,7 @@ pub record TakesTurns (p : Point) (t before after : ℕ) : Type 0 where
 idle-takes : TakesTurns Idle 0 0 0
 idle-takes = record { turns = refl; under_way = refl; discards = refl; unanswered = refl; unframed = refl; unlisted = refl }
 
--- what an idle caller weighs, and what one weighs that begins
+-- an errand at the point where a call begins weighs what the idle one weighed
 pub begun-weighs :
     (g : Geometry) (s : State) (l : Lists) (caller : ℕ) (a : ErrandFields) (p : Point) (turns : ℕ) (blocks : List Freed) → IsIdle a
     → BeginsAt g s l caller p blocks → (n : WordName) (w : ℕ) → WeighAlike n w w a (record a { point = p; turns = turns })
@@ -75,15 +64,15 @@ begun-weighs g s l caller a p turns blocks idle b n w =
       away = λ d. rw (was, b.fresh.holds) refl;
       places = λ d. rw (was, b.fresh.holds) refl;
       frames = λ f. rw (was, b.fresh.holds) refl;
-      stock = λ class. rw (was, b.fresh.holds, b.fresh.waits class) refl;
+      stock = λ class. rw (was, b.fresh.holds, b.fresh.quiet.waits class) refl;
     }
 
--- who holds nothing excepts no block
+-- a caller that holds nothing excepts no block
 not-excepts : (place : ℕ) → HoldsException nothing place → ⊥
 not-excepts place (inl x) = omega (arith, x.2)
 not-excepts place (inr x) = omega (arith, x.2)
 
--- a caller that begins a call may go on to it
+-- a caller that begins a call may go on to its first point
 begun-may :
     (g : Geometry) (s : State) (l : Lists) (caller : ℕ) (a : ErrandFields) (p : Point) (t turns : ℕ) (blocks : List Freed)
     → IsSoundWith g s l → caller < g.callers → s.errand caller ≡ a → IsIdle a → BeginsAt g s l caller p blocks
@@ -101,7 +90,7 @@ begun-may g s l caller a p t turns blocks sound has stands idle b rule takes =
       kept = subst (λ h. All (λ k. IsKeptAs s k.status k.desc k.class) h.kept) (sym b.fresh.holds)
           (All-nil (λ k. IsKeptAs s k.status k.desc k.class));
       so = b.so;
-      full = λ is. let bad : ⊥ = omega (arith, is, b.fresh.spare) in absurd bad;
+      full = λ is. let bad : ⊥ = omega (arith, is, b.fresh.quiet.spare) in absurd bad;
       hands = subst (λ h. All (λ x. IsOwned s caller x.place x.need) h.hands) (sym b.fresh.holds) (All-nil (λ x. IsOwned s caller x.place x.need));
       frees = subst (λ h. All (λ x. IsOwned s caller x.place x.need) h.frees) (sym b.fresh.holds) b.frees;
       excepts = λ place x. absurd (not-excepts place (subst (λ q. HoldsException (holds_of q) place) was x));
@@ -122,7 +111,7 @@ begun-may g s l caller a p t turns blocks sound has stands idle b rule takes =
       list_turns = omega (arith, takes.turns, takes.unlisted, b.fresh.pops);
     }
 
--- it guards nothing, nor does it push or scan
+-- a caller at the point where a call begins guards nothing, nor does it push or scan
 begun-guards :
     (g : Geometry) (s : State) (l : Lists) (caller : ℕ) (p : Point) (retired : List ℕ) (blocks : List Freed) → IsSoundWith g s l
     → caller < g.callers → IsIdle (s.errand caller) → BeginsAt g s l caller p blocks → MayGuard g s caller p retired (s.word (name.Hazard caller))
@@ -134,9 +123,9 @@ begun-guards g s l caller p retired blocks sound has idle b =
           subst (λ h. IsHazard h.hazard (s.word (name.Hazard caller))) (sym b.fresh.holds)
           (subst (λ e. IsHazard (holds_of e).hazard (s.word (name.Hazard caller))) was (sound.guarded.words caller has));
       guard = λ d word guard. absurd (subst (λ h. IsGuard h.hazard) b.fresh.holds guard);
-      pushed = λ i d has_i guards is. absurd (none-some d (sym b.fresh.pushed ∙ is));
-      passed = λ i d has_i guards listed below. let bad : ⊥ = omega (arith, below, b.fresh.passed) in absurd bad;
-      unread = λ i passed below. let bad : ⊥ = omega (arith, below, b.fresh.unread) in absurd bad;
+      pushed = λ i d has_i guards is. absurd (none-some d (sym b.fresh.quiet.pushed ∙ is));
+      passed = λ i d has_i guards listed below. let bad : ⊥ = omega (arith, below, b.fresh.quiet.passed) in absurd bad;
+      unread = λ i passed below. let bad : ⊥ = omega (arith, below, b.fresh.quiet.unread) in absurd bad;
     }
 
 -- a caller that begins a call keeps the state sound
@@ -176,7 +165,7 @@ begun-sound g s caller p t turns blocks errands' sound has idle begins rule take
       );
     }
 
--- a call that begins at a point without a turn
+-- a call that begins at a point without a turn keeps the state sound
 no-turn-sound :
     (g : Geometry) (s : State) (caller : ℕ) (p : Point) (blocks : List Freed) (errands' : ℕ → ErrandFields) → IsSoundWithoutCounts g s
     → caller < g.callers → IsIdle (s.errand caller) → ((l : Lists) → BeginsAt g s l caller p blocks) → IsErrand (record (s.errand caller) { point = p })
@@ -193,7 +182,7 @@ no-turn-sound g s caller p blocks errands' sound has idle begins rule no_turn mo
     })
     moves
 
--- one that frees no block
+-- a call that begins at a point without a turn, and frees no block, keeps the state sound
 bare-sound :
     (g : Geometry) (s : State) (caller : ℕ) (p : Point) (errands' : ℕ → ErrandFields) → IsSoundWithoutCounts g s → caller < g.callers
     → IsIdle (s.errand caller) → HoldsOnlyFrees p [] → ((l : Lists) → All (IsSo g s l caller) (recalls_of p)) → IsErrand (record (s.errand caller) { point = p })
@@ -249,7 +238,7 @@ alloc-from g s caller words (Large units) errands' is sound has idle rule moves 
     bare-sound g s caller _ errands' sound has idle (grind (arith)) (λ l. All-nil (IsSo g s l caller)) rule refl moves
 alloc-from g s caller words TooLarge errands' is sound has idle rule moves = stays-sound g s caller errands' sound moves
 
--- an allocation that begins
+-- an allocation that begins keeps the state sound
 pub alloc-sound :
     (g : Geometry) (s : State) (caller words : ℕ) (errands' : ℕ → ErrandFields) → IsSoundWithoutCounts g s → caller < g.callers → IsIdle (s.errand caller)
     → Moves s.errand caller (alloc_begun (s.errand caller) words) errands' → IsSoundWithoutCounts g (with_errands s errands')
@@ -269,14 +258,14 @@ owned-block g s caller place n sound owned =
     let stands : b.place ≡ place = place-found place (pool_of s.history) b live in
     subst (λ m. IsHeapBlock g place m) owned.block.3 (subst (λ p. IsHeapBlock g p b.need) stands (formed.need, formed.place))
 
--- so it is one of the heap that the caller's errand is in
+-- a block that a caller owns is one of the heap that its errand is in
 pub errand-block :
     (g : Geometry) (s : State) (caller place : ℕ) (n : Need) → IsSoundWithoutCounts g s → caller < g.callers → IsOwned s caller place n
     → IsHeapBlock (s.errand caller).geometry place n
 errand-block g s caller place n sound has owned =
     subst (λ h. IsHeapBlock h place n) (sym (sound.parts.1.errands caller has).geometry) (owned-block g s caller place n sound owned)
 
--- a free
+-- a free that begins keeps the state sound
 pub free-sound :
     (g : Geometry) (s : State) (caller place : ℕ) (n : Need) (errands' : ℕ → ErrandFields) → IsSoundWithoutCounts g s → caller < g.callers
     → IsIdle (s.errand caller) → IsOwned s caller place n → Moves s.errand caller (free_begun (s.errand caller) place n) errands'
@@ -312,7 +301,7 @@ free-sound g s caller place (Large units) errands' sound has idle owned moves =
     refl moves
 free-sound g s caller place TooLarge errands' sound has idle owned moves = absurd (owned-block g s caller place TooLarge sound owned).1
 
--- a write, a read, a put and a take
+-- a write, a read, a put and a take that begin keep the state sound
 pub write-sound :
     (g : Geometry) (s : State) (caller place : ℕ) (n : Need) (i v : ℕ) (errands' : ℕ → ErrandFields) → IsSoundWithoutCounts g s → caller < g.callers
     → IsIdle (s.errand caller) → IsOwned s caller place n → i < usable_words n → v < 2 ^ 64

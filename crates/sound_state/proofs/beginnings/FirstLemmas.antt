@@ -1,34 +1,27 @@
 -- A state before the first step, whatever the heap begins with: all callers are idle, and nothing is live.
-use Rattle.std.proofs.Common.{ℕ, true, false, Some, None, ◌≡◌, ◌<◌, ◌≤◌, ◌+◌, ◌^◌, List, [], ◌∷◌, length, refl, arith, ap, sym, subst, inl, inr, ◌∙◌}
-use Rattle.std.specs.Prelude.{◌==◌, ◌-◌, All, IsSome, nat_lt, slice_index_or, count_by}
+use Rattle.std.proofs.Common.{ℕ, true, false, Some, None, ◌≡◌, ◌<◌, ◌≤◌, ◌+◌, ◌^◌, List, [], ◌∷◌, length, refl, arith, ap, sym, subst, inl, inr, ◌∙◌, ◌==◌, ◌-◌, All}
+use Rattle.std.proofs.Common.{IsSome, nat_lt, slice_index_or, count_by, lt-ltb, true≢false, pow_pos, length-append}
 use Rattle.std.specs.Int.{bit_at}
-use Rattle.std.proofs.lemmas.Bool.{cond_both, cond-true, lt-ltb, and_from, cases_lt, true≢false}
+use Rattle.std.proofs.lemmas.Bool.{cond_both, cond-true, and_from, cases_lt}
 use Rattle.std.proofs.lemmas.List.Elements.{All-nil}
-use Rattle.std.proofs.lemmas.Nat.{pow_pos}
 use Rattle.std.proofs.lemmas.Option.{none-some}
-use Rattle.std.proofs.lemmas.List.{length-append}
-use Rattle.sound_state.proofs.Common.{Geometry, CLASSES, IsChecked, Held, active_of, anchor_of, head_of, info_of, WordName, descriptor_count, info_in, occurs}
-use Rattle.sound_state.proofs.Common.{Frames, Partials, Stacked, next_in, Event, block_at, pool_of, spare_of, ErrandFields, State, IsFramed, errand_frames}
-use Rattle.sound_state.proofs.Common.{fills_frame, IsGuarded, IsGuard, IsHazard, held_by, waiting, holds_of, IsKept, IsPartlyUsed, IsWithout, IsKeptAs, word_keeps}
-use Rattle.sound_state.proofs.Common.{errand_has, full_keeps, Lists, IsListed, IsSo, IsOwned, recalls_of, IsSoundWith, IsOwnErrand, word_stock, errand_stock}
-use Rattle.sound_state.proofs.Common.{full_stock, sum_below, words_sum, callers_sum, AreChained, IsChained, anchor_for, info_for, superblock_of, is_bound, away_of}
-use Rattle.sound_state.proofs.Common.{errand_away, errand_reserves, waiting_of, errand_keeps, IsTied, IsLive, IsTurned, emptied_out, gives_small, refuses_small}
-use Rattle.heap_geometry.specs.Place.{unit_place}
+use Rattle.sound_state.proofs.Common.{Geometry, CLASSES, IsChecked, Held, active_of, anchor_of, head_of, info_of, WordName, descriptor_count, info_in, occurs, Frames}
+use Rattle.sound_state.proofs.Common.{Partials, Stacked, next_in, Event, block_at, pool_of, spare_of, ErrandFields, State, IsFramed, errand_frames, fills_frame}
+use Rattle.sound_state.proofs.Common.{IsGuarded, IsGuard, IsHazard, held_by, waiting, holds_of, IsKept, IsPartlyUsed, IsWithout, IsKeptAs, word_keeps, errand_has}
+use Rattle.sound_state.proofs.Common.{full_keeps, Lists, IsListed, IsSo, IsOwned, recalls_of, IsSoundWith, IsOwnErrand, word_stock, errand_stock, full_stock, sum_below}
+use Rattle.sound_state.proofs.Common.{words_sum, callers_sum, AreChained, IsChained, anchor_for, info_for, superblock_of, is_bound, away_of, errand_away}
+use Rattle.sound_state.proofs.Common.{errand_reserves, waiting_of, errand_keeps, IsTied, IsLive, IsTurned, emptied_out, gives_small, refuses_small, unit_place}
+use Rattle.sound_state.proofs.Common.{info_within, exists, IsOpening, Guards, IsRemembered, IsStocked, turn_open, turn_unframed, turn_unlisted, errand_pops, cleared_of}
+use Rattle.sound_state.proofs.Common.{errand_discards, turn_unanswered}
 use Rattle.packed_words.specs.declared.anchor.AnchorState.TheVariants as phase
 use Rattle.packed_words.specs.declared.widths.TheConstants.{TOP_BITS, HEAD_TAG_BITS}
 use Rattle.packed_words.specs.Fields.{bits_at}
 use Rattle.word_table.specs.declared.limits.TheConstants.{MAX_DESCRIPTORS}
 use Rattle.word_table.specs.declared.name.WordName.TheVariants as name
-use Rattle.word_table.specs.Seats.{info_within}
-use Rattle.word_table.specs.Table.{exists}
 use Rattle.pool_model.specs.Histories.{EachAfter}
 use Rattle.pool_model.specs.Pool.{Block}
 use Rattle.errand_steps.specs.Errands.{open_errand}
-use Rattle.errand_steps.specs.Openings.{next_index, IsOpening}
-use Rattle.sound_state.specs.Guards.{Guards}
-use Rattle.sound_state.specs.Recalls.{IsRemembered}
-use Rattle.sound_state.specs.Stock.{IsStocked}
-use Rattle.sound_state.specs.Turns.{turn_open, turn_unframed, turn_unlisted, errand_pops, cleared_of, errand_discards, turn_unanswered}
+use Rattle.errand_steps.specs.Openings.{next_index}
 use Rattle.sound_state.proofs.beginnings.OpeningLists.{indexes, indexes-below, indexes-before, indexes-once, indexes-stacked, top_from}
 use Rattle.sound_state.proofs.shared.SumLemmas.{sum-none, callers-none}
 use Rattle.sound_state.proofs.shared.WordFacts.{shelf-nothing}
@@ -53,13 +46,13 @@ pub record IsFirst (g : Geometry) (n : ℕ) (first : WordName → ℕ) : Type 0 
   pub states : (d : ℕ) → (anchor_of (first (name.Anchor d))).state ≡ phase.Active
   pub tags : (d : ℕ) → (anchor_of (first (name.Anchor d))).tag ≡ 0
 
--- the state at hand is one before the first step
+-- a state before the first step, where the words that the heap begins with keep the rule
 pub record IsBegun (g : Geometry) (n : ℕ) (first : WordName → ℕ) (s : State) : Type 0 where
   pub checked : IsChecked g
   pub opening : IsOpening g first s
   pub rule : IsFirst g n first
 
--- its lists
+-- the lists before the first step: the frames and the descriptors from n on, and no partial superblocks
 abbrev pub first_lists : Geometry → ℕ → Lists
 first_lists g n = record {
   frames = indexes n (g.frames - n);
@@ -75,7 +68,7 @@ pub some-descriptors : (g : Geometry) → IsChecked g → 2 ≤ descriptor_count
 unfolding descriptor_count
 some-descriptors g checked = omega (arith, checked.frames.0)
 
--- a descriptor's word that says frame 0 and processor heap 0, which each heap has
+-- a descriptor's info word that says frame 0 and processor heap 0 is within each heap
 pub info-some : (g : Geometry) (class : ℕ) → IsChecked g → IsSome (info_within g (Some (record { frame = 0; heap = 0; class = class })))
 info-some g class checked =
     let frame : nat_lt 0 g.frames ≡ true = lt-ltb 0 g.frames (omega (arith, checked.frames.0)) in
@@ -95,21 +88,21 @@ opening-word :
     → (exists g m ≡ true → P (first m)) → P 0 → P (s.word m)
 opening-word g first s m P o has none = subst P (sym (o.word m)) (cond_both (exists g m) (first m) 0 P has (λ e. none))
 
--- a word that is 0 in the beginning
+-- a word that is 0 among those that the heap begins with is 0 in the state
 pub zero-word : (g : Geometry) (first : WordName → ℕ) (s : State) (m : WordName) → IsOpening g first s → first m ≡ 0 → s.word m ≡ 0
 zero-word g first s m o is = opening-word g first s m (λ w. w ≡ 0) o (λ e. is) refl
 
--- a word that the heap has
+-- a word that the heap has is in the state what it begins with
 pub first-word : (g : Geometry) (first : WordName → ℕ) (s : State) (m : WordName) → IsOpening g first s → exists g m ≡ true → s.word m ≡ first m
 first-word g first s m o has = o.word m ∙ cond-true (exists g m) (first m) 0 has
 
--- an opening errand weighs what an idle one weighs
+-- the callers weigh nothing in the beginning by a weight that no opening errand has
 pub opened-weighs :
     (g : Geometry) (first : WordName → ℕ) (s : State) (weight : ErrandFields → ℕ) → IsOpening g first s
     → ((caller : ℕ) → weight (open_errand caller g) ≡ 0) → callers_sum g weight s.errand ≡ 0
 opened-weighs g first s weight o none = callers-none g weight s.errand (λ caller has. ap weight (o.errand caller has) ∙ none caller)
 
--- what holds of the errand of an idle caller holds in the beginning
+-- what holds of the errand of every opened caller holds in the beginning
 pub at-opening :
     (g : Geometry) (first : WordName → ℕ) (s : State) (P : ErrandFields → Type 0) → IsOpening g first s → ((caller : ℕ) → P (open_errand caller g))
     → (caller : ℕ) → caller < g.callers → P (s.errand caller)
@@ -123,7 +116,7 @@ pub first-waiting : (g : Geometry) (first : WordName → ℕ) (s : State) (d : �
 unfolding holds_of
 first-waiting g first s d o = opened-weighs g first s (errand_keeps waiting d) o (λ caller. refl)
 
--- a descriptor from n on is available; one before isn't
+-- a descriptor from n on is available in the beginning; one before isn't away
 pub first-away :
     (g : Geometry) (n : ℕ) (first : WordName → ℕ) (s : State) (d : ℕ) → IsBegun g n first s → n ≤ d → d < descriptor_count g
     → away_of g s (first_lists g n) d ≡ 1
@@ -148,7 +141,7 @@ pub first-unbound :
     → is_bound g s (first_lists g n) d ≡ false
 first-unbound g n first s d b least has = grind (arith, first-away g n first s d b least has)
 
--- words of 0
+-- a word of 0 is a head without an index and without a tag
 zero-head : (head_of 0).top ≡ 0
 unfolding head_of
 zero-head = refl
@@ -173,7 +166,7 @@ frame-head g n first s b =
     ap head_of (first-word g first s name.FrameHead b.opening refl ∙ b.rule.frame_head)
     ∙ small-head (top_from n g.frames) (omega (arith, b.checked.frames.1, top-small n g.frames b.rule.frames))
 
--- every anchor says ACTIVE, and has no tag
+-- a word of 0 is an anchor that says ACTIVE and has no tag
 pub zero-state : (anchor_of 0).state ≡ phase.Active
 unfolding anchor_of
 zero-state = refl
@@ -190,7 +183,7 @@ first-tag : (g : Geometry) (n : ℕ) (first : WordName → ℕ) (s : State) (d :
 first-tag g n first s d b =
     opening-word g first s (name.Anchor d) (λ w. (anchor_of w).tag ≡ 0) b.opening (λ e. b.rule.tags d) zero-anchor_tag
 
--- the lists are the stacks
+-- the lists before the first step are the stacks that the words make
 first-listed : (g : Geometry) (n : ℕ) (first : WordName → ℕ) (s : State) → IsBegun g n first s → IsListed g s.word (first_lists g n)
 first-listed g n first s b =
     let frames : n + (g.frames - n) ≡ g.frames = omega (arith, b.rule.frames) in
@@ -215,7 +208,7 @@ first-listed g n first s b =
       partials_exist = λ class has. All-nil (λ d. d < descriptor_count g);
     }
 
--- where the words keep the first n descriptors, each descriptor stands in one place
+-- each descriptor stands in one place before the first step, where the words keep the first n
 pub first-kept :
     (g : Geometry) (n : ℕ) (first : WordName → ℕ) (s : State) → IsBegun g n first s
     → ((d : ℕ) → d < descriptor_count g → words_sum g (word_keeps d) s.word + occurs d (indexes n (descriptor_count g - n)) ≡ 1)
@@ -249,7 +242,7 @@ first-kept g n first s b once held =
       errand = at-opening g first s (λ e. All (λ k. IsKeptAs s k.status k.desc k.class) (holds_of e.point).kept) o (λ caller. All-nil (λ k. IsKeptAs s k.status k.desc k.class));
     }
 
--- where the superblocks of the first n descriptors have their blocks in order, all superblocks have
+-- all superblocks have their blocks in order before the first step, where those of the first n descriptors have
 pub first-chained :
     (g : Geometry) (n : ℕ) (first : WordName → ℕ) (s : State) → IsBegun g n first s
     → ((d : ℕ) → d < n → IsChained (superblock_of g s d)) → AreChained g s (first_lists g n)
@@ -263,13 +256,13 @@ first-chained g n first s b chained = record {
       ];
 }
 
--- a descriptor from n on fills_frame no frame
+-- a descriptor from n on fills no frame
 pub first-fills :
     (g : Geometry) (n : ℕ) (first : WordName → ℕ) (s : State) (f d : ℕ) → IsBegun g n first s → n ≤ d → d < descriptor_count g
     → fills_frame g s (first_lists g n) f d ≡ 0
 first-fills g n first s f d b least has = let unbound = first-unbound g n first s d b least has in grind (arith, unbound)
 
--- where the superblocks fill the frames that aren't on the stack, each frame is in one place
+-- each frame is in one place before the first step, where superblocks fill the frames that aren't on the stack
 pub first-framed :
     (g : Geometry) (n : ℕ) (first : WordName → ℕ) (s : State) → IsBegun g n first s
     → ((f : ℕ) → f < g.frames
@@ -288,7 +281,7 @@ first-remembered g n first s b = record {
       (λ other. All-nil (IsSo g s (first_lists g n) caller)) caller has;
 }
 
--- an idle caller guards nothing
+-- an idle caller of the first state guards nothing
 unguarded : (g : Geometry) (first : WordName → ℕ) (s : State) (caller d : ℕ) → IsOpening g first s → caller < g.callers → Guards s caller d → ⊥
 unfolding holds_of
 unguarded g first s caller d o has h =
@@ -312,7 +305,7 @@ first-guarded g n first s b =
           let no : ⊥ = omega (arith, none, is) in no);
     }
 
--- where the words keep one descriptor at most, few are out
+-- few descriptors are out before the first step, where the words keep one at most of each class
 pub first-stocked :
     (g : Geometry) (n : ℕ) (first : WordName → ℕ) (s : State) → IsBegun g n first s
     → ((class : ℕ) → words_sum g (word_stock class) s.word ≤ 1) → IsStocked g s (first_lists g n)
@@ -329,7 +322,7 @@ first-stocked g n first s b words =
           omega (arith, words class, callers, full, b.checked.frames.0);
     }
 
--- no descriptor is EMPTY
+-- no descriptor of the first state is EMPTY
 none-emptied : (g : Geometry) (n : ℕ) (first : WordName → ℕ) (s : State) (d : ℕ) → IsBegun g n first s → emptied_out g s (first_lists g n) d ≡ 0
 none-emptied g n first s d b = let active = first-state g n first s d b in grind (arith, active)
 
@@ -363,7 +356,7 @@ first-turned g n first s b =
 zero-bit : (i : ℕ) → bit_at 0 i ≡ 0
 zero-bit i = omega (arith, pow_pos i)
 
--- no block is live
+-- no block of the first state is live
 pub first-live : (g : Geometry) (first : WordName → ℕ) (s : State) (place : ℕ) → IsOpening g first s → block_at place (pool_of s.history) ≡ None
 first-live g first s place o = ap (λ h. block_at place (pool_of h)) o.history
 
@@ -391,7 +384,7 @@ first-tied g n first s begun =
           (λ other. All-nil (λ b. IsOwned s caller b.place b.need)) caller has;
     }
 
--- the words are words
+-- the words of the first state are words
 first-words : (g : Geometry) (n : ℕ) (first : WordName → ℕ) (s : State) → IsBegun g n first s → (m : WordName) → s.word m < 2 ^ 64
 first-words g n first s b m = opening-word g first s m (λ w. w < 2 ^ 64) b.opening (b.rule.words m) (omega arith)
 
@@ -412,14 +405,14 @@ open-own g caller checked has = record {
   lost = omega arith;
 }
 
--- nothing has happened, so everything that has is as any rule wants
+-- no event has happened in the beginning, so all that have are as any rule wants
 pub first-history :
     (g : Geometry) (first : WordName → ℕ) (s : State) (R : List Event → Event → Type 0) → IsOpening g first s → EachAfter R s.history
 first-history g first s R o =
     subst (EachAfter R) (sym o.history)
     (λ before rest event is. absurd (let no : ⊥ = omega (arith, ap length is, length-append before (event ∷ rest)) in no))
 
--- where the superblocks of the first n descriptors are in order, everything is
+-- a state before the first step is sound, where its descriptors, chains, frames and stock are in order
 pub first-sound :
     (g : Geometry) (n : ℕ) (first : WordName → ℕ) (s : State) → IsBegun g n first s → IsKept g s (first_lists g n)
     → AreChained g s (first_lists g n) → IsFramed g s (first_lists g n) → IsStocked g s (first_lists g n)

@@ -1,41 +1,30 @@
 -- The state with one superblock installed, all of whose blocks are free, is sound.
-use Rattle.std.proofs.Common.{ℕ, zero, suc, true, ◌≡◌, ◌≢◌, ◌<◌, ◌≤◌, ◌+◌, ◌^◌, Some, refl, arith, ap, sym, subst, ◌∙◌, inl, inr}
-use Rattle.std.specs.Prelude.{◌-◌, ◌==◌, ◌&&◌, if◌then◌else◌, IsSome, is_some, nat_lt}
-use Rattle.std.proofs.lemmas.Bool.{cond_both, cond-true, cond-false, lt-ltb, ltb-true, eq-eqb, eqb-true, and_parts, and_from, cases_Bool}
-use Rattle.sound_state.proofs.Common.{Geometry, CLASSES, IsChecked, block_count_of, block_place, Held, active_of, active_word, anchor_of, anchor_word, info_of}
-use Rattle.sound_state.proofs.Common.{link_of, WordName, descriptor_count, info_in, occurs, prefix_name, link_in, State, fills_frame, word_keeps, IsSound}
-use Rattle.sound_state.proofs.Common.{word_stock, sum_below, words_sum, Superblock, IsChained, superblock_of, free_chain, anchor_for, info_for, info_or_zero}
-use Rattle.sound_state.proofs.Common.{reserved_of, word_reserves, live_at, is_there}
-use Rattle.heap_geometry.specs.Place.{index_of}
+use Rattle.std.proofs.Common.{ℕ, zero, suc, true, ◌≡◌, ◌≢◌, ◌<◌, ◌≤◌, ◌+◌, ◌^◌, Some, refl, arith, ap, sym, subst, ◌∙◌, inl, inr, ◌-◌, ◌==◌, ◌&&◌, if◌then◌else◌}
+use Rattle.std.proofs.Common.{IsSome, is_some, nat_lt, lt-ltb, ltb-true, eq-eqb, eqb-true}
+use Rattle.std.proofs.lemmas.Bool.{cond_both, cond-true, cond-false, and_parts, and_from, cases_Bool}
+use Rattle.sound_state.proofs.Common.{Geometry, CLASSES, IsChecked, block_count_of, block_place, Held, active_of, active_word, anchor_of, anchor_word, info_of, link_of}
+use Rattle.sound_state.proofs.Common.{WordName, descriptor_count, info_in, occurs, prefix_name, link_in, State, fills_frame, word_keeps, IsSound, word_stock, sum_below}
+use Rattle.sound_state.proofs.Common.{words_sum, Superblock, IsChained, superblock_of, free_chain, anchor_for, info_for, info_or_zero, reserved_of, word_reserves}
+use Rattle.sound_state.proofs.Common.{live_at, is_there, index_of, CREDIT_BITS, IsAnchor, InfoFields, info_word, active-exact, anchor_word-below, anchor_of-anchor_word}
+use Rattle.sound_state.proofs.Common.{info-exact, arena_words, exists, info_within, descriptor_count_within, block_count_of-least, block_count_of-most, chain_of}
+use Rattle.sound_state.proofs.Common.{IsLegalEvent, installed, IsOpening, active_keeps, offered}
 use Rattle.heap_geometry.proofs.PlaceLemmas.{index_of-block_place}
 use Rattle.packed_words.specs.declared.anchor.AnchorState.TheVariants as phase
-use Rattle.packed_words.specs.declared.widths.TheConstants.{CREDIT_BITS}
-use Rattle.packed_words.specs.Anchor.{IsAnchor}
-use Rattle.packed_words.specs.Info.{InfoFields, info_word}
-use Rattle.packed_words.proofs.ActiveLemmas.{active-exact}
-use Rattle.packed_words.proofs.AnchorLemmas.{anchor_word-below, anchor_of-anchor_word}
-use Rattle.packed_words.proofs.InfoLemmas.{info-exact}
 use Rattle.word_table.specs.declared.name.WordName.TheVariants as name
-use Rattle.word_table.specs.Counts.{arena_words}
-use Rattle.word_table.specs.Table.{exists}
-use Rattle.word_table.specs.Seats.{info_within}
-use Rattle.word_table.proofs.CountLemmas.{descriptor_count_within}
-use Rattle.word_table.proofs.SeatLemmas.{block_place-within, block_count_of-least, block_count_of-most}
-use Rattle.superblock_parts.specs.Chains.{chain_of}
-use Rattle.pool_model.specs.Legal.{IsLegalEvent}
-use Rattle.errand_steps.specs.Openings.{installed, link_at, full_credits, full_anchor, IsOpening}
-use Rattle.sound_state.specs.Keepers.{active_keeps}
-use Rattle.sound_state.specs.Superblocks.{offered}
-use Rattle.sound_state.proofs.beginnings.FirstLemmas.{IsFirst, IsBegun, next-word, some-descriptors, info-some, info-zero, first_lists, zero-word, first-word, zero-state, zero-anchor_tag, first-here, first-state, first-waiting, first-reserved, first-live, first-kept, first-chained, first-fills, first-framed, first-stocked, first-history, first-sound}
+use Rattle.word_table.proofs.SeatLemmas.{block_place-within}
+use Rattle.errand_steps.specs.Openings.{link_at, full_credits, full_anchor}
+use Rattle.sound_state.proofs.beginnings.FirstLemmas.{IsFirst, IsBegun, next-word, some-descriptors, info-some, info-zero, first_lists, zero-word, first-word}
+use Rattle.sound_state.proofs.beginnings.FirstLemmas.{zero-state, zero-anchor_tag, first-here, first-state, first-waiting, first-reserved, first-live, first-kept}
+use Rattle.sound_state.proofs.beginnings.FirstLemmas.{first-chained, first-fills, first-framed, first-stocked, first-history, first-sound}
 use Rattle.sound_state.proofs.shared.HolderLemmas.{IsHolderWeight, is_holder, holders-one, keeps-holder, reserves-holder, stock-holder, zero-active}
 use Rattle.sound_state.proofs.beginnings.OpeningLists.{indexes, indexes-before, indexes-once, indexes-end, indexes-chained}
 use Rattle.sound_state.proofs.shared.SumLemmas.{sum-one}
 
--- all but one of a superblock's blocks, and at most as many as an active word can say
+-- the credits of a superblock whose blocks are all free fit an active word, and are fewer than its blocks
 credits-fit : (class : ℕ) → class < CLASSES → (full_credits class < 2 ^ CREDIT_BITS) × (full_credits class + 1 ≤ block_count_of class)
 credits-fit class has = grind (arith, block_count_of-least class has)
 
--- the three packed words of the superblock say what was packed
+-- the packed words of the installed superblock say what was packed
 full-fits : (class : ℕ) → class < CLASSES → IsAnchor (full_anchor class)
 full-fits class has = record {
   avail = omega arith;
@@ -61,7 +50,7 @@ active-says class has = active-exact.back (Held 0 (full_credits class)) (omega a
 active-word-below : (class : ℕ) → class < CLASSES → active_word (Held 0 (full_credits class)) < 2 ^ 64
 active-word-below class has = active-exact.fits (Held 0 (full_credits class)) (omega arith, (credits-fit class has).0)
 
--- the links are words
+-- the links of the installed superblock are words
 link_at-below : (class word : ℕ) → link_at class word < 2 ^ 64
 link_at-below class word =
     let index = index_of class word in
@@ -70,7 +59,7 @@ link_at-below class word =
     (λ e. omega (arith, block_count_of-most class, ltb-true (index + 1) (block_count_of class) (and_parts (word == block_place 0 class index) (nat_lt (index + 1) (block_count_of class)) e).1))
     (λ e. omega arith)
 
--- the words with the superblock are words
+-- the words that the installed state begins with are words
 installed-below : (g : Geometry) (class : ℕ) (m : WordName) → IsChecked g → class < CLASSES → exists g m ≡ true → installed g class m < 2 ^ 64
 installed-below g class (name.Next d) checked of has =
     omega (arith, next-word (descriptor_count g) d (ltb-true d (descriptor_count g) has), descriptor_count_within g checked)
@@ -88,7 +77,7 @@ installed-below g class name.DescHead checked of has =
     omega (arith, next-word (descriptor_count g) 0 (omega (arith, some-descriptors g checked)), descriptor_count_within g checked)
 installed-below g class m checked of has = omega arith
 
--- frame 0 and descriptor 0 are in use, all others on their stacks
+-- in the installed words frame 0 and descriptor 0 are in use, and all others on their stacks
 installed-first : (g : Geometry) (class : ℕ) → IsChecked g → class < CLASSES → IsFirst g 1 (installed g class)
 installed-first g class checked of = record {
   frames = checked.frames.0;
@@ -117,7 +106,7 @@ installed-first g class checked of = record {
       (λ e. ap (λ a. a.tag) (full-says class of)) (λ e. zero-anchor_tag);
 }
 
--- a state that begins so
+-- a state that begins with one superblock of the class installed
 record BeginsInstalled (g : Geometry) (class : ℕ) (s : State) : Type 0 where
   checked : IsChecked g
   of : class < CLASSES
@@ -132,7 +121,7 @@ is-installed g class s checked of o = record {
   begun = record { checked = checked; opening = o; rule = installed-first g class checked of };
 }
 
--- what descriptor 0 says
+-- what the anchor and the info word of descriptor 0 say in the installed state
 anchor-installed : (g : Geometry) (class : ℕ) (s : State) → BeginsInstalled g class s → anchor_for s 0 ≡ full_anchor class
 anchor-installed g class s h =
     ap anchor_of (first-word g (installed g class) s (name.Anchor 0) h.opening (lt-ltb 0 (descriptor_count g) (omega (arith, some-descriptors g h.checked))))
@@ -143,7 +132,7 @@ info-installed g class s h =
     ap (λ w. info_or_zero (info_of w)) (first-word g (installed g class) s (name.Info 0) h.opening (lt-ltb 0 (descriptor_count g) (omega (arith, some-descriptors g h.checked))))
     ∙ ap info_or_zero (info-says class h.of)
 
--- the active word of the class's processor heap 0
+-- the active word of the class's processor heap 0 holds descriptor 0 with all credits
 active-installed : (g : Geometry) (class : ℕ) (s : State) → BeginsInstalled g class s → active_of (s.word (name.Active 0 class)) ≡ Some (Held 0 (full_credits class))
 active-installed g class s h =
     let has : exists g (name.Active 0 class) ≡ true =
@@ -152,7 +141,7 @@ active-installed g class s h =
     cond-true (class == class) (active_word (Held 0 (full_credits class))) 0 (eq-eqb class class refl) in
     ap active_of (first-word g (installed g class) s (name.Active 0 class) h.opening has ∙ word) ∙ active-says class h.of
 
--- is the only one that holds a superblock
+-- no active word or slot but that of the class's processor heap 0 holds a superblock
 installed-empty : (g : Geometry) (class : ℕ) (m : WordName) → m ≢ name.Active 0 class → is_holder m ≡ true → installed g class m ≡ 0
 installed-empty g class m other holds = grind (arith, other)
 
@@ -226,7 +215,7 @@ link-within g class s i h has =
     (cond_both (nat_lt (i + 1) (block_count_of class)) (i + 1) 0 (λ w. w < block_count_of class)
     (λ e. ltb-true (i + 1) (block_count_of class) e) (λ e. omega (arith, has)))
 
--- the superblock of descriptor 0
+-- the installed superblock, of descriptor 0
 abbrev installed_superblock : ℕ → State → Superblock
 installed_superblock class s = record {
   anchor = full_anchor class;
@@ -247,7 +236,7 @@ superblock-installed : (g : Geometry) (class : ℕ) (s : State) → BeginsInstal
 superblock-installed g class s h =
     rw (info-installed g class s h, anchor-installed g class s h, reserved-installed g class s h, first-waiting g (installed g class) s 0 h.opening) refl
 
--- its blocks are all free, one behind the other
+-- the blocks of the installed superblock are all free, one behind the other
 chain-installed : (g : Geometry) (class : ℕ) (s : State) → BeginsInstalled g class s → free_chain (installed_superblock class s) ≡ indexes 0 (block_count_of class)
 chain-installed g class s h =
     let all : block_count_of class - (full_credits class + 1) + (full_credits class + 1) ≡ block_count_of class = omega (arith, credits-fit class h.of) in
@@ -272,7 +261,7 @@ first-installed-chained g class s h =
       some = omega (arith, block_count_of-least class h.of, credits-fit class h.of);
     })
 
--- it fills_frame frame 0
+-- the installed superblock fills frame 0
 installed-fills : (g : Geometry) (class : ℕ) (s : State) (f : ℕ) → BeginsInstalled g class s → fills_frame g s (first_lists g 1) f 0 ≡ (if 0 == f then 1 else 0)
 installed-fills g class s f h =
     let away = first-here g 1 (installed g class) s 0 h.begun (omega arith) in
@@ -290,7 +279,7 @@ first-installed-framed g class s f h has =
     ∙ installed-fills g class s f h in
     omega (arith, filled, first-or-behind g.frames f has)
 
--- it is one that is out
+-- an active word counts at most one descriptor out for a class, and so do all words of the installed state
 active-stock-most : (class heap of_class word : ℕ) → word_stock class (name.Active heap of_class) word ≤ 1
 active-stock-most class heap of_class word = grind (arith)
 

@@ -1,13 +1,10 @@
 -- The opening state is sound.
-use Rattle.std.proofs.Common.{ℕ, true, ◌≡◌, ◌<◌, ◌^◌, refl, arith, ap, ◌-◌, is_some}
-use Rattle.std.proofs.lemmas.Bool.{ltb-true}
-use Rattle.sound_state.proofs.Common.{Geometry, IsChecked, WordName, descriptor_count, occurs, State, fills_frame, word_keeps, IsSound, word_stock, words_sum}
+use Rattle.std.proofs.Common.{ℕ, true, ◌≡◌, ◌<◌, ◌^◌, refl, arith, ap, ◌-◌, is_some, ltb-true}
+use Rattle.sound_state.proofs.Common.{Geometry, IsChecked, WordName, descriptor_count, occurs, State, fills_frame, word_keeps, IsSound, word_stock, words_sum, exists}
+use Rattle.sound_state.proofs.Common.{descriptor_count_within, IsLegalEvent, opening, IsOpening}
 use Rattle.word_table.specs.declared.name.WordName.TheVariants as name
-use Rattle.word_table.specs.Table.{exists}
-use Rattle.word_table.proofs.CountLemmas.{descriptor_count_within}
-use Rattle.pool_model.specs.Legal.{IsLegalEvent}
-use Rattle.errand_steps.specs.Openings.{opening, IsOpening}
-use Rattle.sound_state.proofs.beginnings.FirstLemmas.{IsFirst, IsBegun, next-word, some-descriptors, info-zero, first_lists, zero-word, zero-state, zero-anchor_tag, first-kept, first-chained, first-fills, first-framed, first-stocked, first-history, first-sound}
+use Rattle.sound_state.proofs.beginnings.FirstLemmas.{IsFirst, IsBegun, next-word, some-descriptors, info-zero, first_lists, zero-word, zero-state, zero-anchor_tag}
+use Rattle.sound_state.proofs.beginnings.FirstLemmas.{first-kept, first-chained, first-fills, first-framed, first-stocked, first-history, first-sound}
 use Rattle.sound_state.proofs.shared.HolderLemmas.{IsHolderWeight, is_holder, holders-none, keeps-holder, stock-holder, zero-active}
 use Rattle.sound_state.proofs.beginnings.OpeningLists.{indexes, indexes-once}
 use Rattle.sound_state.proofs.shared.SumLemmas.{sum-none}
@@ -41,14 +38,14 @@ opening-first g checked = record {
   tags = λ d. zero-anchor_tag;
 }
 
--- and no word holds a superblock
+-- no active word or slot holds a superblock at opening
 opening-empty : (g : Geometry) (m : WordName) → is_holder m ≡ true → opening g m ≡ 0
 opening-empty g m holds = grind (arith)
 
 opening-weighs : (g : Geometry) (s : State) (weight : WordName → ℕ → ℕ) → IsOpening g (opening g) s → IsHolderWeight weight → words_sum g weight s.word ≡ 0
 opening-weighs g s weight o h = holders-none g weight s.word h (λ m holds. zero-word g (opening g) s m o (opening-empty g m holds))
 
--- a state before the first step is sound
+-- the opening state is sound
 pub opening-sound : (g : Geometry) (s : State) → IsChecked g → IsOpening g (opening g) s → IsSound g s
 opening-sound g s checked o =
     let begun : IsBegun g 0 (opening g) s = record { checked = checked; opening = o; rule = opening-first g checked } in

@@ -1,13 +1,12 @@
 -- Numbers that rise are no more than the sum of what each of them weighs.
-use Rattle.std.proofs.Common.{ℕ, suc, ◌≡◌, ◌≢◌, ◌<◌, ◌≤◌, ◌+◌, List, [], ◌∷◌, length, get_or, refl, arith, ◌==◌, if◌then◌else◌, All}
-use Rattle.std.specs.List.{AllPairs}
-use Rattle.std.proofs.lemmas.Bool.{cond-true, cond-false, eq-eqb, ne_eqb}
+use Rattle.std.proofs.Common.{ℕ, suc, ◌≡◌, ◌≢◌, ◌<◌, ◌≤◌, ◌+◌, List, [], ◌∷◌, length, get_or, refl, arith, ◌==◌, if◌then◌else◌, All, AllPairs, eq-eqb, ne_eqb}
+use Rattle.std.proofs.lemmas.Bool.{cond-true, cond-false}
 use Rattle.std.proofs.lemmas.List.Kept.{AllPairs-from_increasing}
 use Rattle.pool_model.specs.Legal.{AtMost}
 use Rattle.sound_state.specs.Sums.{sum_below}
 use Rattle.sound_state.proofs.shared.SumLemmas.{sum-change}
 
--- where each number of the list weighs something, the list is no longer than the sum
+-- a list of rising numbers that each weigh something is no longer than the sum of the weights
 rising-most :
     (n : ℕ) (h : ℕ → ℕ) (ks : List ℕ) → AllPairs (λ a b. a < b) ks → All (λ k. (k < n) × (1 ≤ h k)) ks → length ks ≤ sum_below n h
 rising-most n h [] up all = omega arith
@@ -28,7 +27,7 @@ rising-most n h (k ∷ ks) up all =
     (there.0, omega (arith, still, there.1))) in
     omega (arith, changed, here, fewer, first.1)
 
--- so at most so many have a property as what those that have it weigh together
+-- at most so many numbers have a property as those that have it weigh together
 pub at_most-sum :
     (most bound : ℕ) (h : ℕ → ℕ) (P : ℕ → Type 0) → ((k : ℕ) → k < bound → P k → 1 ≤ h k) → sum_below bound h ≤ most
     → AtMost most bound P

@@ -1,23 +1,20 @@
 -- A bare frame weighs something: it is in a caller's hand, or a block of it is reserved.
 use Rattle.std.proofs.Common.{ℕ, Bool, true, Option, Some, None, ◌≡◌, ◌<◌, ◌≤◌, ◌+◌, [], refl, sym, ◌∙◌, ap, subst, arith, inl, inr, ◌==◌, ◌&&◌, if◌then◌else◌, All}
-use Rattle.std.proofs.lemmas.Bool.{cases_eq, cond-false, ne_eqb}
+use Rattle.std.proofs.Common.{ne_eqb}
+use Rattle.std.proofs.lemmas.Bool.{cases_eq, cond-false}
 use Rattle.std.proofs.lemmas.List.Elements.{All-head}
-use Rattle.sound_state.proofs.Common.{Geometry, Need, Small, block_count_of, block_place, frame_of, frame_of-block_place, ActiveWord, Null, Held, active_of}
-use Rattle.sound_state.proofs.Common.{WordName, Site, descriptor_count, occurs, new_credits, BlockPoint, Share, block_at, pool_of, place-found, Point, FitsPoint}
-use Rattle.sound_state.proofs.Common.{State, fills_frame, errand_frames, waiting, holds_before_pop, holds_of, Lists, IsSo, IsOwned, IsLocated, recalls_of}
-use Rattle.sound_state.proofs.Common.{bound_here, bound_at, IsSoundWith, sum_below, words_sum, callers_sum, Superblock, IsChained, superblock_of, free_chain}
-use Rattle.sound_state.proofs.Common.{live_at, is_there, info_for, is_bound, waiting_of, reserved_of, word_reserves, reserved_among, errand_reserves, kept_among}
-use Rattle.sound_state.proofs.Common.{errand_keeps}
+use Rattle.sound_state.proofs.Common.{Geometry, Need, Small, block_count_of, block_place, frame_of, frame_of-block_place, ActiveWord, Null, Held, active_of, WordName}
+use Rattle.sound_state.proofs.Common.{Site, descriptor_count, occurs, new_credits, BlockPoint, Share, block_at, pool_of, place-found, Point, FitsPoint, State}
+use Rattle.sound_state.proofs.Common.{fills_frame, errand_frames, waiting, holds_before_pop, holds_of, Lists, IsSo, IsOwned, IsLocated, recalls_of, bound_here}
+use Rattle.sound_state.proofs.Common.{IsSoundWith, sum_below, words_sum, callers_sum, Superblock, IsChained, superblock_of, free_chain, live_at, is_there, info_for}
+use Rattle.sound_state.proofs.Common.{is_bound, waiting_of, reserved_of, word_reserves, reserved_among, errand_reserves, kept_among, errand_keeps, FitsBlock, keep}
+use Rattle.sound_state.proofs.Common.{reserve, block_handed, block_holds, block_recalls, offered}
 use Rattle.word_table.specs.declared.name.WordName.TheVariants as name
 use Rattle.superblock_parts.specs.declared.point.BlockPoint.TheVariants as block
-use Rattle.superblock_parts.specs.Points.{FitsBlock}
 use Rattle.superblock_parts.proofs.ChainLemmas.{chain_of-length}
 use Rattle.pool_model.specs.Pool.{Block}
 use Rattle.pool_model.specs.Legal.{IsBare}
 use Rattle.errand_steps.specs.declared.point.Point.TheVariants as point
-use Rattle.sound_state.specs.Holdings.{keep, reserve, block_handed, block_holds}
-use Rattle.sound_state.specs.Recalls.{block_recalls}
-use Rattle.sound_state.specs.Superblocks.{offered}
 use Rattle.sound_state.proofs.counts.BareWeights.{popping, popping_block, popping_fills, errand_weighs, held_fills, word_weighs, frame_weighs}
 use Rattle.sound_state.proofs.shared.PointLemmas.{fits-at}
 use Rattle.sound_state.proofs.shared.WeightSums.{words-some, callers-least}
@@ -54,13 +51,13 @@ some-reserved b chained none unlive =
       chained.some,
     )
 
--- what it is to fill a frame
+-- a superblock that fills a frame is bound, doesn't wait, and lies there
 fills-is :
     (bound : Bool) (waits there f : ℕ) → 0 < (if bound && (waits == 0) && (there == f) then 1 else 0)
     → (bound ≡ true) × (waits ≡ 0) × (there ≡ f)
 fills-is bound waits there f fills_frame = grind (arith, fills_frame)
 
--- so a superblock that fills_frame a bare frame has a reserved block
+-- a superblock that fills a bare frame has a reserved block
 pub bare-reserved :
     (g : Geometry) (s : State) (l : Lists) (f d : ℕ) → IsSoundWith g s l → IsBare (pool_of s.history) f → d < descriptor_count g
     → 0 < fills_frame g s l f d → 1 ≤ reserved_of g s d
@@ -69,7 +66,7 @@ bare-reserved g s l f d sound bare has filled =
     some-reserved (superblock_of g s d) (sound.chained.chained d has is.0) is.1
     (λ i lt. subst (λ k. live_at s (block_place k (info_for s d).class i) ≡ 0) (sym is.2) (dead s f (info_for s d).class i bare lt))
 
--- an active word that offers blocks of it
+-- an active word that offers blocks of a superblock weighs in the frame that this fills
 held-weighs :
     (g : Geometry) (s : State) (l : Lists) (f d : ℕ) (o : Option ActiveWord) → 0 < offered d o → 0 < fills_frame g s l f d
     → 0 < held_fills g s l f o
@@ -93,18 +90,18 @@ words-offer-weighs :
 words-offer-weighs g s l f d some filled =
     words-some g (word_reserves d) (word_weighs g s l f) s.word (λ m here. word-offers-weighs g s l f d m (s.word m) here filled) some
 
--- a caller that has reserved blocks of it is about to pop one
+-- a caller before a pop that has reserved blocks of a superblock is about to pop one of it
 before-pop :
     (g : Geometry) (s : State) (l : Lists) (f d e class : ℕ) (share : Share) → 0 < fills_frame g s l f d
     → 0 < reserved_among d (holds_before_pop e class share).credits → 0 < fills_frame g s l f e
 before-pop g s l f d e class share filled some =
     let same : e ≡ d = grind (arith, some) in subst (λ k. 0 < fills_frame g s l f k) (sym same) filled
 
--- reserved blocks are of the one descriptor
+-- the one descriptor of which blocks are reserved is d, where blocks of d are
 reserved-of : (d e blocks : ℕ) → 0 < reserved_among d (reserve e blocks) → e ≡ d
 reserved-of d e blocks some = grind (arith, some)
 
--- after a pop it would hand out a block of the frame
+-- no caller owns a block in a bare frame, so none has popped one there
 live-there :
     (s : State) (caller f i : ℕ) (at : Site) (n : Need) → IsBare (pool_of s.history) f → at.frame ≡ f → i < block_count_of at.seat.class
     → IsOwned s caller (block_place at.frame at.seat.class i) n → ⊥
@@ -120,16 +117,16 @@ after-pop :
     → 0 < reserved_among d (reserve at.desc more) → ⊥
 after-pop g s l caller f d i more at bare lies within so hands some =
     let same : at.desc ≡ d = reserved-of d at.desc more some in
-    let located : IsLocated s at.desc at.frame at.seat.class = (All-head (IsSo g s l caller) (bound_at at.desc at.frame at.seat.class) [] so).1 in
+    let located : IsLocated s at.desc at.frame at.seat.class = (All-head (IsSo g s l caller) _ [] so).1 in
     let there : at.frame ≡ f = sym located.frame ∙ ap (λ k. (info_for s k).frame) same ∙ lies in
     live-there s caller f i at (Small at.seat.class) bare there within
     (All-head (λ x. IsOwned s caller x.place x.need) (record { place = block_place at.frame at.seat.class i; need = Small at.seat.class }) [] hands)
 
--- and a new superblock that waits doesn't fill its frame
+-- a new superblock that waits doesn't fill its frame
 installs-waits : (d e blocks class : ℕ) → 0 < reserved_among d (reserve e blocks) → kept_among waiting d (keep e class waiting) ≡ 0 → ⊥
 installs-waits d e blocks class some none = grind (arith, some, none)
 
--- what a sound state says of a caller at a point, where the superblock of d fills_frame the bare frame
+-- what a sound state says of a caller at a point, where the superblock of d fills the bare frame
 record Beside (g : Geometry) (s : State) (l : Lists) (caller f d : ℕ) : Type 0 where
   bare : IsBare (pool_of s.history) f
   filled : 0 < fills_frame g s l f d
@@ -154,7 +151,7 @@ block-pops g s l caller f d (block.InstallSuperblock at) b fits so hands none so
     absurd (installs-waits d at.desc (new_credits at.seat.class + 1) at.seat.class some none)
 block-pops g s l caller f d p b fits so hands none some = absurd (omega (arith, some))
 
--- nothing is reserved anywhere else
+-- a caller at any point that has reserved a block of a bare frame's superblock is about to pop it
 point-pops :
     (g : Geometry) (s : State) (l : Lists) (caller f d : ℕ) (p : Point) → Beside g s l caller f d → FitsPoint g caller p
     → All (IsSo g s l caller) (recalls_of p) → All (λ x. IsOwned s caller x.place x.need) (holds_of p).hands
@@ -163,7 +160,7 @@ unfolding holds_of recalls_of
 point-pops g s l caller f d (point.Block p o) b fits so hands none some = block-pops g s l caller f d p b fits.point so hands none some
 point-pops g s l caller f d p b fits so hands none some = absurd (grind (arith, some))
 
--- so callers that have reserved blocks of it weigh something
+-- callers that have reserved blocks of a superblock in a bare frame weigh something
 callers-pop :
     (g : Geometry) (s : State) (l : Lists) (f d : ℕ) → IsSoundWith g s l → IsBare (pool_of s.history) f → 0 < fills_frame g s l f d
     → 0 < callers_sum g (errand_reserves d) s.errand → 0 < callers_sum g (errand_weighs g s l f) s.errand
@@ -178,7 +175,7 @@ callers-pop g s l f d sound bare filled some =
     (fits-at g s l i (s.errand i).point sound has refl) (sound.remembered.so i has) (sound.tied.hands i has) none here in
     omega (arith, pops, term-sum g.callers (λ caller. errand_weighs g s l f (s.errand caller)) i has)
 
--- a frame that is filled, and bare
+-- a bare frame that a superblock fills weighs something
 filled-weighs :
     (g : Geometry) (s : State) (l : Lists) (f d : ℕ) → IsSoundWith g s l → IsBare (pool_of s.history) f → d < descriptor_count g
     → 0 < fills_frame g s l f d → 1 ≤ frame_weighs g s l f
@@ -189,13 +186,13 @@ filled-weighs g s l f d sound bare has filled =
       | inr offers ↦ omega (arith, words-offer-weighs g s l f d (omega (arith, offers)) filled)
     ]
 
--- a caller that has the frame in its hand
+-- a frame weighs at least what callers have of it in their hands
 in-hand-weighs :
     (g : Geometry) (s : State) (l : Lists) (f : ℕ)
     → callers_sum g (errand_frames f) s.errand ≤ callers_sum g (errand_weighs g s l f) s.errand
 in-hand-weighs g s l f = callers-least g (errand_frames f) (errand_weighs g s l f) s.errand (λ e. omega arith)
 
--- where no frame is on the stack, each bare frame weighs something
+-- each bare frame weighs something, where no frame is on the stack
 pub bare-weighs :
     (g : Geometry) (s : State) (l : Lists) (f : ℕ) → IsSoundWith g s l → l.frames ≡ [] → f < g.frames → IsBare (pool_of s.history) f
     → 1 ≤ frame_weighs g s l f

@@ -6,7 +6,7 @@ use Rattle.sound_state.proofs.counts.AtMostLemmas.{at_most-sum}
 use Rattle.sound_state.proofs.counts.BareFrames.{bare-weighs}
 use Rattle.sound_state.proofs.counts.BareWeights.{frame_weighs, frames-weigh}
 
--- where no frame is on the stack, and a caller has neither a frame nor a reserved block, few frames are bare
+-- few frames are bare where none is on the stack, and a caller has neither a frame nor a reserved block
 pub refusal-counted :
     (g : Geometry) (s : State) (l : Lists) (caller : ℕ) → IsSoundWith g s l → caller < g.callers → l.frames ≡ []
     → (holds_of (s.errand caller).point).frames ≡ [] → (holds_of (s.errand caller).point).credits ≡ [] → IsCrowded g (pool_of s.history)

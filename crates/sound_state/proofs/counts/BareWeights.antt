@@ -1,18 +1,17 @@
 -- What a frame weighs: the callers that have it in their hands or are about to pop a block of it, and the active words that offer blocks of it.
-use Rattle.std.proofs.Common.{ℕ, Bool, Option, Some, None, ◌≡◌, ◌<◌, ◌≤◌, ◌+◌, ◌*◌, [], length, refl, ap, arith, ◌==◌, ◌&&◌, ◌-◌, if◌then◌else◌}
-use Rattle.std.proofs.lemmas.Bool.{cond-true, eq-eqb}
+use Rattle.std.proofs.Common.{ℕ, Bool, Option, Some, None, ◌≡◌, ◌<◌, ◌≤◌, ◌+◌, ◌*◌, [], length, refl, ap, arith, ◌==◌, ◌&&◌, ◌-◌, if◌then◌else◌, eq-eqb}
+use Rattle.std.proofs.lemmas.Bool.{cond-true}
 use Rattle.sound_state.proofs.Common.{Geometry, CLASSES, ActiveWord, Null, Held, active_of, WordName, word_count, Exists, word_name, occurs, BlockPoint, Point}
 use Rattle.sound_state.proofs.Common.{ErrandFields, State, fills_frame, errand_frames, holds_of, Lists, sum_below, words_sum, callers_sum, info_for, is_bound}
-use Rattle.sound_state.proofs.Common.{waiting_of}
+use Rattle.sound_state.proofs.Common.{waiting_of, word_name-Exists}
 use Rattle.word_table.specs.declared.name.WordName.TheVariants as name
-use Rattle.word_table.proofs.TableLemmas.{word_name-Exists}
 use Rattle.superblock_parts.specs.declared.point.BlockPoint.TheVariants as block
 use Rattle.errand_steps.specs.declared.point.Point.TheVariants as point
 use Rattle.sound_state.proofs.shared.HeapNames.{active_one, actives-most}
 use Rattle.sound_state.proofs.shared.WeightSums.{words-together, callers-together}
 use Rattle.sound_state.proofs.shared.SumLemmas.{sum-none, sum-plus, sum-most, sum-least, sum-swap, sum-once, sum-occurs, term-sum}
 
--- the descriptor of which a caller is about to pop a block
+-- the descriptor of which a caller at the point is about to pop a block, if any
 abbrev pub popping_block : BlockPoint → Option ℕ
 popping_block (block.LoadInfo s d share) = Some d
 popping_block (block.LoadAnchor at share) = Some at.desc
@@ -24,7 +23,7 @@ abbrev pub popping : Point → Option ℕ
 popping (point.Block p o) = popping_block p
 popping p = None
 
--- 1 where its superblock fills_frame the frame
+-- 1 where its superblock fills the frame
 abbrev pub popping_fills : Geometry → State → Lists → ℕ → Option ℕ → ℕ
 popping_fills g s l f None = 0
 popping_fills g s l f (Some d) = fills_frame g s l f d
@@ -33,7 +32,7 @@ popping_fills g s l f (Some d) = fills_frame g s l f d
 abbrev pub errand_weighs : Geometry → State → Lists → ℕ → ErrandFields → ℕ
 errand_weighs g s l f e = errand_frames f e + popping_fills g s l f (popping e.point)
 
--- 1 where an active word holds the superblock that fills_frame the frame
+-- 1 where an active word holds the superblock that fills the frame
 abbrev pub held_fills : Geometry → State → Lists → ℕ → Option ActiveWord → ℕ
 held_fills g s l f None = 0
 held_fills g s l f (Some Null) = 0
@@ -43,11 +42,11 @@ abbrev pub word_weighs : Geometry → State → Lists → ℕ → WordName → �
 word_weighs g s l f (name.Active heap class) word = held_fills g s l f (active_of word)
 word_weighs g s l f other word = 0
 
--- what the frame weighs
+-- what a frame weighs, in active words and callers together
 abbrev pub frame_weighs : Geometry → State → Lists → ℕ → ℕ
 frame_weighs g s l f = callers_sum g (errand_weighs g s l f) s.errand + words_sum g (word_weighs g s l f) s.word
 
--- a superblock fills_frame one frame at most
+-- a superblock fills one frame at most
 fills-there : (a b : Bool) (x f : ℕ) → (if a && b && (x == f) then 1 else 0) ≤ (if x == f then 1 else 0)
 fills-there a b x f = grind (arith)
 
@@ -60,7 +59,7 @@ fills-once g s l d n =
       sum-once n (info_for s d).frame,
     )
 
--- so does an active word
+-- an active word weighs in one frame at most
 abbrev any_active : WordName → ℕ
 any_active (name.Active heap class) = 1
 any_active other = 0
@@ -79,7 +78,7 @@ word-weighs-once :
 word-weighs-once g s l n (name.Active heap class) word = held-fills-once g s l n (active_of word)
 word-weighs-once g s l n m word = nothing-fills n
 
--- each heap has one active word of each class
+-- each active word is one of some class
 any-class : (g : Geometry) (m : WordName) → Exists g m → any_active m ≤ sum_below CLASSES (λ class. active_one class m)
 any-class g (name.Active heap class) exists =
     omega (
@@ -99,7 +98,7 @@ all-actives g =
       sum-most CLASSES (λ class. sum_below (word_count g) (λ k. active_one class (word_name g k))) g.heaps (λ class lt. actives-most g class),
     )
 
--- so all frames weigh no more than that in active words
+-- all frames weigh no more in active words than there are active words
 words-weigh-most :
     (g : Geometry) (s : State) (l : Lists) (n : ℕ) → sum_below n (λ f. words_sum g (word_weighs g s l f) s.word) ≤ g.heaps * CLASSES
 words-weigh-most g s l n =
@@ -122,7 +121,7 @@ one-point : (p : Point) → length (holds_of p).frames + pop_one (popping p) ≤
 unfolding holds_of
 one-point p = grind (arith)
 
--- so all frames weigh at most one in a caller
+-- all frames weigh at most one in a caller
 popping-once : (g : Geometry) (s : State) (l : Lists) (n : ℕ) (o : Option ℕ) → sum_below n (λ f. popping_fills g s l f o) ≤ pop_one o
 popping-once g s l n None = nothing-fills n
 popping-once g s l n (Some d) = fills-once g s l d n
@@ -138,7 +137,7 @@ caller-weighs g s l n e =
       popping-once g s l n (popping e.point),
     )
 
--- and none in one that has neither a frame nor a reserved block
+-- all frames weigh in the callers one fewer than these are, where one has neither a frame nor a reserved block
 callers-weigh-most :
     (g : Geometry) (s : State) (l : Lists) (n caller : ℕ) → caller < g.callers → (holds_of (s.errand caller).point).frames ≡ []
     → (holds_of (s.errand caller).point).credits ≡ [] → sum_below n (λ f. callers_sum g (errand_weighs g s l f) s.errand) + 1 ≤ g.callers
@@ -156,7 +155,7 @@ callers-weigh-most g s l n caller has no_frame no_credit =
           (λ e. omega (arith, caller-weighs g s l n e, one-point e.point)),
     )
 
--- all frames together
+-- all frames weigh no more together than active words and callers, but one
 pub frames-weigh :
     (g : Geometry) (s : State) (l : Lists) (caller : ℕ) → caller < g.callers → (holds_of (s.errand caller).point).frames ≡ []
     → (holds_of (s.errand caller).point).credits ≡ [] → sum_below g.frames (frame_weighs g s l) ≤ g.heaps * CLASSES + g.callers - 1

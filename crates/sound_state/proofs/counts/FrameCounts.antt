@@ -1,12 +1,12 @@
 -- Frames that descriptors stand for are no more than what the descriptors weigh together.
-use Rattle.std.proofs.Common.{ℕ, zero, suc, ◌≡◌, ◌<◌, ◌≤◌, arith, inl, inr, ◌==◌, if◌then◌else◌}
-use Rattle.std.proofs.lemmas.Bool.{cases_eq, cond-true, cond-false, eq-eqb, ne_eqb}
+use Rattle.std.proofs.Common.{ℕ, zero, suc, ◌≡◌, ◌<◌, ◌≤◌, arith, inl, inr, ◌==◌, if◌then◌else◌, eq-eqb, ne_eqb}
+use Rattle.std.proofs.lemmas.Bool.{cases_eq, cond-true, cond-false}
 use Rattle.pool_model.specs.Legal.{AtMost}
 use Rattle.sound_state.specs.Sums.{sum_below}
 use Rattle.sound_state.proofs.counts.AtMostLemmas.{at_most-sum}
 use Rattle.sound_state.proofs.shared.SumLemmas.{sum-none, sum-least, sum-swap, term-sum}
 
--- what a number weighs counts for the one frame that it stands for
+-- what a number weighs counts in at most the one frame for which it stands
 placed-most : (n x w : ℕ) → sum_below n (λ f. if x == f then w else 0) ≤ w
 placed-most zero x w = omega arith
 placed-most (suc n) x w =

@@ -1,11 +1,10 @@
 -- How often descriptors are near a class: in its active words and slots, and at the callers.
-use Rattle.std.proofs.Common.{ℕ, true, false, ◌≡◌, ◌<◌, ◌≤◌, ◌+◌, ◌*◌, List, [], ◌∷◌, length, refl, ap, arith, inl, inr, ◌==◌, ◌-◌, if◌then◌else◌}
-use Rattle.std.proofs.lemmas.Bool.{cases_eq, eq-eqb, ne_eqb}
+use Rattle.std.proofs.Common.{ℕ, true, false, ◌≡◌, ◌<◌, ◌≤◌, ◌+◌, ◌*◌, List, [], ◌∷◌, length, refl, ap, arith, inl, inr, ◌==◌, ◌-◌, if◌then◌else◌, eq-eqb, ne_eqb}
+use Rattle.std.proofs.lemmas.Bool.{cases_eq}
 use Rattle.sound_state.proofs.Common.{Geometry, active_of, WordName, descriptor_count, word_count, word_name, Point, ErrandFields, State, Kept, Holding, holds_of}
-use Rattle.sound_state.proofs.Common.{sum_below, words_sum, callers_sum}
+use Rattle.sound_state.proofs.Common.{sum_below, words_sum, callers_sum, active_keeps}
 use Rattle.word_table.specs.declared.name.WordName.TheVariants as name
 use Rattle.sound_state.specs.Holdings.{Reserved}
-use Rattle.sound_state.specs.Keepers.{active_keeps}
 use Rattle.sound_state.proofs.shared.HeapNames.{active_one, slot_one, actives-most, slots-most}
 use Rattle.sound_state.proofs.shared.StockLemmas.{active-one, slot-once}
 use Rattle.sound_state.proofs.shared.KeptCounts.{named_among, named-most}
@@ -50,7 +49,7 @@ word-nears-once n class (name.Active heap c) word =
 word-nears-once n class (name.Slot heap c) word = omega (arith, of-class-once n class c (λ d. if word == d + 1 then 1 else 0) (slot-once n word))
 word-nears-once n class w word = omega (arith, sum-none n (λ d. 0) (λ d lt. refl))
 
--- so the words of the class hold two descriptors a heap
+-- the words of a class hold two descriptors a heap at most
 words-near-most :
     (g : Geometry) (n class : ℕ) (words : WordName → ℕ) → sum_below n (λ d. words_sum g (class_keeps class d) words) ≤ 2 * g.heaps
 words-near-most g n class words =
@@ -75,7 +74,7 @@ credited-most n (r ∷ rs) =
       credited-most n rs,
     )
 
--- how many a caller keeps and has reserved blocks of: two at most
+-- how many descriptors a caller keeps and has reserved blocks of
 abbrev held_count : Holding → ℕ
 held_count h = length h.kept + length h.credits
 
@@ -93,7 +92,7 @@ caller-most n e =
       credited-most n h.credits,
     )
 
--- so the callers have two each, where one has none two fewer
+-- the callers keep two descriptors each at most, and two fewer where one of them has none
 callers-near-most :
     (g : Geometry) (n : ℕ) (errands : ℕ → ErrandFields) (caller : ℕ) → caller < g.callers → (holds_of (errands caller).point).kept ≡ []
     → (holds_of (errands caller).point).credits ≡ [] → sum_below n (λ d. callers_sum g (errand_nears d) errands) + 2 ≤ g.callers * 2

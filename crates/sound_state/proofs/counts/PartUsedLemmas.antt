@@ -1,19 +1,16 @@
 -- A look finds few part-used frames: each is a superblock's that is near the class.
-use Rattle.std.proofs.Common.{ℕ, zero, suc, Option, Some, None, ◌≡◌, ◌<◌, ◌≤◌, ◌+◌, List, [], ◌∷◌, refl, sym, subst, ◌∙◌, ap, arith, inl, inr, ◌⊎◌}
-use Rattle.std.specs.Prelude.{◌==◌, if◌then◌else◌, IsTrue}
-use Rattle.std.proofs.lemmas.Bool.{cases_eq, cond-true, cond-false, eq-eqb, ne_eqb}
+use Rattle.std.proofs.Common.{ℕ, zero, suc, Option, Some, None, ◌≡◌, ◌<◌, ◌≤◌, ◌+◌, List, [], ◌∷◌, refl, sym, subst, ◌∙◌, ap, arith, inl, inr, ◌⊎◌, ◌==◌, if◌then◌else◌}
+use Rattle.std.proofs.Common.{IsTrue, eq-eqb, ne_eqb}
+use Rattle.std.proofs.lemmas.Bool.{cases_eq, cond-true, cond-false}
 use Rattle.sound_state.proofs.Common.{Geometry, CLASSES, block_count_of, block_place, ActiveWord, Null, Held, active_of, WordName, descriptor_count, Exists, occurs}
-use Rattle.sound_state.proofs.Common.{block_at, pool_of, ErrandFields, State, waiting, holds_of, word_keeps, full_keeps, errand_has, IsPartlyUsed, Lists}
-use Rattle.sound_state.proofs.Common.{IsSoundWith, sum_below, words_sum, callers_sum, Superblock, superblock_of, is_there, anchor_for, info_for, word_reserves}
-use Rattle.sound_state.proofs.Common.{reserved_among, errand_reserves, reserved_of, errand_keeps, errand_away, waiting_of, is_bound}
+use Rattle.sound_state.proofs.Common.{block_at, pool_of, ErrandFields, State, waiting, holds_of, word_keeps, full_keeps, errand_has, IsPartlyUsed, Lists, IsSoundWith}
+use Rattle.sound_state.proofs.Common.{sum_below, words_sum, callers_sum, Superblock, superblock_of, is_there, anchor_for, info_for, word_reserves, reserved_among}
+use Rattle.sound_state.proofs.Common.{errand_reserves, reserved_of, errand_keeps, errand_away, waiting_of, is_bound, chain_of, active_keeps, held_back, offered}
 use Rattle.packed_words.specs.declared.anchor.AnchorState.{AnchorState as Phase}
 use Rattle.packed_words.specs.declared.anchor.AnchorState.TheVariants as phase
 use Rattle.word_table.specs.declared.name.WordName.TheVariants as name
-use Rattle.superblock_parts.specs.Chains.{chain_of}
 use Rattle.pool_model.specs.Legal.{IsPartUsed, IsWorn}
 use Rattle.sound_state.specs.Holdings.{Reserved}
-use Rattle.sound_state.specs.Keepers.{active_keeps}
-use Rattle.sound_state.specs.Superblocks.{held_back, offered}
 use Rattle.sound_state.proofs.counts.FrameCounts.{frames-most}
 use Rattle.sound_state.proofs.counts.NearCounts.{class_keeps, credited_among, errand_nears, near_of, near-most}
 use Rattle.sound_state.proofs.shared.HasLemmas.{bound-away}
@@ -22,7 +19,7 @@ use Rattle.sound_state.proofs.shared.ListFacts.{occurring-all}
 use Rattle.sound_state.proofs.shared.WeightSums.{words-least, words-some, callers-least, callers-some}
 use Rattle.sound_state.proofs.shared.SumLemmas.{sum-none, sum-plus, sum-least}
 
--- a superblock's active word or slot is one of its class
+-- an active word or slot that holds a superblock is one of its class
 active-held : (d : ℕ) (o : Option ActiveWord) → (active_keeps d o ≡ 0) ⊎ ((credits : ℕ) × (o ≡ Some (Held d credits)))
 active-held d None = inl refl
 active-held d (Some Null) = inl refl
@@ -70,7 +67,7 @@ word-offers-kept d n word some = absurd (omega (arith, some))
 words-offer-kept : (g : Geometry) (d : ℕ) (words : WordName → ℕ) → 0 < words_sum g (word_reserves d) words → 1 ≤ words_sum g (word_keeps d) words
 words-offer-kept g d words some = words-some g (word_reserves d) (word_keeps d) words (λ n. word-offers-kept d n (words n)) some
 
--- a caller that has reserved blocks of d is near
+-- a caller that has reserved blocks of d is near it
 credits-near : (d : ℕ) (rs : List Reserved) → 0 < reserved_among d rs → 1 ≤ credited_among d rs
 credits-near d [] some = absurd (omega (arith, some))
 credits-near d (r ∷ rs) some =
@@ -86,7 +83,7 @@ callers-reserve :
 callers-reserve g d errands some =
     callers-some g (errand_reserves d) (errand_nears d) errands (λ e here. omega (arith, credits-near d (holds_of e.point).credits here)) some
 
--- so is one that keeps d, but on its way
+-- a descriptor whose superblock waits at a caller is near
 callers-wait : (g : Geometry) (s : State) (d : ℕ) → waiting_of g s d ≤ callers_sum g (errand_nears d) s.errand
 callers-wait g s d =
     callers-least g (errand_keeps waiting d) (errand_nears d) s.errand (λ e. omega (arith, kept-named d (holds_of e.point).kept))
@@ -105,7 +102,7 @@ callers-keep g d errands =
           (λ i lt. omega (arith, kept-named d (holds_of (errands i).point).kept)),
     )
 
--- where the class's list is empty, a descriptor of the class is in none
+-- a descriptor of the class is in no list, where the class's list is empty
 unlisted :
     (g : Geometry) (s : State) (l : Lists) (class d : ℕ) → IsSoundWith g s l → l.partials class ≡ [] → (info_for s d).class ≡ class
     → sum_below CLASSES (λ c. occurs d (l.partials c)) ≡ 0
@@ -133,7 +130,7 @@ some-chain next (suc k) a i some = omega arith
 some-held : (b : Superblock) (i : ℕ) → held_back b i ≤ b.waiting
 some-held b i = grind (arith)
 
--- so a superblock of the class with a block that isn't live is near
+-- a superblock of the class with a block that isn't live is near, where the class's list is empty
 pub unlive-near :
     (g : Geometry) (s : State) (l : Lists) (class d i : ℕ) → IsSoundWith g s l → l.partials class ≡ [] → d < descriptor_count g
     → IsTrue (is_bound g s l d) → (info_for s d).class ≡ class → i < block_count_of class → (superblock_of g s d).live i ≡ 0
@@ -183,7 +180,7 @@ part-near g s l class f sound bare part =
     let unlive : (superblock_of g s d).live part.index ≡ 0 = ap (λ p. is_there (block_at p (pool_of s.history))) place ∙ ap is_there part.free in
     (d, of_desc.exists, unlive-near g s l class d part.index sound bare of_desc.exists of_desc.bound is part.in_frame unlive, here)
 
--- so a look finds few: two for each heap and each other caller
+-- a look finds few part-used frames: two for each heap and each other caller
 pub look-counted :
     (g : Geometry) (s : State) (l : Lists) (caller class : ℕ) → IsSoundWith g s l → caller < g.callers → class < CLASSES → l.partials class ≡ []
     → (holds_of (s.errand caller).point).kept ≡ [] → (holds_of (s.errand caller).point).credits ≡ [] → IsWorn g (pool_of s.history) class

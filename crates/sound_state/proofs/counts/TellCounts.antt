@@ -1,38 +1,31 @@
 -- Which steps tell a look or a refusal; each of these has its number where what it stands on has it.
-use Rattle.std.proofs.Common.{ℕ, Bool, true, false, Option, Some, None, ◌≡◌, ◌<◌, [], refl, sym, arith, ap, subst, ◌∙◌, ◌==◌, if◌then◌else◌, IsTrue}
-use Rattle.std.proofs.lemmas.Bool.{eqb-true}
+use Rattle.std.proofs.Common.{ℕ, Bool, true, false, Option, Some, None, ◌≡◌, ◌<◌, [], refl, sym, arith, ap, subst, ◌∙◌, ◌==◌, if◌then◌else◌, IsTrue, eqb-true}
 use Rattle.std.proofs.lemmas.Option.{none-some}
 use Rattle.sound_state.proofs.Common.{Geometry, CLASSES, Need, Small, need_of, HeadFields, head_of, SeatFields, BlockPoint, Pile, Frames, Partials, StackPoint}
-use Rattle.sound_state.proofs.Common.{head_name, next_in, LargePoint, Event, pool_of, Continuation, Point, event_of, FitsPoint, asked, plan_point_of, State}
-use Rattle.sound_state.proofs.Common.{found_at, Holding, holds_of, Lists, IsSoundWith}
-use Rattle.heap_geometry.specs.declared.need.Need.TheVariants.{Large, TooLarge}
-use Rattle.packed_words.specs.Head.{IsHead, head_word}
-use Rattle.packed_words.proofs.HeadLemmas.{head_of-head_word}
+use Rattle.sound_state.proofs.Common.{head_name, next_in, LargePoint, Event, pool_of, Continuation, Point, event_of, FitsPoint, asked, plan_point_of, State, found_at}
+use Rattle.sound_state.proofs.Common.{Holding, holds_of, Lists, IsSoundWith, TooLarge, IsHead, head_word, head_of-head_word, first_wanted, WantFields, Pool}
+use Rattle.sound_state.proofs.Common.{FitsInStack, IsRunFor, confirms, stack_holds, continuation_holds}
+use Rattle.heap_geometry.specs.declared.need.Need.TheVariants.{Large}
 use Rattle.word_table.specs.declared.name.WordName.TheVariants as name
 use Rattle.stack_parts.specs.declared.point.StackPoint.TheVariants as stack
 use Rattle.stack_parts.specs.Points.{IsBare}
 use Rattle.large_parts.specs.declared.point.LargePoint.TheVariants as large
-use Rattle.large_parts.specs.Points.{first_wanted}
-use Rattle.large_parts.specs.Runs.{WantFields}
 use Rattle.pool_model.specs.Legal.{IsCounted, IsCountedFor, IsCrowded, IsWorn}
-use Rattle.pool_model.specs.Pool.{Pool}
 use Rattle.errand_steps.specs.declared.continuation.Continuation.TheVariants as continuation
 use Rattle.errand_steps.specs.declared.point.Point.TheVariants as point
 use Rattle.errand_steps.specs.Events.{won_event, block_event, stack_event, empty_event, large_event, run_event}
-use Rattle.errand_steps.specs.Fits.{FitsInStack}
-use Rattle.errand_steps.specs.Continuations.{GoesLarge, IsRunFor, confirms}
-use Rattle.sound_state.specs.Holdings.{stack_holds, continuation_holds}
+use Rattle.errand_steps.specs.Continuations.{GoesLarge}
 use Rattle.sound_state.specs.Sound.{TellsCounted}
 use Rattle.sound_state.proofs.shared.PointLemmas.{fits-at}
 use Rattle.sound_state.proofs.shared.StackedLemmas.{stacked-none}
 use Rattle.sound_state.proofs.shared.StepLemmas.{found_from}
 
--- an event has its number, if there is one
+-- the event, if there is one, has its number
 abbrev HasCount : Geometry → Pool → Option Event → Type 0
 HasCount g pool None = Unit {0}
 HasCount g pool (Some e) = IsCounted g pool e
 
--- what a look and a refusal stand on: the list or the stack is empty, and the caller holds nothing of the kind
+-- a look has its number where the class's list is empty and nothing is held; a refusal where no frame is left or held
 abbrev LooksWorn : Geometry → State → Lists → Holding → Type 0
 LooksWorn g s l h =
     (class : ℕ) → class < CLASSES → l.partials class ≡ [] → h.kept ≡ [] → h.credits ≡ [] → IsWorn g (pool_of s.history) class
@@ -40,7 +33,7 @@ LooksWorn g s l h =
 abbrev RefusesCrowded : Geometry → State → Lists → Holding → Type 0
 RefusesCrowded g s l h = l.frames ≡ [] → h.frames ≡ [] → h.credits ≡ [] → IsCrowded g (pool_of s.history)
 
--- a head that is found again has the same top
+-- a head that is found again has the top that it had: none
 found-top : (word : ℕ) (h : HeadFields) → IsHead h → h.top ≡ 0 → (word == head_word h) ≡ true → (head_of word).top ≡ 0
 found-top word h head none won =
     ap (λ w. (head_of w).top) (eqb-true word (head_word h) won) ∙ ap (λ x. x.top) (head_of-head_word h head) ∙ none
@@ -49,7 +42,7 @@ found-top word h head none won =
 block-tells : (g : Geometry) (pool : Pool) (caller words : ℕ) (p : BlockPoint) → HasCount g pool (block_event caller words p)
 block-tells g pool caller words p = grind (arith)
 
--- at a large block only a refusal of a large need does
+-- a refusal at a large block is of a large need, and needs no count
 large-refuses : (g : Geometry) (pool : Pool) (units : ℕ) (o : Continuation) → IsRunFor units o → IsCountedFor g pool (need_of (asked o))
 large-refuses g pool units (continuation.Alloc words) goes = subst (IsCountedFor g pool) (sym goes) tt
 large-refuses g pool units o goes = absurd goes
@@ -64,7 +57,7 @@ large-tells : (g : Geometry) (pool : Pool) (caller : ℕ) (p : LargePoint) (o : 
 large-tells g pool caller (large.TakeRun w bits) o goes = run-tells g pool caller w o (first_wanted w bits) goes
 large-tells g pool caller p o goes = tt
 
--- a caller that confirms that there is no frame has neither a frame nor a reserved block; that there is no partial superblock, nothing
+-- a caller that confirms that no frame is left holds neither a frame nor a reserved block; that no superblock is listed, nothing
 no-frame : (seat : SeatFields) (o : Continuation) → (continuation_holds seat o).frames ≡ []
 no-frame seat o = grind (arith)
 
@@ -80,7 +73,7 @@ refuses g pool (Small class) crowded = crowded
 refuses g pool (Large units) crowded = tt
 refuses g pool TooLarge crowded = tt
 
--- at a stack, what confirms that it is empty
+-- what a confirmation that a stack is empty tells has its number
 confirms-tells :
     (g : Geometry) (s : State) (l : Lists) (caller : ℕ) (seat : SeatFields) (pile : Pile) (h : HeadFields) (o : Continuation) → IsSoundWith g s l
     → IsBare g caller seat h → IsTrue (confirms pile o) → LooksWorn g s l (continuation_holds seat o) → RefusesCrowded g s l (continuation_holds seat o)
@@ -106,7 +99,7 @@ stack-tells g s l caller (stack.ConfirmEmpty seat pile h) o sound fits worn crow
     confirms-tells g s l caller seat pile h o sound fits.point fits.goes worn crowded won
 stack-tells g s l caller p o sound fits worn crowded won = tt
 
--- at any point, where the action is not lost
+-- what a step at any point tells that isn't lost has its number
 point-tells :
     (g : Geometry) (s : State) (l : Lists) (caller : ℕ) (p : Point) → IsSoundWith g s l → FitsPoint g caller p
     → LooksWorn g s l (holds_of p) → RefusesCrowded g s l (holds_of p) → (found_from s p).won ≡ true
@@ -117,14 +110,14 @@ point-tells g s l caller (point.Stack p o) sound fits worn crowded won = stack-t
 point-tells g s l caller (point.Large p o) sound fits worn crowded won = large-tells g (pool_of s.history) caller p o fits.goes
 point-tells g s l caller p sound fits worn crowded won = tt
 
--- what is lost tells nothing
+-- a step that is lost tells nothing, and so has its number where a won one has it
 won-counts :
     (g : Geometry) (pool : Pool) (won : Bool) (told : Option Event) (e : Event) → (won ≡ true → HasCount g pool told)
     → (if won then told else None) ≡ Some e → IsCounted g pool e
 won-counts g pool true told e counts is = subst (HasCount g pool) is (counts refl)
 won-counts g pool false told e counts is = absurd (none-some e is)
 
--- so what a caller tells next has its number, where the two counts hold
+-- what a caller tells next has its number, where the two counts hold
 pub tells-counted :
     (g : Geometry) (s : State) (l : Lists) (caller : ℕ) → IsSoundWith g s l → caller < g.callers
     → ((class : ℕ) → class < CLASSES → l.partials class ≡ [] → (holds_of (s.errand caller).point).kept ≡ []

@@ -1,45 +1,41 @@
 -- A won push of a retired descriptor onto the available ones keeps the state sound.
 use Rattle.std.proofs.Common.{ℕ, Bool, true, false, None, Some, ◌≡◌, ◌<◌, ◌≤◌, ◌+◌, ◌^◌, List, [], ◌∷◌, zero, suc, length, refl, arith, ap, sym, subst, inl, inr, ◌∙◌}
-use Rattle.std.specs.Prelude.{◌==◌, not, All, Any, Contains, IsTrue, IfSome, if◌then◌else◌}
-use Rattle.std.proofs.lemmas.Bool.{cases_eq, cond-true, cond-false, eq-eqb, ne_eqb}
+use Rattle.std.proofs.Common.{◌==◌, not, All, Any, Contains, IsTrue, IfSome, if◌then◌else◌, eq-eqb, ne_eqb}
+use Rattle.std.proofs.lemmas.Bool.{cases_eq, cond-true, cond-false}
 use Rattle.std.proofs.lemmas.List.Elements.{All-nil, All-cons, All-head, All-tail}
 use Rattle.sound_state.proofs.Common.{Geometry, Found, name_of, after_action, descriptor_count, SeatFields, Writes, occurs, Partials, Stacked, next_in}
-use Rattle.sound_state.proofs.Common.{IsLegalWithoutCounts, Next, At, End, Unlist, Continuation, Point, Block, Desc, ErrandFields, settle_of, course_of, raised}
-use Rattle.sound_state.proofs.Common.{counts_lost, counts_cleared, event_of, spare_of, pushed_by, next_of, plan_point_of, State, Step, Moves, found_at, with_event}
-use Rattle.sound_state.proofs.Common.{name_at, IsGuard, IsHazard, passed_by, held_by, Kept, holds_of, IsWithout, IsKeptAs, Lists, IsSo, IsOwned, says, recalls_of}
-use Rattle.sound_state.proofs.Common.{IsSoundWithoutCounts, IsSoundWith, turn_stage_of, in_turn, is_unneeded, waits_in, one_if, pops_left}
+use Rattle.sound_state.proofs.Common.{Next, At, End, Unlist, Continuation, Point, Block, Desc, ErrandFields, settle_of, course_of, raised}
+use Rattle.sound_state.proofs.Common.{counts_lost, counts_cleared, event_of, spare_of, pushed_by, next_of, plan_point_of, State, Moves, found_at, with_event, name_at}
+use Rattle.sound_state.proofs.Common.{IsGuard, IsHazard, passed_by, held_by, Kept, holds_of, IsWithout, IsKeptAs, Lists, IsSo, IsOwned, recalls_of, IsSoundWith}
+use Rattle.sound_state.proofs.Common.{turn_stage_of, in_turn, is_unneeded, waits_in, one_if, pops_left, IsErrand, plan_of, after_turn, begins_turn, is_spent}
+use Rattle.sound_state.proofs.Common.{point_after, one_more, counts_won, resumed, settle_errand, nothing, lacks_frame, lacks_partial, lacks_answer}
 use Rattle.word_table.specs.declared.name.WordName.TheVariants as name
 use Rattle.superblock_parts.specs.declared.point.BlockPoint.TheVariants as block
 use Rattle.hazard_parts.specs.Retired.{without}
 use Rattle.hazard_parts.specs.declared.point.DescPoint.TheVariants as desc
 use Rattle.errand_steps.specs.declared.continuation.Continuation.TheVariants as continuation
 use Rattle.errand_steps.specs.declared.reply.Reply.TheVariants as reply
-use Rattle.errand_steps.specs.Errands.{IsErrand, plan_of, after_turn, begins_turn, is_spent, point_after, one_more, counts_won}
-use Rattle.errand_steps.specs.Nexts.{resumed}
 use Rattle.errand_steps.specs.Continuations.{resumes}
-use Rattle.errand_steps.proofs.ErrandLemmas.{settle_errand}
-use Rattle.sound_state.specs.Holdings.{nothing}
-use Rattle.sound_state.specs.Recalls.{resumed_recalls}
-use Rattle.sound_state.specs.TurnStages.{lacks_frame, lacks_partial, lacks_answer}
-use Rattle.sound_state.proofs.descriptors.DescEffects.{IsOfListed}
-use Rattle.sound_state.proofs.shared.ShownLemmas.{sound-but_one, sound-shown, with_available, Excepts, MayGoOn}
+use Rattle.sound_state.proofs.shared.RecallFrame.{Reads}
+use Rattle.sound_state.proofs.shared.ShownLemmas.{IsListedPart, sound-but_one, sound-shown, with_available, MayGoOn}
 use Rattle.sound_state.proofs.descriptors.DescRecalls.{recalls-pushed}
 use Rattle.sound_state.proofs.descriptors.DescWeighs.{ListWeighs, restocks-by}
 use Rattle.sound_state.proofs.hazards.HazardLemmas.{plain-guards}
-use Rattle.sound_state.proofs.shared.PointLemmas.{exists-at, fits-at, so-at, hazard-at}
+use Rattle.sound_state.proofs.shared.PointLemmas.{exists-at, fits-at, hazard-at, recalled-at}
 use Rattle.sound_state.proofs.quiet.QuietDescs.{push_desc_lost-sound}
 use Rattle.sound_state.proofs.shared.StepLemmas.{raised-least, raised-below, found_from}
 use Rattle.sound_state.proofs.shared.WordFacts.{name-below}
-use Rattle.sound_state.proofs.shared.KeepsSound.{KeepsSound, KeepsSoundWhere}
+use Rattle.sound_state.proofs.shared.KeepsSound.{KeepsSound, KeepsSoundWhere, silent-sound}
+use Rattle.sound_state.proofs.shared.TieLemmas.{Excepts}
 
--- where a call goes on after a retirement, and how many turns it has begun then
+-- the point at which a call goes on after a retirement, and the turns that it has begun then
 abbrev pub resumed_point : ErrandFields → SeatFields → Continuation → Point
 resumed_point e seat o = point_after (after_turn e (resumed seat o))
 
 abbrev pub resumed_turns : ErrandFields → SeatFields → Continuation → ℕ
 resumed_turns e seat o = raised (begins_turn e (resumed seat o)) e.turns
 
--- the errand after a descriptor of its list is pushed
+-- the errand after the push of a descriptor of its list
 abbrev pub pushed_errand : ErrandFields → Found → SeatFields → ℕ → Continuation → ErrandFields
 pushed_errand e x seat d o =
     record e {
@@ -67,7 +63,7 @@ pub record IsBarePoint (q : Point) : Type 0 where
   pub unread : length (held_by q) ≡ 0
   pub spare : spare_of q ≡ 0
 
--- and how far its turn is there, with so many turns begun
+-- the turn at the second point goes on from the one at the first, with so many turns begun
 pub record TurnResumes (p q : Point) (turns turns' : ℕ) : Type 0 where
   pub under_way : one_if (in_turn q) + turns ≤ one_if (in_turn p) + turns'
   pub lost :
@@ -80,7 +76,7 @@ pub record TurnResumes (p q : Point) (turns turns' : ℕ) : Type 0 where
       pops_left q + one_if (lacks_partial (turn_stage_of q)) + turns
       ≤ pops_left p + one_if (lacks_partial (turn_stage_of p)) + turns'
 
--- the next turn begins, or the call ends where none is left
+-- what follows a turn's end: the next turn, or the end of the call where none is left
 abbrev turn_next : Bool → SeatFields → ℕ → Next
 turn_next b seat words = if b then End reply.Spent else At (Block (block.LoadActive seat) (continuation.Alloc words))
 
@@ -151,11 +147,11 @@ push-weighs l seat d top o e x stands listed bare = record {
   stock = λ class. rw (stands, bare.holds, bare.waits class) refl;
 }
 
--- a caller's turns are few
+-- a caller's turns are few enough that one more fits a word
 own-turns-below : (g : Geometry) (e : ErrandFields) → e.geometry ≡ g → IsErrand e → e.turns + 1 < 2 ^ 64
 own-turns-below g e same rule = omega (arith, rule.turns, rule.geometry.turn_limit)
 
--- the caller may go on so
+-- a caller may go on from the won push of a retired descriptor
 push-may :
     (g : Geometry) (s : State) (l : Lists) (caller : ℕ) (seat : SeatFields) (d : ℕ) (o : Continuation) (x : Found) → IsSoundWith g s l
     → caller < g.callers → x.value < 2 ^ 64 → settle_of (s.errand caller) x ≡ pushed_errand (s.errand caller) x seat d o
@@ -190,7 +186,7 @@ push-may g s l caller seat d o x old has word after still bare turn excepts =
       list_turns = omega (arith, turn.pops, ap (λ b. raised b e.cleared) still);
     }
 
--- nobody's block is excepted there
+-- a caller that pushes a descriptor excepts no block
 push-excepts :
     (seat : SeatFields) (d top : ℕ) (o : Continuation) (e : ErrandFields) → e.point ≡ Desc (desc.PushDesc seat d top) o → (place : ℕ)
     → Excepts e place → ⊥
@@ -207,7 +203,7 @@ push-excepts seat d top o e stands place x =
           let no_place : ⊥ = omega (arith, bad.2) in no_place
     ]
 
--- the descriptor is put in front of the available ones, and the call goes on or ends
+-- the won push of a retired descriptor keeps the state sound: it is available, and the call goes on or ends
 pub push_desc_won-sound :
     (seat : SeatFields) (d top : ℕ) (o : Continuation) → KeepsSoundWhere (Desc (desc.PushDesc seat d top) o) (λ s. s.word name.DescHead ≡ top)
 unfolding plan_point_of next_of event_of holds_of recalls_of
@@ -229,7 +225,8 @@ push_desc_won-sound seat d top o g s caller s' sound has stands won step =
     let event : event_of caller p (found_from s p) ≡ None = rw is_won refl in
     let past : s'.history ≡ s.history =
     step.history ∙ ap (with_event s.history) (subst (λ r. event_of caller r (found_from s r) ≡ None) (sym stands) event) in
-    let link : s.word (name.Next d) ≡ top = (All-head (IsSo g s l caller) (says (name.Next d) top) (resumed_recalls seat o) (so-at g s l caller p old has stands)).1 in
+    let (said, rest) = recalled-at g s l caller p old has stands in
+    let link : s.word (name.Next d) ≡ top = said.1 in
     let pushes : pushed_by (s.errand caller).point ≡ Some d = ap pushed_by stands in
     let listed : Contains (s.errand caller).retired d =
     subst (λ k. IfSome k (λ j. Contains (s.errand caller).retired j)) pushes own.rule.pushed in
@@ -256,14 +253,10 @@ push_desc_won-sound seat d top o g s caller s' sound has stands won step =
     (All-cons (λ k. k < descriptor_count g) d l.available exists old.listed.available_exist)
     (All-cons (IsWithout s) d l.available (All-at (IsWithout s) d (s.errand caller).retired (old.kept.retired caller has) listed) old.kept.available)
     (push-weighs l seat d top o (s.errand caller) x stands listed bare) (recalls-pushed g s l caller d old has exists listed pushes)
-    (subst (All (IsOfListed l (d ∷ l.available))) (sym bare.recalls) (All-nil (IsOfListed l (d ∷ l.available)))) in
-    record {
-      checked = sound.checked;
-      legal = subst (IsLegalWithoutCounts g) (sym past) sound.legal;
-      parts = (with_available l (d ∷ l.available), sound-shown g s l caller e s' (d ∷ l.available) restocks (sound-but_one g s l caller old));
-    }
+    (subst (All (Reads (IsListedPart l (d ∷ l.available)))) (sym bare.recalls) (All-nil (Reads (IsListedPart l (d ∷ l.available))))) in
+    silent-sound g s s' (with_available l (d ∷ l.available)) sound past (sound-shown g s l caller e s' (d ∷ l.available) restocks (sound-but_one g s l caller old))
 
--- won or lost
+-- a push of a retired descriptor, won or lost, keeps the state sound
 pub push_desc-sound : (seat : SeatFields) (d top : ℕ) (o : Continuation) → KeepsSound (Desc (desc.PushDesc seat d top) o)
 push_desc-sound seat d top o g s caller s' sound has stands step =
     elim (cases_eq (s.word name.DescHead) top) [

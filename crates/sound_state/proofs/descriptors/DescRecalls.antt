@@ -1,52 +1,50 @@
 -- What a caller remembers of an EMPTY or a noted descriptor, it remembers of one that it guards or keeps.
-use Rattle.std.proofs.Common.{ℕ, Some, ◌≡◌, ◌<◌, ◌≤◌, ◌+◌, List, [], ◌∷◌, refl, arith, sym, subst, inl, inr, ◌⊎◌, ◌==◌, All, IsTrue, Contains}
-use Rattle.std.proofs.lemmas.Bool.{cases_eq, cond-false, ne_eqb}
+use Rattle.std.proofs.Common.{ℕ, Some, ◌≡◌, ◌<◌, ◌≤◌, ◌+◌, List, [], ◌∷◌, refl, arith, sym, subst, inl, inr, ◌⊎◌, ◌==◌, IsTrue, Contains, ne_eqb}
+use Rattle.std.proofs.lemmas.Bool.{cases_eq, cond-false}
 use Rattle.std.specs.List.{AllByRecursion}
 use Rattle.sound_state.proofs.Common.{Geometry, descriptor_count, SeatFields, occurs, BlockPoint, Frames, Partials, StackPoint, DescPoint, PartialPoint, LargePoint}
 use Rattle.sound_state.proofs.Common.{Continuation, Point, Idle, Block, Stack, Desc, Partial, Large, FitsPoint, pushed_by, State, IsGuard, IsHazard, Holding}
-use Rattle.sound_state.proofs.Common.{partly_used, holds_of, errand_has, Lists, Recall, emptied, noted, says, recalls_of, IsSoundWith, sum_below, callers_sum}
-use Rattle.sound_state.proofs.Common.{kept_among, errand_keeps}
+use Rattle.sound_state.proofs.Common.{partly_used, holds_of, errand_has, Lists, recalls_of, IsSoundWith, sum_below, callers_sum, kept_among, errand_keeps, goes_desc}
+use Rattle.sound_state.proofs.Common.{guarded, continuation_holds, stack_holds, desc_holds, partial_holds, continuation_recalls, stack_recalls, resumed_recalls}
+use Rattle.sound_state.proofs.Common.{desc_recalls, block_recalls, partial_recalls, large_recalls}
 use Rattle.word_table.specs.declared.name.WordName.TheVariants as name
 use Rattle.stack_parts.specs.declared.point.StackPoint.TheVariants as stack
 use Rattle.hazard_parts.specs.declared.point.DescPoint.TheVariants as desc
 use Rattle.partial_parts.specs.declared.point.PartialPoint.TheVariants as partial
 use Rattle.errand_steps.specs.declared.continuation.Continuation.TheVariants as continuation
-use Rattle.errand_steps.specs.Continuations.{goes_desc}
-use Rattle.sound_state.specs.Holdings.{guarded, continuation_holds, with_partial, stack_holds, desc_holds, cleared_holds, partial_holds}
-use Rattle.sound_state.specs.Recalls.{continuation_recalls, stack_recalls, resumed_recalls, desc_recalls, block_recalls, partial_recalls, large_recalls}
-use Rattle.sound_state.proofs.descriptors.DescEffects.{IsNoDescHead, IsOfListed}
+use Rattle.sound_state.specs.Holdings.{with_partial, cleared_holds}
+use Rattle.sound_state.proofs.shared.BackedRecalls.{AllRead, for-each}
 use Rattle.sound_state.proofs.shared.ListFacts.{contains-occurs}
 use Rattle.sound_state.proofs.shared.PointLemmas.{fits-at}
 use Rattle.sound_state.proofs.shared.SumLemmas.{sum-plus, sum-least, term-sum}
-use Rattle.sound_state.proofs.shared.RecallTables.{for-each}
+use Rattle.sound_state.proofs.shared.RecallFrame.{Part, Reads, availables, part_of}
+use Rattle.sound_state.proofs.shared.ShownLemmas.{IsListedPart}
 
--- the descriptor is guarded, or kept partly used
+-- a holding guards the descriptor, or keeps it partly used
 abbrev pub Has : Holding → ℕ → Type 0
 Has h d = (h.hazard ≡ guarded d) ⊎ (1 ≤ kept_among partly_used d h.kept)
 
--- so is each that is remembered
-abbrev pub IsHeld : Holding → Recall → Type 0
-IsHeld h (emptied d) = Has h d
-IsHeld h (noted d next) = Has h d
-IsHeld h (says n w) = IsNoDescHead n
-IsHeld h r = Unit {0}
+-- a descriptor whose part is read is
+abbrev pub IsHeld : Holding → Part → Type 0
+IsHeld h (availables d) = Has h d
+IsHeld h p = Unit {0}
 
--- what is kept alone is kept once
+-- a descriptor that is kept partly used, alone, is kept so once
 keeps-it : (d class : ℕ) → 1 ≤ kept_among partly_used d (record { desc = d; class = class; status = partly_used } ∷ [])
 keeps-it d class = grind (arith)
 
--- what waits behind a part; and with one more partly used descriptor at hand
-held-continuation : (seat : SeatFields) (o : Continuation) → AllByRecursion (IsHeld (continuation_holds seat o)) (continuation_recalls seat o)
+-- what is remembered by what waits behind a part is of held descriptors, and so with one more partly used descriptor at hand
+held-continuation : (seat : SeatFields) (o : Continuation) → AllByRecursion (Reads (IsHeld (continuation_holds seat o))) (continuation_recalls seat o)
 held-continuation seat (continuation.Remove d heap) = (inl refl, tt)
 held-continuation seat (continuation.Retire d) = (inr (keeps-it d seat.class), tt)
 held-continuation seat o = grind (arith)
 
-continuation-held-too : (i : ℕ) (seat : SeatFields) (o : Continuation) → AllByRecursion (IsHeld (with_partial i seat.class (continuation_holds seat o))) (continuation_recalls seat o)
+continuation-held-too : (i : ℕ) (seat : SeatFields) (o : Continuation) → AllByRecursion (Reads (IsHeld (with_partial i seat.class (continuation_holds seat o)))) (continuation_recalls seat o)
 continuation-held-too i seat (continuation.Remove d heap) = (inl refl, tt)
 continuation-held-too i seat (continuation.Retire d) = (inr (omega (arith, keeps-it d seat.class)), tt)
 continuation-held-too i seat o = grind (arith)
 
-held-stack : (p : StackPoint) (o : Continuation) → AllByRecursion (IsHeld (stack_holds p o)) (stack_recalls p o)
+held-stack : (p : StackPoint) (o : Continuation) → AllByRecursion (Reads (IsHeld (stack_holds p o))) (stack_recalls p o)
 held-stack (stack.LoadTop seat pile) o = held-continuation seat o
 held-stack (stack.LoadBelow seat pile h) o = (tt, held-continuation seat o)
 held-stack (stack.PopTop seat pile h below) o = (tt, (tt, held-continuation seat o))
@@ -58,35 +56,35 @@ held-stack (stack.StoreBelow seat Partials i h) o = (tt, continuation-held-too i
 held-stack (stack.PushTop seat Frames i h) o = (tt, (tt, held-continuation seat o))
 held-stack (stack.PushTop seat Partials i h) o = (tt, (tt, continuation-held-too i seat o))
 
--- a free that clears its hazard word
+-- what is remembered at a cleared hazard word, and at all points, is of held descriptors
 held-clear :
     (seat : SeatFields) (o : Continuation) → IsTrue (goes_desc (desc.ClearHazard seat) o)
-    → AllByRecursion (IsHeld (cleared_holds seat o)) (continuation_recalls seat o)
+    → AllByRecursion (Reads (IsHeld (cleared_holds seat o))) (continuation_recalls seat o)
 held-clear seat (continuation.Retire d) goes = (inl refl, tt)
 held-clear seat (continuation.Remove d heap) goes = absurd (cc)
 held-clear seat o goes = grind (arith)
 
-held-resumed : (h : Holding) (seat : SeatFields) (o : Continuation) → AllByRecursion (IsHeld h) (resumed_recalls seat o)
+held-resumed : (h : Holding) (seat : SeatFields) (o : Continuation) → AllByRecursion (Reads (IsHeld h)) (resumed_recalls seat o)
 held-resumed h seat o = grind (arith)
 
-desc-recalls-held : (p : DescPoint) (o : Continuation) → IsTrue (goes_desc p o) → AllByRecursion (IsHeld (desc_holds p o)) (desc_recalls p o)
+desc-recalls-held : (p : DescPoint) (o : Continuation) → IsTrue (goes_desc p o) → AllByRecursion (Reads (IsHeld (desc_holds p o))) (desc_recalls p o)
 desc-recalls-held (desc.PopDesc seat d next) o goes = (inl refl, (tt, tt))
 desc-recalls-held (desc.ClearHazard seat) o goes = held-clear seat o goes
 desc-recalls-held p o goes = grind (arith, held-resumed)
 
-held-partial : (p : PartialPoint) (o : Continuation) → AllByRecursion (IsHeld (partial_holds p o)) (partial_recalls p o)
+held-partial : (p : PartialPoint) (o : Continuation) → AllByRecursion (Reads (IsHeld (partial_holds p o))) (partial_recalls p o)
 held-partial (partial.PutSlot seat i heap) o = continuation-held-too i seat o
 held-partial (partial.LoadHeldSlot seat d heap) o = (inl refl, tt)
 held-partial (partial.RemoveFromSlot seat d heap) o = (inl refl, tt)
 held-partial p o = grind (arith)
 
-held-block : (h : Holding) (p : BlockPoint) → AllByRecursion (IsHeld h) (block_recalls p)
+held-block : (h : Holding) (p : BlockPoint) → AllByRecursion (Reads (IsHeld h)) (block_recalls p)
 held-block h p = grind (arith)
 
-held-large : (h : Holding) (p : LargePoint) → AllByRecursion (IsHeld h) (large_recalls p)
+held-large : (h : Holding) (p : LargePoint) → AllByRecursion (Reads (IsHeld h)) (large_recalls p)
 held-large h p = grind (arith)
 
-held-at : (g : Geometry) (caller : ℕ) (p : Point) → FitsPoint g caller p → AllByRecursion (IsHeld (holds_of p)) (recalls_of p)
+held-at : (g : Geometry) (caller : ℕ) (p : Point) → FitsPoint g caller p → AllByRecursion (Reads (IsHeld (holds_of p))) (recalls_of p)
 unfolding holds_of recalls_of
 held-at g caller Idle fits = tt
 held-at g caller (Block p o) fits = held-block (holds_of (Block p o)) p
@@ -95,11 +93,11 @@ held-at g caller (Desc p o) fits = desc-recalls-held p o fits.goes
 held-at g caller (Partial p o) fits = held-partial p o
 held-at g caller (Large p o) fits = held-large (holds_of (Large p o)) p
 
--- a caller has retired a descriptor
+-- a caller has retired a descriptor of a sound state
 module _
     (g : Geometry) (s : State) (l : Lists) (caller i d : ℕ) (old : IsSoundWith g s l) (has : caller < g.callers) (has_i : i < g.callers)
     (exists : d < descriptor_count g) (listed : Contains (s.errand caller).retired d) where
-  -- nobody keeps it partly used
+  -- nobody keeps partly used a descriptor that is retired
   retired-unkept : 1 ≤ errand_keeps partly_used d (s.errand i) → ⊥
   unfolding callers_sum
   retired-unkept keeps =
@@ -113,7 +111,7 @@ module _
       let its : partly i ≤ sum_below g.callers partly = term-sum g.callers partly i has_i in
       omega (arith, once, both, least, mine, its, keeps, contains-occurs (s.errand caller).retired d listed)
 
-  -- so when it pushes it nobody remembers it
+  -- when it pushes it, nobody remembers it
   pushed-forgotten : pushed_by (s.errand caller).point ≡ Some d → Has (holds_of (s.errand i).point) d → ⊥
   pushed-forgotten pushes (inl is) =
       old.guarded.pushed i caller d has_i has
@@ -124,7 +122,7 @@ module _
       pushes
   pushed-forgotten pushes (inr is) = retired-unkept is
 
-  -- and what others remember stays so when it is put in front of the available ones
+  -- what others remember stays so when it is put in front of the available ones
   available-pushed :
       pushed_by (s.errand caller).point ≡ Some d → (k : ℕ) → Has (holds_of (s.errand i).point) k → occurs k (d ∷ l.available) ≤ occurs k l.available
   available-pushed pushes k keeps =
@@ -133,30 +131,24 @@ module _
         | inr differ ↦ omega (arith, cond-false {A = ℕ} (d == k) 1 0 (ne_eqb d k differ))
       ]
 
-  one-pushed : pushed_by (s.errand caller).point ≡ Some d → (r : Recall) → IsHeld (holds_of (s.errand i).point) r → IsOfListed l (d ∷ l.available) r
-  one-pushed pushes (emptied k) h = available-pushed pushes k h
-  one-pushed pushes (noted k next) h = available-pushed pushes k h
-  one-pushed pushes (says n w) h = h
-  one-pushed pushes r h = tt
+  one-pushed : pushed_by (s.errand caller).point ≡ Some d → (p : Part) → IsHeld (holds_of (s.errand i).point) p → IsListedPart l (d ∷ l.available) p
+  one-pushed pushes (availables k) h = available-pushed pushes k h
+  one-pushed pushes p h = tt
 
 pub recalls-pushed :
     (g : Geometry) (s : State) (l : Lists) (caller d : ℕ) → IsSoundWith g s l → caller < g.callers → d < descriptor_count g
     → Contains (s.errand caller).retired d → pushed_by (s.errand caller).point ≡ Some d → (i : ℕ) → i < g.callers
-    → All (IsOfListed l (d ∷ l.available)) (recalls_of (s.errand i).point)
+    → AllRead (IsListedPart l (d ∷ l.available)) (s.errand i).point
 recalls-pushed g s l caller d old has exists listed pushes i has_i =
-    for-each (IsHeld (holds_of (s.errand i).point)) (IsOfListed l (d ∷ l.available)) (one-pushed g s l caller i d old has has_i exists listed pushes)
+    for-each (Reads (IsHeld (holds_of (s.errand i).point))) (Reads (IsListedPart l (d ∷ l.available)))
+    (λ r. one-pushed g s l caller i d old has has_i exists listed pushes (part_of r))
     (recalls_of (s.errand i).point) (held-at g i (s.errand i).point (fits-at g s l i (s.errand i).point old has_i refl))
 
--- and when the first is taken off
-one-popped : (l : Lists) (d : ℕ) (ys : List ℕ) → l.available ≡ d ∷ ys → (h : Holding) (r : Recall) → IsHeld h r → IsOfListed l ys r
-one-popped l d ys is h (emptied k) held = rw is (omega arith)
-one-popped l d ys is h (noted k next) held = rw is (omega arith)
-one-popped l d ys is h (says n w) held = held
-one-popped l d ys is h r held = tt
+-- the rest has no descriptor that the list doesn't have
+one-popped : (l : Lists) (d : ℕ) (ys : List ℕ) → l.available ≡ d ∷ ys → (p : Part) → IsListedPart l ys p
+one-popped l d ys is (availables k) = rw is (omega arith)
+one-popped l d ys is p = tt
 
 pub recalls-popped :
-    (g : Geometry) (s : State) (l : Lists) (d : ℕ) (ys : List ℕ) → IsSoundWith g s l → l.available ≡ d ∷ ys → (i : ℕ) → i < g.callers
-    → All (IsOfListed l ys) (recalls_of (s.errand i).point)
-recalls-popped g s l d ys old is i has_i =
-    for-each (IsHeld (holds_of (s.errand i).point)) (IsOfListed l ys) (one-popped l d ys is (holds_of (s.errand i).point))
-    (recalls_of (s.errand i).point) (held-at g i (s.errand i).point (fits-at g s l i (s.errand i).point old has_i refl))
+    (l : Lists) (d : ℕ) (ys : List ℕ) → l.available ≡ d ∷ ys → (p : Point) → AllRead (IsListedPart l ys) p
+recalls-popped l d ys is p = λ k r lt. one-popped l d ys is _

@@ -1,24 +1,22 @@
 -- The won exchanges of the stack of available descriptors keep the state sound.
-use Rattle.std.proofs.Common.{ℕ, true, false, None, ◌≡◌, ◌<◌, ◌+◌, ◌^◌, List, [], ◌∷◌, refl, arith, ap, sym, subst, inl, inr, ◌∙◌, ◌==◌, All, if◌then◌else◌}
-use Rattle.std.proofs.lemmas.Bool.{cases_eq, cond-true, eq-eqb}
-use Rattle.std.proofs.lemmas.List.Elements.{All-nil, All-cons, All-head, All-tail}
+use Rattle.std.proofs.Common.{ℕ, true, false, None, ◌≡◌, ◌<◌, ◌+◌, ◌^◌, List, [], ◌∷◌, refl, arith, ap, sym, subst, inl, inr, ◌∙◌, ◌==◌, All, if◌then◌else◌, eq-eqb}
+use Rattle.std.proofs.lemmas.Bool.{cases_eq, cond-true}
+use Rattle.std.proofs.lemmas.List.Elements.{All-nil, All-cons, All-head, All-tail, All-from_recursion}
 use Rattle.sound_state.proofs.Common.{Geometry, Found, name_of, after_action, descriptor_count, SeatFields, Writes, occurs, Partials, Stacked, next_in}
-use Rattle.sound_state.proofs.Common.{IsLegalWithoutCounts, Continuation, Desc, ErrandFields, counts_cleared, raised, event_of, next_of, plan_point_of, State, Step}
-use Rattle.sound_state.proofs.Common.{Moves, found_at, with_event, name_at, IsGuard, Kept, holds_of, on_its_way, waiting, IsWithout, IsKeptAs, Lists, IsSo, IsOwned}
-use Rattle.sound_state.proofs.Common.{noted, looked, recalls_of, IsSoundWithoutCounts, kept_among}
+use Rattle.sound_state.proofs.Common.{Continuation, Desc, ErrandFields, counts_cleared, raised, event_of, next_of, plan_point_of, State, Moves}
+use Rattle.sound_state.proofs.Common.{found_at, with_event, name_at, IsGuard, Kept, holds_of, on_its_way, waiting, IsWithout, IsKeptAs, Lists, IsSo, IsOwned, looked}
+use Rattle.sound_state.proofs.Common.{recalls_of, kept_among, keep}
 use Rattle.word_table.specs.declared.name.WordName.TheVariants as name
 use Rattle.hazard_parts.specs.declared.point.DescPoint.TheVariants as desc
-use Rattle.sound_state.specs.Holdings.{keep}
-use Rattle.sound_state.proofs.descriptors.DescEffects.{IsOfListed}
 use Rattle.sound_state.proofs.shared.HasLemmas.{ways-one}
 use Rattle.sound_state.proofs.shared.ShownLemmas.{sound-but_one, sound-shown, with_available}
 use Rattle.sound_state.proofs.descriptors.DescRecalls.{recalls-popped}
 use Rattle.sound_state.proofs.descriptors.DescWeighs.{ListWeighs, restocks-by}
 use Rattle.sound_state.proofs.hazards.HazardLemmas.{plain-guards, leads-at}
-use Rattle.sound_state.proofs.shared.PointLemmas.{exists-at, so-at, hazard-at, kept_places}
+use Rattle.sound_state.proofs.shared.PointLemmas.{exists-at, hazard-at, kept_places, recalled-at}
 use Rattle.sound_state.proofs.quiet.QuietDescs.{pop_desc_lost-sound}
 use Rattle.sound_state.proofs.shared.StepLemmas.{PointStands, TurnGoes, at_point, may-after, found_from}
-use Rattle.sound_state.proofs.shared.KeepsSound.{KeepsSound, KeepsSoundWhere}
+use Rattle.sound_state.proofs.shared.KeepsSound.{KeepsSound, KeepsSoundWhere, silent-sound}
 
 -- a stack whose top names a descriptor begins with it
 pub first-of :
@@ -71,7 +69,7 @@ pop_desc-stands g s l caller seat d next o without so = record {
   turn = pop-turns seat d next o;
 }
 
--- the first descriptor is taken: the caller keeps it on its way
+-- the won pop of the first available descriptor keeps the state sound: the caller keeps it on its way
 pub pop_desc_won-sound :
     (seat : SeatFields) (d next : ℕ) (o : Continuation) → KeepsSoundWhere (Desc (desc.PopDesc seat d next) o) (λ s. s.word name.DescHead ≡ d + 1)
 unfolding plan_point_of next_of event_of holds_of recalls_of
@@ -89,8 +87,7 @@ pop_desc_won-sound seat d next o g s caller s' sound has at won step =
     let event : event_of caller p (found_from s p) ≡ None = rw is_won refl in
     let past : s'.history ≡ s.history =
     step.history ∙ ap (with_event s.history) (subst (λ r. event_of caller r (found_from s r) ≡ None) (sym at) event) in
-    let so = so-at g s l caller p old has at in
-    let noticed = All-head (IsSo g s l caller) (noted d next) (looked seat.class ∷ []) so in
+    let (noticed, rest) = recalled-at g s l caller p old has at in
     let stack : Stacked (next_in s.word Partials) (d + 1) l.available =
     subst (λ top. Stacked (next_in s.word Partials) top l.available) won old.listed.available in
     let first = first-of (next_in s.word Partials) d l.available stack in
@@ -102,7 +99,7 @@ pop_desc_won-sound seat d next o g s caller s' sound has at won step =
     let exist : All (λ k. k < descriptor_count g) (d ∷ ys) = subst (All (λ k. k < descriptor_count g)) is old.listed.available_exist in
     let stands : PointStands g s l caller (s.errand caller).point q =
     subst (λ r. PointStands g s l caller r q) (sym at)
-    (pop_desc-stands g s l caller seat d next o (All-head (IsWithout s) d ys without) (All-tail (IsSo g s l caller) (noted d next) (looked seat.class ∷ []) so)) in
+    (pop_desc-stands g s l caller seat d next o (All-head (IsWithout s) d ys without) (All-from_recursion (IsSo g s l caller) (recalls_of q) rest)) in
     let cleared : counts_cleared (s.errand caller).point (found_at s caller) ≡ false =
     subst (λ r. counts_cleared r (found_at s caller) ≡ false) (sym at) refl in
     let guards =
@@ -113,15 +110,11 @@ pop_desc_won-sound seat d next o g s caller s' sound has at won step =
     (subst (λ w. w < 2 ^ 64) link (old.words (name.Next d))) (ap (λ b. raised b (s.errand caller).cleared) cleared)
     (may-after g s l caller (found_at s caller) q old has (old.words (name_at s caller)) after cleared stands)
     guards (subst (λ top. Stacked (next_in s.word Partials) top ys) link first.2) (All-tail (λ k. k < descriptor_count g) d ys exist)
-    (All-tail (IsWithout s) d ys without) (pop-weighs l seat d next o ys (s.errand caller) (found_at s caller) at is) (recalls-popped g s l d ys old is)
-    (All-cons (IsOfListed l ys) (looked seat.class) [] tt (All-nil (IsOfListed l ys))) in
-    record {
-      checked = sound.checked;
-      legal = subst (IsLegalWithoutCounts g) (sym past) sound.legal;
-      parts = (with_available l ys, sound-shown g s l caller e s' ys restocks (sound-but_one g s l caller old));
-    }
+    (All-tail (IsWithout s) d ys without) (pop-weighs l seat d next o ys (s.errand caller) (found_at s caller) at is) (λ i has_i. recalls-popped l d ys is (s.errand i).point)
+    (recalls-popped l d ys is q) in
+    silent-sound g s s' (with_available l ys) sound past (sound-shown g s l caller e s' ys restocks (sound-but_one g s l caller old))
 
--- won or lost
+-- a pop of an available descriptor, won or lost, keeps the state sound
 pub pop_desc-sound : (seat : SeatFields) (d next : ℕ) (o : Continuation) → KeepsSound (Desc (desc.PopDesc seat d next) o)
 pop_desc-sound seat d next o g s caller s' sound has stands step =
     elim (cases_eq (s.word name.DescHead) (d + 1)) [

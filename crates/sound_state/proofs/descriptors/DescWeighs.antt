@@ -1,15 +1,16 @@
 -- What a step at the head of the available descriptors weighs.
 use Rattle.std.proofs.Common.{ℕ, ◌≡◌, ◌<◌, ◌+◌, ◌^◌, List, refl, arith, ap, sym, subst, inl, inr, All}
 use Rattle.sound_state.proofs.Common.{Geometry, anchor_of, WordName, descriptor_count, Exists, Writes, cases_name, occurs, Partials, Stacked, next_in, ErrandFields}
-use Rattle.sound_state.proofs.Common.{State, Moves, errand_frames, waiting, on_its_way, IsWithout, word_keeps, errand_has, full_keeps, Lists, recalls_of}
-use Rattle.sound_state.proofs.Common.{IsSoundWith, word_stock, errand_stock, word_reserves, errand_reserves, errand_keeps, errand_away, away_of}
+use Rattle.sound_state.proofs.Common.{State, Moves, errand_frames, waiting, on_its_way, IsWithout, word_keeps, errand_has, full_keeps, Lists, IsSoundWith, word_stock}
+use Rattle.sound_state.proofs.Common.{errand_stock, word_reserves, errand_reserves, errand_keeps, errand_away, away_of}
 use Rattle.word_table.specs.declared.name.WordName.TheVariants as name
-use Rattle.sound_state.proofs.descriptors.DescEffects.{IsNoDescHead, IsOfListed, stays-listed}
+use Rattle.sound_state.proofs.shared.BackedRecalls.{AllRead}
 use Rattle.sound_state.proofs.shared.StepLemmas.{words-below}
-use Rattle.sound_state.proofs.shared.ShownLemmas.{IsShown, ShowsSame, actives-same, with_available, MayGoOn, MayGuard}
+use Rattle.sound_state.proofs.shared.ShownLemmas.{IsListedPart, IsShown, ShowsSame, with_available, MayGoOn, MayGuard}
 use Rattle.sound_state.proofs.shared.TurnEffects.{emptied-kept}
 use Rattle.sound_state.proofs.shared.WeighLemmas.{full-same}
 use Rattle.sound_state.proofs.shared.SumLemmas.{words-written, callers-moved}
+use Rattle.sound_state.proofs.shared.SuperblocksStay.{actives-same}
 
 -- the list and the new errand weigh what the list and the errand before it did
 pub record ListWeighs (l : Lists) (ys : List ℕ) (a b : ErrandFields) : Type 0 where
@@ -21,7 +22,12 @@ pub record ListWeighs (l : Lists) (ys : List ℕ) (a b : ErrandFields) : Type 0 
   pub frames : (f : ℕ) → errand_frames f b ≡ errand_frames f a
   pub stock : (class : ℕ) → errand_stock class b ≡ errand_stock class a
 
--- a word that is not the head stays
+-- the word is not the head of the available descriptors
+abbrev IsNoDescHead : WordName → Type 0
+IsNoDescHead name.DescHead = ⊥
+IsNoDescHead n = Unit {0}
+
+-- words that aren't the head of the available descriptors stay at a write of it
 others-stay :
     (words : WordName → ℕ) (new : ℕ) (words' : WordName → ℕ) → Writes words name.DescHead new words' → (n : WordName) → IsNoDescHead n
     → words' n ≡ words n
@@ -34,7 +40,7 @@ others-stay words new words' w n apart =
 shown-apart : (n : WordName) → IsShown n → IsNoDescHead n
 shown-apart n shown = grind (arith)
 
--- a step that writes the head, with the stack that it leaves
+-- what a step restocks that writes the head of the available descriptors, with the stack that it leaves
 pub restocks-by :
     (g : Geometry) (s : State) (l : Lists) (caller : ℕ) (e : ErrandFields) (s' : State) (ys : List ℕ) (new : ℕ) → IsSoundWith g s l
     → caller < g.callers → Exists g name.DescHead → Writes s.word name.DescHead new s'.word → Moves s.errand caller e s'.errand
@@ -42,7 +48,7 @@ pub restocks-by :
     → MayGoOn g s l caller (s.errand caller) e
     → MayGuard g s caller e.point e.retired (s.word (name.Hazard caller)) → Stacked (next_in s.word Partials) new ys
     → All (λ d. d < descriptor_count g) ys → All (IsWithout s) ys → ListWeighs l ys (s.errand caller) e
-    → ((i : ℕ) → i < g.callers → All (IsOfListed l ys) (recalls_of (s.errand i).point)) → All (IsOfListed l ys) (recalls_of e.point)
+    → ((i : ℕ) → i < g.callers → AllRead (IsListedPart l ys) (s.errand i).point) → AllRead (IsListedPart l ys) e.point
     → ShowsSame g s l caller e s' ys
 restocks-by g s l caller e s' ys new old has exists w m past small still may guards stack exist without weigh recalls here =
     let stay = others-stay s.word new s'.word w in
@@ -85,6 +91,6 @@ restocks-by g s l caller e s' ys new old has exists w m past small still may gua
                 );
           };
       emptied = omega (arith, emptied-kept g s l s' (with_available l ys) (λ d. rw (away d, anchor d) refl), still);
-      stays = λ i has k d lt. stays-listed l ys s s' stay _ (recalls i has k d lt);
-      stays_here = λ k d lt. stays-listed l ys s s' stay _ (here k d lt);
+      stays = recalls;
+      stays_here = here;
     }

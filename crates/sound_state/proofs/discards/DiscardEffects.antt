@@ -1,22 +1,16 @@
 -- A lost install: what it changes, and that everything else stays.
-use Rattle.std.proofs.Common.{ℕ, None, ◌≡◌, ◌<◌, ◌≤◌, ◌+◌, [], length, ◌⊎◌, IsTrue}
-use Rattle.sound_state.proofs.Common.{Geometry, WordName, Site, IsSiteOf, ErrandFields, spare_of, pushed_by, Point, State, Moves, passed_by, held_by, holds_of}
-use Rattle.sound_state.proofs.Common.{Lists, IsLocated, recalls_of, IsOwnErrand, turn_stage_of, waits_in, anchor_for, is_bound, pops_left}
-use Rattle.superblock_parts.specs.Anchors.{new_anchor}
-use Rattle.sound_state.specs.Holdings.{making}
+use Rattle.std.proofs.Common.{ℕ, ◌≡◌, ◌<◌, ◌≤◌, ◌+◌, [], ◌⊎◌, IsTrue}
+use Rattle.sound_state.proofs.Common.{Geometry, WordName, Site, IsSiteOf, ErrandFields, Point, State, Moves, holds_of, Lists}
+use Rattle.sound_state.proofs.Common.{IsLocated, recalls_of, IsOwnErrand, turn_stage_of, anchor_for, is_bound, pops_left, new_anchor, making}
 use Rattle.sound_state.specs.TurnStages.{not_needed}
 use Rattle.sound_state.proofs.shared.MakingWeights.{installing_holds}
-use Rattle.sound_state.proofs.shared.TurnEffects.{StandsFramed}
+use Rattle.sound_state.proofs.shared.TurnEffects.{StandsFramed, IsQuiet}
 
 -- a point at which a caller pushes the frame of a superblock that isn't needed
 pub record StandsDiscarding (p : Point) : Type 0 where
   pub stage : turn_stage_of p ≡ not_needed
   pub pops : pops_left p ≡ 0
-  pub waits : (class : ℕ) → waits_in class p ≡ 0
-  pub pushed : pushed_by p ≡ None
-  pub passed : passed_by p ≡ 0
-  pub unread : length (held_by p) ≡ 0
-  pub spare : spare_of p ≡ 0
+  pub quiet : IsQuiet p
 
 -- a caller doesn't install its new superblock, holds it as it did while it made it, and all else stays
 pub record Discards (g : Geometry) (s : State) (l : Lists) (caller : ℕ) (at : Site) (e : ErrandFields) (s' : State) : Type 0 where

@@ -1,25 +1,24 @@
 -- What a lost install leaves, and that nobody else has anything of its superblock.
-use Rattle.std.proofs.Common.{ℕ, false, true≢false, None, ◌≡◌, ◌≢◌, ◌<◌, ◌+◌, ◌-◌, refl, arith, ap, sym, subst, ◌∙◌, IsTrue}
-use Rattle.std.proofs.lemmas.Bool.{ne_eqb}
-use Rattle.sound_state.proofs.Common.{Geometry, block_count_of, block_place, anchor_of, Site, new_credits, block_at, pool_of, ErrandFields, State, waiting}
-use Rattle.sound_state.proofs.Common.{on_its_way, Lists, IsSoundWith, sum_below, callers_sum, IsChained, info_for, superblock_of, is_bound, away_of, waiting_of}
-use Rattle.sound_state.proofs.Common.{reserved_of, word_reserves, errand_reserves, reserved_among, errand_keeps}
+use Rattle.std.proofs.Common.{ℕ, false, true≢false, None, ◌≡◌, ◌≢◌, ◌<◌, ◌+◌, ◌-◌, refl, arith, ap, sym, subst, ◌∙◌, IsTrue, ne_eqb}
+use Rattle.sound_state.proofs.Common.{Geometry, block_count_of, block_place, anchor_of, Site, new_credits, block_at, pool_of, ErrandFields, State, waiting, on_its_way}
+use Rattle.sound_state.proofs.Common.{Lists, IsSoundWith, sum_below, callers_sum, IsChained, info_for, superblock_of, is_bound, away_of, waiting_of, reserved_of}
+use Rattle.sound_state.proofs.Common.{word_reserves, errand_reserves, reserved_among, errand_keeps, making}
 use Rattle.word_table.specs.declared.name.WordName.TheVariants as name
-use Rattle.sound_state.specs.Holdings.{making}
 use Rattle.sound_state.proofs.discards.DiscardEffects.{Discards}
-use Rattle.sound_state.proofs.shared.KeptLemmas.{SameDescs}
 use Rattle.sound_state.proofs.shared.OverlapLemmas.{there-none}
 use Rattle.sound_state.proofs.shared.SumLemmas.{term-sum, words-same, two-terms}
 use Rattle.sound_state.proofs.shared.HoldingEffects.{HoldingEffects, waits-go, ways-go, credits-go, away-goes}
-use Rattle.sound_state.proofs.shared.MakingWeights.{it-here, it-elsewhere, making-ways, making-others, installing-waits, installing-others, installing-credits, installing-apart, is_it, installing_holds}
+use Rattle.sound_state.proofs.shared.MakingWeights.{it-here, it-elsewhere, making-ways, making-others, installing-waits, installing-others, installing-credits}
+use Rattle.sound_state.proofs.shared.MakingWeights.{installing-apart, is_it, installing_holds}
 use Rattle.sound_state.proofs.shared.TallyLemmas.{tally, held-back-once}
 use Rattle.sound_state.proofs.shared.SuperblockEffects.{LieStill, info-stays}
+use Rattle.sound_state.proofs.shared.SuperblocksStay.{SameDescs}
 
 module _ {g : Geometry} {s : State} {l : Lists} {caller : ℕ} {at : Site} {e : ErrandFields} {s' : State} (h : Discards g s l caller at e s') where
   pub discarded-still : LieStill s s'
   discarded-still = record { words = λ n is. h.words n }
 
-  -- the words of all descriptors stay, and all anchors
+  -- the info words and the anchors of all descriptors stay at a lost install
   pub discarded-descs : SameDescs s s'
   discarded-descs = record {
     info = info-stays discarded-still;
@@ -29,7 +28,7 @@ module _ {g : Geometry} {s : State} {l : Lists} {caller : ℕ} {at : Site} {e : 
   pub discarded-holds : HoldingEffects g s caller (installing_holds at) (making at) e s'
   discarded-holds = record { in_heap = h.in_heap; moves = h.moves; retired = h.retired; before = h.holds_before; after = h.holds_after }
 
-  -- the descriptor doesn't wait any more, and is on its way
+  -- the descriptor of a lost install is on its way, and doesn't wait any more
   pub discarded-ways :
       (d : ℕ) → callers_sum g (errand_keeps on_its_way d) s'.errand ≡ callers_sum g (errand_keeps on_its_way d) s.errand + is_it at d
   discarded-ways d = omega (arith, ways-go discarded-holds d, installing-others on_its_way at d refl, making-ways at d)
@@ -40,7 +39,7 @@ module _ {g : Geometry} {s : State} {l : Lists} {caller : ℕ} {at : Site} {e : 
   pub discarded-waits : (d : ℕ) → waiting_of g s' d + is_it at d ≡ waiting_of g s d
   discarded-waits d = omega (arith, waits-go discarded-holds d, installing-waits at d, making-others waiting at d refl)
 
-  -- its superblock isn't bound any more, and all others are as they were
+  -- all superblocks but the one that isn't needed are bound as they were
   pub discarded-bound : (d : ℕ) → d ≢ at.desc → is_bound g s' l d ≡ is_bound g s l d
   discarded-bound d ne =
       let away : away_of g s' l d ≡ away_of g s l d = omega (arith, discarded-away d, it-elsewhere at d ne) in
@@ -69,7 +68,7 @@ module _ {g : Geometry} {s : State} {l : Lists} {caller : ℕ} {at : Site} {e : 
   discarded-waited is =
       (held-back-once (superblock_of g s at.desc) (chain-at is) (omega (arith, discarded-waits at.desc, it-here at))).2
 
-  -- what its caller has reserved of it is all but one block, which is held back
+  -- all blocks but one of a superblock that isn't needed are reserved by its caller, and that one is held back
   discarding-reserved : errand_reserves at.desc (s.errand caller) ≡ new_credits at.seat.class + 1
   discarding-reserved = ap (λ x. reserved_among at.desc x.credits) h.holds_before ∙ installing-credits at
 

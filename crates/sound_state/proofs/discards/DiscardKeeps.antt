@@ -2,24 +2,22 @@
 use Rattle.std.proofs.Common.{ℕ, ◌≡◌, ◌≢◌, ◌<◌, ◌^◌, [], refl, arith, ap, sym, subst, inl, inr, ◌∙◌, All, IsTrue}
 use Rattle.std.proofs.Math.Path.{fun_ext}
 use Rattle.std.proofs.lemmas.List.Elements.{All-nil, All-cons}
-use Rattle.sound_state.proofs.Common.{Geometry, active_of, descriptor_count, WordName, Site, ErrandFields, State, IsFramed, fills_frame, IsGuarded, Kept, on_its_way}
-use Rattle.sound_state.proofs.Common.{holds_of, IsKept, IsWithout, IsKeptAs, full_keeps, word_keeps, Lists, IsListed, IsSoundWith, full_stock, word_stock, sum_below}
-use Rattle.sound_state.proofs.Common.{AreChained, superblock_of, is_bound, away_of, waiting_of, IsTurned, emptied_out}
+use Rattle.sound_state.proofs.Common.{Geometry, descriptor_count, WordName, Site, ErrandFields, State, IsFramed, fills_frame, IsGuarded, Kept, on_its_way}
+use Rattle.sound_state.proofs.Common.{IsKept, IsWithout, IsKeptAs, full_keeps, word_keeps, Lists, IsListed, IsSoundWith, full_stock, word_stock, sum_below}
+use Rattle.sound_state.proofs.Common.{AreChained, superblock_of, is_bound, away_of, waiting_of, IsTurned, emptied_out, IsStocked, turn_unlisted}
 use Rattle.word_table.specs.declared.name.WordName.TheVariants as name
 use Rattle.sound_state.specs.TurnStages.{not_needed}
-use Rattle.sound_state.specs.Stock.{IsStocked}
-use Rattle.sound_state.specs.Turns.{turn_unlisted}
 use Rattle.sound_state.proofs.discards.DiscardEffects.{Discards}
-use Rattle.sound_state.proofs.discards.DiscardFacts.{discarded-holds, discarded-still, discarded-descs, discarded-away, discarded-waits, discarded-bound, discarded-unbound, discarded-was, discarded-reserved, discarded-waited}
+use Rattle.sound_state.proofs.discards.DiscardFacts.{discarded-holds, discarded-still, discarded-descs, discarded-away, discarded-waits, discarded-bound}
+use Rattle.sound_state.proofs.discards.DiscardFacts.{discarded-unbound, discarded-was, discarded-reserved, discarded-waited}
 use Rattle.sound_state.proofs.shared.FrameLemmas.{waiting-fills}
-use Rattle.sound_state.proofs.shared.KeptLemmas.{active-same, partly-same, without-same, kept_as-same}
-use Rattle.sound_state.proofs.shared.ShownLemmas.{each-caller}
 use Rattle.sound_state.proofs.shared.SuperblockEffects.{of-each, infos-stay, live-stays, superblock-stays, same-chained}
 use Rattle.sound_state.proofs.shared.GuardEffects.{guarded-clear}
 use Rattle.sound_state.proofs.shared.SumLemmas.{sum-same, words-same}
 use Rattle.sound_state.proofs.shared.TurnEffects.{emptied-kept, head-tag, no-event, stage-weighs, turned-after, framed-weighs}
 use Rattle.sound_state.proofs.shared.HoldingEffects.{places-go, stock-goes, framed-after}
 use Rattle.sound_state.proofs.shared.MakingWeights.{it-elsewhere, making-places, making-stock}
+use Rattle.sound_state.proofs.shared.SuperblocksStay.{actives-same, descs-kept}
 
 module _ {g : Geometry} {s : State} {l : Lists} {caller : ℕ} {at : Site} {e : ErrandFields} {s' : State} (h : Discards g s l caller at e s') where
   words-all : s'.word ≡ s.word
@@ -33,42 +31,29 @@ module _ {g : Geometry} {s : State} {l : Lists} {caller : ℕ} {at : Site} {e : 
 
   pub discarded-kept : IsSoundWith g s l → IsKept g s' l
   discarded-kept old =
-      let kept = old.kept in
       let same = discarded-descs h in
-      let words = words-all in
-      let without : IsWithout s' at.desc = inl (ap (λ x. x.state) (same.anchor at.desc) ∙ ap (λ x. x.state) h.anchor) in
-      record {
-        once = λ d has.
+      descs-kept g s caller e s' l l
+      (record {
+        moves = h.moves;
+        descs = same;
+        places = λ d.
             omega (
               arith,
-              kept.once d has,
               places-go (discarded-holds h) d,
               making-places at d,
               words-same g (word_keeps d) s.word s'.word h.words,
               ap (λ x. full_keeps x.state) (same.anchor d),
             );
-        active_words = rw words kept.active_words;
-        slot_words = rw words kept.slot_words;
-        active = λ heap class d credits has_heap has_class is.
-            let a = kept.active heap class d credits has_heap has_class (ap (λ w. active_of (w (name.Active heap class))) (sym words) ∙ is) in
-            (a.0, active-same same d class a.1);
-        slot = λ heap class d has_heap has_class is.
-            let a = kept.slot heap class d has_heap has_class (ap (λ w. w (name.Slot heap class)) (sym words) ∙ is) in
-            (a.0, partly-same same d class a.1);
-        full = λ d has is. ap (λ a. a.count) (same.anchor d) ∙ kept.full d has (ap (λ a. a.state) (sym (same.anchor d)) ∙ is);
-        listed = λ class has k d lt. partly-same same _ class (kept.listed class has k d lt);
-        available = λ k d lt. without-same same _ (kept.available k d lt);
-        retired =
-            each-caller g (λ i e. All (IsWithout s') e.retired) s.errand caller e s'.errand h.moves
-            (subst (All (IsWithout s')) (sym h.retired) (λ k d lt. without-same same _ (kept.retired caller h.in_heap k d lt)))
-            (λ i has k d lt. without-same same _ (kept.retired i has k d lt));
-        errand =
-            each-caller g (λ i e. All (λ k. IsKeptAs s' k.status k.desc k.class) (holds_of e.point).kept) s.errand caller e s'.errand h.moves
-            (subst (λ x. All (λ (k : Kept). IsKeptAs s' k.status k.desc k.class) x.kept) (sym h.holds_after)
-            (All-cons (λ (k : Kept). IsKeptAs s' k.status k.desc k.class) (record { desc = at.desc; class = at.seat.class; status = on_its_way }) []
-            without (All-nil (λ (k : Kept). IsKeptAs s' k.status k.desc k.class))))
-            (λ i has k d lt. kept_as-same same _ _ _ (kept.errand i has k d lt));
-      }
+        actives = actives-same g s l s'.word old.kept (λ heap class. h.words (name.Active heap class)) (λ heap class. h.words (name.Slot heap class));
+        listed = old.kept.listed;
+        available = old.kept.available;
+        retired = subst (All (IsWithout s)) (sym h.retired) (old.kept.retired caller h.in_heap);
+        own =
+            subst (λ x. All (λ (k : Kept). IsKeptAs s k.status k.desc k.class) x.kept) (sym h.holds_after)
+            (All-cons (λ (k : Kept). IsKeptAs s k.status k.desc k.class) (record { desc = at.desc; class = at.seat.class; status = on_its_way }) []
+            (inl (ap (λ x. x.state) h.anchor)) (All-nil (λ (k : Kept). IsKeptAs s k.status k.desc k.class)));
+      })
+      old.kept
 
   pub discarded-stocked : IsSoundWith g s l → IsStocked g s' l
   discarded-stocked old = record {
@@ -80,7 +65,7 @@ module _ {g : Geometry} {s : State} {l : Lists} {caller : ℕ} {at : Site} {e : 
           arith,
           old.stocked.most class has,
           filled,
-          stock-goes (discarded-holds h) class (h.stands_before.waits class) (h.stands_after.waits class),
+          stock-goes (discarded-holds h) class (h.stands_before.waits class) (h.stands_after.quiet.waits class),
           words-same g (word_stock class) s.word s'.word h.words,
           making-stock at class,
         );
@@ -89,7 +74,7 @@ module _ {g : Geometry} {s : State} {l : Lists} {caller : ℕ} {at : Site} {e : 
   discarded-others-wait : (d : ℕ) → d ≢ at.desc → waiting_of g s' d ≡ waiting_of g s d
   discarded-others-wait d differ = omega (arith, discarded-waits h d, it-elsewhere at d differ)
 
-  -- the frame stays in the caller's hand
+  -- each frame stays in one place at a lost install: that of the superblock stays in the caller's hand
   pub discarded-framed : IsSoundWith g s l → IsFramed g s' l
   discarded-framed old =
       let same = discarded-descs h in
@@ -101,7 +86,7 @@ module _ {g : Geometry} {s : State} {l : Lists} {caller : ℕ} {at : Site} {e : 
       (λ d differ. rw (discarded-bound h d differ, discarded-others-wait d differ, same.info d) refl))
       (λ f. refl) old.framed
 
-  -- all superblocks that are left keep their blocks in order
+  -- all superblocks that are left after a lost install keep their blocks in order
   pub discarded-chained : IsSoundWith g s l → AreChained g s' l
   discarded-chained old =
       let still = discarded-still h in
@@ -118,10 +103,9 @@ module _ {g : Geometry} {s : State} {l : Lists} {caller : ℕ} {at : Site} {e : 
 
   pub discarded-guarded : IsSoundWith g s l → IsGuarded g s'
   discarded-guarded old =
-      let after = h.stands_after in
       guarded-clear g s caller e s' h.in_heap h.moves (λ i. h.words (name.Hazard i)) (ap (λ x. x.hazard) h.holds_before)
       (ap (λ x. x.hazard) h.holds_after)
-      after.pushed after.passed after.unread after.spare old.guarded
+      h.stands_after.quiet old.guarded
 
   pub discarded-turned : IsSoundWith g s l → IsTurned g s' l
   discarded-turned old =

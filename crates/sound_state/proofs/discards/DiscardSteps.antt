@@ -1,25 +1,26 @@
 -- The step of a lost install, and what it changes.
-use Rattle.std.proofs.Common.{ℕ, true, false, ◌≡◌, ◌≢◌, ◌<◌, ◌≤◌, ◌+◌, ◌^◌, refl, arith, ap, sym, subst, inl, inr, ◌⊎◌, ◌==◌}
-use Rattle.std.proofs.lemmas.Bool.{cases_eq, cases_lt, cond-false, ne_eqb}
+use Rattle.std.proofs.Common.{ℕ, true, false, ◌≡◌, ◌≢◌, ◌<◌, ◌≤◌, ◌+◌, ◌^◌, refl, arith, ap, sym, subst, inl, inr, ◌⊎◌, ◌==◌, ne_eqb}
+use Rattle.std.proofs.lemmas.Bool.{cases_eq, cases_lt, cond-false}
 use Rattle.sound_state.proofs.Common.{Geometry, active_word, Null, Held, Found, Site, active_name, Writes, new_credits, Frames, Continuation, Point, Block, Stack}
-use Rattle.sound_state.proofs.Common.{ErrandFields, counts_lost, raised, event_of, next_of, asked, plan_point_of, State, Step, IsLegalWithoutCounts, holds_of, Lists}
+use Rattle.sound_state.proofs.Common.{ErrandFields, counts_lost, raised, event_of, next_of, asked, plan_point_of, State, Step, holds_of, Lists}
 use Rattle.sound_state.proofs.Common.{recalls_of, IsSoundWithoutCounts, IsSoundWith, IsOwnErrand}
 use Rattle.superblock_parts.specs.declared.point.BlockPoint.TheVariants as block
 use Rattle.stack_parts.specs.declared.point.StackPoint.TheVariants as stack
 use Rattle.errand_steps.specs.declared.continuation.Continuation.TheVariants as continuation
 use Rattle.sound_state.proofs.discards.DiscardEffects.{Discards, StandsDiscarding}
-use Rattle.sound_state.proofs.discards.DiscardKeeps.{discarded-words, discarded-listed, discarded-kept, discarded-stocked, discarded-framed, discarded-chained, discarded-guarded, discarded-turned}
+use Rattle.sound_state.proofs.discards.DiscardKeeps.{discarded-words, discarded-listed, discarded-kept, discarded-stocked, discarded-framed, discarded-chained}
+use Rattle.sound_state.proofs.discards.DiscardKeeps.{discarded-guarded, discarded-turned}
 use Rattle.sound_state.proofs.discards.DiscardRecalls.{discarded-remembered}
 use Rattle.sound_state.proofs.discards.DiscardTies.{discarded-tied}
 use Rattle.sound_state.proofs.installs.InstallSteps.{about-to-install, install-stands, install_superblock-won}
 use Rattle.sound_state.proofs.shared.CreditLemmas.{lost_with}
-use Rattle.sound_state.proofs.shared.ShownLemmas.{each-caller}
 use Rattle.sound_state.proofs.shared.StepLemmas.{at_point, words-stay}
 use Rattle.sound_state.proofs.shared.TurnEffects.{StandsFramed}
 use Rattle.sound_state.proofs.shared.WonEffects.{StepEffects, step-effects}
-use Rattle.sound_state.proofs.shared.KeepsSound.{KeepsSound, KeepsSoundWhere}
+use Rattle.sound_state.proofs.shared.KeepsSound.{KeepsSound, KeepsSoundWhere, silent-sound}
+use Rattle.sound_state.proofs.shared.CallerLemmas.{each-caller}
 
--- where a lost install leads
+-- the point to which a lost install leads
 abbrev pub discarded_point : Site → Continuation → Point
 discarded_point at o = Stack (stack.LoadTopToPush at.seat Frames at.frame) (continuation.Discard (asked o) at.desc)
 
@@ -86,28 +87,22 @@ install_superblock-lost at o g s caller s' sound has here other step =
     let is = sound.parts.1 in
     let e = at_point (s.errand caller) (lost_with (s.word (active_name at.seat))) (discarded_point at o) in
     let h = install-discards g s l caller s' at o sound is has here other step in
-    record {
-      checked = sound.checked;
-      legal = subst (IsLegalWithoutCounts g) (sym h.history) sound.legal;
-      parts = (
-        l,
-        record {
-          words = discarded-words h is;
-          errands = each-caller g (IsOwnErrand g) s.errand caller e s'.errand h.moves h.rule is.errands;
-          listed = discarded-listed h is;
-          kept = discarded-kept h is;
-          chained = discarded-chained h is;
-          framed = discarded-framed h is;
-          remembered = discarded-remembered h sound is;
-          guarded = discarded-guarded h is;
-          stocked = discarded-stocked h is;
-          turned = discarded-turned h is;
-          tied = discarded-tied h sound is;
-        },
-      );
-    }
+    silent-sound g s s' l sound h.history
+    (record {
+      words = discarded-words h is;
+      errands = each-caller g (IsOwnErrand g) s.errand caller e s'.errand h.moves h.rule is.errands;
+      listed = discarded-listed h is;
+      kept = discarded-kept h is;
+      chained = discarded-chained h is;
+      framed = discarded-framed h is;
+      remembered = discarded-remembered h sound is;
+      guarded = discarded-guarded h is;
+      stocked = discarded-stocked h is;
+      turned = discarded-turned h is;
+      tied = discarded-tied h sound is;
+    })
 
--- so it is after an install, won or lost
+-- an install keeps the state sound, won or lost
 pub install_superblock-sound : (at : Site) (o : Continuation) → KeepsSound (Block (block.InstallSuperblock at) o)
 install_superblock-sound at o g s caller s' sound has here step =
     elim (cases_eq (s.word (active_name at.seat)) (active_word Null)) [

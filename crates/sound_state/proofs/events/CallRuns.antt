@@ -1,16 +1,11 @@
 -- Runs of moves, seen by a caller that begins nothing among them.
-use Rattle.std.proofs.Common.{ℕ, ◌≡◌, ◌<◌, List, [], ◌∷◌, inl, inr, refl, sym, ◌∙◌, subst}
-use Rattle.std.proofs.lemmas.Bool.{cases_eq, cases_Bool, true≢false}
+use Rattle.std.proofs.Common.{ℕ, ◌≡◌, ◌<◌, List, [], ◌∷◌, inl, inr, refl, sym, ◌∙◌, subst, true≢false}
+use Rattle.std.proofs.lemmas.Bool.{cases_eq, cases_Bool}
 use Rattle.std.proofs.lemmas.List.Elements.{All-head, All-tail}
-use Rattle.sound_state.proofs.Common.{Geometry, Event, own, Reply, State, Step, found_at, IsSound}
-use Rattle.errand_steps.specs.declared.reply.Progress.TheVariants.{Done}
-use Rattle.errand_steps.specs.Begins.{IsIdle, IsBusy}
-use Rattle.errand_steps.specs.Calls.{Call}
-use Rattle.errand_steps.specs.Errands.{answer_of}
-use Rattle.errand_steps.specs.Points.{is_idle}
+use Rattle.sound_state.proofs.Common.{Geometry, Event, own, Reply, State, Step, found_at, IsSound, Done, IsIdle, IsBusy, Call, answer_of, is_idle, BeginsCall, Move}
+use Rattle.sound_state.proofs.Common.{begins, steps, Moved, Reaches}
 use Rattle.sound_state.specs.Calls.{IsInCall, HasEndedCall}
 use Rattle.sound_state.specs.Moves.{IsNoBegin, BeginsNothing}
-use Rattle.sound_state.specs.Runs.{BeginsCall, Move, begins, steps, Moved, Reaches}
 use Rattle.sound_state.proofs.ReachLemmas.{moved-sound, reached-sound}
 use Rattle.sound_state.proofs.events.CallSteps.{IsAside, begins-aside, steps-aside, begins-in_call, moved-in_call, step-ends_call}
 
@@ -35,7 +30,7 @@ run-aside g s caller (move ∷ moves) s' idle none reached =
     let rest = run-aside g reached.0 caller moves s' (subst IsIdle (sym first.errand) idle) (All-tail (IsNoBegin caller) move moves none) reached.2 in
     record { errand = rest.errand ∙ first.errand; events = rest.events ∙ first.events }
 
--- one that is in a call stays in it while it is busy
+-- a caller that is in a call and begins none stays in it through a run, while it is busy
 run-in_call :
     (g : Geometry) (s : State) (caller : ℕ) (call : Call) (before : List Event) (moves : List Move) (s' : State) → IsSound g s
     → caller < g.callers → IsInCall caller call before s → BeginsNothing caller moves → Reaches g s moves s' → IsBusy (s'.errand caller)
@@ -51,7 +46,7 @@ run-in_call g s caller call before (move ∷ moves) s' sound has now none reache
           (moved-in_call g s caller call before move reached.0 sound has now reached.1 going) (All-tail (IsNoBegin caller) move moves none) reached.2 busy
     ]
 
--- from the begin of the call on
+-- a caller stays in the call that it began through a run, while it is busy
 pub begun-in_call :
     (g : Geometry) (s : State) (caller : ℕ) (call : Call) (begun : State) (moves : List Move) (s' : State) → IsSound g s → caller < g.callers
     → BeginsCall s caller call begun → BeginsNothing caller moves → Reaches g begun moves s' → IsBusy (s'.errand caller)
@@ -65,7 +60,7 @@ begun-in_call g s caller call begun moves s' sound has b none reached busy =
           (begins-in_call g s caller call begun sound has b going) none reached busy
     ]
 
--- and to its end
+-- a call that began, and then a run, comes to its end with its answer
 pub begun-ends :
     (g : Geometry) (s : State) (caller : ℕ) (call : Call) (begun : State) (moves : List Move) (later after : State) (r : Reply) → IsSound g s
     → caller < g.callers → BeginsCall s caller call begun → BeginsNothing caller moves → Reaches g begun moves later → Step later caller after

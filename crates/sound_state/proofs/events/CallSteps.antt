@@ -1,13 +1,9 @@
 -- One move of any caller, seen by a caller that is in a call.
-use Rattle.std.proofs.Common.{ℕ, ◌≡◌, ◌≢◌, ◌<◌, List, [], ◌++◌, Some, inl, inr, refl, sym, ap, ◌∙◌, subst, append-nil}
-use Rattle.std.proofs.lemmas.Bool.{cases_eq, true≢false}
-use Rattle.sound_state.proofs.Common.{Geometry, Event, own, Reply, ErrandFields, settle_of, event_of, State, Step, found_at, name_at, with_event, IsSound}
-use Rattle.pool_model.specs.Histories.{caller_of}
-use Rattle.errand_steps.specs.declared.reply.Progress.TheVariants.{Done}
-use Rattle.errand_steps.specs.Begins.{IsIdle, IsBusy}
-use Rattle.errand_steps.specs.Calls.{Call, alloc, free, write, read, put, take, begun_by}
-use Rattle.errand_steps.specs.Errands.{answer_of}
-use Rattle.errand_steps.specs.Steps.{event_at}
+use Rattle.std.proofs.Common.{ℕ, ◌≡◌, ◌≢◌, ◌<◌, List, [], ◌++◌, Some, inl, inr, refl, sym, ap, ◌∙◌, subst, append-nil, true≢false}
+use Rattle.std.proofs.lemmas.Bool.{cases_eq}
+use Rattle.sound_state.proofs.Common.{Geometry, Event, own, Reply, ErrandFields, settle_of, event_of, State, Step, found_at, name_at, with_event, IsSound, caller_of}
+use Rattle.sound_state.proofs.Common.{Done, IsIdle, IsBusy, Call, alloc, free, write, read, put, begun_by, answer_of, event_at, BeginsCall, Move, begins, steps, Moved}
+use Rattle.errand_steps.specs.Calls.{take}
 use Rattle.errand_steps.proofs.EventLemmas.{event_own}
 use Rattle.call_events.specs.Ends.{HasEnded}
 use Rattle.call_events.specs.UnderWay.{IsUnderWay, IsAboutBlock}
@@ -15,16 +11,16 @@ use Rattle.call_events.proofs.AnswerLemmas.{step-goes_on, step-ends}
 use Rattle.call_events.proofs.BeginsLemmas.{call-begins}
 use Rattle.call_events.proofs.EndLemmas.{way-busy}
 use Rattle.sound_state.specs.Calls.{IsInCall, HasEndedCall}
-use Rattle.sound_state.specs.Runs.{BeginsCall, MayBegin, Move, begins, steps, Moved}
+use Rattle.sound_state.specs.Runs.{MayBegin}
 use Rattle.sound_state.proofs.CountedLemmas.{without-counts}
 use Rattle.sound_state.proofs.beginnings.BegunLemmas.{errand-block}
 use Rattle.sound_state.proofs.events.OwnEvents.{own-with_event, own-of_others, added-event}
 
--- whose event a step's is
+-- a step's event is its caller's
 event-of_step : (s : State) (caller : ℕ) (e : Event) → event_at s caller ≡ Some e → caller_of e ≡ caller
 event-of_step s caller e is = event_own caller (s.errand caller).point (found_at s caller) e is
 
--- the block that a call is about
+-- the block that a call is about is one of the heap's, where the caller may begin the call
 about-block :
     (g : Geometry) (s : State) (caller : ℕ) (call : Call) → IsSound g s → caller < g.callers → MayBegin s caller call
     → IsAboutBlock (s.errand caller).geometry call
@@ -49,7 +45,7 @@ begins-in_call g s caller call s' sound has b busy =
           (subst (λ (i : ℕ). IsUnderWay i call (begun_by (s.errand caller) call).point []) mine way);
     }
 
--- a step of the caller itself
+-- a step of a caller adds its event, if any, to the caller's own
 own-events :
     (s : State) (caller : ℕ) (s' : State) (before added : List Event) → Step s caller s' → own caller s.history ≡ before ++ added
     → own caller s'.history ≡ before ++ with_event added (event_at s caller)

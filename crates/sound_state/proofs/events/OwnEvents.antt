@@ -1,8 +1,6 @@
 -- A step adds an event to its caller's own, and none to another's.
 use Rattle.std.proofs.Common.{ℕ, ◌≡◌, ◌≢◌, List, [], ◌∷◌, ◌++◌, Option, Some, None, refl, ◌∙◌, sym, append_assoc, eq-eqb}
-use Rattle.sound_state.proofs.Common.{Event, own, with_event}
-use Rattle.pool_model.specs.Histories.{caller_of}
-use Rattle.pool_model.proofs.HistoryLemmas.{own-append}
+use Rattle.sound_state.proofs.Common.{Event, own, with_event, caller_of, own-append}
 use Rattle.sound_state.proofs.shared.EventFacts.{told-own}
 
 pub own-with_event :
@@ -17,7 +15,7 @@ pub own-of_others :
 own-of_others caller other history None is apart = refl
 own-of_others caller other history (Some e) is apart = told-own caller history e (λ same. apart (sym (is e refl) ∙ same))
 
--- an event behind what was added
+-- an event that comes behind added ones is added too
 pub added-event :
     (before added : List Event) (event : Option Event) → with_event (before ++ added) event ≡ before ++ with_event added event
 added-event before added None = refl

@@ -1,16 +1,12 @@
 -- What the step from each point does to the words of the available descriptors.
-use Rattle.std.proofs.Common.{ℕ, Some, ◌≡◌, ◌≤◌, ◌+◌, refl, arith, ap, inl, inr, ◌⊎◌}
-use Rattle.std.proofs.lemmas.Bool.{cases_eq, eq-eqb, ne_eqb}
+use Rattle.std.proofs.Common.{ℕ, Some, ◌≡◌, ◌≤◌, ◌+◌, refl, arith, ap, inl, inr, ◌⊎◌, eq-eqb, ne_eqb}
+use Rattle.std.proofs.lemmas.Bool.{cases_eq}
 use Rattle.sound_state.proofs.Common.{WordName, name_of, after_action, SeatFields, BlockPoint, Pile, Frames, Partials, StackPoint, head_name, next_name, DescPoint}
-use Rattle.sound_state.proofs.Common.{PartialPoint, LargePoint, Continuation, Point, pushed_by, plan_point_of, partly_used, holds_of, kept_among}
+use Rattle.sound_state.proofs.Common.{PartialPoint, LargePoint, Continuation, Point, pushed_by, plan_point_of, partly_used, holds_of, kept_among, plan_block_of}
+use Rattle.sound_state.proofs.Common.{plan_stack_of, plan_desc_of, plan_partial_of, plan_large_of}
 use Rattle.word_table.specs.declared.name.WordName.TheVariants as name
-use Rattle.superblock_parts.specs.Points.{plan_block_of}
 use Rattle.stack_parts.specs.declared.point.StackPoint.TheVariants as stack
-use Rattle.stack_parts.specs.Points.{plan_stack_of}
 use Rattle.hazard_parts.specs.declared.point.DescPoint.TheVariants as desc
-use Rattle.hazard_parts.specs.Points.{plan_desc_of}
-use Rattle.partial_parts.specs.Points.{plan_partial_of}
-use Rattle.large_parts.specs.Points.{plan_large_of}
 use Rattle.errand_steps.specs.declared.point.Point.TheVariants as point
 
 -- the word is neither a next word of a descriptor nor the head of the available ones
@@ -74,7 +70,7 @@ next-point e w (point.Desc p o) is = next-desc e w p o is
 next-point e w (point.Partial p o) is = absurd (off-next (name_of (plan_partial_of p)) e (off-partial p) is)
 next-point e w (point.Large p o) is = absurd (off-next (name_of (plan_large_of p)) e (off-large p) is)
 
--- a pop and a push of the available descriptors that are won, where the head is w and becomes v
+-- a won pop, and a won push, of an available descriptor at the point, where their head is w and becomes v
 pub record PopsAvailable (p : Point) (w v : ℕ) : Type 0 where
   pub seat : SeatFields
   pub d : ℕ
@@ -93,7 +89,7 @@ pub record PushesAvailable (p : Point) (w v : ℕ) : Type 0 where
   pub before : w ≡ top
   pub after : v ≡ d + 1
 
--- an action at the head leaves it, or is one of these
+-- an action at the head of the available descriptors leaves it, pops one or pushes one
 abbrev pub HeadGoes : Point → ℕ → ℕ → Type 0
 HeadGoes p w v = (v ≡ w) ⊎ (PopsAvailable p w v ⊎ PushesAvailable p w v)
 

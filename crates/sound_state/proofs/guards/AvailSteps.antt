@@ -1,23 +1,20 @@
 -- The available descriptors gain only what a caller pushes.
-use Rattle.std.proofs.Common.{ℕ, Some, ◌≡◌, ◌≢◌, ◌<◌, List, [], ◌∷◌, refl, arith, ap, sym, subst, inl, inr, ◌∙◌, ◌==◌, Contains, IfSome}
-use Rattle.std.proofs.lemmas.Bool.{cond-false, ne_eqb}
-use Rattle.std.proofs.lemmas.List.Elements.{All-head}
+use Rattle.std.proofs.Common.{ℕ, Some, ◌≡◌, ◌≢◌, ◌<◌, List, [], ◌∷◌, refl, arith, ap, sym, subst, inl, inr, ◌∙◌, ◌==◌, Contains, IfSome, ne_eqb}
+use Rattle.std.proofs.lemmas.Bool.{cond-false}
 use Rattle.sound_state.proofs.Common.{Geometry, WordName, after_action, descriptor_count, SeatFields, cases_name, occurs, Stacked, next_in, Partials, Continuation}
-use Rattle.sound_state.proofs.Common.{pushed_by, plan_point_of, State, Step, name_at, errand_has, Lists, IsSo, recalls_of, noted, says, looked, IsSoundWithoutCounts}
-use Rattle.sound_state.proofs.Common.{IsSoundWith, callers_sum}
+use Rattle.sound_state.proofs.Common.{pushed_by, plan_point_of, State, Step, name_at, errand_has, Lists, recalls_of, IsSoundWithoutCounts, IsSoundWith, callers_sum}
+use Rattle.sound_state.proofs.Common.{occurs-here, occurs-more}
 use Rattle.word_table.specs.declared.name.WordName.TheVariants as name
-use Rattle.superblock_parts.proofs.ChainLemmas.{occurs-here, occurs-more}
 use Rattle.hazard_parts.specs.declared.point.DescPoint.TheVariants as desc
 use Rattle.errand_steps.specs.declared.point.Point.TheVariants as point
 use Rattle.sound_state.specs.Guarding.{IsAvailable}
-use Rattle.sound_state.specs.Recalls.{resumed_recalls}
 use Rattle.sound_state.proofs.guards.AvailPoints.{PopsAvailable, HeadGoes, head-point, next-point}
 use Rattle.sound_state.proofs.shared.ListFacts.{contains-occurs, occurring-all}
-use Rattle.sound_state.proofs.shared.PointLemmas.{so-at}
+use Rattle.sound_state.proofs.shared.PointLemmas.{recalled-at}
 use Rattle.sound_state.proofs.shared.StackedLemmas.{stacked-same, stacked-agrees}
 use Rattle.sound_state.proofs.shared.SumLemmas.{term-sum}
 
--- what is available no caller has
+-- no caller has an available descriptor
 unavailable :
     (g : Geometry) (s : State) (l : Lists) (caller e : ℕ) → IsSoundWith g s l → caller < g.callers → 0 < occurs e l.available
     → errand_has e (s.errand caller) ≡ 0
@@ -26,7 +23,7 @@ unavailable g s l caller e old has on =
     let exists : e < descriptor_count g = occurring-all (λ d. d < descriptor_count g) e l.available old.listed.available_exist on in
     omega (arith, old.kept.once e exists, on, term-sum g.callers (λ i. errand_has e (s.errand i)) caller has)
 
--- so a step leaves the next words of what is available
+-- a step leaves the next words of available descriptors
 nexts-stay :
     (g : Geometry) (s : State) (l : Lists) (caller : ℕ) (s' : State) → IsSoundWith g s l → caller < g.callers → Step s caller s' → (e : ℕ)
     → 0 < occurs e l.available → s'.word (name.Next e) ≡ s.word (name.Next e)
@@ -51,7 +48,7 @@ nexts-stay g s l caller s' old has step e on =
           ]
     ]
 
--- what a pop that is won leaves is what it noted
+-- a won pop leaves as the head of the available descriptors what their next word says
 pub noted-below :
     (g : Geometry) (s : State) (caller d next : ℕ) (seat : SeatFields) (o : Continuation) → IsSoundWithoutCounts g s → caller < g.callers
     → (s.errand caller).point ≡ point.Desc (desc.PopDesc seat d next) o → IsAvailable g s d → s.word (name.Next d) ≡ next
@@ -59,21 +56,20 @@ unfolding recalls_of
 noted-below g s caller d next seat o sound has stands there =
     let l = sound.parts.0 in
     let old = sound.parts.1 in
-    let so = so-at g s l caller (point.Desc (desc.PopDesc seat d next) o) old has stands in
+    let (so_next, rest) = recalled-at g s l caller (point.Desc (desc.PopDesc seat d next) o) old has stands in
     let same : there.lists.available ≡ l.available =
     stacked-same _ _ there.lists.available l.available there.listed.available old.listed.available in
-    All-head (IsSo g s l caller) (noted d next) (looked seat.class ∷ []) so (subst (λ xs. 0 < occurs d xs) same there.here)
+    so_next (subst (λ xs. 0 < occurs d xs) same there.here)
 
--- the next word of what is pushed says the top that was read
+-- the next word of a descriptor that is pushed says the top that was read
 pushed-below :
     (g : Geometry) (s : State) (l : Lists) (caller d top : ℕ) (seat : SeatFields) (o : Continuation) → IsSoundWith g s l → caller < g.callers
     → (s.errand caller).point ≡ point.Desc (desc.PushDesc seat d top) o → s.word (name.Next d) ≡ top
 unfolding recalls_of
 pushed-below g s l caller d top seat o old has stands =
-    let so = so-at g s l caller (point.Desc (desc.PushDesc seat d top) o) old has stands in
-    (All-head (IsSo g s l caller) (says (name.Next d) top) (resumed_recalls seat o) so).1
+    let (said, rest) = recalled-at g s l caller (point.Desc (desc.PushDesc seat d top) o) old has stands in said.1
 
--- after a pop the list is the rest of the one before it
+-- after a won pop of an available descriptor the list is the rest of the one before it
 popped-gains :
     (g : Geometry) (s : State) (l : Lists) (caller d : ℕ) (words' : WordName → ℕ) (xs : List ℕ) → IsSoundWithoutCounts g s → IsSoundWith g s l
     → caller < g.callers → PopsAvailable (s.errand caller).point (s.word name.DescHead) (words' name.DescHead)
@@ -94,7 +90,7 @@ popped-gains g s l caller d words' (x ∷ xs) sound old has pop stack is ys afte
     let same : ys ≡ xs = stacked-same _ _ ys xs after rest in
     omega (arith, occurs-more d x xs, subst (λ zs. 0 < occurs d zs) same on)
 
--- any step
+-- a step makes no descriptor available that its caller doesn't push
 pub available-stepped :
     (g : Geometry) (s : State) (caller d : ℕ) (s' : State) → IsSoundWithoutCounts g s → caller < g.callers → Step s caller s'
     → pushed_by (s.errand caller).point ≢ Some d → IsAvailable g s' d → IsAvailable g s d

@@ -1,39 +1,30 @@
 -- What follows each point: what a scan has noted, what is pushed, and who stores to a hazard word.
-use Rattle.std.proofs.Common.{ℕ, Bool, true, false, Option, Some, None, ◌≡◌, ◌<◌, ◌+◌, List, refl, arith, ap, sym, subst, inl, inr, ◌∙◌, length, length-set, get_or-set_other}
-use Rattle.std.specs.Prelude.{◌⊎◌, slice_index, slice_set, nat_lt}
-use Rattle.std.proofs.lemmas.Bool.{cases_eq, cond_both, true≢false, ltb-false}
+use Rattle.std.proofs.Common.{ℕ, Bool, true, false, Option, Some, None, ◌≡◌, ◌<◌, ◌+◌, List, refl, arith, ap, sym, subst, inl, inr, ◌∙◌, length, length-set}
+use Rattle.std.proofs.Common.{get_or-set_other, ◌⊎◌, slice_index, slice_set, nat_lt, true≢false, ltb-false}
+use Rattle.std.proofs.lemmas.Bool.{cases_eq, cond_both}
 use Rattle.std.proofs.lemmas.Option.{none-some}
 use Rattle.std.proofs.lemmas.Grind.{get_or-set_at}
-use Rattle.sound_state.proofs.Common.{Geometry, IsChecked, descriptor_count, Found, name_of, after_action, SeatFields, BlockPoint, Pile, Frames, Partials}
-use Rattle.sound_state.proofs.Common.{StackPoint, head_name, next_name, DescPoint, PartialPoint, LargePoint, Continuation, Next, At, End, Retire, Pick, Unlist}
-use Rattle.sound_state.proofs.Common.{Point, FitsPoint, pushed_by, next_of, plan_point_of, passed_by, held_by}
-use Rattle.word_table.specs.declared.action.Action.{Action}
-use Rattle.word_table.specs.declared.action.Action.TheVariants.{Store}
+use Rattle.sound_state.proofs.Common.{Geometry, IsChecked, descriptor_count, Found, name_of, after_action, SeatFields, BlockPoint, Pile, Frames, Partials, StackPoint}
+use Rattle.sound_state.proofs.Common.{head_name, next_name, DescPoint, PartialPoint, LargePoint, Continuation, Next, At, End, Retire, Pick, Unlist, Point, FitsPoint}
+use Rattle.sound_state.proofs.Common.{pushed_by, next_of, plan_point_of, passed_by, held_by, Action, Store, Onward, FitsBlock, settle_block_of, plan_block_of}
+use Rattle.sound_state.proofs.Common.{StackExit, settle_stack_of, plan_stack_of, settle_desc_of, plan_desc_of, after_hazard, named_in, PartialExit, settle_partial_of}
+use Rattle.sound_state.proofs.Common.{plan_partial_of, LargeExit, settle_large_of, plan_large_of, Turn, enter_block, enter_stack, enter_desc, enter_partial}
+use Rattle.sound_state.proofs.Common.{enter_large}
 use Rattle.word_table.specs.declared.name.WordName.TheVariants as name
-use Rattle.word_table.specs.declared.onward.Onward.{Onward}
 use Rattle.word_table.specs.declared.onward.Onward.TheVariants.{Stays, Leaves}
 use Rattle.superblock_parts.specs.declared.exit.BlockExit.{BlockExit}
 use Rattle.superblock_parts.specs.declared.point.BlockPoint.TheVariants as block
-use Rattle.superblock_parts.specs.Points.{FitsBlock, settle_block_of, plan_block_of}
-use Rattle.stack_parts.specs.declared.exit.StackExit.{StackExit}
-use Rattle.stack_parts.specs.Points.{settle_stack_of, plan_stack_of}
 use Rattle.hazard_parts.specs.declared.exit.DescExit.TheVariants.{Scanned}
 use Rattle.hazard_parts.specs.declared.point.DescPoint.TheVariants as desc
-use Rattle.hazard_parts.specs.Points.{FitsDesc, settle_desc_of, plan_desc_of, after_hazard, named_in}
+use Rattle.hazard_parts.specs.Points.{FitsDesc}
 use Rattle.hazard_parts.proofs.PickLemmas.{named-here}
-use Rattle.partial_parts.specs.declared.exit.PartialExit.{PartialExit}
-use Rattle.partial_parts.specs.Points.{settle_partial_of, plan_partial_of}
-use Rattle.large_parts.specs.declared.exit.LargeExit.{LargeExit}
-use Rattle.large_parts.specs.Points.{settle_large_of, plan_large_of}
-use Rattle.errand_steps.specs.declared.next.Next.TheVariants.{Turn}
 use Rattle.errand_steps.specs.declared.point.Point.TheVariants as point
 use Rattle.errand_steps.specs.Fits.{pushed_by_desc}
-use Rattle.errand_steps.specs.Nexts.{enter_block, enter_stack, enter_desc, enter_partial, enter_large}
 use Rattle.sound_state.specs.Guards.{passed_by_desc, held_by_desc}
 use Rattle.sound_state.proofs.hazards.HazardLemmas.{hazard_caller}
 use Rattle.sound_state.proofs.shared.GuardEffects.{scans}
 
--- what is pushed where the caller goes on, but for what a scan picks
+-- what is pushed where a caller goes on, but for what a scan picks
 abbrev pub next_pushed : Next → Option ℕ
 next_pushed (At p) = pushed_by p
 next_pushed n = None
@@ -53,7 +44,7 @@ pushed-large n o = grind (arith)
 pushed-desc : (p : DescPoint) (x : Found) (o : Continuation) (d : ℕ) → next_pushed (enter_desc (settle_desc_of p x) o) ≡ Some d → pushed_by_desc p ≡ Some d
 pushed-desc p x o d is = grind (arith, is)
 
--- whatever is pushed then was pushed before
+-- what is pushed where a step leads, but for what a scan picks, was pushed before
 pub pushed-next : (p : Point) (x : Found) (d : ℕ) → next_pushed (next_of p x) ≡ Some d → pushed_by p ≡ Some d
 unfolding next_of
 pushed-next point.Idle x d is = is
@@ -63,7 +54,7 @@ pushed-next (point.Desc p o) x d is = pushed-desc p x o d is
 pushed-next (point.Partial p o) x d is = absurd (none-some d (sym (pushed-partial (settle_partial_of p x) o) ∙ is))
 pushed-next (point.Large p o) x d is = absurd (none-some d (sym (pushed-large (settle_large_of p x) o) ∙ is))
 
--- whether a scan goes on or is over
+-- whether a scan goes on, or is over, in what follows a step
 abbrev scans_on : Next → Bool
 scans_on (At p) = nat_lt 0 (passed_by p)
 scans_on (Pick s held o) = true
@@ -84,7 +75,7 @@ reads-large n o = grind (arith)
 reads-desc : (p : DescPoint) (x : Found) (o : Continuation) → scans p ≡ false → scans_on (enter_desc (settle_desc_of p x) o) ≡ false
 reads-desc p x o is = grind (arith, is)
 
--- where the caller goes on, it has noted d + 1 as the hazard word of k, where it has passed that one; and where its scan is over
+-- what follows a step has noted d + 1 as the hazard word of k, where its scan goes on past that one, or is over
 abbrev pub NextNotes : ℕ → ℕ → Next → Type 0
 NextNotes k d (At p) = k < passed_by p → slice_index (held_by p) k ≡ d + 1
 NextNotes k d (Pick s held o) = (k < length held) × (slice_index held k ≡ d + 1)
@@ -98,7 +89,7 @@ unread-notes k d (Turn s need) none = tt
 unread-notes k d (Retire s e o) none = tt
 unread-notes k d (Unlist s e o) none = tt
 
--- the words that were noted, with the one that is read
+-- the noted words say d + 1 for k with the one that is read, where they did or that one does
 word-notes :
     (held : List ℕ) (i k d v : ℕ) → i < length held → (k < i → slice_index held k ≡ d + 1) → (k ≡ i → v ≡ d + 1) → k < i + 1
     → slice_index (slice_set held i v) k ≡ d + 1
@@ -108,7 +99,7 @@ word-notes held i k d v room noted scans_on below =
       | inr differ ↦ get_or-set_other held i k v 0 differ ∙ noted (omega (arith, below, differ))
     ]
 
--- where a hazard word is read
+-- what follows the read of a hazard word has noted d + 1 for k, where the notes and the word that is read say so
 read-notes :
     (g : Geometry) (caller k d : ℕ) (s : SeatFields) (held : List ℕ) (i : ℕ) (o : Continuation) (v : ℕ) → IsChecked g → k < g.callers → d < descriptor_count g
     → FitsDesc g caller (desc.ReadHazard s held i) → (k < i → slice_index held k ≡ d + 1) → (k ≡ i → v ≡ d + 1)
@@ -127,7 +118,7 @@ read-notes g caller k d s held i o v checked has exists fits noted scans_on =
       notes (omega (arith, has, all, ltb-false (i + 1) s.geometry.callers last)),
     ))
 
--- at the descriptors or the hazard words
+-- what follows a step at the descriptors or the hazard words has noted d + 1 for k
 desc-notes :
     (g : Geometry) (caller k d : ℕ) (p : DescPoint) (o : Continuation) (x : Found) → IsChecked g → k < g.callers → d < descriptor_count g
     → FitsPoint g caller (point.Desc p o)
@@ -138,7 +129,7 @@ desc-notes g caller k d (desc.ReadHazard s held i) o x checked has exists fits n
 desc-notes g caller k d p o x checked has exists fits noted scans_on =
     unread-notes k d (enter_desc (settle_desc_of p x) o) (reads-desc p x o refl)
 
--- at each point: who has noted the word of k, or scans_on it now
+-- what follows a step at each point has noted the hazard word of k, if it had, or reads it now
 pub notes-next :
     (g : Geometry) (caller k d : ℕ) (p : Point) (x : Found) → IsChecked g → k < g.callers → d < descriptor_count g → FitsPoint g caller p
     → (k < passed_by p → slice_index (held_by p) k ≡ d + 1) → (name_of (plan_point_of p) ≡ name.Hazard k → x.value ≡ d + 1)
@@ -151,11 +142,11 @@ notes-next g caller k d (point.Desc p o) x checked has exists fits noted scans_o
 notes-next g caller k d (point.Partial p o) x checked has exists fits noted scans_on = unread-notes k d _ (reads-partial (settle_partial_of p x) o)
 notes-next g caller k d (point.Large p o) x checked has exists fits noted scans_on = unread-notes k d _ (reads-large (settle_large_of p x) o)
 
--- an action at a hazard word leaves it, or is the store of the caller whose word it is
+-- an action at the hazard word of k leaves it, or is a store and the caller is k
 abbrev pub MayStore : ℕ → ℕ → Action → ℕ → Type 0
 MayStore caller k a w = (after_action a w ≡ w) ⊎ ((caller ≡ k) × (new : ℕ) × (a ≡ Store (name.Hazard k) new))
 
--- a store to the hazard word of the seat's caller is one of those
+-- a store to the hazard word of the seat's caller is one to the caller's own
 own-store :
     (caller k i new w : ℕ) → i ≡ caller → name.Hazard i ≡ name.Hazard k → MayStore caller k (Store (name.Hazard i) new) w
 own-store caller k i new w own is =
@@ -175,7 +166,7 @@ store-desc g caller k w (desc.ClearHazard s) fits is = own-store caller k s.call
 store-desc g caller k w (desc.ReadHazard s held i) fits is = inl refl
 store-desc g caller k w p fits is = absurd (cc)
 
--- no other part acts on a hazard word
+-- no step at a stack, a partial superblock, a large block or a shelf acts on a hazard word
 head-not-hazard : (s : SeatFields) (pile : Pile) (k : ℕ) → head_name s pile ≡ name.Hazard k → ⊥
 head-not-hazard s Frames k is = cc
 head-not-hazard s Partials k is = cc
@@ -193,7 +184,7 @@ not-partial p k is = grind (arith, is)
 large-not-hazard : (p : LargePoint) (k : ℕ) → name_of (plan_large_of p) ≡ name.Hazard k → ⊥
 large-not-hazard p k is = grind (arith, is)
 
--- at each point
+-- a step at each point that acts on a hazard word reads it, or stores to its caller's own
 pub may-store :
     (g : Geometry) (caller k w : ℕ) (p : Point) → FitsPoint g caller p → name_of (plan_point_of p) ≡ name.Hazard k → MayStore caller k (plan_point_of p) w
 unfolding plan_point_of

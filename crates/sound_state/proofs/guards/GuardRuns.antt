@@ -2,29 +2,26 @@
 use Rattle.std.proofs.Common.{ℕ, true, None, Some, ◌≡◌, ◌≢◌, ◌<◌, List, [], ◌∷◌, refl, arith, ap, sym, subst, ◌∙◌}
 use Rattle.std.proofs.lemmas.Bool.{cond_both}
 use Rattle.std.proofs.lemmas.Option.{none-some}
-use Rattle.sound_state.proofs.Common.{Geometry, Need, Small, need_of, Point, ErrandFields, pushed_by, State, passed_by, IsListed, IsSoundWithoutCounts}
-use Rattle.heap_geometry.specs.declared.need.Need.TheVariants.{Large, TooLarge}
-use Rattle.errand_steps.specs.Begins.{IsIdle, begins_alloc, alloc_begun, free_point, free_begun, write_begun, read_begun, put_begun, take_begun}
-use Rattle.errand_steps.specs.Calls.{Call, alloc, free, write, read, put, take, begun_by}
-use Rattle.errand_steps.specs.Errands.{is_spent}
-use Rattle.errand_steps.specs.Points.{is_idle}
+use Rattle.sound_state.proofs.Common.{Geometry, Need, Small, need_of, Point, ErrandFields, pushed_by, State, passed_by, IsListed, IsSoundWithoutCounts, TooLarge}
+use Rattle.sound_state.proofs.Common.{IsIdle, begins_alloc, alloc_begun, free_begun, write_begun, read_begun, put_begun, take_begun, Call, alloc, free, write, read}
+use Rattle.sound_state.proofs.Common.{put, begun_by, is_spent, is_idle, Guards, BeginsCall, Move, begins, steps, Moved, with_errands}
+use Rattle.heap_geometry.specs.declared.need.Need.TheVariants.{Large}
+use Rattle.errand_steps.specs.Begins.{free_point}
+use Rattle.errand_steps.specs.Calls.{take}
 use Rattle.sound_state.specs.Guarding.{IsAvailable, IsGuardedBy, LeavesHazard, ReachesUnstored}
-use Rattle.sound_state.specs.Guards.{Guards}
-use Rattle.sound_state.specs.Runs.{BeginsCall, Move, begins, steps, Moved}
-use Rattle.sound_state.specs.Sound.{with_errands}
 use Rattle.sound_state.proofs.ReachLemmas.{move-sound}
 use Rattle.sound_state.proofs.guards.AvailSteps.{available-stepped}
 use Rattle.sound_state.proofs.guards.GuardSettles.{HasNoted}
 use Rattle.sound_state.proofs.guards.GuardSteps.{guarded-stepped}
 use Rattle.sound_state.proofs.shared.CallerLemmas.{each-other}
 
--- the caller has the same list, pushes nothing and scans nothing
+-- an errand with the same retired list as another one, at a point that pushes nothing and scans nothing
 record ScansNothing (e e' : ErrandFields) : Type 0 where
   pub retired : e'.retired ≡ e.retired
   pub pushed : pushed_by e'.point ≡ None
   pub passed : passed_by e'.point ≡ 0
 
--- so it does where it is in no call
+-- a caller that is in no call pushes nothing and scans nothing
 idle-pushed : (p : Point) → is_idle p ≡ true → pushed_by p ≡ None
 idle-pushed p idle = grind (arith, idle)
 
@@ -34,7 +31,7 @@ idle-passed p idle = grind (arith, idle)
 idle-fresh : (e : ErrandFields) → IsIdle e → ScansNothing e e
 idle-fresh e idle = record { retired = refl; pushed = idle-pushed e.point idle; passed = idle-passed e.point idle }
 
--- and where it begins a call
+-- a caller that begins a call has the same list, pushes nothing and scans nothing
 alloc-fresh : (e : ErrandFields) (words : ℕ) (n : Need) → IsIdle e → ScansNothing e (begins_alloc e words n)
 alloc-fresh e words (Small class) idle =
     cond_both (is_spent e) e _ (ScansNothing e) (λ spent. idle-fresh e idle) (λ has. record { retired = refl; pushed = refl; passed = refl })
@@ -55,7 +52,7 @@ begun-fresh e (read place need i) idle = record { retired = refl; pushed = refl;
 begun-fresh e (put place need shelf) idle = record { retired = refl; pushed = refl; passed = refl }
 begun-fresh e (take shelf) idle = record { retired = refl; pushed = refl; passed = refl }
 
--- a call that begins keeps what is guarded
+-- a call that begins keeps what a caller guards
 guarded-begun :
     (g : Geometry) (s : State) (caller d other : ℕ) (call : Call) (s' : State) → IsGuardedBy g s caller d → BeginsCall s other call s' → IsGuardedBy g s' caller d
 guarded-begun g s caller d other call s' guarded b =
@@ -71,7 +68,7 @@ guarded-begun g s caller d other call s' guarded b =
     } in
     subst (λ t. IsGuardedBy g t caller d) (sym b.after) after
 
--- any such move does
+-- any move in which a caller doesn't store to its own hazard word keeps what it guards
 guarded-moved :
     (g : Geometry) (s : State) (caller d : ℕ) (move : Move) (s' : State) → IsSoundWithoutCounts g s → caller < g.callers → LeavesHazard s caller move
     → IsGuardedBy g s caller d → Moved g s move s' → IsGuardedBy g s' caller d
@@ -87,7 +84,7 @@ guarded-reached g caller d s (move ∷ rest) s' sound has guarded (next, leaves,
     guarded-reached g caller d next rest s' (move-sound g s move next sound moved) has
     (guarded-moved g s caller d move next sound has leaves guarded moved) reached
 
--- what a caller guards is guarded so
+-- a descriptor that a caller of a sound state guards is guarded by it
 pub guards-give : (g : Geometry) (s : State) (caller d : ℕ) → IsSoundWithoutCounts g s → caller < g.callers → Guards s caller d → IsGuardedBy g s caller d
 guards-give g s caller d sound has guards =
     let guarded = sound.parts.1.guarded in
@@ -97,7 +94,7 @@ guards-give g s caller d sound has guards =
       passed = λ other has_other. guarded.passed caller other d has has_other guards;
     }
 
--- and goes on to be
+-- moves in which a caller doesn't store to its own hazard word keep what it guards
 pub guards-reached :
     (g : Geometry) (caller d : ℕ) (s : State) (moves : List Move) (s' : State) → IsSoundWithoutCounts g s → caller < g.callers → Guards s caller d
     → ReachesUnstored g caller s moves s' → IsGuardedBy g s' caller d
@@ -114,7 +111,7 @@ available-moved g s d (begins other call) s' sound unpushed moved there =
 available-moved g s d (steps other) s' sound unpushed moved there =
     available-stepped g s other d s' sound moved.0 moved.1 (unpushed other moved.0) there
 
--- so a guarded descriptor does not go back to the available ones
+-- a guarded descriptor isn't made available again while its guard's caller doesn't store to its hazard word
 pub unavailable-reached :
     (g : Geometry) (caller d : ℕ) (s : State) (moves : List Move) (s' : State) → IsSoundWithoutCounts g s → caller < g.callers → IsGuardedBy g s caller d
     → ReachesUnstored g caller s moves s' → IsAvailable g s' d → IsAvailable g s d

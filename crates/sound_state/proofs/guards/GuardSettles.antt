@@ -4,17 +4,14 @@ use Rattle.std.proofs.lemmas.Bool.{cond_both}
 use Rattle.std.proofs.lemmas.List.{get_or_default}
 use Rattle.std.proofs.lemmas.Option.{none-some}
 use Rattle.sound_state.proofs.Common.{Found, SeatFields, Continuation, Next, At, End, Retire, Pick, Unlist, Point, ErrandFields, settle_of, course_of, pushed_by}
-use Rattle.sound_state.proofs.Common.{next_of, passed_by, held_by}
+use Rattle.sound_state.proofs.Common.{next_of, passed_by, held_by, first_unheld, Turn, after_list, after_turn, picked, turned, is_full, no_words, point_after, resumed}
 use Rattle.hazard_parts.specs.declared.point.DescPoint.TheVariants as desc
-use Rattle.hazard_parts.specs.Retired.{first_unheld}
 use Rattle.hazard_parts.proofs.PickLemmas.{some-listed, some-free}
-use Rattle.errand_steps.specs.declared.next.Next.TheVariants.{Turn}
 use Rattle.errand_steps.specs.declared.point.Point.TheVariants as point
-use Rattle.errand_steps.specs.Errands.{after_list, after_turn, picked, turned, is_full, no_words, point_after, list_after}
-use Rattle.errand_steps.specs.Nexts.{resumed}
+use Rattle.errand_steps.specs.Errands.{list_after}
 use Rattle.sound_state.proofs.guards.GuardNexts.{NextNotes, next_pushed, pushed-next}
 
--- a caller that has retired d has noted the word of k where it has passed it
+-- a caller that has retired d has noted d + 1 as the hazard word of k, where its scan has passed that
 abbrev pub HasNoted : ℕ → ℕ → ErrandFields → Type 0
 HasNoted k d e = Contains e.retired d → k < passed_by e.point → slice_index (held_by e.point) k ≡ d + 1
 
@@ -23,7 +20,7 @@ record IsBlank (p : Point) : Type 0 where
   pub pushed : pushed_by p ≡ None
   pub passed : passed_by p ≡ 0
 
--- so it is where a call goes on after a retirement, where a turn begins, and where a scan does
+-- nothing is pushed and no scan has passed anything where a call goes on after a retirement, a turn begins, or a scan does
 resumed-blank : (e : ErrandFields) (s : SeatFields) (o : Continuation) → IsBlank (point_after (after_turn e (resumed s o)))
 resumed-blank e s o = record { pushed = grind (arith); passed = grind (arith) }
 
@@ -35,16 +32,16 @@ retired-blank e s d o =
     cond_both (is_full e) (At (point.Desc (desc.ReadHazard s no_words 0) o)) (resumed s o)
     (λ n. IsBlank (point_after (after_turn e n))) (λ full. record { pushed = refl; passed = refl }) (λ room. resumed-blank e s o)
 
--- nobody that is picked has a hazard word's note
+-- a descriptor that a scan picks isn't one that the noted words name
 picked-free :
     (k d : ℕ) (held ds : List ℕ) → (Contains ds d → (k < length held) × (slice_index held k ≡ d + 1)) → first_unheld held ds ≡ Some d → ⊥
 picked-free k d held ds notes pick =
     let noted = notes (some-listed held ds d pick) in
     some-free held ds d pick (k, noted.0, get_or_default held k (d + 1) 0 noted.0 ∙ noted.1)
 
--- what it has noted after the step
+-- an errand and what its step finds, for what it has noted and pushes after the step
 module _ (k d : ℕ) (e : ErrandFields) (x : Found) where
-  -- the caller with this list at this point
+  -- at the point a caller with this list has noted d + 1 for k, if it has retired d and its scan has passed k
   abbrev NotedAt : List ℕ → Point → Type 0
   NotedAt ds p = Contains ds d → k < passed_by p → slice_index (held_by p) k ≡ d + 1
 
@@ -70,7 +67,7 @@ module _ (k d : ℕ) (e : ErrandFields) (x : Found) where
   unfolding settle_of course_of
   settled-notes noted next = list-notes (next_of e.point x) noted next
 
-  -- and what it pushes
+  -- what a caller pushes after its scan isn't what the noted words name
   pick-pushes :
       (s : SeatFields) (held : List ℕ) (o : Continuation) (r : Option ℕ) → first_unheld held e.retired ≡ r
       → (Contains e.retired d → (k < length held) × (slice_index held k ≡ d + 1)) → pushed_by e.point ≢ Some d

@@ -9,7 +9,7 @@ use Rattle.sound_state.proofs.guards.GuardSettles.{HasNoted, settled-notes, sett
 use Rattle.sound_state.proofs.shared.CallerLemmas.{each-other}
 use Rattle.sound_state.proofs.shared.PointLemmas.{fits-now, retired-exists}
 
--- the hazard word stays
+-- a caller's hazard word stays in a step that isn't the caller's own store to it
 hazard-stays :
     (g : Geometry) (s : State) (caller other : ℕ) (s' : State) → IsSoundWithoutCounts g s → other < g.callers
     → (other ≡ caller → StoresHazard s caller → ⊥) → Step s other s' → s'.word (name.Hazard caller) ≡ s.word (name.Hazard caller)
@@ -26,7 +26,7 @@ hazard-stays g s caller other s' sound has leaves step =
           ]
     ]
 
--- what the caller that makes the step has noted where it goes on
+-- the caller that makes the step has noted the guarded descriptor where it goes on
 step-notes :
     (g : Geometry) (s : State) (caller d other : ℕ) → IsSoundWithoutCounts g s → caller < g.callers → other < g.callers → IsGuardedBy g s caller d
     → Contains (s.errand other).retired d → NextNotes caller d (next_of (s.errand other).point (found_at s other))

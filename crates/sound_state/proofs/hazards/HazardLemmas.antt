@@ -5,16 +5,15 @@ use Rattle.sound_state.proofs.Common.{Geometry, Found, WordName, name_of, after_
 use Rattle.sound_state.proofs.Common.{occurs, ErrandFields, counts_cleared, settle_of, course_of, event_of, spare_of, pushed_by, next_of, plan_point_of, State, Step}
 use Rattle.sound_state.proofs.Common.{found_at, IsHazard, IsGuard, passed_by, held_by, holds_of, waiting, on_its_way, IsKeptAs, word_keeps, Lists, IsSo, IsOwned}
 use Rattle.sound_state.proofs.Common.{recalls_of, IsSoundWithoutCounts, IsSoundWith, waits_in, word_stock, stock_among, word_reserves, reserved_among, kept_among}
+use Rattle.sound_state.proofs.Common.{first_unheld, Guards, IsPlain}
 use Rattle.word_table.specs.declared.name.WordName.TheVariants as name
 use Rattle.hazard_parts.specs.declared.point.DescPoint.TheVariants as desc
-use Rattle.hazard_parts.specs.Retired.{first_unheld}
-use Rattle.sound_state.specs.Guards.{Guards}
-use Rattle.sound_state.specs.Recalls.{IsPlain}
-use Rattle.sound_state.proofs.shared.ShownLemmas.{actives-same, GuardsAnew, MayGuard, ActivesKept}
+use Rattle.sound_state.proofs.shared.ShownLemmas.{GuardsAnew, MayGuard}
 use Rattle.sound_state.proofs.shared.StepLemmas.{PointStands, TurnGoes, at_point, settle-at, settle-end, step-most, found_from, actives-stay, words-stay}
 use Rattle.sound_state.proofs.shared.WeighLemmas.{WeighMost}
+use Rattle.sound_state.proofs.shared.SuperblocksStay.{actives-same, ActivesKept}
 
--- at the second point a caller holds what it holds at the first, but for its hazard word, and is no further back in its turn
+-- at q a caller holds what it holds at p, but for its hazard word, and is no further back in its turn
 pub record HoldsBut (p q : Point) : Type 0 where
   pub credits : (holds_of q).credits ≡ (holds_of p).credits
   pub kept : (holds_of q).kept ≡ (holds_of p).kept
@@ -25,7 +24,7 @@ pub record HoldsBut (p q : Point) : Type 0 where
   pub spare : spare_of q ≡ spare_of p
   pub turn : TurnGoes p q
 
--- it may stand there, where what it remembers is so
+-- a caller that holds the same but for its hazard word may stand at the point, where what it remembers is so
 but-stands :
     (g : Geometry) (s : State) (l : Lists) (caller : ℕ) (q : Point) → IsSoundWith g s l → caller < g.callers → HoldsBut (s.errand caller).point q
     → All (IsSo g s l caller) (recalls_of q) → PointStands g s l caller (s.errand caller).point q
@@ -43,7 +42,7 @@ but-stands g s l caller q old has h so = record {
   turn = h.turn;
 }
 
--- a word that weighs nothing, or stays, and an errand that holds the same
+-- a word that weighs nothing, or stays, and an errand that holds the same weigh what they did
 but-weighs :
     (n : WordName) (before after : ℕ) (e : ErrandFields) (x : Found) (q : Point) → HoldsBut e.point q → (IsPlain n → after ≡ before)
     → ((d : ℕ) → word_reserves d n after ≡ word_reserves d n before) → ((d : ℕ) → word_keeps d n after ≡ word_keeps d n before)
@@ -59,7 +58,7 @@ but-weighs n before after e x q h plain reserves keeps stock = record {
   stock = λ class. omega (arith, stock class, h.stock class);
 }
 
--- what the step to this point needs, where this is the hazard word after it
+-- what a step from p to q needs that stores or reads hazard words, where this is the caller's hazard word after it
 pub record GoesHazard (g : Geometry) (s : State) (l : Lists) (caller : ℕ) (p q : Point) (word : ℕ) : Type 0 where
   pub event : event_of caller p (found_from s p) ≡ None
   pub cleared : counts_cleared p (found_from s p) ≡ false
@@ -67,7 +66,7 @@ pub record GoesHazard (g : Geometry) (s : State) (l : Lists) (caller : ℕ) (p q
   pub so : All (IsSo g s l caller) (recalls_of q)
   pub guards : MayGuard g s caller q (s.errand caller).retired word
 
--- it leads there
+-- a step at the point leads to the other one
 pub leads-at :
     (s : State) (caller : ℕ) (p q : Point) → (s.errand caller).point ≡ p → next_of p (found_from s p) ≡ At q
     → settle_of (s.errand caller) (found_at s caller) ≡ at_point (s.errand caller) (found_at s caller) q
@@ -76,7 +75,7 @@ leads-at s caller p q stands next =
     subst (λ r. next_of r (found_from s r) ≡ At q) (sym stands) next in
     settle-at (s.errand caller) (found_at s caller) q is
 
--- it ends the call
+-- a step at the point ends the call
 pub ends-at :
     (s : State) (caller : ℕ) (p : Point) (r : Reply) → (s.errand caller).point ≡ p → next_of p (found_from s p) ≡ End r
     → settle_of (s.errand caller) (found_at s caller) ≡ at_point (s.errand caller) (found_at s caller) Idle
@@ -85,7 +84,7 @@ ends-at s caller p r stands next =
     subst (λ q. next_of q (found_from s q) ≡ End r) (sym stands) next in
     settle-end (s.errand caller) (found_at s caller) r is
 
--- where a scan ends: at the push of what it picked; where it picked nothing the point stays
+-- the point at which a scan ends: the push of what it picked, or the same point where it picked nothing
 abbrev pub picked_point : Point → SeatFields → Continuation → Option ℕ → Point
 picked_point p seat o None = p
 picked_point p seat o (Some d) = Desc (desc.LoadHeadToPush seat d) o
@@ -107,7 +106,7 @@ picks-at s caller p seat held o r stands next pick =
     subst (λ q. settle_of (s.errand caller) (found_at s caller) ≡ at_point (s.errand caller) (found_at s caller) (picked_point q seat o r)) stands
     (settle-picked (s.errand caller) (found_at s caller) seat held o r is pick)
 
--- a step that reads a word
+-- a step that leaves its word, after which its caller holds what else it held, keeps the state sound
 pub read-hazard :
     (g : Geometry) (s : State) (caller : ℕ) (s' : State) (p q : Point) → IsSoundWithoutCounts g s → caller < g.callers → (s.errand caller).point ≡ p
     → settle_of (s.errand caller) (found_at s caller) ≡ at_point (s.errand caller) (found_at s caller) q
@@ -141,7 +140,7 @@ read-hazard g s caller s' p q sound has at after word goes step =
     })
     step
 
--- whose hazard word it is
+-- the caller whose hazard word this is
 abbrev pub hazard_caller : WordName → ℕ
 hazard_caller (name.Hazard caller) = caller
 hazard_caller n = 0
@@ -154,7 +153,7 @@ hazard-actives g s l i new words' old w =
     actives-same g s l words' old.kept (λ heap class. w.elsewhere (name.Active heap class) (λ same. cc))
     (λ heap class. w.elsewhere (name.Slot heap class) (λ same. cc))
 
--- a store to a hazard word weighs nothing
+-- a store to a hazard word, and an errand that holds what else it held, weigh what they did
 hazard-weighs :
     (n : WordName) (i before after : ℕ) (e : ErrandFields) (x : Found) (q : Point) → n ≡ name.Hazard i → HoldsBut e.point q
     → WeighMost n before after e (at_point e x q)
@@ -163,7 +162,7 @@ hazard-weighs n i before after e x q is h =
     but-weighs (name.Hazard i) before after e x q h (λ plain. absurd plain) (λ d. refl) (λ d. refl) (λ class. refl) in
     subst (λ m. WeighMost m before after e (at_point e x q)) (sym is) here
 
--- a step that stores its caller's hazard word
+-- a step that stores its caller's hazard word keeps the state sound
 pub store-hazard :
     (g : Geometry) (s : State) (caller : ℕ) (s' : State) (p q : Point) (new : ℕ) → IsSoundWithoutCounts g s → caller < g.callers → (s.errand caller).point ≡ p
     → settle_of (s.errand caller) (found_at s caller) ≡ at_point (s.errand caller) (found_at s caller) q
@@ -197,7 +196,7 @@ store-hazard g s caller s' p q new sound has at after is stores below goes step 
     })
     step
 
--- at a point at which nothing is pushed and nothing scanned
+-- a caller may guard at a point at which nothing is pushed and nothing scanned
 pub plain-guards :
     (g : Geometry) (s : State) (caller : ℕ) (q : Point) (retired : List ℕ) (word : ℕ) → IsHazard (holds_of q).hazard word
     → ((d : ℕ) → word ≡ d + 1 → IsGuard (holds_of q).hazard → Guards s caller d ⊎ GuardsAnew g s q d) → pushed_by q ≡ None

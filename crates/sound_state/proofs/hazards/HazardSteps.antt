@@ -1,16 +1,14 @@
 -- Steps at a caller's own hazard word, and scans of all of them, that keep the state sound.
-use Rattle.std.proofs.Common.{ℕ, Option, Some, None, ◌≡◌, ◌<◌, ◌≤◌, ◌+◌, List, [], ◌∷◌, length, refl, arith, ap, sym, subst, inl, inr, ◌∙◌, length-set, get_or-set_other}
-use Rattle.std.specs.Prelude.{Contains, IsTrue, ◌==◌, slice_index, slice_set, nat_lt, true, false}
-use Rattle.std.proofs.lemmas.Bool.{cond-true, eq-eqb, lt-ltb, le-ltb, ltb-true, ltb-false, cases_eq, cases_Bool}
+use Rattle.std.proofs.Common.{ℕ, Option, Some, None, ◌≡◌, ◌<◌, ◌≤◌, ◌+◌, List, [], ◌∷◌, length, refl, arith, ap, sym, subst, inl, inr, ◌∙◌, length-set}
+use Rattle.std.proofs.Common.{get_or-set_other, Contains, ◌==◌, slice_index, slice_set, nat_lt, true, false, eq-eqb, lt-ltb, le-ltb, ltb-true, ltb-false}
+use Rattle.std.proofs.lemmas.Bool.{cond-true, cases_eq, cases_Bool}
 use Rattle.std.proofs.lemmas.Option.{none-some, same_Some}
 use Rattle.std.proofs.lemmas.List.{get_or_default}
 use Rattle.std.proofs.lemmas.Grind.{get_or-set_at}
-use Rattle.sound_state.proofs.Common.{IsChecked, Geometry, Site, descriptor_count, SeatFields, occurs, AnchorFields, Stacked, next_in, Frames, Partials}
-use Rattle.sound_state.proofs.Common.{Continuation, Point, Idle, Block, Stack, Desc, event_of, next_of, plan_point_of, State, Step, holds_of, passed_by, held_by}
-use Rattle.sound_state.proofs.Common.{Lists, IsSo, recalls_of, bound_at, IsSoundWithoutCounts, IsSoundWith, callers_sum, is_bound, away_of, errand_away}
+use Rattle.sound_state.proofs.Common.{IsChecked, Geometry, Site, descriptor_count, SeatFields, occurs, AnchorFields, Stacked, next_in, Frames, Partials, Continuation}
+use Rattle.sound_state.proofs.Common.{Point, Idle, Block, Stack, Desc, event_of, next_of, plan_point_of, State, Step, holds_of, passed_by, held_by, Lists, IsSo}
+use Rattle.sound_state.proofs.Common.{recalls_of, IsSoundWithoutCounts, IsSoundWith, callers_sum, away_of, errand_away, named_in, first_unheld, Guards}
 use Rattle.hazard_parts.specs.declared.limits.TheConstants.{HELD_MOST}
-use Rattle.hazard_parts.specs.Points.{named_in}
-use Rattle.hazard_parts.specs.Retired.{first_unheld}
 use Rattle.hazard_parts.proofs.PickLemmas.{some-listed, some-free, named-here}
 use Rattle.errand_steps.specs.declared.reply.Reply.TheVariants as reply
 use Rattle.std.proofs.lemmas.List.Elements.{All-nil}
@@ -19,17 +17,16 @@ use Rattle.superblock_parts.specs.declared.point.BlockPoint.TheVariants as block
 use Rattle.stack_parts.specs.declared.point.StackPoint.TheVariants as stack
 use Rattle.hazard_parts.specs.declared.point.DescPoint.TheVariants as desc
 use Rattle.errand_steps.specs.declared.continuation.Continuation.TheVariants as continuation
-use Rattle.sound_state.specs.Guards.{Guards}
 use Rattle.sound_state.proofs.hazards.HazardLemmas.{store-hazard, read-hazard, plain-guards, leads-at, ends-at, picks-at}
 use Rattle.sound_state.proofs.quiet.QuietDescs.{reload_desc_head_other-sound}
 use Rattle.sound_state.proofs.shared.GuardEffects.{available-unretired, bound-unretired}
 use Rattle.sound_state.proofs.shared.HasLemmas.{bound-away}
-use Rattle.sound_state.proofs.shared.PointLemmas.{fits-at, so-at, hazard-at, unread-at, noted-unread, retired-exists}
+use Rattle.sound_state.proofs.shared.PointLemmas.{fits-at, so-at, hazard-at, unread-at, noted-unread, retired-exists, recalled-at}
 use Rattle.sound_state.proofs.shared.ShownLemmas.{GuardsAnew}
 use Rattle.sound_state.proofs.shared.WordFacts.{name-below}
 use Rattle.sound_state.proofs.shared.KeepsSound.{KeepsSound, KeepsSoundWhere}
 
--- the store of the name of a descriptor that was on top of the available ones
+-- the store of the name of the descriptor on top of the available ones keeps the state sound
 pub store_hazard-sound : (seat : SeatFields) (d : ℕ) (o : Continuation) → KeepsSound (Desc (desc.StoreHazard seat d) o)
 unfolding plan_point_of next_of event_of holds_of recalls_of
 store_hazard-sound seat d o g s caller s' sound has stands step =
@@ -47,7 +44,7 @@ store_hazard-sound seat d o g s caller s' sound has stands step =
     })
     step
 
--- the descriptor that the hazard word names is still on top
+-- the load of the head again that still finds the descriptor on top keeps the state sound: it is available
 top-occurs : (next : ℕ → ℕ) (d : ℕ) (xs : List ℕ) → Stacked next (d + 1) xs → 1 ≤ occurs d xs
 top-occurs next d [] stack = omega (arith, stack)
 top-occurs next d (x ∷ xs) stack =
@@ -80,7 +77,7 @@ reload_desc_head_same-sound seat d o g s caller s' sound has stands same step =
     })
     step
 
--- the load of the head again
+-- the load of the head of the available descriptors again keeps the state sound
 pub reload_desc_head-sound : (seat : SeatFields) (d : ℕ) (o : Continuation) → KeepsSound (Desc (desc.ReloadDescHead seat d) o)
 reload_desc_head-sound seat d o g s caller s' sound has stands step =
     elim (cases_eq (s.word name.DescHead) (d + 1)) [
@@ -88,7 +85,7 @@ reload_desc_head-sound seat d o g s caller s' sound has stands step =
       | inr other ↦ reload_desc_head_other-sound seat d o g s caller s' sound has stands other step
     ]
 
--- the descriptor is popped: the hazard word is cleared
+-- the clear of the hazard word after the pop of a descriptor keeps the state sound
 pub clear_after_pop-sound : (seat : SeatFields) (d : ℕ) (o : Continuation) → KeepsSound (Desc (desc.ClearAfterPop seat d) o)
 unfolding plan_point_of next_of event_of holds_of recalls_of
 clear_after_pop-sound seat d (continuation.Alloc words) g s caller s' sound has stands step =
@@ -107,7 +104,7 @@ clear_after_pop-sound seat d (continuation.Alloc words) g s caller s' sound has 
 clear_after_pop-sound seat d o g s caller s' sound has stands step =
     let bad : ⊥ = cc ((fits-at g s sound.parts.0 caller (Desc (desc.ClearAfterPop seat d) o) sound.parts.1 has stands).goes) in absurd bad
 
--- a free clears its hazard word and looks through the list
+-- the clear of a free's hazard word that looks through the list keeps the state sound
 pub clear_hazard_looks-sound : (seat : SeatFields) → KeepsSound (Desc (desc.ClearHazard seat) continuation.Clear)
 unfolding plan_point_of next_of event_of holds_of recalls_of
 clear_hazard_looks-sound seat g s caller s' sound has stands step =
@@ -124,7 +121,7 @@ clear_hazard_looks-sound seat g s caller s' sound has stands step =
     })
     step
 
--- a free clears its hazard word and ends
+-- the clear of a free's hazard word that ends the call keeps the state sound
 pub clear_hazard_ends-sound : (seat : SeatFields) → KeepsSound (Desc (desc.ClearHazard seat) continuation.EndFree)
 unfolding plan_point_of next_of event_of holds_of recalls_of
 clear_hazard_ends-sound seat g s caller s' sound has stands step =
@@ -140,7 +137,7 @@ clear_hazard_ends-sound seat g s caller s' sound has stands step =
     })
     step
 
--- a free stores the name of the descriptor whose superblock its push makes empty
+-- the store of the name of the descriptor whose superblock a free's push makes empty keeps the state sound
 
 pub store_guard-sound : (site : Site) (i : ℕ) (a : AnchorFields) (o : Continuation) → KeepsSound (Block (block.StoreGuard site i a) o)
 unfolding plan_point_of next_of event_of holds_of recalls_of
@@ -152,8 +149,8 @@ store_guard-sound site i a o g s caller s' sound has stands step =
     store-hazard g s caller s' p q (d + 1) sound has stands (leads-at s caller p q stands refl) (ap name.Hazard fits.block.site.seat.number) refl
     (name-below g d sound.checked fits.block.site.desc)
     (λ l old.
-    let bound : IsTrue (is_bound g s l d) = (so-at g s l caller p old has stands 0 (bound_at d site.frame site.seat.class) (omega arith)).0 in
-    let near : away_of g s l d ≡ 0 = bound-away g s l d bound in
+    let (bound, none_else) = recalled-at g s l caller p old has stands in
+    let near : away_of g s l d ≡ 0 = bound-away g s l d bound.0 in
     let none : callers_sum g (errand_away d) s.errand ≡ 0 = omega (arith, near) in
     let free = bound-unretired g s l d old none in
     record {
@@ -169,11 +166,11 @@ store_guard-sound site i a o g s caller s' sound has stands step =
     })
     step
 
--- there is room for each caller's word
+-- a list of noted hazard words has room for each caller's word
 held-room : (g : Geometry) (held : List ℕ) (i : ℕ) → IsChecked g → length held ≡ HELD_MOST → i < g.callers → i < length held
 held-room g held i checked words has = omega (arith, checked.callers.1, words, has)
 
--- what the scan has passed, and what it hasn't
+-- a scan at a point has noted what guards its retired descriptors where it has passed, and 0 where it hasn't
 passed-at :
     (g : Geometry) (s : State) (l : Lists) (caller : ℕ) (p : Point) → IsSoundWith g s l → caller < g.callers → (s.errand caller).point ≡ p
     → (k d : ℕ) → k < g.callers → Guards s k d → Contains (s.errand caller).retired d → k < passed_by p → slice_index (held_by p) k ≡ d + 1
@@ -181,7 +178,7 @@ passed-at g s l caller p old has stands =
     subst (λ q. (k d : ℕ) → k < g.callers → Guards s k d → Contains (s.errand caller).retired d → k < passed_by q → slice_index (held_by q) k ≡ d + 1) stands
     (λ k d has_k guards listed below. old.guarded.passed k caller d has_k has guards listed below)
 
--- with the word that it reads it has passed one more caller
+-- a scan has passed one more caller with the word that it reads
 noted-passed :
     (g : Geometry) (s : State) (l : Lists) (caller : ℕ) (seat : SeatFields) (held : List ℕ) (i : ℕ) (o : Continuation) → IsSoundWith g s l
     → caller < g.callers → (s.errand caller).point ≡ Desc (desc.ReadHazard seat held i) o → i < length held → (k d : ℕ) → k < g.callers → Guards s k d
@@ -202,7 +199,7 @@ noted-passed g s l caller seat held i o old has stands room k d has_k guards lis
           ∙ passed-at g s l caller p old has stands k d has_k guards listed less
     ]
 
--- and goes on to the next one
+-- a scan that goes on to the next hazard word keeps the state sound
 pub read_hazard_next-sound :
     (g : Geometry) (s : State) (caller : ℕ) (s' : State) (seat : SeatFields) (held : List ℕ) (i : ℕ) (o : Continuation) → IsSoundWithoutCounts g s
     → caller < g.callers → (s.errand caller).point ≡ Desc (desc.ReadHazard seat held i) o → i + 1 < g.callers → Step s caller s' → IsSoundWithoutCounts g s'
@@ -231,7 +228,7 @@ read_hazard_next-sound g s caller s' seat held i o sound has stands more step =
     })
     step
 
--- it has passed all of them: nobody guards what it picks
+-- a scan that has passed all hazard words picks what nobody guards
 read-picks :
     (g : Geometry) (s : State) (caller : ℕ) (s' : State) (seat : SeatFields) (held : List ℕ) (i : ℕ) (o : Continuation) (r : Option ℕ) → IsSoundWithoutCounts g s
     → caller < g.callers → (s.errand caller).point ≡ Desc (desc.ReadHazard seat held i) o → g.callers ≤ i + 1
@@ -292,7 +289,7 @@ read-picks g s caller s' seat held i o (Some d) sound has stands last pick step 
     })
     step
 
--- the read of a hazard word
+-- the read of a hazard word keeps the state sound
 pub read_hazard-sound : (seat : SeatFields) (held : List ℕ) (i : ℕ) (o : Continuation) → KeepsSound (Desc (desc.ReadHazard seat held i) o)
 read_hazard-sound seat held i o g s caller s' sound has stands step =
     elim (cases_Bool (nat_lt (i + 1) g.callers)) [

@@ -1,14 +1,15 @@
--- A won install: the superblocks keep their installed-blocks in order.
-use Rattle.std.proofs.Common.{ℕ, ◌≡◌, ◌≢◌, ◌<◌, ◌+◌, refl, arith, ap, sym, subst, inl, inr, ◌∙◌, ◌==◌, IsTrue}
-use Rattle.std.proofs.lemmas.Bool.{cases_eq, cond-false, ne_eqb}
-use Rattle.sound_state.proofs.Common.{Geometry, Site, ErrandFields, State, Lists, IsSoundWith, Superblock, AreChained, IsChained, superblock_of, free_chain}
-use Rattle.sound_state.proofs.Common.{is_there}
-use Rattle.sound_state.specs.Superblocks.{held_back}
+-- A won install: the superblocks keep their blocks in order.
+use Rattle.std.proofs.Common.{ℕ, ◌≡◌, ◌≢◌, ◌<◌, ◌+◌, refl, arith, ap, sym, subst, inl, inr, ◌∙◌, ◌==◌, IsTrue, ne_eqb}
+use Rattle.std.proofs.lemmas.Bool.{cases_eq, cond-false}
+use Rattle.sound_state.proofs.Common.{Geometry, Site, ErrandFields, State, Lists, IsSoundWith, Superblock, AreChained, IsChained, superblock_of, free_chain, is_there}
+use Rattle.sound_state.proofs.Common.{held_back}
 use Rattle.sound_state.proofs.installs.InstallEffects.{Installs}
-use Rattle.sound_state.proofs.installs.InstallFacts.{installed-still, installed-anchor, installed-bound, installed-others, installed-one, installed-reserved, installed-back, installed-some, installed-here, installed-there}
-use Rattle.sound_state.proofs.shared.SuperblockEffects.{LieStill, BlockEffects, next-stays, size-stays, superblock-stays, live-after, rest-live, chained-after, same-chain-chained}
+use Rattle.sound_state.proofs.installs.InstallFacts.{installed-still, installed-anchor, installed-bound, installed-others, installed-one, installed-reserved}
+use Rattle.sound_state.proofs.installs.InstallFacts.{installed-back, installed-some, installed-here, installed-there}
+use Rattle.sound_state.proofs.shared.SuperblockEffects.{LieStill, BlockEffects, next-stays, size-stays, superblock-stays, live-after, rest-live, chained-after}
+use Rattle.sound_state.proofs.shared.SuperblockEffects.{same-chain-chained}
 
--- a superblock whose first block is live instead of held back keeps its installed-blocks in order
+-- a superblock whose first block is live instead of held back keeps its blocks in order
 first-given :
     (b b' : Superblock) → IsChained b → b'.anchor ≡ b.anchor → free_chain b' ≡ free_chain b → b'.next ≡ b.next → b'.size ≡ b.size
     → b'.waiting ≡ 0 → b.waiting ≡ 1 → b.live 0 ≡ 0 → b'.live 0 ≡ 1
@@ -32,7 +33,7 @@ module _
   installed-lie : LieStill s s'
   installed-lie = installed-still h
 
-  -- the first block alone becomes live
+  -- the first block of a new superblock alone becomes live at its install
   installed-blocks : IsSoundWith g s l → BlockEffects g s l caller at 0 s'
   installed-blocks old = record {
     site = h.site;
@@ -43,7 +44,7 @@ module _
     there = installed-there h;
   }
 
-  -- it is live instead of held back, and each chain stays
+  -- the installed superblock's first block is live instead of held back, and its chain stays in order
   installed-here-chained : IsSoundWith g s l → IsChained (superblock_of g s' at.desc)
   installed-here-chained old =
       let back = installed-back h old in
@@ -54,7 +55,7 @@ module _
       (omega (arith, installed-one h, back.2)) back.2 back.1
       (live-after (installed-blocks old) 0 ∙ ap is_there (installed-here h)) (rest-live (installed-blocks old))
 
-  -- all superblocks keep their installed-blocks in order
+  -- all superblocks keep their blocks in order after a won install
   pub installed-chained : IsSoundWith g s l → AreChained g s' l
   installed-chained old =
       chained-after (installed-blocks old) old (λ d. subst IsTrue (installed-bound h d)) (λ bound. installed-here-chained old)

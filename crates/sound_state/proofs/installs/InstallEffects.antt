@@ -1,24 +1,23 @@
 -- A won install: what it changes, and that everything else stays.
 use Rattle.std.proofs.Common.{ℕ, false, ◌≡◌, ◌<◌, ◌^◌, [], ◌∷◌, ◌++◌, IsTrue}
 use Rattle.sound_state.proofs.Common.{Geometry, need_of, block_place, Null, Held, active_word, WordName, Site, IsSiteOf, active_name, Exists, Writes, new_credits}
-use Rattle.sound_state.proofs.Common.{ErrandFields, State, Moves, Holding, holds_of, Lists, IsLocated, bound_here, recalls_of, IsOwnErrand, anchor_for, is_bound}
+use Rattle.sound_state.proofs.Common.{ErrandFields, State, Moves, Holding, holds_of, Lists, IsLocated, bound_here, recalls_of, anchor_for, is_bound}
+use Rattle.sound_state.proofs.Common.{IsActiveWord, new_anchor, nothing, block_handed}
 use Rattle.heap_geometry.specs.declared.need.Need.TheVariants as need
-use Rattle.packed_words.specs.Active.{IsActiveWord}
-use Rattle.superblock_parts.specs.Anchors.{new_anchor}
 use Rattle.pool_model.specs.declared.event.Event.TheVariants.{Alloc}
-use Rattle.sound_state.specs.Holdings.{nothing, block_handed}
 use Rattle.sound_state.proofs.shared.MakingWeights.{installing_holds}
 use Rattle.sound_state.proofs.shared.TurnEffects.{StandsIn, StandsFramed}
+use Rattle.sound_state.proofs.shared.CallerLemmas.{KeepsCounts}
 
--- what a caller holds that has installed one
+-- what a caller holds that has installed a superblock
 abbrev pub installed_holds : Site → Holding
 installed_holds at = record nothing { hands = block_handed at 0 }
 
--- where its first block lies
+-- the place of a new superblock's first block
 abbrev pub first_place : Site → ℕ
 first_place at = block_place at.frame at.seat.class 0
 
--- the word that names it, with the credits of a new superblock
+-- the active word that names an installed superblock, with the credits of a new one
 abbrev pub installed_word : Site → ℕ
 installed_word at = active_word (Held at.desc (new_credits at.seat.class))
 
@@ -37,11 +36,7 @@ pub record Installs (g : Geometry) (s : State) (l : Lists) (caller : ℕ) (at : 
   pub writes : Writes s.word (active_name at.seat) (installed_word at) s'.word
   pub below : (n : WordName) → s'.word n < 2 ^ 64
   pub history : s'.history ≡ s.history ++ Alloc caller words (first_place at) ∷ []
-  pub rule : IsOwnErrand g caller e
-  pub retired : e.retired ≡ (s.errand caller).retired
-  pub turns : e.turns ≡ (s.errand caller).turns
-  pub lost : e.lost ≡ (s.errand caller).lost
-  pub cleared : e.cleared ≡ (s.errand caller).cleared
+  pub own : KeepsCounts g caller (s.errand caller) e
   pub holds_before : holds_of (s.errand caller).point ≡ installing_holds at
   pub holds_after : holds_of e.point ≡ installed_holds at
   pub recalls_after : recalls_of e.point ≡ bound_here at

@@ -2,10 +2,8 @@
 use Rattle.std.proofs.Common.{ℕ, Some, None, ◌≡◌, ◌≢◌, ◌<◌, ◌+◌, refl, arith, ap, sym, subst, ◌∙◌}
 use Rattle.sound_state.proofs.Common.{Geometry, block_count_of, Null, Held, active_word, anchor_of, Site, active_name, occurs, new_credits, block_at, pool_of}
 use Rattle.sound_state.proofs.Common.{ErrandFields, State, on_its_way, Lists, IsSoundWith, callers_sum, IsChained, anchor_for, info_for, superblock_of, free_chain}
-use Rattle.sound_state.proofs.Common.{is_bound, away_of, waiting_of, reserved_of, word_reserves, reserved_among, errand_keeps}
-use Rattle.packed_words.specs.Active.{IsActiveWord}
+use Rattle.sound_state.proofs.Common.{is_bound, away_of, waiting_of, reserved_of, word_reserves, reserved_among, errand_keeps, IsActiveWord, fresh_block}
 use Rattle.word_table.specs.declared.name.WordName.TheVariants as name
-use Rattle.pool_model.specs.Pool.{fresh_block}
 use Rattle.sound_state.proofs.installs.InstallEffects.{Installs, installed_word, first_place, installed_holds}
 use Rattle.sound_state.proofs.shared.OverlapLemmas.{there-none}
 use Rattle.sound_state.proofs.shared.SumLemmas.{words-written}
@@ -15,7 +13,7 @@ use Rattle.sound_state.proofs.shared.SuperblockEffects.{IsLayWord, LieStill, inf
 use Rattle.sound_state.proofs.shared.TallyLemmas.{held-back-once}
 use Rattle.sound_state.proofs.shared.WordFacts.{null-said, held-said}
 
--- the credits go from the caller to the word
+-- the credits of an installed superblock go from the caller to the active word
 credits-weigh :
     (d : ℕ) (at : Site) → IsActiveWord (Held at.desc (new_credits at.seat.class))
     → word_reserves d (active_name at.seat) (installed_word at)
@@ -25,18 +23,18 @@ credits-weigh d at fits =
     let held = held-said at.desc (new_credits at.seat.class) fits in
     rw (null, held) (grind (arith))
 
--- the first block is held back before, and live after; all other places are as they were
+-- the first block of an installed superblock is held back before, and live after; all other places are as they were
 
 module _
     {g : Geometry} {s : State} {l : Lists} {caller : ℕ} {at : Site} {words : ℕ} {e : ErrandFields} {s' : State}
     (h : Installs g s l caller at words e s') where
   pub installed-holds : HoldingEffects g s caller (installing_holds at) (installed_holds at) e s'
-  installed-holds = record { in_heap = h.in_heap; moves = h.moves; retired = h.retired; before = h.holds_before; after = h.holds_after }
+  installed-holds = record { in_heap = h.in_heap; moves = h.moves; retired = h.own.retired; before = h.holds_before; after = h.holds_after }
 
   pub installed-still : LieStill s s'
   installed-still = record { words = λ n is. h.writes.elsewhere n (λ same. subst IsLayWord same is) }
 
-  -- the words of all descriptors stay, and all anchors
+  -- the info words and the anchors of all descriptors stay at a won install
   pub installed-info : (d : ℕ) → info_for s' d ≡ info_for s d
   installed-info = info-stays installed-still
 
@@ -79,7 +77,7 @@ module _
       let chained = installed-chain is in
       subst (λ c. 0 < block_count_of c) h.located.class (omega (arith, chained.avail))
 
-  -- so it waited once, and its first block was neither free nor live
+  -- a new superblock that is installed waited once, and its first block was neither free nor live
   pub installed-back :
       IsSoundWith g s l
       → (occurs 0 (free_chain (superblock_of g s at.desc)) ≡ 0) × ((superblock_of g s at.desc).live 0 ≡ 0) × (waiting_of g s at.desc ≡ 1)

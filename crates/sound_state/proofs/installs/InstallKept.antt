@@ -1,26 +1,23 @@
 -- A won install leaves each descriptor in one place, as many out for each class, and each frame in one place.
-use Rattle.std.proofs.Common.{ℕ, ◌≡◌, ◌≢◌, ◌<◌, ◌+◌, [], refl, arith, ap, sym, subst, inl, inr, ◌∙◌, ◌==◌, All, IsTrue, if◌then◌else◌}
-use Rattle.std.proofs.lemmas.Bool.{cases_eq, cond-true, eq-eqb, ne_eqb}
+use Rattle.std.proofs.Common.{ℕ, ◌≡◌, ◌≢◌, ◌<◌, ◌+◌, [], refl, arith, ap, sym, subst, inl, inr, ◌∙◌, ◌==◌, All, IsTrue, if◌then◌else◌, eq-eqb, ne_eqb}
+use Rattle.std.proofs.lemmas.Bool.{cases_eq, cond-true}
 use Rattle.std.proofs.lemmas.List.Elements.{All-nil, All-head}
 use Rattle.sound_state.proofs.Common.{Geometry, Null, Held, active_word, descriptor_count, Site, active_name, occurs, new_credits, ErrandFields, State, IsFramed}
-use Rattle.sound_state.proofs.Common.{errand_frames, fills_frame, Kept, waiting, IsKept, IsKeptAs, errand_has, full_keeps, word_keeps, Lists, IsSoundWith}
-use Rattle.sound_state.proofs.Common.{stock_among, errand_stock, full_stock, word_stock, sum_below, info_for, is_bound, waiting_of}
-use Rattle.packed_words.specs.Active.{IsActiveWord}
-use Rattle.word_table.specs.Seats.{heap_of}
-use Rattle.sound_state.specs.Keepers.{IsActive, places_of}
-use Rattle.sound_state.specs.Stock.{IsStocked, stock_of}
+use Rattle.sound_state.proofs.Common.{errand_frames, fills_frame, Kept, waiting, IsKept, IsKeptAs, errand_has, full_keeps, word_keeps, Lists, IsSoundWith, stock_among}
+use Rattle.sound_state.proofs.Common.{errand_stock, full_stock, word_stock, sum_below, info_for, is_bound, waiting_of, IsActiveWord, heap_of, IsActive, places_of}
+use Rattle.sound_state.proofs.Common.{IsStocked, stock_of}
 use Rattle.sound_state.proofs.shared.FrameLemmas.{bound-fills, waiting-fills}
-use Rattle.sound_state.proofs.shared.KeptLemmas.{places-kept, SameDescs, descs-go}
+use Rattle.sound_state.proofs.shared.KeptLemmas.{places-kept}
 use Rattle.sound_state.proofs.shared.CreditLemmas.{actives-written}
 use Rattle.sound_state.proofs.installs.InstallEffects.{Installs, installed_holds, installed_word}
 use Rattle.sound_state.proofs.installs.InstallFacts.{installed-info, installed-anchor, installed-bound, installed-others, installed-one, installed-back}
 use Rattle.sound_state.proofs.shared.MakingWeights.{installing_holds}
 use Rattle.sound_state.proofs.shared.PointLemmas.{kept_places}
-use Rattle.sound_state.proofs.shared.ShownLemmas.{ActivesKept}
 use Rattle.sound_state.proofs.shared.SumLemmas.{callers-moved, sum-change, sum-same, words-written}
 use Rattle.sound_state.proofs.shared.WordFacts.{null-said, null-none, held-said, held-not-zero, held-desc}
+use Rattle.sound_state.proofs.shared.SuperblocksStay.{ActivesKept, SameDescs, descs-go}
 
--- the descriptor goes from the caller to the word
+-- the descriptor of an installed superblock goes from the caller to the active word
 places-weigh :
     (d : ℕ) (at : Site) → IsActiveWord (Held at.desc (new_credits at.seat.class))
     → word_keeps d (active_name at.seat) (installed_word at)
@@ -38,7 +35,7 @@ installed-stock-weighs class at =
     let some = held-not-zero at.desc (new_credits at.seat.class) in
     rw (null-none, some) (grind (arith))
 
--- the frame goes from the caller's hand to the superblock
+-- the frame of an installed superblock goes from the caller's hand to the superblock
 installing-frames : (f : ℕ) (at : Site) → ◌≡◌ {A = ℕ} (occurs f (installing_holds at).frames) (if at.frame == f then 1 else 0)
 installing-frames f stands = grind (arith)
 
@@ -63,7 +60,7 @@ module _
   installed-places : (d : ℕ) → places_of g s' l d ≡ places_of g s l d
   installed-places d =
       let now : errand_has d e ≡ occurs d (s.errand caller).retired + kept_places d (installed_holds at).kept =
-      omega (arith, ap (occurs d) h.retired, ap (λ x. kept_places d x.kept) h.holds_after) in
+      omega (arith, ap (occurs d) h.own.retired, ap (λ x. kept_places d x.kept) h.holds_after) in
       let old : errand_has d (s.errand caller) ≡ occurs d (s.errand caller).retired + kept_places d (installing_holds at).kept =
       omega (arith, ap (λ x. kept_places d x.kept) h.holds_before) in
       omega (
@@ -77,7 +74,7 @@ module _
         ap (λ x. full_keeps x.state) (installed-anchor h d),
       )
 
-  -- what the active words and the slots hold
+  -- the active words and the slots hold what is in its state after a won install
   installed-actives : IsKept g s l → ActivesKept g s s'.word
   installed-actives kept =
       let held = held-said at.desc (new_credits at.seat.class) h.fits in
@@ -89,7 +86,7 @@ module _
       let same : at.desc ≡ d = held-desc at.desc (new_credits at.seat.class) d credits (sym held ∙ says) in
       (subst (λ k. k < descriptor_count g) same h.site.desc, subst (λ k. IsActive s k at.seat.class) same active))
 
-  -- each descriptor still stands in one place, in the state that belongs there
+  -- each descriptor stands in one place after a won install, in the state that belongs there
   pub installed-kept : IsSoundWith g s l → IsKept g s' l
   installed-kept sound =
       places-kept g s l caller e s'
@@ -99,17 +96,17 @@ module _
         places = installed-places;
         actives = installed-actives sound.kept;
         goes = λ d. inl (descs-go (installed-descs) d);
-        retired = h.retired;
+        retired = h.own.retired;
         own =
             subst (λ x. All (λ (k : Kept). IsKeptAs s' k.status k.desc k.class) x.kept) (sym h.holds_after)
             (All-nil (λ (k : Kept). IsKeptAs s' k.status k.desc k.class));
       }) sound.kept
 
-  -- so much is out for each class as before
+  -- as much is out for each class as before
   installed-stock : (class : ℕ) → stock_of g s' l class ≡ stock_of g s l class
   installed-stock class =
       let now : errand_stock class e ≡ 0 =
-      omega (arith, ap (λ x. stock_among class x.kept) h.holds_after, h.stands_after.waits class) in
+      omega (arith, ap (λ x. stock_among class x.kept) h.holds_after, h.stands_after.quiet.waits class) in
       let old : errand_stock class (s.errand caller) ≡ stock_among class (installing_holds at).kept =
       omega (arith, ap (λ x. stock_among class x.kept) h.holds_before, h.stands_before.waits class) in
       let filled : sum_below (descriptor_count g) (full_stock s' class) ≡ sum_below (descriptor_count g) (full_stock s class) =

@@ -1,25 +1,23 @@
 -- A won install keeps what the callers remember.
-use Rattle.std.proofs.Common.{ℕ, ◌≢◌, ap, sym, subst, ◌∙◌, IsTrue}
-use Rattle.std.specs.List.{All}
-use Rattle.sound_state.proofs.Common.{Geometry, Site, is_empty, own, ErrandFields, State, Lists, Recall, IsSo, bound_for, bound_at, pops, links, says}
-use Rattle.sound_state.proofs.Common.{IsSoundWithoutCounts, IsSoundWith}
+use Rattle.std.proofs.Common.{ℕ, ◌≢◌, ap, sym, subst, ◌∙◌, IsTrue, All}
+use Rattle.sound_state.proofs.Common.{Geometry, Site, is_empty, own, ErrandFields, State, Lists, IsSo, IsSoundWithoutCounts, IsSoundWith, IsRemembered}
 use Rattle.pool_model.specs.declared.event.Event.TheVariants.{Alloc}
-use Rattle.sound_state.specs.Recalls.{IsPlain, IsRemembered}
 use Rattle.sound_state.proofs.installs.InstallEffects.{Installs, first_place}
 use Rattle.sound_state.proofs.installs.InstallFacts.{installed-anchor, installed-bound, installed-reserved, installed-ways}
 use Rattle.sound_state.proofs.installs.InstallTies.{installed-still-owned}
 use Rattle.sound_state.proofs.shared.EventFacts.{told-own}
-use Rattle.sound_state.proofs.shared.RecallEffects.{IsSteadyWord, AreSteady, Leaves, IsLeft, popped-steady, here-so, remembered-left}
+use Rattle.sound_state.proofs.shared.RecallEffects.{IsSteadyWord, AreSteady, Leaves, IsLeft, chain-steady, here-so, remembered-left}
+use Rattle.sound_state.proofs.shared.RecallFrame.{IsSaidWord, Part, bindings, chains, single}
 
--- an install that was won
+-- an install that was won, seen by the callers that remember
 module _
     {g : Geometry} {s : State} {l : Lists} {caller : ℕ} {at : Site} {words : ℕ} {e : ErrandFields} {s' : State}
     (h : Installs g s l caller at words e s') where
-  -- the words of stacks, of descriptors and of the arena stay
+  -- the words of stacks, of descriptors and of the arena stay at a won install
   installed-words-steady : AreSteady s s'
   installed-words-steady n is = h.writes.elsewhere n (λ same. subst IsSteadyWord same is)
 
-  -- so it leaves what the others remember
+  -- an install leaves what the others remember
   installed-leaves : IsSoundWithoutCounts g s → IsSoundWith g s l → (i : ℕ) → i ≢ caller → Leaves g s l s' i
   installed-leaves sound old i ne = record {
     steady = installed-words-steady;
@@ -29,19 +27,15 @@ module _
     ways = λ d so. installed-ways h d;
   }
 
-  installed-left : (i : ℕ) (r : Recall) → IsSo g s l i r → IsLeft g s l s' r
-  installed-left i (bound_for d c) so = subst IsTrue (sym (installed-bound h d))
-  installed-left i (bound_at d f c) so = subst IsTrue (sym (installed-bound h d))
-  installed-left i (pops d b) so =
-      popped-steady g s l s' installed-words-steady d b (installed-anchor h d) (installed-reserved h d)
-  installed-left i (links d b prefix) so = λ is. is ∙ ap (λ x. x.tag) (installed-anchor h d)
-  installed-left i (says n w) so = h.writes.elsewhere n (λ same. subst IsPlain same so.0)
-  installed-left i r so = tt
+  installed-left : (p : Part) → IsLeft g s l s' p
+  installed-left (bindings d) = subst IsTrue (sym (installed-bound h d))
+  installed-left (chains d) = λ here. chain-steady g s l s' installed-words-steady d (installed-anchor h d) (installed-reserved h d)
+  installed-left (single n) = λ said. h.writes.elsewhere n (λ same. subst IsSaidWord same said)
+  installed-left p = tt
 
   pub installed-remembered : IsSoundWithoutCounts g s → IsSoundWith g s l → IsRemembered g s' l
   installed-remembered sound old =
       remembered-left g s l caller e s' h.moves
       (subst (All (IsSo g s' l caller)) (sym h.recalls_after)
       (here-so g s l s' installed-words-steady caller at (subst IsTrue (sym (installed-bound h at.desc)) h.bound) h.located))
-      (λ i has ne. installed-leaves sound old i ne)
-      (λ i has ne k d lt. installed-left i _ (old.remembered.so i has k d lt)) old.remembered
+      (λ i has ne. installed-leaves sound old i ne) (λ i has ne k d lt. installed-left _) old

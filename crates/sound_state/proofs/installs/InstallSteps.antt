@@ -1,15 +1,8 @@
 -- The step of a won install, and what it changes.
-use Rattle.std.proofs.Common.{ℕ, false, ◌≡◌, ◌<◌, ◌^◌, [], refl, arith, ap, sym, subst, ◌∙◌, inl, IsTrue}
-use Rattle.std.proofs.lemmas.List.Elements.{All-head, All-tail}
-use Rattle.sound_state.proofs.Common.{Geometry, active_word, anchor_of, anchor_word, Null, Held, Site, active_name, IsSiteOf, new_credits, Continuation, Point}
-use Rattle.sound_state.proofs.Common.{Block, event_of, next_of, asked, plan_point_of, State, Step, holds_of, Lists, IsSo, bound_here, bound_at, says, recalls_of}
-use Rattle.sound_state.proofs.Common.{IsLocated, IsSoundWithoutCounts, IsSoundWith, IsOwnErrand, anchor_for, is_bound}
-use Rattle.packed_words.specs.Active.{IsActiveWord}
-use Rattle.packed_words.specs.declared.widths.TheConstants.{CREDIT_BITS}
-use Rattle.packed_words.proofs.ActiveLemmas.{active-exact}
-use Rattle.packed_words.proofs.AnchorLemmas.{anchor_of-anchor_word}
-use Rattle.word_table.specs.declared.name.WordName.TheVariants as name
-use Rattle.superblock_parts.specs.Anchors.{new_anchor}
+use Rattle.std.proofs.Common.{ℕ, false, ◌≡◌, ◌<◌, ◌^◌, refl, arith, ap, sym, subst, ◌∙◌, inl, IsTrue}
+use Rattle.sound_state.proofs.Common.{Geometry, active_word, anchor_of, Null, Held, Site, active_name, IsSiteOf, new_credits, Continuation, Point, Block, event_of}
+use Rattle.sound_state.proofs.Common.{next_of, asked, plan_point_of, State, Step, holds_of, Lists, recalls_of, IsLocated, IsSoundWithoutCounts, IsSoundWith}
+use Rattle.sound_state.proofs.Common.{IsOwnErrand, anchor_for, is_bound, IsActiveWord, CREDIT_BITS, active-exact, anchor_of-anchor_word, new_anchor}
 use Rattle.superblock_parts.specs.declared.point.BlockPoint.TheVariants as block
 use Rattle.sound_state.proofs.installs.InstallChains.{installed-chained}
 use Rattle.sound_state.proofs.installs.InstallEffects.{Installs, installed_word}
@@ -17,8 +10,7 @@ use Rattle.sound_state.proofs.installs.InstallKept.{installed-kept, installed-st
 use Rattle.sound_state.proofs.installs.InstallRecalls.{installed-remembered}
 use Rattle.sound_state.proofs.installs.InstallTies.{installed-tied, installed-legal}
 use Rattle.sound_state.proofs.installs.InstallTurns.{installed-turned, installed-guarded, installed-listed}
-use Rattle.sound_state.proofs.shared.PointLemmas.{fits-at, so-at, the-alloc, small-asked}
-use Rattle.sound_state.proofs.shared.ShownLemmas.{each-caller}
+use Rattle.sound_state.proofs.shared.PointLemmas.{fits-at, the-alloc, small-asked, recalled-at}
 use Rattle.sound_state.proofs.shared.StepLemmas.{at_point}
 use Rattle.sound_state.proofs.shared.CreditLemmas.{won_with}
 use Rattle.sound_state.proofs.shared.TurnEffects.{StandsIn, StandsFramed}
@@ -26,8 +18,9 @@ use Rattle.sound_state.proofs.shared.WaitsAlone.{new_anchor-fits}
 use Rattle.sound_state.proofs.shared.WonEffects.{WonEffects, won-effects}
 use Rattle.sound_state.proofs.shared.WordFacts.{held-fits, seat-active}
 use Rattle.sound_state.proofs.shared.KeepsSound.{KeepsSoundWhere}
+use Rattle.sound_state.proofs.shared.CallerLemmas.{each-caller}
 
--- the credits of a new superblock fit the word
+-- the credits of a new superblock fit an active word
 credits-few : (class : ℕ) → new_credits class < 2 ^ CREDIT_BITS
 credits-few class = grind (arith)
 
@@ -50,10 +43,7 @@ pub about-to-install :
 unfolding recalls_of
 about-to-install g s l caller at o is has here =
     let p : Point = Block (block.InstallSuperblock at) o in
-    let so = so-at g s l caller p is has here in
-    let says_new = says (name.Anchor at.desc) (anchor_word (new_anchor at.seat.class)) in
-    let said = All-head (IsSo g s l caller) says_new (bound_here at) so in
-    let so_bound = All-head (IsSo g s l caller) (bound_at at.desc at.frame at.seat.class) [] (All-tail (IsSo g s l caller) says_new (bound_here at) so) in
+    let (said, (so_bound, none)) = recalled-at g s l caller p is has here in
     record {
       site = (fits-at g s l caller p is has here).point;
       bound = so_bound.0;
@@ -93,11 +83,7 @@ install-installs g s l caller s' at o sound is has here word step =
       writes = won.writes;
       below = won.below;
       history = won.step.history;
-      rule = won.step.rule;
-      retired = refl;
-      turns = refl;
-      lost = won.step.lost;
-      cleared = won.step.cleared;
+      own = record { rule = won.step.rule; retired = refl; turns = refl; lost = won.step.lost; cleared = won.step.cleared };
       holds_before = ap holds_of here;
       holds_after = refl;
       recalls_after = refl;
@@ -120,7 +106,7 @@ install_superblock-won at o g s caller s' sound has here word step =
         l,
         record {
           words = h.below;
-          errands = each-caller g (IsOwnErrand g) s.errand caller e s'.errand h.moves h.rule is.errands;
+          errands = each-caller g (IsOwnErrand g) s.errand caller e s'.errand h.moves h.own.rule is.errands;
           listed = installed-listed h is;
           kept = installed-kept h is;
           chained = installed-chained h is;

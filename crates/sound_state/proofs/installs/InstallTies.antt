@@ -43,7 +43,7 @@ module _
   pub installed-tied : IsSoundWithoutCounts g s → IsSoundWith g s l → IsTied g s' l
   installed-tied sound is = given-tied (installs-give is) is
 
-  -- who owned a block owns it
+  -- a caller that owned a block owns it after a won install
   pub installed-still-owned : IsSoundWithoutCounts g s → IsSoundWith g s l → (i place : ℕ) (n : Need) → IsOwned s i place n → IsOwned s' i place n
   installed-still-owned sound is i place n k =
       ties.owned-stays s s' i place n

@@ -16,9 +16,8 @@ module _
 
   pub installed-guarded : IsSoundWith g s l → IsGuarded g s'
   installed-guarded old =
-      let after = h.stands_after in
       guarded-clear g s caller e s' h.in_heap h.moves (λ i. h.writes.elsewhere (name.Hazard i) (λ same. cc)) (ap (λ x. x.hazard) h.holds_before)
-      (ap (λ x. x.hazard) h.holds_after) after.pushed after.passed after.unread after.spare old.guarded
+      (ap (λ x. x.hazard) h.holds_after) h.stands_after.quiet old.guarded
 
   pub installed-turned : IsSoundWithoutCounts g s → IsSoundWith g s l → IsTurned g s' l
   installed-turned sound old =
@@ -33,15 +32,15 @@ module _
         in_heap = h.in_heap;
         moves = h.moves;
         events = events;
-        own_turns = omega (arith, turned.own_turns caller h.in_heap, events.gives, before.under_way, after.under_way, h.turns);
+        own_turns = omega (arith, turned.own_turns caller h.in_heap, events.gives, before.under_way, after.under_way, h.own.turns);
         own_lost =
-            omega (arith, turned.own_lost caller h.in_heap, events.gives, events.refuses caller, before.unanswered, after.discards, after.unanswered, h.turns, h.lost);
+            omega (arith, turned.own_lost caller h.in_heap, events.gives, events.refuses caller, before.unanswered, after.discards, after.unanswered, h.own.turns, h.own.lost);
         own_answers =
-            omega (arith, turned.own_answers caller h.in_heap, events.gives, events.refuses caller, before.unanswered, after.unanswered, h.turns);
+            omega (arith, turned.own_answers caller h.in_heap, events.gives, events.refuses caller, before.unanswered, after.unanswered, h.own.turns);
         anchor_tags = λ d has. omega (arith, ap (λ x. x.tag) (installed-anchor h d));
-        frame_turns = omega (arith, head-tag (h.writes.elsewhere name.FrameHead (λ same. cc)), before.unframed, after.unframed, h.turns);
-        emptied = omega (arith, emptied_same, h.cleared);
+        frame_turns = omega (arith, head-tag (h.writes.elsewhere name.FrameHead (λ same. cc)), before.unframed, after.unframed, h.own.turns);
+        emptied = omega (arith, emptied_same, h.own.cleared);
         list_turns = λ class has.
-            omega (arith, head-tag (h.writes.elsewhere (name.ListHead class) (λ same. cc)), h.stands_after.pops, after.unlisted, h.turns, h.cleared);
+            omega (arith, head-tag (h.writes.elsewhere (name.ListHead class) (λ same. cc)), h.stands_after.pops, after.unlisted, h.own.turns, h.own.cleared);
       })
       turned

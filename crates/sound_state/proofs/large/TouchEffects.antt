@@ -1,34 +1,27 @@
 -- A step at a large block, a usable word or a shelf: no superblock, list or descriptor changes, and what is said of them stays.
-use Rattle.std.proofs.Common.{ℕ, None, Some, ◌≡◌, ◌≢◌, ◌<◌, ◌≤◌, ◌+◌, ◌^◌, [], length, refl, arith, ap, sym, subst, ◌∙◌, ◌⊎◌, All, IsTrue, IsSome, count_by}
+use Rattle.std.proofs.Common.{List, ℕ, Some, ◌≡◌, ◌≢◌, ◌<◌, ◌+◌, ◌^◌, [], refl, arith, ap, sym, subst, ◌∙◌, All, IsTrue, IsSome, count_by}
 use Rattle.std.proofs.lemmas.List.Elements.{All-nil}
-use Rattle.sound_state.proofs.Common.{Geometry, Need, block_count_of, block_place, AnchorFields, anchor_of, active_of, head_of, info_of, link_of}
-use Rattle.sound_state.proofs.Common.{WordName, descriptor_count, word_count, SeatFields, info_in, word_name, occurs, prefix_name, link_in, Pile, Frames, Partials}
-use Rattle.sound_state.proofs.Common.{head_name, next_name, own, block_at, pool_of, ErrandFields, spare_of, pushed_by, Point, State, Moves, IsFramed, errand_frames}
-use Rattle.sound_state.proofs.Common.{fills_frame, IsGuarded, passed_by, held_by, Status, reserving, waiting, partly_used, on_its_way, holds_of, IsKept}
-use Rattle.sound_state.proofs.Common.{IsPartlyUsed, IsWithout, IsKeptAs, word_keeps, errand_has, full_keeps, Lists, IsListed, Recall, IsLocated, IsSo, IsOwned}
-use Rattle.sound_state.proofs.Common.{recalls_of, pops, links, says, IsSoundWith, IsOwnErrand, turn_stage_of}
-use Rattle.sound_state.proofs.Common.{word_stock, errand_stock, full_stock, waits_in, stock_among, IsTied, sum_below, words_sum, callers_sum, AreChained, IsChained}
-use Rattle.sound_state.proofs.Common.{info_or_zero, live_at, anchor_for, info_for, superblock_of, free_chain, reserved_of, word_reserves, errand_reserves}
-use Rattle.sound_state.proofs.Common.{reserved_among, waiting_of, away_of, errand_away, is_bound, errand_keeps, kept_among, IsTurned, gives_small, refuses_small}
-use Rattle.sound_state.proofs.Common.{pops_left}
-use Rattle.packed_words.specs.declared.anchor.AnchorState.TheVariants as phase
+use Rattle.sound_state.proofs.Common.{Geometry, Need, block_count_of, block_place, AnchorFields, anchor_of, info_of, link_of, WordName, descriptor_count, word_count, Event, is_there}
+use Rattle.sound_state.proofs.Common.{SeatFields, info_in, word_name, occurs, prefix_name, Pile, Frames, Partials, head_name, next_name, own, block_at, pool_of}
+use Rattle.sound_state.proofs.Common.{ErrandFields, Point, State, Moves, IsFramed, errand_frames, fills_frame, IsGuarded}
+use Rattle.sound_state.proofs.Common.{Status, reserving, waiting, partly_used, on_its_way, holds_of, IsKept, IsWithout, IsKeptAs, word_keeps, errand_has, full_keeps}
+use Rattle.sound_state.proofs.Common.{Lists, IsListed, IsLocated, IsSo, IsOwned, recalls_of, IsSoundWith, IsOwnErrand, turn_stage_of, word_stock, errand_stock}
+use Rattle.sound_state.proofs.Common.{full_stock, stock_among, IsTied, sum_below, words_sum, callers_sum, AreChained, IsChained, info_or_zero, live_at}
+use Rattle.sound_state.proofs.Common.{anchor_for, info_for, superblock_of, free_chain, reserved_of, word_reserves, errand_reserves, reserved_among, waiting_of, away_of}
+use Rattle.sound_state.proofs.Common.{errand_away, is_bound, errand_keeps, kept_among, IsTurned, gives_small, refuses_small, pops_left, chain_of, Caller, clear}
+use Rattle.sound_state.proofs.Common.{places_of, IsRemembered, out_of_turn, stock_of, is_small_alloc, is_small_free}
 use Rattle.word_table.specs.declared.name.WordName.TheVariants as name
-use Rattle.superblock_parts.specs.Chains.{chain_of}
 use Rattle.superblock_parts.proofs.ChainLemmas.{chain_of-same}
-use Rattle.pool_model.specs.declared.owner.Owner.TheVariants.{Caller}
 use Rattle.pool_model.specs.Pool.{Block}
-use Rattle.sound_state.specs.Holdings.{clear}
-use Rattle.sound_state.specs.Keepers.{IsActive, places_of}
-use Rattle.sound_state.specs.Recalls.{IsRemembered, made}
-use Rattle.sound_state.specs.TurnStages.{out_of_turn}
-use Rattle.sound_state.specs.Stock.{stock_of}
-use Rattle.sound_state.specs.Turns.{is_small_alloc, is_small_free}
-use Rattle.sound_state.proofs.shared.CallerLemmas.{each-other}
+use Rattle.sound_state.proofs.shared.BackedRecalls.{AllRead, remembered-stays}
+use Rattle.sound_state.proofs.shared.CallerLemmas.{each-other, KeepsCounts}
 use Rattle.sound_state.proofs.shared.GuardEffects.{guarded-clear}
 use Rattle.sound_state.proofs.shared.ListEffects.{IsListWord, listed-kept}
 use Rattle.sound_state.proofs.shared.SumLemmas.{callers-moved, sum-same}
-use Rattle.sound_state.proofs.shared.TurnEffects.{emptied-kept, head-tag, no-turn-weighs, turned-after}
-use Rattle.sound_state.proofs.shared.RecallFrame.{Part, PartStays, part_of, so-stays, bindings, places, chains, stacks, link_words, availables, events, single, constant}
+use Rattle.sound_state.proofs.shared.TurnEffects.{emptied-kept, head-tag, no-turn-weighs, turned-after, IsQuiet}
+use Rattle.sound_state.proofs.shared.RecallFrame.{ChainStays, IsSaidWord, Part, PartStays, bindings, places, chains, stacks, link_words, availables, events, single}
+use Rattle.sound_state.proofs.shared.RecallFrame.{constant, lies-same, stack-same}
+use Rattle.sound_state.proofs.shared.SuperblocksStay.{SameDescs, actives-same, descs-kept}
 
 -- the word is none of the arena's, of the units and of the shelves
 abbrev pub IsAwayWord : WordName → Type 0
@@ -43,30 +36,30 @@ pub record IsAsidePoint (p : Point) : Type 0 where
   pub kept : (holds_of p).kept ≡ []
   pub frames : (holds_of p).frames ≡ []
   pub hazard : (holds_of p).hazard ≡ clear
-  pub waits : (class : ℕ) → waits_in class p ≡ 0
-  pub pushed : pushed_by p ≡ None
-  pub passed : passed_by p ≡ 0
-  pub unread : length (held_by p) ≡ 0
-  pub spare : spare_of p ≡ 0
+  pub quiet : IsQuiet p
   pub stage : turn_stage_of p ≡ out_of_turn
   pub pops : pops_left p ≡ 0
 
--- what these words leave of what is remembered: the words that it names, and the chains of free blocks
-abbrev pub Stays : Geometry → State → (WordName → ℕ) → Recall → Type 0
-Stays g s words (pops d a) =
-    chain_of (link_in words (info_for s d).frame (info_for s d).class) ((anchor_for s d).count + reserved_of g s d) (anchor_for s d).avail
-    ≡ free_chain (superblock_of g s d)
-Stays g s words (links d a prefix) = link_in words (info_for s d).frame (info_for s d).class a.avail ≡ (superblock_of g s d).next a.avail
-Stays g s words (says n w) = words n ≡ s.word n
-Stays g s words (made f c blocks) = (k : ℕ) → k < blocks → words (prefix_name f c k) ≡ s.word (prefix_name f c k)
-Stays g s words r = Unit {0}
+-- the words say what they did where the part is one that is read word by word
+abbrev pub Stays : State → (WordName → ℕ) → Part → Type 0
+Stays s words (link_words f c blocks) = (k : ℕ) → k < blocks → words (prefix_name f c k) ≡ s.word (prefix_name f c k)
+Stays s words (single n) = IsSaidWord n → words n ≡ s.word n
+Stays s words p = Unit {0}
 
--- chains, the arena and single words may change, the other parts don't
-abbrev IsTouchedPart : Part → Type 0
-IsTouchedPart chains = ⊥
-IsTouchedPart link_words = ⊥
-IsTouchedPart single = ⊥
-IsTouchedPart p = Unit {0}
+-- the events after a step leave what the others own, and count no small block
+pub record LeavesOthers (g : Geometry) (s : State) (l : Lists) (caller : ℕ) (past : List Event) : Type 0 where
+  pub others :
+      (i place : ℕ) (b : Block) → i ≢ caller → block_at place (pool_of s.history) ≡ Some b → b.owner ≡ Caller i
+      → block_at place (pool_of past) ≡ Some b
+  pub live :
+      (d i : ℕ) → d < descriptor_count g → IsTrue (is_bound g s l d) → i < block_count_of (info_for s d).class
+      → is_there (block_at (block_place (info_for s d).frame (info_for s d).class i) (pool_of past))
+      ≡ is_there (block_at (block_place (info_for s d).frame (info_for s d).class i) (pool_of s.history))
+  pub events : (i : ℕ) → i ≢ caller → own i past ≡ own i s.history
+  pub gives : (i : ℕ) → count_by (gives_small i) past ≡ count_by (gives_small i) s.history
+  pub refuses : (i : ℕ) → count_by (refuses_small i) past ≡ count_by (refuses_small i) s.history
+  pub allocs : count_by is_small_alloc past ≡ count_by is_small_alloc s.history
+  pub freed : count_by (is_small_free g) past ≡ count_by (is_small_free g) s.history
 
 -- a caller touches a large block, a usable word or a shelf, and all else stays
 pub record Touches (g : Geometry) (s : State) (l : Lists) (caller : ℕ) (e : ErrandFields) (s' : State) : Type 0 where
@@ -77,23 +70,9 @@ pub record Touches (g : Geometry) (s : State) (l : Lists) (caller : ℕ) (e : Er
   pub prefixes :
       (d i : ℕ) → d < descriptor_count g → IsTrue (is_bound g s l d) → i < block_count_of (info_for s d).class
       → s'.word (prefix_name (info_for s d).frame (info_for s d).class i) ≡ s.word (prefix_name (info_for s d).frame (info_for s d).class i)
-  pub stays : (i : ℕ) → i < g.callers → i ≢ caller → All (Stays g s s'.word) (recalls_of (s.errand i).point)
-  pub others :
-      (i place : ℕ) (b : Block) → i ≢ caller → block_at place (pool_of s.history) ≡ Some b → b.owner ≡ Caller i
-      → block_at place (pool_of s'.history) ≡ Some b
-  pub live :
-      (d i : ℕ) → d < descriptor_count g → IsTrue (is_bound g s l d) → i < block_count_of (info_for s d).class
-      → live_at s' (block_place (info_for s d).frame (info_for s d).class i) ≡ live_at s (block_place (info_for s d).frame (info_for s d).class i)
-  pub events : (i : ℕ) → i ≢ caller → own i s'.history ≡ own i s.history
-  pub gives : (i : ℕ) → count_by (gives_small i) s'.history ≡ count_by (gives_small i) s.history
-  pub refuses : (i : ℕ) → count_by (refuses_small i) s'.history ≡ count_by (refuses_small i) s.history
-  pub allocs : count_by is_small_alloc s'.history ≡ count_by is_small_alloc s.history
-  pub freed : count_by (is_small_free g) s'.history ≡ count_by (is_small_free g) s.history
-  pub rule : IsOwnErrand g caller e
-  pub retired : e.retired ≡ (s.errand caller).retired
-  pub turns : e.turns ≡ (s.errand caller).turns
-  pub lost : e.lost ≡ (s.errand caller).lost
-  pub cleared : e.cleared ≡ (s.errand caller).cleared
+  pub stays : (i : ℕ) → i < g.callers → i ≢ caller → AllRead (Stays s s'.word) (s.errand i).point
+  pub leaves : LeavesOthers g s l caller s'.history
+  pub own : KeepsCounts g caller (s.errand caller) e
   pub before : IsAsidePoint (s.errand caller).point
   pub after : IsAsidePoint e.point
   pub recalls : recalls_of e.point ≡ []
@@ -116,7 +95,7 @@ chained-like a a' r r' w w' n n' v v' z z' ea er ew ez chain next live c =
       some = c.some;
     })
 
--- heads and next words are none of the words that change, so the lists stay
+-- a head or a next word is none of the words that a touch changes, so the lists stay
 list-away : (n : WordName) → IsListWord n → IsAwayWord n
 list-away (name.Arena place) is = is
 list-away name.Units is = is
@@ -130,7 +109,7 @@ module _ {g : Geometry} {s : State} {l : Lists} {caller : ℕ} {e : ErrandFields
   pub touched-info : (d : ℕ) → info_for s' d ≡ info_for s d
   touched-info d = ap (λ w. info_or_zero (info_of w)) (h.word (name.Info d) tt)
 
-  -- words that weigh nothing where they may change weigh the same
+  -- words that weigh nothing where a touch may change them weigh the same
   word-weighs :
       (weight : WordName → ℕ → ℕ) → ((p w : ℕ) → weight (name.Arena p) w ≡ 0) → ((w : ℕ) → weight name.Units w ≡ 0)
       → ((k w : ℕ) → weight (name.Shelf k) w ≡ 0) → (n : WordName) → weight n (s'.word n) ≡ weight n (s.word n)
@@ -156,7 +135,7 @@ module _ {g : Geometry} {s : State} {l : Lists} {caller : ℕ} {e : ErrandFields
       sum-same (word_count g) (λ k. weight (word_name g k) (s.word (word_name g k))) (λ k. weight (word_name g k) (s'.word (word_name g k)))
       (λ k lt. word-weighs weight arena units shelf (word_name g k))
 
-  -- a caller that weighs the same
+  -- all callers weigh the same after a touch, where the one that steps does
   touched-callers : (weight : ErrandFields → ℕ) → weight e ≡ weight (s.errand caller) → callers_sum g weight s'.errand ≡ callers_sum g weight s.errand
   touched-callers weight same = omega (arith, callers-moved g weight s.errand caller e s'.errand h.in_heap h.moves, same)
 
@@ -179,13 +158,13 @@ module _ {g : Geometry} {s : State} {l : Lists} {caller : ℕ} {e : ErrandFields
 
   touched-away : (d : ℕ) → away_of g s' l d ≡ away_of g s l d
   touched-away d =
-      let listed : occurs d e.retired ≡ occurs d (s.errand caller).retired = ap (occurs d) h.retired in
+      let listed : occurs d e.retired ≡ occurs d (s.errand caller).retired = ap (occurs d) h.own.retired in
       let same = touched-callers (errand_away d) (omega (arith, listed, keeps-alike on_its_way d)) in
       omega (arith, same)
 
   touched-places : (d : ℕ) → places_of g s' l d ≡ places_of g s l d
   touched-places d =
-      let listed : occurs d e.retired ≡ occurs d (s.errand caller).retired = ap (occurs d) h.retired in
+      let listed : occurs d e.retired ≡ occurs d (s.errand caller).retired = ap (occurs d) h.own.retired in
       let same =
       touched-callers (errand_has d)
       (omega (
@@ -209,7 +188,7 @@ module _ {g : Geometry} {s : State} {l : Lists} {caller : ℕ} {e : ErrandFields
       sum-same (descriptor_count g) (full_stock s class) (full_stock s' class)
       (λ d lt. rw (touched-anchor d, touched-info d) refl) in
       let held : stock_among class (holds_of e.point).kept ≡ stock_among class (holds_of (s.errand caller).point).kept = ap (stock_among class) (h.after.kept ∙ sym h.before.kept) in
-      let same = touched-callers (errand_stock class) (omega (arith, held, h.after.waits class, h.before.waits class)) in
+      let same = touched-callers (errand_stock class) (omega (arith, held, h.after.quiet.waits class, h.before.quiet.waits class)) in
       omega (arith, same, full, touched-words (word_stock class) (λ p w. refl) (λ w. refl) (λ k w. refl))
 
   pub touched-bound : (d : ℕ) → is_bound g s' l d ≡ is_bound g s l d
@@ -218,27 +197,8 @@ module _ {g : Geometry} {s : State} {l : Lists} {caller : ℕ} {e : ErrandFields
   fills-touched : (f d : ℕ) → fills_frame g s' l f d ≡ fills_frame g s l f d
   fills-touched f d = rw (touched-bound d, touched-waits d, touched-info d) refl
 
-  -- what is said of a descriptor's word or anchor stays so
-  partly-touched : (d c : ℕ) → IsPartlyUsed s d c → IsPartlyUsed s' d c
-  partly-touched d c k = record {
-    class = ap (λ x. x.class) (touched-info d) ∙ k.class;
-    state = subst (λ a. ((a.state ≡ phase.Partial) × (1 ≤ a.count)) ⊎ (a.state ≡ phase.Empty)) (sym (touched-anchor d)) k.state;
-  }
-
-  active-touched : (d c : ℕ) → IsActive s d c → IsActive s' d c
-  active-touched d c k = record {
-    class = ap (λ x. x.class) (touched-info d) ∙ k.class;
-    state = ap (λ a. a.state) (touched-anchor d) ∙ k.state;
-  }
-
-  without-touched : (d : ℕ) → IsWithout s d → IsWithout s' d
-  without-touched d k = subst (λ a. (a.state ≡ phase.Active) ⊎ (a.state ≡ phase.Empty)) (sym (touched-anchor d)) k
-
-  kept_as-touched : (status : Status) (d c : ℕ) → IsKeptAs s status d c → IsKeptAs s' status d c
-  kept_as-touched reserving d c k = active-touched d c k
-  kept_as-touched waiting d c k = active-touched d c k
-  kept_as-touched partly_used d c k = partly-touched d c k
-  kept_as-touched on_its_way d c k = without-touched d k
+  descs-touched : SameDescs s s'
+  descs-touched = record { info = touched-info; anchor = touched-anchor }
 
   pub located-touched : (d f c : ℕ) → IsLocated s d f c → IsLocated s' d f c
   located-touched d f c k = record {
@@ -246,13 +206,13 @@ module _ {g : Geometry} {s : State} {l : Lists} {caller : ℕ} {e : ErrandFields
     class = ap (λ x. x.class) (touched-info d) ∙ k.class;
   }
 
-  -- what the others own they still own
+  -- what the other callers own they still own after a touch
   pub owned-touched : (i place : ℕ) (n : Need) → i ≢ caller → IsOwned s i place n → IsOwned s' i place n
   owned-touched i place n other k = record {
-    block = (k.block.0, h.others i place k.block.0 other k.block.1 k.block.2, k.block.2, k.block.3);
+    block = (k.block.0, h.leaves.others i place k.block.0 other k.block.1 k.block.2, k.block.2, k.block.3);
   }
 
-  -- the chains of free blocks stay
+  -- the chains of free blocks stay after a touch
   touched-chain :
       AreChained g s l → (d : ℕ) → d < descriptor_count g → IsTrue (is_bound g s l d)
       → chain_of (superblock_of g s' d).next ((anchor_for s d).count + reserved_of g s d) (anchor_for s d).avail
@@ -264,6 +224,18 @@ module _ {g : Geometry} {s : State} {l : Lists} {caller : ℕ} {e : ErrandFields
       ap (λ x. link_of (s'.word (prefix_name x.frame x.class j))) (touched-info d)
       ∙ ap link_of (h.prefixes d j has bound (c.within j on)))
 
+  chains-touched : AreChained g s l → (d : ℕ) → d < descriptor_count g → IsTrue (is_bound g s l d) → ChainStays g s s' d
+  chains-touched chained d has bound =
+      let chain : free_chain (superblock_of g s' d) ≡ free_chain (superblock_of g s d) =
+      rw (touched-anchor d, touched-reserved d) (touched-chain chained d has bound) in
+      record {
+        tag = omega (arith, ap (λ a. a.tag) (touched-anchor d));
+        chain = λ same k. subst (λ xs. 0 < occurs k xs) (sym chain);
+        next = λ same k on.
+            ap (λ x. link_of (s'.word (prefix_name x.frame x.class k))) (touched-info d)
+            ∙ ap link_of (h.prefixes d k has bound ((chained.chained d has bound).within k on));
+      }
+
   pub chained-touched : AreChained g s l → AreChained g s' l
   chained-touched chained = record {
     infos = λ d has. subst (λ w. IsSome (info_in g w)) (sym (h.word (name.Info d) tt)) (chained.infos d has);
@@ -273,46 +245,30 @@ module _ {g : Geometry} {s : State} {l : Lists} {caller : ℕ} {e : ErrandFields
         chained-like _ _ _ _ _ _ _ _ _ _ _ _ (touched-anchor d) (touched-reserved d) (touched-waits d)
         (ap (λ x. block_count_of x.class) info) (touched-chain chained d has bound)
         (λ i lt. ap (λ x. link_of (s'.word (prefix_name x.frame x.class i))) info ∙ ap link_of (h.prefixes d i has bound lt))
-        (λ i lt. ap (λ x. live_at s' (block_place x.frame x.class i)) info ∙ h.live d i has bound lt)
+        (λ i lt. ap (λ x. live_at s' (block_place x.frame x.class i)) info ∙ h.leaves.live d i has bound lt)
         (chained.chained d has bound);
   }
 
   listed-touched : IsListed g s.word l → IsListed g s'.word l
   listed-touched = listed-kept g s.word s'.word l (λ n is. h.word n (list-away n is))
 
-  -- each descriptor stays where it is
+  -- each descriptor stays where it is, in its state, after a touch
   kept-touched : IsKept g s l → IsKept g s' l
   kept-touched kept =
-      let actives = λ (heap class : ℕ). h.word (name.Active heap class) tt in
-      let slots = λ (heap class : ℕ). h.word (name.Slot heap class) tt in
-      record {
-        once = λ d has. touched-places d ∙ kept.once d has;
-        active_words = λ heap class has_heap has_class.
-            subst (λ w. IsSome (active_of w)) (sym (actives heap class)) (kept.active_words heap class has_heap has_class);
-        slot_words = λ heap class has_heap has_class.
-            subst (λ w. w ≤ descriptor_count g) (sym (slots heap class)) (kept.slot_words heap class has_heap has_class);
-        active = λ heap class d credits has_heap has_class is.
-            let a = kept.active heap class d credits has_heap has_class (ap active_of (sym (actives heap class)) ∙ is) in
-            (a.0, active-touched d class a.1);
-        slot = λ heap class d has_heap has_class is.
-            let a = kept.slot heap class d has_heap has_class (sym (slots heap class) ∙ is) in
-            (a.0, partly-touched d class a.1);
-        full = λ d has is.
-            ap (λ a. a.count) (touched-anchor d)
-            ∙ kept.full d has (ap (λ a. a.state) (sym (touched-anchor d)) ∙ is);
-        listed = λ class has k d lt. partly-touched _ class (kept.listed class has k d lt);
-        available = λ k d lt. without-touched _ (kept.available k d lt);
-        retired =
-            each-other g (λ i e. All (IsWithout s') e.retired) s.errand caller e s'.errand h.moves
-            (subst (All (IsWithout s')) (sym h.retired) (λ k d lt. without-touched _ (kept.retired caller h.in_heap k d lt)))
-            (λ i has other k d lt. without-touched _ (kept.retired i has k d lt));
-        errand =
-            each-other g (λ i e. All (λ k. IsKeptAs s' k.status k.desc k.class) (holds_of e.point).kept) s.errand caller e s'.errand h.moves
-            (subst (All (λ k. IsKeptAs s' k.status k.desc k.class)) (sym h.after.kept) (All-nil (λ k. IsKeptAs s' k.status k.desc k.class)))
-            (λ i has other k d lt. kept_as-touched _ _ _ (kept.errand i has k d lt));
-      }
+      descs-kept g s caller e s' l l
+      (record {
+        moves = h.moves;
+        descs = descs-touched;
+        places = touched-places;
+        actives = actives-same g s l s'.word kept (λ heap class. h.word (name.Active heap class) tt) (λ heap class. h.word (name.Slot heap class) tt);
+        listed = kept.listed;
+        available = kept.available;
+        retired = subst (All (IsWithout s)) (sym h.own.retired) (kept.retired caller h.in_heap);
+        own = subst (All (λ k. IsKeptAs s k.status k.desc k.class)) (sym h.after.kept) (All-nil (λ k. IsKeptAs s k.status k.desc k.class));
+      })
+      kept
 
-  -- each frame stays where it is
+  -- each frame stays where it is after a touch
   framed-touched : IsFramed g s l → IsFramed g s' l
   framed-touched framed = record {
     once = λ f has.
@@ -330,61 +286,37 @@ module _ {g : Geometry} {s : State} {l : Lists} {caller : ℕ} {e : ErrandFields
   next-touched Frames i = h.word (name.FrameNext i) tt
   next-touched Partials i = h.word (name.Next i) tt
 
-  -- the parts that stay all the same
-  touched-part : (i : ℕ) → i ≢ caller → (p : Part) → IsTouchedPart p → PartStays g s l s' l i p
-  touched-part i other bindings kept =
-      λ d bound. (subst IsTrue (sym (touched-bound d)) bound, (ap (λ x. x.frame) (touched-info d), ap (λ x. x.class) (touched-info d)))
-  touched-part i other places kept = λ d. (ap (λ x. x.frame) (touched-info d), ap (λ x. x.class) (touched-info d))
-  touched-part i other stacks kept =
-      λ seat p. record { tag = ap (λ w. (head_of w).tag) (head-touched seat p); list = refl; next = next-touched p }
-  touched-part i other availables kept =
-      λ d. record {
-        emptied = λ so. record {
-          state = ap (λ a. a.state) (touched-anchor d) ∙ so.state;
-          unavailable = so.unavailable;
-          standing = touched-ways d ∙ so.standing;
-        };
-        on = λ on. on;
-        next = h.word (name.Next d) tt;
-      }
-  touched-part i other events kept = record { own_events = h.events i other; owned = λ place n. owned-touched i place n other }
-  touched-part i other constant kept = tt
-  touched-part i other p kept = absurd kept
-
-  -- what another caller remembers stays so
-  so-touched : (i : ℕ) → i ≢ caller → (r : Recall) → Stays g s s'.word r → IsSo g s l i r → IsSo g s' l i r
-  so-touched i other (pops d a) stays so =
-      let anchor : anchor_for s' d ≡ anchor_for s d = touched-anchor d in
-      record {
-        tag = subst (λ x. a.tag ≤ x.tag) (sym anchor) so.tag;
-        first = λ is.
-            let chain : free_chain (superblock_of g s' d) ≡ free_chain (superblock_of g s d) =
-            rw (anchor, touched-info d, touched-reserved d) stays in
-            subst (λ xs. 0 < occurs a.avail xs) (sym chain) (so.first (is ∙ ap (λ x. x.tag) anchor));
-      }
-  so-touched i other (links d a prefix) stays so =
-      λ is.
-      ap (λ x. link_in s'.word x.frame x.class a.avail) (touched-info d) ∙ stays
-      ∙ so (is ∙ ap (λ x. x.tag) (touched-anchor d))
-  so-touched i other (says n w) stays so = (so.0, stays ∙ so.1)
-  so-touched i other (made f c blocks) stays so = λ k below. stays k below ∙ so k below
-  so-touched i other r stays so = so-stays g s l s' l i r (touched-part i other (part_of r) tt) so
-
-  remembered-touched : IsRemembered g s l → IsRemembered g s' l
-  remembered-touched remembered = record {
-    so =
-        each-other g (λ i e. All (IsSo g s' l i) (recalls_of e.point)) s.errand caller e s'.errand h.moves
-        (subst (All (IsSo g s' l caller)) (sym h.recalls) (All-nil (IsSo g s' l caller)))
-        (λ i has other k d lt. so-touched i other _ (h.stays i has other k d lt) (remembered.so i has k d lt));
+  -- each part stays that another caller's recalls read
+  touched-part : AreChained g s l → (i : ℕ) → i ≢ caller → (p : Part) → Stays s s'.word p → PartStays g s l s' l i p
+  touched-part chained i other (bindings d) stays = λ bound. (subst IsTrue (sym (touched-bound d)) bound, lies-same s s' d (touched-info d))
+  touched-part chained i other (places d) stays = lies-same s s' d (touched-info d)
+  touched-part chained i other (chains d) stays = λ here. chains-touched chained d here.0 here.1
+  touched-part chained i other (stacks seat p) stays = λ class. stack-same s l s' l seat p (head-touched seat p) refl (next-touched p)
+  touched-part chained i other (link_words f c blocks) stays = stays
+  touched-part chained i other (availables d) stays = record {
+    emptied = λ so. record {
+      state = ap (λ a. a.state) (touched-anchor d) ∙ so.state;
+      unavailable = so.unavailable;
+      standing = touched-ways d ∙ so.standing;
+    };
+    next = λ on. (on, h.word (name.Next d) tt);
   }
+  touched-part chained i other events stays = record { own_events = h.leaves.events i other; owned = λ place n. owned-touched i place n other }
+  touched-part chained i other (single n) stays = stays
+  touched-part chained i other constant stays = tt
 
-  -- the guards stay
+  remembered-touched : IsSoundWith g s l → IsRemembered g s' l
+  remembered-touched old =
+      remembered-stays g s l caller e s' l h.moves old.errands (λ i has other. old.remembered.so i has)
+      (subst (All (IsSo g s' l caller)) (sym h.recalls) (All-nil (IsSo g s' l caller)))
+      (λ i has other k d lt. touched-part old.chained i other _ (h.stays i has other k d lt))
+
+  -- the guards stay after a touch
   guarded-touched : IsGuarded g s → IsGuarded g s'
   guarded-touched =
-      guarded-clear g s caller e s' h.in_heap h.moves (λ i. h.word (name.Hazard i) tt) h.before.hazard h.after.hazard h.after.pushed h.after.passed
-      h.after.unread h.after.spare
+      guarded-clear g s caller e s' h.in_heap h.moves (λ i. h.word (name.Hazard i) tt) h.before.hazard h.after.hazard h.after.quiet
 
-  -- the turns stay
+  -- the bounds of tags and turns stay after a touch
   turned-touched : IsTurned g s l → IsTurned g s' l
   turned-touched turned =
       let before = no-turn-weighs (s.errand caller) h.before.stage in
@@ -395,34 +327,34 @@ module _ {g : Geometry} {s : State} {l : Lists} {caller : ℕ} {e : ErrandFields
         in_heap = h.in_heap;
         moves = h.moves;
         events = record {
-          elsewhere = λ i differ. h.gives i;
-          gives = omega (arith, h.gives caller);
-          refuses = h.refuses;
-          allocs = omega (arith, h.allocs);
-          frees = omega (arith, h.freed);
+          elsewhere = λ i differ. h.leaves.gives i;
+          gives = omega (arith, h.leaves.gives caller);
+          refuses = h.leaves.refuses;
+          allocs = omega (arith, h.leaves.allocs);
+          frees = omega (arith, h.leaves.freed);
         };
-        own_turns = omega (arith, turned.own_turns caller h.in_heap, h.gives caller, after.under_way, h.turns);
+        own_turns = omega (arith, turned.own_turns caller h.in_heap, h.leaves.gives caller, after.under_way, h.own.turns);
         own_lost =
-            omega (arith, turned.own_lost caller h.in_heap, h.gives caller, h.refuses caller, before.unanswered, after.discards, h.turns, h.lost);
-        own_answers = omega (arith, turned.own_answers caller h.in_heap, h.gives caller, h.refuses caller, after.unanswered, h.turns);
+            omega (arith, turned.own_lost caller h.in_heap, h.leaves.gives caller, h.leaves.refuses caller, before.unanswered, after.discards, h.own.turns, h.own.lost);
+        own_answers = omega (arith, turned.own_answers caller h.in_heap, h.leaves.gives caller, h.leaves.refuses caller, after.unanswered, h.own.turns);
         anchor_tags = λ d has. omega (arith, ap (λ a. a.tag) (touched-anchor d));
-        frame_turns = omega (arith, head-tag (h.word name.FrameHead tt), after.unframed, h.turns);
-        emptied = omega (arith, emptied_same, h.cleared);
+        frame_turns = omega (arith, head-tag (h.word name.FrameHead tt), after.unframed, h.own.turns);
+        emptied = omega (arith, emptied_same, h.own.cleared);
         list_turns = λ class has.
-            omega (arith, head-tag (h.word (name.ListHead class) tt), h.after.pops, after.unlisted, h.turns, h.cleared);
+            omega (arith, head-tag (h.word (name.ListHead class) tt), h.after.pops, after.unlisted, h.own.turns, h.own.cleared);
       })
       turned
 
-  -- the state is sound after it, where the words show the pool
+  -- the state is sound after a touch, where the words show the pool
   pub sound-touched : IsSoundWith g s l → IsTied g s' l → IsSoundWith g s' l
   sound-touched old tied = record {
     words = h.below;
-    errands = each-other g (IsOwnErrand g) s.errand caller e s'.errand h.moves h.rule (λ i has differ. old.errands i has);
+    errands = each-other g (IsOwnErrand g) s.errand caller e s'.errand h.moves h.own.rule (λ i has differ. old.errands i has);
     listed = listed-touched old.listed;
     kept = kept-touched old.kept;
     chained = chained-touched old.chained;
     framed = framed-touched old.framed;
-    remembered = remembered-touched old.remembered;
+    remembered = remembered-touched old;
     guarded = guarded-touched old.guarded;
     stocked = record { most = λ class has. omega (arith, old.stocked.most class has, touched-stock class) };
     turned = turned-touched old.turned;

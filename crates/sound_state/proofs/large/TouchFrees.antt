@@ -5,26 +5,19 @@ use Rattle.std.proofs.lemmas.Bool.{cases_eq, cases_lt, lt-leb}
 use Rattle.std.proofs.lemmas.Nat.{and_le_l}
 use Rattle.std.proofs.lemmas.List.Elements.{All-head}
 use Rattle.sound_state.proofs.Common.{Geometry, frame_of, Writes, block_at, pool_of, place-found, sound-of, Continuation, Point, Idle, Large, ErrandFields, event_of}
-use Rattle.sound_state.proofs.Common.{next_of, plan_point_of, State, Step, holds_of, Lists, IsOwned, IsSoundWithoutCounts, IsSoundWith, is_there, IsLive, IsTied}
+use Rattle.sound_state.proofs.Common.{next_of, plan_point_of, State, holds_of, Lists, IsOwned, IsSoundWithoutCounts, IsSoundWith, is_there, IsLive, IsTied}
+use Rattle.sound_state.proofs.Common.{usable_words, unit_place, RunFields, Caller, IsAllowed, pool_of-push, sound-differ, IsCovered}
 use Rattle.heap_geometry.specs.declared.need.Need.TheVariants as need
-use Rattle.heap_geometry.specs.Need.{usable_words}
-use Rattle.heap_geometry.specs.Place.{unit_place}
 use Rattle.word_table.specs.declared.name.WordName.TheVariants as name
 use Rattle.large_parts.specs.declared.point.LargePoint.TheVariants as large
 use Rattle.large_parts.specs.Points.{IsRunAt}
-use Rattle.large_parts.specs.Runs.{RunFields}
 use Rattle.large_parts.specs.Units.{IsInRun, other_bits, without_run}
 use Rattle.large_parts.proofs.UnitLemmas.{without_run-inside, without_run-outside, without_run-below}
 use Rattle.pool_model.specs.declared.event.Event.TheVariants.{Free}
-use Rattle.pool_model.specs.declared.owner.Owner.TheVariants.{Caller}
-use Rattle.pool_model.specs.Legal.{IsAllowed}
 use Rattle.pool_model.specs.Pool.{Block, without}
-use Rattle.pool_model.proofs.HistoryLemmas.{pool_of-push}
 use Rattle.pool_model.proofs.PoolLemmas.{block_at-without_other, block_at-without_same}
-use Rattle.pool_model.proofs.WellFormedLemmas.{sound-differ}
 use Rattle.errand_steps.specs.declared.reply.Reply.TheVariants as reply
 use Rattle.sound_state.specs.Holdings.{freed}
-use Rattle.sound_state.specs.Ties.{IsCovered}
 use Rattle.sound_state.proofs.shared.ListFacts.{any-one}
 use Rattle.sound_state.proofs.shared.OverlapLemmas.{live-apart}
 use Rattle.sound_state.proofs.shared.PointLemmas.{fits-at, frees-at}
@@ -33,12 +26,11 @@ use Rattle.sound_state.proofs.large.TouchPrefix.{frame-before}
 use Rattle.sound_state.proofs.large.TouchPrefixes.{info-frame}
 use Rattle.sound_state.proofs.large.TouchShelves.{idle-aside, idle-bare-handed, idle-recalls}
 use Rattle.sound_state.proofs.large.TouchSteps.{IsAsideEvent, TouchesAt, leaves-event, stays-still, touched-step}
-use Rattle.sound_state.proofs.shared.ShownLemmas.{Excepts}
-use Rattle.sound_state.proofs.shared.TieLemmas.{IsBareHanded, bare-owns, not-live, one-live, ties-but}
+use Rattle.sound_state.proofs.shared.TieLemmas.{IsBareHanded, bare-owns, not-live, one-live, ties-but, Excepts}
 use Rattle.sound_state.proofs.large.TouchTies.{large-aside, touched-desc, touched-sound}
 use Rattle.sound_state.proofs.shared.KeepsSound.{KeepsSound}
 
--- a unit is one of a run's, or none
+-- a unit is one of a run's units, or none of them
 pub cases_run : (first units i : ℕ) → IsInRun first units i ⊎ (IsInRun first units i → ⊥)
 cases_run first units i =
     elim (cases_lt i first) [
@@ -65,7 +57,7 @@ runs-apart g s sound first other units more unit a b at_a at_b of_a of_b ne from
       | inr after ↦ omega (arith, after, here_a, here_b, words_a, words_b, from, below, from_b, below_b)
     ]
 
--- who frees a run excepts nothing
+-- a caller that frees a run excepts no block
 free-excepts : (e : ErrandFields) (place : ℕ) (run : RunFields) (o : Continuation) (p : ℕ) → e.point ≡ Large (large.FreeRun place run) o → Excepts e p → ⊥
 unfolding holds_of
 free-excepts e place run o p stands (inl x) =
@@ -114,16 +106,16 @@ free-touches g s l caller place run o old fit allowed = record {
   after = idle-aside;
   recalls = idle-recalls;
   prefixes = λ words' w d i has bound lt. w.elsewhere _ (λ same. cc);
-  stays = λ words' w i has differ. stays-still g s name.Units _ words' w (λ p same. cc) (λ away. away) (s.errand i).point;
+  stays = λ words' w i has differ. stays-still s name.Units _ words' w (λ p same. cc) (λ away. away) (s.errand i).point;
 }
 
--- a block is gone, and all other places are as they were
+-- the live block of a place is gone after the step, and all other places are as they were
 pub record IsGone (s s' : State) (at : ℕ) (a : Block) : Type 0 where
   pub was : IsLive s at a
   pub gone : block_at at (pool_of s'.history) ≡ None
   pub elsewhere : (p : ℕ) → p ≢ at → block_at p (pool_of s'.history) ≡ block_at p (pool_of s.history)
 
--- the freed units are clear and uncovered, and the others as they were
+-- the freed units are clear and uncovered after the free of a run, and the others as they were
 free-uncovers :
     (g : Geometry) (s s' : State) (place : ℕ) (run : RunFields) (unit : ℕ) (l : Lists) → IsSoundWithoutCounts g s → IsSoundWith g s l → IsRunAt g place run
     → Writes s.word name.Units (without_run (s.word name.Units) run.first run.units) s'.word → (a : Block) → a.need ≡ need.Large run.units

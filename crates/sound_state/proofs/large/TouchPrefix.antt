@@ -1,25 +1,18 @@
 -- The prefix word of a run that is handed out.
-use Rattle.std.proofs.Common.{ℕ, None, Some, ◌≡◌, ◌≢◌, ◌<◌, ◌≤◌, ◌+◌, ◌*◌, ◌^◌, [], refl, arith, ap, sym, subst, inl, inr, ◌∙◌, Any, IsTrue, slice_index_or}
+use Rattle.std.proofs.Common.{ℕ, None, Some, ◌≡◌, ◌≢◌, ◌<◌, ◌≤◌, ◌+◌, ◌*◌, ◌^◌, [], refl, arith, ap, sym, subst, inl, inr, ◌∙◌, Any, IsTrue, slice_index_or, pow_pos}
 use Rattle.std.specs.Int.{bit_at}
 use Rattle.std.proofs.lemmas.Bool.{cases_eq}
-use Rattle.std.proofs.lemmas.Nat.{pow_pos}
 use Rattle.std.proofs.lemmas.List.Elements.{All-head}
-use Rattle.sound_state.proofs.Common.{Geometry, block_count_of, block_place, WordName, Writes, block_at, pool_of, IsLegalWithoutCounts, place-found, sound-of}
-use Rattle.sound_state.proofs.Common.{Continuation, Point, Idle, Large, ErrandFields, event_of, next_of, plan_point_of, State, Step, holds_of, Lists, IsOwned}
-use Rattle.sound_state.proofs.Common.{IsSoundWithoutCounts, IsSoundWith, IsLive, IsTied}
+use Rattle.sound_state.proofs.Common.{Geometry, block_count_of, block_place, WordName, Writes, block_at, pool_of, place-found, sound-of}
+use Rattle.sound_state.proofs.Common.{Continuation, Point, Idle, Large, ErrandFields, event_of, next_of, plan_point_of, State, holds_of, Lists, IsOwned}
+use Rattle.sound_state.proofs.Common.{IsSoundWithoutCounts, IsSoundWith, IsLive, IsTied, usable_words, unit_place, block-within, prefix_word, RunFields, IsWellFormed}
+use Rattle.sound_state.proofs.Common.{every-found}
 use Rattle.heap_geometry.specs.declared.need.Need.TheVariants as need
-use Rattle.heap_geometry.specs.Need.{usable_words}
-use Rattle.heap_geometry.specs.Place.{unit_place}
-use Rattle.heap_geometry.proofs.PlaceLemmas.{block-within}
 use Rattle.packed_words.specs.declared.prefix.Prefix.TheVariants as prefix
-use Rattle.packed_words.specs.Prefix.{prefix_word}
 use Rattle.word_table.specs.declared.name.WordName.TheVariants as name
 use Rattle.large_parts.specs.declared.point.LargePoint.TheVariants as large
 use Rattle.large_parts.specs.Points.{IsRunAt}
-use Rattle.large_parts.specs.Runs.{RunFields}
 use Rattle.pool_model.specs.Pool.{Block}
-use Rattle.pool_model.specs.WellFormed.{IsWellFormed}
-use Rattle.pool_model.proofs.PoolLemmas.{every-found}
 use Rattle.errand_steps.specs.declared.reply.Reply.TheVariants as reply
 use Rattle.sound_state.specs.Holdings.{run_handed}
 use Rattle.sound_state.proofs.shared.ListFacts.{any-one, written-within}
@@ -29,12 +22,11 @@ use Rattle.sound_state.proofs.large.TouchEffects.{IsAwayWord, Touches, sound-tou
 use Rattle.sound_state.proofs.large.TouchPrefixes.{KeepsPrefixes, prefixes-stay, info-frame}
 use Rattle.sound_state.proofs.large.TouchShelves.{idle-aside, idle-bare-handed, idle-recalls}
 use Rattle.sound_state.proofs.large.TouchSteps.{TouchesAt, leaves-same, touched-step}
-use Rattle.sound_state.proofs.shared.ShownLemmas.{Excepts}
-use Rattle.sound_state.proofs.shared.TieLemmas.{IsBareHanded, bare-owns, one-live, ties-but}
+use Rattle.sound_state.proofs.shared.TieLemmas.{IsBareHanded, bare-owns, one-live, ties-but, Excepts}
 use Rattle.sound_state.proofs.large.TouchTies.{large-aside, touched-desc}
-use Rattle.sound_state.proofs.shared.KeepsSound.{KeepsSound}
+use Rattle.sound_state.proofs.shared.KeepsSound.{KeepsSound, silent-sound}
 
--- the place of a word of the arena
+-- the place of the word of the arena that this is
 abbrev pub arena_place : WordName → ℕ
 arena_place (name.Arena p) = p
 arena_place n = 0
@@ -61,7 +53,7 @@ words-apart g s sound p q i j a b at_p at_q ne of_a of_b same =
       | inr after ↦ omega (arith, after, here_p, here_q, of_a, of_b, same)
     ]
 
--- where a word behind the frames is written, no block of a frame is touched
+-- a write of a word behind the frames touches no block of a frame
 pub behind-keeps :
     (g : Geometry) (s : State) (l : Lists) (caller first new : ℕ) (words : WordName → ℕ) → IsSoundWith g s l
     → Writes s.word (name.Arena (unit_place g.frames first)) new words → KeepsPrefixes g s l caller words
@@ -103,7 +95,7 @@ prefix-touches g s l caller place run o old fit = record {
       prefixes-stay g s l caller words' (behind-keeps g s l caller run.first (prefix_word (prefix.Large run.units)) words' old stands) old i has differ;
 }
 
--- the caller excepts the run alone
+-- a caller that stores the prefix word of a run excepts that run alone
 excepts-run : (e : ErrandFields) (place : ℕ) (run : RunFields) (o : Continuation) (p : ℕ) → e.point ≡ Large (large.StoreRunPrefix place run) o → Excepts e p → place ≡ p
 unfolding holds_of
 excepts-run e place run o p stands (inl x) =
@@ -113,7 +105,7 @@ excepts-run e place run o p stands (inr x) =
     let none : Any (λ b. (b.place ≡ p) × IsTrue b.overwritten) [] = subst (λ q. Any (λ b. (b.place ≡ p) × IsTrue b.overwritten) (holds_of q).frees) stands x in
     omega (arith, none.2)
 
--- after the store the run's word says it, and all else shows the pool as before
+-- after the store of a run's prefix word that word says the run, and the words show the pool
 prefix-tied :
     (g : Geometry) (s : State) (l : Lists) (caller place : ℕ) (run : RunFields) (o : Continuation) (s' : State) (e : ErrandFields) → Touches g s l caller e s'
     → IsSoundWithoutCounts g s → IsSoundWith g s l → (s.errand caller).point ≡ Large (large.StoreRunPrefix place run) o
@@ -181,11 +173,5 @@ store_run_prefix-sound place run o g s caller s' sound has stands step =
     let t =
     touched-step g s l caller s' p Idle (name.Arena place) (prefix_word (prefix.Large run.units)) s.history old has stands
     (prefix-touches g s l caller place run o old fit.point) step in
-    record {
-      checked = sound.checked;
-      legal = subst (IsLegalWithoutCounts g) (sym t.history) sound.legal;
-      parts = (
-        l,
-        sound-touched t.touches old (prefix-tied g s l caller place run o s' _ t.touches sound old stands owned t.word t.history idle-bare-handed),
-      );
-    }
+    silent-sound g s s' l sound t.history
+    (sound-touched t.touches old (prefix-tied g s l caller place run o s' _ t.touches sound old stands owned t.word t.history idle-bare-handed))

@@ -1,25 +1,23 @@
 -- A word of the arena that is no block's prefix word in a frame at work: what is remembered of superblocks stays where it changes.
-use Rattle.std.proofs.Common.{ℕ, ◌≡◌, ◌≢◌, ◌<◌, ◌+◌, [], ◌∷◌, arith, ap, sym, subst, refl, ◌∙◌, IsTrue}
-use Rattle.std.specs.List.{All, AllByRecursion}
-use Rattle.std.proofs.lemmas.List.Elements.{All-from_recursion, recursion_from_All}
-use Rattle.sound_state.proofs.Common.{Geometry, block_count_of, info_of, link_of, WordName, Site, descriptor_count, occurs, prefix_name, link_in, BlockPoint}
-use Rattle.sound_state.proofs.Common.{Continuation, Point, State, errand_frames, waiting, holds_of, Lists, IsSo, IsLocated, recalls_of, IsSoundWith, IsChained}
-use Rattle.sound_state.proofs.Common.{info_for, anchor_for, reserved_of, superblock_of, free_chain, is_bound, errand_keeps, kept_among}
+use Rattle.std.proofs.Common.{ℕ, ◌≡◌, ◌≢◌, ◌<◌, [], ◌∷◌, arith, ap, sym, subst, refl, ◌∙◌, IsTrue}
+use Rattle.std.specs.List.{AllByRecursion}
+use Rattle.std.proofs.lemmas.List.Elements.{recursion_from_All}
+use Rattle.sound_state.proofs.Common.{Geometry, block_count_of, info_of, WordName, Site, descriptor_count, occurs, prefix_name, BlockPoint, Continuation, Point, State}
+use Rattle.sound_state.proofs.Common.{errand_frames, waiting, holds_of, Lists, IsSo, IsLocated, recalls_of, IsSoundWith, info_for, is_bound, errand_keeps, kept_among}
+use Rattle.sound_state.proofs.Common.{FitsBlock, block_recalls}
 use Rattle.word_table.specs.declared.name.WordName.TheVariants as name
-use Rattle.superblock_parts.specs.Chains.{chain_of}
-use Rattle.superblock_parts.specs.Points.{FitsBlock}
-use Rattle.superblock_parts.proofs.ChainLemmas.{chain_of-same}
 use Rattle.superblock_parts.specs.declared.point.BlockPoint.TheVariants as block
 use Rattle.errand_steps.specs.declared.point.Point.TheVariants as point
 use Rattle.sound_state.specs.Holdings as holding
-use Rattle.sound_state.specs.Recalls.{block_recalls}
+use Rattle.sound_state.proofs.shared.BackedRecalls.{AllRead}
 use Rattle.sound_state.proofs.shared.MakingWeights.{making-waits}
 use Rattle.sound_state.proofs.shared.PointLemmas.{fits-at, so-at}
+use Rattle.sound_state.proofs.shared.RecallFrame.{Part, Reads, link_words, single}
+use Rattle.sound_state.proofs.shared.RecallTables.{IsElsewhere, IsLink, reads-point}
 use Rattle.sound_state.proofs.large.TouchEffects.{IsAwayWord, Stays}
-use Rattle.sound_state.proofs.large.TouchRecalls.{all-stays}
 use Rattle.sound_state.proofs.shared.WordFacts.{frame-of-within}
 
--- these words have the prefix words of the blocks of bound superblocks, and of frames in which other callers make superblocks
+-- words that have the prefix words of bound superblocks' blocks, and of frames in which other callers make superblocks
 pub record KeepsPrefixes (g : Geometry) (s : State) (l : Lists) (caller : ℕ) (words : WordName → ℕ) : Type 0 where
   pub away : (n : WordName) → IsAwayWord n → words n ≡ s.word n
   pub bound :
@@ -30,7 +28,7 @@ pub record KeepsPrefixes (g : Geometry) (s : State) (l : Lists) (caller : ℕ) (
       → k < block_count_of c
       → words (prefix_name f c k) ≡ s.word (prefix_name f c k)
 
--- the prefix word of a block of a superblock at hand
+-- the prefix word of a block of a superblock at hand stays
 at-hand :
     (g : Geometry) (s : State) (l : Lists) (caller : ℕ) (words : WordName → ℕ) → KeepsPrefixes g s l caller words → (at : Site) → at.desc < descriptor_count g
     → IsTrue (is_bound g s l at.desc) × IsLocated s at.desc at.frame at.seat.class → (i : ℕ) → i < block_count_of at.seat.class
@@ -41,27 +39,10 @@ at-hand g s l caller words h at has here i within =
     (subst (λ c. P (info_for s at.desc).frame c) here.1.class
     (h.bound at.desc i has here.0 (subst (λ c. i < block_count_of c) (sym here.1.class) within)))
 
--- its links, and its chain of free blocks
-at-link :
-    (g : Geometry) (s : State) (l : Lists) (caller : ℕ) (words : WordName → ℕ) → KeepsPrefixes g s l caller words → (d i : ℕ) → d < descriptor_count g
-    → IsTrue (is_bound g s l d) → i < block_count_of (info_for s d).class
-    → link_in words (info_for s d).frame (info_for s d).class i ≡ link_in s.word (info_for s d).frame (info_for s d).class i
-at-link g s l caller words h d i has bound within = ap link_of (h.bound d i has bound within)
-
-at-chain :
-    (g : Geometry) (s : State) (l : Lists) (caller : ℕ) (words : WordName → ℕ) → KeepsPrefixes g s l caller words → IsSoundWith g s l → (d : ℕ)
-    → d < descriptor_count g → IsTrue (is_bound g s l d)
-    → chain_of (link_in words (info_for s d).frame (info_for s d).class) ((anchor_for s d).count + reserved_of g s d) (anchor_for s d).avail
-    ≡ free_chain (superblock_of g s d)
-at-chain g s l caller words h old d has bound =
-    let c : IsChained (superblock_of g s d) = old.chained.chained d has bound in
-    chain_of-same (superblock_of g s d).next (link_in words (info_for s d).frame (info_for s d).class) ((anchor_for s d).count + reserved_of g s d)
-    (anchor_for s d).avail (λ j on. at-link g s l caller words h d j has bound (c.within j on))
-
 frame-in-hand : (f : ℕ) → 0 < occurs f (f ∷ [])
 frame-in-hand f = grind (arith)
 
--- nor do the prefix words of its frame change
+-- the prefix words of a frame in which another caller makes a superblock stay
 at-making :
     (g : Geometry) (s : State) (l : Lists) (caller : ℕ) (words : WordName → ℕ) → KeepsPrefixes g s l caller words → (i : ℕ) → i < g.callers → i ≢ caller
     → (p : Point) → (s.errand i).point ≡ p → (at : Site) → holds_of p ≡ holding.making at → at.frame < g.frames → (k : ℕ)
@@ -74,38 +55,40 @@ at-making g s l caller words h i has other p stands at making within k lt =
 block-stays :
     (g : Geometry) (s : State) (l : Lists) (caller : ℕ) (words : WordName → ℕ) → KeepsPrefixes g s l caller words → IsSoundWith g s l → (i : ℕ)
     → i < g.callers → i ≢ caller → (p : BlockPoint) (o : Continuation) → (s.errand i).point ≡ point.Block p o → FitsBlock g i p
-    → AllByRecursion (IsSo g s l i) (block_recalls p) → AllByRecursion (Stays g s words) (block_recalls p)
+    → AllByRecursion (IsSo g s l i) (block_recalls p) → AllByRecursion (Reads (Stays s words)) (block_recalls p)
 unfolding holds_of
-block-stays g s l caller words h old i has other (block.LoadLink at share a) o stands fit so =
-    (at-chain g s l caller words h old at.desc fit.site.desc so.1.0.0, (tt, tt))
-block-stays g s l caller words h old i has other (block.PopBlock at share a prefix) o stands fit so = (
-  at-link g s l caller words h at.desc a.avail fit.site.desc so.1.1.0.0
-      (subst (λ c. a.avail < block_count_of c) (sym so.1.1.0.1.class) fit.anchor.avail),
-  (at-chain g s l caller words h old at.desc fit.site.desc so.1.1.0.0, (tt, tt)),
-)
-block-stays g s l caller words h old i has other (block.InstallSuperblock at) o stands fit so = (h.away (name.Anchor at.desc) tt, (tt, tt))
+block-stays g s l caller words h old i has other (block.InstallSuperblock at) o stands fit so = (λ said. h.away (name.Anchor at.desc) tt, (tt, tt))
 block-stays g s l caller words h old i has other (block.PushBlock at k a stored heap) o stands fit so =
-    (at-hand g s l caller words h at fit.block.site.desc so.1.0 k fit.block.index, (tt, tt))
+    (λ said. at-hand g s l caller words h at fit.block.site.desc so.1.0 k fit.block.index, (tt, tt))
 block-stays g s l caller words h old i has other (block.LinkBlock at n) o stands fit so =
     (λ k lt. at-making g s l caller words h i has other _ stands at refl fit.site.frame k (omega (arith, lt, fit.index)), tt)
 block-stays g s l caller words h old i has other (block.StoreInfo at) o stands fit so =
     (λ k lt. at-making g s l caller words h i has other _ stands at refl fit.frame k lt, tt)
 block-stays g s l caller words h old i has other (block.StoreAnchor at) o stands fit so =
-    (h.away (name.Info at.desc) tt, (λ k lt. at-making g s l caller words h i has other _ stands at refl fit.frame k lt, tt))
+    (λ said. h.away (name.Info at.desc) tt, (λ k lt. at-making g s l caller words h i has other _ stands at refl fit.frame k lt, tt))
 block-stays g s l caller words h old i has other p o stands fit so = grind (arith)
 
--- so all that the others remember stays
+-- outside of superblocks, only next words are read word by word
+link-away : (n : WordName) → IsLink n → IsAwayWord n
+link-away n link = grind (arith)
+
+elsewhere-stays :
+    (g : Geometry) (s : State) (l : Lists) (caller : ℕ) (words : WordName → ℕ) → KeepsPrefixes g s l caller words → (q : Part) → IsElsewhere q
+    → Stays s words q
+elsewhere-stays g s l caller words h (link_words f c blocks) is = absurd is
+elsewhere-stays g s l caller words h (single n) is = λ said. h.away n (link-away n is)
+elsewhere-stays g s l caller words h q is = tt
+
+-- all that the others read word by word stays
 pub prefixes-stay :
     (g : Geometry) (s : State) (l : Lists) (caller : ℕ) (words : WordName → ℕ) → KeepsPrefixes g s l caller words → IsSoundWith g s l → (i : ℕ)
-    → i < g.callers → i ≢ caller → All (Stays g s words) (recalls_of (s.errand i).point)
+    → i < g.callers → i ≢ caller → AllRead (Stays s words) (s.errand i).point
 unfolding recalls_of
 prefixes-stay g s l caller words h old i has other =
-    all-stays g s words h.away (s.errand i).point
+    reads-point (Stays s words) (elsewhere-stays g s l caller words h) (s.errand i).point
     (λ b o is.
-    let fit = fits-at g s l i (point.Block b o) old has is in
-    All-from_recursion (Stays g s words) (block_recalls b)
-    (block-stays g s l caller words h old i has other b o is fit.point
-    (recursion_from_All (IsSo g s l i) (block_recalls b) (so-at g s l i (point.Block b o) old has is))))
+    block-stays g s l caller words h old i has other b o is (fits-at g s l i (point.Block b o) old has is).point
+    (recursion_from_All (IsSo g s l i) (block_recalls b) (so-at g s l i (point.Block b o) old has is)))
 
 pub info-frame : (g : Geometry) (s : State) (l : Lists) (d : ℕ) → IsSoundWith g s l → d < descriptor_count g → (info_for s d).frame < g.frames
 info-frame g s l d old has = frame-of-within g (info_of (s.word (name.Info d))) (old.chained.infos d has)

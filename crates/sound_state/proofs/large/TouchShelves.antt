@@ -1,27 +1,20 @@
 -- Won exchanges of a shelf's word keep the state sound.
-use Rattle.std.proofs.Common.{ℕ, true, None, Some, ◌≡◌, ◌≢◌, ◌<◌, ◌+◌, [], ◌∷◌, ◌++◌, refl, arith, ap, sym, subst, inl, inr, ◌∙◌, ◌==◌, slice_index_or}
-use Rattle.std.proofs.lemmas.Bool.{cases_eq, eq-eqb}
-use Rattle.std.proofs.lemmas.List.Elements.{All-head}
+use Rattle.std.proofs.Common.{ℕ, true, None, Some, ◌≡◌, ◌≢◌, ◌<◌, ◌+◌, [], ◌∷◌, ◌++◌, refl, arith, ap, sym, subst, inl, inr, ◌∙◌, ◌==◌, slice_index_or, eq-eqb}
+use Rattle.std.proofs.lemmas.Bool.{cases_eq}
 use Rattle.sound_state.proofs.Common.{Geometry, Need, WordName, Writes, Event, block_at, pool_of, sound-of, Continuation, Point, Idle, Large, ErrandFields, event_of}
-use Rattle.sound_state.proofs.Common.{next_of, plan_point_of, State, Step, holds_of, Lists, IsSo, IsOwned, recalls_of, IsSoundWithoutCounts, IsSoundWith, is_there}
-use Rattle.sound_state.proofs.Common.{IsLive, IsTied}
-use Rattle.heap_geometry.specs.declared.limits.TheConstants.{SHELVES}
+use Rattle.sound_state.proofs.Common.{next_of, plan_point_of, State, holds_of, Lists, recalls_of, IsSoundWithoutCounts, IsSoundWith, is_there, IsLive, IsTied, SHELVES}
+use Rattle.sound_state.proofs.Common.{IsShelfWord, shelf_word, shelf-exact, Put, Take, TakeNone, Caller, IsAllowed, IsEmptyShelf, Pool, handed_to, pool_after}
+use Rattle.sound_state.proofs.Common.{pool_of-push}
 use Rattle.packed_words.specs.declared.shelf.ShelfWord.TheVariants as shelf
-use Rattle.packed_words.specs.Shelf.{IsShelfWord, shelf_word}
-use Rattle.packed_words.proofs.ShelfLemmas.{shelf-exact}
 use Rattle.word_table.specs.declared.name.WordName.TheVariants as name
 use Rattle.large_parts.specs.declared.point.LargePoint.TheVariants as large
-use Rattle.pool_model.specs.declared.event.Event.TheVariants.{Put, Take, TakeNone}
 use Rattle.pool_model.specs.declared.owner.Owner.{Owner}
-use Rattle.pool_model.specs.declared.owner.Owner.TheVariants.{Caller, Shelf}
-use Rattle.pool_model.specs.Legal.{IsAllowed, IsEmptyShelf}
-use Rattle.pool_model.specs.Pool.{Block, Pool, handed_to, with_changed, pool_after}
-use Rattle.pool_model.proofs.HistoryLemmas.{pool_of-push}
+use Rattle.pool_model.specs.declared.owner.Owner.TheVariants.{Shelf}
+use Rattle.pool_model.specs.Pool.{Block, with_changed}
 use Rattle.pool_model.proofs.PoolLemmas.{block_at-changed_other, block_at-changed_same}
 use Rattle.pool_model.proofs.WellFormedLemmas.{separate-found}
 use Rattle.errand_steps.specs.declared.reply.Reply.TheVariants as reply
-use Rattle.sound_state.specs.Recalls.{owns_all}
-use Rattle.sound_state.proofs.shared.PointLemmas.{fits-at, so-at}
+use Rattle.sound_state.proofs.shared.PointLemmas.{fits-at, recalled-at}
 use Rattle.sound_state.proofs.large.TouchEffects.{IsAsidePoint, Touches}
 use Rattle.sound_state.proofs.large.TouchSteps.{TouchesAt, leaves-event, stays-still, touched-step}
 use Rattle.sound_state.proofs.large.TouchTies.{SamePlaces, large-aside, tied-touched, touched-sound}
@@ -31,14 +24,14 @@ use Rattle.sound_state.proofs.shared.TieLemmas.{IsBareHanded, one-live}
 use Rattle.sound_state.proofs.shared.WordFacts.{shelf-nothing}
 use Rattle.sound_state.proofs.shared.KeepsSound.{KeepsSoundWhere}
 
--- a block is changed, and its place and its need stay
+-- a live block changes, and its place and its need stay, and so do all blocks elsewhere
 pub record Changes (s s' : State) (at : ℕ) (a b : Block) : Type 0 where
   pub was : IsLive s at a
   pub now : IsLive s' at b
   pub need : b.need ≡ a.need
   pub elsewhere : (p : ℕ) → p ≢ at → block_at p (pool_of s'.history) ≡ block_at p (pool_of s.history)
 
--- the block that is live at the changed place
+-- the live block of the changed place is the one that it changed to
 pub changed-is : (s s' : State) (at : ℕ) (a b : Block) → Changes s s' at a b → (p : ℕ) (x : Block) → p ≡ at → IsLive s' p x → b ≡ x
 changed-is s s' at a b h p x here live = one-live s' at p b x h.now here live
 
@@ -58,7 +51,7 @@ changes-places s s' at a b h = record {
       ];
 }
 
--- a change leaves each place live or not
+-- a change of a block leaves each place live or not
 pub changed-there :
     (at p : ℕ) (change : Block → Block) (pool : Pool) (a : Block) → ((x : Block) → (change x).place ≡ x.place) → block_at at pool ≡ Some a
     → is_there (block_at p (with_changed at change pool)) ≡ is_there (block_at p pool)
@@ -83,7 +76,7 @@ changes-from s s' event at change a history pool places needs live =
       elsewhere = λ p ne. ap (block_at p) new ∙ block_at-changed_other at p change (pool_of s.history) places ne;
     }
 
--- the number of a shelf
+-- the number of the shelf whose word this is
 abbrev shelf_number : WordName → ℕ
 shelf_number (name.Shelf k) = k
 shelf_number n = 0
@@ -137,7 +130,7 @@ handed-tied g s l caller k place word to s' e h old w bare_before bare_after b c
       | inr ne ↦ old.tied.contents p i v x (sym (c.elsewhere p ne) ∙ live) written
     ])
 
--- a block is put on a shelf
+-- the put of a block on a shelf keeps the state sound, and its caller hands out and frees nothing
 put-bare : (k place : ℕ) (n : Need) (o : Continuation) → IsBareHanded (Large (large.PutBlock k place n) o)
 unfolding holds_of
 put-bare k place n o = grind (arith)
@@ -179,7 +172,7 @@ put-touches g s l caller k place n o old has fit word b live allowed =
       after = idle-aside;
       recalls = idle-recalls;
       prefixes = λ words' w d i has_d bound lt. w.elsewhere _ (λ same. cc);
-      stays = λ words' w i has_i differ. stays-still g s (name.Shelf k) _ words' w (λ p same. cc) (λ away. away) (s.errand i).point;
+      stays = λ words' w i has_i differ. stays-still s (name.Shelf k) _ words' w (λ p same. cc) (λ away. away) (s.errand i).point;
     }
 
 put-tied :
@@ -201,7 +194,7 @@ put_block-sound k place n o g s caller s' sound has stands word step =
     let old = sound.parts.1 in
     let p : Point = Large (large.PutBlock k place n) o in
     let fit = fits-at g s l caller p old has stands in
-    let owned : IsOwned s caller place n = All-head (IsSo g s l caller) (owns_all place n) [] (so-at g s l caller p old has stands) in
+    let (owned, none) = recalled-at g s l caller p old has stands in
     let b : Block = owned.block.0 in
     let empty : IsEmptyShelf (pool_of s.history) k = empty-shelf g s l k old fit.point.shelf word in
     let allowed : IsAllowed g s.history (Put caller place k) = ((b, owned.block.1, owned.block.2), fit.point.shelf, empty) in
@@ -214,7 +207,7 @@ put_block-sound k place n o g s caller s' sound has stands word step =
     (put-tied g s l caller k place n s' _ t.touches old fit.point.shelf t.word (subst IsBareHanded (sym stands) (put-bare k place n o)) idle-bare-handed empty b
     owned.block.2 owned.block.3 c)
 
--- a block is taken from a shelf
+-- the take of a block from a shelf keeps the state sound, and its caller hands out and frees nothing
 take_block-bare : (k place : ℕ) (n : Need) (o : Continuation) → IsBareHanded (Large (large.TakeBlock k place n) o)
 unfolding holds_of
 take_block-bare k place n o = grind (arith)
@@ -243,7 +236,7 @@ take-touches g s l caller k place n o old has word b live allowed =
       after = idle-aside;
       recalls = idle-recalls;
       prefixes = λ words' w d i has_d bound lt. w.elsewhere _ (λ same. cc);
-      stays = λ words' w i has_i differ. stays-still g s (name.Shelf k) _ words' w (λ p same. cc) (λ away. away) (s.errand i).point;
+      stays = λ words' w i has_i differ. stays-still s (name.Shelf k) _ words' w (λ p same. cc) (λ away. away) (s.errand i).point;
     }
 
 take-tied :
@@ -276,7 +269,7 @@ take_block-sound k place n o g s caller s' sound has stands word step =
     touched-sound g s l caller _ _ _ (Take caller k place) s' sound old (has, allowed) t
     (take-tied g s l caller k place s' _ t.touches sound old t.word (subst IsBareHanded (sym stands) (take_block-bare k place n o)) idle-bare-handed b there.2 c)
 
--- a shelf is still empty
+-- a look that finds a shelf still empty hands out and frees nothing, and keeps the state sound
 none-bare : (k : ℕ) (o : Continuation) → IsBareHanded (Large (large.ConfirmNothing k) o)
 unfolding holds_of
 none-bare k o = grind (arith)
@@ -305,7 +298,7 @@ none-touches g s l caller k o old has word allowed =
       after = idle-aside;
       recalls = idle-recalls;
       prefixes = λ words' w d i has_d bound lt. w.elsewhere _ (λ same. cc);
-      stays = λ words' w i has_i differ. stays-still g s (name.Shelf k) _ words' w (λ p same. cc) (λ away. away) (s.errand i).point;
+      stays = λ words' w i has_i differ. stays-still s (name.Shelf k) _ words' w (λ p same. cc) (λ away. away) (s.errand i).point;
     }
 
 -- words and blocks that all stay are tied as they were

@@ -1,9 +1,8 @@
 -- Every step at a large block, a usable word or a shelf keeps the state sound.
-use Rattle.std.proofs.Common.{ℕ, ◌≡◌, ◌<◌, inl, inr}
+use Rattle.std.proofs.Common.{inl, inr}
 use Rattle.std.proofs.lemmas.Bool.{cases_eq}
-use Rattle.sound_state.proofs.Common.{Geometry, LargePoint, Continuation, Large, State, Step, IsSoundWithoutCounts}
+use Rattle.sound_state.proofs.Common.{LargePoint, Continuation, Large, shelf_word}
 use Rattle.packed_words.specs.declared.shelf.ShelfWord.TheVariants as shelf
-use Rattle.packed_words.specs.Shelf.{shelf_word}
 use Rattle.word_table.specs.declared.name.WordName.TheVariants as name
 use Rattle.large_parts.specs.declared.point.LargePoint.TheVariants as large
 use Rattle.sound_state.proofs.quiet.QuietEnds.{load_word-sound, put_block_lost-sound, take_block_lost-sound, confirm_nothing_lost-sound}

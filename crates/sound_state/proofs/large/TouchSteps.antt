@@ -1,38 +1,17 @@
 -- The step at a large block, a usable word or a shelf, and what it leaves.
-use Rattle.std.proofs.Common.{ℕ, false, Some, ◌≡◌, ◌≢◌, ◌<◌, ◌^◌, List, [], ◌∷◌, ◌++◌, refl, ap, sym, subst, ◌∙◌, All, IsTrue, count_by}
-use Rattle.sound_state.proofs.Common.{Geometry, block_count_of, block_place, WordName, name_of, after_action, descriptor_count, Writes, prefix_name, Event, own}
+use Rattle.std.proofs.Common.{ℕ, false, ◌≡◌, ◌≢◌, ◌<◌, ◌^◌, List, [], ◌∷◌, ◌++◌, refl, ap, sym, subst, ◌∙◌, IsTrue}
+use Rattle.sound_state.proofs.Common.{Geometry, block_count_of, block_place, WordName, name_of, after_action, descriptor_count, Writes, prefix_name, Event}
 use Rattle.sound_state.proofs.Common.{block_at, pool_of, Point, settle_of, raised, counts_lost, counts_cleared, event_of, next_of, plan_point_of, State, Step, Moves}
 use Rattle.sound_state.proofs.Common.{found_at, name_at, with_event, Lists, recalls_of, IsSoundWith, info_for, is_bound, is_there, gives_small, refuses_small}
+use Rattle.sound_state.proofs.Common.{caller_of, IsAllowed, pool_after, pool_of-push, IsErrand, settle_errand, is_small_alloc, is_small_free}
 use Rattle.word_table.specs.declared.name.WordName.TheVariants as name
-use Rattle.pool_model.specs.declared.owner.Owner.TheVariants.{Caller}
-use Rattle.pool_model.specs.Histories.{caller_of}
-use Rattle.pool_model.specs.Legal.{IsAllowed}
-use Rattle.pool_model.specs.Pool.{Block, pool_after}
-use Rattle.pool_model.proofs.HistoryLemmas.{pool_of-push}
 use Rattle.pool_model.proofs.OwnerLemmas.{others-keep}
-use Rattle.errand_steps.specs.Errands.{IsErrand}
-use Rattle.errand_steps.proofs.ErrandLemmas.{settle_errand}
-use Rattle.sound_state.specs.Turns.{is_small_alloc, is_small_free}
+use Rattle.sound_state.proofs.shared.BackedRecalls.{AllRead}
 use Rattle.sound_state.proofs.shared.EventFacts.{counted-not, told-own}
+use Rattle.sound_state.proofs.shared.RecallFrame.{IsSaidWord, Part, link_words, single}
 use Rattle.sound_state.proofs.shared.StepLemmas.{at_point, words-below, found_from}
-use Rattle.sound_state.proofs.large.TouchEffects.{IsAwayWord, IsAsidePoint, Stays, Touches}
-use Rattle.sound_state.proofs.large.TouchRecalls.{point-stays}
+use Rattle.sound_state.proofs.large.TouchEffects.{IsAwayWord, IsAsidePoint, Stays, Touches, LeavesOthers}
 use Rattle.sound_state.proofs.shared.WonEffects.{settle-leads, LeadsTo}
-
--- the events after a step leave what the others own, and count no small block
-pub record LeavesOthers (g : Geometry) (s : State) (l : Lists) (caller : ℕ) (past : List Event) : Type 0 where
-  pub others :
-      (i place : ℕ) (b : Block) → i ≢ caller → block_at place (pool_of s.history) ≡ Some b → b.owner ≡ Caller i
-      → block_at place (pool_of past) ≡ Some b
-  pub live :
-      (d i : ℕ) → d < descriptor_count g → IsTrue (is_bound g s l d) → i < block_count_of (info_for s d).class
-      → is_there (block_at (block_place (info_for s d).frame (info_for s d).class i) (pool_of past))
-      ≡ is_there (block_at (block_place (info_for s d).frame (info_for s d).class i) (pool_of s.history))
-  pub events : (i : ℕ) → i ≢ caller → own i past ≡ own i s.history
-  pub gives : (i : ℕ) → count_by (gives_small i) past ≡ count_by (gives_small i) s.history
-  pub refuses : (i : ℕ) → count_by (refuses_small i) past ≡ count_by (refuses_small i) s.history
-  pub allocs : count_by is_small_alloc past ≡ count_by is_small_alloc s.history
-  pub freed : count_by (is_small_free g) past ≡ count_by (is_small_free g) s.history
 
 pub leaves-same : (g : Geometry) (s : State) (l : Lists) (caller : ℕ) → LeavesOthers g s l caller s.history
 leaves-same g s l caller = record {
@@ -73,7 +52,7 @@ leaves-event g s l caller event aside allowed live =
       freed = counted-not (is_small_free g) s.history event aside.freed;
     }
 
--- such a step from the first point to the second: it writes a word of these, and adds these events
+-- a touch from p to q by a step that writes this into its word, none of a list or a superblock, and after which the events are these
 pub record TouchesAt (g : Geometry) (s : State) (l : Lists) (caller : ℕ) (p q : Point) (n : WordName) (new : ℕ) (past : List Event) : Type 0 where
   pub leads : LeadsTo (next_of p (found_from s p)) q
   pub here : name_of (plan_point_of p) ≡ n
@@ -92,7 +71,7 @@ pub record TouchesAt (g : Geometry) (s : State) (l : Lists) (caller : ℕ) (p q 
       → i < block_count_of (info_for s d).class
       → words' (prefix_name (info_for s d).frame (info_for s d).class i) ≡ s.word (prefix_name (info_for s d).frame (info_for s d).class i)
   pub stays :
-      (words' : WordName → ℕ) → Writes s.word n new words' → (i : ℕ) → i < g.callers → i ≢ caller → All (Stays g s words') (recalls_of (s.errand i).point)
+      (words' : WordName → ℕ) → Writes s.word n new words' → (i : ℕ) → i < g.callers → i ≢ caller → AllRead (Stays s words') (s.errand i).point
 
 pub record Touched (g : Geometry) (s : State) (l : Lists) (caller : ℕ) (q : Point) (n : WordName) (new : ℕ) (past : List Event) (s' : State) : Type 0 where
   pub touches : Touches g s l caller (at_point (s.errand caller) (found_at s caller) q) s'
@@ -120,23 +99,19 @@ step-from-here g s l caller s' q n new past old has h step =
         below = words-below s.word n new s'.word writes old.words h.below;
         prefixes = h.prefixes s'.word writes;
         stays = h.stays s'.word writes;
-        others = leaves.others;
-        live = leaves.live;
-        events = leaves.events;
-        gives = leaves.gives;
-        refuses = leaves.refuses;
-        allocs = leaves.allocs;
-        freed = leaves.freed;
-        rule = record {
-          number = own.number;
-          geometry = own.geometry;
-          rule = subst IsErrand moved (settle_errand (s.errand caller) x own.rule (old.words (name_at s caller)));
-          lost = subst (λ b. raised b (s.errand caller).lost < 2 ^ 64) (sym h.lost) own.lost;
+        leaves = leaves;
+        own = record {
+          rule = record {
+            number = own.number;
+            geometry = own.geometry;
+            rule = subst IsErrand moved (settle_errand (s.errand caller) x own.rule (old.words (name_at s caller)));
+            lost = subst (λ b. raised b (s.errand caller).lost < 2 ^ 64) (sym h.lost) own.lost;
+          };
+          retired = refl;
+          turns = refl;
+          lost = ap (λ b. raised b (s.errand caller).lost) h.lost;
+          cleared = ap (λ b. raised b (s.errand caller).cleared) h.cleared;
         };
-        retired = refl;
-        turns = refl;
-        lost = ap (λ b. raised b (s.errand caller).lost) h.lost;
-        cleared = ap (λ b. raised b (s.errand caller).cleared) h.cleared;
         before = h.before;
         after = h.after;
         recalls = h.recalls;
@@ -151,8 +126,24 @@ pub touched-step :
 touched-step g s l caller s' p q n new past old has stands h step =
     step-from-here g s l caller s' q n new past old has (subst (λ r. TouchesAt g s l caller r q n new past) (sym stands) h) step
 
+-- a store into the units or a shelf leaves each word that recalls name
+still-said :
+    (s : State) (n : WordName) (new : ℕ) (words' : WordName → ℕ) → Writes s.word n new words' → ((p : ℕ) → name.Arena p ≢ n)
+    → (IsAwayWord n → ⊥) → (m : WordName) → IsSaidWord m → words' m ≡ s.word m
+still-said s n new words' w apart touched (name.Arena p) said = w.elsewhere (name.Arena p) (apart p)
+still-said s n new words' w apart touched name.Units said = absurd said
+still-said s n new words' w apart touched (name.Shelf k) said = absurd said
+still-said s n new words' w apart touched m said = w.elsewhere m (λ same. touched (subst IsAwayWord same tt))
+
+still-part :
+    (s : State) (n : WordName) (new : ℕ) (words' : WordName → ℕ) → Writes s.word n new words' → ((p : ℕ) → name.Arena p ≢ n)
+    → (IsAwayWord n → ⊥) → (q : Part) → Stays s words' q
+still-part s n new words' w apart touched (link_words f c blocks) = λ k below. w.elsewhere _ (apart _)
+still-part s n new words' w apart touched (single m) = still-said s n new words' w apart touched m
+still-part s n new words' w apart touched q = tt
+
+-- a store into the units or a shelf leaves all that is read word by word
 pub stays-still :
-    (g : Geometry) (s : State) (n : WordName) (new : ℕ) (words' : WordName → ℕ) → Writes s.word n new words' → ((p : ℕ) → name.Arena p ≢ n)
-    → (IsAwayWord n → ⊥) → (q : Point) → All (Stays g s words') (recalls_of q)
-stays-still g s n new words' w apart touched q =
-    point-stays g s words' (λ p. w.elsewhere (name.Arena p) (apart p)) (λ m away. w.elsewhere m (λ same. touched (subst IsAwayWord same away))) q
+    (s : State) (n : WordName) (new : ℕ) (words' : WordName → ℕ) → Writes s.word n new words' → ((p : ℕ) → name.Arena p ≢ n)
+    → (IsAwayWord n → ⊥) → (q : Point) → AllRead (Stays s words') q
+stays-still s n new words' w apart touched q = λ k d lt. still-part s n new words' w apart touched _

@@ -1,40 +1,32 @@
 -- A run that is taken, or refused.
-use Rattle.std.proofs.Common.{ℕ, Bool, true, false, Option, None, Some, ◌≡◌, ◌≢◌, ◌<◌, ◌≤◌, ◌+◌, ◌^◌, [], ◌∷◌, ◌++◌, refl, arith, ap, sym, subst, inl, inr, ◌∙◌}
-use Rattle.std.specs.Prelude.{◌==◌, ◌&&◌, nat_le, All, Any, slice_index_or}
+use Rattle.std.proofs.Common.{ℕ, Bool, true, false, Option, None, Some, ◌≡◌, ◌≢◌, ◌<◌, ◌≤◌, ◌+◌, ◌^◌, [], ◌∷◌, ◌++◌, refl, arith, ap, sym, subst, inl, inr, ◌∙◌, ◌==◌}
+use Rattle.std.proofs.Common.{◌&&◌, nat_le, All, Any, slice_index_or, pow_mono, le-leb, eq-eqb, pow_pos}
 use Rattle.std.specs.Int.{bit_at}
-use Rattle.std.proofs.Math.Pow.{pow_mono}
-use Rattle.std.proofs.lemmas.Bool.{cases_eq, cases_lt, lt-leb, le-leb, eq-eqb}
-use Rattle.std.proofs.lemmas.Nat.{pow_pos, or_lt}
+use Rattle.std.proofs.lemmas.Bool.{cases_eq, cases_lt, lt-leb}
+use Rattle.std.proofs.lemmas.Nat.{or_lt}
 use Rattle.std.proofs.lemmas.Nat.Bits.{bit_at-lt}
 use Rattle.std.proofs.lemmas.List.Elements.{All-nil, All-cons}
 use Rattle.sound_state.proofs.Common.{Geometry, Need, need_of, Writes, block_at, pool_of, place-found, sound-of, Continuation, Point, Idle, Large, ErrandFields}
 use Rattle.sound_state.proofs.Common.{event_of, next_of, asked, plan_point_of, State, Step, holds_of, Lists, IsOwned, recalls_of, IsSoundWithoutCounts, IsSoundWith}
-use Rattle.sound_state.proofs.Common.{is_there, IsLive, IsTied}
-use Rattle.heap_geometry.specs.declared.limits.TheConstants.{SMALL_MOST}
+use Rattle.sound_state.proofs.Common.{is_there, IsLive, IsTied, SMALL_MOST, usable_words, unit_place, block-within, first_wanted, WantFields, RunFields, Refuse}
+use Rattle.sound_state.proofs.Common.{IsAllowed, IsFree, fresh_block, IsPlaceFor, IsWellFormed, pool_of-push, every-found, block_at-past, class_span, IsRunFor}
+use Rattle.sound_state.proofs.Common.{IsCovered}
 use Rattle.heap_geometry.specs.declared.need.Need.TheVariants as need
-use Rattle.heap_geometry.specs.Need.{IsNeed, usable_words}
-use Rattle.heap_geometry.specs.Place.{IsApart, unit_place, run_span}
-use Rattle.heap_geometry.proofs.PlaceLemmas.{block-within}
+use Rattle.heap_geometry.specs.Need.{IsNeed}
+use Rattle.heap_geometry.specs.Place.{IsApart, run_span}
 use Rattle.word_table.specs.declared.name.WordName.TheVariants as name
 use Rattle.large_parts.specs.declared.point.LargePoint.TheVariants as large
-use Rattle.large_parts.specs.Points.{first_wanted}
-use Rattle.large_parts.specs.Runs.{WantFields, RunFields}
 use Rattle.large_parts.specs.Units.{IsInRun, IsFirstRun, IsLowestRun, run_bits, with_run}
 use Rattle.large_parts.specs.Units as units
 use Rattle.large_parts.proofs.LowestLemmas.{first_run-exact}
 use Rattle.large_parts.proofs.UnitLemmas.{run_bits-mask, with_run-inside, with_run-outside, with_run-below}
-use Rattle.pool_model.specs.declared.event.Event.TheVariants.{Alloc, Refuse}
-use Rattle.pool_model.specs.Legal.{IsAllowed, IsClear, IsFree, IsRefusable}
-use Rattle.pool_model.specs.Pool.{Block, fresh_block, span_of}
-use Rattle.pool_model.specs.WellFormed.{IsPlaceFor, IsWellFormed}
-use Rattle.pool_model.proofs.HistoryLemmas.{pool_of-push}
+use Rattle.pool_model.specs.declared.event.Event.TheVariants.{Alloc}
+use Rattle.pool_model.specs.Legal.{IsClear, IsRefusable}
+use Rattle.pool_model.specs.Pool.{Block, span_of}
 use Rattle.pool_model.proofs.OwnerLemmas.{free-elsewhere}
-use Rattle.pool_model.proofs.PoolLemmas.{every-found, block_at-here, block_at-past}
-use Rattle.pool_model.proofs.WellFormedLemmas.{class_span}
+use Rattle.pool_model.proofs.PoolLemmas.{block_at-here}
 use Rattle.errand_steps.specs.declared.reply.Reply.TheVariants as reply
-use Rattle.errand_steps.specs.Continuations.{IsRunFor}
 use Rattle.sound_state.specs.Holdings.{run_handed}
-use Rattle.sound_state.specs.Ties.{IsCovered}
 use Rattle.sound_state.proofs.shared.PointLemmas.{fits-at}
 use Rattle.sound_state.proofs.large.TouchEffects.{Touches}
 use Rattle.sound_state.proofs.large.TouchFrees.{cases_run}
@@ -42,17 +34,16 @@ use Rattle.sound_state.proofs.large.TouchPrefix.{frame-before}
 use Rattle.sound_state.proofs.large.TouchPrefixes.{info-frame}
 use Rattle.sound_state.proofs.large.TouchShelves.{idle-aside, idle-bare-handed, idle-recalls, same-tied}
 use Rattle.sound_state.proofs.large.TouchSteps.{TouchesAt, leaves-event, stays-still, touched-step}
-use Rattle.sound_state.proofs.shared.ShownLemmas.{Excepts}
 use Rattle.sound_state.proofs.shared.StepLemmas.{words-stay}
-use Rattle.sound_state.proofs.shared.TieLemmas.{IsBareHanded, excepts-none, none-written, one-live, ties-but}
+use Rattle.sound_state.proofs.shared.TieLemmas.{IsBareHanded, excepts-none, none-written, one-live, ties-but, Excepts}
 use Rattle.sound_state.proofs.large.TouchTies.{large-aside, touched-desc, touched-sound}
 use Rattle.sound_state.proofs.shared.KeepsSound.{KeepsSoundWhere}
 
--- an allocation of units serves its words by as many
+-- an allocation of units asks for words that so many units serve
 run-asked : (n : ℕ) (o : Continuation) → IsRunFor n o → need_of (asked o) ≡ need.Large n
 run-asked n o h = grind (arith, h)
 
--- what units serve isn't small
+-- words that units serve aren't small
 pub large-served : (words n : ℕ) → need_of words ≡ need.Large n → nat_le words SMALL_MOST ≡ false
 unfolding need_of
 large-served words n is =
@@ -64,7 +55,7 @@ large-served words n is =
 and-false : (b c : Bool) → c ≡ false → (b && c) ≡ false
 and-false b c is = grind (arith, is)
 
--- a clear span of units has no taken one
+-- the units of a clear span are free
 clear-bits :
     (g : Geometry) (s : State) (l : Lists) (first n i : ℕ) → IsSoundWith g s l → IsClear (pool_of s.history) (run_span g.frames first n)
     → IsInRun first n i → i < g.units → bit_at (s.word name.Units) i ≡ 0
@@ -126,7 +117,7 @@ take_run-bare : (w : WantFields) (bits : ℕ) (o : Continuation) → IsBareHande
 unfolding holds_of
 take_run-bare w bits o = grind (arith)
 
--- there is no run
+-- the step of a refusal, where no run of free units is wide enough, and what it leaves
 refuse-touches :
     (g : Geometry) (s : State) (l : Lists) (caller : ℕ) (w : WantFields) (bits : ℕ) (o : Continuation) → IsSoundWith g s l → s.word name.Units ≡ bits
     → first_wanted w bits ≡ None → nat_le (asked o) SMALL_MOST ≡ false → IsAllowed g s.history (Refuse caller (asked o))
@@ -151,7 +142,7 @@ refuse-touches g s l caller w bits o old word none above allowed =
       after = idle-aside;
       recalls = idle-recalls;
       prefixes = λ words' x d i has bound lt. x.elsewhere _ (λ same. cc);
-      stays = λ words' x i has differ. stays-still g s name.Units _ words' x (λ p same. cc) (λ away. away) (s.errand i).point;
+      stays = λ words' x i has differ. stays-still s name.Units _ words' x (λ p same. cc) (λ away. away) (s.errand i).point;
     }
 
 refused-sound :
@@ -178,7 +169,7 @@ refused-sound g s caller s' w bits o sound has stands word none step =
     (same-tied g s l caller s' _ t.touches old (words-stay s.word name.Units _ s'.word t.word (sym word)) (subst IsBareHanded (sym stands) (take_run-bare w bits o))
     idle-bare-handed (λ q. ap (block_at q) (ap pool_of t.history ∙ pool_of-push s.history (Refuse caller (asked o)))))
 
--- where a run is found, it is the first of these units
+-- the run that is found: the wanted units from the first on
 abbrev run_at : ℕ → WantFields → RunFields
 run_at first w = record { first = first; units = w.units }
 
@@ -215,10 +206,10 @@ given-touches g s l caller w bits o first old word some heap below above allowed
       after = large-aside _ _;
       recalls = refl;
       prefixes = λ words' x d i has bound lt. x.elsewhere _ (λ same. cc);
-      stays = λ words' x i has differ. stays-still g s name.Units _ words' x (λ p same. cc) (λ away. away) (s.errand i).point;
+      stays = λ words' x i has differ. stays-still s name.Units _ words' x (λ p same. cc) (λ away. away) (s.errand i).point;
     }
 
--- a block comes, and all other places are as they were
+-- a live block comes to the place by the step, and all other places are as they were
 pub record Comes (s s' : State) (at : ℕ) (a : Block) : Type 0 where
   pub unlive : (p : ℕ) (b : Block) → IsLive s p b → p ≢ at
   pub now : IsLive s' at a
@@ -227,7 +218,7 @@ pub record Comes (s s' : State) (at : ℕ) (a : Block) : Type 0 where
 run-excepted : (place n : ℕ) → Any (λ b. b.place ≡ place) (run_handed place n)
 run-excepted place n = (0, record { place = place; need = need.Large n }, omega arith, refl, refl)
 
--- the taken units are covered by the run, and the others as they were
+-- the taken units are covered by the given run, and the others as they were
 given-units :
     (g : Geometry) (s s' : State) (l : Lists) (first n unit : ℕ) (a : Block) → IsSoundWith g s l
     → Writes s.word name.Units (with_run (s.word name.Units) first n) s'.word → a.need ≡ need.Large n

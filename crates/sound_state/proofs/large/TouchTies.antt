@@ -1,24 +1,19 @@
 -- After a step at a usable word or a shelf the words still show the pool of the events.
 use Rattle.std.proofs.Common.{ℕ, Some, ◌≡◌, ◌<◌, ◌+◌, ◌*◌, ◌^◌, [], ◌∷◌, ◌++◌, arith, ap, sym, subst, ◌∙◌, ◌⊎◌, All, IsTrue, slice_index_or, None}
 use Rattle.std.specs.Int.{bit_at}
-use Rattle.sound_state.proofs.Common.{Geometry, frame_of, WordName, Event, IsLegalWithoutCounts, LargePoint, Continuation, Point, Large, ErrandFields, State}
-use Rattle.sound_state.proofs.Common.{holds_of, Lists, IsOwned, IsSoundWithoutCounts, IsSoundWith, IsTied, IsLive}
-use Rattle.heap_geometry.specs.declared.limits.TheConstants.{SHELVES}
-use Rattle.heap_geometry.specs.Place.{unit_place}
+use Rattle.sound_state.proofs.Common.{Geometry, frame_of, WordName, Event, IsLegalWithoutCounts, LargePoint, Continuation, Point, Large, ErrandFields, State, holds_of}
+use Rattle.sound_state.proofs.Common.{Lists, IsOwned, IsSoundWithoutCounts, IsSoundWith, IsTied, IsLive, SHELVES, unit_place, shelf_word, IsLegalEventWithoutCounts}
+use Rattle.sound_state.proofs.Common.{EachAfter-push, IsBlockOfDesc, IsExcepted}
 use Rattle.packed_words.specs.declared.shelf.ShelfWord.TheVariants as shelf
-use Rattle.packed_words.specs.Shelf.{shelf_word}
 use Rattle.word_table.specs.declared.name.WordName.TheVariants as name
 use Rattle.pool_model.specs.declared.owner.Owner.TheVariants.{Shelf}
-use Rattle.pool_model.specs.Legal.{IsLegalEventWithoutCounts}
 use Rattle.pool_model.specs.Pool.{Block}
-use Rattle.pool_model.proofs.HistoryLemmas.{EachAfter-push}
-use Rattle.sound_state.specs.Ties.{IsBlockOfDesc, IsExcepted}
 use Rattle.sound_state.proofs.shared.CallerLemmas.{each-other}
-use Rattle.sound_state.proofs.shared.TieLemmas.{bare-owns, excepted-stays, excepts-none, tie-stays, IsBareHanded}
+use Rattle.sound_state.proofs.shared.TieLemmas.{bare-owns, excepted-stays, excepts-none, tie-stays, IsBareHanded, IsSaidAt}
 use Rattle.sound_state.proofs.large.TouchEffects.{IsAsidePoint, Touches, sound-touched, touched-bound, located-touched, owned-touched}
 use Rattle.sound_state.proofs.large.TouchSteps.{Touched}
 
--- the same places have live blocks, which serve the same needs
+-- two states that have live blocks at the same places, which serve the same needs
 pub record SamePlaces (s s' : State) : Type 0 where
   pub was : (p : ℕ) (b' : Block) → IsLive s' p b' → (b : Block) × IsLive s p b × (b'.need ≡ b.need)
   pub still : (p : ℕ) (b : Block) → IsLive s p b → (b' : Block) × IsLive s' p b' × (b'.need ≡ b.need)
@@ -34,13 +29,13 @@ touched-sound g s l caller q n new event s' sound old legal t tied = record {
   parts = (l, sound-touched t.touches old tied);
 }
 
--- at a point of large blocks a caller reserves, keeps, guards and pushes nothing
+-- a caller at a point of large blocks reserves, keeps, guards and pushes nothing
 pub large-aside : (p : LargePoint) (o : Continuation) → IsAsidePoint (Large p o)
 unfolding holds_of
 large-aside p o = grind (arith)
 
 module _ {g : Geometry} {s : State} {l : Lists} {caller : ℕ} {e : ErrandFields} {s' : State} (h : Touches g s l caller e s') where
-  -- the superblock of a small block is the same
+  -- the superblock of a small block is the same after a touch
   pub touched-desc : (place class d : ℕ) → IsBlockOfDesc g s l place class d → IsBlockOfDesc g s' l place class d
   touched-desc place class d its = record {
     exists = its.exists;
@@ -48,7 +43,7 @@ module _ {g : Geometry} {s : State} {l : Lists} {caller : ℕ} {e : ErrandFields
     located = located-touched h d (frame_of place) class its.located;
   }
 
-  -- the ties of a step that leaves the places, the prefix words and the units
+  -- the words still show the pool after a step that leaves the places, the prefix words and the units
   pub tied-touched :
       IsSoundWith g s l → SamePlaces s s' → IsBareHanded (s.errand caller).point → IsBareHanded e.point
       → ((p : ℕ) (b : Block) → IsLive s p b → s'.word (name.Arena p) ≡ s.word (name.Arena p)) → s'.word name.Units ≡ s.word name.Units
@@ -59,18 +54,22 @@ module _ {g : Geometry} {s : State} {l : Lists} {caller : ℕ} {e : ErrandFields
   tied-touched old same bare_before bare_after prefixes units shelved bare contents =
       let tied = old.tied in
       let owns = bare-owns s' caller e.point bare_after in
-      let kept = λ (place w : ℕ) (b : Block) (live : IsLive s place b) (x : IsExcepted g s place ⊎ (s.word (name.Arena place) ≡ w)).
-      tie-stays g s s' place w
-      (excepted-stays g s caller e s' h.moves place (λ excepts. absurd (excepts-none (s.errand caller) place bare_before excepts)))
-      (prefixes place b live) x in
+      let kept = λ (place w : ℕ) (b : Block) (live : IsLive s place b) (says : IsSaidAt g s l place → s.word (name.Arena place) ≡ w)
+      (x : IsExcepted g s place ⊎ (s.word (name.Arena place) ≡ w)).
+      tie-stays g s l s' place w
+      (excepted-stays g s l caller e s' h.moves place (λ excepts. absurd (excepts-none (s.errand caller) place bare_before excepts)))
+      (prefixes place b live) says x in
       record {
         small = λ place class b live is.
             let old_b = same.was place b live in
-            let t = tied.small place class old_b.0 old_b.1 (sym old_b.2 ∙ is) in
-            (t.0, touched-desc place class t.0 t.1, kept place (2 * t.0) old_b.0 old_b.1 t.2);
+            let t = tied.small place class old_b.0 old_b.1 (sym old_b.2 ∙ is) in (
+              t.0,
+              touched-desc place class t.0 t.1,
+              kept place (2 * t.0) old_b.0 old_b.1 (λ said. said.small class t.0 old_b.0 old_b.1 (sym old_b.2 ∙ is) t.1) t.2,
+            );
         large = λ place n b live is.
             let old_b = same.was place b live in
-            kept place (2 * n + 1) old_b.0 old_b.1 (tied.large place n old_b.0 old_b.1 (sym old_b.2 ∙ is));
+            kept place (2 * n + 1) old_b.0 old_b.1 (λ said. said.large n old_b.0 old_b.1 (sym old_b.2 ∙ is)) (tied.large place n old_b.0 old_b.1 (sym old_b.2 ∙ is));
         units = λ unit has.
             let t = tied.units unit has in (
               λ bit.

@@ -1,30 +1,20 @@
 -- A usable word that is written.
 use Rattle.std.proofs.Common.{ℕ, None, Some, ◌≡◌, ◌≢◌, ◌<◌, ◌≤◌, ◌+◌, ◌^◌, [], ◌∷◌, ◌++◌, refl, arith, ap, sym, subst, inl, inr, get_or-set_same, get_or-set_other, ◌∙◌}
-use Rattle.std.specs.Prelude.{slice_index_or}
+use Rattle.std.proofs.Common.{slice_index_or, pow_pos}
 use Rattle.std.proofs.lemmas.Bool.{cases_eq}
-use Rattle.std.proofs.lemmas.Nat.{pow_pos}
-use Rattle.std.proofs.lemmas.List.Elements.{All-head}
 use Rattle.sound_state.proofs.Common.{Geometry, Need, block_count_of, block_place, frame_of, frame_of-block_place, WordName, Writes, IsLegalWithoutCounts, block_at}
-use Rattle.sound_state.proofs.Common.{pool_of, place-found, sound-of, Continuation, Point, Idle, Large, ErrandFields, event_of, next_of, plan_point_of, State, Step}
-use Rattle.sound_state.proofs.Common.{waiting, holds_of, Lists, IsSo, IsOwned, recalls_of, IsSoundWithoutCounts, IsSoundWith, info_for, errand_keeps, IsLive, IsTied}
+use Rattle.sound_state.proofs.Common.{pool_of, place-found, sound-of, Continuation, Point, Idle, Large, ErrandFields, event_of, next_of, plan_point_of, State, waiting}
+use Rattle.sound_state.proofs.Common.{holds_of, Lists, IsOwned, recalls_of, IsSoundWithoutCounts, IsSoundWith, info_for, errand_keeps, IsLive, IsTied, usable_words}
+use Rattle.sound_state.proofs.Common.{block-within, arena_words, Write, Caller, IsAllowed, IsLegalEventWithoutCounts, IsPlaceFor, IsWellFormed, EachAfter-push}
+use Rattle.sound_state.proofs.Common.{every-found, class_span, IsBlockOfDesc}
 use Rattle.heap_geometry.specs.declared.need.Need.TheVariants as need
-use Rattle.heap_geometry.specs.Need.{usable_words}
-use Rattle.heap_geometry.proofs.PlaceLemmas.{block-within, frame-apart}
+use Rattle.heap_geometry.proofs.PlaceLemmas.{frame-apart}
 use Rattle.word_table.specs.declared.name.WordName.TheVariants as name
-use Rattle.word_table.specs.Counts.{arena_words}
 use Rattle.large_parts.specs.declared.point.LargePoint.TheVariants as large
-use Rattle.pool_model.specs.declared.event.Event.TheVariants.{Write}
-use Rattle.pool_model.specs.declared.owner.Owner.TheVariants.{Caller, Shelf}
-use Rattle.pool_model.specs.Legal.{IsAllowed, IsLegalEventWithoutCounts}
+use Rattle.pool_model.specs.declared.owner.Owner.TheVariants.{Shelf}
 use Rattle.pool_model.specs.Pool.{Block, written}
-use Rattle.pool_model.specs.WellFormed.{IsPlaceFor, IsWellFormed}
-use Rattle.pool_model.proofs.HistoryLemmas.{EachAfter-push}
-use Rattle.pool_model.proofs.PoolLemmas.{every-found}
-use Rattle.pool_model.proofs.WellFormedLemmas.{class_span}
 use Rattle.errand_steps.specs.declared.reply.Reply.TheVariants as reply
-use Rattle.sound_state.specs.Recalls.{owns}
-use Rattle.sound_state.specs.Ties.{IsBlockOfDesc}
-use Rattle.sound_state.proofs.shared.PointLemmas.{fits-at, so-at}
+use Rattle.sound_state.proofs.shared.PointLemmas.{fits-at, recalled-at}
 use Rattle.sound_state.proofs.large.TouchEffects.{IsAwayWord, IsAsidePoint, Touches, sound-touched}
 use Rattle.sound_state.proofs.shared.FrameLemmas.{one-in-frame, in-hand-waits}
 use Rattle.sound_state.proofs.large.TouchPrefix.{arena_place, written-usable, words-apart}
@@ -49,7 +39,7 @@ inside-block f c i0 j i within same =
           ]
     ]
 
--- nor one of a block of another frame
+-- a usable word of a small block isn't the first one of a block of another frame
 other-frame :
     (f f0 c c0 i0 j i : ℕ) → f ≢ f0 → i0 < block_count_of c0 → j < block_count_of c → i < usable_words (need.Small c0)
     → block_place f c j ≢ block_place f0 c0 i0 + 1 + i
@@ -58,11 +48,11 @@ other-frame f f0 c c0 i0 j i ne within0 within usable same =
     let end1 = block-within c j within in
     ne (omega (arith, same, end0, end1, usable, class_span c0, pow_pos (c0 + 1), pow_pos (c + 1)))
 
--- nor where the block lies behind the frames
+-- a usable word of a block behind the frames isn't the first one of a block of a frame
 behind-frames : (frames f c j place i : ℕ) → f < frames → j < block_count_of c → frames ≤ frame_of place → block_place f c j ≢ place + 1 + i
 behind-frames frames f c j place i has within behind same = omega (arith, has, same, behind, block-within c j within, pow_pos (c + 1))
 
--- where a usable word of a live block is written, the prefix words of all superblocks stay
+-- a write of a usable word of a live block leaves the prefix words of all superblocks
 payload-keeps :
     (g : Geometry) (s : State) (l : Lists) (caller place i new : ℕ) (words : WordName → ℕ) → IsSoundWithoutCounts g s → IsSoundWith g s l
     → Writes s.word (name.Arena (place + 1 + i)) new words → (b : Block) → IsLive s place b → i < usable_words b.need
@@ -221,7 +211,7 @@ store_word-sound place i value o g s caller s' sound has stands step =
     let old = sound.parts.1 in
     let p : Point = Large (large.StoreWord place i value) o in
     let fit = fits-at g s l caller p old has stands in
-    let so : IsSo g s l caller (owns place i) = All-head (IsSo g s l caller) (owns place i) [] (so-at g s l caller p old has stands) in
+    let (so, none) = recalled-at g s l caller p old has stands in
     let owned : IsOwned s caller place so.0 = so.1 in
     let b : Block = owned.block.0 in
     let usable : i < usable_words b.need = subst (λ m. i < usable_words m) (sym owned.block.3) so.2 in

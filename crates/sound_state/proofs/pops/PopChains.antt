@@ -1,17 +1,16 @@
--- A won pop: the frames stay where they are, and the superblocks keep their popped-blocks in order.
+-- A won pop: the frames stay where they are, and the superblocks keep their blocks in order.
 use Rattle.std.proofs.Common.{ℕ, ◌≡◌, ◌≢◌, ◌<◌, ◌≤◌, ◌+◌, ◌-◌, ◌∷◌, refl, arith, ap, sym, subst, ◌∙◌, IsTrue}
 use Rattle.sound_state.proofs.Common.{Geometry, AnchorFields, Site, occurs, Share, Credit, LastCredit, Grant, ErrandFields, State, IsFramed, holds_before_pop, Lists}
 use Rattle.sound_state.proofs.Common.{IsSoundWithoutCounts, IsSoundWith, Superblock, AreChained, IsChained, superblock_of, anchor_for, reserved_of, free_chain}
-use Rattle.sound_state.proofs.Common.{is_there}
-use Rattle.superblock_parts.specs.Anchors.{taken_off, more_of}
-use Rattle.superblock_parts.specs.Chains.{chain_of}
-use Rattle.superblock_parts.proofs.ChainLemmas.{chain_of-first, occurs-here, occurs-more}
+use Rattle.sound_state.proofs.Common.{is_there, taken_off, more_of, chain_of, chain_of-first, occurs-here, occurs-more}
 use Rattle.sound_state.proofs.pops.PopEffects.{Pops, popped_holds}
-use Rattle.sound_state.proofs.pops.PopFacts.{popped-holds, popped-write, popped-anchor, popped-waits, popped-bound, popped-reserved, popped-credits, popped-first, popped-here, popped-there}
+use Rattle.sound_state.proofs.pops.PopFacts.{popped-holds, popped-write, popped-anchor, popped-waits, popped-bound, popped-reserved, popped-credits, popped-first}
+use Rattle.sound_state.proofs.pops.PopFacts.{popped-here, popped-there}
 use Rattle.sound_state.proofs.shared.HoldingEffects.{framed-after}
-use Rattle.sound_state.proofs.shared.SuperblockEffects.{LieStill, BlockEffects, anchor-still, info-stays, next-stays, size-stays, superblock-stays, live-after, rest-live, chained-after, held-same, first-used}
+use Rattle.sound_state.proofs.shared.SuperblockEffects.{LieStill, BlockEffects, anchor-still, info-stays, next-stays, size-stays, superblock-stays, live-after}
+use Rattle.sound_state.proofs.shared.SuperblockEffects.{rest-live, chained-after, held-same, first-used}
 
--- who pops has no frame in its hand, before and after
+-- a caller that pops has no frame in its hand, before and after
 popping-no-frames : (f d class : ℕ) (share : Share) → occurs f (holds_before_pop d class share).frames ≡ 0
 popping-no-frames f d class Credit = grind (arith)
 popping-no-frames f d class LastCredit = grind (arith)
@@ -26,7 +25,7 @@ taken-most Credit a = grind (arith)
 taken-most LastCredit a = grind (arith)
 taken-most (Grant more) a = grind (arith)
 
--- a superblock that loses the first block of its chain, which becomes live, keeps its popped-blocks in order
+-- a superblock that loses the first block of its chain, which becomes live, keeps its blocks in order
 pub first-goes :
     (b b' : Superblock) (i : ℕ) → IsChained b → free_chain b ≡ i ∷ free_chain b' → b'.anchor.avail ≡ b.next i
     → b'.anchor.count ≤ b.anchor.count → b'.waiting ≡ b.waiting → b'.next ≡ b.next → b'.size ≡ b.size → b'.live i ≡ 1
@@ -54,7 +53,7 @@ module _
   popped-lie : LieStill s s'
   popped-lie = anchor-still (popped-write h)
 
-  -- each frame is in one place
+  -- each frame is in one place after a won pop
   pub popped-framed : IsSoundWith g s l → IsFramed g s' l
   popped-framed old =
       framed-after (popped-holds h) l
@@ -64,7 +63,7 @@ module _
       rw (bound, waits, info-stays popped-lie d) refl)
       (λ f. has-frames f at a.avail (more_of share a) ∙ sym (popping-no-frames f at.desc at.seat.class share)) old.framed
 
-  -- the popped block alone becomes live
+  -- the popped block alone becomes live at a won pop
   popped-blocks : BlockEffects g s l caller at a.avail s'
   popped-blocks = record {
     site = h.site;
@@ -81,7 +80,7 @@ module _
       let was : (anchor_for s at.desc).count ≡ a.count = ap (λ x. x.count) h.before in
       omega (arith, now, was, taken-most share a)
 
-  -- the chain loses its first block
+  -- the chain of the superblock loses its first block at a won pop
   popped-chain : free_chain (superblock_of g s at.desc) ≡ a.avail ∷ free_chain (superblock_of g s' at.desc)
   popped-chain =
       let next = (superblock_of g s at.desc).next in
@@ -105,7 +104,7 @@ module _
       (next-stays popped-lie g at.desc) (size-stays popped-lie g at.desc)
       (live-after popped-blocks a.avail ∙ ap is_there (popped-here h)) (rest-live popped-blocks)
 
-  -- all superblocks keep their popped-blocks in order
+  -- all superblocks keep their blocks in order after a won pop
   pub popped-chained : IsSoundWithoutCounts g s → IsSoundWith g s l → AreChained g s' l
   popped-chained sound old =
       chained-after popped-blocks old (λ d. subst IsTrue (popped-bound h d)) (λ bound. popped-here-chained old)

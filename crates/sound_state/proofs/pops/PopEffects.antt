@@ -1,14 +1,14 @@
 -- A won pop: what it changes, and that everything else stays.
 use Rattle.std.proofs.Common.{ℕ, true, false, ◌≡◌, ◌≢◌, ◌<◌, ◌+◌, ◌-◌, ◌^◌, [], ◌∷◌, ◌++◌, IsTrue, if◌then◌else◌, nat_lt}
 use Rattle.sound_state.proofs.Common.{Geometry, need_of, block_place, AnchorFields, WordName, Site, IsSiteOf, Share, ErrandFields, State, Moves, Holding}
-use Rattle.sound_state.proofs.Common.{holds_before_pop, holds_of, Lists, IsLocated, bound_here, recalls_of, IsOwnErrand, anchor_for, is_bound, superblock_of}
+use Rattle.sound_state.proofs.Common.{holds_before_pop, holds_of, Lists, IsLocated, bound_here, recalls_of, anchor_for, is_bound, superblock_of, taken_off}
+use Rattle.sound_state.proofs.Common.{popped_state, more_of, nothing, holds_after_pop, block_handed}
 use Rattle.heap_geometry.specs.declared.need.Need.TheVariants as need
 use Rattle.word_table.specs.declared.name.WordName.TheVariants as name
 use Rattle.word_table.specs.Sites.{IsAnchorOf}
-use Rattle.superblock_parts.specs.Anchors.{taken_off, popped_state, more_of}
 use Rattle.pool_model.specs.declared.event.Event.TheVariants.{Alloc}
-use Rattle.sound_state.specs.Holdings.{nothing, holds_after_pop, block_handed}
 use Rattle.sound_state.proofs.shared.TurnEffects.{StandsIn}
+use Rattle.sound_state.proofs.shared.CallerLemmas.{KeepsCounts}
 
 -- what a caller holds after a pop, with so many blocks reserved beside the one that it popped
 abbrev pub popped_holds : Site → ℕ → ℕ → Holding
@@ -23,7 +23,7 @@ popped_anchor share a link = record {
   tag = a.tag + 1;
 }
 
--- where the block lies
+-- the place of the block that is popped
 abbrev pub popped_place : Site → AnchorFields → ℕ
 popped_place at a = block_place at.frame at.seat.class a.avail
 
@@ -43,11 +43,7 @@ pub record Pops (g : Geometry) (s : State) (l : Lists) (caller : ℕ) (at : Site
   pub elsewhere : (n : WordName) → n ≢ name.Anchor at.desc → s'.word n ≡ s.word n
   pub below : (n : WordName) → s'.word n < 2 ^ 64
   pub history : s'.history ≡ s.history ++ Alloc caller words (popped_place at a) ∷ []
-  pub rule : IsOwnErrand g caller e
-  pub retired : e.retired ≡ (s.errand caller).retired
-  pub turns : e.turns ≡ (s.errand caller).turns
-  pub lost : e.lost ≡ (s.errand caller).lost
-  pub cleared : e.cleared ≡ (s.errand caller).cleared
+  pub own : KeepsCounts g caller (s.errand caller) e
   pub holds_before : holds_of (s.errand caller).point ≡ holds_before_pop at.desc at.seat.class share
   pub holds_after : holds_of e.point ≡ popped_holds at a.avail (more_of share a)
   pub recalls_after : recalls_of e.point ≡ bound_here at

@@ -4,14 +4,10 @@ use Rattle.std.proofs.lemmas.Bool.{cond_both}
 use Rattle.sound_state.proofs.Common.{Geometry, block_place, AnchorFields, is_empty, WordName, Site, occurs, Share, Credit, LastCredit, Grant, block_at, pool_of}
 use Rattle.sound_state.proofs.Common.{ErrandFields, State, waiting, on_its_way, holds_before_pop, Status, reserving, Lists, IsSoundWithoutCounts, IsSoundWith}
 use Rattle.sound_state.proofs.Common.{words_sum, callers_sum, anchor_for, info_for, superblock_of, free_chain, is_bound, away_of, waiting_of, reserved_of}
-use Rattle.sound_state.proofs.Common.{word_reserves, errand_reserves, reserved_among, errand_keeps, kept_among}
+use Rattle.sound_state.proofs.Common.{word_reserves, errand_reserves, reserved_among, errand_keeps, kept_among, taken_off, popped_state, more_of, chain_of}
+use Rattle.sound_state.proofs.Common.{chain_of-first, occurs-here, fresh_block, same_status}
 use Rattle.packed_words.specs.declared.anchor.AnchorState.TheVariants as phase
 use Rattle.word_table.specs.declared.name.WordName.TheVariants as name
-use Rattle.superblock_parts.specs.Anchors.{taken_off, popped_state, more_of}
-use Rattle.superblock_parts.specs.Chains.{chain_of}
-use Rattle.superblock_parts.proofs.ChainLemmas.{chain_of-first, occurs-here}
-use Rattle.pool_model.specs.Pool.{fresh_block}
-use Rattle.sound_state.specs.Superblocks.{same_status}
 use Rattle.sound_state.proofs.shared.HasLemmas.{bound-stands}
 use Rattle.sound_state.proofs.shared.OverlapLemmas.{free-unlive}
 use Rattle.sound_state.proofs.pops.PopEffects.{Pops, popped_holds, popped_place}
@@ -24,7 +20,7 @@ stands-popped Credit a is = is
 stands-popped (Grant more) a is = is
 stands-popped LastCredit a is = cond_both (a.count == 0) phase.Full a.state (λ p. is_empty p ≡ false) (λ e. refl) (λ e. is)
 
--- who pops keeps nothing but what it reserves, before and after
+-- a caller that pops keeps nothing but what it reserves, before and after
 had-kept :
     (status : Status) (d x class : ℕ) (share : Share) → same_status reserving status ≡ false → kept_among status d (holds_before_pop x class share).kept ≡ 0
 had-kept status d x class Credit other = refl
@@ -35,7 +31,7 @@ popped-keeps-reserving :
     (status : Status) (d : ℕ) (at : Site) (i more : ℕ) → same_status reserving status ≡ false → kept_among status d (popped_holds at i more).kept ≡ 0
 popped-keeps-reserving status d at i more other = grind (arith, other)
 
--- what a pop pays with, and takes off the count
+-- what a pop pays with is reserved of its superblock alone, and is what it takes off the count and one
 popping-reserved : (d x class : ℕ) (share : Share) → d ≢ x → reserved_among d (holds_before_pop x class share).credits ≡ 0
 popping-reserved d x class Credit ne = grind (arith, ne)
 popping-reserved d x class LastCredit ne = grind (arith, ne)
@@ -65,12 +61,12 @@ module _
     {g : Geometry} {s : State} {l : Lists} {caller : ℕ} {at : Site} {share : Share} {a : AnchorFields} {link words : ℕ} {e : ErrandFields}
     {s' : State} (h : Pops g s l caller at share a link words e s') where
   pub popped-holds : HoldingEffects g s caller (holds_before_pop at.desc at.seat.class share) (popped_holds at a.avail (more_of share a)) e s'
-  popped-holds = record { in_heap = h.in_heap; moves = h.moves; retired = h.retired; before = h.holds_before; after = h.holds_after }
+  popped-holds = record { in_heap = h.in_heap; moves = h.moves; retired = h.own.retired; before = h.holds_before; after = h.holds_after }
 
   pub popped-write : AnchorEffects s at.desc s'
   popped-write = record { elsewhere = h.elsewhere }
 
-  -- the words of all descriptors stay, and all other descriptors' anchors
+  -- the info words of all descriptors stay at a won pop, and all other descriptors' anchors
   pub popped-info : (d : ℕ) → info_for s' d ≡ info_for s d
   popped-info = info-stays (anchor-still popped-write)
 
@@ -84,7 +80,7 @@ module _
       let stood : is_empty a.state ≡ false = subst (λ x. is_empty x.state ≡ false) h.before was in
       field-stays popped-write (λ x. is_empty x.state) (ap (λ x. is_empty x.state) h.after ∙ stands-popped share a stood ∙ sym was)
 
-  -- nothing waits or is on its way that wasn't, so what is bound stays
+  -- nothing waits or is on its way that wasn't before a won pop, so what is bound stays
   kept-still :
       (status : Status) (d : ℕ) → same_status reserving status ≡ false
       → kept_among status d (popped_holds at a.avail (more_of share a)).kept ≡ kept_among status d (holds_before_pop at.desc at.seat.class share).kept
@@ -102,7 +98,7 @@ module _
   pub popped-bound : (d : ℕ) → is_bound g s' l d ≡ is_bound g s l d
   popped-bound d = rw (popped-away d, popped-empty d) refl
 
-  -- words that weigh nothing at an anchor weigh the same
+  -- words that weigh nothing at an anchor weigh the same after a won pop
   pub popped-words :
       (weight : WordName → ℕ → ℕ) → ((w : ℕ) → weight (name.Anchor at.desc) w ≡ 0) → words_sum g weight s'.word ≡ words_sum g weight s.word
   popped-words = weights-stay popped-write g
@@ -126,7 +122,7 @@ module _
         popped-words (word_reserves at.desc) (λ w. refl),
       )
 
-  -- who pops has a block reserved
+  -- a caller that is about to pop has a block of the superblock reserved
   pub popped-first : 0 < reserved_of g s at.desc
   unfolding callers_sum
   popped-first =
@@ -137,7 +133,7 @@ module _
         pays-one at.desc at.seat.class share,
       )
 
-  -- the popped block is free before, and live after; all other places are as they were
+  -- the popped block is free before the pop, and live after it; all other places are as they were
   pub popped-none : IsSoundWithoutCounts g s → IsSoundWith g s l → block_at (popped_place at a) (pool_of s.history) ≡ None
   popped-none sound is =
       let free : 0 < occurs (anchor_for s at.desc).avail (free_chain (superblock_of g s at.desc)) =

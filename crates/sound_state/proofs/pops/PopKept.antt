@@ -1,27 +1,26 @@
 -- A won pop leaves each descriptor in one place, and as many out for each class.
-use Rattle.std.proofs.Common.{ℕ, ◌≡◌, ◌<◌, ◌≤◌, ◌+◌, ◌-◌, List, [], refl, arith, ap, sym, subst, inl, inr, ◌∙◌, ◌⊎◌, ◌==◌, All, if◌then◌else◌, nat_lt}
-use Rattle.std.proofs.lemmas.Bool.{cases_eq, cases_lt, cond-true, cond-false, ne_eqb, lt-ltb, le-ltb}
+use Rattle.std.proofs.Common.{ℕ, ◌≡◌, ◌<◌, ◌≤◌, ◌+◌, ◌-◌, List, [], refl, arith, ap, sym, subst, inl, inr, ◌∙◌, ◌⊎◌, ◌==◌, All, if◌then◌else◌, nat_lt, ne_eqb, lt-ltb}
+use Rattle.std.proofs.Common.{le-ltb}
+use Rattle.std.proofs.lemmas.Bool.{cases_eq, cases_lt, cond-true, cond-false}
 use Rattle.std.proofs.lemmas.List.Elements.{All-nil, All-cons, All-head}
-use Rattle.sound_state.proofs.Common.{Geometry, AnchorFields, Site, Share, Credit, LastCredit, Grant, ErrandFields, State, Holding, Kept, reserving}
-use Rattle.sound_state.proofs.Common.{holds_before_pop, holds_of, IsKept, IsKeptAs, full_keeps, Lists, IsSoundWith, stock_among}
+use Rattle.sound_state.proofs.Common.{Geometry, AnchorFields, Site, Share, Credit, LastCredit, Grant, ErrandFields, State, Holding, Kept, reserving, holds_before_pop}
+use Rattle.sound_state.proofs.Common.{holds_of, IsKept, IsKeptAs, full_keeps, Lists, IsSoundWith, stock_among, taken_off, popped_state, more_of, nothing, keep}
+use Rattle.sound_state.proofs.Common.{block_handed, holds_after_pop, IsActive, IsStocked}
 use Rattle.packed_words.specs.declared.anchor.AnchorState.{AnchorState as Phase}
 use Rattle.packed_words.specs.declared.anchor.AnchorState.TheVariants as phase
-use Rattle.superblock_parts.specs.Anchors.{taken_off, popped_state, more_of}
-use Rattle.sound_state.specs.Holdings.{nothing, keep, block_handed, holds_after_pop}
-use Rattle.sound_state.specs.Keepers.{IsActive}
-use Rattle.sound_state.specs.Stock.{IsStocked}
-use Rattle.sound_state.proofs.shared.KeptLemmas.{StaysKept, MovesAt, moved-kept, moved-stocked, state-goes}
+use Rattle.sound_state.proofs.shared.KeptLemmas.{MovesAt, moved-kept, moved-stocked}
 use Rattle.sound_state.proofs.shared.PointLemmas.{kept_places}
 use Rattle.sound_state.proofs.pops.PopEffects.{Pops, popped_anchor, popped_holds}
 use Rattle.sound_state.proofs.pops.PopFacts.{popped-info}
+use Rattle.sound_state.proofs.shared.SuperblocksStay.{StaysKept, state-goes}
 
--- who takes the last credit, or is granted more than one block, keeps the descriptor
+-- a caller with this share keeps the descriptor: it takes the last credit, or is granted more than one block
 abbrev IsReserving : Share → Type 0
 IsReserving Credit = ⊥
 IsReserving LastCredit = Unit {0}
 IsReserving (Grant more) = 0 < more
 
--- who takes the last credit where no free block is left makes the superblock FULL
+-- a pop with this share makes the superblock FULL: it takes the last credit where no free block is left
 abbrev IsFilled : Share → AnchorFields → Type 0
 IsFilled Credit a = ⊥
 IsFilled LastCredit a = a.count ≡ 0
@@ -36,7 +35,7 @@ state-stays LastCredit a =
     ]
 state-stays (Grant more) a = inr refl
 
--- a partial superblock's count stays, since nobody takes its last credit
+-- a partial superblock's count stays at a pop, since nobody takes its last credit
 count-stays :
     (share : Share) (a : AnchorFields) → (IsReserving share → a.state ≡ phase.Active) → a.state ≡ phase.Partial
     → a.count - taken_off share a ≡ a.count
@@ -44,7 +43,7 @@ count-stays Credit a active partial = omega arith
 count-stays LastCredit a active partial = let bad : phase.Active ≡ phase.Partial = sym (active tt) ∙ partial in absurd (cc)
 count-stays (Grant more) a active partial = omega arith
 
--- in as many places, and out for a class, with what is FULL
+-- a won pop leaves what the caller keeps, with what is FULL, in as many places, and out for as many classes
 popped-kept-weighs :
     (at : Site) (share : Share) (a : AnchorFields) (d : ℕ) → (IsReserving share → a.state ≡ phase.Active)
     → kept_places d (popped_holds at a.avail (more_of share a)).kept + (if at.desc == d then full_keeps (popped_state share a) else 0)
@@ -61,7 +60,7 @@ popped-stock-weighs at Credit a c active = grind (arith)
 popped-stock-weighs at LastCredit a c active = let is = active tt in grind (arith, is)
 popped-stock-weighs at (Grant more) a c active = grind (arith)
 
--- no more are free than before, and none where it is made FULL
+-- no more blocks are free after a pop than before, and none where it makes its superblock FULL
 count-less : (share : Share) (a : AnchorFields) → a.count - taken_off share a ≤ a.count
 count-less share a = omega arith
 
@@ -70,7 +69,7 @@ count-bare Credit a filled = elim filled [ ]
 count-bare LastCredit a filled = omega (arith, filled)
 count-bare (Grant more) a filled = elim filled [ ]
 
--- who keeps it keeps it ACTIVE
+-- a caller that keeps the descriptor of its pop keeps it ACTIVE
 reserving-active :
     (s : State) (d c : ℕ) (share : Share) → All (λ k. IsKeptAs s k.status k.desc k.class) (holds_before_pop d c share).kept → IsReserving share
     → IsActive s d c
@@ -87,7 +86,7 @@ filled-keeps d c Credit a filled = elim filled [ ]
 filled-keeps d c LastCredit a filled = grind (arith)
 filled-keeps d c (Grant more) a filled = elim filled [ ]
 
--- what the caller keeps after the pop is ACTIVE
+-- what the caller keeps after its pop is ACTIVE
 more-reserving : (share : Share) (a : AnchorFields) → 0 < more_of share a → IsReserving share
 more-reserving Credit a more = let none : ⊥ = omega (arith, more) in absurd none
 more-reserving LastCredit a more = tt
@@ -134,7 +133,7 @@ module _
             ∙ popped-active kept (more-reserving share a more);
       }))
 
-  -- it keeps the superblock in its state, or fills it, which it alone keeps
+  -- a pop leaves the superblock in its state, or fills one that its caller alone keeps
   popped-goes :
       IsKept g s l
       → StaysKept s s' at.desc
@@ -167,11 +166,11 @@ module _
         before = h.before;
         after = h.after;
         elsewhere = h.elsewhere;
-        retired = h.retired;
+        retired = h.own.retired;
         places = λ d. rw (h.holds_before, h.holds_after) (popped-kept-weighs at share a d active);
         stock = λ class.
             rw (h.holds_before, h.holds_after)
-            (omega (arith, popped-stock-weighs at share a class active, h.stands_before.waits class, h.stands_after.waits class));
+            (omega (arith, popped-stock-weighs at share a class active, h.stands_before.quiet.waits class, h.stands_after.quiet.waits class));
         goes = popped-goes kept;
         own = popped-own kept;
       }

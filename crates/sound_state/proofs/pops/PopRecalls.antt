@@ -1,26 +1,24 @@
 -- A won pop keeps what the callers remember.
-use Rattle.std.proofs.Common.{ℕ, ◌≡◌, ◌≢◌, ◌<◌, ◌≤◌, ◌+◌, arith, ap, sym, subst, inl, inr, ◌∙◌, IsTrue}
-use Rattle.std.specs.List.{All}
+use Rattle.std.proofs.Common.{ℕ, ◌≡◌, ◌≢◌, ◌<◌, ◌≤◌, ◌+◌, arith, ap, sym, subst, inl, inr, ◌∙◌, IsTrue, All}
 use Rattle.std.proofs.lemmas.Bool.{cases_eq}
 use Rattle.std.proofs.lemmas.Option.{none-some}
-use Rattle.sound_state.proofs.Common.{Geometry, Need, AnchorFields, Site, Share, own, block_at, pool_of, ErrandFields, State, Lists, Recall, IsSo, IsOwned}
-use Rattle.sound_state.proofs.Common.{bound_for, bound_at, pops, links, says, IsSoundWithoutCounts, IsSoundWith, callers_sum, anchor_for, superblock_of, reserved_of}
-use Rattle.sound_state.proofs.Common.{reserved_among, errand_reserves}
+use Rattle.sound_state.proofs.Common.{Geometry, Need, AnchorFields, Site, Share, own, block_at, pool_of, ErrandFields, State, Lists, IsSo, IsOwned}
+use Rattle.sound_state.proofs.Common.{IsSoundWithoutCounts, IsSoundWith, callers_sum, anchor_for, reserved_of, reserved_among, errand_reserves, IsRemembered}
 use Rattle.pool_model.specs.declared.event.Event.TheVariants.{Alloc}
-use Rattle.sound_state.specs.Recalls.{IsPopped, IsRemembered}
 use Rattle.sound_state.proofs.shared.EventFacts.{told-own}
-use Rattle.sound_state.proofs.shared.RecallEffects.{IsSteadyWord, AreSteady, Leaves, IsLeft, popped-steady, here-so, remembered-left}
-use Rattle.sound_state.proofs.shared.RecallTables.{InstallsNone, IsBacked, backed-recalls}
+use Rattle.sound_state.proofs.shared.RecallEffects.{IsSteadyWord, AreSteady, Leaves, IsLeft, chain-steady, here-so, remembered-left}
+use Rattle.sound_state.proofs.shared.RecallFrame.{ChainStays, Part, bindings, chains, single}
+use Rattle.sound_state.proofs.shared.RecallTables.{InstallsNone, IsSpared, spared-point}
 use Rattle.sound_state.proofs.pops.PopEffects.{Pops, popped_place}
 use Rattle.sound_state.proofs.pops.PopFacts.{popped-anchor, popped-empty, popped-bound, popped-ways, popped-reserved, popped-none, popped-there, pays-one}
 use Rattle.sound_state.proofs.shared.SumLemmas.{two-terms}
 use Rattle.sound_state.proofs.shared.WaitsAlone.{waits-alone}
 
--- a pop that was won
+-- a pop that was won, seen by the callers that remember
 module _
     {g : Geometry} {s : State} {l : Lists} {caller : ℕ} {at : Site} {share : Share} {a : AnchorFields} {link words : ℕ} {e : ErrandFields}
     {s' : State} (h : Pops g s l caller at share a link words e s') where
-  -- nobody pops from a superblock that waits to be installed
+  -- nobody else waits to install the superblock of a pop
   popped-installed : IsSoundWith g s l → (i : ℕ) → i < g.callers → i ≢ caller → InstallsNone (s.errand i).point at.desc
   unfolding callers_sum
   popped-installed old i has ne site o stands same =
@@ -30,37 +28,29 @@ module _
       let mine_too : 1 ≤ errand_reserves site.desc (s.errand caller) = subst (λ k. 1 ≤ errand_reserves k (s.errand caller)) (sym same) mine in
       omega (arith, alone, mine_too, two-terms g.callers (λ j. errand_reserves site.desc (s.errand j)) i caller has h.in_heap ne)
 
-  -- the words of stacks, of descriptors and of the arena stay
+  -- the words of stacks, of descriptors and of the arena stay at a won pop
   popped-words-steady : AreSteady s s'
   popped-words-steady n is = h.elsewhere n (λ same. subst IsSteadyWord same is)
 
-  -- the tag of the superblock rises; each other one has its tag and its chain
+  -- the tag of the superblock rises at a won pop; each other one has its tag and its chain
   popped-rises : (d : ℕ) → d ≡ at.desc → (anchor_for s' d).tag ≡ (anchor_for s d).tag + 1
   popped-rises d same =
       ap (λ k. (anchor_for s' k).tag) same ∙ ap (λ x. x.tag) h.after
       ∙ sym (ap (λ k. (anchor_for s k).tag + 1) same ∙ ap (λ x. x.tag + 1) h.before)
 
-  popped-pops : (d : ℕ) (b : AnchorFields) → IsPopped (superblock_of g s d) b → IsPopped (superblock_of g s' d) b
-  popped-pops d b so =
+  popped-chains : (d : ℕ) → ChainStays g s s' d
+  popped-chains d =
       elim (cases_eq d at.desc) [
         | inl same ↦
             record {
-              tag = omega (arith, so.tag, popped-rises d same);
-              first = λ is. absurd (omega (arith, so.tag, popped-rises d same, is));
+              tag = omega (arith, popped-rises d same);
+              chain = λ is. absurd (omega (arith, popped-rises d same, is));
+              next = λ is. absurd (omega (arith, popped-rises d same, is));
             }
-        | inr ne ↦
-            popped-steady g s l s' popped-words-steady d b (popped-anchor h d ne)
-            (popped-reserved h d ne) so
+        | inr ne ↦ chain-steady g s l s' popped-words-steady d (popped-anchor h d ne) (popped-reserved h d ne)
       ]
 
-  popped-tag : (d t : ℕ) → t ≤ (anchor_for s d).tag → t ≡ (anchor_for s' d).tag → t ≡ (anchor_for s d).tag
-  popped-tag d t most is =
-      elim (cases_eq d at.desc) [
-        | inl same ↦ absurd (omega (arith, most, popped-rises d same, is))
-        | inr ne ↦ is ∙ ap (λ x. x.tag) (popped-anchor h d ne)
-      ]
-
-  -- who owned a block owns it still: the popped place was not live
+  -- a caller that owned a block owns it after a won pop: the popped place was not live
   popped-owned : IsSoundWithoutCounts g s → IsSoundWith g s l → (i place : ℕ) (n : Need) → IsOwned s i place n → IsOwned s' i place n
   popped-owned sound old i place n k =
       let apart : place ≢ popped_place at a =
@@ -76,7 +66,7 @@ module _
         );
       }
 
-  -- so a pop leaves what the others remember
+  -- a pop leaves what the others remember
   popped-leaves : IsSoundWithoutCounts g s → IsSoundWith g s l → (i : ℕ) → i ≢ caller → Leaves g s l s' i
   popped-leaves sound old i ne = record {
     steady = popped-words-steady;
@@ -86,13 +76,11 @@ module _
     ways = λ d is. popped-ways h d;
   }
 
-  popped-left : (r : Recall) → IsBacked g s l at.desc r → IsLeft g s l s' r
-  popped-left (bound_for d c) backed = subst IsTrue (sym (popped-bound h d))
-  popped-left (bound_at d f c) backed = subst IsTrue (sym (popped-bound h d))
-  popped-left (pops d b) backed = popped-pops d b
-  popped-left (links d b prefix) backed = popped-tag d b.tag backed.1
-  popped-left (says n w) backed = h.elsewhere n backed
-  popped-left r backed = tt
+  popped-left : (p : Part) → IsSpared at.desc p → IsLeft g s l s' p
+  popped-left (bindings d) spared = subst IsTrue (sym (popped-bound h d))
+  popped-left (chains d) spared = λ here. popped-chains d
+  popped-left (single n) spared = λ said. h.elsewhere n spared
+  popped-left p spared = tt
 
   pub popped-remembered : IsSoundWithoutCounts g s → IsSoundWith g s l → IsRemembered g s' l
   popped-remembered sound old =
@@ -100,6 +88,4 @@ module _
       (subst (All (IsSo g s' l caller)) (sym h.recalls_after)
       (here-so g s l s' popped-words-steady caller at (subst IsTrue (sym (popped-bound h at.desc)) h.bound) h.located))
       (λ i has ne. popped-leaves sound old i ne)
-      (λ i has ne k d lt.
-      popped-left _
-      (backed-recalls g s l i at.desc old has (popped-installed old i has ne) k d lt)) old.remembered
+      (λ i has ne k d lt. popped-left _ (spared-point at.desc (s.errand i).point (popped-installed old i has ne) k d lt)) old

@@ -1,23 +1,16 @@
 -- The step of a won pop, and what it changes.
-use Rattle.std.proofs.Common.{ℕ, Bool, true, false, ◌≡◌, ◌<◌, ◌+◌, ◌^◌, ◌/◌, [], ◌∷◌, refl, arith, ap, sym, subst, inl, inr, ◌∙◌, if◌then◌else◌, nat_lt}
+use Rattle.std.proofs.Common.{ℕ, Bool, true, false, ◌≡◌, ◌<◌, ◌+◌, ◌^◌, ◌/◌, refl, arith, ap, sym, subst, inl, inr, ◌∙◌, if◌then◌else◌, nat_lt, pow_pos, mod-eq_of_lt}
 use Rattle.std.proofs.lemmas.Bool.{cases_eq}
-use Rattle.std.proofs.lemmas.List.Elements.{All-head, All-tail}
-use Rattle.std.proofs.lemmas.Nat.{mod_below, pow_pos}
-use Rattle.std.proofs.Math.Nat.{mod-eq_of_lt}
-use Rattle.sound_state.proofs.Common.{Geometry, AnchorFields, anchor_of, anchor_word, link_of, Site, BlockPoint, Share, Continuation, Point, Block, event_of}
-use Rattle.sound_state.proofs.Common.{next_of, asked, plan_point_of, State, Step, holds_of, Lists, IsSo, bound_here, bound_at, pops, links, recalls_of}
-use Rattle.sound_state.proofs.Common.{IsSoundWithoutCounts, IsSoundWith, IsOwnErrand, anchor_for}
-use Rattle.packed_words.specs.Anchor.{IsAnchor}
-use Rattle.packed_words.specs.declared.widths.TheConstants.{AVAIL_BITS, TAG_BITS}
-use Rattle.packed_words.proofs.AnchorLemmas.{anchor_of-anchor_word}
+use Rattle.std.proofs.lemmas.Nat.{mod_below}
+use Rattle.sound_state.proofs.Common.{Geometry, AnchorFields, anchor_of, anchor_word, link_of, Site, BlockPoint, Share, Continuation, Point, Block, event_of, next_of}
+use Rattle.sound_state.proofs.Common.{asked, plan_point_of, State, Step, holds_of, Lists, bound_here, recalls_of, IsSoundWithoutCounts, IsSoundWith, IsOwnErrand}
+use Rattle.sound_state.proofs.Common.{anchor_for, IsAnchor, AVAIL_BITS, TAG_BITS, anchor_of-anchor_word, more_of, Cas, nothing, block_handed}
 use Rattle.word_table.specs.declared.name.WordName.TheVariants as name
-use Rattle.superblock_parts.specs.Anchors.{popped, more_of}
+use Rattle.superblock_parts.specs.Anchors.{popped}
 use Rattle.superblock_parts.specs.Points as points
 use Rattle.superblock_parts.specs.declared.point.BlockPoint.TheVariants as block
-use Rattle.word_table.specs.declared.action.Action.TheVariants.{Cas}
 use Rattle.sound_state.specs.Holdings as hold
-use Rattle.sound_state.specs.Holdings.{nothing, block_handed}
-use Rattle.sound_state.proofs.shared.PointLemmas.{fits-at, so-at, the-alloc, small-asked}
+use Rattle.sound_state.proofs.shared.PointLemmas.{fits-at, the-alloc, small-asked, recalled-at}
 use Rattle.sound_state.proofs.pops.PopEffects.{Pops, popped_anchor}
 use Rattle.sound_state.proofs.pops.PopChains.{popped-chained, popped-framed}
 use Rattle.sound_state.proofs.pops.PopKept.{popped-kept, popped-stocked}
@@ -25,15 +18,15 @@ use Rattle.sound_state.proofs.pops.PopRecalls.{popped-remembered}
 use Rattle.sound_state.proofs.pops.PopTies.{popped-legal, popped-tied}
 use Rattle.sound_state.proofs.pops.PopTurns.{popped-guarded, popped-listed, popped-turned}
 use Rattle.sound_state.proofs.quiet.QuietExchanges.{pop_block-lost}
-use Rattle.sound_state.proofs.shared.ShownLemmas.{each-caller}
 use Rattle.sound_state.proofs.shared.StepLemmas.{at_point}
 use Rattle.sound_state.proofs.shared.TagLemmas.{anchor-tags-below}
 use Rattle.sound_state.proofs.shared.CreditLemmas.{won_with}
 use Rattle.sound_state.proofs.shared.TurnEffects.{StandsIn}
 use Rattle.sound_state.proofs.shared.WonEffects.{AnchorWon, anchor-won}
 use Rattle.sound_state.proofs.shared.KeepsSound.{KeepsSound, KeepsSoundWhere}
+use Rattle.sound_state.proofs.shared.CallerLemmas.{each-caller}
 
--- where a pop leads, by whether more blocks are reserved
+-- the point to which a won pop leads, by whether more blocks are reserved
 abbrev popped_point : Bool → Site → ℕ → ℕ → BlockPoint
 popped_point b at i more = if b then block.InstallCredits at i more else block.StorePrefix at i
 
@@ -58,7 +51,7 @@ pop_block-stands :
     (at : Site) (share : Share) (a : AnchorFields) (prefix : ℕ) (o : Continuation) → StandsIn true (Block (block.PopBlock at share a prefix) o)
 pop_block-stands at share a prefix o = grind (arith)
 
--- the anchor's tag has room, so it isn't cut
+-- an anchor whose tag has room isn't cut by a pop
 popped-uncut : (share : Share) (a : AnchorFields) (link : ℕ) → a.tag + 1 < 2 ^ TAG_BITS → popped share a link ≡ popped_anchor share a link
 popped-uncut share a link room = ap (λ t. record (popped_anchor share a link) { tag = t }) (mod-eq_of_lt {n = a.tag + 1} {m = 2 ^ TAG_BITS} room)
 
@@ -85,11 +78,7 @@ pop-pops g s l caller s' at share a prefix o sound is has here word step =
     let p : Point = Block (block.PopBlock at share a prefix) o in
     let q : Point = Block (points.after_pop at a.avail (more_of share a)) o in
     let fit = fits-at g s l caller p is has here in
-    let so = so-at g s l caller p is has here in
-    let so_links = All-head (IsSo g s l caller) (links at.desc a prefix) (pops at.desc a ∷ bound_here at) so in
-    let so_rest = All-tail (IsSo g s l caller) (links at.desc a prefix) (pops at.desc a ∷ bound_here at) so in
-    let so_bound =
-    All-head (IsSo g s l caller) (bound_at at.desc at.frame at.seat.class) [] (All-tail (IsSo g s l caller) (pops at.desc a) (bound_here at) so_rest) in
+    let (so_link, (so_pop, (so_bound, none))) = recalled-at g s l caller p is has here in
     let before : anchor_for s at.desc ≡ a = ap anchor_of word ∙ anchor_of-anchor_word a fit.point.anchor.fits in
     let room : a.tag + 1 < 2 ^ TAG_BITS =
     subst (λ x. x.tag + 1 < 2 ^ TAG_BITS) before (anchor-tags-below g s sound at.desc fit.point.site.desc) in
@@ -110,15 +99,11 @@ pop-pops g s l caller s' at share a prefix o sound is has here word step =
       located = so_bound.1;
       before = won.before;
       after = won.after;
-      next = so_links (sym (ap (λ x. x.tag) before));
+      next = so_link (sym (ap (λ x. x.tag) before));
       elsewhere = won.elsewhere;
       below = won.below;
       history = won.step.history;
-      rule = won.step.rule;
-      retired = refl;
-      turns = refl;
-      lost = won.step.lost;
-      cleared = won.step.cleared;
+      own = record { rule = won.step.rule; retired = refl; turns = refl; lost = won.step.lost; cleared = won.step.cleared };
       holds_before = ap holds_of here;
       holds_after = popped-point-holds (nat_lt 0 (more_of share a)) at a.avail (more_of share a) o;
       recalls_after = popped-point-recalls (nat_lt 0 (more_of share a)) at a.avail (more_of share a) o;
@@ -142,7 +127,7 @@ pop_block-won at share a prefix o g s caller s' sound has here word step =
         l,
         record {
           words = h.below;
-          errands = each-caller g (IsOwnErrand g) s.errand caller e s'.errand h.moves h.rule is.errands;
+          errands = each-caller g (IsOwnErrand g) s.errand caller e s'.errand h.moves h.own.rule is.errands;
           listed = popped-listed h is;
           kept = popped-kept h is;
           chained = popped-chained h sound is;
@@ -156,7 +141,7 @@ pop_block-won at share a prefix o g s caller s' sound has here word step =
       );
     }
 
--- so it is after a pop, won or lost
+-- a pop keeps the state sound, won or lost
 pub pop_block-sound :
     (at : Site) (share : Share) (a : AnchorFields) (prefix : ℕ) (o : Continuation) → KeepsSound (Block (block.PopBlock at share a prefix) o)
 pop_block-sound at share a prefix o g s caller s' sound has here step =

@@ -2,15 +2,13 @@
 use Rattle.std.proofs.Common.{ℕ, ◌≡◌, [], refl, ap, inl, inr, ◌∙◌, nat_lt}
 use Rattle.std.proofs.lemmas.Bool.{cases_Bool}
 use Rattle.sound_state.proofs.Common.{Geometry, AnchorFields, Site, Share, Credit, LastCredit, Grant, IsLegalWithoutCounts, ErrandFields, State, Holding}
-use Rattle.sound_state.proofs.Common.{holds_before_pop, Lists, IsSoundWithoutCounts, IsSoundWith, IsTied}
+use Rattle.sound_state.proofs.Common.{holds_before_pop, Lists, IsSoundWithoutCounts, IsSoundWith, IsTied, more_of, block_handed}
 use Rattle.word_table.specs.declared.name.WordName.TheVariants as name
-use Rattle.superblock_parts.specs.Anchors.{more_of}
-use Rattle.sound_state.specs.Holdings.{block_handed}
 use Rattle.sound_state.proofs.pops.PopEffects.{Pops, popped_holds}
 use Rattle.sound_state.proofs.pops.PopFacts.{popped-info, popped-bound, popped-none, popped-here, popped-there}
 use Rattle.sound_state.proofs.shared.GivenBlocks.{Gives, given-legal, given-tied}
 
--- who pops hands out and frees nothing before, and hands out the popped block after
+-- a caller that pops hands out and frees nothing before it, and hands out the popped block after it
 hands-before : (d class : ℕ) (share : Share) → (holds_before_pop d class share).hands ≡ []
 hands-before d class Credit = refl
 hands-before d class LastCredit = refl
@@ -30,7 +28,7 @@ popped-frees at i more = elim (cases_Bool (nat_lt 0 more)) [ inl some ↦ rw som
 module _
     {g : Geometry} {s : State} {l : Lists} {caller : ℕ} {at : Site} {share : Share} {a : AnchorFields} {link words : ℕ} {e : ErrandFields}
     {s' : State} (h : Pops g s l caller at share a link words e s') where
-  -- a pop gives the first available block
+  -- a won pop gives its caller the first available block
   pops-give : IsSoundWithoutCounts g s → IsSoundWith g s l → Gives g s l caller at a.avail words e s'
   pops-give sound is = record {
     in_heap = h.in_heap;

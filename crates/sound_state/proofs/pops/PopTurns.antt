@@ -1,18 +1,16 @@
 -- A won pop keeps the lists, the guards, and the bounds of tags and turns.
 use Rattle.std.proofs.Common.{ℕ, true, false, ◌≡◌, ◌≤◌, ◌+◌, refl, arith, ap, sym, subst, inl, inr, ◌∙◌}
 use Rattle.std.proofs.lemmas.Bool.{cases_eq}
-use Rattle.sound_state.proofs.Common.{Geometry, AnchorFields, Site, Share, Credit, LastCredit, Grant, ErrandFields, State, IsGuarded, holds_before_pop, holds_of}
-use Rattle.sound_state.proofs.Common.{Lists, IsListed, IsSoundWithoutCounts, IsSoundWith, anchor_for, IsTurned}
+use Rattle.sound_state.proofs.Common.{Geometry, AnchorFields, Site, Share, Credit, LastCredit, Grant, ErrandFields, State, IsGuarded, holds_before_pop, holds_of, Lists}
+use Rattle.sound_state.proofs.Common.{IsListed, IsSoundWithoutCounts, IsSoundWith, anchor_for, IsTurned, more_of, clear}
 use Rattle.word_table.specs.declared.name.WordName.TheVariants as name
-use Rattle.superblock_parts.specs.Anchors.{more_of}
-use Rattle.sound_state.specs.Holdings.{clear}
 use Rattle.sound_state.proofs.pops.PopEffects.{Pops, popped_holds, popped_place}
 use Rattle.sound_state.proofs.pops.PopFacts.{popped-anchor, popped-empty, popped-away}
 use Rattle.sound_state.proofs.shared.GuardEffects.{guarded-clear}
 use Rattle.sound_state.proofs.shared.ListEffects.{IsListWord, listed-kept}
 use Rattle.sound_state.proofs.shared.TurnEffects.{alloc-event, emptied-kept, head-tag, turned-after, small-served, stands-weighs}
 
--- before and after a pop the hazard word is 0
+-- the hazard word of a caller that pops is to be 0 before and after
 before-clear : (d class : ℕ) (share : Share) → (holds_before_pop d class share).hazard ≡ clear
 before-clear d class Credit = refl
 before-clear d class LastCredit = refl
@@ -32,11 +30,10 @@ module _
       let was_clear : (holds_of (s.errand caller).point).hazard ≡ clear =
       ap (λ x. x.hazard) h.holds_before ∙ before-clear at.desc at.seat.class share in
       let is_clear : (holds_of e.point).hazard ≡ clear = ap (λ x. x.hazard) h.holds_after ∙ after-clear at a.avail (more_of share a) in
-      let after = h.stands_after in
-      guarded-clear g s caller e s' h.in_heap h.moves (λ i. h.elsewhere (name.Hazard i) (λ same. cc)) was_clear is_clear after.pushed after.passed
-      after.unread after.spare old.guarded
+      guarded-clear g s caller e s' h.in_heap h.moves (λ i. h.elsewhere (name.Hazard i) (λ same. cc)) was_clear is_clear h.stands_after.quiet
+      old.guarded
 
-  -- the tags of the anchors rise by one at most
+  -- the tags of anchors rise by one at most at a won pop
   popped-tags : (d : ℕ) → (anchor_for s' d).tag ≤ (anchor_for s d).tag + 1
   popped-tags d =
       elim (cases_eq d at.desc) [
@@ -61,15 +58,15 @@ module _
         in_heap = h.in_heap;
         moves = h.moves;
         events = events;
-        own_turns = omega (arith, turned.own_turns caller h.in_heap, events.gives, before.under_way, after.under_way, h.turns);
+        own_turns = omega (arith, turned.own_turns caller h.in_heap, events.gives, before.under_way, after.under_way, h.own.turns);
         own_lost =
-            omega (arith, turned.own_lost caller h.in_heap, events.gives, events.refuses caller, before.unanswered, after.discards, after.unanswered, h.turns, h.lost);
+            omega (arith, turned.own_lost caller h.in_heap, events.gives, events.refuses caller, before.unanswered, after.discards, after.unanswered, h.own.turns, h.own.lost);
         own_answers =
-            omega (arith, turned.own_answers caller h.in_heap, events.gives, events.refuses caller, before.unanswered, after.unanswered, h.turns);
+            omega (arith, turned.own_answers caller h.in_heap, events.gives, events.refuses caller, before.unanswered, after.unanswered, h.own.turns);
         anchor_tags = λ d has. popped-tags d;
-        frame_turns = omega (arith, head-tag (h.elsewhere name.FrameHead (λ same. cc)), before.unframed, after.unframed, h.turns);
-        emptied = omega (arith, emptied_same, h.cleared);
+        frame_turns = omega (arith, head-tag (h.elsewhere name.FrameHead (λ same. cc)), before.unframed, after.unframed, h.own.turns);
+        emptied = omega (arith, emptied_same, h.own.cleared);
         list_turns = λ class has.
-            omega (arith, head-tag (h.elsewhere (name.ListHead class) (λ same. cc)), h.stands_after.pops, after.unlisted, h.turns, h.cleared);
+            omega (arith, head-tag (h.elsewhere (name.ListHead class) (λ same. cc)), h.stands_after.pops, after.unlisted, h.own.turns, h.own.cleared);
       })
       turned

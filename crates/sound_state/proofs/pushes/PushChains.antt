@@ -1,19 +1,19 @@
--- A won push: each frame stays in one place, and the superblocks keep their pushed-blocks in order.
+-- A won push: each frame stays in one place, and the superblocks keep their blocks in order.
 use Rattle.std.proofs.Common.{ℕ, Bool, true, false, ◌≡◌, ◌≢◌, ◌<◌, ◌+◌, ◌-◌, ◌∷◌, refl, arith, ap, sym, subst, inl, inr, ◌∙◌, ◌==◌, not, if◌then◌else◌, IsTrue}
 use Rattle.std.proofs.lemmas.Bool.{cases_eq}
-use Rattle.sound_state.proofs.Common.{Geometry, block_count_of, block_place, AnchorFields, descriptor_count, Site, occurs, ErrandFields, State, IsFramed}
-use Rattle.sound_state.proofs.Common.{fills_frame, Lists, IsSoundWithoutCounts, IsSoundWith, Superblock, AreChained, IsChained, superblock_of, anchor_for}
-use Rattle.sound_state.proofs.Common.{reserved_of, free_chain, live_at, is_there}
-use Rattle.superblock_parts.specs.Chains.{chain_of}
-use Rattle.superblock_parts.proofs.ChainLemmas.{chain_of-first}
+use Rattle.sound_state.proofs.Common.{Geometry, block_count_of, block_place, AnchorFields, descriptor_count, Site, occurs, ErrandFields, State, IsFramed, fills_frame}
+use Rattle.sound_state.proofs.Common.{Lists, IsSoundWithoutCounts, IsSoundWith, Superblock, AreChained, IsChained, superblock_of, anchor_for, reserved_of, free_chain}
+use Rattle.sound_state.proofs.Common.{live_at, is_there, chain_of, chain_of-first}
 use Rattle.sound_state.proofs.pushes.PushEffects.{Outcome, stays, unfills, empties, IsOutcome, Pushes, pushed_anchor, pushed_holds}
-use Rattle.sound_state.proofs.pushes.PushFacts.{pushed-holds, pushed-write, pushed-info, pushed-anchor, pushed-waits, pushed-bound, pushed-bound-here, was-bound, pushed-reserved, pushed-gone, pushed-there, pushed-live, pushed-bare, makes_empty}
+use Rattle.sound_state.proofs.pushes.PushFacts.{pushed-holds, pushed-write, pushed-info, pushed-anchor, pushed-waits, pushed-bound, pushed-bound-here, was-bound}
+use Rattle.sound_state.proofs.pushes.PushFacts.{pushed-reserved, pushed-gone, pushed-there, pushed-live, pushed-bare, makes_empty}
 use Rattle.sound_state.proofs.shared.HoldingEffects.{holdings-go}
 use Rattle.sound_state.proofs.shared.ListFacts.{occurs-past}
-use Rattle.sound_state.proofs.shared.SuperblockEffects.{LieStill, BlockEffects, anchor-still, info-stays, next-stays, size-stays, superblock-stays, located-live, live-after, rest-live, chained-after, held-same, first-used}
+use Rattle.sound_state.proofs.shared.SuperblockEffects.{LieStill, BlockEffects, anchor-still, info-stays, next-stays, size-stays, superblock-stays, located-live}
+use Rattle.sound_state.proofs.shared.SuperblockEffects.{live-after, rest-live, chained-after, held-same, first-used}
 use Rattle.sound_state.proofs.shared.SumLemmas.{sum-change}
 
--- its chain gains the block in front, where it isn't made EMPTY
+-- the chain of a push's superblock gains the freed block in front, where the superblock isn't made EMPTY
 count-after : (out : Outcome) (i : ℕ) (a : AnchorFields) → makes_empty out ≡ false → (pushed_anchor out i a).count ≡ a.count + 1
 count-after stays i a stands = refl
 count-after unfills i a stands = refl
@@ -31,7 +31,7 @@ count-room stays class stored a is stands = is.0
 count-room unfills class stored a is stands = is.0
 count-room empties class stored a is stands = let bad : true ≡ false = stands in cc
 
--- a superblock whose chain gains in front a block that was live keeps its pushed-blocks in order
+-- a superblock whose chain gains in front a block that was live keeps its blocks in order
 pub first-comes :
     (b b' : Superblock) (i : ℕ) → IsChained b → free_chain b' ≡ i ∷ free_chain b → i < b.size → b'.anchor.avail ≡ i → b.next i < b.size
     → b'.anchor.count < b.size → b'.waiting ≡ b.waiting → b'.next ≡ b.next → b'.size ≡ b.size → b.live i ≡ 1 → b'.live i ≡ 0
@@ -59,7 +59,7 @@ first-comes b b' i old chain has avail link count waits next size was now others
       some = omega (arith, count, size);
     }
 
--- what isn't so of a push that makes EMPTY
+-- a condition whose negation holds is false
 bound-stays : (b : Bool) → IsTrue (not b) → b ≡ false
 bound-stays true is = let bad : false ≡ true = is in cc
 bound-stays false is = refl
@@ -70,7 +70,7 @@ module _
   pushed-lie : LieStill s s'
   pushed-lie = anchor-still (pushed-write h)
 
-  -- the freed block alone becomes free
+  -- the freed block alone becomes free at a won push
   pushed-blocks : BlockEffects g s l caller at i s'
   pushed-blocks = record {
     site = h.site;
@@ -113,7 +113,7 @@ module _
       (pushed-live h)
       (live-after pushed-blocks i ∙ ap is_there (pushed-gone h sound)) (rest-live pushed-blocks)
 
-  -- all superblocks keep their pushed-blocks in order
+  -- all superblocks keep their blocks in order after a won push
   pub pushed-chained : IsSoundWithoutCounts g s → IsSoundWith g s l → AreChained g s' l
   pushed-chained sound old =
       chained-after pushed-blocks old (was-bound h)
@@ -124,13 +124,13 @@ module _
       superblock-stays pushed-lie g d (pushed-anchor h d differ)
       (pushed-reserved h d) (pushed-waits h d))
 
-  -- a superblock that isn't made EMPTY fills_frame its frame as before
+  -- a superblock that isn't made EMPTY fills its frame as before
   fills-still : (f : ℕ) → makes_empty out ≡ false → fills_frame g s' l f at.desc ≡ fills_frame g s l f at.desc
   fills-still f stands =
       let bound = pushed-bound-here h in
       rw (bound, stands, h.bound, pushed-waits h at.desc, info-stays pushed-lie at.desc) refl
 
--- the frame of one that is goes to its caller's hand
+-- the frame of a superblock that a push makes EMPTY goes to its caller's hand
 frame-goes :
     (g : Geometry) (s : State) (l : Lists) (caller : ℕ) (at : Site) (i : ℕ) (stored : Bool) (a : AnchorFields) (out : Outcome) (e : ErrandFields)
     (s' : State) → Pushes g s l caller at i stored a out e s' → IsSoundWith g s l → (f : ℕ)

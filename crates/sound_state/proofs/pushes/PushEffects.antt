@@ -1,15 +1,17 @@
 -- A won push: what it changes, and that everything else stays.
-use Rattle.std.proofs.Common.{ℕ, Bool, true, None, ◌≡◌, ◌≢◌, ◌<◌, ◌≤◌, ◌+◌, ◌^◌, List, [], ◌∷◌, ◌++◌, length, ◌⊎◌, IsTrue, if◌then◌else◌}
-use Rattle.sound_state.proofs.Common.{Geometry, block_count_of, block_place, AnchorFields, WordName, Site, IsSiteOf, ErrandFields, spare_of, pushed_by, Point, State}
-use Rattle.sound_state.proofs.Common.{Moves, passed_by, held_by, Holding, partly_used, holds_of, Lists, Recall, IsLocated, IsOwned, emptied, recalls_of, IsOwnErrand}
-use Rattle.sound_state.proofs.Common.{turn_stage_of, waits_in, anchor_for, is_bound, superblock_of, pops_left}
+use Rattle.std.proofs.Common.{ℕ, Bool, true, ◌≡◌, ◌≢◌, ◌<◌, ◌≤◌, ◌+◌, ◌^◌, List, [], ◌∷◌, ◌++◌, ◌⊎◌, IsTrue, if◌then◌else◌}
+use Rattle.sound_state.proofs.Common.{Geometry, block_count_of, block_place, AnchorFields, WordName, Site, IsSiteOf, ErrandFields, Point, State}
+use Rattle.sound_state.proofs.Common.{Moves, Holding, partly_used, holds_of, Lists, Recall, IsLocated, IsOwned, emptied, recalls_of}
+use Rattle.sound_state.proofs.Common.{turn_stage_of, anchor_for, is_bound, superblock_of, pops_left, HazardState, nothing, keep, clear, guarded, if_stored}
+use Rattle.sound_state.proofs.Common.{out_of_turn}
 use Rattle.heap_geometry.specs.declared.need.Need.TheVariants as need
 use Rattle.packed_words.specs.declared.anchor.AnchorState.TheVariants as phase
 use Rattle.word_table.specs.declared.name.WordName.TheVariants as name
 use Rattle.word_table.specs.Sites.{IsAnchorOf}
 use Rattle.pool_model.specs.declared.event.Event.TheVariants.{Free}
-use Rattle.sound_state.specs.Holdings.{HazardState, nothing, keep, clear, guarded, owned, pushing, if_stored}
-use Rattle.sound_state.specs.TurnStages.{out_of_turn}
+use Rattle.sound_state.specs.Holdings.{owned, pushing}
+use Rattle.sound_state.proofs.shared.TurnEffects.{IsQuiet}
+use Rattle.sound_state.proofs.shared.CallerLemmas.{KeepsCounts}
 
 -- what a push does to its superblock: it stays ACTIVE or partial, it was FULL and isn't any more, or it becomes EMPTY
 pub data Outcome : Type 0 where
@@ -17,7 +19,7 @@ pub data Outcome : Type 0 where
   unfills : Outcome
   empties : Outcome
 
--- when it does which; who makes it EMPTY has stored its hazard word
+-- when a push has this outcome; who makes its superblock EMPTY has stored its hazard word
 abbrev pub IsOutcome : Outcome → ℕ → Bool → AnchorFields → Type 0
 IsOutcome stays class stored a = (a.count + 1 < block_count_of class) × ((a.state ≡ phase.Active) ⊎ (a.state ≡ phase.Partial))
 IsOutcome unfills class stored a = (a.count + 1 < block_count_of class) × (a.state ≡ phase.Full)
@@ -29,7 +31,7 @@ pushed_anchor stays i a = record { avail = i; count = a.count + 1; state = a.sta
 pushed_anchor unfills i a = record { avail = i; count = a.count + 1; state = phase.Partial; tag = a.tag }
 pushed_anchor empties i a = record { avail = i; count = a.count; state = phase.Empty; tag = a.tag }
 
--- what a caller holds after it: its hazard word where it stored it, and the superblock that was FULL, or the frame of one that is EMPTY
+-- what a caller holds after its push: its hazard word if stored, and the superblock that was FULL or the frame of one made EMPTY
 abbrev pub hazard_after : Bool → HazardState
 hazard_after stored = if stored then owned else clear
 
@@ -38,13 +40,13 @@ pushed_holds stays at stored = record nothing { hazard = hazard_after stored }
 pushed_holds unfills at stored = record nothing { kept = keep at.desc at.seat.class partly_used; hazard = hazard_after stored }
 pushed_holds empties at stored = record nothing { frames = at.frame ∷ []; hazard = guarded at.desc }
 
--- and what it remembers
+-- what a caller remembers after its push: that the superblock which it made EMPTY is
 abbrev pub pushed_recalls : Outcome → Site → List Recall
 pushed_recalls stays at = []
 pushed_recalls unfills at = []
 pushed_recalls empties at = emptied at.desc ∷ []
 
--- where the block lies
+-- the place of the block that is freed
 abbrev pub pushed_place : Site → ℕ → ℕ
 pushed_place at i = block_place at.frame at.seat.class i
 
@@ -52,11 +54,7 @@ pushed_place at i = block_place at.frame at.seat.class i
 pub record FreeStands (p : Point) : Type 0 where
   pub stage : turn_stage_of p ≡ out_of_turn
   pub pops : pops_left p ≤ 2
-  pub waits : (class : ℕ) → waits_in class p ≡ 0
-  pub pushed : pushed_by p ≡ None
-  pub passed : passed_by p ≡ 0
-  pub unread : length (held_by p) ≡ 0
-  pub spare : spare_of p ≡ 0
+  pub quiet : IsQuiet p
 
 -- a caller pushes its block onto the free blocks of a superblock, and all else stays
 pub record Pushes (g : Geometry) (s : State) (l : Lists) (caller : ℕ) (at : Site) (i : ℕ) (stored : Bool) (a : AnchorFields) (out : Outcome)
@@ -76,11 +74,7 @@ pub record Pushes (g : Geometry) (s : State) (l : Lists) (caller : ℕ) (at : Si
   pub elsewhere : (n : WordName) → n ≢ name.Anchor at.desc → s'.word n ≡ s.word n
   pub below : (n : WordName) → s'.word n < 2 ^ 64
   pub history : s'.history ≡ s.history ++ Free caller (pushed_place at i) ∷ []
-  pub rule : IsOwnErrand g caller e
-  pub retired : e.retired ≡ (s.errand caller).retired
-  pub turns : e.turns ≡ (s.errand caller).turns
-  pub lost : e.lost ≡ (s.errand caller).lost
-  pub cleared : e.cleared ≡ (s.errand caller).cleared
+  pub own : KeepsCounts g caller (s.errand caller) e
   pub holds_before : holds_of (s.errand caller).point ≡ pushing at i (if_stored stored at.desc)
   pub holds_after : holds_of e.point ≡ pushed_holds out at stored
   pub recalls_after : recalls_of e.point ≡ pushed_recalls out at

@@ -3,14 +3,11 @@ use Rattle.std.proofs.Common.{ℕ, Bool, true, false, None, ◌≡◌, ◌≢◌
 use Rattle.sound_state.proofs.Common.{Geometry, block_count_of, AnchorFields, is_empty, WordName, Site, block_at, pool_of, sound-of, ErrandFields, State, waiting}
 use Rattle.sound_state.proofs.Common.{on_its_way, Status, partly_used, Lists, IsSoundWithoutCounts, IsSoundWith, sum_below, words_sum, callers_sum, Superblock}
 use Rattle.sound_state.proofs.Common.{anchor_for, info_for, superblock_of, is_bound, is_there, away_of, waiting_of, reserved_of, word_reserves, reserved_among}
-use Rattle.sound_state.proofs.Common.{errand_keeps, kept_among}
+use Rattle.sound_state.proofs.Common.{errand_keeps, kept_among, pool_of-push, sound-differ, if_stored, same_status}
 use Rattle.word_table.specs.declared.name.WordName.TheVariants as name
 use Rattle.pool_model.specs.declared.event.Event.TheVariants.{Free}
-use Rattle.pool_model.proofs.HistoryLemmas.{pool_of-push}
 use Rattle.pool_model.proofs.PoolLemmas.{block_at-without_other, block_at-without_same}
-use Rattle.pool_model.proofs.WellFormedLemmas.{sound-differ}
-use Rattle.sound_state.specs.Holdings.{pushing, if_stored}
-use Rattle.sound_state.specs.Superblocks.{same_status}
+use Rattle.sound_state.specs.Holdings.{pushing}
 use Rattle.sound_state.proofs.pushes.PushEffects.{Outcome, stays, unfills, empties, Pushes, pushed_anchor, pushed_holds, pushed_place}
 use Rattle.sound_state.proofs.shared.HasLemmas.{bound-stands}
 use Rattle.sound_state.proofs.shared.SumLemmas.{term-sum, two-terms}
@@ -18,7 +15,7 @@ use Rattle.sound_state.proofs.shared.HoldingEffects.{HoldingEffects, waits-go, w
 use Rattle.sound_state.proofs.shared.SuperblockEffects.{of-each, AnchorEffects, info-stays, anchor-still, anchors-stay, weights-stay, located-live}
 use Rattle.sound_state.proofs.shared.TallyLemmas.{tally}
 
--- after a push its caller keeps nothing but what is partly used, and has nothing reserved
+-- a caller keeps nothing after its push but what is partly used, and has nothing reserved
 pushed-keeps-partly :
     (status : Status) (d : ℕ) (out : Outcome) (at : Site) (stored : Bool) → same_status partly_used status ≡ false
     → kept_among status d (pushed_holds out at stored).kept ≡ 0
@@ -31,7 +28,7 @@ pushed-reserves-none d stays at stored = refl
 pushed-reserves-none d unfills at stored = refl
 pushed-reserves-none d empties at stored = refl
 
--- whether a push makes it EMPTY
+-- whether a push with this outcome makes its superblock EMPTY
 abbrev pub makes_empty : Outcome → Bool
 makes_empty stays = false
 makes_empty unfills = false
@@ -42,11 +39,11 @@ state-after stays i a stood = stood
 state-after unfills i a stood = refl
 state-after empties i a stood = refl
 
--- a bound superblock isn't away
+-- a descriptor that is bound isn't away
 bound-out : (b : Bool) (c : Bool) → IsTrue (b && not c) → b ≡ true
 bound-out b c is = grind (arith, is)
 
--- where a push makes it EMPTY, nothing of it is reserved, it doesn't wait, and no other block of it is live
+-- a superblock that a push makes EMPTY: nothing of it is reserved, it doesn't wait, and no block but the freed one is live
 pub record IsFreeBut (b : Superblock) (i : ℕ) : Type 0 where
   pub reserved : b.reserved ≡ 0
   pub waiting : b.waiting ≡ 0
@@ -56,19 +53,19 @@ module _
     {g : Geometry} {s : State} {l : Lists} {caller : ℕ} {at : Site} {i : ℕ} {stored : Bool} {a : AnchorFields} {out : Outcome} {e : ErrandFields}
     {s' : State} (h : Pushes g s l caller at i stored a out e s') where
   pub pushed-holds : HoldingEffects g s caller (pushing at i (if_stored stored at.desc)) (pushed_holds out at stored) e s'
-  pushed-holds = record { in_heap = h.in_heap; moves = h.moves; retired = h.retired; before = h.holds_before; after = h.holds_after }
+  pushed-holds = record { in_heap = h.in_heap; moves = h.moves; retired = h.own.retired; before = h.holds_before; after = h.holds_after }
 
   pub pushed-write : AnchorEffects s at.desc s'
   pushed-write = record { elsewhere = h.elsewhere }
 
-  -- the words of all descriptors stay, and all other descriptors' anchors
+  -- the info words of all descriptors stay at a won push, and all other descriptors' anchors
   pub pushed-info : (d : ℕ) → info_for s' d ≡ info_for s d
   pushed-info = info-stays (anchor-still pushed-write)
 
   pub pushed-anchor : (d : ℕ) → d ≢ at.desc → anchor_for s' d ≡ anchor_for s d
   pushed-anchor = anchors-stay pushed-write
 
-  -- nothing waits or is on its way that wasn't, and nothing else is reserved
+  -- nothing waits or is on its way after a won push that wasn't, and nothing else is reserved
   pub pushed-waits : (d : ℕ) → waiting_of g s' d ≡ waiting_of g s d
   pushed-waits d = omega (arith, waits-go pushed-holds d, pushed-keeps-partly waiting d out at stored refl)
 
@@ -78,7 +75,7 @@ module _
   pub pushed-away : (d : ℕ) → away_of g s' l d ≡ away_of g s l d
   pushed-away d = omega (arith, away-goes pushed-holds l d, pushed-keeps-partly on_its_way d out at stored refl)
 
-  -- words that weigh nothing at an anchor weigh the same
+  -- words that weigh nothing at an anchor weigh the same after a won push
   pub pushed-words :
       (weight : WordName → ℕ → ℕ) → ((w : ℕ) → weight (name.Anchor at.desc) w ≡ 0) → words_sum g weight s'.word ≡ words_sum g weight s.word
   pushed-words = weights-stay pushed-write g
@@ -95,7 +92,7 @@ module _
       ap (λ x. is_empty x.state) h.after
       ∙ state-after out i a (sym (ap (λ x. is_empty x.state) h.before) ∙ pushed-stood)
 
-  -- all others stay bound, and this one where it isn't made EMPTY
+  -- a won push leaves all other superblocks bound or not, and its own bound where that isn't made EMPTY
   pub pushed-bound : (d : ℕ) → d ≢ at.desc → is_bound g s' l d ≡ is_bound g s l d
   pushed-bound d ne =
       rw (pushed-away d, pushed-anchor d ne) refl
@@ -105,13 +102,13 @@ module _
       let was : (away_of g s l at.desc == 0) ≡ true = bound-out (away_of g s l at.desc == 0) (is_empty (anchor_for s at.desc).state) h.bound in
       rw (pushed-away at.desc, pushed-empty, was) refl
 
-  -- what is bound after a push was so before, and wasn't made EMPTY
+  -- a descriptor that is bound after a won push was so before, and its superblock wasn't made EMPTY
   pub was-bound : (d : ℕ) → IsTrue (is_bound g s' l d) → IsTrue (is_bound g s l d)
   was-bound =
       of-each (λ k. IsTrue (is_bound g s' l k) → IsTrue (is_bound g s l k)) at.desc (λ is. h.bound)
       (λ d ne. subst IsTrue (pushed-bound d ne))
 
-  -- the freed block is gone, and all other places are as they were
+  -- the freed block is gone after the push, and all other places are as they were
   pub pushed-gone : IsSoundWithoutCounts g s → block_at (pushed_place at i) (pool_of s'.history) ≡ None
   pushed-gone sound =
       ap (λ past. block_at (pushed_place at i) (pool_of past)) h.history
@@ -125,7 +122,7 @@ module _
       ∙ ap (block_at p) (pool_of-push s.history (Free caller (pushed_place at i)))
       ∙ block_at-without_other (pushed_place at i) p (pool_of s.history) ne
 
-  -- a block that its caller owns is live
+  -- a block that its caller pushes is live before, as one that it owns
   pub pushed-live : (superblock_of g s at.desc).live i ≡ 1
   pushed-live = located-live g s at.desc at.frame at.seat.class h.located i ∙ ap is_there h.owned.block.1
 

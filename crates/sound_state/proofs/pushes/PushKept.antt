@@ -2,16 +2,15 @@
 use Rattle.std.proofs.Common.{ℕ, Bool, ◌≡◌, ◌≢◌, ◌+◌, [], refl, arith, ap, sym, subst, inl, inr, ◌∙◌, ◌==◌, All, if◌then◌else◌}
 use Rattle.std.proofs.lemmas.List.Elements.{All-nil, All-cons}
 use Rattle.sound_state.proofs.Common.{Geometry, AnchorFields, Site, ErrandFields, State, Kept, partly_used, IsKept, IsPartlyUsed, IsKeptAs, full_keeps, Lists}
-use Rattle.sound_state.proofs.Common.{IsSoundWith, stock_among, anchor_for}
+use Rattle.sound_state.proofs.Common.{IsSoundWith, stock_among, anchor_for, block_count_of-least, IsStocked}
 use Rattle.packed_words.specs.declared.anchor.AnchorState.{AnchorState as Phase}
 use Rattle.packed_words.specs.declared.anchor.AnchorState.TheVariants as phase
-use Rattle.word_table.proofs.SeatLemmas.{block_count_of-least}
-use Rattle.sound_state.specs.Stock.{IsStocked}
 use Rattle.sound_state.proofs.shared.ActiveReserves.{active-reserves}
-use Rattle.sound_state.proofs.shared.KeptLemmas.{StaysKept, MovesAt, moved-kept, moved-stocked, state-goes}
+use Rattle.sound_state.proofs.shared.KeptLemmas.{MovesAt, moved-kept, moved-stocked}
 use Rattle.sound_state.proofs.shared.PointLemmas.{kept_places}
 use Rattle.sound_state.proofs.pushes.PushEffects.{Outcome, stays, unfills, empties, IsOutcome, Pushes, pushed_anchor, pushed_holds}
 use Rattle.sound_state.proofs.pushes.PushFacts.{pushed-info, pushed-bare}
+use Rattle.sound_state.proofs.shared.SuperblocksStay.{StaysKept, state-goes}
 
 -- a superblock that a push makes EMPTY was partial
 pub emptied-inactive :
@@ -28,7 +27,7 @@ emptied-unfull g s l caller at i stored a e s' h old full =
     let bad : ⊥ =
     omega (arith, count, ap (λ x. x.count) h.before, h.goes.0, block_count_of-least at.seat.class h.site.seat.class) in bad
 
--- a superblock is after the push where it belongs
+-- the superblock of a won push is after it in the state that belongs to its place
 here-goes :
     (g : Geometry) (s : State) (l : Lists) (caller : ℕ) (at : Site) (i : ℕ) (stored : Bool) (a : AnchorFields) (out : Outcome) (e : ErrandFields)
     (s' : State) → Pushes g s l caller at i stored a out e s' → IsSoundWith g s l → StaysKept s s' at.desc
@@ -68,7 +67,7 @@ here-goes g s l caller at i stored a empties e s' h old =
       full = λ is. let bad : phase.Empty ≡ phase.Full = sym now ∙ is in cc;
     }
 
--- in as many places, and out for a class, with what is FULL
+-- a push leaves what the caller keeps, with what is FULL, in as many places, and out for as many classes
 unfull-none : (p : Phase) → p ≢ phase.Full → full_keeps p ≡ 0
 unfull-none phase.Active ne = refl
 unfull-none phase.Full ne = absurd (ne refl)
@@ -101,7 +100,7 @@ bare-full g s l caller at i stored a unfills e s' h old is = absurd (cc)
 bare-full g s l caller at i stored a empties e s' h old is =
     ap (λ x. full_keeps x.state) (sym h.before) ∙ unfull-none (anchor_for s at.desc).state (emptied-unfull g s l caller at i stored a e s' h old)
 
--- what the caller keeps after the push is partly used
+-- what the caller keeps after its push is partly used
 holds-kept :
     (s : State) (out : Outcome) (at : Site) (stored : Bool) → (out ≡ unfills → IsPartlyUsed s at.desc at.seat.class)
     → All (λ k. IsKeptAs s k.status k.desc k.class) (pushed_holds out at stored).kept
@@ -124,7 +123,7 @@ now-partly g s l caller at i stored a unfills e s' h is = record {
 module _
     {g : Geometry} {s : State} {l : Lists} {caller : ℕ} {at : Site} {i : ℕ} {stored : Bool} {a : AnchorFields} {out : Outcome} {e : ErrandFields}
     {s' : State} (h : Pushes g s l caller at i stored a out e s') where
-  -- each descriptor still stands in one place, and as many are out for each class
+  -- each descriptor still stands in one place after a won push, and as many are out for each class
   pushes-move : IsSoundWith g s l → MovesAt g s l caller at.desc at.seat.class a (pushed_anchor out i a) e s'
   pushes-move old =
       let bare = bare-full g s l caller at i stored a out e s' h old in
@@ -136,11 +135,11 @@ module _
         before = h.before;
         after = h.after;
         elsewhere = h.elsewhere;
-        retired = h.retired;
+        retired = h.own.retired;
         places = λ d. rw (h.holds_before, h.holds_after) (omega (arith, pushed-kept-weighs out at i stored a d h.goes bare));
         stock = λ class.
             rw (h.holds_before, h.holds_after)
-            (omega (arith, pushed-stock-weighs out at i stored a class h.goes bare, h.stands_before.waits class, h.stands_after.waits class));
+            (omega (arith, pushed-stock-weighs out at i stored a class h.goes bare, h.stands_before.quiet.waits class, h.stands_after.quiet.waits class));
         goes = inl (here-goes g s l caller at i stored a out e s' h old);
         own =
             subst (λ x. All (λ k. IsKeptAs s' k.status k.desc k.class) x.kept) (sym h.holds_after)

@@ -1,29 +1,27 @@
 -- A won push keeps what the callers remember.
-use Rattle.std.proofs.Common.{ℕ, Bool, true, false, ◌≡◌, ◌≢◌, ◌<◌, ◌≤◌, [], ◌∷◌, arith, ap, sym, subst, inl, inr, ◌∙◌, not, IsTrue}
-use Rattle.std.specs.List.{All}
+use Rattle.std.proofs.Common.{ℕ, Bool, true, false, ◌≡◌, ◌≢◌, ◌<◌, ◌≤◌, [], ◌∷◌, arith, ap, sym, subst, inl, inr, ◌∙◌, not, IsTrue, All}
 use Rattle.std.proofs.lemmas.Bool.{cases_eq, cases_Bool}
 use Rattle.std.proofs.lemmas.List.Elements.{All-nil, All-cons}
 use Rattle.sound_state.proofs.Common.{Geometry, block_count_of, block_place, AnchorFields, Site, occurs, is_empty, own, ErrandFields, State, on_its_way, holds_of}
-use Rattle.sound_state.proofs.Common.{Lists, Recall, IsLocated, IsSo, bound_for, bound_at, pops, links, says, emptied, IsSoundWith, sum_below, callers_sum}
-use Rattle.sound_state.proofs.Common.{anchor_for, superblock_of, free_chain, reserved_among, errand_reserves, errand_away, is_bound, away_of, errand_keeps, live_at}
-use Rattle.sound_state.proofs.Common.{is_there}
+use Rattle.sound_state.proofs.Common.{Lists, IsLocated, IsSo, IsSoundWith, sum_below, callers_sum, anchor_for, superblock_of, free_chain, reserved_among}
+use Rattle.sound_state.proofs.Common.{errand_reserves, errand_away, is_bound, away_of, errand_keeps, live_at, is_there, occurs-more, IsEmptied, IsRemembered}
 use Rattle.heap_geometry.specs.declared.need.Need.TheVariants as need
-use Rattle.superblock_parts.proofs.ChainLemmas.{occurs-more}
 use Rattle.pool_model.specs.declared.event.Event.TheVariants.{Free}
-use Rattle.sound_state.specs.Recalls.{IsPopped, IsEmptied, IsRemembered}
 use Rattle.sound_state.proofs.shared.EventFacts.{told-own}
 use Rattle.sound_state.proofs.shared.HasLemmas.{bound-away}
-use Rattle.sound_state.proofs.shared.RecallEffects.{IsSteadyWord, AreSteady, Leaves, IsLeft, popped-steady, remembered-left}
-use Rattle.sound_state.proofs.shared.RecallTables.{InstallsNone, IsBacked, IsUnbound, OwnsNone, backed-recalls, unbound-recalls}
+use Rattle.sound_state.proofs.shared.RecallEffects.{IsSteadyWord, AreSteady, Leaves, IsLeft, chain-gains, chain-steady, remembered-left}
+use Rattle.sound_state.proofs.shared.RecallFrame.{ChainStays, Part, bindings, chains, single}
+use Rattle.sound_state.proofs.shared.RecallTables.{InstallsNone, IsSpared, IsUnbound, OwnsNone, spared-point, unbound-recalls}
 use Rattle.sound_state.proofs.pushes.PushChains.{pushed-chain, was-place}
 use Rattle.sound_state.proofs.pushes.PushEffects.{Outcome, stays, unfills, empties, Pushes, pushed_recalls, pushed_place}
-use Rattle.sound_state.proofs.pushes.PushFacts.{pushed-anchor, pushed-bound, pushed-bound-here, pushed-stood, pushed-ways, pushed-reserved, pushed-live, pushed-bare, makes_empty}
+use Rattle.sound_state.proofs.pushes.PushFacts.{pushed-anchor, pushed-bound, pushed-bound-here, pushed-stood, pushed-ways, pushed-reserved, pushed-live, pushed-bare}
+use Rattle.sound_state.proofs.pushes.PushFacts.{makes_empty}
 use Rattle.sound_state.proofs.pushes.PushTies.{pushed-still-owned, owned-elsewhere}
 use Rattle.sound_state.proofs.pushes.PushTurns.{pushed-tag}
 use Rattle.sound_state.proofs.shared.SumLemmas.{sum-least, term-sum}
 use Rattle.sound_state.proofs.shared.WaitsAlone.{waits-alone}
 
--- where a push makes it EMPTY, no other caller has a block of it reserved, nor owns one
+-- no other caller has a block of a superblock reserved that a push makes EMPTY, nor owns one
 none-reserved :
     (g : Geometry) (s : State) (l : Lists) (caller : ℕ) (at : Site) (i : ℕ) (stored : Bool) (a : AnchorFields) (out : Outcome) (e : ErrandFields)
     (s' : State) → Pushes g s l caller at i stored a out e s' → IsSoundWith g s l → (j : ℕ) → j < g.callers → makes_empty out ≡ true
@@ -57,7 +55,7 @@ none-owned g s l caller at i stored a empties e s' h old j ne is site k fits own
     let none = (pushed-bare g s l caller at i stored a e s' h old).others k (subst (λ c. k < block_count_of c) (sym its.class) fits.index) apart in
     let bad : ⊥ = omega (arith, there, none) in bad
 
--- the caller remembers that the superblock is EMPTY
+-- what the caller remembers after its push is so: the superblock that it made EMPTY is
 own-recalls :
     (g : Geometry) (s : State) (l : Lists) (caller : ℕ) (at : Site) (i : ℕ) (stored : Bool) (a : AnchorFields) (out : Outcome) (e : ErrandFields)
     (s' : State) → Pushes g s l caller at i stored a out e s' → All (IsSo g s' l caller) (pushed_recalls out at)
@@ -73,9 +71,9 @@ own-recalls g s l caller at i stored a empties e s' h =
       unavailable = omega (arith, none);
       standing = omega (arith, pushed-ways h at.desc, none, least);
     } in
-    All-cons (IsSo g s' l caller) (emptied at.desc) [] is (All-nil (IsSo g s' l caller))
+    All-cons (IsSo g s' l caller) _ [] is (All-nil (IsSo g s' l caller))
 
--- a push that was won
+-- a push that was won, seen by the callers that remember
 module _
     {g : Geometry} {s : State} {l : Lists} {caller : ℕ} {at : Site} {i : ℕ} {stored : Bool} {a : AnchorFields} {out : Outcome} {e : ErrandFields}
     {s' : State} (h : Pushes g s l caller at i stored a out e s') where
@@ -89,7 +87,7 @@ module _
       let live : b.live i ≤ sum_below b.size b.live = term-sum b.size b.live i (omega (arith, h.index, size)) in
       omega (arith, none, live, pushed-live h)
 
-  -- what is bound stays so, but where it is made EMPTY
+  -- a descriptor that is bound stays so at a won push, but where its superblock is made EMPTY
   bound-goes : (d : ℕ) → (makes_empty out ≡ true → d ≢ at.desc) → IsTrue (is_bound g s l d) → IsTrue (is_bound g s' l d)
   bound-goes d left was =
       elim (cases_eq d at.desc) [
@@ -102,15 +100,13 @@ module _
         | inr ne ↦ subst IsTrue (sym (pushed-bound h d ne)) was
       ]
 
-  -- the words of stacks, of descriptors and of the arena stay
+  -- the words of stacks, of descriptors and of the arena stay at a won push
   pushed-words-steady : AreSteady s s'
   pushed-words-steady n is = h.elsewhere n (λ same. subst IsSteadyWord same is)
 
-  -- a block that was on the chain is on it still
-  pops-goes :
-      (d : ℕ) (b : AnchorFields) → (makes_empty out ≡ true → d ≢ at.desc) → IsPopped (superblock_of g s d) b → IsPopped (superblock_of g s' d) b
-  pops-goes d b left so =
-      let tag = pushed-tag h d in
+  -- a remembered pop stays so at a won push: a block that was on the chain is on it still
+  chain-goes : (d : ℕ) → (makes_empty out ≡ true → d ≢ at.desc) → ChainStays g s s' d
+  chain-goes d left =
       elim (cases_eq d at.desc) [
         | inl same ↦
             elim (cases_Bool (makes_empty out)) [
@@ -119,19 +115,14 @@ module _
                   let chain : free_chain (superblock_of g s' d) ≡ i ∷ free_chain (superblock_of g s d) =
                   subst (λ k. free_chain (superblock_of g s' k) ≡ i ∷ free_chain (superblock_of g s k)) (sym same)
                   (pushed-chain h stands) in
-                  record {
-                    tag = omega (arith, so.tag, tag);
-                    first = λ is.
-                        subst (λ xs. 0 < occurs b.avail xs) (sym chain)
-                        (omega (arith, so.first (is ∙ tag), occurs-more b.avail i (free_chain (superblock_of g s d))));
-                  }
+                  chain-gains g s l s' pushed-words-steady d (pushed-tag h d)
+                  (λ k on.
+                  subst (λ xs. 0 < occurs k xs) (sym chain) (omega (arith, on, occurs-more k i (free_chain (superblock_of g s d)))))
             ]
-        | inr ne ↦
-            popped-steady g s l s' pushed-words-steady d b (pushed-anchor h d ne)
-            (pushed-reserved h d) so
+        | inr ne ↦ chain-steady g s l s' pushed-words-steady d (pushed-anchor h d ne) (pushed-reserved h d)
       ]
 
-  -- so a push leaves what the others remember
+  -- a push leaves what the others remember
   pushed-leaves : (j : ℕ) → j ≢ caller → Leaves g s l s' j
   pushed-leaves j ne = record {
     steady = pushed-words-steady;
@@ -146,13 +137,11 @@ module _
     ways = λ d so. pushed-ways h d;
   }
 
-  pushed-left : (r : Recall) → IsBacked g s l at.desc r → (makes_empty out ≡ true → IsUnbound at.desc r) → IsLeft g s l s' r
-  pushed-left (bound_for d c) backed apart = bound-goes d apart
-  pushed-left (bound_at d f c) backed apart = bound-goes d apart
-  pushed-left (pops d b) backed apart = pops-goes d b apart
-  pushed-left (links d b prefix) backed apart = λ is. is ∙ pushed-tag h d
-  pushed-left (says n w) backed apart = h.elsewhere n backed
-  pushed-left r backed apart = tt
+  pushed-left : (p : Part) → IsSpared at.desc p → (makes_empty out ≡ true → IsUnbound at.desc p) → IsLeft g s l s' p
+  pushed-left (bindings d) spared apart = bound-goes d apart
+  pushed-left (chains d) spared apart = λ here. chain-goes d apart
+  pushed-left (single n) spared apart = λ said. h.elsewhere n spared
+  pushed-left p spared apart = tt
 
   pub pushed-remembered : IsSoundWith g s l → IsRemembered g s' l
   pushed-remembered old =
@@ -160,8 +149,7 @@ module _
       (subst (All (IsSo g s' l caller)) (sym h.recalls_after) (own-recalls g s l caller at i stored a out e s' h))
       (λ j has ne. pushed-leaves j ne)
       (λ j has ne k d lt.
-      pushed-left _
-      (backed-recalls g s l j at.desc old has (pushed-installed old j has) k d lt)
+      pushed-left _ (spared-point at.desc (s.errand j).point (pushed-installed old j has) k d lt)
       (λ is.
       unbound-recalls g s l j at.desc (none-owned g s l caller at i stored a out e s' h old j ne is) old has
-      (none-reserved g s l caller at i stored a out e s' h old j has is) k d lt)) old.remembered
+      (none-reserved g s l caller at i stored a out e s' h old j has is) k d lt)) old

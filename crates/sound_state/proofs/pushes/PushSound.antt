@@ -1,8 +1,8 @@
 -- A won push keeps the state sound.
-use Rattle.std.proofs.Common.{ℕ, Bool, ◌≡◌, ◌<◌, inl, inr}
+use Rattle.std.proofs.Common.{ℕ, Bool, ◌≡◌, inl, inr}
 use Rattle.std.proofs.lemmas.Bool.{cases_eq}
-use Rattle.sound_state.proofs.Common.{Geometry, AnchorFields, anchor_word, Site, Continuation, Block, ErrandFields, State, Step, Lists, IsSoundWithoutCounts}
-use Rattle.sound_state.proofs.Common.{IsSoundWith, IsOwnErrand}
+use Rattle.sound_state.proofs.Common.{Geometry, AnchorFields, anchor_word, Site, Continuation, Block, ErrandFields, State, Lists, IsSoundWithoutCounts, IsSoundWith}
+use Rattle.sound_state.proofs.Common.{IsOwnErrand}
 use Rattle.word_table.specs.declared.name.WordName.TheVariants as name
 use Rattle.superblock_parts.specs.declared.point.BlockPoint.TheVariants as block
 use Rattle.sound_state.proofs.pushes.PushChains.{pushed-chained, pushed-framed}
@@ -13,17 +13,17 @@ use Rattle.sound_state.proofs.pushes.PushSteps.{push-pushes}
 use Rattle.sound_state.proofs.pushes.PushTies.{pushed-tied, pushed-legal}
 use Rattle.sound_state.proofs.pushes.PushTurns.{pushed-listed, pushed-guarded, pushed-turned}
 use Rattle.sound_state.proofs.quiet.QuietExchanges.{push_block-lost}
-use Rattle.sound_state.proofs.shared.ShownLemmas.{each-caller}
 use Rattle.sound_state.proofs.shared.KeepsSound.{KeepsSound, KeepsSoundWhere}
+use Rattle.sound_state.proofs.shared.CallerLemmas.{each-caller}
 
 module _
     {g : Geometry} {s : State} {l : Lists} {caller : ℕ} {at : Site} {i : ℕ} {stored : Bool} {a : AnchorFields} {out : Outcome} {e : ErrandFields}
     {s' : State} (h : Pushes g s l caller at i stored a out e s') where
-  -- what a push changes leaves the state sound
+  -- the state after a won push is sound
   pub pushed-with : IsSoundWithoutCounts g s → IsSoundWith g s l → IsSoundWith g s' l
   pushed-with sound old = record {
     words = h.below;
-    errands = each-caller g (λ j e. IsOwnErrand g j e) s.errand caller e s'.errand h.moves h.rule old.errands;
+    errands = each-caller g (λ j e. IsOwnErrand g j e) s.errand caller e s'.errand h.moves h.own.rule old.errands;
     listed = pushed-listed h old;
     kept = pushed-kept h old;
     chained = pushed-chained h sound old;

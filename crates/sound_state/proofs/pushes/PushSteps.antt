@@ -1,21 +1,17 @@
 -- The step of a won push, and what it changes.
-use Rattle.std.proofs.Common.{ℕ, Bool, true, false, ◌≡◌, ◌≢◌, ◌<◌, ◌≤◌, ◌+◌, ◌^◌, [], refl, arith, ap, sym, subst, inl, inr, ◌∙◌, ◌==◌, IsTrue, if◌then◌else◌}
-use Rattle.std.proofs.lemmas.Bool.{cases_eq, eq-eqb, ne_eqb}
-use Rattle.std.proofs.lemmas.List.Elements.{All-head, All-tail}
-use Rattle.std.proofs.Math.Nat.{mod-eq_of_lt}
-use Rattle.sound_state.proofs.Common.{Geometry, block_count_of, AnchorFields, anchor_of, anchor_word, link_of, is_empty, Site, prefix_name, link_in, Frames}
-use Rattle.sound_state.proofs.Common.{Continuation, Point, Idle, Block, Stack, Desc, Partial, ErrandFields, event_of, next_of, plan_point_of, State, Step, holds_of}
-use Rattle.sound_state.proofs.Common.{Lists, IsSo, IsOwned, bound_here, bound_at, says, recalls_of, IsSoundWith, IsChained, anchor_for, away_of, info_for}
-use Rattle.sound_state.proofs.Common.{superblock_of}
+use Rattle.std.proofs.Common.{ℕ, Bool, true, false, ◌≡◌, ◌≢◌, ◌<◌, ◌≤◌, ◌+◌, ◌^◌, [], refl, arith, ap, sym, subst, inl, inr, ◌∙◌, ◌==◌, IsTrue, if◌then◌else◌, eq-eqb}
+use Rattle.std.proofs.Common.{ne_eqb, mod-eq_of_lt}
+use Rattle.std.proofs.lemmas.Bool.{cases_eq}
+use Rattle.std.proofs.lemmas.List.Elements.{All-head}
+use Rattle.sound_state.proofs.Common.{Geometry, block_count_of, AnchorFields, anchor_of, anchor_word, link_of, is_empty, Site, link_in, Frames, Continuation, Point}
+use Rattle.sound_state.proofs.Common.{Idle, Block, Stack, Desc, Partial, ErrandFields, event_of, next_of, plan_point_of, State, Step, holds_of, Lists, IsOwned}
+use Rattle.sound_state.proofs.Common.{recalls_of, IsSoundWith, IsChained, anchor_for, away_of, info_for, superblock_of, IsAnchor, AVAIL_BITS, COUNT_BITS}
+use Rattle.sound_state.proofs.Common.{anchor_of-anchor_word, block_count_of-most, is_last, Cas}
 use Rattle.heap_geometry.specs.declared.need.Need.TheVariants as need
-use Rattle.packed_words.specs.Anchor.{IsAnchor}
 use Rattle.packed_words.specs.declared.anchor.AnchorState.{AnchorState as Phase}
 use Rattle.packed_words.specs.declared.anchor.AnchorState.TheVariants as phase
-use Rattle.packed_words.specs.declared.widths.TheConstants.{AVAIL_BITS, COUNT_BITS}
-use Rattle.packed_words.proofs.AnchorLemmas.{anchor_of-anchor_word}
 use Rattle.word_table.specs.declared.name.WordName.TheVariants as name
-use Rattle.word_table.proofs.SeatLemmas.{block_count_of-most}
-use Rattle.superblock_parts.specs.Anchors.{pushed, is_last}
+use Rattle.superblock_parts.specs.Anchors.{pushed}
 use Rattle.superblock_parts.specs.Points as points
 use Rattle.superblock_parts.specs.declared.exit.BlockExit.TheVariants as block_exit
 use Rattle.superblock_parts.specs.declared.point.BlockPoint.TheVariants as block
@@ -25,15 +21,15 @@ use Rattle.partial_parts.specs.declared.point.PartialPoint.TheVariants as partia
 use Rattle.errand_steps.specs.declared.continuation.Continuation.TheVariants as continuation
 use Rattle.errand_steps.specs.declared.reply.Reply.TheVariants as reply
 use Rattle.errand_steps.specs.Nexts.{leave_block}
-use Rattle.word_table.specs.declared.action.Action.TheVariants.{Cas}
 use Rattle.sound_state.proofs.shared.HasLemmas.{bound-stands}
-use Rattle.sound_state.proofs.shared.PointLemmas.{fits-at, so-at, frees-at, the-free}
-use Rattle.sound_state.proofs.pushes.PushEffects.{Outcome, stays, unfills, empties, IsOutcome, Pushes, FreeStands, pushed_anchor, pushed_holds, pushed_recalls, pushed_place}
+use Rattle.sound_state.proofs.shared.PointLemmas.{fits-at, frees-at, the-free, recalled-at}
+use Rattle.sound_state.proofs.pushes.PushEffects.{Outcome, stays, unfills, empties, IsOutcome, Pushes, FreeStands, pushed_anchor, pushed_holds, pushed_recalls}
+use Rattle.sound_state.proofs.pushes.PushEffects.{pushed_place}
 use Rattle.sound_state.proofs.shared.StepLemmas.{at_point}
 use Rattle.sound_state.proofs.shared.CreditLemmas.{won_with}
 use Rattle.sound_state.proofs.shared.WonEffects.{LeadsTo, AnchorWon, anchor-won}
 
--- where a push leads
+-- the point to which a won push leads
 abbrev ended : Bool → Site → Point
 ended stored at = if stored then Desc (desc.ClearHazard at.seat) continuation.EndFree else Idle
 
@@ -47,7 +43,7 @@ record LeadsByOutcome (at : Site) (i : ℕ) (a : AnchorFields) (stored : Bool) (
   next : LeadsTo (leave_block (points.after_push at a stored heap) continuation.Free) (pushed_point out at stored heap)
   anchor : pushed at.seat.class i a ≡ pushed_anchor out i a
 
--- a block's number has room
+-- an anchor has room for the number of a block
 avail-room : (class : ℕ) → block_count_of class ≤ 2 ^ AVAIL_BITS
 avail-room class = omega (arith, block_count_of-most class)
 
@@ -120,7 +116,7 @@ push-stands :
     (at : Site) (i : ℕ) (a : AnchorFields) (stored : Bool) (heap : ℕ) (o : Continuation) → FreeStands (Block (block.PushBlock at i a stored heap) o)
 push-stands at i a stored heap o = grind (arith)
 
--- the anchor after it fits its word
+-- the anchor after a push fits its word
 pushed-fits :
     (out : Outcome) (class i : ℕ) (stored : Bool) (a : AnchorFields) → IsAnchor a → i < 2 ^ AVAIL_BITS → IsOutcome out class stored a
     → IsAnchor (pushed_anchor out i a)
@@ -128,11 +124,11 @@ pushed-fits stays class i stored a fits avail is = record { avail = avail; count
 pushed-fits unfills class i stored a fits avail is = record { avail = avail; count = omega (arith, is.0, avail-room class); tag = fits.tag }
 pushed-fits empties class i stored a fits avail is = record { avail = avail; count = fits.count; tag = fits.tag }
 
--- a link's word is the link
+-- the link that a small word says is the word
 small-link : (w : ℕ) → w < 2 ^ AVAIL_BITS → link_of w ≡ w
 small-link w lt = omega (arith, lt)
 
--- a push, and where it leads
+-- some outcome and errand with which a push is won
 abbrev pub PushesOut : Geometry → State → Lists → ℕ → Site → ℕ → Bool → AnchorFields → State → Type 0
 PushesOut g s l caller at i stored a s' = (out : Outcome) × (e : ErrandFields) × Pushes g s l caller at i stored a out e s'
 
@@ -145,11 +141,7 @@ unfolding event_of next_of plan_point_of holds_of recalls_of
 push-pushes g s l caller s' at i a stored heap o is has here word step =
     let p : Point = Block (block.PushBlock at i a stored heap) o in
     let fit = fits-at g s l caller p is has here in
-    let so = so-at g s l caller p is has here in
-    let so_link = All-head (IsSo g s l caller) (says (prefix_name at.frame at.seat.class i) a.avail) (bound_here at) so in
-    let so_bound =
-    All-head (IsSo g s l caller) (bound_at at.desc at.frame at.seat.class) []
-    (All-tail (IsSo g s l caller) (says (prefix_name at.frame at.seat.class i) a.avail) (bound_here at) so) in
+    let (so_link, (so_bound, none)) = recalled-at g s l caller p is has here in
     let frees = frees-at g s l caller p is has here in
     let before : anchor_for s at.desc ≡ a = ap anchor_of word ∙ anchor_of-anchor_word a fit.point.anchor.fits in
     let avail : i < 2 ^ AVAIL_BITS = omega (arith, fit.point.block.index, avail-room at.seat.class) in
@@ -192,11 +184,7 @@ push-pushes g s l caller s' at i a stored heap o is has here word step =
         elsewhere = won.elsewhere;
         below = won.below;
         history = won.step.history;
-        rule = won.step.rule;
-        retired = refl;
-        turns = refl;
-        lost = won.step.lost;
-        cleared = won.step.cleared;
+        own = record { rule = won.step.rule; retired = refl; turns = refl; lost = won.step.lost; cleared = won.step.cleared };
         holds_before = ap holds_of here;
         holds_after = pushed-point-holds out at stored heap;
         recalls_after = pushed-point-recalls out at stored heap;

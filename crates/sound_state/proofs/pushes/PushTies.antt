@@ -2,20 +2,16 @@
 use Rattle.std.proofs.Common.{ℕ, Bool, true, ◌≡◌, ◌≢◌, ◌<◌, [], refl, arith, ap, sym, subst, inl, inr, ◌∙◌, Any, IsTrue}
 use Rattle.std.proofs.lemmas.Bool.{cases_eq}
 use Rattle.sound_state.proofs.Common.{Geometry, Need, Small, block_count_of, frame_of, AnchorFields, Site, IsLegalWithoutCounts, ErrandFields, State, Holding, Lists}
-use Rattle.sound_state.proofs.Common.{IsLocated, IsOwned, IsSoundWithoutCounts, IsSoundWith, superblock_of, is_bound, is_there, live_at, IsTied, IsLive}
+use Rattle.sound_state.proofs.Common.{IsLocated, IsOwned, IsSoundWithoutCounts, IsSoundWith, superblock_of, is_bound, is_there, live_at, IsTied, IsLive, Caller}
+use Rattle.sound_state.proofs.Common.{IsLegalEventWithoutCounts, EachAfter-push, Freed}
 use Rattle.word_table.specs.declared.name.WordName.TheVariants as name
 use Rattle.pool_model.specs.declared.event.Event.TheVariants.{Free as Frees}
-use Rattle.pool_model.specs.declared.owner.Owner.TheVariants.{Caller}
-use Rattle.pool_model.specs.Legal.{IsLegalEventWithoutCounts}
 use Rattle.pool_model.specs.Pool.{Block}
-use Rattle.pool_model.proofs.HistoryLemmas.{EachAfter-push}
-use Rattle.sound_state.specs.Holdings.{Freed}
 use Rattle.sound_state.proofs.pushes.PushChains.{was-place}
 use Rattle.sound_state.proofs.pushes.PushEffects.{Outcome, stays, unfills, empties, Pushes, pushed_holds, pushed_place}
 use Rattle.sound_state.proofs.pushes.PushFacts.{pushed-info, pushed-bound, pushed-bound-here, pushed-gone, pushed-there, pushed-bare}
 use Rattle.sound_state.proofs.shared.ListFacts.{any-none, any-one}
-use Rattle.sound_state.proofs.shared.ShownLemmas.{Excepts}
-use Rattle.sound_state.proofs.shared.TieLemmas.{bare-owns, located-stays, not-live, one-live, owned-stays, small-but, small-lies}
+use Rattle.sound_state.proofs.shared.TieLemmas.{bare-owns, located-stays, not-live, one-live, owned-stays, small-but, small-lies, Excepts}
 
 -- no other block of a superblock that a push makes EMPTY is live
 pub no-other-live :
@@ -32,7 +28,7 @@ no-other-live g s l caller at i stored a e s' h sound old place class b live of 
     let none = (pushed-bare g s l caller at i stored a e s' h old).others lies.0 within apart in
     let bad : ⊥ = omega (arith, there, none) in bad
 
--- so the superblock of a live block is bound still
+-- the superblock of a live block is bound after a push
 its-bound :
     (g : Geometry) (s : State) (l : Lists) (caller : ℕ) (at : Site) (i : ℕ) (stored : Bool) (a : AnchorFields) (out : Outcome) (e : ErrandFields)
     (s' : State) → Pushes g s l caller at i stored a out e s' → IsSoundWithoutCounts g s → IsSoundWith g s l → (place class : ℕ) (b : Block) → IsLive s place b
@@ -42,7 +38,7 @@ its-bound g s l caller at i stored a unfills e s' h sound old place class b live
 its-bound g s l caller at i stored a empties e s' h sound old place class b live of located ne =
     absurd (no-other-live g s l caller at i stored a e s' h sound old place class b live of located ne)
 
--- who pushed hands out and frees nothing
+-- a caller hands out and frees nothing after its push
 pushed-hands : (out : Outcome) (at : Site) (stored : Bool) → (pushed_holds out at stored).hands ≡ []
 pushed-hands stays at stored = refl
 pushed-hands unfills at stored = refl
@@ -56,20 +52,20 @@ pushed-frees empties at stored = refl
 module _
     {g : Geometry} {s : State} {l : Lists} {caller : ℕ} {at : Site} {i : ℕ} {stored : Bool} {a : AnchorFields} {out : Outcome} {e : ErrandFields}
     {s' : State} (h : Pushes g s l caller at i stored a out e s') where
-  -- who owns the freed block owns it, so its event is legal
+  -- the event of a won push is legal: its caller owned the freed block
   pub pushed-legal : IsSoundWithoutCounts g s → IsLegalWithoutCounts g s'.history
   pushed-legal sound =
       subst (IsLegalWithoutCounts g) (sym h.history)
       (EachAfter-push (IsLegalEventWithoutCounts g) s.history (Frees caller (pushed_place at i)) sound.legal
       (h.in_heap, (h.owned.block.0, h.owned.block.1, h.owned.block.2)))
 
-  -- the freed block is its caller's, and small
+  -- a live block at the freed place is the caller's, and small
   pub is-freed : (place : ℕ) (b : Block) → IsLive s place b → place ≡ pushed_place at i → (b.owner ≡ Caller caller) × (b.need ≡ Small at.seat.class)
   is-freed place b live same =
       let is = one-live s (pushed_place at i) place h.owned.block.0 b h.owned.block.1 same live in
       (ap (λ (x : Block). x.owner) (sym is) ∙ h.owned.block.2, ap (λ (x : Block). x.need) (sym is) ∙ h.owned.block.3)
 
-  -- another caller's block is elsewhere, and still its own
+  -- another caller's block lies elsewhere than the freed one, and is still its own
   pub owned-elsewhere : (j place : ℕ) (n : Need) → j ≢ caller → IsOwned s j place n → place ≢ pushed_place at i
   owned-elsewhere j place n ne k same =
       let mine = is-freed place k.block.0 k.block.1 same in
@@ -82,7 +78,7 @@ module _
       (λ b live.
       pushed-there h place (owned-elsewhere j place n ne k) ∙ live) k
 
-  -- who pushes hands out nothing, and frees one block: it excepts no other one
+  -- a caller that pushes excepts no block but the freed one
   pushed-excepts : (place : ℕ) → place ≢ pushed_place at i → Excepts (s.errand caller) place → Excepts e place
   pushed-excepts place ne (inl some) =
       absurd (any-none (λ x. x.place ≡ place) (subst (Any (λ x. x.place ≡ place)) (ap (λ (o : Holding). o.hands) h.holds_before) some))
@@ -93,7 +89,7 @@ module _
       (subst (Any (λ (x : Freed). (x.place ≡ place) × IsTrue x.overwritten)) (ap (λ (o : Holding). o.frees) h.holds_before) some) in
       absurd (ne (sym one.0))
 
-  -- the words still show the pool: only the freed block changes
+  -- the words still show the pool after a won push: only the freed block changes
   pub pushed-tied : IsSoundWithoutCounts g s → IsSoundWith g s l → IsTied g s' l
   pushed-tied sound old =
       let gone = λ (place : ℕ) (b : Block) (same : place ≡ pushed_place at i) (live : IsLive s' place b).
@@ -131,7 +127,7 @@ module _
               ];
           located = located-stays s s' d (frame_of place) c (pushed-info h d) its.located;
         };
-        excepts = pushed-excepts;
+        excepts = λ place ne x. inl (pushed-excepts place ne x);
         hands = owns.0;
         frees = owns.1;
       }) old.tied

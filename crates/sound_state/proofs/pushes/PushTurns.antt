@@ -1,10 +1,9 @@
 -- A won push keeps the lists, the guards, and the bounds of tags and turns.
 use Rattle.std.proofs.Common.{ℕ, Bool, true, false, ◌≡◌, ◌<◌, ◌≤◌, ◌+◌, refl, arith, ap, sym, subst, inl, inr, ◌∙◌, ◌&&◌, ◌==◌}
 use Rattle.std.proofs.lemmas.Bool.{cases_eq}
-use Rattle.sound_state.proofs.Common.{Geometry, frame_of, frame_of-block_place, AnchorFields, is_empty, Site, descriptor_count, ErrandFields, State, IsGuarded}
-use Rattle.sound_state.proofs.Common.{IsGuard, IsHazard, holds_of, Lists, IsListed, IsSoundWith, sum_below, anchor_for, away_of, IsTurned, emptied_out}
+use Rattle.sound_state.proofs.Common.{Geometry, frame_of, frame_of-block_place, AnchorFields, is_empty, Site, descriptor_count, ErrandFields, State, IsGuarded, IsGuard}
+use Rattle.sound_state.proofs.Common.{IsHazard, holds_of, Lists, IsListed, IsSoundWith, sum_below, anchor_for, away_of, IsTurned, emptied_out, if_stored}
 use Rattle.word_table.specs.declared.name.WordName.TheVariants as name
-use Rattle.sound_state.specs.Holdings.{if_stored}
 use Rattle.sound_state.proofs.pushes.PushEffects.{Outcome, stays, unfills, empties, IsOutcome, Pushes, pushed_anchor, pushed_holds, pushed_place}
 use Rattle.sound_state.proofs.pushes.PushFacts.{pushed-anchor, pushed-away}
 use Rattle.sound_state.proofs.shared.GuardEffects.{guarded-after}
@@ -12,7 +11,7 @@ use Rattle.sound_state.proofs.shared.ListEffects.{IsListWord, listed-kept}
 use Rattle.sound_state.proofs.shared.SumLemmas.{sum-change}
 use Rattle.sound_state.proofs.shared.TurnEffects.{small-free-event, head-tag, no-turn-weighs, one_if-most, turned-after}
 
--- the hazard word is as it was, and guards what it did
+-- the caller's hazard word is as it was after its push, and guards what it did
 hazard-goes :
     (out : Outcome) (at : Site) (stored : Bool) (a : AnchorFields) (w : ℕ) → IsOutcome out at.seat.class stored a
     → IsHazard (if_stored stored at.desc) w → IsHazard (pushed_holds out at stored).hazard w
@@ -56,14 +55,14 @@ module _
         hazard = λ w was.
             subst (λ x. IsHazard x w) (sym is_after) (hazard-goes out at stored a w h.goes (subst (λ x. IsHazard x w) is_before was));
         guard = λ guard. subst IsGuard (sym is_before) (guard-goes out at stored a h.goes (subst IsGuard is_after guard));
-        pushed = h.stands_after.pushed;
-        passed = h.stands_after.passed;
-        unread = h.stands_after.unread;
-        spare = h.stands_after.spare;
+        pushed = h.stands_after.quiet.pushed;
+        passed = h.stands_after.quiet.passed;
+        unread = h.stands_after.quiet.unread;
+        spare = h.stands_after.quiet.spare;
       })
       old.guarded
 
-  -- the tags of the anchors stay
+  -- the tags of anchors stay at a won push
   pub pushed-tag : (d : ℕ) → (anchor_for s' d).tag ≡ (anchor_for s d).tag
   pushed-tag d =
       elim (cases_eq d at.desc) [
@@ -73,7 +72,7 @@ module _
         | inr ne ↦ ap (λ x. x.tag) (pushed-anchor h d ne)
       ]
 
-  -- at most one superblock more is EMPTY
+  -- at most one superblock more is EMPTY after a won push
   pushed-emptied : sum_below (descriptor_count g) (emptied_out g s' l) ≤ sum_below (descriptor_count g) (emptied_out g s l) + 1
   pushed-emptied =
       let changed =
@@ -94,14 +93,14 @@ module _
         in_heap = h.in_heap;
         moves = h.moves;
         events = events;
-        own_turns = omega (arith, turned.own_turns caller h.in_heap, events.gives, after.under_way, h.turns);
+        own_turns = omega (arith, turned.own_turns caller h.in_heap, events.gives, after.under_way, h.own.turns);
         own_lost =
-            omega (arith, turned.own_lost caller h.in_heap, events.gives, events.refuses caller, before.unanswered, after.discards, h.turns, h.lost);
-        own_answers = omega (arith, turned.own_answers caller h.in_heap, events.gives, events.refuses caller, after.unanswered, h.turns);
+            omega (arith, turned.own_lost caller h.in_heap, events.gives, events.refuses caller, before.unanswered, after.discards, h.own.turns, h.own.lost);
+        own_answers = omega (arith, turned.own_answers caller h.in_heap, events.gives, events.refuses caller, after.unanswered, h.own.turns);
         anchor_tags = λ d has. omega (arith, pushed-tag d);
-        frame_turns = omega (arith, head-tag (h.elsewhere name.FrameHead (λ same. cc)), after.unframed, h.turns);
-        emptied = omega (arith, pushed-emptied, h.cleared);
+        frame_turns = omega (arith, head-tag (h.elsewhere name.FrameHead (λ same. cc)), after.unframed, h.own.turns);
+        emptied = omega (arith, pushed-emptied, h.own.cleared);
         list_turns = λ class has.
-            omega (arith, head-tag (h.elsewhere (name.ListHead class) (λ same. cc)), h.stands_after.pops, after.unlisted, h.turns, h.cleared);
+            omega (arith, head-tag (h.elsewhere (name.ListHead class) (λ same. cc)), h.stands_after.pops, after.unlisted, h.own.turns, h.own.cleared);
       })
       turned

@@ -1,15 +1,13 @@
 -- Quiet steps in a superblock: loads, and exchanges that are lost.
-use Rattle.std.proofs.Common.{ℕ, Option, Some, None, ◌≡◌, ◌<◌, refl, arith}
-use Rattle.sound_state.proofs.Common.{Geometry, ActiveWord, Null, Held, active_of, SeatFields, active_name, Block, event_of, next_of, plan_point_of, State, Step}
-use Rattle.sound_state.proofs.Common.{holds_of, recalls_of, IsSoundWithoutCounts}
+use Rattle.std.proofs.Common.{ℕ, Option, Some, None, refl, arith}
+use Rattle.sound_state.proofs.Common.{ActiveWord, Null, Held, active_of, SeatFields, active_name, Block, event_of, next_of, plan_point_of, holds_of, recalls_of}
+use Rattle.sound_state.proofs.Common.{after_active, enter_block}
 use Rattle.superblock_parts.specs.declared.point.BlockPoint.TheVariants as block
-use Rattle.superblock_parts.specs.Points.{after_active}
 use Rattle.errand_steps.specs.declared.continuation.Continuation.TheVariants.{Alloc}
-use Rattle.errand_steps.specs.Nexts.{enter_block}
 use Rattle.sound_state.proofs.quiet.QuietSteps.{LeadsOn, leads-on, quiet-at}
 use Rattle.sound_state.proofs.shared.KeepsSound.{KeepsSound}
 
--- where an active word leads
+-- what an active word that is loaded leads to
 active-leads :
     (s : SeatFields) (need : ℕ) (w : Option ActiveWord)
     → LeadsOn (Block (block.LoadActive s) (Alloc need)) (enter_block (after_active s w) (Alloc need)) 0
@@ -18,7 +16,7 @@ active-leads s need None = grind (arith)
 active-leads s need (Some Null) = grind (arith)
 active-leads s need (Some (Held d credits)) = grind (arith)
 
--- the load of the active word
+-- the load of the active word keeps the state sound
 pub load_active-sound : (seat : SeatFields) (need : ℕ) → KeepsSound (Block (block.LoadActive seat) (Alloc need))
 unfolding plan_point_of next_of event_of
 load_active-sound seat need g s caller s' sound has stands step =

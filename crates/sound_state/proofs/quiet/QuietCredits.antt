@@ -1,17 +1,13 @@
 -- A credit is taken, and reserved blocks are offered.
-use Rattle.std.proofs.Common.{ℕ, zero, suc, false, Some, ◌≡◌, ◌≢◌, ◌<◌, ◌+◌, ◌-◌, [], refl, arith, ap, sym, subst, inl, inr, ◌∙◌, eq-eqb, ne_eqb}
-use Rattle.std.specs.Prelude.{◌==◌, All, IsTrue, if◌then◌else◌}
+use Rattle.std.proofs.Common.{ℕ, zero, suc, false, Some, ◌≡◌, ◌≢◌, ◌<◌, ◌+◌, ◌-◌, [], refl, arith, ap, sym, subst, inl, inr, ◌∙◌, eq-eqb, ne_eqb, ◌==◌, All, IsTrue}
+use Rattle.std.proofs.Common.{if◌then◌else◌}
 use Rattle.std.proofs.lemmas.Bool.{cond-true, cond-false, cases_eq}
 use Rattle.std.proofs.lemmas.List.Elements.{All-nil, All-cons, All-head}
 use Rattle.sound_state.proofs.Common.{Geometry, IsChecked, Null, Held, active_word, active_of, Site, descriptor_count, SeatFields, active_name, Exists, Credit}
 use Rattle.sound_state.proofs.Common.{LastCredit, Continuation, Point, Block, At, event_of, next_of, plan_point_of, State, Step, Kept, holds_of, reserving, IsKeptAs}
-use Rattle.sound_state.proofs.Common.{word_keeps, Lists, IsSo, recalls_of, bound_for, IsSoundWithoutCounts, IsSoundWith, is_bound}
-use Rattle.packed_words.specs.Active.{IsActiveWord}
-use Rattle.packed_words.proofs.ActiveLemmas.{active-exact}
-use Rattle.word_table.specs.declared.action.Action.TheVariants.{Cas}
-use Rattle.word_table.specs.Seats.{heap_of}
+use Rattle.sound_state.proofs.Common.{word_keeps, Lists, IsSo, recalls_of, IsSoundWithoutCounts, IsSoundWith, is_bound, IsActiveWord, active-exact, Cas, heap_of}
+use Rattle.sound_state.proofs.Common.{IsActive}
 use Rattle.superblock_parts.specs.declared.point.BlockPoint.TheVariants as block
-use Rattle.sound_state.specs.Keepers.{IsActive}
 use Rattle.sound_state.proofs.shared.PointLemmas.{alike-goes, fits-at, fits-now, so-at}
 use Rattle.sound_state.proofs.quiet.QuietExchanges.{lost-at}
 use Rattle.sound_state.proofs.quiet.QuietSteps.{leads-on}
@@ -19,7 +15,7 @@ use Rattle.sound_state.proofs.shared.CreditLemmas.{actives-written, active-bound
 use Rattle.sound_state.proofs.shared.WordFacts.{held-fits, held-said, held-not-zero, null-none, null-said, seat-active, held-desc}
 use Rattle.sound_state.proofs.shared.KeepsSound.{KeepsSound, KeepsSoundWhere}
 
--- what was held in an active word that gives a credit
+-- the active word that gives a credit held an active, bound superblock of its class
 credit-held :
     (g : Geometry) (s : State) (l : Lists) (caller : ℕ) (seat : SeatFields) (d credits : ℕ) (o : Continuation) → IsChecked g → IsSoundWith g s l
     → caller < g.callers → (s.errand caller).point ≡ Block (block.TakeCredit seat d credits) o
@@ -39,7 +35,7 @@ credit-held g s l caller seat d credits o checked old has stands is =
       active-bound g s l d seat.class (word-keeps-away g s l d (active_name seat) old.kept active.0 exists keeps) active.1,
     )
 
--- the last credit is taken: the word becomes null, and the caller keeps the descriptor
+-- the won take of the last credit keeps the state sound: the word becomes null, and the caller keeps the descriptor
 take_credit-last :
     (seat : SeatFields) (d : ℕ) (o : Continuation)
     → KeepsSoundWhere (Block (block.TakeCredit seat d 0) o) (λ s. s.word (active_name seat) ≡ active_word (Held d 0))
@@ -71,14 +67,14 @@ take_credit-last seat d o g s caller s' sound has stands is step =
           alike-goes g s l caller p _ old has stands (grind (arith))
           (All-cons (λ (k : Kept). IsKeptAs s k.status k.desc k.class) (record { desc = d; class = seat.class; status = reserving }) []
           old_fit.3 (All-nil _))
-          (All-cons (IsSo g s l caller) (bound_for d seat.class) [] (old_fit.4, old_fit.3.class) (All-nil (IsSo g s l caller)));
+          (All-cons (IsSo g s l caller) _ [] (old_fit.4, old_fit.3.class) (All-nil (IsSo g s l caller)));
       actives = λ l old words' w.
           actives-written g s l (heap_of seat) seat.class (active_word Null) words' old.kept w (rw null refl)
           (λ e credits says. absurd (let bad : Some Null ≡ Some (Held e credits) = sym null ∙ says in cc));
     })
     is step
 
--- a credit is taken that is not the last one
+-- the won take of a credit that isn't the last one keeps the state sound
 take_credit-more :
     (g : Geometry) (s : State) (caller : ℕ) (s' : State) (seat : SeatFields) (d credits : ℕ) (o : Continuation) → IsSoundWithoutCounts g s → caller < g.callers
     → (s.errand caller).point ≡ Block (block.TakeCredit seat d credits) o → s.word (active_name seat) ≡ active_word (Held d credits)
@@ -115,7 +111,7 @@ take_credit-more g s caller s' seat d credits o sound has stands is some_left st
       goes = λ l old.
           let old_fit = credit-held g s l caller seat d credits o sound.checked old has stands is in
           alike-goes g s l caller p _ old has stands (grind (arith)) (All-nil _)
-          (All-cons (IsSo g s l caller) (bound_for d seat.class) [] (old_fit.4, old_fit.3.class) (All-nil (IsSo g s l caller)));
+          (All-cons (IsSo g s l caller) _ [] (old_fit.4, old_fit.3.class) (All-nil (IsSo g s l caller)));
       actives = λ l old words' w.
           let old_fit = credit-held g s l caller seat d credits o sound.checked old has stands is in
           actives-written g s l (heap_of seat) seat.class (active_word (Held d left)) words' old.kept w (rw less refl)
@@ -125,7 +121,7 @@ take_credit-more g s caller s' seat d credits o sound has stands is some_left st
     })
     is step
 
--- a credit is taken
+-- the won take of a credit, the last one or not, keeps the state sound
 take_credit-won :
     (seat : SeatFields) (d credits : ℕ) (o : Continuation)
     → KeepsSoundWhere (Block (block.TakeCredit seat d credits) o) (λ s. s.word (active_name seat) ≡ active_word (Held d credits))
@@ -144,7 +140,7 @@ take_credit-sound seat d credits o g s caller s' sound has stands step =
           (leads-on g s caller _ _ 0 has stands (grind (arith))) other step
     ]
 
--- reserved blocks are offered: they and the descriptor go into the word
+-- the won offer of reserved blocks keeps the state sound: they and the descriptor go into the word
 install_credits-won :
     (site : Site) (i more : ℕ) (o : Continuation)
     → KeepsSoundWhere (Block (block.InstallCredits site i more) o) (λ s. s.word (active_name site.seat) ≡ active_word Null)

@@ -1,34 +1,32 @@
 -- Steps at the available descriptors that keep the state sound.
-use Rattle.std.proofs.Common.{ℕ, Option, Some, None, ◌≡◌, ◌≢◌, ◌<◌, ◌+◌, [], ◌∷◌, refl, arith, sym, All}
-use Rattle.std.proofs.lemmas.Bool.{ne_eqb}
-use Rattle.std.proofs.lemmas.List.Elements.{All-cons, All-tail}
-use Rattle.sound_state.proofs.Common.{Geometry, SeatFields, DescPoint, Continuation, At, Desc, event_of, next_of, plan_point_of, State, Step, holds_of, Lists}
-use Rattle.sound_state.proofs.Common.{recalls_of, IsSo, looked, noted, IsSoundWithoutCounts, IsSoundWith, waits_in}
+use Rattle.std.proofs.Common.{ℕ, Option, Some, None, ◌≡◌, ◌≢◌, ◌<◌, ◌+◌, [], refl, arith, sym, All, ne_eqb}
+use Rattle.std.proofs.lemmas.List.Elements.{All-cons, All-from_recursion}
+use Rattle.sound_state.proofs.Common.{Geometry, SeatFields, DescPoint, Continuation, At, Desc, event_of, next_of, plan_point_of, State, holds_of, Lists, recalls_of}
+use Rattle.sound_state.proofs.Common.{IsSo, IsSoundWith, waits_in, desc_named, after_head, after_next}
 use Rattle.word_table.specs.declared.name.WordName.TheVariants as name
-use Rattle.word_table.specs.Seats.{desc_named}
 use Rattle.hazard_parts.specs.declared.point.DescPoint.TheVariants as desc
-use Rattle.hazard_parts.specs.Points.{link_in, after_head, after_next, after_top}
+use Rattle.hazard_parts.specs.Points.{link_in, after_top}
 use Rattle.sound_state.proofs.quiet.QuietExchanges.{lost-at, lost-steady}
 use Rattle.sound_state.proofs.quiet.QuietSteps.{StepsSteadily, LeadsOn, LeadsQuietly, leads-on, quiet-at, steady-at}
-use Rattle.sound_state.proofs.shared.PointLemmas.{HoldsBlocks, blocks-go, none-kept-as, so-at, weigh-stays}
+use Rattle.sound_state.proofs.shared.PointLemmas.{HoldsBlocks, blocks-go, none-kept-as, so-at, weigh-stays, recalled-at}
 use Rattle.sound_state.proofs.shared.WordFacts.{link-some}
 use Rattle.sound_state.proofs.shared.KeepsSound.{KeepsSound, KeepsSoundWhere}
 
--- where the head leads
+-- what the head of the available descriptors leads to
 head-leads :
     (s : SeatFields) (o : Continuation) (d : Option ℕ) → LeadsOn (Desc (desc.LoadDescHead s) o) (At (Desc (after_head s d) o)) 0
 unfolding holds_of recalls_of
 head-leads s o None = grind (arith)
 head-leads s o (Some d) = grind (arith)
 
--- the load of the head, for a pop
+-- the load of the head of the available descriptors for a pop keeps the state sound
 pub load_desc_head-sound : (seat : SeatFields) (o : Continuation) → KeepsSound (Desc (desc.LoadDescHead seat) o)
 unfolding plan_point_of next_of event_of
 load_desc_head-sound seat o g s caller s' sound has stands step =
     quiet-at g s caller s' (Desc (desc.LoadDescHead seat) o) sound has stands (record { event = refl; cleared = refl; word = refl })
     (leads-on g s caller _ _ 0 has stands (head-leads seat o (desc_named seat.geometry (s.word name.DescHead)))) step
 
--- where the name of the descriptor below leads
+-- what the name of the descriptor below leads to
 next-leads :
     (g : Geometry) (s : State) (caller : ℕ) (seat : SeatFields) (d : ℕ) (o : Continuation) (next : Option ℕ) → caller < g.callers
     → (s.errand caller).point ≡ Desc (desc.LoadNextDesc seat d) o → link_in seat.geometry (s.word (name.Next d)) ≡ next
@@ -39,23 +37,23 @@ next-leads g s caller seat d o (Some next) has stands is = record {
   plain = tt;
   holds = grind (arith);
   so = λ l old.
-      All-cons (IsSo g s l caller) (noted d next) (looked seat.class ∷ []) (λ on. link-some seat.geometry (s.word (name.Next d)) next is)
+      All-cons (IsSo g s l caller) _ (recalls_of (Desc (desc.LoadNextDesc seat d) o)) (λ on. link-some seat.geometry (s.word (name.Next d)) next is)
       (so-at g s l caller (Desc (desc.LoadNextDesc seat d) o) old has stands);
 }
 
--- the load of that name
+-- the load of the name of the descriptor below keeps the state sound
 pub load_next_desc-sound : (seat : SeatFields) (d : ℕ) (o : Continuation) → KeepsSound (Desc (desc.LoadNextDesc seat d) o)
 unfolding plan_point_of next_of event_of
 load_next_desc-sound seat d o g s caller s' sound has stands step =
     quiet-at g s caller s' (Desc (desc.LoadNextDesc seat d) o) sound has stands (record { event = refl; cleared = refl; word = refl })
     (next-leads g s caller seat d o (link_in seat.geometry (s.word (name.Next d))) has stands refl) step
 
--- a caller whose descriptor isn't on top any more reads the head again: its hazard word is as a lost pop leaves it
+-- a caller whose descriptor isn't on top any more reads the head again, its hazard word as a lost pop leaves it
 reads-again :
     (g : Geometry) (s : State) (caller : ℕ) (p : DescPoint) (seat : SeatFields) (o : Continuation) → caller < g.callers → (s.errand caller).point ≡ Desc p o
     → HoldsBlocks (Desc p o) (Desc (desc.LoadDescHead seat) o) → (holds_of (Desc p o)).credits ≡ [] → (holds_of (Desc p o)).kept ≡ []
     → (holds_of (Desc p o)).frames ≡ [] → ((class : ℕ) → waits_in class (Desc (desc.LoadDescHead seat) o) ≡ waits_in class (Desc p o))
-    → ((l : Lists) → IsSoundWith g s l → All (IsSo g s l caller) (looked seat.class ∷ []))
+    → ((l : Lists) → IsSoundWith g s l → All (IsSo g s l caller) (recalls_of (Desc (desc.LoadDescHead seat) o)))
     → StepsSteadily g s caller (Desc p o) (At (Desc (desc.LoadDescHead seat) o))
 unfolding holds_of recalls_of
 reads-again g s caller p seat o has stands blocks credits kept frames waits so = record {
@@ -65,7 +63,7 @@ reads-again g s caller p seat o has stands blocks credits kept frames waits so =
       blocks-go g s l caller (Desc p o) (Desc (desc.LoadDescHead seat) o) old has stands blocks tt (λ d word guard. absurd guard) (none-kept-as s) (so l old);
 }
 
--- another descriptor is on top: the hazard word still names the one that was
+-- a pop that finds another descriptor on top keeps the state sound: the hazard word still names the one that was
 pub pop_desc_lost-sound :
     (seat : SeatFields) (d next : ℕ) (o : Continuation) → KeepsSoundWhere (Desc (desc.PopDesc seat d next) o) (λ s. s.word name.DescHead ≢ d + 1)
 unfolding plan_point_of next_of event_of holds_of recalls_of
@@ -73,9 +71,11 @@ pop_desc_lost-sound seat d next o g s caller s' sound has stands lost step =
     let p = desc.PopDesc seat d next in
     lost-steady g s caller s' (Desc p o) name.DescHead _ _ sound has stands refl refl
     (reads-again g s caller p seat o has stands (grind (arith)) refl refl refl (λ class. refl)
-    (λ l old. All-tail (IsSo g s l caller) (noted d next) (looked seat.class ∷ []) (so-at g s l caller (Desc p o) old has stands))) lost step
+    (λ l old.
+    let (so_next, rest) = recalled-at g s l caller (Desc p o) old has stands in
+    All-from_recursion (IsSo g s l caller) (recalls_of (Desc (desc.LoadDescHead seat) o)) rest)) lost step
 
--- where the head leads that is loaded for a push
+-- what the head leads to that is loaded for a push
 head-to-push-leads :
     (s : SeatFields) (d : ℕ) (o : Continuation) (top : Option ℕ)
     → LeadsOn (Desc (desc.LoadHeadToPush s d) o) (At (Desc (after_top s d top) o)) 0
@@ -83,14 +83,14 @@ unfolding holds_of recalls_of
 head-to-push-leads s d o None = grind (arith)
 head-to-push-leads s d o (Some top) = grind (arith)
 
--- the load of the head, for a push
+-- the load of the head of the available descriptors for a push keeps the state sound
 pub load_head_to_push-sound : (seat : SeatFields) (d : ℕ) (o : Continuation) → KeepsSound (Desc (desc.LoadHeadToPush seat d) o)
 unfolding plan_point_of next_of event_of
 load_head_to_push-sound seat d o g s caller s' sound has stands step =
     quiet-at g s caller s' (Desc (desc.LoadHeadToPush seat d) o) sound has stands (record { event = refl; cleared = refl; word = refl })
     (leads-on g s caller _ _ 0 has stands (head-to-push-leads seat d o (link_in seat.geometry (s.word name.DescHead)))) step
 
--- the head isn't what it was
+-- a push of a descriptor that is lost, since the head isn't what it was, keeps the state sound
 pub push_desc_lost-sound :
     (seat : SeatFields) (d top : ℕ) (o : Continuation) → KeepsSoundWhere (Desc (desc.PushDesc seat d top) o) (λ s. s.word name.DescHead ≢ top)
 unfolding plan_point_of next_of event_of holds_of recalls_of
@@ -98,7 +98,7 @@ push_desc_lost-sound seat d top o g s caller s' sound has stands lost step =
     lost-at g s caller s' (Desc (desc.PushDesc seat d top) o) name.DescHead _ _ sound has stands refl refl
     (leads-on g s caller _ _ 1 has stands (grind (arith))) lost step
 
--- the descriptor that the hazard word names isn't the top one any more
+-- the load of the head again that finds another descriptor on top than the hazard word names keeps the state sound
 pub reload_desc_head_other-sound :
     (seat : SeatFields) (d : ℕ) (o : Continuation) → KeepsSoundWhere (Desc (desc.ReloadDescHead seat d) o) (λ s. s.word name.DescHead ≢ d + 1)
 unfolding plan_point_of next_of event_of holds_of recalls_of

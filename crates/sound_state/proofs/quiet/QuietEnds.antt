@@ -1,28 +1,26 @@
 -- Quiet steps that end a call: a read, and exchanges on a shelf that are lost.
-use Rattle.std.proofs.Common.{ℕ, ◌≡◌, ◌≢◌, ◌<◌, refl, arith, sym, subst}
-use Rattle.sound_state.proofs.Common.{Geometry, Need, HeadFields, head_of, SeatFields, Pile, head_name, Continuation, Stack, Large, event_of, End, next_of}
-use Rattle.sound_state.proofs.Common.{plan_point_of, State, Step, holds_of, IsSoundWithoutCounts}
+use Rattle.std.proofs.Common.{ℕ, ◌≡◌, ◌≢◌, refl, arith, sym, subst}
+use Rattle.sound_state.proofs.Common.{Need, HeadFields, head_of, SeatFields, Pile, head_name, Continuation, Stack, Large, event_of, End, next_of, plan_point_of}
+use Rattle.sound_state.proofs.Common.{holds_of, shelf_word, enter_stack}
 use Rattle.packed_words.specs.declared.shelf.ShelfWord.TheVariants.{Nothing, Block}
-use Rattle.packed_words.specs.Shelf.{shelf_word}
 use Rattle.word_table.specs.declared.name.WordName.TheVariants as name
 use Rattle.stack_parts.specs.declared.point.StackPoint.TheVariants as stack
 use Rattle.stack_parts.specs.Points.{after_top}
 use Rattle.large_parts.specs.declared.point.LargePoint.TheVariants as large
 use Rattle.errand_steps.specs.declared.continuation.Continuation.TheVariants as continuation
 use Rattle.errand_steps.specs.declared.reply.Reply.TheVariants as reply
-use Rattle.errand_steps.specs.Nexts.{enter_stack}
 use Rattle.sound_state.proofs.quiet.QuietExchanges.{lost-at}
 use Rattle.sound_state.proofs.quiet.QuietSteps.{LeadsQuietly, ends-quietly, quiet-at}
 use Rattle.sound_state.proofs.shared.KeepsSound.{KeepsSound, KeepsSoundWhere}
 
--- a read
+-- the read of a usable word keeps the state sound
 pub load_word-sound : (place i : ℕ) (o : Continuation) → KeepsSound (Large (large.LoadWord place i) o)
 unfolding plan_point_of next_of event_of holds_of
 load_word-sound place i o g s caller s' sound has stands step =
     quiet-at g s caller s' (Large (large.LoadWord place i) o) sound has stands (record { event = refl; cleared = refl; word = refl })
     (ends-quietly g s caller _ _ (grind (arith))) step
 
--- a put that finds a block
+-- a put that finds a block on the shelf keeps the state sound
 pub put_block_lost-sound :
     (k place : ℕ) (n : Need) (o : Continuation)
     → KeepsSoundWhere (Large (large.PutBlock k place n) o) (λ s. s.word (name.Shelf k) ≢ shelf_word Nothing)
@@ -31,7 +29,7 @@ put_block_lost-sound k place n o g s caller s' sound has stands lost step =
     lost-at g s caller s' (Large (large.PutBlock k place n) o) (name.Shelf k) _ _ sound has stands refl refl
     (ends-quietly g s caller _ _ (grind (arith))) lost step
 
--- a take whose block is gone
+-- a take that finds its block gone from the shelf keeps the state sound
 pub take_block_lost-sound :
     (k place : ℕ) (n : Need) (o : Continuation)
     → KeepsSoundWhere (Large (large.TakeBlock k place n) o) (λ s. s.word (name.Shelf k) ≢ shelf_word (Block place n))
@@ -40,7 +38,7 @@ take_block_lost-sound k place n o g s caller s' sound has stands lost step =
     lost-at g s caller s' (Large (large.TakeBlock k place n) o) (name.Shelf k) _ _ sound has stands refl refl
     (ends-quietly g s caller _ _ (grind (arith))) lost step
 
--- a take that found nothing, where a block lies now
+-- a take that saw nothing on the shelf, where a block lies now, keeps the state sound
 pub confirm_nothing_lost-sound :
     (k : ℕ) (o : Continuation) → KeepsSoundWhere (Large (large.ConfirmNothing k) o) (λ s. s.word (name.Shelf k) ≢ shelf_word Nothing)
 unfolding plan_point_of next_of event_of holds_of

@@ -2,10 +2,8 @@
 use Rattle.std.proofs.Common.{ℕ, Bool, false, ◌≡◌, ◌≢◌, ◌<◌, refl, arith, ap, sym, subst, ◌∙◌, ne_eqb, ◌==◌}
 use Rattle.std.proofs.lemmas.Bool.{cond-false}
 use Rattle.sound_state.proofs.Common.{Geometry, AnchorFields, anchor_word, WordName, Site, name_of, Share, Continuation, Point, Block, counts_cleared, event_of}
-use Rattle.sound_state.proofs.Common.{next_of, plan_point_of, State, Step, holds_of, recalls_of, IsSoundWithoutCounts}
-use Rattle.word_table.specs.declared.action.Action.TheVariants.{Cas}
+use Rattle.sound_state.proofs.Common.{next_of, plan_point_of, State, Step, holds_of, recalls_of, IsSoundWithoutCounts, Cas, found_by}
 use Rattle.word_table.specs.declared.name.WordName.TheVariants as name
-use Rattle.word_table.specs.Actions.{found_by}
 use Rattle.superblock_parts.specs.declared.point.BlockPoint.TheVariants as block
 use Rattle.sound_state.proofs.quiet.QuietSteps.{StepsSteadily, LeadsQuietly, leads-on, quiet-steady, steady-at}
 use Rattle.sound_state.proofs.shared.CreditLemmas.{lost_with}
@@ -30,7 +28,7 @@ lost-steady g s caller s' p n expected new sound has stands plan cleared steady 
     })
     (subst (λ x. StepsSteadily g s caller p (next_of p x)) (sym found) steady) step
 
--- so does one that leads quietly on
+-- an exchange that is lost and leads quietly on keeps the state sound
 pub lost-at :
     (g : Geometry) (s : State) (caller : ℕ) (s' : State) (p : Point) (n : WordName) (expected new : ℕ) → IsSoundWithoutCounts g s → caller < g.callers
     → (s.errand caller).point ≡ p → plan_point_of p ≡ Cas n expected new → counts_cleared p (lost_with (s.word n)) ≡ false
@@ -38,7 +36,7 @@ pub lost-at :
 lost-at g s caller s' p n expected new sound has stands plan cleared leads other step =
     lost-steady g s caller s' p n expected new sound has stands plan cleared (quiet-steady g s caller p _ has stands leads) other step
 
--- a block is not popped
+-- a lost pop of a block keeps the state sound
 pub pop_block-lost :
     (site : Site) (share : Share) (a : AnchorFields) (prefix : ℕ) (o : Continuation)
     → KeepsSoundWhere (Block (block.PopBlock site share a prefix) o) (λ s. s.word (name.Anchor site.desc) ≢ anchor_word a)
@@ -47,7 +45,7 @@ pop_block-lost site share a prefix o g s caller s' sound has stands other step =
     lost-at g s caller s' (Block (block.PopBlock site share a prefix) o) (name.Anchor site.desc) _ _ sound has stands refl refl
     (leads-on g s caller _ _ 2 has stands (grind (arith))) other step
 
--- reserved blocks are not given back
+-- a lost return of reserved blocks keeps the state sound
 pub return_credits-lost :
     (site : Site) (i more : ℕ) (a : AnchorFields) (o : Continuation)
     → KeepsSoundWhere (Block (block.ReturnCredits site i more a) o) (λ s. s.word (name.Anchor site.desc) ≢ anchor_word a)
@@ -56,7 +54,7 @@ return_credits-lost site i more a o g s caller s' sound has stands other step =
     lost-at g s caller s' (Block (block.ReturnCredits site i more a) o) (name.Anchor site.desc) _ _ sound has stands refl refl
     (leads-on g s caller _ _ 0 has stands (grind (arith))) other step
 
--- a block is not pushed
+-- a lost push of a block keeps the state sound
 pub push_block-lost :
     (site : Site) (i : ℕ) (a : AnchorFields) (stored : Bool) (heap : ℕ) (o : Continuation)
     → KeepsSoundWhere (Block (block.PushBlock site i a stored heap) o) (λ s. s.word (name.Anchor site.desc) ≢ anchor_word a)

@@ -1,28 +1,24 @@
 -- Quiet steps at a large block or a shelf: loads, and an exchange that is lost.
-use Rattle.std.proofs.Common.{ℕ, Option, Some, None, ◌≡◌, ◌≢◌, ◌<◌, refl, arith}
-use Rattle.sound_state.proofs.Common.{Geometry, Continuation, At, Large, event_of, next_of, plan_point_of, State, Step, holds_of, recalls_of, IsSoundWithoutCounts}
-use Rattle.packed_words.specs.declared.prefix.Prefix.{Prefix}
+use Rattle.std.proofs.Common.{ℕ, Option, Some, None, ◌≢◌, refl, arith}
+use Rattle.sound_state.proofs.Common.{Continuation, At, Large, event_of, next_of, plan_point_of, holds_of, recalls_of, Prefix, ShelfWord, prefix_of, shelf_of}
+use Rattle.sound_state.proofs.Common.{after_shelf, WantFields, RunFields}
 use Rattle.packed_words.specs.declared.prefix.Prefix.TheVariants as prefix
-use Rattle.packed_words.specs.declared.shelf.ShelfWord.{ShelfWord}
 use Rattle.packed_words.specs.declared.shelf.ShelfWord.TheVariants as shelf
-use Rattle.packed_words.specs.Prefix.{prefix_of}
-use Rattle.packed_words.specs.Shelf.{shelf_of}
 use Rattle.word_table.specs.declared.name.WordName.TheVariants as name
 use Rattle.large_parts.specs.declared.point.LargePoint.TheVariants as large
-use Rattle.large_parts.specs.Points.{after_run_prefix, after_shelf}
-use Rattle.large_parts.specs.Runs.{WantFields, RunFields}
+use Rattle.large_parts.specs.Points.{after_run_prefix}
 use Rattle.sound_state.proofs.quiet.QuietExchanges.{lost-at}
 use Rattle.sound_state.proofs.quiet.QuietSteps.{LeadsOn, leads-on, quiet-at}
 use Rattle.sound_state.proofs.shared.KeepsSound.{KeepsSound, KeepsSoundWhere}
 
--- the units are read
+-- the load of the units keeps the state sound
 pub load_units-sound : (w : WantFields) (o : Continuation) → KeepsSound (Large (large.LoadUnits w) o)
 unfolding plan_point_of next_of event_of holds_of recalls_of
 load_units-sound w o g s caller s' sound has stands step =
     quiet-at g s caller s' (Large (large.LoadUnits w) o) sound has stands (record { event = refl; cleared = refl; word = refl })
     (leads-on g s caller _ _ 0 has stands (grind (arith))) step
 
--- a run that isn't free any more: the units are read again
+-- a lost take of a run, after which the units are read again, keeps the state sound
 pub take_run_lost-sound :
     (w : WantFields) (bits : ℕ) (o : Continuation) → KeepsSoundWhere (Large (large.TakeRun w bits) o) (λ s. s.word name.Units ≢ bits)
 unfolding plan_point_of next_of event_of holds_of recalls_of
@@ -30,7 +26,7 @@ take_run_lost-sound w bits o g s caller s' sound has stands lost step =
     lost-at g s caller s' (Large (large.TakeRun w bits) o) name.Units bits _ sound has stands refl refl
     (leads-on g s caller _ _ 0 has stands (grind (arith))) lost step
 
--- the prefix word of a freed run is read
+-- the load of a freed run's prefix word keeps the state sound
 run-prefix-leads :
     (place : ℕ) (run : RunFields) (o : Continuation) (found : Option Prefix)
     → LeadsOn (Large (large.LoadRunPrefix place run) o) (At (Large (after_run_prefix place run found) o)) 0
@@ -45,7 +41,7 @@ load_run_prefix-sound place run o g s caller s' sound has stands step =
     quiet-at g s caller s' (Large (large.LoadRunPrefix place run) o) sound has stands (record { event = refl; cleared = refl; word = refl })
     (leads-on g s caller _ _ 0 has stands (run-prefix-leads place run o (prefix_of (s.word (name.Arena place))))) step
 
--- a shelf is looked at
+-- the look at a shelf keeps the state sound
 shelf-leads :
     (k : ℕ) (o : Continuation) (found : Option ShelfWord)
     → LeadsOn (Large (large.LoadShelf k) o) (At (Large (after_shelf k found) o)) 0

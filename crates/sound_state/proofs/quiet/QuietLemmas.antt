@@ -6,7 +6,7 @@ use Rattle.word_table.specs.declared.name.WordName.TheVariants as name
 use Rattle.sound_state.proofs.shared.PointLemmas.{WeighFrom, weigh-stays}
 use Rattle.sound_state.proofs.shared.StepLemmas.{PointGoes, TurnGoes, HoldsException}
 
--- at the second point a caller holds what it holds at the first, and is no further back in its turn
+-- at q a caller holds what it holds at p, and is no further back in its turn
 pub record HoldsSame (p q : Point) : Type 0 where
   pub holds : holds_of q ≡ holds_of p
   pub waits : (class : ℕ) → waits_in class q ≡ waits_in class p
@@ -20,7 +20,7 @@ pub record HoldsSame (p q : Point) : Type 0 where
 pub same-stays : (n : WordName) (w : ℕ) (p q : Point) → HoldsSame p q → WeighFrom n w w p q
 same-stays n w p q h = weigh-stays n w p q (ap (λ x. x.credits) h.holds) (ap (λ x. x.kept) h.holds) (ap (λ x. x.frames) h.holds) h.waits
 
--- where the caller holds the same, what it holds is still so
+-- a caller that holds the same at another point may stand there, where what it remembers there is so
 pub same-point-goes :
     (g : Geometry) (s : State) (l : Lists) (caller : ℕ) (q : Point) → IsSoundWith g s l → caller < g.callers → HoldsSame (s.errand caller).point q
     → All (IsSo g s l caller) (recalls_of q) → PointGoes g s l caller (s.errand caller).point q

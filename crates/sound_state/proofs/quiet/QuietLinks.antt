@@ -1,29 +1,27 @@
 -- Steps that store what is to lie below an index that is about to be pushed.
-use Rattle.std.proofs.Common.{ℕ, Some, ◌≡◌, ◌≢◌, ◌<◌, ◌≤◌, ◌^◌, refl, arith, ap, sym, subst, inl, inr, ◌∙◌, ◌==◌, IfSome, Contains}
-use Rattle.std.proofs.lemmas.Bool.{cases_eq, cond-true, eq-eqb}
+use Rattle.std.proofs.Common.{ℕ, Some, ◌≡◌, ◌≢◌, ◌<◌, ◌≤◌, ◌^◌, refl, arith, ap, sym, subst, inl, inr, ◌∙◌, ◌==◌, IfSome, Contains, eq-eqb}
+use Rattle.std.proofs.lemmas.Bool.{cases_eq, cond-true}
 use Rattle.std.proofs.lemmas.List.Elements.{All-cons}
 use Rattle.sound_state.proofs.Common.{Geometry, CLASSES, HeadFields, WordName, name_of, after_action, descriptor_count, Writes, SeatFields, cases_name, occurs, Pile}
-use Rattle.sound_state.proofs.Common.{Frames, Partials, next_name, Continuation, Point, Stack, Desc, pushed_by, ErrandFields, event_of, next_of, plan_point_of}
-use Rattle.sound_state.proofs.Common.{State, Step, errand_frames, partly_used, holds_of, errand_has, Lists, IsSo, recalls_of, says, IsSoundWithoutCounts}
-use Rattle.sound_state.proofs.Common.{IsSoundWith, callers_sum, kept_among}
+use Rattle.sound_state.proofs.Common.{Frames, Partials, next_name, Continuation, Point, Stack, Desc, pushed_by, ErrandFields, event_of, next_of, plan_point_of, State}
+use Rattle.sound_state.proofs.Common.{Step, errand_frames, partly_used, holds_of, errand_has, Lists, IsSo, recalls_of, IsSoundWith, callers_sum, kept_among}
+use Rattle.sound_state.proofs.Common.{descriptor_count_within, pile_limit, IsErrand, IsPlain, resumed_recalls}
 use Rattle.word_table.specs.declared.name.WordName.TheVariants as name
-use Rattle.word_table.proofs.CountLemmas.{descriptor_count_within}
 use Rattle.stack_parts.specs.declared.point.StackPoint.TheVariants as stack
-use Rattle.stack_parts.specs.Piles.{pile_limit}
 use Rattle.hazard_parts.specs.declared.point.DescPoint.TheVariants as desc
-use Rattle.errand_steps.specs.Errands.{IsErrand}
 use Rattle.sound_state.specs.Holdings.{pushed_too}
-use Rattle.sound_state.specs.Recalls.{IsPlain, resumed_recalls, tops_exist}
 use Rattle.sound_state.proofs.shared.ListFacts.{contains-occurs}
 use Rattle.sound_state.proofs.stores.StoreFields.{IsLone, between, LoneKept}
-use Rattle.sound_state.proofs.stores.StoreReads.{IsLink, IsOfArena, IsOfDesc, lone-written, blocks-kept, places-stay, place-stays, IsLinkUnread, block-unread, place-unread, next-is_link, lone-kept}
+use Rattle.sound_state.proofs.shared.RecallTables.{IsLink, next-is_link}
+use Rattle.sound_state.proofs.stores.StoreReads.{IsOfArena, IsOfDesc, lone-written, blocks-kept, places-stay, place-stays, IsLinkUnread, block-unread, place-unread}
+use Rattle.sound_state.proofs.stores.StoreReads.{lone-kept}
 use Rattle.sound_state.proofs.stores.StoreSteps.{store-sound}
 use Rattle.sound_state.proofs.shared.HasLemmas.{has-at, others-none}
-use Rattle.sound_state.proofs.shared.PointLemmas.{fits-at, so-at}
+use Rattle.sound_state.proofs.shared.PointLemmas.{fits-at, so-at, recalled-at}
 use Rattle.sound_state.proofs.shared.SumLemmas.{term-sum}
 use Rattle.sound_state.proofs.shared.KeepsSound.{KeepsSound}
 
--- who alone may store the link word: no list has the index, and no other caller has it
+-- a caller alone may store a link word: no list has the index, and no other caller has it
 abbrev pub IsUnlisted : Lists → WordName → Type 0
 IsUnlisted l (name.Next d) = (occurs d l.available ≡ 0) × ((class : ℕ) → class < CLASSES → occurs d (l.partials class) ≡ 0)
 IsUnlisted l (name.FrameNext f) = occurs f l.frames ≡ 0
@@ -67,7 +65,7 @@ frame-alone g s l caller f old has exists mine =
       others = λ i has_i other. others-none g (errand_frames f) s.errand caller i has has_i other mine (omega (arith, once, some, mine));
     }
 
--- who is about to push an index, on a stack or as a descriptor, has it
+-- a caller that is about to push an index, on a stack or as a descriptor, has it
 pushed-has :
     (e : ErrandFields) (p : Point) (seat : SeatFields) (pile : Pile) (i : ℕ) (o : Continuation) → e.point ≡ p → holds_of p ≡ pushed_too pile i seat o
     → 1 ≤ link_weight (next_name pile i) e
@@ -94,7 +92,7 @@ unsaid e (Desc (desc.PushDesc seat d top) o) n rule stands none =
     omega (arith, none_here, retired-has e (Desc (desc.PushDesc seat d top) o) d rule stands refl)
 unsaid e p n rule stands none = tt
 
--- what is on a list is not the unlisted index
+-- an index that is on a list is another one than the unlisted index of a link word
 off-frames : (l : Lists) (f : ℕ) (n : WordName) → 0 < occurs f l.frames → IsUnlisted l n → name.FrameNext f ≢ n
 off-frames l f n on off =
     λ is. let none : IsUnlisted l (name.FrameNext f) = subst (IsUnlisted l) (sym is) off in omega (arith, on, none)
@@ -123,13 +121,13 @@ written-most g words n new words' w range m old =
       | inr differ ↦ subst (InRange g m) (sym (w.elsewhere m differ)) old
     ]
 
--- a link word is stored alone, and is of no other kind
+-- a link word is one that its caller stores alone, no word of the arena and no info word
 link-alone : (n : WordName) → IsLink n → IsLone n × (IsOfArena n → ⊥) × (IsOfDesc n → ⊥)
 link-alone (name.Next d) link = (tt, λ no. no, λ no. no)
 link-alone (name.FrameNext f) link = (tt, λ no. no, λ no. no)
 link-alone n link = absurd link
 
--- who alone may store the link word, and doesn't remember what it says, keeps what is read
+-- the store of a link word by a caller that alone may store it, and doesn't remember it, keeps what is read
 links-kept :
     (g : Geometry) (s : State) (l : Lists) (caller : ℕ) (n : WordName) (new : ℕ) (words' : WordName → ℕ) → IsSoundWith g s l
     → IsAlone g s l caller n → IsLinkUnread n (s.errand caller).point → IsLink n → InRange g n new → new < 2 ^ 64 → Writes s.word n new words'
@@ -157,7 +155,7 @@ links-kept g s l caller n new words' old alone silent link range below w =
       place = place-unread s words' n p (place-stays s n new words' w kind.2) (λ at o stands is. kind.2 (subst IsOfDesc is tt));
     })
 
--- the step's write, at a point that is known
+-- what the step from a known point writes into its word
 pub written-at :
     (s : State) (caller : ℕ) (s' : State) (p : Point) → (s.errand caller).point ≡ p → Step s caller s'
     → Writes s.word (name_of (plan_point_of p)) (after_action (plan_point_of p) (s.word (name_of (plan_point_of p)))) s'.word
@@ -166,7 +164,7 @@ written-at s caller s' p stands step =
     (λ r. Writes s.word (name_of (plan_point_of r)) (after_action (plan_point_of r) (s.word (name_of (plan_point_of r)))) s'.word)
     stands step.word
 
--- what is to lie below a descriptor that becomes available
+-- the store of what is to lie below a retired descriptor that becomes available keeps the state sound
 pub store_next_desc-sound : (seat : SeatFields) (d top : ℕ) (o : Continuation) → KeepsSound (Desc (desc.StoreNextDesc seat d top) o)
 unfolding plan_point_of next_of event_of holds_of recalls_of
 store_next_desc-sound seat d top o g s caller s' sound has stands step =
@@ -185,12 +183,12 @@ store_next_desc-sound seat d top o g s caller s' sound has stands step =
           (subst (IsLinkUnread (name.Next d)) (sym stands) tt) tt fit.link
           (omega (arith, fit.link, descriptor_count_within g sound.checked)) w;
       so = λ l old.
-          All-cons (IsSo g (between s s'.word) l caller) (says (name.Next d) top) (resumed_recalls seat o) (tt, w.here)
+          All-cons (IsSo g (between s s'.word) l caller) _ (resumed_recalls seat o) (tt, w.here)
           (so-at g (between s s'.word) l caller p old has stands);
     })
     step
 
--- so it alone may store the link
+-- a caller that has the index off its stack alone may store its link
 below-alone :
     (g : Geometry) (s : State) (l : Lists) (caller : ℕ) (pile : Pile) (i : ℕ) → IsSoundWith g s l → caller < g.callers → i < pile_limit g pile
     → 1 ≤ link_weight (next_name pile i) (s.errand caller) → IsAlone g s l caller (next_name pile i)
@@ -205,7 +203,7 @@ next-range : (g : Geometry) (pile : Pile) (i w : ℕ) → w ≤ pile_limit g pil
 next-range g Frames i w most = most
 next-range g Partials i w most = most
 
--- what is to lie below a frame or a partial superblock that is pushed
+-- the store of what is to lie below a frame or a partial superblock that is pushed keeps the state sound
 pub store_below-sound :
     (seat : SeatFields) (pile : Pile) (i : ℕ) (h : HeadFields) (o : Continuation) → KeepsSound (Stack (stack.StoreBelow seat pile i h) o)
 unfolding plan_point_of next_of event_of holds_of recalls_of
@@ -222,12 +220,12 @@ store_below-sound seat pile i h o g s caller s' sound has stands step =
       holds = grind (arith);
       kept = λ l old.
           let fit = (fits-at g s l caller p old has stands).point in
-          let exists : h.top ≤ pile_limit g pile = so-at g s l caller p old has stands 0 (tops_exist seat pile h) (omega arith) in
+          let (exists, rest) = recalled-at g s l caller p old has stands in
           links-kept g s l caller n h.top s'.word old (below-alone g s l caller pile i old has fit.0.index (pushed-has (s.errand caller) p seat pile i o stands refl))
           (subst (IsLinkUnread n) (sym stands) tt) (next-is_link pile i) (next-range g pile i h.top exists) (omega (arith, fit.1.top)) w;
       so = λ l old.
           let t = between s s'.word in
-          All-cons (IsSo g t l caller) (says n h.top) (recalls_of p)
+          All-cons (IsSo g t l caller) _ (recalls_of p)
           (next-plain pile i, sym (lone-written s.word n h.top s'.word lone w n) ∙ w.here) (so-at g t l caller p old has stands);
     })
     step

@@ -1,43 +1,36 @@
 -- Steps at a partial superblock that keep the state sound.
-use Rattle.std.proofs.Common.{ℕ, Bool, true, false, Option, Some, None, ◌≡◌, ◌≢◌, ◌<◌, ◌≤◌, ◌+◌, ◌^◌, ◌-◌, [], ◌∷◌, refl, arith, ap, sym, subst, inl, inr, ◌∙◌}
-use Rattle.std.specs.Prelude.{◌==◌, All, IsTrue}
-use Rattle.std.proofs.lemmas.Bool.{cond_both, cases_Bool, true≢false, ne_eqb, eq-eqb, cases_eq}
+use Rattle.std.proofs.Common.{ℕ, Bool, true, false, Option, Some, None, ◌≡◌, ◌≢◌, ◌<◌, ◌≤◌, ◌+◌, ◌^◌, ◌-◌, [], ◌∷◌, refl, arith, ap, sym, subst, inl, inr, ◌∙◌, ◌==◌}
+use Rattle.std.proofs.Common.{All, IsTrue, true≢false, ne_eqb, eq-eqb}
+use Rattle.std.proofs.lemmas.Bool.{cond_both, cases_Bool, cases_eq}
 use Rattle.std.proofs.lemmas.Bool.Decides.{nat_tests}
 use Rattle.std.proofs.lemmas.List.Elements.{All-nil, All-cons, All-tail}
-use Rattle.sound_state.proofs.Common.{Geometry, descriptor_count, Writes, SeatFields, info_in, IsChecked, CLASSES, AnchorFields, anchor_word, info_of, Site}
-use Rattle.sound_state.proofs.Common.{WordName, PartialPoint, is_empty, Partials, Next, At, Continuation, ErrandFields, Partial, Stack, Desc, event_of, next_of}
-use Rattle.sound_state.proofs.Common.{plan_point_of, State, Step, Kept, holds_of, partly_used, IsKeptAs, IsPartlyUsed, Lists, recalls_of, IsSo, IsLocated, located}
-use Rattle.sound_state.proofs.Common.{emptied, IsSoundWithoutCounts, IsSoundWith, errand_keeps, kept_among, anchor_for, info_for, waits_in}
+use Rattle.sound_state.proofs.Common.{Geometry, descriptor_count, Writes, SeatFields, info_in, IsChecked, CLASSES, AnchorFields, anchor_word, info_of, Site, WordName}
+use Rattle.sound_state.proofs.Common.{PartialPoint, is_empty, Partials, Next, At, Continuation, ErrandFields, Partial, Stack, Desc, event_of, next_of, plan_point_of}
+use Rattle.sound_state.proofs.Common.{State, Kept, holds_of, partly_used, IsKeptAs, IsPartlyUsed, Lists, recalls_of, IsSo, IsLocated, IsSoundWith, errand_keeps}
+use Rattle.sound_state.proofs.Common.{kept_among, anchor_for, info_for, waits_in, descriptor_count_within, heap_of, desc_named, anchor_in, slot_name, InfoFields}
+use Rattle.sound_state.proofs.Common.{Onward, PartialExit, slot_of, Clear, point_after, enter_partial, continuation_holds, IsEmptied}
 use Rattle.word_table.specs.declared.name.WordName.TheVariants as name
-use Rattle.word_table.proofs.CountLemmas.{descriptor_count_within}
-use Rattle.word_table.specs.Seats.{heap_of, desc_named, anchor_in}
-use Rattle.word_table.specs.Sites.{slot_name}
-use Rattle.packed_words.specs.Info.{InfoFields}
-use Rattle.word_table.specs.declared.onward.Onward.{Onward}
 use Rattle.word_table.specs.declared.onward.Onward.TheVariants.{Stays, Leaves}
-use Rattle.partial_parts.specs.declared.exit.PartialExit.{PartialExit}
 use Rattle.partial_parts.specs.declared.exit.PartialExit.TheVariants as exit
 use Rattle.partial_parts.specs.declared.point.PartialPoint.TheVariants as partial
-use Rattle.partial_parts.specs.Points.{after_slot, after_kept, after_taken_info, after_live, after_owner, slot_of, after_put}
+use Rattle.partial_parts.specs.Points.{after_slot, after_kept, after_taken_info, after_live, after_owner, after_put}
 use Rattle.stack_parts.specs.declared.point.StackPoint.TheVariants as stack
 use Rattle.hazard_parts.specs.declared.point.DescPoint.TheVariants as desc
 use Rattle.errand_steps.specs.Continuations.{fills}
-use Rattle.errand_steps.specs.declared.continuation.Continuation.TheVariants.{Alloc, Finish, GiveBlock, Free, Clear, ClearSecond, Retire}
-use Rattle.errand_steps.specs.Errands.{point_after}
-use Rattle.errand_steps.specs.Nexts.{enter_partial, leave_partial}
-use Rattle.sound_state.specs.Holdings.{continuation_holds}
-use Rattle.sound_state.specs.Recalls.{IsEmptied, in_use}
+use Rattle.errand_steps.specs.declared.continuation.Continuation.TheVariants.{Alloc, Finish, GiveBlock, Free, ClearSecond, Retire}
+use Rattle.errand_steps.specs.Nexts.{leave_partial}
 use Rattle.sound_state.proofs.quiet.QuietExchanges.{lost-at, lost-steady}
 use Rattle.sound_state.proofs.quiet.QuietPops.{anchor-said, info-said}
 use Rattle.sound_state.proofs.quiet.QuietSteps.{StepsSteadily, LeadsOn, LeadsQuietly, leads-on, quiet-at, steady-at}
 use Rattle.sound_state.proofs.shared.CreditLemmas.{won-at}
-use Rattle.sound_state.proofs.shared.PointLemmas.{HoldsAlike, HoldsBlocks, WeighFrom, alike-goes, blocks-go, fits-at, fits-now, kept-at, so-at, weigh-stays, step-from, slot-written, slot-emptied, keeps-too, none-kept-as, exists-at, keeps-alone}
+use Rattle.sound_state.proofs.shared.PointLemmas.{HoldsAlike, HoldsBlocks, WeighFrom, alike-goes, blocks-go, fits-at, fits-now, kept-at, so-at, weigh-stays, step-from}
+use Rattle.sound_state.proofs.shared.PointLemmas.{slot-written, slot-emptied, keeps-too, none-kept-as, exists-at, keeps-alone}
 use Rattle.sound_state.proofs.shared.RecallEffects.{empty-is}
-use Rattle.sound_state.proofs.shared.ShownLemmas.{ActivesKept}
 use Rattle.sound_state.proofs.shared.StepLemmas.{LeadsOrEnds}
 use Rattle.sound_state.proofs.shared.KeepsSound.{KeepsSound, KeepsSoundWhere}
+use Rattle.sound_state.proofs.shared.SuperblocksStay.{ActivesKept}
 
--- where a slot leads
+-- what a slot that is loaded leads to
 kept-leads :
     (s : SeatFields) (need : ℕ) (d : Option ℕ)
     → LeadsOn (Partial (partial.LoadSlot s) (Alloc need)) (At (Partial (after_kept s d) (Alloc need))) 0
@@ -58,14 +51,14 @@ slot-leads s need word =
     (λ p. LeadsOn (Partial (partial.LoadSlot s) (Alloc need)) (enter_partial p (Alloc need)) 0) (λ is. empty-slot-leads s need)
     (λ is. kept-leads s need (desc_named s.geometry word))
 
--- the load of the slot
+-- the load of a slot keeps the state sound
 pub load_slot-sound : (seat : SeatFields) (need : ℕ) → KeepsSound (Partial (partial.LoadSlot seat) (Alloc need))
 unfolding plan_point_of next_of event_of
 load_slot-sound seat need g s caller s' sound has stands step =
     quiet-at g s caller s' (Partial (partial.LoadSlot seat) (Alloc need)) sound has stands (record { event = refl; cleared = refl; word = refl })
     (leads-on g s caller _ _ 0 has stands (slot-leads seat need (s.word (slot_name seat)))) step
 
--- what stands in the slot is taken, and is the caller's then; or it isn't what it was
+-- the take of what stands in a slot keeps the state sound: the caller has it then, or the take is lost
 pub take_slot-sound : (seat : SeatFields) (d need : ℕ) → KeepsSound (Partial (partial.TakeSlot seat d) (Alloc need))
 unfolding plan_point_of next_of event_of holds_of recalls_of
 take_slot-sound seat d need g s caller s' sound has stands step =
@@ -94,7 +87,7 @@ take_slot-sound seat d need g s caller s' sound has stands step =
           (leads-on g s caller _ _ 0 has stands (grind (arith))) lost step
     ]
 
--- where the word of a taken descriptor leads
+-- what the word of a taken descriptor leads to
 taken_info-leads :
     (g : Geometry) (s : State) (caller : ℕ) (seat : SeatFields) (d need : ℕ) (i : Option InfoFields) → caller < g.callers
     → (s.errand caller).point ≡ Partial (partial.LoadTakenInfo seat d) (Alloc need) → info_in seat.geometry (s.word (name.Info d)) ≡ i
@@ -112,14 +105,14 @@ taken_info-leads g s caller seat d need (Some info) has stands is = record {
       All-cons (IsSo g s l caller) _ [] here (All-nil (IsSo g s l caller));
 }
 
--- the load of its word
+-- the load of a taken descriptor's info word keeps the state sound
 pub load_taken_info-sound : (seat : SeatFields) (d need : ℕ) → KeepsSound (Partial (partial.LoadTakenInfo seat d) (Alloc need))
 unfolding plan_point_of next_of event_of
 load_taken_info-sound seat d need g s caller s' sound has stands step =
     quiet-at g s caller s' (Partial (partial.LoadTakenInfo seat d) (Alloc need)) sound has stands (record { event = refl; cleared = refl; word = refl })
     (taken_info-leads g s caller seat d need (info_in seat.geometry (s.word (name.Info d))) has stands refl) step
 
--- where the anchor of a taken superblock leads that isn't EMPTY
+-- what the anchor of a taken superblock leads to that isn't EMPTY
 live-leads :
     (g : Geometry) (s : State) (caller : ℕ) (site : Site) (need : ℕ) (a : Option AnchorFields) → caller < g.callers
     → (s.errand caller).point ≡ Partial (partial.LoadGrantAnchor site) (Alloc need) → anchor_in site.seat.class (s.word (name.Anchor site.desc)) ≡ a
@@ -133,11 +126,11 @@ live-leads g s caller site need (Some a) has stands is used = record {
   so = λ l old.
       let same : a ≡ anchor_for s site.desc = anchor-said site.seat.class (s.word (name.Anchor site.desc)) a is in
       let in_use_still : is_empty a.state ≡ false = ap (λ x. is_empty x.state) same ∙ used in
-      All-cons (IsSo g s l caller) (in_use a) (located site.desc site.frame site.seat.class ∷ []) in_use_still
+      All-cons (IsSo g s l caller) _ (recalls_of (Partial (partial.LoadGrantAnchor site) (Alloc need))) in_use_still
       (so-at g s l caller (Partial (partial.LoadGrantAnchor site) (Alloc need)) old has stands);
 }
 
--- the load of the anchor, where it isn't EMPTY
+-- the load of a taken superblock's anchor keeps the state sound, where it isn't EMPTY
 pub load_grant_anchor-sound :
     (site : Site) (need : ℕ)
     → KeepsSoundWhere (Partial (partial.LoadGrantAnchor site) (Alloc need)) (λ s. is_empty (anchor_for s site.desc).state ≡ false)
@@ -146,7 +139,7 @@ load_grant_anchor-sound site need g s caller s' sound has stands used step =
     quiet-at g s caller s' (Partial (partial.LoadGrantAnchor site) (Alloc need)) sound has stands (record { event = refl; cleared = used; word = refl })
     (rw used (live-leads g s caller site need (anchor_in site.seat.class (s.word (name.Anchor site.desc))) has stands refl used)) step
 
--- its anchor isn't what it was
+-- a grant that is lost keeps the state sound: the anchor isn't what it was
 pub grant_lost-sound :
     (site : Site) (a : AnchorFields) (need : ℕ)
     → KeepsSoundWhere (Partial (partial.Grant site a) (Alloc need)) (λ s. s.word (name.Anchor site.desc) ≢ anchor_word a)
@@ -155,7 +148,7 @@ grant_lost-sound site a need g s caller s' sound has stands lost step =
     lost-at g s caller s' (Partial (partial.Grant site a) (Alloc need)) (name.Anchor site.desc) _ _ sound has stands refl refl
     (leads-on g s caller _ _ 1 has stands (grind (arith))) lost step
 
--- where the word of a descriptor leads whose superblock became partial
+-- what the word of a descriptor leads to whose superblock became partial
 partial-owner-leads :
     (s : SeatFields) (d : ℕ) (stored : Bool) (i : Option InfoFields)
     → LeadsOn (Partial (partial.LoadOwner s d) (Finish stored)) (At (Partial (after_owner s d i) (Finish stored))) 0
@@ -163,14 +156,14 @@ unfolding holds_of recalls_of
 partial-owner-leads s d stored None = grind (arith)
 partial-owner-leads s d stored (Some info) = grind (arith)
 
--- the load of its word
+-- the load of the info word of a superblock that became partial keeps the state sound
 pub load_partial_owner-sound : (seat : SeatFields) (d : ℕ) (stored : Bool) → KeepsSound (Partial (partial.LoadOwner seat d) (Finish stored))
 unfolding plan_point_of next_of event_of
 load_partial_owner-sound seat d stored g s caller s' sound has stands step =
     quiet-at g s caller s' (Partial (partial.LoadOwner seat d) (Finish stored)) sound has stands (record { event = refl; cleared = refl; word = refl })
     (leads-on g s caller _ _ 0 has stands (partial-owner-leads seat d stored (info_in seat.geometry (s.word (name.Info d))))) step
 
--- the first superblock from the list isn't EMPTY
+-- the look at the first superblock from the list keeps the state sound, where that isn't EMPTY
 pub load_first_listed-sound :
     (seat : SeatFields) (d : ℕ) → KeepsSoundWhere (Partial (partial.LoadListedAnchor seat d) Clear) (λ s. is_empty (anchor_for s d).state ≡ false)
 unfolding plan_point_of next_of event_of holds_of recalls_of
@@ -178,7 +171,7 @@ load_first_listed-sound seat d g s caller s' sound has stands used step =
     quiet-at g s caller s' (Partial (partial.LoadListedAnchor seat d) Clear) sound has stands (record { event = refl; cleared = refl; word = refl })
     (rw used (leads-on g s caller _ _ 0 has stands (grind (arith)))) step
 
--- the superblock that became EMPTY isn't in the slot
+-- a free whose EMPTY superblock isn't in the slot goes steadily on to clear its hazard word
 elsewhere-goes :
     (g : Geometry) (s : State) (caller : ℕ) (p : PartialPoint) (seat : SeatFields) (d : ℕ) → caller < g.callers → (s.errand caller).point ≡ Partial p Free
     → holds_of (Partial p Free) ≡ holds_of (Partial (partial.LoadHeldSlot seat d 0) Free)
@@ -196,7 +189,7 @@ elsewhere-goes g s caller p seat d has stands same blocks waits = record {
       (All-nil (IsSo g s l caller));
 }
 
--- whether the superblock that became EMPTY stands in the slot
+-- the look whether the superblock that became EMPTY stands in the slot keeps the state sound
 pub load_held_slot-sound : (seat : SeatFields) (d heap : ℕ) → KeepsSound (Partial (partial.LoadHeldSlot seat d heap) Free)
 unfolding plan_point_of next_of event_of holds_of recalls_of
 load_held_slot-sound seat d heap g s caller s' sound has stands step =
@@ -212,7 +205,7 @@ load_held_slot-sound seat d heap g s caller s' sound has stands step =
           (rw no (elsewhere-goes g s caller p seat d has stands refl (grind (arith)) (λ class. refl))) step
     ]
 
--- it is removed from there, and is the caller's then; or it isn't there any more
+-- the removal of a superblock from its slot keeps the state sound, won or lost
 pub remove_from_slot-sound : (seat : SeatFields) (d heap : ℕ) → KeepsSound (Partial (partial.RemoveFromSlot seat d heap) Free)
 unfolding plan_point_of next_of event_of holds_of recalls_of
 remove_from_slot-sound seat d heap g s caller s' sound has stands step =
@@ -242,7 +235,7 @@ remove_from_slot-sound seat d heap g s caller s' sound has stands step =
           (elsewhere-goes g s caller p seat d has stands refl (grind (arith)) (λ class. refl)) lost step
     ]
 
--- the slot into which a superblock is put holds it after the swap
+-- the active words and the slots hold what is in its state after a superblock is put into a slot
 put-actives :
     (g : Geometry) (s : State) (l : Lists) (caller : ℕ) (seat : SeatFields) (d heap : ℕ) (o : Continuation) (words' : WordName → ℕ) → IsSoundWith g s l
     → caller < g.callers → (s.errand caller).point ≡ Partial (partial.PutSlot seat d heap) o → Writes s.word (slot_of seat heap) (d + 1) words'
@@ -255,14 +248,14 @@ put-actives g s l caller seat d heap o words' old has stands w =
     slot-written g s l heap seat.class (d + 1) words' old w (omega (arith, fits.desc))
     (λ e is. let same : d ≡ e = omega (arith, is) in subst (λ k. (k < descriptor_count g) × IsPartlyUsed s k seat.class) same (fits.desc, mine))
 
--- its word fits
+-- the word of a slot that names the descriptor fits
 put-below :
     (g : Geometry) (s : State) (l : Lists) (caller : ℕ) (seat : SeatFields) (d heap : ℕ) (o : Continuation) → IsChecked g → IsSoundWith g s l
     → caller < g.callers → (s.errand caller).point ≡ Partial (partial.PutSlot seat d heap) o → d + 1 < 2 ^ 64
 put-below g s l caller seat d heap o checked old has stands =
     omega (arith, (fits-at g s l caller (Partial (partial.PutSlot seat d heap) o) old has stands).point.desc, descriptor_count_within g checked)
 
--- where a superblock leads that is put into an empty slot: it stands there, and nothing is kept any more
+-- what a superblock leads to that is put into an empty slot: nothing is kept any more
 record FillsSlot (seat : SeatFields) (d heap : ℕ) (o : Continuation) (n : Next) : Type 0 where
   plain : LeadsOrEnds n
   weighs : WeighFrom (slot_of seat heap) 0 (d + 1) (Partial (partial.PutSlot seat d heap) o) (point_after n)
@@ -270,7 +263,7 @@ record FillsSlot (seat : SeatFields) (d heap : ℕ) (o : Continuation) (n : Next
   kept : (holds_of (point_after n)).kept ≡ []
   recalls : recalls_of (point_after n) ≡ recalls_of (Partial (partial.PutSlot seat d heap) o)
 
--- the caller gives its block, or the free finishes: it ends where it stored no hazard word
+-- what follows a filled slot: the caller gives its block, or its free finishes, and ends where it stored no hazard word
 filled-leads :
     (seat : SeatFields) (d heap : ℕ) (o : Continuation) → IsTrue (fills o) → FillsSlot seat d heap o (leave_partial (exit.SlotFilled seat) o)
 unfolding holds_of recalls_of
@@ -279,7 +272,7 @@ filled-leads seat d heap (Finish true) is = grind (arith)
 filled-leads seat d heap (Finish false) is = grind (arith)
 filled-leads seat d heap o is = absurd (true≢false (sym is))
 
--- so the state stays sound where the slot was empty
+-- a put into a slot that was empty keeps the state sound
 put_slot_filled-sound :
     (seat : SeatFields) (d heap : ℕ) (o : Continuation)
     → KeepsSoundWhere (Partial (partial.PutSlot seat d heap) o) (λ s. s.word (slot_of seat heap) ≡ 0)
@@ -301,7 +294,7 @@ put_slot_filled-sound seat d heap o g s caller s' sound has stands bare step =
     })
     step
 
--- another one stood there, which is the caller's now
+-- the swap that puts a superblock into a slot where another one stood keeps the state sound: that one is the caller's now
 displaced-next :
     (g : Geometry) (seat : SeatFields) (d heap other : ℕ) → seat.geometry ≡ g → other < descriptor_count g
     → after_put seat d heap (other + 1) ≡ Leaves (exit.Displaced seat other)
@@ -334,7 +327,7 @@ put_slot_displaced-sound seat d heap other o g s caller s' sound has stands ther
     })
     step
 
--- a superblock is put into a slot
+-- the swap that puts a superblock into a slot keeps the state sound
 pub put_slot-sound : (seat : SeatFields) (d heap : ℕ) (o : Continuation) → KeepsSound (Partial (partial.PutSlot seat d heap) o)
 put_slot-sound seat d heap o g s caller s' sound has stands step =
     elim (cases_eq (s.word (slot_of seat heap)) 0) [
@@ -342,7 +335,7 @@ put_slot-sound seat d heap o g s caller s' sound has stands step =
       | inr held ↦ put_slot_displaced-sound seat d heap (s.word (slot_of seat heap) - 1) o g s caller s' sound has stands (omega (arith, held)) step
     ]
 
--- the second superblock from the list is EMPTY: it is kept until the first one stands on the list again
+-- the look at a second superblock from the list that is EMPTY weighs the same: it is kept until the first one is back on the list
 listed-weighs :
     (w : ℕ) (seat : SeatFields) (d first : ℕ)
     → WeighFrom (name.Anchor d) w w (Partial (partial.LoadListedAnchor seat d) (ClearSecond first))
@@ -358,7 +351,7 @@ listed-weighs w seat d first = record {
   stock = λ class. omega arith;
 }
 
--- it is kept by the caller
+-- the caller keeps the descriptor at hand
 keeps-listed :
     (e : ErrandFields) (seat : SeatFields) (d first : ℕ) → e.point ≡ Partial (partial.LoadListedAnchor seat d) (ClearSecond first)
     → 1 ≤ errand_keeps partly_used d e
@@ -367,7 +360,7 @@ keeps-listed e seat d first stands =
     subst (λ p. 1 ≤ kept_among partly_used d (holds_of p).kept) (sym stands)
     (rw (eq-eqb d d refl) (omega arith))
 
--- the second superblock from the list is EMPTY and is kept until the first one stands on the list again, or it isn't
+-- the look at the second superblock from the list keeps the state sound, whether that is EMPTY or not
 pub load_second-sound : (seat : SeatFields) (d first : ℕ) → KeepsSound (Partial (partial.LoadListedAnchor seat d) (ClearSecond first))
 unfolding plan_point_of next_of event_of holds_of recalls_of
 load_second-sound seat d first g s caller s' sound has stands step =
@@ -388,7 +381,7 @@ load_second-sound seat d first g s caller s' sound has stands step =
                 alike-goes g s l caller p _ old has stands (grind (arith))
                 (keeps-too s first seat.class (this ∷ []) (kept 1 other (omega arith))
                 (keeps-too s d seat.class [] (kept 0 this (omega arith)) (none-kept-as s)))
-                (All-cons (IsSo g s l caller) (emptied d) [] so (All-nil (IsSo g s l caller)));
+                (All-cons (IsSo g s l caller) _ [] so (All-nil (IsSo g s l caller)));
           })) step
       | inr used ↦
           quiet-at g s caller s' (Partial (partial.LoadListedAnchor seat d) (ClearSecond first)) sound has stands

@@ -3,28 +3,22 @@ use Rattle.std.proofs.Common.{ℕ, Bool, true, false, Option, Some, None, ◌≡
 use Rattle.std.proofs.lemmas.Bool.{cond_both}
 use Rattle.std.proofs.lemmas.List.Elements.{All-nil, All-cons}
 use Rattle.sound_state.proofs.Common.{Geometry, block_place, frame_of, frame_of-block_place, AnchorFields, Site, descriptor_count, SeatFields, info_in, Continuation}
-use Rattle.sound_state.proofs.Common.{Point, Block, At, event_of, next_of, plan_point_of, State, Step, IsHazard, IsGuard, holds_of, Lists, IsSo, IsLocated, IsOwned}
-use Rattle.sound_state.proofs.Common.{recalls_of, bound_at, IsSoundWithoutCounts, IsSoundWith, is_bound}
+use Rattle.sound_state.proofs.Common.{Point, Block, At, event_of, next_of, plan_point_of, State, IsHazard, IsGuard, holds_of, Lists, IsSo, IsLocated, IsOwned}
+use Rattle.sound_state.proofs.Common.{recalls_of, IsSoundWith, is_bound, Prefix, InfoFields, prefix_word, prefix_of, reads, prefix-exact, anchor_in, is_last}
+use Rattle.sound_state.proofs.Common.{after_push_anchor, if_stored, Freed}
 use Rattle.heap_geometry.specs.declared.need.Need.TheVariants as need
-use Rattle.packed_words.specs.declared.prefix.Prefix.{Prefix}
 use Rattle.packed_words.specs.declared.prefix.Prefix.TheVariants.{Small, Large}
 use Rattle.packed_words.specs.Fields.{Reads}
-use Rattle.packed_words.specs.Info.{InfoFields}
-use Rattle.packed_words.specs.Prefix.{IsPrefix, prefix_word, prefix_of}
-use Rattle.packed_words.proofs.ExactLemmas.{reads}
-use Rattle.packed_words.proofs.PrefixLemmas.{prefix-exact}
+use Rattle.packed_words.specs.Prefix.{IsPrefix}
 use Rattle.word_table.specs.declared.name.WordName.TheVariants as name
-use Rattle.word_table.specs.Seats.{anchor_in}
-use Rattle.superblock_parts.specs.Anchors.{is_last}
 use Rattle.superblock_parts.specs.declared.point.BlockPoint.TheVariants as block
-use Rattle.superblock_parts.specs.Points.{after_prefix, after_push_anchor, after_owner}
-use Rattle.sound_state.specs.Holdings.{if_stored, Freed}
+use Rattle.superblock_parts.specs.Points.{after_prefix, after_owner}
 use Rattle.sound_state.proofs.quiet.QuietSteps.{StepsSteadily, LeadsOn, leads-on, quiet-at, quiet-steady, steady-at}
 use Rattle.sound_state.proofs.shared.OwnerLemmas.{begins-owned, prefix-ties, begins-free}
 use Rattle.sound_state.proofs.shared.PointLemmas.{blocks-go, fits-at, hazard-at, so-at, weigh-stays}
 use Rattle.sound_state.proofs.shared.KeepsSound.{KeepsSound}
 
--- where the word of a guarded descriptor leads
+-- what the word of a guarded descriptor leads to
 guarded-owner-leads :
     (site : Site) (i : ℕ) (a : AnchorFields) (o : Continuation) (said : Option InfoFields)
     → LeadsOn (Block (block.LoadOwner site i a) o) (At (Block (after_owner site i a said) o)) 0
@@ -32,7 +26,7 @@ unfolding holds_of recalls_of
 guarded-owner-leads site i a o None = grind (arith)
 guarded-owner-leads site i a o (Some info) = grind (arith)
 
--- the load of the owner
+-- the load of the owner of a guarded descriptor keeps the state sound
 pub load_guarded_owner-sound : (site : Site) (i : ℕ) (a : AnchorFields) (o : Continuation) → KeepsSound (Block (block.LoadOwner site i a) o)
 unfolding plan_point_of next_of event_of
 load_guarded_owner-sound site i a o g s caller s' sound has stands step =
@@ -46,7 +40,7 @@ small-prefix-word word d below is =
     let reads_it : Reads IsPrefix prefix_word word (Some (Small d)) = reads prefix-exact word (Some (Small d)) below (sym is) in
     omega (arith, reads_it.1)
 
--- the block that is freed is one of the superblock that its prefix word names
+-- a block that is freed is one of the superblock of the descriptor that its prefix word names
 prefix-names :
     (g : Geometry) (s : State) (l : Lists) (caller : ℕ) (seat : SeatFields) (frame i : ℕ) (o : Continuation) (d : ℕ) → IsSoundWith g s l
     → caller < g.callers → (s.errand caller).point ≡ Block (block.LoadPrefix seat frame i) o
@@ -62,7 +56,7 @@ prefix-names g s l caller seat frame i o d old has stands is =
       subst (λ f. IsLocated s d f seat.class) (frame_of-block_place frame seat.class i fit.2) located,
     )
 
--- where a small prefix of one of the heap's descriptors leads
+-- what a small prefix of one of the heap's descriptors leads to
 small-prefix-leads :
     (g : Geometry) (s : State) (caller : ℕ) (seat : SeatFields) (frame i : ℕ) (o : Continuation) (d : ℕ) → caller < g.callers
     → (s.errand caller).point ≡ Block (block.LoadPrefix seat frame i) o → prefix_of (s.word (name.Arena (block_place frame seat.class i))) ≡ Some
@@ -75,7 +69,7 @@ small-prefix-leads g s caller seat frame i o d has stands is = record {
   weighs = λ w. weigh-stays _ w _ _ refl refl refl (λ class. refl);
   goes = λ l old. record {
     kept = All-nil _;
-    so = All-cons (IsSo g s l caller) (bound_at d frame seat.class) [] (prefix-names g s l caller seat frame i o d old has stands is)
+    so = All-cons (IsSo g s l caller) _ [] (prefix-names g s l caller seat frame i o d old has stands is)
         (All-nil (IsSo g s l caller));
     hazard = hazard-at g s l caller (Block (block.LoadPrefix seat frame i) o) old has stands;
     guard = λ d word guard. guard;
@@ -93,7 +87,7 @@ small-prefix-leads g s caller seat frame i o d has stands is = record {
   };
 }
 
--- one that isn't expected leaves the caller where it is
+-- the load of a prefix word that isn't expected leaves the caller where it is
 prefix-stays :
     (g : Geometry) (s : State) (caller : ℕ) (seat : SeatFields) (frame i : ℕ) (o : Continuation) → caller < g.callers → (s.errand caller).point ≡ Block
     (block.LoadPrefix seat frame i) o
@@ -112,19 +106,19 @@ prefix-said g s caller seat frame i o (Some (Small d)) has stands is =
     (block.LoadPrefix seat frame i) (λ q. StepsSteadily g s caller (Block (block.LoadPrefix seat frame i) o) (At (Block q o)))
     (λ exists. small-prefix-leads g s caller seat frame i o d has stands is) (λ none. prefix-stays g s caller seat frame i o has stands)
 
--- the load of a prefix word
+-- the load of a freed block's prefix word keeps the state sound
 pub load_prefix-sound : (seat : SeatFields) (frame i : ℕ) (o : Continuation) → KeepsSound (Block (block.LoadPrefix seat frame i) o)
 unfolding plan_point_of next_of event_of
 load_prefix-sound seat frame i o g s caller s' sound has stands step =
     steady-at g s caller s' (Block (block.LoadPrefix seat frame i) o) sound has stands (record { event = refl; cleared = refl; word = refl })
     (prefix-said g s caller seat frame i o (prefix_of (s.word (name.Arena (block_place frame seat.class i)))) has stands refl) step
 
--- a hazard word that names a descriptor was stored
+-- a hazard word that names a descriptor was stored, and so guards
 stored-guards : (stored : Bool) (e d word : ℕ) → IsHazard (if_stored stored e) word → word ≡ d + 1 → IsGuard (if_stored stored e)
 stored-guards true e d word hazard names = tt
 stored-guards false e d word hazard names = omega (arith, hazard, names)
 
--- where an anchor leads that is read for a push: of one that makes the superblock empty
+-- what an anchor leads to that is read for a push that makes the superblock EMPTY
 push_anchor-last :
     (g : Geometry) (s : State) (caller : ℕ) (site : Site) (i : ℕ) (stored : Bool) (o : Continuation) (a : AnchorFields) → caller < g.callers
     → (s.errand caller).point ≡ Block (block.LoadPushAnchor site i stored) o → StepsSteadily g s caller (Block (block.LoadPushAnchor site i stored) o)
@@ -141,7 +135,7 @@ push_anchor-last g s caller site i stored o a has stands =
           (so-at g s l caller p old has stands);
     }
 
--- and of any
+-- what an anchor leads to that is read for any push
 push_anchor-said :
     (g : Geometry) (s : State) (caller : ℕ) (site : Site) (i : ℕ) (stored : Bool) (o : Continuation) (said : Option AnchorFields) → caller < g.callers
     → (s.errand caller).point ≡ Block (block.LoadPushAnchor site i stored) o → StepsSteadily g s caller (Block (block.LoadPushAnchor site i stored) o)
@@ -154,7 +148,7 @@ push_anchor-said g s caller site i stored o (Some a) has stands =
     (λ last. push_anchor-last g s caller site i stored o a has stands)
     (λ more. quiet-steady g s caller _ _ has stands (leads-on g s caller _ _ 0 has stands (grind (arith))))
 
--- the load of an anchor for a push
+-- the load of an anchor for a push keeps the state sound
 pub load_push_anchor-sound : (site : Site) (i : ℕ) (stored : Bool) (o : Continuation) → KeepsSound (Block (block.LoadPushAnchor site i stored) o)
 unfolding plan_point_of next_of event_of
 load_push_anchor-sound site i stored o g s caller s' sound has stands step =

@@ -1,18 +1,15 @@
 -- Quiet steps at a stack: loads, and exchanges that are lost.
-use Rattle.std.proofs.Common.{ℕ, ◌≡◌, ◌≢◌, ◌<◌, ◌-◌, List, [], ◌∷◌, refl, arith, ◌==◌, nat_le, if◌then◌else◌}
-use Rattle.std.proofs.lemmas.Bool.{cond_both, cond-true, eq-eqb, eqb-true, eqb-false}
+use Rattle.std.proofs.Common.{ℕ, ◌≡◌, ◌≢◌, ◌<◌, ◌-◌, List, [], ◌∷◌, refl, arith, ◌==◌, nat_le, if◌then◌else◌, eq-eqb, eqb-true}
+use Rattle.std.proofs.lemmas.Bool.{cond_both, cond-true, eqb-false}
 use Rattle.std.proofs.lemmas.List.Elements.{All-cons}
 use Rattle.sound_state.proofs.Common.{Geometry, HeadFields, head_of, SeatFields, occurs, Pile, StackPoint, head_name, next_name, Stacked, next_in, Continuation, At}
-use Rattle.sound_state.proofs.Common.{Stack, event_of, next_of, plan_point_of, State, Step, holds_of, IsSo, recalls_of, IsSoundWithoutCounts}
-use Rattle.packed_words.specs.Head.{head_word}
+use Rattle.sound_state.proofs.Common.{Stack, event_of, next_of, plan_point_of, State, holds_of, IsSo, recalls_of, head_word, pile_limit, after_below, Clear}
+use Rattle.sound_state.proofs.Common.{enter_stack, list_of, continuation_recalls}
 use Rattle.word_table.specs.declared.onward.Onward.TheVariants.{Stays, Leaves}
 use Rattle.stack_parts.specs.declared.exit.StackExit.TheVariants as exit
 use Rattle.stack_parts.specs.declared.point.StackPoint.TheVariants as stack
-use Rattle.stack_parts.specs.Piles.{pile_limit}
-use Rattle.stack_parts.specs.Points.{after_top, after_below}
-use Rattle.errand_steps.specs.declared.continuation.Continuation.TheVariants.{Clear}
-use Rattle.errand_steps.specs.Nexts.{enter_stack, found_empty}
-use Rattle.sound_state.specs.Recalls.{list_of, continuation_recalls, tops, nexts, tops_exist}
+use Rattle.stack_parts.specs.Points.{after_top}
+use Rattle.errand_steps.specs.Nexts.{found_empty}
 use Rattle.sound_state.proofs.quiet.QuietExchanges.{lost-at}
 use Rattle.sound_state.proofs.quiet.QuietLemmas.{HoldsSame}
 use Rattle.sound_state.proofs.quiet.QuietSteps.{LeadsOn, LeadsQuietly, leads-on, quiet-at}
@@ -27,7 +24,7 @@ top-listed next top (x ∷ xs) stack some =
     let here : x ≡ top - 1 = omega (arith, stack.0) in
     omega (arith, cond-true {A = ℕ} (x == top - 1) 1 0 (eq-eqb x (top - 1) here))
 
--- at another point of a stack a caller with the same continuation holds the same
+-- a caller with the same continuation holds the same at another point of a stack
 pops-same :
     (p q : StackPoint) (o : Continuation) → holds_of (Stack q o) ≡ holds_of (Stack p o) → HoldsSame (Stack p o) (Stack q o)
 pops-same p q o same = record {
@@ -40,7 +37,7 @@ pops-same p q o same = record {
   turn = record { under_way = omega arith; discards = omega arith; unanswered = omega arith; unframed = omega arith; pops = omega arith };
 }
 
--- a head that is read for a push: its top exists
+-- the load of a head for a push keeps the state sound: its top exists
 pub load_top_to_push-sound : (seat : SeatFields) (pile : Pile) (i : ℕ) (o : Continuation) → KeepsSound (Stack (stack.LoadTopToPush seat pile i) o)
 unfolding plan_point_of next_of event_of holds_of recalls_of
 load_top_to_push-sound seat pile i o g s caller s' sound has stands step =
@@ -52,14 +49,14 @@ load_top_to_push-sound seat pile i o g s caller s' sound has stands step =
       holds = pops-same p (stack.StoreBelow seat pile i h) o refl;
       so = λ l old.
           let class = (fits-at g s l caller (Stack p o) old has stands).point.seat.class in
-          All-cons (IsSo g s l caller) (tops_exist seat pile h) (continuation_recalls seat o)
+          All-cons (IsSo g s l caller) _ (continuation_recalls seat o)
           (top-exists (next_in s.word pile) h.top (pile_limit g pile) (list_of l seat pile) (pile-stacked g s l seat pile old.listed class)
           (pile-exists g s l seat pile old.listed class))
           (so-at g s l caller (Stack p o) old has stands);
     })
     step
 
--- the next word of the index on top is read: it is remembered as it is
+-- the load of the next word of the index on top leads quietly on: it is remembered as it is
 below-leads-quietly :
     (g : Geometry) (s : State) (caller : ℕ) (seat : SeatFields) (pile : Pile) (h : HeadFields) (o : Continuation) → caller < g.callers
     → (s.errand caller).point ≡ Stack (stack.LoadBelow seat pile h) o
@@ -75,7 +72,7 @@ below-leads-quietly g s caller seat pile h o has stands =
       plain = tt;
       holds = pops-same p q o refl;
       so = λ l old.
-          All-cons (IsSo g s l caller) (nexts seat pile h below) (tops seat pile h ∷ continuation_recalls seat o) (λ same. refl)
+          All-cons (IsSo g s l caller) _ (recalls_of (Stack p o)) (λ same. refl)
           (so-at g s l caller (Stack p o) old has stands);
     })
     (λ beyond. leads-on g s caller (Stack p o) _ 0 has stands (record { plain = tt; holds = pops-same p p o refl; recalls = refl }))
@@ -86,7 +83,7 @@ load_below-sound seat pile h o g s caller s' sound has stands step =
     quiet-at g s caller s' (Stack (stack.LoadBelow seat pile h) o) sound has stands (record { event = refl; cleared = refl; word = refl })
     (below-leads-quietly g s caller seat pile h o has stands) step
 
--- a pop that is lost begins again
+-- a pop from a stack that is lost, and begins again, keeps the state sound
 pub pop_top_lost-sound :
     (seat : SeatFields) (pile : Pile) (h : HeadFields) (below : ℕ) (o : Continuation)
     → KeepsSoundWhere (Stack (stack.PopTop seat pile h below) o) (λ s. s.word (head_name seat pile) ≢ head_word h)
@@ -96,7 +93,7 @@ pop_top_lost-sound seat pile h below o g s caller s' sound has stands lost step 
     lost-at g s caller s' (Stack p o) (head_name seat pile) (head_word h) _ sound has stands refl refl
     (leads-on g s caller (Stack p o) _ 2 has stands (record { plain = tt; holds = pops-same p (stack.LoadTop seat pile) o refl; recalls = refl })) lost step
 
--- so does the look whether the stack is still empty
+-- the look whether the stack is still empty keeps the state sound where it isn't
 pub confirm_empty_lost-sound :
     (seat : SeatFields) (pile : Pile) (h : HeadFields) (o : Continuation)
     → KeepsSoundWhere (Stack (stack.ConfirmEmpty seat pile h) o) (λ s. s.word (head_name seat pile) ≢ head_word h)
@@ -106,7 +103,7 @@ confirm_empty_lost-sound seat pile h o g s caller s' sound has stands lost step 
     lost-at g s caller s' (Stack p o) (head_name seat pile) (head_word h) _ sound has stands refl refl
     (leads-on g s caller (Stack p o) _ 0 has stands (record { plain = tt; holds = pops-same p (stack.LoadTop seat pile) o refl; recalls = refl })) lost step
 
--- and a push that is lost
+-- a push onto a stack that is lost keeps the state sound
 pub push_top_lost-sound :
     (seat : SeatFields) (pile : Pile) (i : ℕ) (h : HeadFields) (o : Continuation)
     → KeepsSoundWhere (Stack (stack.PushTop seat pile i h) o) (λ s. s.word (head_name seat pile) ≢ head_word h)
@@ -117,14 +114,14 @@ push_top_lost-sound seat pile i h o g s caller s' sound has stands lost step =
     (leads-on g s caller (Stack p o) _ 2 has stands
     (record { plain = tt; holds = pops-same p (stack.LoadTopToPush seat pile i) o refl; recalls = refl })) lost step
 
--- a stack that is read empty: an allocation looks again, and a clearing that has popped one puts it back
+-- a stack that is read empty leads on: an allocation looks again, and a clearing that has popped one superblock puts it back
 empty-stack-leads :
     (seat : SeatFields) (pile : Pile) (h : HeadFields) (o : Continuation) → o ≢ Clear
     → LeadsOn (Stack (stack.LoadTop seat pile) o) (found_empty seat pile h o) 0
 unfolding holds_of recalls_of
 empty-stack-leads seat pile h o goes = grind (arith)
 
--- a head that is read for a pop: the index on top is in the list
+-- the load of a head for a pop leads quietly on: the index on top is in the list
 top-leads-quietly :
     (g : Geometry) (s : State) (caller : ℕ) (seat : SeatFields) (pile : Pile) (o : Continuation) → caller < g.callers
     → (s.errand caller).point ≡ Stack (stack.LoadTop seat pile) o
@@ -145,7 +142,7 @@ top-leads-quietly g s caller seat pile o has stands goes =
       holds = pops-same p q o refl;
       so = λ l old.
           let class = (fits-at g s l caller (Stack p o) old has stands).point.class in
-          All-cons (IsSo g s l caller) (tops seat pile h) (continuation_recalls seat o)
+          All-cons (IsSo g s l caller) _ (continuation_recalls seat o)
           (record {
             tag = omega arith;
             top = λ same.

@@ -2,8 +2,7 @@
 use Rattle.std.proofs.Common.{ℕ, false, None, ◌≡◌, ◌<◌, ◌^◌, refl, sym, subst, All, drop}
 use Rattle.std.proofs.lemmas.List.Elements.{All-nil, All-drop}
 use Rattle.sound_state.proofs.Common.{Geometry, name_of, after_action, Next, End, Point, Idle, Reply, counts_cleared, event_of, next_of, plan_point_of, State, Step}
-use Rattle.sound_state.proofs.Common.{Lists, IsSo, recalls_of, IsSoundWithoutCounts, IsSoundWith}
-use Rattle.errand_steps.specs.Errands.{point_after}
+use Rattle.sound_state.proofs.Common.{Lists, IsSo, recalls_of, IsSoundWithoutCounts, IsSoundWith, point_after}
 use Rattle.sound_state.proofs.quiet.QuietLemmas.{HoldsSame, same-point-goes, same-stays}
 use Rattle.sound_state.proofs.shared.PointLemmas.{WeighFrom, so-at, stays-actives, step-from}
 use Rattle.sound_state.proofs.shared.StepLemmas.{LeadsOrEnds, PointGoes, found_from}
@@ -14,13 +13,13 @@ pub record IsSilent (s : State) (caller : ℕ) (p : Point) : Type 0 where
   pub cleared : counts_cleared p (found_from s p) ≡ false
   pub word : after_action (plan_point_of p) (s.word (name_of (plan_point_of p))) ≡ s.word (name_of (plan_point_of p))
 
--- a silent step after which the caller weighs what it weighed, and may stand where it leads
+-- a step after which its caller weighs what it weighed, and may stand where it leads
 pub record StepsSteadily (g : Geometry) (s : State) (caller : ℕ) (p : Point) (n : Next) : Type 0 where
   pub plain : LeadsOrEnds n
   pub weighs : (w : ℕ) → WeighFrom (name_of (plan_point_of p)) w w p (point_after n)
   pub goes : (l : Lists) → IsSoundWith g s l → PointGoes g s l caller p (point_after n)
 
--- keeps the state sound
+-- a silent step after which its caller weighs the same, and may stand where it leads, keeps the state sound
 pub steady-at :
     (g : Geometry) (s : State) (caller : ℕ) (s' : State) (p : Point) → IsSoundWithoutCounts g s → caller < g.callers → (s.errand caller).point ≡ p
     → IsSilent s caller p → StepsSteadily g s caller p (next_of p (found_from s p)) → Step s caller s' → IsSoundWithoutCounts g s'
@@ -38,13 +37,13 @@ steady-at g s caller s' p sound has stands silent h step =
     })
     step
 
--- a step that leads where the caller holds what it held, and what it remembers is so
+-- a step that leads where its caller holds what it held, and what it remembers there is so
 pub record LeadsQuietly (g : Geometry) (s : State) (caller : ℕ) (p : Point) (n : Next) : Type 0 where
   pub plain : LeadsOrEnds n
   pub holds : HoldsSame p (point_after n)
   pub so : (l : Lists) → IsSoundWith g s l → All (IsSo g s l caller) (recalls_of (point_after n))
 
--- so what it weighs stays, and it may stand there
+-- a step that leads quietly on leaves what its caller weighs, and the caller may stand where it leads
 pub quiet-steady :
     (g : Geometry) (s : State) (caller : ℕ) (p : Point) (n : Next) → caller < g.callers → (s.errand caller).point ≡ p → LeadsQuietly g s caller p n
     → StepsSteadily g s caller p n
@@ -58,20 +57,20 @@ quiet-steady g s caller p n has stands h =
           (same-point-goes g s l caller (point_after n) old has (subst (λ r. HoldsSame r (point_after n)) (sym stands) same) (h.so l old));
     }
 
--- keeps the state sound, if it is silent
+-- a silent step that leads quietly on keeps the state sound
 pub quiet-at :
     (g : Geometry) (s : State) (caller : ℕ) (s' : State) (p : Point) → IsSoundWithoutCounts g s → caller < g.callers → (s.errand caller).point ≡ p
     → IsSilent s caller p → LeadsQuietly g s caller p (next_of p (found_from s p)) → Step s caller s' → IsSoundWithoutCounts g s'
 quiet-at g s caller s' p sound has stands silent h step =
     steady-at g s caller s' p sound has stands silent (quiet-steady g s caller p (next_of p (found_from s p)) has stands h) step
 
--- a step that leads where the caller holds the same, and remembers the same but for the first few things
+-- a step that leads where its caller holds the same, and remembers the same but for the first few things
 pub record LeadsOn (p : Point) (n : Next) (forgotten : ℕ) : Type 0 where
   pub plain : LeadsOrEnds n
   pub holds : HoldsSame p (point_after n)
   pub recalls : recalls_of (point_after n) ≡ drop forgotten (recalls_of p)
 
--- leads quietly
+-- a step that leads where its caller holds the same, and remembers the same but for the first few things, leads quietly
 pub leads-on :
     (g : Geometry) (s : State) (caller : ℕ) (p : Point) (n : Next) (forgotten : ℕ) → caller < g.callers → (s.errand caller).point ≡ p
     → LeadsOn p n forgotten → LeadsQuietly g s caller p n

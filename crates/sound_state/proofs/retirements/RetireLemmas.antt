@@ -1,29 +1,23 @@
 -- A step that retires the descriptor of an EMPTY superblock, and leaves its word or clears a hazard word, keeps the state sound.
-use Rattle.std.proofs.Common.{ℕ, Bool, true, false, None, ◌≡◌, ◌≢◌, ◌<◌, ◌≤◌, ◌+◌, ◌^◌, List, [], ◌∷◌, ◌++◌, length, refl, arith, ap, sym, subst, inl, inr, ◌∙◌, length-append, ne_eqb, eq-eqb}
-use Rattle.std.specs.Prelude.{◌==◌, ◌&&◌, ◌⊎◌, not, All}
-use Rattle.std.proofs.lemmas.Bool.{cases_eq, cases_Bool, cond-true, cond-false, leb-true}
+use Rattle.std.proofs.Common.{ℕ, Bool, true, false, None, ◌≡◌, ◌≢◌, ◌<◌, ◌≤◌, ◌+◌, ◌^◌, List, [], ◌∷◌, ◌++◌, length, refl, arith, ap, sym, subst, inl, inr, ◌∙◌}
+use Rattle.std.proofs.Common.{length-append, ne_eqb, eq-eqb, ◌==◌, ◌&&◌, ◌⊎◌, not, All, leb-true}
+use Rattle.std.proofs.lemmas.Bool.{cases_eq, cases_Bool, cond-true, cond-false}
 use Rattle.std.proofs.lemmas.List.Elements.{All-append, All-cons, All-nil}
-use Rattle.sound_state.proofs.Common.{Geometry, AnchorFields, anchor_of, is_empty, Found, WordName, descriptor_count, name_of, after_action, SeatFields, Exists}
-use Rattle.sound_state.proofs.Common.{Writes, cases_name, occurs, Event, IsLegalWithoutCounts, At, End, Retire, Continuation, Point, Reply, Idle, Desc, ErrandFields}
-use Rattle.sound_state.proofs.Common.{settle_of, course_of, raised, counts_lost, counts_cleared, event_of, spare_of, next_of, plan_point_of, State, Step, Moves}
-use Rattle.sound_state.proofs.Common.{action_at, name_at, word_at, found_at, with_event, IsHazard, Status, holds_of, waiting, reserving, on_its_way, partly_used}
-use Rattle.sound_state.proofs.Common.{word_keeps, IsWithout, Lists, IsSo, recalls_of, IsSoundWithoutCounts, IsSoundWith, turn_stage_of, in_turn, is_unneeded}
-use Rattle.sound_state.proofs.Common.{waits_in, word_stock, sum_below, anchor_for, errand_keeps, errand_away, away_of, is_bound, word_reserves, emptied_out, one_if}
-use Rattle.sound_state.proofs.Common.{pops_left}
+use Rattle.sound_state.proofs.Common.{Geometry, AnchorFields, anchor_of, is_empty, Found, WordName, descriptor_count, name_of, after_action, SeatFields, Exists, Writes}
+use Rattle.sound_state.proofs.Common.{cases_name, occurs, Event, At, End, Retire, Continuation, Point, Reply, Idle, Desc, ErrandFields, settle_of}
+use Rattle.sound_state.proofs.Common.{course_of, raised, counts_lost, counts_cleared, event_of, spare_of, next_of, plan_point_of, State, Step, Moves, action_at}
+use Rattle.sound_state.proofs.Common.{name_at, word_at, found_at, with_event, IsHazard, Status, holds_of, waiting, reserving, on_its_way, partly_used, word_keeps}
+use Rattle.sound_state.proofs.Common.{IsWithout, Lists, IsSo, recalls_of, IsSoundWithoutCounts, IsSoundWith, turn_stage_of, in_turn, is_unneeded, waits_in, word_stock}
+use Rattle.sound_state.proofs.Common.{sum_below, anchor_for, errand_keeps, errand_away, away_of, is_bound, word_reserves, emptied_out, one_if, pops_left, plan_of}
+use Rattle.sound_state.proofs.Common.{counts_won, is_full, no_words, resumed, event_at, plan-exists, HazardState, clear, nothing, keep, IsPlain, resumed_recalls}
+use Rattle.sound_state.proofs.Common.{lacks_frame, lacks_partial, lacks_answer}
 use Rattle.packed_words.specs.declared.anchor.AnchorState.TheVariants as phase
 use Rattle.word_table.specs.declared.name.WordName.TheVariants as name
 use Rattle.hazard_parts.specs.declared.point.DescPoint.TheVariants as desc
-use Rattle.errand_steps.specs.Errands.{plan_of, counts_won, is_full, no_words}
-use Rattle.errand_steps.specs.Nexts.{resumed}
-use Rattle.errand_steps.specs.Steps.{event_at}
-use Rattle.errand_steps.proofs.PlanLemmas.{plan-exists}
-use Rattle.sound_state.specs.Holdings.{HazardState, clear, nothing, keep}
-use Rattle.sound_state.specs.Recalls.{IsPlain, resumed_recalls}
-use Rattle.sound_state.specs.TurnStages.{lacks_frame, lacks_partial, lacks_answer}
 use Rattle.sound_state.proofs.shared.AlikeLemmas.{sound-alike}
 use Rattle.sound_state.proofs.hazards.HazardLemmas.{hazard_caller, hazard-actives}
 use Rattle.sound_state.proofs.shared.ListFacts.{occurs-push}
-use Rattle.sound_state.proofs.shared.ShownLemmas.{MayGoOn, ActivesKept}
+use Rattle.sound_state.proofs.shared.ShownLemmas.{MayGoOn}
 use Rattle.sound_state.proofs.shared.StepLemmas.{HoldsException, raised-least, raised-by, found_from, actives-stay, words-stay}
 use Rattle.sound_state.proofs.shared.HasLemmas.{kept-one, kept-itself, keeps-near}
 use Rattle.sound_state.proofs.shared.NothingLemmas.{HoldsNothing, scan-nothing, keeps-excepts, nothing-guards, settled-own, CountsGo, nothing-may}
@@ -31,17 +25,19 @@ use Rattle.sound_state.proofs.shared.SumLemmas.{sum-change, callers-moved}
 use Rattle.sound_state.proofs.shared.TagLemmas.{cleared-below}
 use Rattle.sound_state.proofs.shared.TurnEffects.{one_if-most}
 use Rattle.sound_state.proofs.shared.WeighLemmas.{WeighClose, weigh-close}
+use Rattle.sound_state.proofs.shared.SuperblocksStay.{ActivesKept}
+use Rattle.sound_state.proofs.shared.KeepsSound.{silent-sound}
 
--- the descriptor goes away with this errand, and no other one does
+-- the descriptor is away once more with the errand b than with a, and no other one is
 pub record GoesAway (d : ℕ) (a b : ErrandFields) : Type 0 where
   pub here : errand_away d b ≡ errand_away d a + 1
   pub elsewhere : (k : ℕ) → k ≢ d → errand_away k b ≡ errand_away k a
 
--- whether a superblock is there, and whether it is EMPTY and out
+-- a descriptor whose superblock is EMPTY isn't bound, whether away or not
 bound-none : (away : ℕ) (a : AnchorFields) → a.state ≡ phase.Empty → ((away == 0) && not (is_empty a.state)) ≡ false
 bound-none away a is = grind (arith)
 
--- where its superblock is EMPTY, the same superblocks are there
+-- after the retirement of an EMPTY superblock's descriptor the same superblocks are bound
 pub away-bound :
     (g : Geometry) (s : State) (l : Lists) (caller d : ℕ) (e : ErrandFields) (s' : State) → caller < g.callers → Moves s.errand caller e s'.errand
     → GoesAway d (s.errand caller) e → ((k : ℕ) → anchor_for s' k ≡ anchor_for s k) → (anchor_for s d).state ≡ phase.Empty
@@ -64,7 +60,7 @@ empty-out-one away a none is = grind (arith, none, is)
 away-out-none : (away : ℕ) (b : Bool) → 1 ≤ away → one_if ((away == 0) && b) ≡ 0
 away-out-none away b some = rw (ne_eqb away 0 (λ e. let bad : ⊥ = omega (arith, e, some) in bad)) refl
 
--- and one less is EMPTY and out
+-- after the retirement of an EMPTY superblock's descriptor one less is EMPTY and out
 pub away-emptied :
     (g : Geometry) (s : State) (l : Lists) (caller d : ℕ) (e : ErrandFields) (s' : State) → caller < g.callers → Moves s.errand caller e s'.errand
     → GoesAway d (s.errand caller) e → ((k : ℕ) → anchor_for s' k ≡ anchor_for s k) → (anchor_for s d).state ≡ phase.Empty
@@ -80,7 +76,7 @@ away-emptied g s l caller d e s' has m away anchors empty exists near =
     let after : emptied_out g s' l d ≡ 0 = away-out-none (away_of g s' l d) (is_empty (anchor_for s' d).state) (omega (arith, moved d, away.here)) in
     omega (arith, change, before, after)
 
--- the errand at the second point, with one more descriptor retired
+-- the errand at the point, with one more descriptor retired
 abbrev pub retired_at : ErrandFields → Found → ℕ → Point → ErrandFields
 retired_at e x d q =
     record e {
@@ -91,14 +87,14 @@ retired_at e x d q =
       cleared = raised (counts_cleared e.point x) e.cleared;
     }
 
--- where the list is full then, a scan begins
+-- a retirement that fills the list begins a scan
 pub settle-full :
     (e : ErrandFields) (x : Found) (s : SeatFields) (d : ℕ) (o : Continuation) → next_of e.point x ≡ Retire s d o → is_full e ≡ true
     → settle_of e x ≡ retired_at e x d (Desc (desc.ReadHazard s no_words 0) o)
 unfolding settle_of course_of
 settle-full e x s d o is full = rw (is, full) refl
 
--- else the call is resumed
+-- a retirement after which the list isn't full resumes the call
 settle-resumed :
     (e : ErrandFields) (x : Found) (s : SeatFields) (d : ℕ) (o : Continuation) (q : Point) → next_of e.point x ≡ Retire s d o → is_full e ≡ false
     → resumed s o ≡ At q → settle_of e x ≡ retired_at e x d q
@@ -111,7 +107,7 @@ pub settle-resumed-end :
 unfolding settle_of course_of
 settle-resumed-end e x s d o is few r to = rw (is, few, to) refl
 
--- how far a call's turn is at two points, where the first step may have found a superblock EMPTY that it took
+-- a turn goes on from p to q, where the step may have found a superblock EMPTY that its caller took
 pub record TurnRetires (p q : Point) (x : Found) : Type 0 where
   pub under_way : one_if (in_turn q) ≤ one_if (in_turn p)
   pub discards : one_if (is_unneeded (turn_stage_of q)) ≤ one_if (is_unneeded (turn_stage_of p))
@@ -121,7 +117,7 @@ pub record TurnRetires (p q : Point) (x : Found) : Type 0 where
       pops_left q + one_if (lacks_partial (turn_stage_of q))
       ≤ pops_left p + one_if (lacks_partial (turn_stage_of p)) + one_if (counts_cleared p x)
 
--- a caller that keeps one descriptor, and nothing else but a hazard word, holds nothing at the second point
+-- a caller that keeps at p one descriptor, and nothing else but a hazard word, holds nothing at q
 pub record Lets (p q : Point) (d class : ℕ) (status : Status) (word : HazardState) : Type 0 where
   pub before : holds_of p ≡ record nothing { kept = keep d class status; hazard = word }
   pub bare : HoldsNothing q
@@ -161,7 +157,7 @@ lets-weigh n before after d class h x q e lets plain reserves keeps stock =
       stock = λ c. rw (lets.before, lets.bare.holds, lets.bare.waits c, lets.waits c) (omega (arith, stock c));
     }
 
--- a step after which the caller stands at another point and has one more descriptor retired
+-- a step after which its caller stands at q and has one more descriptor retired
 pub record RetiresTo (g : Geometry) (s : State) (caller : ℕ) (d class : ℕ) (h : HazardState) (q : Point) : Type 0 where
   pub after : settle_of (s.errand caller) (found_at s caller) ≡ retired_at (s.errand caller) (found_at s caller) d q
   pub event : event_at s caller ≡ None
@@ -172,7 +168,7 @@ pub record RetiresTo (g : Geometry) (s : State) (caller : ℕ) (d class : ℕ) (
   pub turn : TurnRetires (s.errand caller).point q (found_at s caller)
   pub full : spare_of q ≡ 1 → is_full (s.errand caller) ≡ true
 
--- what the words are after it: the caller's hazard word is 0
+-- the words after a retirement: the caller's hazard word is 0, anchors and other hazard words stay
 record WordsLeft (g : Geometry) (s : State) (caller : ℕ) (e : ErrandFields) (words' : WordName → ℕ) : Type 0 where
   pub weigh : WeighClose (name_at s caller) (word_at s caller) (after_action (action_at s caller) (word_at s caller)) (s.errand caller) e
   pub anchors : (k : ℕ) → words' (name.Anchor k) ≡ s.word (name.Anchor k)
@@ -181,12 +177,12 @@ record WordsLeft (g : Geometry) (s : State) (caller : ℕ) (e : ErrandFields) (w
   pub actives : ActivesKept g s words'
   pub below : (n : WordName) → words' n < 2 ^ 64
 
--- the list has one more entry than the heap has callers
+-- a full list of retired descriptors with one more entry has one more than the heap has callers
 full-length : (e : ErrandFields) (d : ℕ) → is_full e ≡ true → length e.retired ≤ e.geometry.callers → length (e.retired ++ d ∷ []) ≡ e.geometry.callers + 1
 full-length e d full room =
     omega (arith, leb-true e.geometry.callers (length e.retired) full, room, length-append e.retired (d ∷ []))
 
--- so the caller may go on, with these events
+-- a caller that retires a descriptor may go on, with these events
 pub retired-may :
     (g : Geometry) (s : State) (past : List Event) (l : Lists) (caller : ℕ) (x : Found) (d class : ℕ) (status : Status) (h : HazardState) (q : Point)
     → IsSoundWith g s l → caller < g.callers → x.value < 2 ^ 64 → settle_of (s.errand caller) x ≡ retired_at (s.errand caller) x d q
@@ -206,7 +202,7 @@ retired-may g s past l caller x d class status h q old has word after lets full 
     (λ place b. absurd (keeps-excepts (keep d class status) h place (subst (λ held. HoldsException held place) lets.before b)))
     counts
 
--- the step keeps the state sound
+-- a step that retires a descriptor keeps the state sound
 retire-sound :
     (g : Geometry) (s : State) (caller : ℕ) (s' : State) (d class : ℕ) (h : HazardState) (q : Point) → IsSoundWithoutCounts g s → caller < g.callers
     → RetiresTo g s caller d class h q
@@ -231,48 +227,42 @@ retire-sound g s caller s' d class h q sound has to left step =
     let near = keeps-near g s l caller d old has to.exists keeps in
     let cleared = raised-by (counts_cleared (s.errand caller).point x) (s.errand caller).cleared
     (cleared-below g s (record { checked = sound.checked; legal = sound.legal; parts = (l, old) }) caller has) in
-    record {
-      checked = sound.checked;
-      legal = subst (IsLegalWithoutCounts g) (sym past) sound.legal;
-      parts = (
-        l,
-        sound-alike g s l caller e s'
-            (record {
-              in_heap = has;
-              moves = moves;
-              alike =
-                  weigh-close g s l caller (name_at s caller) _ e s' exists has step.word moves past
-                  (away-bound g s l caller d e s' has moves away anchors to.empty) words.weigh;
-              may =
-                  retired-may g s s.history l caller x d class partly_used h q old has (old.words (name_at s caller)) to.after to.lets to.full
-                  (inr to.empty) (subst (All (IsSo g s l caller)) (sym to.recalls) (All-nil (IsSo g s l caller)))
-                  (record {
-                    own_turns = omega (arith, old.turned.own_turns caller has, to.turn.under_way);
-                    own_lost =
-                        omega (
-                          arith,
-                          old.turned.own_lost caller has,
-                          to.turn.discards,
-                          to.turn.unanswered,
-                          raised-least (counts_lost (s.errand caller).point x) (s.errand caller).lost own.lost,
-                        );
-                    own_answers = omega (arith, old.turned.own_answers caller has, to.turn.unanswered);
-                    frame_turns = omega (arith, to.turn.unframed);
-                    list_turns = omega (arith, to.turn.pops, cleared);
-                  });
-              others = words.others;
-              guards = nothing-guards g s caller q e.retired (s'.word (name.Hazard caller)) to.lets.bare words.own;
-              actives = words.actives;
-              words = words.below;
-              emptied =
-                  let one = away-emptied g s l caller d e s' has moves away anchors to.empty to.exists near in
-                  omega (arith, one, cleared, one_if-most (counts_cleared (s.errand caller).point x));
-            })
-            old,
-      );
-    }
+    silent-sound g s s' l sound past
+    (sound-alike g s l caller e s'
+    (record {
+      in_heap = has;
+      moves = moves;
+      alike =
+          weigh-close g s l caller (name_at s caller) _ e s' exists has step.word moves past
+          (away-bound g s l caller d e s' has moves away anchors to.empty) words.weigh;
+      may =
+          retired-may g s s.history l caller x d class partly_used h q old has (old.words (name_at s caller)) to.after to.lets to.full
+          (inr to.empty) (subst (All (IsSo g s l caller)) (sym to.recalls) (All-nil (IsSo g s l caller)))
+          (record {
+            own_turns = omega (arith, old.turned.own_turns caller has, to.turn.under_way);
+            own_lost =
+                omega (
+                  arith,
+                  old.turned.own_lost caller has,
+                  to.turn.discards,
+                  to.turn.unanswered,
+                  raised-least (counts_lost (s.errand caller).point x) (s.errand caller).lost own.lost,
+                );
+            own_answers = omega (arith, old.turned.own_answers caller has, to.turn.unanswered);
+            frame_turns = omega (arith, to.turn.unframed);
+            list_turns = omega (arith, to.turn.pops, cleared);
+          });
+      others = words.others;
+      guards = nothing-guards g s caller q e.retired (s'.word (name.Hazard caller)) to.lets.bare words.own;
+      actives = words.actives;
+      words = words.below;
+      emptied =
+          let one = away-emptied g s l caller d e s' has moves away anchors to.empty to.exists near in
+          omega (arith, one, cleared, one_if-most (counts_cleared (s.errand caller).point x));
+    })
+    old)
 
--- so it does where its word stays, and the caller's hazard word was 0
+-- a retirement whose word stays keeps the state sound, where the caller's hazard word was 0
 retire-reads :
     (g : Geometry) (s : State) (caller : ℕ) (s' : State) (d class : ℕ) (q : Point) → IsSoundWithoutCounts g s → caller < g.callers
     → RetiresTo g s caller d class clear q → after_action (action_at s caller) (word_at s caller) ≡ word_at s caller → Step s caller s' → IsSoundWithoutCounts g s'
@@ -292,7 +282,7 @@ retire-reads g s caller s' d class q sound has to same step =
     })
     step
 
--- and where it clears the caller's hazard word
+-- what a retirement weighs that clears its caller's hazard word
 hazard-close :
     (n : WordName) (i before after d class : ℕ) (h : HazardState) (x : Found) (q : Point) (e : ErrandFields) → n ≡ name.Hazard i
     → Lets e.point q d class partly_used h → WeighClose n before after e (retired_at e x d q)
@@ -325,7 +315,7 @@ retire-clears g s caller s' d class h q sound has to named bare step =
     })
     step
 
--- where the call is resumed
+-- the call is resumed at the point, or ends
 abbrev pub ResumesAt : SeatFields → Continuation → Point → Type 0
 ResumesAt s o q = (resumed s o ≡ At q) ⊎ ((q ≡ Idle) × ((r : Reply) × (resumed s o ≡ End r)))
 
@@ -336,7 +326,7 @@ resumes-after e x s d o q is few (inl to) = settle-resumed e x s d o q is few to
 resumes-after e x s d o q is few (inr to) =
     subst (λ r. settle_of e x ≡ retired_at e x d r) (sym to.0) (settle-resumed-end e x s d o is few to.1.0 to.1.1)
 
--- a step from this point that retires a descriptor, and after which a scan begins or the call is resumed at the second point
+-- a step from p that retires a descriptor, after which a scan begins or the call is resumed at q
 pub record Retires (g : Geometry) (s : State) (caller : ℕ) (p : Point) (seat : SeatFields) (d : ℕ) (h : HazardState) (o : Continuation) (q : Point) : Type 0 where
   pub next : next_of p (found_from s p) ≡ Retire seat d o
   pub resumes : ResumesAt seat o q
@@ -353,7 +343,7 @@ pub record Retires (g : Geometry) (s : State) (caller : ℕ) (p : Point) (seat :
   pub turn : TurnRetires p q (found_from s p)
   pub scans : TurnRetires p (Desc (desc.ReadHazard seat no_words 0) o) (found_from s p)
 
--- it leads to one or the other
+-- a retirement leads to a scan, or resumes the call
 retires-to :
     (g : Geometry) (s : State) (caller : ℕ) (seat : SeatFields) (d : ℕ) (h : HazardState) (o : Continuation) (q : Point) (P : Type 0)
     → Retires g s caller (s.errand caller).point seat d h o q → ((r : Point) → RetiresTo g s caller d seat.class h r → P) → P
@@ -387,7 +377,7 @@ retires-to g s caller seat d h o q P r leads =
           })
     ]
 
--- where the word of the point stays, it keeps the state sound
+-- a retirement that leaves its point's word keeps the state sound
 pub retire-at :
     (g : Geometry) (s : State) (caller : ℕ) (s' : State) (p : Point) (seat : SeatFields) (d : ℕ) (o : Continuation) (q : Point) → IsSoundWithoutCounts g s
     → caller < g.callers → (s.errand caller).point ≡ p → Retires g s caller p seat d clear o q
@@ -398,7 +388,7 @@ retire-at g s caller s' p seat d o q sound has stands h same step =
     subst (λ z. after_action (plan_point_of z) (s.word (name_of (plan_point_of z))) ≡ s.word (name_of (plan_point_of z))) (sym stands) same in
     retires-to g s caller seat d clear o q (IsSoundWithoutCounts g s') r (λ z to. retire-reads g s caller s' d seat.class z sound has to stays step)
 
--- so it does where it clears the caller's hazard word
+-- a retirement that clears the caller's hazard word keeps the state sound
 pub retire-clearing :
     (g : Geometry) (s : State) (caller : ℕ) (s' : State) (p : Point) (seat : SeatFields) (d : ℕ) (h : HazardState) (o : Continuation) (q : Point)
     → IsSoundWithoutCounts g s → caller < g.callers → (s.errand caller).point ≡ p → Retires g s caller p seat d h o q

@@ -1,17 +1,15 @@
 -- Steps that find a superblock EMPTY that was taken or popped, or take one out of its slot, and retire its descriptor.
 use Rattle.std.proofs.Common.{ℕ, true, ◌≡◌, ◌<◌, refl, ap, arith, inl, inr}
-use Rattle.sound_state.proofs.Common.{Geometry, Site, SeatFields, is_empty, IsSiteOf, Idle, Desc, Partial, event_of, next_of, plan_point_of, State, Step, holds_of}
-use Rattle.sound_state.proofs.Common.{Lists, emptied, recalls_of, IsSoundWithoutCounts, IsSoundWith, anchor_for}
+use Rattle.sound_state.proofs.Common.{Geometry, Site, SeatFields, is_empty, IsSiteOf, Idle, Desc, Partial, event_of, next_of, plan_point_of, State, holds_of, Lists}
+use Rattle.sound_state.proofs.Common.{recalls_of, IsSoundWith, anchor_for, Clear, guarded}
 use Rattle.packed_words.specs.declared.anchor.AnchorState.TheVariants as phase
 use Rattle.word_table.specs.declared.name.WordName.TheVariants as name
 use Rattle.hazard_parts.specs.declared.point.DescPoint.TheVariants as desc
 use Rattle.partial_parts.specs.declared.point.PartialPoint.TheVariants as partial
 use Rattle.word_table.specs.Sites.{IsDescOf}
-use Rattle.errand_steps.specs.declared.continuation.Continuation.TheVariants.{Alloc, Look, EndFree, Clear, Retire}
+use Rattle.errand_steps.specs.declared.continuation.Continuation.TheVariants.{Alloc, Look, EndFree, Retire}
 use Rattle.errand_steps.specs.declared.reply.Reply.TheVariants as reply
-use Rattle.sound_state.specs.Holdings.{guarded}
-use Rattle.sound_state.specs.Recalls.{IsEmptied}
-use Rattle.sound_state.proofs.shared.PointLemmas.{fits-at, so-at}
+use Rattle.sound_state.proofs.shared.PointLemmas.{fits-at, recalled-at}
 use Rattle.sound_state.proofs.retirements.RetireLemmas.{retire-at, retire-clearing}
 use Rattle.sound_state.proofs.shared.NothingLemmas.{HoldsNothing, idle-nothing}
 use Rattle.sound_state.proofs.shared.RecallEffects.{empty-is}
@@ -28,7 +26,7 @@ look-nothing seat need = record {
   unread = λ i lt. let bad : ⊥ = omega (arith, lt) in absurd bad;
 }
 
--- the load of the anchor of a taken superblock, where it is EMPTY
+-- the load of a taken superblock's anchor keeps the state sound, where it is EMPTY
 pub load_grant_anchor_empty-sound :
     (site : Site) (need : ℕ)
     → KeepsSoundWhere (Partial (partial.LoadGrantAnchor site) (Alloc need)) (λ s. is_empty (anchor_for s site.desc).state ≡ true)
@@ -56,7 +54,7 @@ load_grant_anchor_empty-sound site need g s caller s' sound has stands empty ste
     })
     refl step
 
--- the load of the anchor of the first superblock from the list, where it is EMPTY
+-- the look at the first superblock from the list keeps the state sound, where that is EMPTY
 pub load_first_listed_empty-sound :
     (seat : SeatFields) (d : ℕ) → KeepsSoundWhere (Partial (partial.LoadListedAnchor seat d) Clear) (λ s. is_empty (anchor_for s d).state ≡ true)
 unfolding plan_point_of next_of event_of holds_of recalls_of
@@ -83,15 +81,15 @@ load_first_listed_empty-sound seat d g s caller s' sound has stands empty step =
     })
     refl step
 
--- what a free remembers of the superblock that it took out of its slot
+-- the superblock that a free took out of its slot is EMPTY
 removed-empty :
     (g : Geometry) (s : State) (l : Lists) (caller : ℕ) (seat : SeatFields) (d : ℕ) → IsSoundWith g s l → caller < g.callers
     → (s.errand caller).point ≡ Desc (desc.ClearHazard seat) (Retire d) → (anchor_for s d).state ≡ phase.Empty
 unfolding recalls_of
 removed-empty g s l caller seat d old has stands =
-    let so : IsEmptied g s l d = so-at g s l caller (Desc (desc.ClearHazard seat) (Retire d)) old has stands 0 (emptied d) (omega arith) in so.state
+    let (so, none) = recalled-at g s l caller (Desc (desc.ClearHazard seat) (Retire d)) old has stands in so.state
 
--- the store of 0 to the hazard word
+-- the clear of a free's hazard word that retires a descriptor keeps the state sound
 pub clear_hazard_retires-sound : (seat : SeatFields) (d : ℕ) → KeepsSound (Desc (desc.ClearHazard seat) (Retire d))
 unfolding plan_point_of next_of event_of holds_of recalls_of
 clear_hazard_retires-sound seat d g s caller s' sound has stands step =

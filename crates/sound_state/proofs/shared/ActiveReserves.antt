@@ -1,27 +1,24 @@
 -- An ACTIVE superblock has a block reserved.
-use Rattle.std.proofs.Common.{ℕ, Option, Some, None, ◌≡◌, ◌≢◌, ◌<◌, ◌≤◌, ◌+◌, List, [], ◌∷◌, refl, arith, ap, sym, subst, inl, inr, ◌∙◌}
-use Rattle.std.proofs.lemmas.Bool.{cases_eq, cond-false, ne_eqb}
+use Rattle.std.proofs.Common.{ℕ, Option, Some, None, ◌≡◌, ◌≢◌, ◌<◌, ◌≤◌, ◌+◌, List, [], ◌∷◌, refl, arith, ap, sym, subst, inl, inr, ◌∙◌, ne_eqb, ◌==◌, ◌&&◌, All}
+use Rattle.std.proofs.Common.{IsTrue, if◌then◌else◌}
+use Rattle.std.proofs.lemmas.Bool.{cases_eq, cond-false}
 use Rattle.std.proofs.lemmas.List.Elements.{All-head, All-tail}
-use Rattle.std.specs.Prelude.{◌==◌, ◌&&◌, All, IsTrue, if◌then◌else◌}
 use Rattle.sound_state.proofs.Common.{Geometry, CLASSES, active_of, Null, Held, ActiveWord, descriptor_count, word_count, Exists, word_name, WordName, Site, occurs}
 use Rattle.sound_state.proofs.Common.{BlockPoint, Credit, LastCredit, Grant, Share, StackPoint, DescPoint, PartialPoint, LargePoint, FitsPoint, State, Continuation}
 use Rattle.sound_state.proofs.Common.{Point, Holding, Kept, Status, reserving, waiting, partly_used, on_its_way, holds_before_pop, holds_of, IsKept, IsPartlyUsed}
 use Rattle.sound_state.proofs.Common.{IsKeptAs, errand_has, full_keeps, word_keeps, Lists, IsSoundWith, sum_below, words_sum, callers_sum, anchor_for, is_bound}
-use Rattle.sound_state.proofs.Common.{away_of, errand_away, errand_reserves, word_reserves, reserved_of, reserved_among, kept_among}
+use Rattle.sound_state.proofs.Common.{away_of, errand_away, errand_reserves, word_reserves, reserved_of, reserved_among, kept_among, word_name-Exists, FitsBlock}
+use Rattle.sound_state.proofs.Common.{holds_after_pop, block_holds, stack_holds, desc_holds, partial_holds, active_keeps, offered, same_status}
 use Rattle.packed_words.specs.declared.anchor.AnchorState.TheVariants as phase
-use Rattle.word_table.proofs.TableLemmas.{word_name-Exists}
 use Rattle.word_table.specs.declared.name.WordName.TheVariants as name
-use Rattle.superblock_parts.specs.Points.{FitsBlock}
 use Rattle.superblock_parts.specs.declared.point.BlockPoint.TheVariants as block
 use Rattle.errand_steps.specs.declared.point.Point.TheVariants as point
-use Rattle.sound_state.specs.Holdings.{holds_after_pop, block_holds, stack_holds, desc_holds, partial_holds, large_holds}
-use Rattle.sound_state.specs.Keepers.{active_keeps}
-use Rattle.sound_state.specs.Superblocks.{offered, same_status}
+use Rattle.sound_state.specs.Holdings.{large_holds}
 use Rattle.sound_state.proofs.shared.HasLemmas.{bound-away}
 use Rattle.sound_state.proofs.shared.PointLemmas.{fits-at}
 use Rattle.sound_state.proofs.shared.SumLemmas.{sum-none, term-sum}
 
--- who keeps an ACTIVE superblock has a block of it reserved: in a superblock
+-- a caller in a superblock of which it has no block reserved keeps it neither reserving nor waiting
 before-keeps :
     (d x class : ℕ) (share : Share) → reserved_among d (holds_before_pop x class share).credits ≡ 0
     → kept_among reserving d (holds_before_pop x class share).kept + kept_among waiting d (holds_before_pop x class share).kept ≡ 0
@@ -61,7 +58,7 @@ partial-keeps d p o = grind (arith)
 large-keeps : (d : ℕ) (p : LargePoint) → KeepsNone d (large_holds p)
 large-keeps d p = grind (arith)
 
--- among all points
+-- a caller at any point that has no block of a superblock reserved keeps it neither reserving nor waiting
 point-keeps :
     (g : Geometry) (caller d : ℕ) (p : Point) → FitsPoint g caller p → reserved_among d (holds_of p).credits ≡ 0 → KeepsNone d (holds_of p)
 unfolding holds_of
@@ -72,7 +69,7 @@ point-keeps g caller d (point.Desc p o) fits none = desc-keeps d p o
 point-keeps g caller d (point.Partial p o) fits none = partial-keeps d p o
 point-keeps g caller d (point.Large p o) fits none = large-keeps d p
 
--- an ACTIVE one isn't partly used, so none is kept so
+-- an ACTIVE superblock isn't partly used, so none is kept so
 not-partly : (s : State) (d c : ℕ) → (anchor_for s d).state ≡ phase.Active → IsPartlyUsed s d c → ⊥
 not-partly s d c active is =
     elim is.state [
@@ -103,14 +100,14 @@ active-none-partly s d (k ∷ ks) active all =
       active-none-partly s d ks active (All-tail (λ k. IsKeptAs s k.status k.desc k.class) k ks all),
     )
 
--- what isn't so of d, and so of all of a list, keeps d off the list
+-- a number that lacks what all of a list have isn't on the list
 occurs-none : (P : ℕ → Type 0) (d : ℕ) (xs : List ℕ) → (P d → ⊥) → All P xs → occurs d xs ≡ 0
 occurs-none P d [] bad all = refl
 occurs-none P d (x ∷ xs) bad all =
     let differ : x ≢ d = λ same. bad (subst P same (All-head P x xs all)) in
     omega (arith, cond-false {A = ℕ} (x == d) 1 0 (ne_eqb x d differ), occurs-none P d xs bad (All-tail P x xs all))
 
--- nor does a word hold it
+-- no active word or slot holds an ACTIVE superblock of which nothing is reserved
 none-offered : (d : ℕ) (o : Option ActiveWord) → offered d o ≡ 0 → active_keeps d o ≡ 0
 none-offered d None none = refl
 none-offered d (Some Null) none = refl
@@ -125,7 +122,7 @@ word-keeps-none g s l d (name.Slot heap class) kept has active none =
     (ne_eqb (s.word (name.Slot heap class)) (d + 1) (λ is. not-partly s d class active (kept.slot heap class d has.0 has.1 is).1))
 word-keeps-none g s l d n kept has active none = refl
 
--- so an ACTIVE superblock has a block reserved
+-- an ACTIVE superblock has a block reserved
 pub active-reserves :
     (g : Geometry) (s : State) (l : Lists) (d : ℕ) → IsSoundWith g s l → d < descriptor_count g → IsTrue (is_bound g s l d)
     → (anchor_for s d).state ≡ phase.Active → reserved_of g s d ≡ 0 → ⊥

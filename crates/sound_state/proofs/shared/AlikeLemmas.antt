@@ -1,14 +1,13 @@
 -- A step that changes no superblock, no list and no event: a caller goes on, at most active words and slots change, and at most an EMPTY superblock's descriptor is retired.
 use Rattle.std.proofs.Common.{ℕ, ◌≡◌, ◌≢◌, ◌<◌, ◌≤◌, ◌+◌, ◌^◌, arith, sym, subst}
 use Rattle.sound_state.proofs.Common.{Geometry, WordName, descriptor_count, Partials, Stacked, next_in, ErrandFields, State, Moves, errand_frames, on_its_way, Lists}
-use Rattle.sound_state.proofs.Common.{Recall, says, IsSoundWith, sum_below, callers_sum, reserved_of, waiting_of, is_bound, errand_keeps, emptied_out}
+use Rattle.sound_state.proofs.Common.{IsSoundWith, sum_below, callers_sum, reserved_of, waiting_of, is_bound, errand_keeps, emptied_out, places_of, IsPlain, IsStocked}
 use Rattle.word_table.specs.declared.name.WordName.TheVariants as name
-use Rattle.sound_state.specs.Keepers.{places_of}
-use Rattle.sound_state.specs.Recalls.{IsPlain}
-use Rattle.sound_state.specs.Stock.{IsStocked}
-use Rattle.sound_state.proofs.shared.ShownLemmas.{IsShown, StaysSo, ShowsSame, sound-but_one, sound-shown, MayGoOn, MayGuard, ActivesKept, IsSoundBut}
+use Rattle.sound_state.proofs.shared.RecallFrame.{Part}
+use Rattle.sound_state.proofs.shared.ShownLemmas.{IsShown, IsListedPart, ShowsSame, sound-but_one, sound-shown, MayGoOn, MayGuard, IsSoundBut}
+use Rattle.sound_state.proofs.shared.SuperblocksStay.{ActivesKept}
 
--- the second state shows the same superblocks, lists and events as the first
+-- the state s' shows the same superblocks, lists and events as s
 pub record Alike (g : Geometry) (s : State) (l : Lists) (s' : State) : Type 0 where
   pub word : (n : WordName) → IsPlain n → s'.word n ≡ s.word n
   pub history : s'.history ≡ s.history
@@ -20,7 +19,7 @@ pub record Alike (g : Geometry) (s : State) (l : Lists) (s' : State) : Type 0 wh
   pub frames : (f : ℕ) → callers_sum g (errand_frames f) s'.errand ≡ callers_sum g (errand_frames f) s.errand
   pub stock : IsStocked g s l → IsStocked g s' l
 
--- a caller goes on in a state that shows the same
+-- a caller goes on to the errand e, and the state after it shows the same superblocks, lists and events
 pub record GoesAlike (g : Geometry) (s : State) (l : Lists) (caller : ℕ) (e : ErrandFields) (s' : State) : Type 0 where
   pub in_heap : caller < g.callers
   pub moves : Moves s.errand caller e s'.errand
@@ -34,14 +33,13 @@ pub record GoesAlike (g : Geometry) (s : State) (l : Lists) (caller : ℕ) (e : 
       sum_below (descriptor_count g) (emptied_out g s' l) + e.cleared
       ≤ sum_below (descriptor_count g) (emptied_out g s l) + (s.errand caller).cleared
 
--- what such a step shows is plain
+-- a word that is shown is plain: no active word, no slot and no hazard word
 plain-shown : (n : WordName) → IsShown n → IsPlain n
 plain-shown n shown = grind (arith)
 
--- and what is remembered stays so
-stays-alike : (g : Geometry) (s : State) (l : Lists) (s' : State) → Alike g s l s' → (r : Recall) → StaysSo l l.available s s' r
-stays-alike g s l s' h (says n w) = h.word n
-stays-alike g s l s' h r = grind (arith)
+-- what was available is
+listed-alike : (l : Lists) (p : Part) → IsListedPart l l.available p
+listed-alike l p = grind (arith)
 
 shows-alike :
     (g : Geometry) (s : State) (l : Lists) (caller : ℕ) (e : ErrandFields) (s' : State) → GoesAlike g s l caller e s' → IsSoundBut g s l caller
@@ -69,17 +67,17 @@ shows-alike g s l caller e s' go sound =
       frames = h.frames;
       stock = h.stock;
       emptied = go.emptied;
-      stays = λ i has k d lt. stays-alike g s l s' h _;
-      stays_here = λ k d lt. stays-alike g s l s' h _;
+      stays = λ i has k d lt. listed-alike l _;
+      stays_here = λ k d lt. listed-alike l _;
     }
 
--- a caller that goes on so makes a state sound that is so but for this caller
+-- a caller that goes on alike makes sound a state that is so but for what it remembers and how often it was answered
 pub sound-but :
     (g : Geometry) (s : State) (l : Lists) (caller : ℕ) (e : ErrandFields) (s' : State) → GoesAlike g s l caller e s' → IsSoundBut g s l caller
     → IsSoundWith g s' l
 sound-but g s l caller e s' go sound = sound-shown g s l caller e s' l.available (shows-alike g s l caller e s' go sound) sound
 
--- and keeps a sound one sound
+-- a step after which a state shows the same keeps it sound
 pub sound-alike :
     (g : Geometry) (s : State) (l : Lists) (caller : ℕ) (e : ErrandFields) (s' : State) → GoesAlike g s l caller e s' → IsSoundWith g s l
     → IsSoundWith g s' l

@@ -1,8 +1,6 @@
 -- Cleared counts are at most the turns.
 use Rattle.std.proofs.Common.{ℕ, ◌<◌, ◌≤◌, ◌*◌, ◌^◌, arith, ap}
-use Rattle.sound_state.proofs.Common.{Geometry, State, Lists, IsSoundWith, IsSoundWithoutCounts, callers_sum}
-use Rattle.packed_words.specs.declared.widths.TheConstants.{TAG_BITS}
-use Rattle.sound_state.specs.Turns.{cleared_of, turns_of}
+use Rattle.sound_state.proofs.Common.{Geometry, State, Lists, IsSoundWith, IsSoundWithoutCounts, callers_sum, TAG_BITS, cleared_of, turns_of}
 use Rattle.sound_state.proofs.shared.SumLemmas.{sum-most, term-sum}
 use Rattle.sound_state.proofs.shared.TagLemmas.{small-freed, given-most, turns-most}
 
@@ -12,12 +10,12 @@ cleared-together g s sound =
     let is : IsSoundWith g s l = sound.parts.1 in
     omega (arith, is.turned.emptied, small-freed g s.history sound.legal, given-most g s l sound.legal is)
 
--- one caller's count
+-- a caller's cleared count is at most all callers' together
 cleared-one : (g : Geometry) (s : State) (caller : ℕ) → caller < g.callers → (s.errand caller).cleared ≤ callers_sum g cleared_of s.errand
 unfolding callers_sum
 cleared-one g s caller has = term-sum g.callers (λ i. cleared_of (s.errand i)) caller has
 
--- all turns
+-- all turns are at most the callers times the turn limit
 turns-limited : (g : Geometry) (s : State) → IsSoundWithoutCounts g s → callers_sum g turns_of s.errand ≤ g.callers * g.turn_limit
 unfolding callers_sum
 turns-limited g s sound =

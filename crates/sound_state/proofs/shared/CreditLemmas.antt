@@ -3,17 +3,13 @@ use Rattle.std.proofs.Common.{ℕ, true, false, Some, None, ◌≡◌, ◌<◌, 
 use Rattle.std.proofs.lemmas.Bool.{cond-true}
 use Rattle.sound_state.proofs.Common.{Geometry, Held, active_of, Found, WordName, name_of, after_action, descriptor_count, Exists, word_name, word_count, Writes}
 use Rattle.sound_state.proofs.Common.{cases_name, Point, At, ErrandFields, counts_cleared, event_of, next_of, plan_point_of, State, Step, IsKept, word_keeps}
-use Rattle.sound_state.proofs.Common.{errand_has, Lists, IsSoundWithoutCounts, IsSoundWith, sum_below, words_sum, callers_sum, is_bound, away_of, errand_away}
-use Rattle.word_table.specs.declared.action.Action.TheVariants.{Cas}
+use Rattle.sound_state.proofs.Common.{errand_has, Lists, IsSoundWithoutCounts, IsSoundWith, sum_below, words_sum, callers_sum, is_bound, away_of, errand_away, Cas}
+use Rattle.sound_state.proofs.Common.{found_by, word_index, word_index-within, word_name-word_index, IsActive}
 use Rattle.word_table.specs.declared.name.WordName.TheVariants as name
-use Rattle.word_table.specs.Actions.{found_by}
-use Rattle.word_table.specs.Table.{word_index}
-use Rattle.word_table.proofs.TableLemmas.{word_index-within, word_name-word_index}
-use Rattle.sound_state.specs.Keepers.{IsActive}
 use Rattle.sound_state.proofs.shared.PointLemmas.{WeighFrom, step-from}
-use Rattle.sound_state.proofs.shared.ShownLemmas.{ActivesKept}
 use Rattle.sound_state.proofs.shared.StepLemmas.{PointGoes, found_from}
 use Rattle.sound_state.proofs.shared.SumLemmas.{term-sum, sum-least}
+use Rattle.sound_state.proofs.shared.SuperblocksStay.{ActivesKept}
 
 -- a word is no more than all words weigh together
 pub word-sum :
@@ -24,11 +20,11 @@ word-sum g weight words n exists =
     subst (λ m. weight m (words m) ≤ sum_below (word_count g) (λ k. weight (word_name g k) (words (word_name g k)))) (word_name-word_index g n exists)
     (term-sum (word_count g) (λ k. weight (word_name g k) (words (word_name g k))) (word_index g n) (word_index-within g n exists))
 
--- what an errand has away it has
+-- an errand has what it has away
 away-has : (d : ℕ) (e : ErrandFields) → errand_away d e ≤ errand_has d e
 away-has d e = omega arith
 
--- a descriptor that stands in a word isn't away
+-- a descriptor that stands in an active word or a slot isn't away
 pub word-keeps-away :
     (g : Geometry) (s : State) (l : Lists) (d : ℕ) (n : WordName) → IsKept g s l → d < descriptor_count g → Exists g n
     → word_keeps d n (s.word n) ≡ 1 → away_of g s l d ≡ 0
@@ -42,12 +38,12 @@ word-keeps-away g s l d n kept has exists keeps =
       sum-least g.callers (λ i. errand_away d (s.errand i)) (λ i. errand_has d (s.errand i)) (λ i lt. away-has d (s.errand i)),
     )
 
--- so an active superblock has its descriptor
+-- an active superblock that isn't away is bound
 pub active-bound :
     (g : Geometry) (s : State) (l : Lists) (d class : ℕ) → away_of g s l d ≡ 0 → IsActive s d class → IsTrue (is_bound g s l d)
 active-bound g s l d class none active = rw (eq-eqb (away_of g s l d) 0 none, active.state) refl
 
--- the class of an active word
+-- the class of the active word that this is
 abbrev active_class : WordName → ℕ
 active_class (name.Active heap class) = class
 active_class n = 0
@@ -81,11 +77,11 @@ actives-written g s l heap class new words' kept w some held = record {
       kept.slot h c d has_heap has_class (sym (w.elsewhere (name.Slot h c) (λ e. slot-apart h c heap class e)) ∙ says);
 }
 
--- what an exchange finds that is won
+-- what a won exchange finds
 abbrev pub won_with : ℕ → Found
 won_with word = record { value = word; won = true }
 
--- an exchange that is won and leads on
+-- an exchange from p to q that is won, and after which the caller may stand and weighs what it did
 pub record WinsTo (g : Geometry) (s : State) (caller : ℕ) (p q : Point) (n : WordName) (expected new : ℕ) : Type 0 where
   pub plan : plan_point_of p ≡ Cas n expected new
   pub next : next_of p (won_with (s.word n)) ≡ At q
@@ -96,7 +92,7 @@ pub record WinsTo (g : Geometry) (s : State) (caller : ℕ) (p q : Point) (n : W
   pub goes : (l : Lists) → IsSoundWith g s l → PointGoes g s l caller p q
   pub actives : (l : Lists) → IsSoundWith g s l → (words' : WordName → ℕ) → Writes s.word n new words' → ActivesKept g s words'
 
--- keeps the state sound
+-- an exchange that is won and leads on keeps the state sound
 pub won-at :
     (g : Geometry) (s : State) (caller : ℕ) (s' : State) (p q : Point) (n : WordName) (expected new : ℕ) → IsSoundWithoutCounts g s → caller < g.callers
     → (s.errand caller).point ≡ p → WinsTo g s caller p q n expected new → s.word n ≡ expected → Step s caller s' → IsSoundWithoutCounts g s'
@@ -120,6 +116,6 @@ won-at g s caller s' p q n expected new sound has stands h is step =
     })
     step
 
--- what an exchange finds that is lost
+-- what a lost exchange finds
 abbrev pub lost_with : ℕ → Found
 lost_with word = record { value = word; won = false }

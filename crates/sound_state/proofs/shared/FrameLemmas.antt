@@ -1,16 +1,14 @@
 -- No two superblocks lie in one frame, whether they wait to be installed or not.
-use Rattle.std.proofs.Common.{ℕ, Option, Some, None, ◌≡◌, ◌≢◌, ◌<◌, ◌≤◌, [], ◌∷◌, refl, arith, ap, sym, subst, inl, inr, ◌∙◌, ◌==◌, ◌&&◌, if◌then◌else◌, All, IsTrue, ◌⊎◌}
-use Rattle.std.proofs.lemmas.Bool.{cases_eq, cond-true, cond-false, and_from, eq-eqb, ne_eqb}
-use Rattle.std.proofs.lemmas.List.Elements.{All-head, All-tail}
+use Rattle.std.proofs.Common.{ℕ, Option, Some, None, ◌≡◌, ◌≢◌, ◌<◌, ◌≤◌, refl, arith, ap, sym, subst, inl, inr, ◌∙◌, ◌==◌, ◌&&◌, if◌then◌else◌, All, IsTrue, ◌⊎◌}
+use Rattle.std.proofs.Common.{eq-eqb, ne_eqb}
+use Rattle.std.proofs.lemmas.Bool.{cases_eq, cond-true, cond-false, and_from}
+use Rattle.std.specs.List.{AllByRecursion}
+use Rattle.std.proofs.lemmas.List.Elements.{recursion_from_All}
 use Rattle.std.proofs.lemmas.Option.{none-some}
-use Rattle.sound_state.proofs.Common.{Geometry, anchor_word, descriptor_count, Site, occurs, BlockPoint, Point, State, errand_frames, fills_frame, waiting, holds_of}
-use Rattle.sound_state.proofs.Common.{Lists, IsSo, IsLocated, recalls_of, bound_at, bound_here, says, IsSoundWith, callers_sum, kept_among, errand_keeps, waiting_of}
-use Rattle.sound_state.proofs.Common.{is_bound, info_for}
-use Rattle.word_table.specs.declared.name.WordName.TheVariants as name
-use Rattle.superblock_parts.specs.Anchors.{new_anchor}
+use Rattle.sound_state.proofs.Common.{Geometry, descriptor_count, Site, occurs, BlockPoint, Point, State, errand_frames, fills_frame, waiting, holds_of, Lists, IsSo}
+use Rattle.sound_state.proofs.Common.{IsLocated, recalls_of, IsSoundWith, callers_sum, kept_among, errand_keeps, waiting_of, is_bound, info_for, block_recalls}
 use Rattle.superblock_parts.specs.declared.point.BlockPoint.TheVariants as block
 use Rattle.errand_steps.specs.declared.point.Point.TheVariants as point
-use Rattle.sound_state.specs.Recalls.{block_recalls}
 use Rattle.sound_state.proofs.shared.SumLemmas.{some-term, term-sum, two-terms}
 
 -- the superblock that a caller is about to install
@@ -22,7 +20,7 @@ abbrev installing : Point → Option Site
 installing (point.Block p o) = installing_block p
 installing p = None
 
--- 1 where it is that of d, or fills_frame the frame
+-- 1 where it is that of d, or fills the frame
 abbrev is_desc : ℕ → Option Site → ℕ
 is_desc d None = 0
 is_desc d (Some at) = if at.desc == d then 1 else 0
@@ -31,23 +29,17 @@ abbrev is_frame : ℕ → Option Site → ℕ
 is_frame f None = 0
 is_frame f (Some at) = if at.frame == f then 1 else 0
 
--- only that superblock waits
+-- at a point only the superblock that is installed there waits
 waits-is : (d : ℕ) (p : Point) → kept_among waiting d (holds_of p).kept ≡ is_desc d (installing p)
 unfolding holds_of
 waits-is d p = grind (arith)
 
--- its frame is in the caller's hand
+-- the frame of a superblock that is about to be installed is in the caller's hand
 frames-held : (f : ℕ) (p : Point) → is_frame f (installing p) ≤ occurs f (holds_of p).frames
 unfolding holds_of
 frames-held f p = grind (arith)
 
--- the caller remembers where it lies
-recalls-block :
-    (p : BlockPoint) (at : Site) → installing_block p ≡ Some at
-    → block_recalls p ≡ says (name.Anchor at.desc) (anchor_word (new_anchor at.seat.class)) ∷ bound_here at
-recalls-block p at is = grind (arith, is)
-
--- so a superblock that waits has its frame in a caller's hand
+-- a caller with which d waits is about to install it
 site-is : (d : ℕ) (o : Option Site) → 1 ≤ is_desc d o → (at : Site) × (o ≡ Some at) × (at.desc ≡ d)
 site-is d None has = absurd (omega (arith, has))
 site-is d (Some at) has =
@@ -58,19 +50,19 @@ site-is d (Some at) has =
           absurd (omega (arith, has, none))
     ]
 
+-- a caller that is about to install a superblock remembers where it lies
 located-block :
-    (g : Geometry) (s : State) (l : Lists) (caller : ℕ) (p : BlockPoint) (at : Site) → All (IsSo g s l caller) (block_recalls p)
+    (g : Geometry) (s : State) (l : Lists) (caller : ℕ) (p : BlockPoint) (at : Site) → AllByRecursion (IsSo g s l caller) (block_recalls p)
     → installing_block p ≡ Some at → IsLocated s at.desc at.frame at.seat.class
-located-block g s l caller p at so is =
-    let both = subst (All (IsSo g s l caller)) (recalls-block p at is) so in
-    (All-head (IsSo g s l caller) (bound_at at.desc at.frame at.seat.class) []
-    (All-tail (IsSo g s l caller) (says (name.Anchor at.desc) (anchor_word (new_anchor at.seat.class))) (bound_here at) both)).1
+located-block g s l caller (block.InstallSuperblock site) at so is =
+    let same : site ≡ at = grind (arith, is) in subst (λ x. IsLocated s x.desc x.frame x.seat.class) same so.1.0.1
+located-block g s l caller p at so is = absurd (grind (arith, is))
 
 located-site :
     (g : Geometry) (s : State) (l : Lists) (caller : ℕ) (p : Point) (at : Site) → All (IsSo g s l caller) (recalls_of p)
     → installing p ≡ Some at → IsLocated s at.desc at.frame at.seat.class
 unfolding recalls_of
-located-site g s l caller (point.Block p o) at so is = located-block g s l caller p at so is
+located-site g s l caller (point.Block p o) at so is = located-block g s l caller p at (recursion_from_All (IsSo g s l caller) (block_recalls p) so) is
 located-site g s l caller p at so is = absurd (none-some at is)
 
 waiting-framed :
@@ -84,11 +76,11 @@ waiting-framed g s l caller d f old has waits lies =
     let one : is_frame f (installing p) ≡ 1 = ap (is_frame f) is ∙ cond-true {A = ℕ} (at.frame == f) 1 0 (eq-eqb at.frame f there) in
     omega (arith, one, frames-held f p)
 
--- a caller has one such superblock at most
+-- a caller has one superblock that waits or is to be installed at most
 one-desc : (d e : ℕ) (o : Option Site) → d ≢ e → 1 ≤ is_desc d o → is_desc e o ≡ 0
 one-desc d e o differ has = grind (arith, differ, has)
 
--- a superblock that doesn't wait fills_frame its frame
+-- a superblock that doesn't wait fills its frame
 pub bound-fills :
     (g : Geometry) (s : State) (l : Lists) (d f : ℕ) → IsTrue (is_bound g s l d) → waiting_of g s d ≡ 0 → (info_for s d).frame ≡ f
     → fills_frame g s l f d ≡ 1
@@ -97,7 +89,7 @@ bound-fills g s l d f bound none lies =
     (and_from (is_bound g s l d && (waiting_of g s d == 0)) ((info_for s d).frame == f)
     (and_from (is_bound g s l d) (waiting_of g s d == 0) bound (eq-eqb (waiting_of g s d) 0 none)) (eq-eqb (info_for s d).frame f lies))
 
--- a caller that is about to install the superblock of d
+-- some caller is about to install the superblock of d
 abbrev WaitsToInstall : Geometry → State → ℕ → Type 0
 WaitsToInstall g s d = (caller : ℕ) × (caller < g.callers) × (1 ≤ errand_keeps waiting d (s.errand caller))
 
@@ -128,7 +120,7 @@ both-install g s l d e f old differ (i, has_i, waits_i) (j, has_j, waits_j) lies
       waiting-framed g s l j e f old has_j waits_j lies_e,
     )
 
--- two superblocks lie in two frames
+-- two bound superblocks lie in two frames
 pub bound-apart :
     (g : Geometry) (s : State) (l : Lists) (d e f : ℕ) → IsSoundWith g s l → d < descriptor_count g → e < descriptor_count g
     → f < g.frames → IsTrue (is_bound g s l d) → IsTrue (is_bound g s l e) → (info_for s d).frame ≡ f → (info_for s e).frame ≡ f → d ≢ e → ⊥
@@ -158,7 +150,7 @@ bound-apart g s l d e f old has_d has_e has_f bound_d bound_e lies_d lies_e diff
           ]
     ]
 
--- so bound ones in one frame are one
+-- bound superblocks in one frame are one
 pub one-in-frame :
     (g : Geometry) (s : State) (l : Lists) (f d k : ℕ) → IsSoundWith g s l → f < g.frames → d < descriptor_count g
     → k < descriptor_count g → IsTrue (is_bound g s l d) → IsTrue (is_bound g s l k) → (info_for s d).frame ≡ f
@@ -200,6 +192,6 @@ in-hand-waits g s l f d i is has has_d bound stands has_i hand =
           (omega (arith, once, filled, hand, term-sum g.callers hands i has_i, term-sum (descriptor_count g) (fills_frame g s l f) d has_d))
     ]
 
--- a superblock that waits fills_frame nothing
+-- a superblock that waits fills nothing
 pub waiting-fills : (g : Geometry) (s : State) (l : Lists) (d f : ℕ) → waiting_of g s d ≡ 1 → fills_frame g s l f d ≡ 0
 waiting-fills g s l d f one = rw one (grind (arith))

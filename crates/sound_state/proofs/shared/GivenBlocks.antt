@@ -2,26 +2,20 @@
 use Rattle.std.proofs.Common.{ℕ, Some, None, ◌≡◌, ◌≢◌, ◌<◌, ◌≤◌, ◌*◌, [], ◌∷◌, ◌++◌, refl, arith, ap, sym, subst, inl, ◌∙◌, ◌⊎◌, All, Any, IsTrue, slice_index_or}
 use Rattle.std.proofs.lemmas.Bool.{cases_eq}
 use Rattle.std.proofs.lemmas.List.Elements.{All-nil, All-cons}
-use Rattle.sound_state.proofs.Common.{Geometry, Need, Small, block_count_of, need_of, block_place, frame_of, frame_of-block_place, Site, IsSiteOf}
-use Rattle.sound_state.proofs.Common.{IsLegalWithoutCounts, block_at, pool_of, place-found, sound-of, ErrandFields, State, Moves, holds_of, Lists, IsLocated}
-use Rattle.sound_state.proofs.Common.{IsOwned, IsSoundWithoutCounts, IsSoundWith, info_for, is_bound, IsTied, IsLive}
-use Rattle.heap_geometry.specs.declared.need.Need.TheVariants.{Large, TooLarge}
-use Rattle.heap_geometry.specs.Need.{usable_words}
+use Rattle.sound_state.proofs.Common.{Geometry, Need, Small, block_count_of, need_of, block_place, frame_of, frame_of-block_place, Site, IsSiteOf, IsLegalWithoutCounts}
+use Rattle.sound_state.proofs.Common.{block_at, pool_of, place-found, sound-of, ErrandFields, State, Moves, holds_of, Lists, IsLocated, IsOwned, IsSoundWithoutCounts}
+use Rattle.sound_state.proofs.Common.{IsSoundWith, info_for, is_bound, IsTied, IsLive, TooLarge, usable_words, IsLegalEventWithoutCounts, IsFree, fresh_block}
+use Rattle.sound_state.proofs.Common.{IsPlaceFor, IsWellFormed, EachAfter-push, every-found, large-frame, Handed, block_handed, IsBlockOfDesc, IsExcepted}
+use Rattle.heap_geometry.specs.declared.need.Need.TheVariants.{Large}
 use Rattle.word_table.specs.declared.name.WordName.TheVariants as name
 use Rattle.pool_model.specs.declared.event.Event.TheVariants.{Alloc}
-use Rattle.pool_model.specs.Legal.{IsLegalEventWithoutCounts, IsFree, HoldsOnly}
-use Rattle.pool_model.specs.Pool.{Block, fresh_block}
-use Rattle.pool_model.specs.WellFormed.{IsPlaceFor, IsWellFormed}
+use Rattle.pool_model.specs.Legal.{HoldsOnly}
+use Rattle.pool_model.specs.Pool.{Block}
 use Rattle.pool_model.proofs.FreeLemmas.{clear-block}
-use Rattle.pool_model.proofs.HistoryLemmas.{EachAfter-push}
-use Rattle.pool_model.proofs.PoolLemmas.{every-found}
-use Rattle.pool_model.proofs.WellFormedLemmas.{large-frame}
-use Rattle.sound_state.specs.Holdings.{Handed, block_handed}
-use Rattle.sound_state.specs.Ties.{IsBlockOfDesc, IsExcepted}
 use Rattle.sound_state.proofs.shared.FrameLemmas.{one-in-frame}
 use Rattle.sound_state.proofs.shared.TieLemmas.{TieWords, IsSmallOf, IsBareHanded, excepts-none, located-stays, none-written, not-live, one-live, small-but}
 
--- where the block of the index lies
+-- the place of the block of an index
 abbrev pub place_in : Site → ℕ → ℕ
 place_in at i = block_place at.frame at.seat.class i
 
@@ -48,7 +42,7 @@ pub record Gives (g : Geometry) (s : State) (l : Lists) (caller : ℕ) (at : Sit
 module _
     {g : Geometry} {s : State} {l : Lists} {caller : ℕ} {at : Site} {i words : ℕ} {e : ErrandFields} {s' : State}
     (h : Gives g s l caller at i words e s') where
-  -- a live block of its frame is of its class
+  -- a live block in the frame of the superblock is of its class
   class-there :
       IsSoundWithoutCounts g s → IsSoundWith g s l → (place : ℕ) (b : Block) (n : Need) → IsLive s place b → b.need ≡ n → IsPlaceFor g n b.place
       → frame_of b.place ≡ at.frame → b.need ≡ Small at.seat.class
@@ -68,7 +62,7 @@ module _
       absurd (omega (arith, behind, within, here))
   class-there sound old place b TooLarge live of placed here = absurd placed
 
-  -- the block is free before, so its event is legal
+  -- the given block was free, so the event is legal
   pub given-legal : IsSoundWithoutCounts g s → IsSoundWith g s l → IsLegalWithoutCounts g s'.history
   given-legal sound old =
       let pool = sound-of g s.history sound.legal in
@@ -89,7 +83,7 @@ module _
       (EachAfter-push (IsLegalEventWithoutCounts g) s.history (Alloc caller words (place_in at i)) sound.legal
       (h.in_heap, subst (λ n. IsFree g (pool_of s.history) n (place_in at i)) (sym h.small) free))
 
-  -- the block that is live there then is the fresh one, and small
+  -- the block that is live at the given place is the fresh one, and small
   is-fresh : (place : ℕ) (b : Block) → place ≡ place_in at i → IsLive s' place b → fresh_block caller words (place_in at i) ≡ b
   is-fresh place b same live = one-live s' (place_in at i) place (fresh_block caller words (place_in at i)) b h.here same live
 
@@ -98,7 +92,7 @@ module _
       let is = sym (is-fresh place b same live) in
       record { owner = ap (λ (x : Block). x.owner) is; need = ap (λ (x : Block). x.need) is ∙ h.small }
 
-  -- it is of its superblock, and excepted
+  -- the given block is one of its superblock, and excepted
   fresh-tied :
       (place c : ℕ) (b : Block) → place ≡ place_in at i → IsLive s' place b → b.need ≡ Small c
       → (d : ℕ) × IsBlockOfDesc g s' l place c d × (IsExcepted g s' place ⊎ (s'.word (name.Arena place) ≡ 2 * d))
@@ -127,7 +121,7 @@ module _
         }),
       )
 
-  -- the words still show the pool
+  -- the words still show the pool after a block is given
   pub given-tied : IsSoundWith g s l → IsTied g s' l
   given-tied old =
       small-but g s l l caller at.seat.class (λ place. place ≡ place_in at i) e s'

@@ -2,17 +2,16 @@
 use Rattle.std.proofs.Common.{ℕ, Some, None, ◌≡◌, ◌<◌, ◌≤◌, ◌+◌, length, arith, sym, subst, ◌∙◌, Bool, true, false, slice_index, Contains, IfSome}
 use Rattle.std.proofs.lemmas.Option.{none-some}
 use Rattle.sound_state.proofs.Common.{Geometry, descriptor_count, occurs, DescPoint, ErrandFields, spare_of, pushed_by, State, Moves, IsGuarded, IsGuard, IsHazard}
-use Rattle.sound_state.proofs.Common.{passed_by, held_by, holds_of, errand_has, Lists, IsSoundWith, callers_sum, errand_away}
+use Rattle.sound_state.proofs.Common.{passed_by, held_by, holds_of, errand_has, Lists, IsSoundWith, callers_sum, errand_away, Guards, clear}
 use Rattle.word_table.specs.declared.name.WordName.TheVariants as name
 use Rattle.hazard_parts.specs.declared.point.DescPoint.TheVariants as desc
-use Rattle.sound_state.specs.Guards.{Guards}
-use Rattle.sound_state.specs.Holdings.{clear}
 use Rattle.sound_state.proofs.shared.CallerLemmas.{each-other}
 use Rattle.sound_state.proofs.shared.ListFacts.{contains-occurs}
 use Rattle.sound_state.proofs.shared.ShownLemmas.{IsUnretired}
 use Rattle.sound_state.proofs.shared.SumLemmas.{term-sum}
+use Rattle.sound_state.proofs.shared.TurnEffects.{IsQuiet}
 
--- a caller goes on, and no hazard word changes; what its own may say it says still, and what it guards it guarded
+-- a caller goes on, and no hazard word changes: its own may be what it may be before, and it guards, pushes and scans nothing new
 pub record GuardEffects (g : Geometry) (s : State) (caller : ℕ) (e : ErrandFields) (s' : State) : Type 0 where
   pub in_heap : caller < g.callers
   pub moves : Moves s.errand caller e s'.errand
@@ -24,7 +23,7 @@ pub record GuardEffects (g : Geometry) (s : State) (caller : ℕ) (e : ErrandFie
   pub unread : length (held_by e.point) ≡ 0
   pub spare : spare_of e.point ≡ 0
 
--- whoever guards a descriptor did before
+-- whoever guards a descriptor after such an effect did before
 guards-after :
     (g : Geometry) (s : State) (caller : ℕ) (e : ErrandFields) (s' : State) → GuardEffects g s caller e s' → (i d : ℕ) → i < g.callers
     → Guards s' i d → Guards s i d
@@ -35,7 +34,7 @@ guards-after g s caller e s' h i d has guards = record {
       h.guard (λ i has differ guard. guard) i has guards.guard;
 }
 
--- and the guards are kept
+-- an effect after which its caller guards, pushes and scans nothing new keeps the guards
 pub guarded-after :
     (g : Geometry) (s : State) (caller : ℕ) (e : ErrandFields) (s' : State) → GuardEffects g s caller e s' → IsGuarded g s → IsGuarded g s'
 guarded-after g s caller e s' h guarded = record {
@@ -59,13 +58,12 @@ guarded-after g s caller e s' h guarded = record {
       (λ is. let bad : ⊥ = omega (arith, is, h.spare) in absurd bad) (λ i has differ. guarded.full i has);
 }
 
--- such is an effect of a caller that guards nothing before it and after it
+-- an effect of a caller that guards nothing before it and after it keeps the guards
 pub guarded-clear :
     (g : Geometry) (s : State) (caller : ℕ) (e : ErrandFields) (s' : State) → caller < g.callers → Moves s.errand caller e s'.errand
     → ((i : ℕ) → s'.word (name.Hazard i) ≡ s.word (name.Hazard i)) → (holds_of (s.errand caller).point).hazard ≡ clear
-    → (holds_of e.point).hazard ≡ clear → pushed_by e.point ≡ None → passed_by e.point ≡ 0 → length (held_by e.point) ≡ 0 → spare_of e.point ≡ 0
-    → IsGuarded g s → IsGuarded g s'
-guarded-clear g s caller e s' has moves words was_clear is_clear pushed passed unread spare =
+    → (holds_of e.point).hazard ≡ clear → IsQuiet e.point → IsGuarded g s → IsGuarded g s'
+guarded-clear g s caller e s' has moves words was_clear is_clear quiet =
     guarded-after g s caller e s'
     (record {
       in_heap = has;
@@ -73,10 +71,10 @@ guarded-clear g s caller e s' has moves words was_clear is_clear pushed passed u
       words = words;
       hazard = λ w. subst (λ x. IsHazard x w) (was_clear ∙ sym is_clear);
       guard = λ guard. absurd (subst IsGuard is_clear guard);
-      pushed = pushed;
-      passed = passed;
-      unread = unread;
-      spare = spare;
+      pushed = quiet.pushed;
+      passed = quiet.passed;
+      unread = quiet.unread;
+      spare = quiet.spare;
     })
 
 -- what occurs in no caller's list is retired nowhere, and nobody pushes it
@@ -92,7 +90,7 @@ unretired g s l d old none =
       listed = listed;
     }
 
--- so is one that is available
+-- a descriptor that is available is retired nowhere, and nobody pushes it
 pub available-unretired :
     (g : Geometry) (s : State) (l : Lists) (d : ℕ) → IsSoundWith g s l → d < descriptor_count g → 1 ≤ occurs d l.available
     → IsUnretired g s d
@@ -104,7 +102,7 @@ available-unretired g s l d old exists on =
     let mine : errand_has d (s.errand other) ≤ callers_sum g (errand_has d) s.errand = term-sum g.callers (λ i. errand_has d (s.errand i)) other has in
     omega (arith, once, mine, on))
 
--- and one that has a superblock
+-- a descriptor that has a superblock is retired nowhere, and nobody pushes it
 pub bound-unretired :
     (g : Geometry) (s : State) (l : Lists) (d : ℕ) → IsSoundWith g s l → callers_sum g (errand_away d) s.errand ≡ 0 → IsUnretired g s d
 unfolding callers_sum
@@ -114,7 +112,7 @@ bound-unretired g s l d old none =
     let mine : errand_away d (s.errand other) ≤ callers_sum g (errand_away d) s.errand = term-sum g.callers (λ i. errand_away d (s.errand i)) other has in
     omega (arith, mine, none))
 
--- whether hazard words are read at the point, or all are read
+-- whether a hazard word is read at the point, by a scan
 abbrev pub scans : DescPoint → Bool
 scans (desc.ReadHazard s held at) = true
 scans p = false

@@ -1,35 +1,33 @@
 -- What a caller keeps at its point, and that no other caller has it.
-use Rattle.std.proofs.Common.{ℕ, ◌≡◌, ◌≢◌, ◌<◌, ◌≤◌, ◌+◌, refl, arith, sym, subst, inl, inr, Bool, false, ◌==◌, if◌then◌else◌, IsTrue, ◌&&◌, not}
-use Rattle.std.proofs.lemmas.Bool.{cases_eq, eq-eqb}
-use Rattle.sound_state.proofs.Common.{Geometry, descriptor_count, Point, ErrandFields, State, Status, reserving, waiting, partly_used, on_its_way, holds_of}
-use Rattle.sound_state.proofs.Common.{errand_has, Lists, IsSoundWith, sum_below, callers_sum, errand_keeps, errand_away, away_of, kept_among, is_bound}
-use Rattle.sound_state.specs.Holdings.{keep}
-use Rattle.sound_state.specs.Superblocks.{same_status}
+use Rattle.std.proofs.Common.{ℕ, ◌≡◌, ◌≢◌, ◌<◌, ◌≤◌, ◌+◌, refl, arith, sym, subst, inl, inr, Bool, false, ◌==◌, if◌then◌else◌, IsTrue, ◌&&◌, not, eq-eqb}
+use Rattle.std.proofs.lemmas.Bool.{cases_eq}
+use Rattle.sound_state.proofs.Common.{Geometry, descriptor_count, Point, ErrandFields, State, Status, reserving, waiting, partly_used, on_its_way, holds_of, errand_has}
+use Rattle.sound_state.proofs.Common.{Lists, IsSoundWith, sum_below, callers_sum, errand_keeps, errand_away, away_of, kept_among, is_bound, keep, same_status}
 use Rattle.sound_state.proofs.shared.SumLemmas.{sum-plus, sum-least, term-sum, two-terms}
 
--- one that is kept in one state isn't in another
+-- a descriptor that is kept in one state isn't kept in another
 pub kept-one :
     (as_kept status : Status) (k d class : ℕ)
     → kept_among as_kept k (keep d class status) ≡ (if same_status status as_kept then (if d == k then 1 else 0) else 0)
 kept-one as_kept status k d class = grind (arith)
 
--- and is kept in its own
+-- a descriptor is kept in the state in which it is
 pub kept-itself : (status : Status) (d class : ℕ) → 1 ≤ kept_among status d (keep d class status)
 kept-itself status d class = grind (arith, eq-eqb d d refl)
 
--- a caller at the point keeps what is kept there
+-- a caller keeps what is kept at its point
 pub keeps-at :
     (e : ErrandFields) (p : Point) (status : Status) (d : ℕ) → e.point ≡ p → 1 ≤ kept_among status d (holds_of p).kept → 1 ≤ errand_keeps status d e
 keeps-at e p status d stands some = subst (λ q. 1 ≤ kept_among status d (holds_of q).kept) (sym stands) some
 
--- what it keeps it has
+-- a caller has what it keeps
 keeps-has : (e : ErrandFields) (status : Status) (d : ℕ) → 1 ≤ errand_keeps status d e → 1 ≤ errand_has d e
 keeps-has e reserving d some = omega (arith, some)
 keeps-has e waiting d some = omega (arith, some)
 keeps-has e partly_used d some = omega (arith, some)
 keeps-has e on_its_way d some = omega (arith, some)
 
--- so it has what is kept there
+-- a caller has what is kept at its point
 pub has-at :
     (e : ErrandFields) (p : Point) (status : Status) (d : ℕ) → e.point ≡ p → 1 ≤ kept_among status d (holds_of p).kept → 1 ≤ errand_has d e
 has-at e p status d stands some = keeps-has e status d (keeps-at e p status d stands some)
@@ -42,7 +40,7 @@ unfolding callers_sum
 others-none g weight errands caller i has has_i other mine most =
     omega (arith, mine, most, two-terms g.callers (λ k. weight (errands k)) i caller has_i has other)
 
--- so two callers that have a descriptor are one
+-- two callers that have one descriptor are one
 pub only-one :
     (g : Geometry) (s : State) (l : Lists) (caller i d : ℕ) → IsSoundWith g s l → caller < g.callers → i < g.callers → d < descriptor_count g
     → 1 ≤ errand_has d (s.errand caller) → 1 ≤ errand_has d (s.errand i) → i ≡ caller
@@ -74,10 +72,10 @@ keeps-near g s l caller d old has exists keeps =
 pub bound-away : (g : Geometry) (s : State) (l : Lists) (d : ℕ) → IsTrue (is_bound g s l d) → away_of g s l d ≡ 0
 bound-away g s l d bound = grind (arith, bound)
 
--- a bound superblock isn't EMPTY, and a pop doesn't make it so
+-- a bound superblock isn't EMPTY
 pub bound-stands : (b : Bool) (c : Bool) → IsTrue (b && not c) → c ≡ false
 bound-stands b c is = grind (arith, is)
 
--- one descriptor on its way
+-- one descriptor on its way is kept so once, and any other not
 pub ways-one : (d k c : ℕ) → kept_among on_its_way d (keep k c on_its_way) ≡ (if k == d then 1 else 0)
 ways-one d k c = grind (arith)

@@ -1,13 +1,11 @@
 -- How many words of a class there are: one active word and one slot for each heap.
-use Rattle.std.proofs.Common.{ℕ, ◌≡◌, ◌<◌, ◌≤◌, refl, sym, ◌∙◌, ap, arith, inl, inr, ◌⊎◌, ◌==◌, if◌then◌else◌}
-use Rattle.std.proofs.lemmas.Bool.{cases_eq, cond-true, cond-false, eq-eqb, ne_eqb}
-use Rattle.sound_state.proofs.Common.{Geometry, WordName, word_count, Exists, word_name, sum_below}
+use Rattle.std.proofs.Common.{ℕ, ◌≡◌, ◌<◌, ◌≤◌, refl, sym, ◌∙◌, ap, arith, inl, inr, ◌⊎◌, ◌==◌, if◌then◌else◌, eq-eqb, ne_eqb}
+use Rattle.std.proofs.lemmas.Bool.{cases_eq, cond-true, cond-false}
+use Rattle.sound_state.proofs.Common.{Geometry, WordName, word_count, Exists, word_name, sum_below, word_index, word_name-Exists, word_index-word_name}
 use Rattle.word_table.specs.declared.name.WordName.TheVariants as name
-use Rattle.word_table.specs.Table.{word_index}
-use Rattle.word_table.proofs.TableLemmas.{word_name-Exists, word_index-word_name}
 use Rattle.sound_state.proofs.shared.SumLemmas.{sum-most, sum-least, sum-swap, sum-once, term-sum}
 
--- 1 where a word is an active word of the class; where it is a slot of it
+-- 1 where a word is an active word of the class; 1 where it is a slot of the class
 abbrev pub active_one : ℕ → WordName → ℕ
 active_one class (name.Active heap c) = if c == class then 1 else 0
 active_one class other = 0
@@ -16,7 +14,7 @@ abbrev pub slot_one : ℕ → WordName → ℕ
 slot_one class (name.Slot heap c) = if c == class then 1 else 0
 slot_one class other = 0
 
--- each heap has one word of such a name
+-- a word counts as one for some heap, whose word of this name it is, or counts as none
 abbrev IsHeapName : Geometry → (ℕ → WordName) → (WordName → ℕ) → WordName → Type 0
 IsHeapName g at one n = (one n ≡ 0) ⊎ ((one n ≡ 1) × (heap : ℕ) × (heap < g.heaps) × (n ≡ at heap))
 
@@ -45,7 +43,7 @@ heap-names-most g at one named =
       sum-most g.heaps (λ heap. sum_below (word_count g) (λ k. here k heap)) 1 (λ heap lt. sum-once (word_count g) (word_index g (at heap))),
     )
 
--- a word of such a name is of the class, or not
+-- a word of a heap counts as one for it where it is of the class, and else as none
 named-here :
     (g : Geometry) (class c heap : ℕ) (at : ℕ → ℕ → WordName) (one : WordName → ℕ) → heap < g.heaps → one (at heap c) ≡ (if c == class then 1 else 0)
     → IsHeapName g (λ h. at h class) one (at heap c)
@@ -55,7 +53,7 @@ named-here g class c heap at one has is =
       | inr ne ↦ inl (is ∙ cond-false {A = ℕ} (c == class) 1 0 (ne_eqb c class ne))
     ]
 
--- such are the active words and the slots of the class
+-- the active words and the slots of a class are one for each heap
 active-named : (g : Geometry) (class : ℕ) (n : WordName) → Exists g n → IsHeapName g (λ heap. name.Active heap class) (active_one class) n
 active-named g class (name.Active heap c) exists = named-here g class c heap name.Active (active_one class) exists.0 refl
 active-named g class n exists = inl refl

@@ -5,18 +5,18 @@ use Rattle.sound_state.proofs.Common.{Geometry, Null, active_of, WordName, Exist
 use Rattle.word_table.specs.declared.name.WordName.TheVariants as name
 use Rattle.sound_state.proofs.shared.SumLemmas.{words-none, words-one}
 
--- an active word or a slot
+-- whether a word is an active word or a slot, and so may hold a superblock
 abbrev pub is_holder : WordName → Bool
 is_holder (name.Active heap class) = true
 is_holder (name.Slot heap class) = true
 is_holder m = false
 
--- no other word weighs anything, and no word of 0
+-- a weight that only active words and slots have, and none of them where it is 0
 pub record IsHolderWeight (weight : WordName → ℕ → ℕ) : Type 0 where
   pub zero : (m : WordName) → weight m 0 ≡ 0
   pub elsewhere : (m : WordName) (w : ℕ) → is_holder m ≡ false → weight m w ≡ 0
 
--- a holder of nothing weighs nothing
+-- a word that holds nothing weighs nothing, whether active word, slot or another one
 holder-none :
     (weight : WordName → ℕ → ℕ) (words : WordName → ℕ) (m : WordName) → IsHolderWeight weight
     → (is_holder m ≡ true → words m ≡ 0) → weight m (words m) ≡ 0
@@ -26,13 +26,13 @@ holder-none weight words m h none =
       | inr other ↦ h.elsewhere m (words m) other
     ]
 
--- where nothing is held, nothing weighs
+-- words that hold no superblock weigh nothing
 pub holders-none :
     (g : Geometry) (weight : WordName → ℕ → ℕ) (words : WordName → ℕ) → IsHolderWeight weight
     → ((m : WordName) → is_holder m ≡ true → words m ≡ 0) → words_sum g weight words ≡ 0
 holders-none g weight words h none = words-none g weight words (λ m. holder-none weight words m h (none m))
 
--- where one word holds something, that one weighs
+-- words of which one alone holds a superblock weigh together what that one does
 pub holders-one :
     (g : Geometry) (weight : WordName → ℕ → ℕ) (words : WordName → ℕ) (n : WordName) → IsHolderWeight weight → Exists g n
     → ((m : WordName) → m ≢ n → is_holder m ≡ true → words m ≡ 0) → words_sum g weight words ≡ weight n (words n)
@@ -43,7 +43,7 @@ pub zero-active : active_of 0 ≡ Some Null
 unfolding active_of
 zero-active = refl
 
--- such weights: of what keeps a descriptor, what reserves its blocks, and what is out for a class
+-- the weights of what keeps a descriptor, of what reserves its blocks and of what is out for a class are those of holders
 pub keeps-holder : (d : ℕ) → IsHolderWeight (word_keeps d)
 keeps-holder d = record {
   zero = λ m. grind (arith, zero-active);

@@ -6,7 +6,7 @@ use Rattle.sound_state.proofs.Common.{stock_among, waits_in, errand_stock}
 use Rattle.sound_state.proofs.shared.SumLemmas.{sum-same, callers-moved}
 use Rattle.sound_state.proofs.shared.PointLemmas.{kept_places}
 
--- a caller goes on, and holds this now where it held that; what it has retired stays
+-- a caller goes on, and holds `now` where it held `was`; what it has retired stays
 pub record HoldingEffects (g : Geometry) (s : State) (caller : ℕ) (was now : Holding) (e : ErrandFields) (s' : State) : Type 0 where
   pub in_heap : caller < g.callers
   pub moves : Moves s.errand caller e s'.errand
@@ -15,7 +15,7 @@ pub record HoldingEffects (g : Geometry) (s : State) (caller : ℕ) (was now : H
   pub after : holds_of e.point ≡ now
 
 module _ {g : Geometry} {s : State} {caller : ℕ} {was now : Holding} {e : ErrandFields} {s' : State} (h : HoldingEffects g s caller was now e s') where
-  -- whatever is summed over all holdings changes by what the two weigh
+  -- what is summed over all holdings changes by what the caller's two holdings weigh
   pub holdings-go :
       (weight : Holding → ℕ)
       → callers_sum g (λ e. weight (holds_of e.point)) s'.errand + weight was ≡ callers_sum g (λ e. weight (holds_of e.point)) s.errand + weight now
@@ -27,7 +27,7 @@ module _ {g : Geometry} {s : State} {caller : ℕ} {was now : Holding} {e : Erra
         ap weight h.after,
       )
 
-  -- such are what waits to be installed, what is on its way, and what is reserved
+  -- what waits to be installed, what is on its way and what is reserved change by what the caller held and holds
   pub waits-go : (d : ℕ) → waiting_of g s' d + kept_among waiting d was.kept ≡ waiting_of g s d + kept_among waiting d now.kept
   waits-go d = holdings-go (λ x. kept_among waiting d x.kept)
 
@@ -43,7 +43,7 @@ module _ {g : Geometry} {s : State} {caller : ℕ} {was now : Holding} {e : Erra
       ≡ callers_sum g (errand_reserves d) s.errand + reserved_among d now.credits
   credits-go d = holdings-go (λ x. reserved_among d x.credits)
 
-  -- and so changes what is away
+  -- how often a descriptor is away changes by what the caller held and holds
   pub away-goes : (l : Lists) (d : ℕ) → away_of g s' l d + kept_among on_its_way d was.kept ≡ away_of g s l d + kept_among on_its_way d now.kept
   away-goes l d =
       omega (
@@ -54,7 +54,7 @@ module _ {g : Geometry} {s : State} {caller : ℕ} {was now : Holding} {e : Erra
         ap (λ x. kept_among on_its_way d x.kept) h.after,
       )
 
-  -- and how often it is kept
+  -- how often callers have a descriptor changes by what the caller kept and keeps
   pub places-go :
       (d : ℕ) → callers_sum g (errand_has d) s'.errand + kept_places d was.kept ≡ callers_sum g (errand_has d) s.errand + kept_places d now.kept
   places-go d =
@@ -66,7 +66,7 @@ module _ {g : Geometry} {s : State} {caller : ℕ} {was now : Holding} {e : Erra
         ap (λ x. kept_places d x.kept) h.after,
       )
 
-  -- and what is out for a class, where it waits for nothing before and after
+  -- what is out for a class changes by what the caller kept and keeps, where it waits for nothing before and after
   pub stock-goes :
       (class : ℕ) → waits_in class (s.errand caller).point ≡ 0 → waits_in class e.point ≡ 0
       → callers_sum g (errand_stock class) s'.errand + stock_among class was.kept
@@ -81,7 +81,7 @@ module _ {g : Geometry} {s : State} {caller : ℕ} {was now : Holding} {e : Erra
         ap (λ x. stock_among class x.kept) h.after,
       )
 
-  -- each frame stays in one place, where the caller has the same frames in its hand, and the superblocks fill those that they filled
+  -- each frame stays in one place where the caller has the same frames in its hand, and superblocks fill those that they filled
   pub framed-after :
       (l : Lists) → ((f d : ℕ) → fills_frame g s' l f d ≡ fills_frame g s l f d) → ((f : ℕ) → occurs f now.frames ≡ occurs f was.frames)
       → IsFramed g s l → IsFramed g s' l

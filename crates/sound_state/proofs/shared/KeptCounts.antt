@@ -8,7 +8,7 @@ abbrev pub named_among : ℕ → List Kept → ℕ
 named_among d [] = 0
 named_among d (k ∷ rest) = (if k.desc == d then 1 else 0) + named_among d rest
 
--- they are named no more often than their list is long
+-- kept descriptors are named no more often than their list is long
 pub named-most : (n : ℕ) (ks : List Kept) → sum_below n (λ d. named_among d ks) ≤ length ks
 named-most n [] = omega (arith, sum-none n (λ d. 0) (λ d lt. refl))
 named-most n (k ∷ ks) =
@@ -19,7 +19,7 @@ named-most n (k ∷ ks) =
       named-most n ks,
     )
 
--- each of them is kept in one of the states
+-- each kept descriptor is kept in one of the states
 kept-states-one :
     (d : ℕ) (k : Kept) (ks : List Kept)
     → kept_among reserving d (k ∷ ks) + kept_among waiting d (k ∷ ks) + kept_among partly_used d (k ∷ ks) + kept_among on_its_way d (k ∷ ks)

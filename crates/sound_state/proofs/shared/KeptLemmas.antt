@@ -1,59 +1,22 @@
 -- Each descriptor stands in one place, and as many are out for each class, after a step that changes one anchor or none.
-use Rattle.std.proofs.Common.{ℕ, ◌≡◌, ◌≢◌, ◌<◌, ◌≤◌, ◌+◌, List, [], ◌∷◌, refl, arith, ap, sym, subst, inl, inr, ◌∙◌, ◌⊎◌, ◌==◌, All, IsSome, if◌then◌else◌}
-use Rattle.std.proofs.lemmas.Bool.{cases_eq, cond-true, cond-false, eq-eqb, ne_eqb}
+use Rattle.std.proofs.Common.{ℕ, ◌≡◌, ◌≢◌, ◌<◌, ◌≤◌, ◌+◌, List, [], ◌∷◌, refl, arith, ap, sym, subst, inl, inr, ◌∙◌, ◌⊎◌, ◌==◌, All, if◌then◌else◌, eq-eqb}
+use Rattle.std.proofs.Common.{ne_eqb}
+use Rattle.std.proofs.lemmas.Bool.{cases_eq, cond-true, cond-false}
 use Rattle.std.proofs.lemmas.List.Elements.{All-nil, All-cons, All-head, All-tail}
-use Rattle.sound_state.proofs.Common.{Geometry, CLASSES, active_of, info_of, AnchorFields, anchor_of, descriptor_count, word_count, word_name, WordName, cases_name}
-use Rattle.sound_state.proofs.Common.{occurs, ErrandFields, State, Moves, Kept, Status, reserving, waiting, partly_used, on_its_way, holds_of, IsKept, IsPartlyUsed}
-use Rattle.sound_state.proofs.Common.{IsWithout, IsKeptAs, errand_has, full_keeps, word_keeps, Lists, errand_stock, full_stock, word_stock, sum_below, words_sum}
-use Rattle.sound_state.proofs.Common.{callers_sum, anchor_for, info_for, info_or_zero}
+use Rattle.sound_state.proofs.Common.{Geometry, CLASSES, info_of, AnchorFields, anchor_of, descriptor_count, word_count, word_name, WordName, cases_name}
+use Rattle.sound_state.proofs.Common.{occurs, ErrandFields, State, Moves, Kept, holds_of, IsKept, IsPartlyUsed, IsWithout, IsKeptAs, errand_has, full_keeps, word_keeps}
+use Rattle.sound_state.proofs.Common.{Lists, errand_stock, full_stock, word_stock, sum_below, words_sum, callers_sum, anchor_for, info_for, info_or_zero, occurs-here}
+use Rattle.sound_state.proofs.Common.{occurs-more, places_of, active_keeps, IsStocked}
 use Rattle.packed_words.specs.declared.anchor.AnchorState.TheVariants as phase
 use Rattle.word_table.specs.declared.name.WordName.TheVariants as name
-use Rattle.superblock_parts.proofs.ChainLemmas.{occurs-here, occurs-more}
-use Rattle.sound_state.specs.Keepers.{IsActive, places_of, active_keeps}
-use Rattle.sound_state.specs.Stock.{IsStocked}
 use Rattle.sound_state.proofs.shared.CallerLemmas.{each-other}
 use Rattle.sound_state.proofs.shared.CreditLemmas.{word-sum}
 use Rattle.sound_state.proofs.shared.PointLemmas.{kept_places}
-use Rattle.sound_state.proofs.shared.ShownLemmas.{ActivesKept}
 use Rattle.sound_state.proofs.shared.SumLemmas.{callers-moved, sum-change, sum-same, term-sum, two-terms}
 use Rattle.sound_state.proofs.shared.SuperblockEffects.{anchor_number}
+use Rattle.sound_state.proofs.shared.SuperblocksStay.{ActivesKept, StaysKept, kept-goes, same-stays-kept, actives-same}
 
--- wherever d stands, it is after a step in the state that belongs there
-pub record StaysKept (s s' : State) (d : ℕ) : Type 0 where
-  pub partly : (c : ℕ) → IsPartlyUsed s d c → IsPartlyUsed s' d c
-  pub active : (c : ℕ) → IsActive s d c → IsActive s' d c
-  pub without : IsWithout s d → IsWithout s' d
-  pub full : (anchor_for s' d).state ≡ phase.Full → ((anchor_for s d).state ≡ phase.Full) × ((anchor_for s' d).count ≤ (anchor_for s d).count)
-
--- so it does where its class and state stay, with a free block where it is partial, and with no more of them where it is FULL
-pub state-goes :
-    (s s' : State) (d : ℕ) → info_for s' d ≡ info_for s d → (anchor_for s' d).state ≡ (anchor_for s d).state
-    → ((anchor_for s d).state ≡ phase.Partial → 1 ≤ (anchor_for s d).count → 1 ≤ (anchor_for s' d).count)
-    → ((anchor_for s d).state ≡ phase.Full → (anchor_for s' d).count ≤ (anchor_for s d).count) → StaysKept s s' d
-state-goes s s' d info state some less = record {
-  partly = λ c k. record {
-    class = ap (λ x. x.class) info ∙ k.class;
-    state = elim k.state [ inl partial ↦ inl (state ∙ partial.0, some partial.0 partial.1) | inr empty ↦ inr (state ∙ empty) ];
-  };
-  active = λ c k. record { class = ap (λ x. x.class) info ∙ k.class; state = state ∙ k.state };
-  without = λ k. elim k [ inl active ↦ inl (state ∙ active) | inr empty ↦ inr (state ∙ empty) ];
-  full = λ is. (sym state ∙ is, less (sym state ∙ is));
-}
-
--- and where its word and its anchor stay
-pub same-stays-kept : (s s' : State) (d : ℕ) → info_for s' d ≡ info_for s d → anchor_for s' d ≡ anchor_for s d → StaysKept s s' d
-same-stays-kept s s' d info anchor =
-    state-goes s s' d info (ap (λ x. x.state) anchor) (λ partial some. omega (arith, some, ap (λ x. x.count) anchor))
-    (λ full. omega (arith, ap (λ x. x.count) anchor))
-
--- what a exists keeps is in the state in which it keeps it
-pub kept-goes : (s s' : State) (status : Status) (d c : ℕ) → StaysKept s s' d → IsKeptAs s status d c → IsKeptAs s' status d c
-kept-goes s s' reserving d c h k = h.active c k
-kept-goes s s' waiting d c h k = h.active c k
-kept-goes s s' partly_used d c h k = h.partly c k
-kept-goes s s' on_its_way d c h k = h.without k
-
--- what holds of all that is in a list stays so where it does of each
+-- numbers of a list that all have a property have one that follows from it for each that occurs there
 on-all :
     (P Q : ℕ → Type 0) (xs : List ℕ) → ((x : ℕ) → 0 < occurs x xs → P x → Q x) → All P xs → All Q xs
 on-all P Q [] f all = All-nil Q
@@ -74,7 +37,7 @@ on-kept P Q (k ∷ ks) f all =
     All-cons Q k ks (f k (kept-here k ks) (All-head P k ks all))
     (on-kept P Q ks (λ x on. f x (omega (arith, on, kept_places-more x.desc k ks))) (All-tail P k ks all))
 
--- a exists alone has d
+-- a caller alone has d
 pub record HasAlone (g : Geometry) (s : State) (l : Lists) (caller d : ℕ) : Type 0 where
   pub words : words_sum g (word_keeps d) s.word ≡ 0
   pub listed : sum_below CLASSES (λ class. occurs d (l.partials class)) ≡ 0
@@ -82,7 +45,7 @@ pub record HasAlone (g : Geometry) (s : State) (l : Lists) (caller d : ℕ) : Ty
   pub retired : occurs d (s.errand caller).retired ≡ 0
   pub others : (i : ℕ) → i < g.callers → i ≢ caller → errand_has d (s.errand i) ≡ 0
 
--- it does where it keeps d
+-- a caller that keeps d has it alone
 pub has-alone :
     (g : Geometry) (s : State) (l : Lists) (caller d : ℕ) → IsKept g s l → caller < g.callers → d < descriptor_count g
     → 1 ≤ kept_places d (holds_of (s.errand caller).point).kept → HasAlone g s l caller d
@@ -102,7 +65,7 @@ has-alone g s l caller d kept exists has keeps =
           omega (arith, once, own, keeps, two-terms g.callers (λ i. errand_has d (s.errand i)) i caller has_i exists other);
     }
 
--- a exists alone has d before a step, no word holds it after the step, and it is without free blocks where it is FULL then
+-- a caller alone has d before a step, no word holds it after the step, and it is without free blocks where it is FULL then
 pub record ChangesAlone (g : Geometry) (s : State) (l : Lists) (caller : ℕ) (s' : State) (d : ℕ) : Type 0 where
   pub alone : HasAlone g s l caller d
   pub words : words_sum g (word_keeps d) s'.word ≡ 0
@@ -118,7 +81,7 @@ pub record KeepsPlaces (g : Geometry) (s : State) (l : Lists) (caller : ℕ) (e 
   pub retired : e.retired ≡ (s.errand caller).retired
   pub own : All (λ k. IsKeptAs s' k.status k.desc k.class) (holds_of e.point).kept
 
--- then each is in the state that belongs there
+-- each descriptor is in the state that belongs to its place after such a step
 pub places-kept :
     (g : Geometry) (s : State) (l : Lists) (caller : ℕ) (e : ErrandFields) (s' : State) → KeepsPlaces g s l caller e s' → IsKept g s l
     → IsKept g s' l
@@ -172,7 +135,7 @@ places-kept g s l caller e s' h kept =
           (goes k.desc (λ a. let none : ⊥ = omega (arith, a.alone.others i has other, on) in none))) (kept.errand i has));
     }
 
--- words that weigh nothing where they may change weigh the same
+-- words that all stay but one, which weighs nothing, weigh the same
 pub words-but :
     (g : Geometry) (weight : WordName → ℕ → ℕ) (words words' : WordName → ℕ) (n : WordName) → ((m : WordName) → m ≢ n → words' m ≡ words m)
     → ((w : ℕ) → weight n w ≡ 0) → words_sum g weight words' ≡ words_sum g weight words
@@ -187,7 +150,7 @@ words-but g weight words words' n elsewhere none =
     sum-same (word_count g) (λ k. weight (word_name g k) (words (word_name g k))) (λ k. weight (word_name g k) (words' (word_name g k)))
     (λ k lt. same (word_name g k))
 
--- a exists changes the anchor of x, of class c, from a to b, where what it keeps then stands for that
+-- a caller changes the anchor of x, of class c, from a to b, where what it keeps then stands for that
 pub record MovesAt (g : Geometry) (s : State) (l : Lists) (caller x c : ℕ) (a b : AnchorFields) (e : ErrandFields) (s' : State) : Type 0 where
   pub in_heap : caller < g.callers
   pub moves : Moves s.errand caller e s'.errand
@@ -206,11 +169,6 @@ pub record MovesAt (g : Geometry) (s : State) (l : Lists) (caller x c : ℕ) (a 
   pub goes : StaysKept s s' x ⊎ ((1 ≤ kept_places x (holds_of (s.errand caller).point).kept) × (b.state ≡ phase.Full → b.count ≡ 0))
   pub own : All (λ k. IsKeptAs s' k.status k.desc k.class) (holds_of e.point).kept
 
--- two states whose descriptors say the same
-pub record SameDescs (s s' : State) : Type 0 where
-  pub info : (d : ℕ) → info_for s' d ≡ info_for s d
-  pub anchor : (d : ℕ) → anchor_for s' d ≡ anchor_for s d
-
 module _
     {g : Geometry} {s : State} {l : Lists} {caller x c : ℕ} {a b : AnchorFields} {e : ErrandFields} {s' : State}
     (h : MovesAt g s l caller x c a b e s') where
@@ -220,7 +178,7 @@ module _
   moved-anchor : (d : ℕ) → d ≢ x → anchor_for s' d ≡ anchor_for s d
   moved-anchor d differ = ap anchor_of (h.elsewhere (name.Anchor d) (λ same. differ (ap anchor_number same)))
 
-  -- what is FULL changes at x alone
+  -- what is FULL changes at x alone, from its anchor before to the one after
   moved-full :
       (d : ℕ)
       → full_keeps (anchor_for s' d).state + (if x == d then full_keeps a.state else 0) ≡ full_keeps (anchor_for s d).state + (if x == d then full_keeps b.state else 0)
@@ -247,7 +205,7 @@ module _
             )
       ]
 
-  -- each descriptor stands in as many places, so in one, in the state that belongs there
+  -- each descriptor stands in one place after the step, in the state that belongs there
   pub moved-kept : IsKept g s l → IsKept g s' l
   moved-kept kept =
       let words = λ (d : ℕ). words-but g (word_keeps d) s.word s'.word (name.Anchor x) h.elsewhere (λ w. refl) in
@@ -271,15 +229,7 @@ module _
               h.places d,
               moved-full d,
             );
-        actives = record {
-          active_words = λ heap class has_heap has_class.
-              subst (λ w. IsSome (active_of w)) (sym (active heap class)) (kept.active_words heap class has_heap has_class);
-          slot_words = λ heap class has_heap has_class.
-              subst (λ w. w ≤ descriptor_count g) (sym (slot heap class)) (kept.slot_words heap class has_heap has_class);
-          active = λ heap class d credits has_heap has_class is.
-              kept.active heap class d credits has_heap has_class (ap active_of (sym (active heap class)) ∙ is);
-          slot = λ heap class d has_heap has_class is. kept.slot heap class d has_heap has_class (sym (slot heap class) ∙ is);
-        };
+        actives = actives-same g s l s'.word kept active slot;
         goes = λ d.
             elim (cases_eq d x) [
               | inr other ↦ inl (same-stays-kept s s' d (moved-info d) (moved-anchor d other))
@@ -299,7 +249,7 @@ module _
         own = h.own;
       }) kept
 
-  -- and as many are out for each class
+  -- as many descriptors are out for each class as before
   pub moved-stocked : IsStocked g s l → IsStocked g s' l
   moved-stocked stocked = record {
     most = λ class has.
@@ -319,20 +269,3 @@ module _
           h.stock class,
         );
   }
-
-module _ {s s' : State} (h : SameDescs s s') where
-  pub descs-go : (d : ℕ) → StaysKept s s' d
-  descs-go d = same-stays-kept s s' d (h.info d) (h.anchor d)
-
-  -- so each descriptor is in the same state
-  pub active-same : (d c : ℕ) → IsActive s d c → IsActive s' d c
-  active-same d = (descs-go d).active
-
-  pub kept_as-same : (status : Status) (d c : ℕ) → IsKeptAs s status d c → IsKeptAs s' status d c
-  kept_as-same status d c = kept-goes s s' status d c (descs-go d)
-
-  pub partly-same : (d c : ℕ) → IsPartlyUsed s d c → IsPartlyUsed s' d c
-  partly-same d = (descs-go d).partly
-
-  pub without-same : (d : ℕ) → IsWithout s d → IsWithout s' d
-  without-same d = (descs-go d).without

@@ -13,7 +13,7 @@ IsListWord name.DescHead = Unit {0}
 IsListWord (name.ListHead class) = Unit {0}
 IsListWord n = ⊥
 
--- where only the head of the available descriptors changes, their list is what it leads to, and the others stay
+-- a write of the head of the available descriptors makes their list what it leads to, and leaves the others
 pub listed-anew :
     (g : Geometry) (words words' : WordName → ℕ) (l : Lists) (ys : List ℕ)
     → ((n : WordName) → IsListWord n → n ≢ name.DescHead → words' n ≡ words n)
@@ -35,7 +35,7 @@ listed-anew g words words' l ys same leads exist listed =
       partials_exist = listed.partials_exist;
     }
 
--- where none of these words changes, all lists stay
+-- all lists stay where no head and no next word changes
 pub listed-kept :
     (g : Geometry) (words words' : WordName → ℕ) (l : Lists) → ((n : WordName) → IsListWord n → words' n ≡ words n)
     → IsListed g words l → IsListed g words' l

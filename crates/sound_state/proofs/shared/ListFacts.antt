@@ -1,14 +1,14 @@
 -- Short facts of lists of any kind.
-use Rattle.std.proofs.Common.{[], ◌∷◌, arith, subst, ℕ, zero, suc, Option, Some, None, ◌≡◌, ◌<◌, List, length, ◌+◌, ◌++◌, ◌≤◌, inl, inr, ◌≢◌}
-use Rattle.std.proofs.lemmas.Bool.{cond-true, eq-eqb, cases_eq, cond-false, ne_eqb}
+use Rattle.std.proofs.Common.{[], ◌∷◌, arith, subst, ℕ, zero, suc, Option, Some, None, ◌≡◌, ◌<◌, List, length, ◌+◌, ◌++◌, ◌≤◌, inl, inr, ◌≢◌, eq-eqb, ne_eqb, Any}
+use Rattle.std.proofs.Common.{slice_index_or, ◌==◌, if◌then◌else◌, Contains, All}
+use Rattle.std.proofs.lemmas.Bool.{cond-true, cases_eq, cond-false}
 use Rattle.std.proofs.lemmas.List.Elements.{All-nil, All-cons, All-head, All-tail}
 use Rattle.std.proofs.lemmas.Option.{none-some}
 use Rattle.std.specs.List.{AllByRecursion}
-use Rattle.std.specs.Prelude.{Any, slice_index_or, ◌==◌, if◌then◌else◌, Contains, All}
+use Rattle.sound_state.proofs.Common.{occurs-here, occurs-more}
 use Rattle.word_table.specs.Occurs.{occurs}
-use Rattle.superblock_parts.proofs.ChainLemmas.{occurs-here, occurs-more}
 
--- no element of an empty list has anything, and the one of a list of one what some element has
+-- no element of an empty list has a property, and the only one of a list has what some element has
 pub any-none : {X : Type 0} (P : X → Type 0) → Any P [] → ⊥
 any-none P a = omega (arith, a.2)
 
@@ -16,13 +16,13 @@ pub any-one : {X : Type 0} (P : X → Type 0) (x : X) → Any P (x ∷ []) → P
 any-one P x a =
     subst (λ y. P y → P x) a.3 (All-cons (λ y. P y → P x) x [] (λ p. p) (All-nil (λ y. P y → P x)) a.0 a.1 a.2) a.4
 
--- what a list of written words has is in it
+-- an index at which something is written in a list of words is within the list
 pub written-within : (xs : List (Option ℕ)) (i v : ℕ) → slice_index_or xs i None ≡ Some v → i < length xs
 written-within [] i v of = absurd (none-some v of)
 written-within (x ∷ xs) zero v of = omega arith
 written-within (x ∷ xs) (suc i) v of = omega (arith, written-within xs i v of)
 
--- one more entry of a list
+-- what occurs in a list with one more entry occurs there as before, and once more if it is the entry
 pub occurs-push : (k d : ℕ) (xs : List ℕ) → occurs k (xs ++ d ∷ []) ≡ occurs k xs + (if d == k then 1 else 0)
 occurs-push k d [] = omega arith
 occurs-push k d (x ∷ xs) = omega (arith, occurs-push k d xs)
@@ -41,7 +41,7 @@ all-occurring P (x ∷ xs) each = (
   all-occurring P xs (λ d on. each d (omega (arith, on, occurs-more d x xs))),
 )
 
--- what occurs in a list is as all of the list are
+-- a number that occurs in a list has the property that all of the list have
 pub occurring-all : (P : ℕ → Type 0) (d : ℕ) (xs : List ℕ) → All P xs → 1 ≤ occurs d xs → P d
 occurring-all P d [] all some = absurd (omega (arith, some))
 occurring-all P d (x ∷ xs) all some =
@@ -50,6 +50,6 @@ occurring-all P d (x ∷ xs) all some =
       | inr differ ↦ occurring-all P d xs (All-tail P x xs all) (omega (arith, some, cond-false {A = ℕ} (x == d) 1 0 (ne_eqb x d differ)))
     ]
 
--- another index in front changes nothing
+-- another index in front of a list leaves how often an index occurs there
 pub occurs-past : (j i : ℕ) (xs : List ℕ) → i ≢ j → occurs j (i ∷ xs) ≡ occurs j xs
 occurs-past j i xs differ = omega (arith, cond-false {A = ℕ} (i == j) 1 0 (ne_eqb i j differ))

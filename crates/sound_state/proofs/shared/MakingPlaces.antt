@@ -1,20 +1,17 @@
 -- A frame of which a superblock is in the making: no superblock lies there, and no block is live.
 use Rattle.std.proofs.Common.{ℕ, ◌≡◌, ◌≢◌, ◌<◌, ◌≤◌, arith, ap, sym, subst, inl, inr, ◌∙◌, IsTrue}
 use Rattle.std.proofs.lemmas.Bool.{cases_eq}
-use Rattle.sound_state.proofs.Common.{frame_of, Geometry, Small, Need, descriptor_count, Site, occurs, place-found, pool_of, State, Point, errand_frames}
-use Rattle.sound_state.proofs.Common.{fills_frame, waiting, holds_of, Lists, IsSoundWith, IsSoundWithoutCounts, callers_sum, info_for, is_bound, errand_keeps}
-use Rattle.sound_state.proofs.Common.{kept_among, IsLive}
-use Rattle.heap_geometry.specs.declared.need.Need.TheVariants.{Large, TooLarge}
-use Rattle.pool_model.proofs.WellFormedLemmas.{large-frame}
+use Rattle.sound_state.proofs.Common.{frame_of, Geometry, Small, Need, descriptor_count, Site, occurs, place-found, pool_of, State, Point, errand_frames, fills_frame}
+use Rattle.sound_state.proofs.Common.{waiting, holds_of, Lists, IsSoundWith, IsSoundWithoutCounts, callers_sum, info_for, is_bound, errand_keeps, kept_among, IsLive}
+use Rattle.sound_state.proofs.Common.{TooLarge, large-frame, IsPlaceFor, making}
+use Rattle.heap_geometry.specs.declared.need.Need.TheVariants.{Large}
 use Rattle.pool_model.specs.Pool.{Block}
-use Rattle.pool_model.specs.WellFormed.{IsPlaceFor}
-use Rattle.sound_state.specs.Holdings.{making}
 use Rattle.sound_state.proofs.shared.FrameLemmas.{held-or-filled}
 use Rattle.sound_state.proofs.shared.MakingWeights.{making-waits}
 use Rattle.sound_state.proofs.shared.OverlapLemmas.{formed-at}
 use Rattle.sound_state.proofs.shared.SumLemmas.{term-sum, two-terms}
 
--- who makes a superblock has its frame in its hand, and no superblock waits with it
+-- a caller makes a superblock in the frame: it has the frame in its hand, and no superblock waits with it
 pub record IsMaking (s : State) (caller f : ℕ) : Type 0 where
   pub hand : 0 < errand_frames f (s.errand caller)
   pub waits : (d : ℕ) → errand_keeps waiting d (s.errand caller) ≡ 0
@@ -30,7 +27,7 @@ is-making s caller p at stands holds =
       waits = λ d. ap (λ h. kept_among waiting d h.kept) held ∙ making-waits d at;
     }
 
--- so no superblock lies there
+-- no superblock lies in a frame of which a superblock is in the making
 pub making-unbound :
     (g : Geometry) (s : State) (l : Lists) (caller f d : ℕ) → IsSoundWith g s l → caller < g.callers → f < g.frames → d < descriptor_count g
     → IsMaking s caller f → IsTrue (is_bound g s l d) → (info_for s d).frame ≢ f
@@ -50,7 +47,7 @@ making-unbound g s l caller f d old has in_heap exists mine bound at =
           (arith, once, one, mine.hand, term-sum g.callers hands caller has, term-sum (descriptor_count g) (fills_frame g s l f) d exists)
     ]
 
--- and no other caller has the frame
+-- one caller alone makes a superblock in a frame
 pub making-alone :
     (g : Geometry) (s : State) (l : Lists) (caller other f : ℕ) → IsSoundWith g s l → caller < g.callers → other < g.callers → f < g.frames
     → IsMaking s caller f → IsMaking s other f → other ≡ caller
@@ -65,7 +62,7 @@ making-alone g s l caller other f old has has_other in_heap mine theirs =
           (arith, once, mine.hand, theirs.hand, two-terms g.callers (λ i. errand_frames f (s.errand i)) other caller has_other has differ))
     ]
 
--- the frame of a live small block is none that is in the making
+-- the frame of a live small block is none of which a superblock is in the making
 pub small-unmade :
     (g : Geometry) (s : State) (l : Lists) (caller f place class : ℕ) (b : Block) → IsSoundWith g s l → caller < g.callers → f < g.frames
     → IsMaking s caller f → IsLive s place b → b.need ≡ Small class → frame_of place ≢ f
@@ -73,7 +70,7 @@ small-unmade g s l caller f place class b old has in_heap mine live of at =
     let tied = old.tied.small place class b live of in
     making-unbound g s l caller f tied.0 old has in_heap tied.1.exists mine tied.1.bound (tied.1.located.frame ∙ at)
 
--- no block is live in a frame that is in the making
+-- no block is live in a frame of which a superblock is in the making
 pub live-unmade :
     (g : Geometry) (s : State) (l : Lists) (caller f place : ℕ) (b : Block) (n : Need) → IsSoundWithoutCounts g s → IsSoundWith g s l
     → caller < g.callers → f < g.frames → IsMaking s caller f → IsLive s place b → b.need ≡ n → frame_of place ≢ f

@@ -1,12 +1,11 @@
 -- What a caller holds of a superblock that it makes, and of one that waits to be installed.
-use Rattle.std.proofs.Common.{ℕ, false, ◌≡◌, ◌≢◌, ◌+◌, [], ◌∷◌, refl, arith, sym, ◌==◌, if◌then◌else◌}
-use Rattle.std.proofs.lemmas.Bool.{cond-true, cond-false, eq-eqb, ne_eqb}
-use Rattle.sound_state.proofs.Common.{Site, new_credits, Holding, Status, waiting, on_its_way, reserved_among, kept_among, stock_among}
-use Rattle.sound_state.specs.Holdings.{nothing, making, reserve, keep}
-use Rattle.sound_state.specs.Superblocks.{same_status}
+use Rattle.std.proofs.Common.{ℕ, false, ◌≡◌, ◌≢◌, ◌+◌, [], ◌∷◌, refl, arith, sym, ◌==◌, if◌then◌else◌, eq-eqb, ne_eqb}
+use Rattle.std.proofs.lemmas.Bool.{cond-true, cond-false}
+use Rattle.sound_state.proofs.Common.{Site, new_credits, Holding, Status, waiting, on_its_way, reserved_among, kept_among, stock_among, nothing, making, reserve, keep}
+use Rattle.sound_state.proofs.Common.{same_status}
 use Rattle.sound_state.proofs.shared.PointLemmas.{kept_places}
 
--- 1 where it is the descriptor at hand
+-- 1 where a descriptor is that of the superblock at hand
 abbrev pub is_it : Site → ℕ → ℕ
 is_it at d = if at.desc == d then 1 else 0
 
@@ -24,14 +23,14 @@ installing_holds at = record nothing {
   frames = at.frame ∷ [];
 }
 
--- while it makes it, the descriptor is on its way, and nothing else of it is kept
+-- the descriptor of a superblock in the making is on its way, and nothing else of it is kept
 pub making-ways : (at : Site) (d : ℕ) → kept_among on_its_way d (making at).kept ≡ is_it at d
 making-ways at d = grind (arith)
 
 pub making-others : (status : Status) (at : Site) (d : ℕ) → same_status on_its_way status ≡ false → kept_among status d (making at).kept ≡ 0
 making-others status at d other = grind (arith, other)
 
--- then it waits, and so many of its blocks are reserved
+-- the descriptor of a superblock to install waits, and so many of its blocks are reserved
 pub installing-waits : (at : Site) (d : ℕ) → kept_among waiting d (installing_holds at).kept ≡ is_it at d
 installing-waits at d = grind (arith)
 
@@ -45,7 +44,7 @@ installing-credits at = grind (arith)
 pub installing-apart : (at : Site) (d : ℕ) → d ≢ at.desc → reserved_among d (installing_holds at).credits ≡ 0
 installing-apart at d differ = grind (arith, differ)
 
--- it stands in one place either way, and is out for its class
+-- a superblock stands in one place and is out for its class, whether in the making or to install
 pub making-places : (at : Site) (d : ℕ) → kept_places d (making at).kept ≡ kept_places d (installing_holds at).kept
 making-places at d = grind (arith)
 

@@ -5,16 +5,14 @@ use Rattle.std.proofs.lemmas.List.Elements.{All-nil}
 use Rattle.std.proofs.lemmas.Option.{none-some}
 use Rattle.sound_state.proofs.Common.{Geometry, Found, SeatFields, Continuation, Point, Idle, Desc, ErrandFields, settle_of, counts_lost, spare_of, pushed_by, State}
 use Rattle.sound_state.proofs.Common.{IsHazard, IsGuard, passed_by, held_by, Kept, holds_of, IsWithout, IsKeptAs, Lists, IsSo, IsOwned, recalls_of, IsOwnErrand}
-use Rattle.sound_state.proofs.Common.{waits_in, gives_small, refuses_small}
+use Rattle.sound_state.proofs.Common.{waits_in, gives_small, refuses_small, no_words, settle_errand, HazardState, nothing, turn_open, turn_unframed, turn_unlisted}
+use Rattle.sound_state.proofs.Common.{turn_unanswered, errand_discards, errand_pops}
 use Rattle.hazard_parts.specs.declared.point.DescPoint.TheVariants as desc
-use Rattle.errand_steps.specs.Errands.{no_words}
-use Rattle.errand_steps.proofs.ErrandLemmas.{settle_errand}
-use Rattle.sound_state.specs.Holdings.{HazardState, nothing}
-use Rattle.sound_state.specs.Turns.{turn_open, turn_unframed, turn_unlisted, turn_unanswered, errand_discards, errand_pops}
-use Rattle.sound_state.proofs.shared.ShownLemmas.{Excepts, IsSaidAt, MayGoOn, MayGuard}
+use Rattle.sound_state.proofs.shared.ShownLemmas.{MayGoOn, MayGuard}
 use Rattle.sound_state.proofs.shared.StepLemmas.{HoldsException, raised-below}
+use Rattle.sound_state.proofs.shared.TieLemmas.{Excepts, IsSaidAt}
 
--- at the point a caller holds nothing, waits for nothing and pushes nothing; where it scans, it has read no hazard word yet
+-- at the point a caller holds, awaits and pushes nothing; where it scans, it has noted no hazard word yet
 pub record HoldsNothing (q : Point) : Type 0 where
   pub holds : holds_of q ≡ nothing
   pub waits : (class : ℕ) → waits_in class q ≡ 0
@@ -22,7 +20,7 @@ pub record HoldsNothing (q : Point) : Type 0 where
   pub passed : passed_by q ≡ 0
   pub unread : (i : ℕ) → i < length (held_by q) → slice_index (held_by q) i ≡ 0
 
--- so does who is idle, and who begins a scan
+-- who is idle holds nothing, and so does who begins a scan
 pub idle-nothing : HoldsNothing Idle
 unfolding holds_of
 idle-nothing = record {
@@ -33,7 +31,7 @@ idle-nothing = record {
   unread = λ i lt. let bad : ⊥ = omega (arith, lt) in absurd bad;
 }
 
--- no hazard word is noted yet
+-- a scan that begins has noted no hazard word yet
 no_words-zero : (i : ℕ) → i < length no_words → slice_index no_words i ≡ 0
 no_words-zero i lt = grind (arith, common_steps)
 
@@ -42,12 +40,12 @@ unfolding holds_of
 scan-nothing seat o =
     record { holds = refl; waits = λ class. refl; pushed = refl; passed = refl; unread = no_words-zero }
 
--- who holds no block excepts none
+-- a caller that holds no block excepts none
 pub keeps-excepts : (ks : List Kept) (h : HazardState) (place : ℕ) → HoldsException (record nothing { kept = ks; hazard = h }) place → ⊥
 keeps-excepts ks h place (inl x) = omega (arith, x.2)
 keeps-excepts ks h place (inr x) = omega (arith, x.2)
 
--- the caller guards nothing there
+-- a caller at a point where it holds nothing guards nothing
 pub nothing-guards :
     (g : Geometry) (s : State) (caller : ℕ) (q : Point) (retired : List ℕ) (word : ℕ) → HoldsNothing q → word ≡ 0 → MayGuard g s caller q retired word
 nothing-guards g s caller q retired word h bare = record {
@@ -72,7 +70,7 @@ settled-own g caller e x f own word after =
       lost = raised-below (counts_lost e.point x) e.lost own.lost;
     })
 
--- the caller's turns and counts go on from one errand to another as they may
+-- a caller's turns and counts go on from one errand to another as they may
 pub record CountsGo (g : Geometry) (s : State) (caller : ℕ) (a b : ErrandFields) : Type 0 where
   pub own_turns : count_by (gives_small caller) s.history + turn_open b ≤ b.turns
   pub own_lost :
@@ -84,7 +82,7 @@ pub record CountsGo (g : Geometry) (s : State) (caller : ℕ) (a b : ErrandField
   pub list_turns :
       errand_pops b + turn_unlisted b + a.turns + a.cleared ≤ errand_pops a + turn_unlisted a + b.turns + b.cleared
 
--- so the caller may go on to such a point, where what it remembers there is so
+-- a caller may go on to a point at which it holds nothing, where what it remembers there is so
 pub nothing-may :
     (g : Geometry) (s : State) (l : Lists) (caller : ℕ) (a b : ErrandFields) → HoldsNothing b.point → IsOwnErrand g caller b
     → All (IsWithout s) b.retired → (spare_of b.point ≡ 1 → length b.retired ≡ g.callers + 1)

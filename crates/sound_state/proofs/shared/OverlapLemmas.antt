@@ -1,22 +1,19 @@
 -- Live blocks and free blocks are apart.
 use Rattle.std.proofs.Common.{ℕ, ◌≡◌, ◌≢◌, ◌<◌, Option, Some, None, refl, sym, ◌∙◌, ap, subst, arith, IsTrue}
-use Rattle.sound_state.proofs.Common.{Geometry, Need, Small, block_count_of, block_place, frame_of, frame_of-block_place, descriptor_count, occurs, block_at}
-use Rattle.sound_state.proofs.Common.{pool_of, place-found, sound-of, State, Lists, IsSoundWith, IsSoundWithoutCounts, IsChained, info_for, is_bound, is_there}
-use Rattle.sound_state.proofs.Common.{live_at, superblock_of, free_chain, IsLive}
+use Rattle.sound_state.proofs.Common.{Geometry, Need, Small, block_count_of, block_place, frame_of, frame_of-block_place, descriptor_count, occurs, block_at, pool_of}
+use Rattle.sound_state.proofs.Common.{place-found, sound-of, State, Lists, IsSoundWith, IsSoundWithoutCounts, IsChained, info_for, is_bound, is_there, live_at}
+use Rattle.sound_state.proofs.Common.{superblock_of, free_chain, IsLive, IsPlaceFor, IsWellFormed, every-found, IsBlockOfDesc}
 use Rattle.heap_geometry.specs.Place.{IsApart}
 use Rattle.pool_model.specs.Pool.{Block, span_of}
-use Rattle.pool_model.specs.WellFormed.{IsPlaceFor, IsWellFormed}
-use Rattle.pool_model.proofs.PoolLemmas.{every-found}
 use Rattle.pool_model.proofs.WellFormedLemmas.{separate-found}
 use Rattle.sound_state.specs.Consequences.{IsTaken}
-use Rattle.sound_state.specs.Ties.{IsBlockOfDesc}
 
 pub live-apart : (g : Geometry) (s : State) → IsSoundWithoutCounts g s → (p q : ℕ) (a b : Block) → IsLive s p a → IsLive s q b → p ≢ q
     → IsApart (span_of a) (span_of b)
 live-apart g s sound p q a b at_p at_q ne =
     (separate-found g (pool_of s.history) (sound-of g s.history sound.legal) p q a b at_p at_q ne).apart
 
--- no block is there
+-- a place where no block is counted has none
 pub there-none : (o : Option Block) → is_there o ≡ 0 → o ≡ None
 there-none None h = refl
 there-none (Some b) h = absurd (omega (arith, h))
@@ -31,7 +28,7 @@ free-unlive g s sound l is d i has bound free =
     let once = chained.once i (chained.within i free) in
     there-none (block_at (block_place (info_for s d).frame (info_for s d).class i) (pool_of s.history)) (omega arith)
 
--- a live one isn't free
+-- a live block isn't free in its superblock
 live-taken-at : (g : Geometry) (s : State) (l : Lists) → IsSoundWith g s l → (place i d : ℕ) (b : Block) → IsLive s place b
     → d < descriptor_count g → IsTrue (is_bound g s l d) → i < block_count_of (info_for s d).class
     → place ≡ block_place (info_for s d).frame (info_for s d).class i → IsTaken g s l place

@@ -3,29 +3,27 @@ use Rattle.std.proofs.Common.{ℕ, ◌≡◌, ◌≢◌, ap, inl, inr, Option, S
 use Rattle.std.proofs.lemmas.Bool.{cases_eq}
 use Rattle.std.proofs.lemmas.List.Elements.{All-head}
 use Rattle.sound_state.proofs.Common.{block_place, Geometry, Need, SeatFields, block_at, pool_of, State, Continuation, Block, Holding, holds_of, Lists, IsOwned}
-use Rattle.sound_state.proofs.Common.{IsSoundWith}
+use Rattle.sound_state.proofs.Common.{IsSoundWith, Caller, Handed, Freed, IsExcepted, IsBlockOfDesc}
 use Rattle.heap_geometry.specs.declared.need.Need.TheVariants as need
 use Rattle.word_table.specs.declared.name.WordName.TheVariants as name
 use Rattle.superblock_parts.specs.declared.point.BlockPoint.TheVariants as block
 use Rattle.pool_model.specs.Pool.{Block as Live}
-use Rattle.pool_model.specs.declared.owner.Owner.TheVariants.{Caller, Shelf}
+use Rattle.pool_model.specs.declared.owner.Owner.TheVariants.{Shelf}
 use Rattle.pool_model.specs.declared.owner.Owner.{Owner}
-use Rattle.sound_state.specs.Holdings.{Handed, Freed}
-use Rattle.sound_state.specs.Ties.{IsExcepted, IsBlockOfDesc}
 use Rattle.sound_state.proofs.shared.ListFacts.{any-none, any-one}
 use Rattle.sound_state.proofs.shared.StepLemmas.{HoldsException}
 
--- the number of an owner
+-- the number of the caller, or of the shelf, that owns
 abbrev pub owner_number : Owner → ℕ
 owner_number (Caller i) = i
 owner_number (Shelf k) = k
 
--- whether an owner is this shelf
+-- an owner is this shelf, or another owner
 pub is-shelf : (owner : Owner) (k : ℕ) → (owner ≡ Shelf k) ⊎ (owner ≢ Shelf k)
 is-shelf (Caller i) k = inr (λ same. cc)
 is-shelf (Shelf j) k = elim (cases_eq j k) [ inl is ↦ inl (ap Shelf is) | inr differ ↦ inr (λ same. differ (ap owner_number same)) ]
 
--- the owner of the block that is live at a place
+-- the number of the owner of the block that is live at a place, where one is
 abbrev pub owner_there : Option Live → ℕ
 owner_there None = 0
 owner_there (Some b) = owner_number b.owner
@@ -33,7 +31,7 @@ owner_there (Some b) = owner_number b.owner
 pub owner-there : (s : State) (i place : ℕ) (n : Need) → IsOwned s i place n → owner_there (block_at place (pool_of s.history)) ≡ i
 owner-there s i place n owned = ap owner_there owned.block.1 ∙ ap owner_number owned.block.2
 
--- who excepts a block owns it
+-- a caller that excepts a block owns it
 excepter-owns :
     (s : State) (j place : ℕ) (h : Holding) → All (λ x. IsOwned s j x.place x.need) h.hands → All (λ x. IsOwned s j x.place x.need) h.frees
     → HoldsException h place → (n : Need) × IsOwned s j place n
@@ -42,7 +40,7 @@ excepter-owns s j place h hands frees (inl a) =
 excepter-owns s j place h hands frees (inr a) =
     (a.1.need, subst (λ p. IsOwned s j p a.1.need) a.4.0 (subst (λ (x : Freed). IsOwned s j x.place x.need) a.3 (frees a.0 a.1 a.2)))
 
--- so only its owner excepts a block
+-- only its owner excepts a block
 pub only-owner :
     (g : Geometry) (s : State) (l : Lists) (caller place : ℕ) (n : Need) → IsSoundWith g s l → IsOwned s caller place n → IsExcepted g s place
     → HoldsException (holds_of (s.errand caller).point) place
@@ -54,7 +52,7 @@ only-owner g s l caller place n old owned x =
     let same : j ≡ caller = sym (owner-there s j place his.0 his.1) ∙ owner-there s caller place n owned in
     subst (λ k. HoldsException (holds_of (s.errand k).point) place) same excepts
 
--- who begins to free a block excepts none
+-- a caller that begins to free a block excepts none
 pub begins-free : (seat : SeatFields) (frame i : ℕ) (o : Continuation) (place : ℕ) → HoldsException (holds_of (Block (block.LoadPrefix seat frame i) o)) place → ⊥
 unfolding holds_of
 begins-free seat frame i o place (inl a) = any-none (λ (b : Handed). b.place ≡ place) a
@@ -64,7 +62,7 @@ begins-free seat frame i o place (inr a) =
     (record { place = block_place frame seat.class i; need = need.Small seat.class; overwritten = false }) a in
     let bad : IsTrue false = end.1 in cc
 
--- and owns the block
+-- a caller that begins to free a block owns it
 pub begins-owned :
     (g : Geometry) (s : State) (l : Lists) (caller : ℕ) (seat : SeatFields) (frame i : ℕ) (o : Continuation) → IsSoundWith g s l → caller < g.callers
     → (s.errand caller).point ≡ Block (block.LoadPrefix seat frame i) o

@@ -1,35 +1,31 @@
 -- Steps from a point that is known: what a sound state says of the caller there, and what its word and errand weigh.
 use Rattle.std.proofs.Common.{ℕ, false, None, ◌≡◌, ◌<◌, ◌≤◌, ◌+◌, ◌^◌, List, [], ◌∷◌, refl, arith, ap, sym, subst, inl, inr, ◌∙◌, ◌≢◌, length-set, get_or-set_other}
-use Rattle.std.specs.Prelude.{All, Any, Contains, IsSome, IsTrue, length, slice_index, slice_set}
-use Rattle.std.proofs.lemmas.List.Elements.{All-nil, All-cons, All-tail, All-contains}
+use Rattle.std.proofs.Common.{All, Any, Contains, IsSome, IsTrue, length, slice_index, slice_set}
+use Rattle.std.proofs.lemmas.List.Elements.{All-nil, All-cons, All-tail, All-contains, recursion_from_All}
 use Rattle.sound_state.proofs.Common.{need_of, Geometry, active_of, SeatFields, Found, WordName, name_of, after_action, descriptor_count, Exists, Writes, cases_name}
 use Rattle.sound_state.proofs.Common.{Site, occurs, Continuation, Next, Desc, Point, ErrandFields, counts_cleared, event_of, FitsPoint, spare_of, pushed_by, next_of}
-use Rattle.sound_state.proofs.Common.{asked, plan_point_of, State, Step, action_at, name_at, word_at, found_at, IsHazard, IsGuard, passed_by, held_by, Kept}
-use Rattle.sound_state.proofs.Common.{holds_of, on_its_way, waiting, reserving, partly_used, IsKeptAs, IsPartlyUsed, errand_has, word_keeps, Lists, IsSo, IsOwned}
-use Rattle.sound_state.proofs.Common.{recalls_of, IsSoundWithoutCounts, IsSoundWith, waits_in, word_stock, stock_among, sum_below, callers_sum, errand_keeps}
-use Rattle.sound_state.proofs.Common.{word_reserves, reserved_among, kept_among}
+use Rattle.sound_state.proofs.Common.{asked, plan_point_of, State, Step, action_at, name_at, word_at, found_at, IsHazard, IsGuard, passed_by, held_by, Kept, holds_of}
+use Rattle.sound_state.proofs.Common.{on_its_way, waiting, reserving, partly_used, IsKeptAs, IsPartlyUsed, errand_has, word_keeps, Lists, IsSo, IsOwned, recalls_of}
+use Rattle.sound_state.proofs.Common.{IsSoundWithoutCounts, IsSoundWith, waits_in, word_stock, stock_among, sum_below, callers_sum, errand_keeps, word_reserves}
+use Rattle.sound_state.proofs.Common.{reserved_among, kept_among, point_after, FitsContinuation, is_alloc, plan-exists}
 use Rattle.heap_geometry.specs.declared.need.Need.TheVariants as need
 use Rattle.word_table.specs.declared.name.WordName.TheVariants as name
 use Rattle.hazard_parts.specs.declared.point.DescPoint.TheVariants as desc
 use Rattle.errand_steps.specs.declared.continuation.Continuation.TheVariants as continuation
-use Rattle.errand_steps.specs.Errands.{point_after}
-use Rattle.errand_steps.specs.Fits.{FitsContinuation}
-use Rattle.errand_steps.specs.Continuations.{is_alloc, is_free}
-use Rattle.errand_steps.proofs.PlanLemmas.{plan-exists}
-use Rattle.sound_state.proofs.shared.ShownLemmas.{ActivesKept}
-use Rattle.sound_state.proofs.shared.StepLemmas.{LeadsOrEnds, PointGoes, TurnGoes, actives-stay, at_point, found_from, goes-guards, goes-stands, settle-next, step-most, words-stay}
+use Rattle.errand_steps.specs.Continuations.{is_free}
+use Rattle.sound_state.proofs.shared.BackedRecalls.{fits-own}
+use Rattle.sound_state.proofs.shared.StepLemmas.{LeadsOrEnds, PointGoes, TurnGoes, actives-stay, at_point, found_from, goes-guards, goes-stands, settle-next, step-most}
+use Rattle.sound_state.proofs.shared.StepLemmas.{words-stay}
 use Rattle.sound_state.proofs.shared.SumLemmas.{sum-plus, sum-least, term-sum}
 use Rattle.sound_state.proofs.shared.WeighLemmas.{IsStill, WeighAlike, alike-most, hazards-stay}
+use Rattle.std.specs.List.{AllByRecursion}
+use Rattle.sound_state.proofs.shared.SuperblocksStay.{ActivesKept}
 
--- what a sound state says of a caller at this point
+-- a caller of a sound state fits at its point
 pub fits-at :
     (g : Geometry) (s : State) (l : Lists) (caller : ℕ) (p : Point) → IsSoundWith g s l → caller < g.callers → (s.errand caller).point ≡ p
     → FitsPoint g caller p
-fits-at g s l caller p old has stands =
-    let own = old.errands caller has in
-    subst (FitsPoint g caller) stands
-    (subst (λ h. FitsPoint h caller (s.errand caller).point) own.geometry
-    (subst (λ i. FitsPoint (s.errand caller).geometry i (s.errand caller).point) own.number own.rule.point))
+fits-at g s l caller p old has stands = subst (FitsPoint g caller) stands (fits-own g caller (s.errand caller) (old.errands caller has))
 
 pub fits-now :
     (g : Geometry) (s : State) (caller : ℕ) (p : Point) → IsSoundWithoutCounts g s → caller < g.callers → (s.errand caller).point ≡ p → FitsPoint g caller p
@@ -54,6 +50,12 @@ pub so-at :
     → All (IsSo g s l caller) (recalls_of p)
 so-at g s l caller p old has stands = subst (λ q. All (IsSo g s l caller) (recalls_of q)) stands (old.remembered.so caller has)
 
+-- each thing that it remembers at this point
+pub recalled-at :
+    (g : Geometry) (s : State) (l : Lists) (caller : ℕ) (p : Point) → IsSoundWith g s l → caller < g.callers → (s.errand caller).point ≡ p
+    → AllByRecursion (IsSo g s l caller) (recalls_of p)
+recalled-at g s l caller p old has stands = recursion_from_All (IsSo g s l caller) (recalls_of p) (so-at g s l caller p old has stands)
+
 pub hazard-at :
     (g : Geometry) (s : State) (l : Lists) (caller : ℕ) (p : Point) → IsSoundWith g s l → caller < g.callers → (s.errand caller).point ≡ p
     → IsHazard (holds_of p).hazard (s.word (name.Hazard caller))
@@ -69,24 +71,24 @@ pub frees-at :
     → All (λ x. IsOwned s caller x.place x.need) (holds_of p).frees
 frees-at g s l caller p old has stands = subst (λ q. All (λ x. IsOwned s caller x.place x.need) (holds_of q).frees) stands (old.tied.frees caller has)
 
--- the continuation of an allocation at work, and of a free
+-- the continuation of an allocation at work is an allocation, and that of a free one
 pub the-alloc : (o : Continuation) → IsTrue (is_alloc o) → o ≡ continuation.Alloc (asked o)
 the-alloc o is = grind (arith, is)
 
 pub the-free : (o : Continuation) → IsTrue (is_free o) → o ≡ continuation.Free
 the-free o is = grind (arith, is)
 
--- all but the first
+-- all of a list but its first element have the property that all of it have
 pub All-rest : {X : Type 0} (P : X → Type 0) (x : X) (xs : List X) → All P (x ∷ xs) → All P xs
 All-rest P x xs h = All-tail P x xs h
 
--- the word of the point is one of the heap's
+-- the word of a caller's point is one of the heap's
 pub exists-at :
     (g : Geometry) (s : State) (caller : ℕ) (p : Point) → IsSoundWithoutCounts g s → caller < g.callers → (s.errand caller).point ≡ p
     → Exists g (name_of (plan_point_of p))
 exists-at g s caller p sound has stands = plan-exists g caller p sound.checked has (fits-now g s caller p sound has stands)
 
--- at the second point a caller has the blocks and the push that it has at the first, and is no further back in its turn
+-- at q a caller has the blocks and the push that it has at p, and is no further back in its turn
 pub record HoldsBlocks (p q : Point) : Type 0 where
   pub hands : (holds_of q).hands ≡ (holds_of p).hands
   pub frees : (holds_of q).frees ≡ (holds_of p).frees
@@ -96,7 +98,7 @@ pub record HoldsBlocks (p q : Point) : Type 0 where
   pub spare : spare_of q ≡ spare_of p
   pub turn : TurnGoes p q
 
--- it may stand there, where its hazard word is as the point asks, what it keeps is in its state and what it remembers is so
+-- a caller may stand at the point where its hazard word is as that asks, what it keeps is in its state and what it remembers is so
 pub blocks-go :
     (g : Geometry) (s : State) (l : Lists) (caller : ℕ) (p q : Point) → IsSoundWith g s l → caller < g.callers → (s.errand caller).point ≡ p
     → HoldsBlocks p q → IsHazard (holds_of q).hazard (s.word (name.Hazard caller))
@@ -121,7 +123,7 @@ blocks-go g s l caller p q old has stands h hazard guard kept so = record {
   turn = h.turn;
 }
 
--- the same, where its hazard word is what it was
+-- at q a caller has the hazard word, the blocks and the push that it has at p, and is no further back in its turn
 pub record HoldsAlike (p q : Point) : Type 0 where
   pub hazard : (holds_of q).hazard ≡ (holds_of p).hazard
   pub hands : (holds_of q).hands ≡ (holds_of p).hands
@@ -150,11 +152,11 @@ alike-goes g s l caller p q old has stands h kept so =
     (subst (λ x. IsHazard x (s.word (name.Hazard caller))) (sym h.hazard) (hazard-at g s l caller p old has stands))
     (λ d word guard. subst IsGuard h.hazard guard) kept so
 
--- in how many places a caller keeps d
+-- in how many places kept descriptors are d
 abbrev pub kept_places : ℕ → List Kept → ℕ
 kept_places d ks = kept_among reserving d ks + kept_among waiting d ks + kept_among partly_used d ks + kept_among on_its_way d ks
 
--- the word after the step and the second point weigh what the word before it and the first point did
+-- a word after a step, and q, weigh together what the word before it and p did
 pub record WeighFrom (n : WordName) (before after : ℕ) (p q : Point) : Type 0 where
   pub still : IsStill n → after ≡ before
   pub reserves :
@@ -169,7 +171,7 @@ pub record WeighFrom (n : WordName) (before after : ℕ) (p q : Point) : Type 0 
       (class : ℕ) → word_stock class n after + (stock_among class (holds_of q).kept + waits_in class q)
       ≡ word_stock class n before + (stock_among class (holds_of p).kept + waits_in class p)
 
--- a word that stays, and points that keep the same
+-- a word that stays, and points at which a caller keeps the same, weigh the same
 pub weigh-stays :
     (n : WordName) (w : ℕ) (p q : Point) → (holds_of q).credits ≡ (holds_of p).credits → (holds_of q).kept ≡ (holds_of p).kept
     → (holds_of q).frames ≡ (holds_of p).frames → ((class : ℕ) → waits_in class q ≡ waits_in class p) → WeighFrom n w w p q
@@ -197,7 +199,7 @@ from-weighs n before after e x q h = record {
   stock = h.stock;
 }
 
--- a step from a point that leads there, and what the active words and the slots hold after it
+-- a step from p that leads there, and what the active words and the slots hold after it
 pub record StepsFrom (g : Geometry) (s : State) (l : Lists) (caller : ℕ) (p : Point) (n : Next) : Type 0 where
   pub next : next_of p (found_from s p) ≡ n
   pub event : event_of caller p (found_from s p) ≡ None
@@ -212,7 +214,7 @@ pub record StepsFrom (g : Geometry) (s : State) (l : Lists) (caller : ℕ) (p : 
       → Writes s.word (name_of (plan_point_of p)) (after_action (plan_point_of p) (s.word (name_of (plan_point_of p)))) words'
       → ActivesKept g s words'
 
--- it keeps the state sound
+-- a step from a point that is known keeps the state sound
 pub step-from :
     (g : Geometry) (s : State) (caller : ℕ) (s' : State) (p : Point) (n : Next) → LeadsOrEnds n → IsSoundWithoutCounts g s → caller < g.callers
     → (s.errand caller).point ≡ p → ((l : Lists) → IsSoundWith g s l → StepsFrom g s l caller p n) → Step s caller s' → IsSoundWithoutCounts g s'
@@ -244,18 +246,18 @@ step-from g s caller s' p n plain sound has at h step =
     })
     step
 
--- where the word stays, the active words and the slots do
+-- a write that leaves its word leaves the active words and the slots
 pub stays-actives :
     (g : Geometry) (s : State) (l : Lists) (n : WordName) (new : ℕ) (words' : WordName → ℕ) → IsSoundWith g s l → Writes s.word n new words'
     → new ≡ s.word n → ActivesKept g s words'
 stays-actives g s l n new words' old w same = actives-stay g s l words' old.kept (words-stay s.word n new words' w same)
 
--- the class of a slot
+-- the class of the slot whose word this is
 abbrev slot_class : WordName → ℕ
 slot_class (name.Slot heap class) = class
 slot_class n = 0
 
--- a slot into which a partly used superblock of its class is put, or nothing
+-- active words and slots hold what is in its state where one of the class, partly used, or nothing is put into a slot
 pub slot-written :
     (g : Geometry) (s : State) (l : Lists) (heap class new : ℕ) (words' : WordName → ℕ) → IsSoundWith g s l
     → Writes s.word (name.Slot heap class) new words' → new ≤ descriptor_count g
@@ -278,21 +280,21 @@ slot-written g s l heap class new words' old w most holds = record {
       ];
 }
 
--- a slot that is emptied
+-- active words and slots hold what is in its state where a slot is emptied
 pub slot-emptied :
     (g : Geometry) (s : State) (l : Lists) (heap class new : ℕ) (words' : WordName → ℕ) → IsSoundWith g s l
     → Writes s.word (name.Slot heap class) new words' → new ≡ 0 → ActivesKept g s words'
 slot-emptied g s l heap class new words' old w bare =
     slot-written g s l heap class new words' old w (omega (arith, bare)) (λ d is. let bad : ⊥ = omega (arith, bare, is) in absurd bad)
 
--- one more partly used superblock is kept
+-- one more partly used superblock and kept ones are kept in their states
 pub keeps-too :
     (s : State) (d class : ℕ) (ks : List Kept) → IsPartlyUsed s d class → All (λ k. IsKeptAs s k.status k.desc k.class) ks
     → All (λ k. IsKeptAs s k.status k.desc k.class) (record { desc = d; class = class; status = partly_used } ∷ ks)
 keeps-too s d class ks is rest =
     All-cons (λ k. IsKeptAs s k.status k.desc k.class) (record { desc = d; class = class; status = partly_used }) ks is rest
 
--- nothing is kept
+-- no kept descriptors are kept in their states
 pub none-kept-as : (s : State) → All (λ (k : Kept). IsKeptAs s k.status k.desc k.class) []
 none-kept-as s = All-nil (λ (k : Kept). IsKeptAs s k.status k.desc k.class)
 
@@ -326,7 +328,7 @@ unread-at g s l caller p old has stands =
     subst (λ q. (k : ℕ) → passed_by q ≤ k → k < length (held_by q) → slice_index (held_by q) k ≡ 0) stands
     (λ k from below. old.guarded.unread caller k has from below)
 
--- also when it has noted the next one
+-- the hazard words that a scan hasn't passed are noted as 0 also when it has noted the next one
 pub noted-unread :
     (g : Geometry) (s : State) (l : Lists) (caller : ℕ) (seat : SeatFields) (held : List ℕ) (i : ℕ) (o : Continuation) → IsSoundWith g s l
     → caller < g.callers → (s.errand caller).point ≡ Desc (desc.ReadHazard seat held i) o → (new k : ℕ) → i + 1 ≤ k

@@ -1,118 +1,189 @@
 -- What a recall reads, and that it stays so where that stays.
-use Rattle.std.proofs.Common.{ℕ, ◌≡◌, ◌<◌, ◌≤◌, ◌∙◌, ◌-◌, ap, sym, subst, IsTrue}
-use Rattle.pool_model.specs.declared.event.Event.TheVariants.{Looked}
-use Rattle.pool_model.specs.Histories.{EndsWith}
+use Rattle.std.proofs.Common.{ℕ, ◌≡◌, ◌<◌, ◌≤◌, ◌∙◌, ◌-◌, ap, arith, sym, subst, IsTrue}
 use Rattle.word_table.specs.declared.name.WordName.TheVariants as name
-use Rattle.sound_state.specs.Recalls.{EndsRefused, IsEmptied, IsPlain, IsTopStill, list_of, located, tops, nexts, tops_exist, made, in_use, owns, owns_all, refused}
-use Rattle.sound_state.proofs.Common.{Geometry, HeadFields, Lists, Need, Pile, Recall, SeatFields, State, WordName, IsOwned, IsSo, bound_at, bound_for, emptied}
-use Rattle.sound_state.proofs.Common.{anchor_for, free_chain, head_name, head_of, info_for, is_bound, links, looked, next_name, noted, occurs, own, pops, prefix_name, says, superblock_of}
+use Rattle.sound_state.specs.Recalls.{IsPopped, IsTopStill, tops, nexts, tops_exist, in_use, owns, owns_all}
+use Rattle.sound_state.proofs.Common.{Looked, EndsWith, EndsRefused, IsEmptied, list_of, made, refused, CLASSES, Geometry, Lists, Need, Pile, Recall, SeatFields, Site}
+use Rattle.sound_state.proofs.Common.{State, WordName, IsLocated, IsOwned, IsSo, bound_at, bound_for, emptied, located, anchor_for, descriptor_count, free_chain}
+use Rattle.sound_state.proofs.Common.{head_name, head_of, info_for, is_bound, links, looked, next_name, noted, occurs, own, pops, prefix_name, says, superblock_of}
 
--- a part of a state that recalls read
+-- a part of a state that a recall reads
 pub data Part : Type 0 where
-  -- which descriptors have a superblock, and where it lies
-  bindings : Part
-  -- where descriptors say that one lies
-  places : Part
-  -- the free blocks of superblocks
-  chains : Part
-  -- the stacks of frames and of partial superblocks
-  stacks : Part
-  -- the links in the arena
-  link_words : Part
-  -- the available descriptors
-  availables : Part
-  -- the caller's events and blocks
+  -- whether d has a superblock, and where it lies
+  bindings : (d : ℕ) → Part
+  -- the place that the word of d names
+  places : (d : ℕ) → Part
+  -- the free blocks of d's superblock
+  chains : (d : ℕ) → Part
+  -- a stack of frames or of partial superblocks
+  stacks : (seat : SeatFields) → (pile : Pile) → Part
+  -- the links of the first blocks of a frame
+  link_words : (frame class blocks : ℕ) → Part
+  -- whether d is EMPTY or available, and its next word
+  availables : (d : ℕ) → Part
+  -- the part of the caller's events and blocks
   events : Part
-  -- one word
-  single : Part
-  -- nothing
+  -- the part that is one word
+  single : (word_name : WordName) → Part
+  -- the part that nothing changes
   constant : Part
 
--- what each recall reads
+-- the part of a state that a recall reads
 abbrev pub part_of : Recall → Part
-part_of (bound_for d class) = bindings
-part_of (bound_at d frame class) = bindings
-part_of (located d frame class) = places
-part_of (pops d a) = chains
-part_of (links d a prefix) = chains
-part_of (tops s pile h) = stacks
-part_of (nexts s pile h below) = stacks
-part_of (made frame class blocks) = link_words
-part_of (emptied d) = availables
-part_of (noted d next) = availables
-part_of (says n w) = single
-part_of (tops_exist s pile h) = constant
+part_of (bound_for d class) = bindings d
+part_of (bound_at d frame class) = bindings d
+part_of (located d frame class) = places d
+part_of (pops d a) = chains d
+part_of (links d a prefix) = chains d
+part_of (tops seat pile h) = stacks seat pile
+part_of (nexts seat pile h below) = stacks seat pile
+part_of (made frame class blocks) = link_words frame class blocks
+part_of (emptied d) = availables d
+part_of (noted d next) = availables d
+part_of (says n w) = single n
+part_of (tops_exist seat pile h) = constant
 part_of (in_use a) = constant
 part_of r = events
 
--- the descriptor's word names the same frame and class
+-- the recall reads such a part
+abbrev pub Reads : (Part → Type 0) → Recall → Type 0
+Reads P r = P (part_of r)
+
+-- a word of the arena, an anchor, a link, or where a superblock lies: no other word is recalled
+abbrev pub IsSaidWord : WordName → Type 0
+IsSaidWord (name.Arena place) = Unit {0}
+IsSaidWord (name.Anchor d) = Unit {0}
+IsSaidWord (name.Next d) = Unit {0}
+IsSaidWord (name.Info d) = Unit {0}
+IsSaidWord (name.FrameNext f) = Unit {0}
+IsSaidWord n = ⊥
+
+-- the heap has d, and d has a superblock
+abbrev pub IsHere : Geometry → State → Lists → ℕ → Type 0
+IsHere g s l d = (d < descriptor_count g) × IsTrue (is_bound g s l d)
+
+-- the superblock at hand is bound, and lies there
+abbrev pub LiesAt : Geometry → State → Lists → Site → Type 0
+LiesAt g s l at = IsTrue (is_bound g s l at.desc) × IsLocated s at.desc at.frame at.seat.class
+
+-- what stands beside a recall: the superblock of an anchor that was read, the stack of a head, and what was read before a link or a next word
+abbrev pub IsBacked : Geometry → State → Lists → Recall → Type 0
+IsBacked g s l (pops d a) = IsHere g s l d
+IsBacked g s l (links d a prefix) = IsHere g s l d × IsPopped (superblock_of g s d) a
+IsBacked g s l (tops seat pile h) = seat.class < CLASSES
+IsBacked g s l (nexts seat pile h below) = (seat.class < CLASSES) × IsTopStill s l seat pile h
+IsBacked g s l (says n w) = IsSaidWord n
+IsBacked g s l r = Unit {0}
+
+-- the descriptor's info word names the same frame and class in both states
 abbrev pub LiesSame : State → State → ℕ → Type 0
 LiesSame s s' d = ((info_for s' d).frame ≡ (info_for s d).frame) × ((info_for s' d).class ≡ (info_for s d).class)
 
--- a superblock has its tag, its free blocks and its links
+-- a tag doesn't fall, and while it is the same, free blocks stay free and have their links
 pub record ChainStays (g : Geometry) (s s' : State) (d : ℕ) : Type 0 where
-  pub tag : (anchor_for s' d).tag ≡ (anchor_for s d).tag
-  pub chain : free_chain (superblock_of g s' d) ≡ free_chain (superblock_of g s d)
-  pub next : (superblock_of g s' d).next ≡ (superblock_of g s d).next
+  pub tag : (anchor_for s d).tag ≤ (anchor_for s' d).tag
+  pub chain :
+      (anchor_for s d).tag ≡ (anchor_for s' d).tag → (k : ℕ) → 0 < occurs k (free_chain (superblock_of g s d))
+      → 0 < occurs k (free_chain (superblock_of g s' d))
+  pub next :
+      (anchor_for s d).tag ≡ (anchor_for s' d).tag → (k : ℕ) → 0 < occurs k (free_chain (superblock_of g s d))
+      → (superblock_of g s' d).next k ≡ (superblock_of g s d).next k
 
--- a stack has its tag, its indexes and their next words
+-- a tag doesn't fall, and while it is the same, indexes stay on the stack and have their next words
 pub record StackStays (s : State) (l : Lists) (s' : State) (l' : Lists) (seat : SeatFields) (p : Pile) : Type 0 where
-  pub tag : (head_of (s'.word (head_name seat p))).tag ≡ (head_of (s.word (head_name seat p))).tag
-  pub list : list_of l' seat p ≡ list_of l seat p
-  pub next : (k : ℕ) → s'.word (next_name p k) ≡ s.word (next_name p k)
+  pub tag : (head_of (s.word (head_name seat p))).tag ≤ (head_of (s'.word (head_name seat p))).tag
+  pub list :
+      (head_of (s.word (head_name seat p))).tag ≡ (head_of (s'.word (head_name seat p))).tag → (k : ℕ) → 0 < occurs k (list_of l seat p)
+      → 0 < occurs k (list_of l' seat p)
+  pub next :
+      (head_of (s.word (head_name seat p))).tag ≡ (head_of (s'.word (head_name seat p))).tag → (k : ℕ) → 0 < occurs k (list_of l seat p)
+      → s'.word (next_name p k) ≡ s.word (next_name p k)
 
--- a descriptor that is EMPTY stays so, and one that is available was, with its next word
+-- a descriptor that is EMPTY stays so, and one that is available was so, and keeps its next word
 pub record AvailableStays (g : Geometry) (s : State) (l : Lists) (s' : State) (l' : Lists) (d : ℕ) : Type 0 where
   pub emptied : IsEmptied g s l d → IsEmptied g s' l' d
-  pub on : 0 < occurs d l'.available → 0 < occurs d l.available
-  pub next : s'.word (name.Next d) ≡ s.word (name.Next d)
+  pub next : 0 < occurs d l'.available → (0 < occurs d l.available) × (s'.word (name.Next d) ≡ s.word (name.Next d))
 
--- a caller has its events and its blocks
+-- a caller keeps its own events, and its blocks
 pub record EventsStay (s s' : State) (i : ℕ) : Type 0 where
   pub own_events : own i s'.history ≡ own i s.history
   pub owned : (place : ℕ) (n : Need) → IsOwned s i place n → IsOwned s' i place n
 
--- the part is what it was
+-- the part still says what is recalled of it
 abbrev pub PartStays : Geometry → State → Lists → State → Lists → ℕ → Part → Type 0
-PartStays g s l s' l' i bindings = (d : ℕ) → IsTrue (is_bound g s l d) → IsTrue (is_bound g s' l' d) × LiesSame s s' d
-PartStays g s l s' l' i places = (d : ℕ) → LiesSame s s' d
-PartStays g s l s' l' i chains = (d : ℕ) → ChainStays g s s' d
-PartStays g s l s' l' i stacks = (seat : SeatFields) (p : Pile) → StackStays s l s' l' seat p
-PartStays g s l s' l' i link_words = (f c k : ℕ) → s'.word (prefix_name f c k) ≡ s.word (prefix_name f c k)
-PartStays g s l s' l' i availables = (d : ℕ) → AvailableStays g s l s' l' d
+PartStays g s l s' l' i (bindings d) = IsTrue (is_bound g s l d) → IsTrue (is_bound g s' l' d) × LiesSame s s' d
+PartStays g s l s' l' i (places d) = LiesSame s s' d
+PartStays g s l s' l' i (chains d) = IsHere g s l d → ChainStays g s s' d
+PartStays g s l s' l' i (stacks seat pile) = seat.class < CLASSES → StackStays s l s' l' seat pile
+PartStays g s l s' l' i (link_words f c blocks) = (k : ℕ) → k < blocks → s'.word (prefix_name f c k) ≡ s.word (prefix_name f c k)
+PartStays g s l s' l' i (availables d) = AvailableStays g s l s' l' d
 PartStays g s l s' l' i events = EventsStay s s' i
-PartStays g s l s' l' i single = (n : WordName) → IsPlain n → s'.word n ≡ s.word n
+PartStays g s l s' l' i (single n) = IsSaidWord n → s'.word n ≡ s.word n
 PartStays g s l s' l' i constant = Unit {0}
 
-module _ (g : Geometry) (s : State) (l : Lists) (s' : State) (l' : Lists) (i : ℕ) where
-  top-stays : (seat : SeatFields) (p : Pile) (h : HeadFields) → StackStays s l s' l' seat p → IsTopStill s l seat p h → IsTopStill s' l' seat p h
-  top-stays seat p h stay so = record {
-    tag = subst (λ t. h.tag ≤ t) (sym stay.tag) so.tag;
-    top = λ is. subst (λ xs. 0 < occurs (h.top - 1) xs) (sym stay.list) (so.top (is ∙ stay.tag));
-  }
+-- a descriptor's word that stays, a superblock that stays, and a stack whose words stay
+pub lies-same : (s s' : State) (d : ℕ) → info_for s' d ≡ info_for s d → LiesSame s s' d
+lies-same s s' d same = (ap (λ x. x.frame) same, ap (λ x. x.class) same)
 
-  -- what is remembered stays so, where what it reads stays
-  pub so-stays : (r : Recall) → PartStays g s l s' l' i (part_of r) → IsSo g s l i r → IsSo g s' l' i r
-  so-stays (bound_for d c) stay so = let kept = stay d so.0 in (kept.0, kept.1.1 ∙ so.1)
-  so-stays (bound_at d f c) stay so =
-      let kept = stay d so.0 in (kept.0, record { frame = kept.1.0 ∙ so.1.frame; class = kept.1.1 ∙ so.1.class })
-  so-stays (located d f c) stay so = let kept = stay d in record { frame = kept.0 ∙ so.frame; class = kept.1 ∙ so.class }
-  so-stays (pops d a) stay so =
-      let kept = stay d in
-      record {
-        tag = subst (λ t. a.tag ≤ t) (sym kept.tag) so.tag;
-        first = λ is. subst (λ xs. 0 < occurs a.avail xs) (sym kept.chain) (so.first (is ∙ kept.tag));
-      }
-  so-stays (links d a prefix) stay so = λ is. let kept = stay d in ap (λ f. f a.avail) kept.next ∙ so (is ∙ kept.tag)
-  so-stays (tops seat p h) stay so = top-stays seat p h (stay seat p) so
-  so-stays (nexts seat p h below) stay so = λ is. let kept = stay seat p in kept.next (h.top - 1) ∙ so (is ∙ kept.tag)
-  so-stays (made f c blocks) stay so = λ k below. stay f c k ∙ so k below
-  so-stays (emptied d) stay so = let kept = stay d in kept.emptied so
-  so-stays (noted d next) stay so = λ on. let kept = stay d in kept.next ∙ so (kept.on on)
-  so-stays (says n w) stay so = (so.0, stay n so.0 ∙ so.1)
-  so-stays (owns place k) stay so = (so.0, stay.owned place so.0 so.1, so.2)
-  so-stays (owns_all place n) stay so = stay.owned place n so
-  so-stays (looked c) stay so = subst (λ past. EndsWith past (Looked i c)) (sym stay.own_events) so
-  so-stays (refused c) stay so = subst (λ past. EndsRefused past i c) (sym stay.own_events) so
-  so-stays (tops_exist seat p h) stay so = so
-  so-stays (in_use a) stay so = so
+pub chain-same : (g : Geometry) (s s' : State) (d : ℕ) → superblock_of g s' d ≡ superblock_of g s d → ChainStays g s s' d
+chain-same g s s' d same = record {
+  tag = omega (arith, ap (λ b. b.anchor.tag) same);
+  chain = λ is k. subst (λ b. 0 < occurs k (free_chain b)) (sym same);
+  next = λ is k on. ap (λ b. b.next k) same;
+}
+
+pub stack-same :
+    (s : State) (l : Lists) (s' : State) (l' : Lists) (seat : SeatFields) (p : Pile) → s'.word (head_name seat p) ≡ s.word (head_name seat p)
+    → list_of l' seat p ≡ list_of l seat p → ((k : ℕ) → s'.word (next_name p k) ≡ s.word (next_name p k)) → StackStays s l s' l' seat p
+stack-same s l s' l' seat p head list next = record {
+  tag = omega (arith, ap (λ w. (head_of w).tag) head);
+  list = λ same k. subst (λ xs. 0 < occurs k xs) (sym list);
+  next = λ same k on. next k;
+}
+
+-- a tag that was read, and is the word's after a step, was the word's before it
+same-tag : (t x y : ℕ) → t ≤ x → x ≤ y → t ≡ y → (x ≡ y) × (t ≡ x)
+same-tag t x y first second is = (omega (arith, first, second, is), omega (arith, first, second, is))
+
+-- what is remembered stays so, where what it reads stays
+pub so-stays :
+    (g : Geometry) (s : State) (l : Lists) (s' : State) (l' : Lists) (i : ℕ) (r : Recall) → Reads (PartStays g s l s' l' i) r → IsBacked g s l r
+    → IsSo g s l i r → IsSo g s' l' i r
+so-stays g s l s' l' i (bound_for d c) stay backed so = let kept = stay so.0 in (kept.0, kept.1.1 ∙ so.1)
+so-stays g s l s' l' i (bound_at d f c) stay backed so =
+    let kept = stay so.0 in (kept.0, record { frame = kept.1.0 ∙ so.1.frame; class = kept.1.1 ∙ so.1.class })
+so-stays g s l s' l' i (located d f c) stay backed so = record { frame = stay.0 ∙ so.frame; class = stay.1 ∙ so.class }
+so-stays g s l s' l' i (pops d a) stay backed so =
+    let kept = stay backed in
+    record {
+      tag = omega (arith, so.tag, kept.tag);
+      first = λ is.
+          let same = same-tag a.tag (anchor_for s d).tag (anchor_for s' d).tag so.tag kept.tag is in kept.chain same.0 a.avail (so.first same.1);
+    }
+so-stays g s l s' l' i (links d a prefix) stay backed so =
+    λ is.
+    let kept = stay backed.0 in
+    let same = same-tag a.tag (anchor_for s d).tag (anchor_for s' d).tag backed.1.tag kept.tag is in
+    kept.next same.0 a.avail (backed.1.first same.1) ∙ so same.1
+so-stays g s l s' l' i (tops seat p h) stay backed so =
+    let kept = stay backed in
+    record {
+      tag = omega (arith, so.tag, kept.tag);
+      top = λ is.
+          let same = same-tag h.tag (head_of (s.word (head_name seat p))).tag (head_of (s'.word (head_name seat p))).tag so.tag kept.tag is in
+          kept.list same.0 (h.top - 1) (so.top same.1);
+    }
+so-stays g s l s' l' i (nexts seat p h below) stay backed so =
+    λ is.
+    let kept = stay backed.0 in
+    let same = same-tag h.tag (head_of (s.word (head_name seat p))).tag (head_of (s'.word (head_name seat p))).tag backed.1.tag kept.tag is in
+    kept.next same.0 (h.top - 1) (backed.1.top same.1) ∙ so same.1
+so-stays g s l s' l' i (made f c blocks) stay backed so = λ k below. stay k below ∙ so k below
+so-stays g s l s' l' i (emptied d) stay backed so = stay.emptied so
+so-stays g s l s' l' i (noted d next) stay backed so = λ on. let kept = stay.next on in kept.1 ∙ so kept.0
+so-stays g s l s' l' i (says n w) stay backed so = (so.0, stay backed ∙ so.1)
+so-stays g s l s' l' i (owns place k) stay backed so = (so.0, stay.owned place so.0 so.1, so.2)
+so-stays g s l s' l' i (owns_all place n) stay backed so = stay.owned place n so
+so-stays g s l s' l' i (looked c) stay backed so = subst (λ past. EndsWith past (Looked i c)) (sym stay.own_events) so
+so-stays g s l s' l' i (refused c) stay backed so = subst (λ past. EndsRefused past i c) (sym stay.own_events) so
+so-stays g s l s' l' i (tops_exist seat p h) stay backed so = so
+so-stays g s l s' l' i (in_use a) stay backed so = so

@@ -1,21 +1,15 @@
 -- What lies on a shelf is what its word says.
-use Rattle.std.proofs.Common.{ℕ, Some, ◌≡◌, ◌≢◌, ◌<◌, ◌+◌, [], ◌∷◌, arith, sym, subst, inl, inr, ◌∙◌, ◌⊎◌}
-use Rattle.std.proofs.lemmas.Nat.{pow_pos}
-use Rattle.heap_geometry.proofs.PlaceLemmas.{block-within}
-use Rattle.sound_state.proofs.Common.{IsChecked, Geometry, Need, sound-of, block_at, pool_of, State, Lists, IsSoundWithoutCounts, IsSoundWith, IsLive}
+use Rattle.std.proofs.Common.{ℕ, Some, ◌≡◌, ◌≢◌, ◌<◌, ◌+◌, [], ◌∷◌, arith, sym, subst, inl, inr, ◌∙◌, ◌⊎◌, pow_pos}
+use Rattle.sound_state.proofs.Common.{block-within, IsChecked, Geometry, Need, sound-of, block_at, pool_of, State, Lists, IsSoundWithoutCounts, IsSoundWith, IsLive}
+use Rattle.sound_state.proofs.Common.{SHELVES, shelf-exact, IsShelfWord, shelf_word, every-each, every-found, sound-differ, found-itself, IsEmptyShelf, Pool}
+use Rattle.sound_state.proofs.Common.{IsWellFormed, IsPlaceFor}
 use Rattle.heap_geometry.specs.Need.{IsNeed}
-use Rattle.heap_geometry.specs.declared.limits.TheConstants.{SHELVES}
 use Rattle.heap_geometry.specs.declared.need.Need.TheVariants as need
-use Rattle.packed_words.proofs.ShelfLemmas.{shelf-exact}
-use Rattle.packed_words.specs.Shelf.{IsShelfWord, shelf_word}
 use Rattle.packed_words.specs.declared.shelf.ShelfWord.TheVariants as shelf
 use Rattle.packed_words.specs.declared.shelf.TheConstants.{MAX_ARENA_WORDS}
 use Rattle.word_table.specs.declared.name.WordName.TheVariants as name
-use Rattle.pool_model.proofs.PoolLemmas.{Every, every-each, every-found}
-use Rattle.pool_model.proofs.WellFormedLemmas.{sound-differ, found-itself}
-use Rattle.pool_model.specs.Legal.{IsEmptyShelf}
-use Rattle.pool_model.specs.Pool.{Block, Pool}
-use Rattle.pool_model.specs.WellFormed.{IsWellFormed, IsPlaceFor}
+use Rattle.pool_model.proofs.PoolLemmas.{Every}
+use Rattle.pool_model.specs.Pool.{Block}
 use Rattle.pool_model.specs.declared.owner.Owner.TheVariants.{Shelf}
 use Rattle.sound_state.proofs.shared.OwnerLemmas.{is-shelf}
 
@@ -35,7 +29,7 @@ shelf-fits g (need.Small class) place checked is at = (small-place g class place
 shelf-fits g (need.Large units) place checked is at = (omega (arith, at.1, at.2, is.0, checked.frames.1, checked.units.1), is)
 shelf-fits g need.TooLarge place checked is at = absurd at
 
--- some block is owned so, or none
+-- some block of a pool lies on the shelf, or none does
 pub owned-or-none :
     (all pool : Pool) (k : ℕ) → Every (λ b. block_at b.place all ≡ Some b) pool
     → ((b : Block) × (block_at b.place all ≡ Some b) × (b.owner ≡ Shelf k)) ⊎ Every (λ b. b.owner ≢ Shelf k) pool
@@ -50,7 +44,7 @@ owned-or-none all (b ∷ pool) k found =
           ]
     ]
 
--- the block of which a shelf's word says that it lies there does
+-- the block that a shelf's word names lies there
 pub shelved-block :
     (g : Geometry) (s : State) (l : Lists) (k place : ℕ) (n : Need) → IsSoundWithoutCounts g s → IsSoundWith g s l → k < SHELVES
     → IsShelfWord (shelf.Block place n) → s.word (name.Shelf k) ≡ shelf_word (shelf.Block place n)
@@ -73,7 +67,7 @@ shelved-block g s l k place n sound old has fit word =
           (sym word ∙ old.tied.bare_shelf k has (λ p b live on. every-each (λ x. x.owner ≢ Shelf k) (pool_of s.history) none p b live on)))
     ]
 
--- where the word says so, no block lies on the shelf
+-- no block lies on a shelf whose word says so
 pub empty-shelf :
     (g : Geometry) (s : State) (l : Lists) (k : ℕ) → IsSoundWith g s l → k < SHELVES → s.word (name.Shelf k) ≡ shelf_word shelf.Nothing
     → IsEmptyShelf (pool_of s.history) k

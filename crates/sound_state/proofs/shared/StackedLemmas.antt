@@ -1,12 +1,11 @@
 -- A stack is one list, of indexes that exist.
-use Rattle.std.proofs.Common.{ℕ, ◌≡◌, List, [], ◌∷◌, refl, ◌∙◌, sym, ap, subst, arith, ◌+◌, ◌<◌, ◌≤◌, ◌==◌, All}
-use Rattle.std.proofs.lemmas.Bool.{cond-true, eq-eqb}
+use Rattle.std.proofs.Common.{ℕ, ◌≡◌, List, [], ◌∷◌, refl, ◌∙◌, sym, ap, subst, arith, ◌+◌, ◌<◌, ◌≤◌, ◌==◌, All, eq-eqb}
+use Rattle.std.proofs.lemmas.Bool.{cond-true}
 use Rattle.std.proofs.lemmas.List.Elements.{All-head}
 use Rattle.sound_state.proofs.Common.{Geometry, CLASSES, head_of, SeatFields, occurs, head_name, Stacked, next_in, Frames, Partials, Pile, State, Lists, IsListed}
-use Rattle.stack_parts.specs.Piles.{pile_limit}
-use Rattle.sound_state.specs.Recalls.{list_of}
+use Rattle.sound_state.proofs.Common.{pile_limit, list_of}
 
--- a stack is one list
+-- a stack is one list only
 pub stacked-same : (next : ℕ → ℕ) (top : ℕ) (xs ys : List ℕ) → Stacked next top xs → Stacked next top ys → xs ≡ ys
 stacked-same next top [] [] a b = refl
 stacked-same next top [] (y ∷ ys) a b = absurd (omega (arith, a, b.0))
@@ -16,7 +15,7 @@ stacked-same next top (x ∷ xs) (y ∷ ys) a b =
     let rest : xs ≡ ys = stacked-same next (next x) xs ys a.1 (subst (λ i. Stacked next (next i) ys) first b.1) in
     ap (λ zs. x ∷ zs) rest ∙ ap (λ i. i ∷ ys) (sym first)
 
--- the stack is empty where the head's top is 0
+-- a stack whose top is 0 is empty
 pub stacked-none : (next : ℕ → ℕ) (top : ℕ) (xs : List ℕ) → Stacked next top xs → top ≡ 0 → xs ≡ []
 stacked-none next top [] stacked none = refl
 stacked-none next top (x ∷ xs) stacked none = absurd (let bad : ⊥ = omega (arith, stacked.0, none) in bad)
@@ -31,13 +30,13 @@ stacked-agrees next next' top (x ∷ xs) same stack =
     let here : next' x ≡ next x = same x (omega (arith, once)) in
     (stack.0, rw here (stacked-agrees next next' (next x) xs (λ j on. same j (omega (arith, on))) stack.1))
 
--- its top exists where the list's indexes do
+-- the top of a stack exists where its list's indexes do
 pub top-exists :
     (next : ℕ → ℕ) (top limit : ℕ) (xs : List ℕ) → Stacked next top xs → All (λ i. i < limit) xs → top ≤ limit
 top-exists next top limit [] stack exist = omega (arith, stack)
 top-exists next top limit (x ∷ xs) stack exist = omega (arith, stack.0, All-head (λ i. i < limit) x xs exist)
 
--- the indexes of a pile exist
+-- the indexes of a pile's list exist
 pub pile-exists :
     (g : Geometry) (s : State) (l : Lists) (seat : SeatFields) (pile : Pile) → IsListed g s.word l → seat.class < CLASSES
     → All (λ i. i < pile_limit g pile) (list_of l seat pile)

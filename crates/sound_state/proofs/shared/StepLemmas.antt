@@ -1,26 +1,24 @@
 -- A step that leads from one point to another, and changes nothing that is shown, keeps the state sound.
-use Rattle.std.proofs.Common.{ℕ, Bool, false, None, ◌≡◌, ◌≢◌, ◌<◌, ◌≤◌, ◌+◌, ◌^◌, List, length, refl, arith, ap, sym, subst, inl, inr, ◌∙◌, ◌⊎◌, All, Any, IsSome, IsTrue}
+use Rattle.std.proofs.Common.{ℕ, Bool, false, None, ◌≡◌, ◌≢◌, ◌<◌, ◌≤◌, ◌+◌, ◌^◌, List, length, refl, arith, ap, sym, subst, inl, inr, ◌∙◌, ◌⊎◌, All, Any, IsSome}
+use Rattle.std.proofs.Common.{IsTrue}
 use Rattle.sound_state.proofs.Common.{Geometry, Found, WordName, active_of, name_of, after_action, descriptor_count, Exists, Writes, cases_name}
-use Rattle.sound_state.proofs.Common.{IsLegalWithoutCounts, Next, At, End, Point, Idle, Reply, ErrandFields, settle_of, course_of, raised, counts_lost}
-use Rattle.sound_state.proofs.Common.{counts_cleared, spare_of, pushed_by, next_of, plan_point_of, State, Step, Moves, action_at, name_at, word_at, found_at}
-use Rattle.sound_state.proofs.Common.{with_event, IsGuarded, IsGuard, IsHazard, passed_by, held_by, Holding, holds_of, IsKept, IsKeptAs, Lists, IsSo, IsOwned}
-use Rattle.sound_state.proofs.Common.{recalls_of, IsSoundWithoutCounts, IsSoundWith, turn_stage_of, in_turn, is_unneeded, one_if, pops_left}
+use Rattle.sound_state.proofs.Common.{Next, At, End, Point, Idle, Reply, ErrandFields, settle_of, course_of, raised, counts_lost, counts_cleared, spare_of, pushed_by}
+use Rattle.sound_state.proofs.Common.{next_of, plan_point_of, State, Step, Moves, action_at, name_at, word_at, found_at, with_event, IsGuarded, IsGuard, IsHazard}
+use Rattle.sound_state.proofs.Common.{passed_by, held_by, Holding, holds_of, IsKept, IsKeptAs, Lists, IsSo, IsOwned, recalls_of, IsSoundWithoutCounts, IsSoundWith}
+use Rattle.sound_state.proofs.Common.{turn_stage_of, in_turn, is_unneeded, one_if, pops_left, found_by, IsErrand, point_after, plan_of, counts_won, event_at}
+use Rattle.sound_state.proofs.Common.{settle_errand, plan-exists, lacks_frame, lacks_partial, lacks_answer}
 use Rattle.word_table.specs.declared.name.WordName.TheVariants as name
-use Rattle.word_table.specs.Actions.{found_by}
-use Rattle.errand_steps.specs.Errands.{IsErrand, point_after, plan_of, counts_won}
-use Rattle.errand_steps.specs.Steps.{event_at}
-use Rattle.errand_steps.proofs.ErrandLemmas.{settle_errand}
-use Rattle.errand_steps.proofs.PlanLemmas.{plan-exists}
-use Rattle.sound_state.specs.TurnStages.{lacks_frame, lacks_partial, lacks_answer}
 use Rattle.sound_state.proofs.shared.AlikeLemmas.{sound-alike}
-use Rattle.sound_state.proofs.shared.ShownLemmas.{MayGoOn, MayGuard, ActivesKept}
+use Rattle.sound_state.proofs.shared.ShownLemmas.{MayGoOn, MayGuard}
 use Rattle.sound_state.proofs.shared.WeighLemmas.{WeighMost, weigh-alike, weigh-emptied}
+use Rattle.sound_state.proofs.shared.SuperblocksStay.{ActivesKept}
+use Rattle.sound_state.proofs.shared.KeepsSound.{silent-sound}
 
--- the block at the place is excepted by what is held
+-- a holding excepts the block at the place: it hands that out, or frees it and may have overwritten its prefix word
 abbrev pub HoldsException : Holding → ℕ → Type 0
 HoldsException h place = Any (λ b. b.place ≡ place) h.hands ⊎ Any (λ b. (b.place ≡ place) × IsTrue b.overwritten) h.frees
 
--- how far a call's turn is at two points: at the second one it is no further back
+-- a call's turn is at q no further back than at p
 pub record TurnGoes (p q : Point) : Type 0 where
   pub under_way : one_if (in_turn q) ≤ one_if (in_turn p)
   pub discards : one_if (is_unneeded (turn_stage_of q)) ≤ one_if (is_unneeded (turn_stage_of p))
@@ -29,7 +27,7 @@ pub record TurnGoes (p q : Point) : Type 0 where
   pub pops :
       pops_left q + one_if (lacks_partial (turn_stage_of q)) ≤ pops_left p + one_if (lacks_partial (turn_stage_of p))
 
--- a caller may stand at the second point where it stood at the first
+-- a caller may stand at q where it stood at p
 pub record PointGoes (g : Geometry) (s : State) (l : Lists) (caller : ℕ) (p q : Point) : Type 0 where
   pub kept : All (λ k. IsKeptAs s k.status k.desc k.class) (holds_of q).kept
   pub so : All (IsSo g s l caller) (recalls_of q)
@@ -44,7 +42,7 @@ pub record PointGoes (g : Geometry) (s : State) (l : Lists) (caller : ℕ) (p q 
   pub excepts : (place : ℕ) → HoldsException (holds_of p) place → HoldsException (holds_of q) place
   pub turn : TurnGoes p q
 
--- the same, but for the hazard words
+-- a caller may stand at q where it stood at p, but for the hazard words
 pub record PointStands (g : Geometry) (s : State) (l : Lists) (caller : ℕ) (p q : Point) : Type 0 where
   pub kept : All (λ k. IsKeptAs s k.status k.desc k.class) (holds_of q).kept
   pub so : All (IsSo g s l caller) (recalls_of q)
@@ -65,7 +63,7 @@ goes-stands g s l caller p q h = record {
   turn = h.turn;
 }
 
--- who goes on with the same hazard word, and scans nothing, may guard what it guarded
+-- a caller that goes on with the same hazard word, and scans nothing, may guard what it guarded
 pub goes-guards :
     (g : Geometry) (s : State) (l : Lists) (caller : ℕ) (q : Point) (retired : List ℕ) (word : ℕ) → IsGuarded g s → caller < g.callers
     → word ≡ s.word (name.Hazard caller) → PointGoes g s l caller (s.errand caller).point q → MayGuard g s caller q retired word
@@ -77,14 +75,14 @@ goes-guards g s l caller q retired word guarded has same h = record {
   unread = λ i passed below. let bad : ⊥ = omega (arith, below, h.unread) in absurd bad;
 }
 
--- a count never falls
+-- a count that may be raised never falls
 pub raised-least : (b : Bool) (n : ℕ) → n < 2 ^ 64 → n ≤ raised b n
 raised-least b n most = grind (arith)
 
 pub raised-below : (b : Bool) (n : ℕ) → n < 2 ^ 64 → raised b n < 2 ^ 64
 raised-below b n most = grind (arith)
 
--- the errand at the second point
+-- the errand of a caller that a step leads to the point
 abbrev pub at_point : ErrandFields → Found → Point → ErrandFields
 at_point e x q =
     record e {
@@ -94,12 +92,12 @@ at_point e x q =
       cleared = raised (counts_cleared e.point x) e.cleared;
     }
 
--- where a step leads to a point, that is the errand after it
+-- the errand after a step that leads to a point stands at that point
 pub settle-at : (e : ErrandFields) (x : Found) (q : Point) → next_of e.point x ≡ At q → settle_of e x ≡ at_point e x q
 unfolding settle_of course_of
 settle-at e x q is = rw is refl
 
--- where it ends the call, the caller is idle after it
+-- the errand after a step that ends the call is idle
 pub settle-end : (e : ErrandFields) (x : Found) (r : Reply) → next_of e.point x ≡ End r → settle_of e x ≡ at_point e x Idle
 unfolding settle_of course_of
 settle-end e x r is = rw is refl
@@ -115,7 +113,7 @@ settle-next e x (At q) plain is = settle-at e x q is
 settle-next e x (End r) plain is = settle-end e x r is
 settle-next e x n plain is = absurd plain
 
--- so the caller may go on
+-- a caller may go on to a point at which it may stand
 pub may-after :
     (g : Geometry) (s : State) (l : Lists) (caller : ℕ) (x : Found) (q : Point) → IsSoundWith g s l → caller < g.callers → x.value < 2 ^ 64
     → settle_of (s.errand caller) x ≡ at_point (s.errand caller) x q → counts_cleared (s.errand caller).point x ≡ false
@@ -162,7 +160,7 @@ words-stay words n new words' w same m =
       | inr differ ↦ w.elsewhere m differ
     ]
 
--- words that all stay hold in active words and slots what they held
+-- active words and slots hold what they held where all words stay
 pub actives-stay :
     (g : Geometry) (s : State) (l : Lists) (words' : WordName → ℕ) → IsKept g s l → ((n : WordName) → words' n ≡ s.word n)
     → ActivesKept g s words'
@@ -186,7 +184,7 @@ words-below words n new words' w old below m =
       | inr differ ↦ subst (λ v. v < 2 ^ 64) (sym (w.elsewhere m differ)) (old m)
     ]
 
--- a step after which the caller stands at another point; its hazard word may change
+-- a step after which its caller stands at the point; the caller's hazard word may change
 pub record StepsMost (g : Geometry) (s : State) (l : Lists) (caller : ℕ) (q : Point) : Type 0 where
   pub after : settle_of (s.errand caller) (found_at s caller) ≡ at_point (s.errand caller) (found_at s caller) q
   pub event : event_at s caller ≡ None
@@ -197,12 +195,12 @@ pub record StepsMost (g : Geometry) (s : State) (l : Lists) (caller : ℕ) (q : 
       (at_point (s.errand caller) (found_at s caller) q)
   pub below : after_action (action_at s caller) (word_at s caller) < 2 ^ 64
 
--- the hazard words after it: those of the others stay, and with its own the caller may stand at the point
+-- the hazard words after a step: the others' stay, and with its own its caller may stand at the point
 pub record HazardsAfter (g : Geometry) (s : State) (caller : ℕ) (q : Point) (words' : WordName → ℕ) : Type 0 where
   pub others : (i : ℕ) → i ≢ caller → words' (name.Hazard i) ≡ s.word (name.Hazard i)
   pub guards : MayGuard g s caller q (s.errand caller).retired (words' (name.Hazard caller))
 
--- the step keeps the state sound
+-- a step after which its caller stands at the point keeps the state sound
 pub step-most :
     (g : Geometry) (s : State) (caller : ℕ) (s' : State) (q : Point) → IsSoundWithoutCounts g s → caller < g.callers
     → ((l : Lists) → IsSoundWith g s l → StepsMost g s l caller q) → ((l : Lists) → IsSoundWith g s l → ActivesKept g s s'.word)
@@ -220,34 +218,28 @@ step-most g s caller s' q sound has steps actives hazards step =
     let moves : Moves s.errand caller e s'.errand =
     subst (λ f. Moves s.errand caller f s'.errand) to.after step.errand in
     let past : s'.history ≡ s.history = step.history ∙ ap (with_event s.history) to.event in
-    record {
-      checked = sound.checked;
-      legal = subst (IsLegalWithoutCounts g) (sym past) sound.legal;
-      parts = (
-        l,
-        sound-alike g s l caller e s'
-            (record {
-              in_heap = has;
-              moves = moves;
-              alike = weigh-alike g s l caller (name_at s caller) _ e s' exists has step.word moves past to.weigh;
-              may = may-after g s l caller (found_at s caller) q old has (old.words (name_at s caller)) to.after to.cleared to.stands;
-              others = words.others;
-              guards = words.guards;
-              actives = actives l old;
-              words = words-below s.word (name_at s caller) _ s'.word step.word old.words to.below;
-              emptied =
-                  let same : raised (counts_cleared (s.errand caller).point (found_at s caller)) (s.errand caller).cleared ≡ (s.errand caller).cleared =
-                  ap (λ b. raised b (s.errand caller).cleared) to.cleared in
-                  omega (arith, weigh-emptied g s l caller (name_at s caller) _ e s' has step.word moves to.weigh, same);
-            })
-            old,
-      );
-    }
+    silent-sound g s s' l sound past
+    (sound-alike g s l caller e s'
+    (record {
+      in_heap = has;
+      moves = moves;
+      alike = weigh-alike g s l caller (name_at s caller) _ e s' exists has step.word moves past to.weigh;
+      may = may-after g s l caller (found_at s caller) q old has (old.words (name_at s caller)) to.after to.cleared to.stands;
+      others = words.others;
+      guards = words.guards;
+      actives = actives l old;
+      words = words-below s.word (name_at s caller) _ s'.word step.word old.words to.below;
+      emptied =
+          let same : raised (counts_cleared (s.errand caller).point (found_at s caller)) (s.errand caller).cleared ≡ (s.errand caller).cleared =
+          ap (λ b. raised b (s.errand caller).cleared) to.cleared in
+          omega (arith, weigh-emptied g s l caller (name_at s caller) _ e s' has step.word moves to.weigh, same);
+    })
+    old)
 
--- and rises by one at most
+-- a count that is raised rises by one at most
 pub raised-most : (b : Bool) (n : ℕ) → raised b n ≤ n + one_if b
 raised-most b n = grind (arith)
 
--- counts that rise by one, far from their ends
+-- a count far from its end rises by one where it is raised
 pub raised-by : (b : Bool) (n : ℕ) → n + 1 < 2 ^ 64 → raised b n ≡ n + one_if b
 raised-by b n most = grind (arith)

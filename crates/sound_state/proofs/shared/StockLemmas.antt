@@ -1,17 +1,15 @@
 -- Descriptors never run out.
-use Rattle.std.proofs.Common.{ℕ, Option, Some, None, ◌≡◌, ◌<◌, ◌≤◌, ◌+◌, ◌*◌, List, [], ◌∷◌, length, refl, sym, ◌∙◌, ap, subst, arith, inl, inr}
-use Rattle.std.specs.Prelude.{◌==◌, ◌-◌, ◌&&◌, if◌then◌else◌, All}
-use Rattle.std.proofs.lemmas.Bool.{cases_eq, cond-true, cond-false, eq-eqb, ne_eqb}
+use Rattle.std.proofs.Common.{ℕ, Option, Some, None, ◌≡◌, ◌<◌, ◌≤◌, ◌+◌, ◌*◌, List, [], ◌∷◌, length, refl, sym, ◌∙◌, ap, subst, arith, inl, inr, ◌==◌, ◌-◌, ◌&&◌}
+use Rattle.std.proofs.Common.{if◌then◌else◌, All, eq-eqb, ne_eqb}
+use Rattle.std.proofs.lemmas.Bool.{cases_eq, cond-true, cond-false}
 use Rattle.sound_state.proofs.Common.{Geometry, CLASSES, ActiveWord, Null, Held, active_of, info_of, WordName, descriptor_count, word_count, SeatFields, Exists}
 use Rattle.sound_state.proofs.Common.{word_name, occurs, Partials, Stacked, next_in, Continuation, Point, FitsPoint, spare_of, ErrandFields, State, Kept, holds_of}
 use Rattle.sound_state.proofs.Common.{word_keeps, full_keeps, errand_has, Lists, word_stock, full_stock, errand_stock, stock_among, waits_in, IsSoundWith}
-use Rattle.sound_state.proofs.Common.{IsSoundWithoutCounts, sum_below, words_sum, callers_sum, anchor_for, info_for, info_or_zero}
-use Rattle.packed_words.specs.Info.{InfoFields}
+use Rattle.sound_state.proofs.Common.{IsSoundWithoutCounts, sum_below, words_sum, callers_sum, anchor_for, info_for, info_or_zero, InfoFields, active_keeps, places_of}
+use Rattle.sound_state.proofs.Common.{stock_of}
 use Rattle.word_table.specs.declared.name.WordName.TheVariants as name
 use Rattle.hazard_parts.specs.declared.point.DescPoint.TheVariants as desc
 use Rattle.errand_steps.specs.declared.point.Point.TheVariants as point
-use Rattle.sound_state.specs.Keepers.{active_keeps, places_of}
-use Rattle.sound_state.specs.Stock.{stock_of}
 use Rattle.sound_state.proofs.shared.HolderLemmas.{zero-active}
 use Rattle.sound_state.proofs.shared.KeptCounts.{named_among, named-most, kept-named}
 use Rattle.sound_state.proofs.shared.WeightSums.{words-together}
@@ -39,7 +37,7 @@ active-keeps-most n word =
       | inr ne ↦ omega (arith, cond-false {A = ℕ} (word == 0) 0 1 (ne_eqb word 0 ne), active-one n (active_of word))
     ]
 
--- so does a slot
+-- a slot names at most one descriptor, and none where it is 0
 slot-one : (word d : ℕ) → (if word == d + 1 then 1 else 0) ≤ (if word == 0 then 0 else (if word - 1 == d then 1 else 0))
 slot-one word d = grind (arith)
 
@@ -65,7 +63,7 @@ slot-keeps-most n word =
 pub slot-once : (n word : ℕ) → sum_below n (λ d. if word == d + 1 then 1 else 0) ≤ 1
 slot-once n word = grind (arith, slot-keeps-most n word)
 
--- a word that holds a descriptor is one of its class's
+-- an active word or a slot that isn't 0 is in stock for its class
 word-stocked : (class word : ℕ) → (if (class == class) && (word == 0) then 0 else (if class == class then 1 else 0)) ≡ some_word word
 word-stocked class word = grind (arith)
 
@@ -87,7 +85,7 @@ word-keeps-once g (name.Slot heap c) word exists =
     )
 word-keeps-once g n word exists = omega (arith, sum-none (descriptor_count g) (λ d. 0) (λ d lt. refl))
 
--- what the words keep is in stock
+-- the descriptors that active words and slots keep are in stock
 words-stocked : (g : Geometry) (words : WordName → ℕ)
     → sum_below (descriptor_count g) (λ d. words_sum g (word_keeps d) words) ≤ sum_below CLASSES (λ class. words_sum g (word_stock class) words)
 unfolding words_sum
@@ -100,7 +98,7 @@ words-stocked g words =
       sum-swap CLASSES (word_count g) stock,
     )
 
--- the lists have no more than their lengths
+-- the lists of the classes have no more descriptors than their lengths
 lists-stocked : (n : ℕ) (partials : ℕ → List ℕ)
     → sum_below n (λ d. sum_below CLASSES (λ class. occurs d (partials class))) ≤ sum_below CLASSES (λ class. length (partials class))
 lists-stocked n partials =
@@ -110,7 +108,7 @@ lists-stocked n partials =
       sum-least CLASSES (λ class. sum_below n (λ d. occurs d (partials class))) (λ class. length (partials class)) (λ class lt. sum-occurs n (partials class)),
     )
 
--- the class of a descriptor's word is one of the classes
+-- the class that an info word says is one of the classes
 info-class : (word : ℕ) → (i : InfoFields) → info_of word ≡ Some i → i.class < CLASSES
 unfolding info_of
 info-class word i is = grind (arith, is)
@@ -138,7 +136,7 @@ full-stocked n s =
           )),
     )
 
--- for a class that there is
+-- the kept descriptors are kept for classes that there are
 abbrev InClass : List Kept → Type 0
 InClass [] = Unit {0}
 InClass (k ∷ ks) = (k.class < CLASSES) × InClass ks
@@ -161,7 +159,7 @@ in-class g caller p fits = grind (arith, fits)
 spare-most : (p : Point) → spare_of p ≤ 1
 spare-most p = grind (arith)
 
--- what a caller has: what is retired and what it keeps
+-- a caller has no more descriptors than it has retired and keeps
 caller-has : (n : ℕ) (e : ErrandFields) → sum_below n (λ d. errand_has d e) ≤ length e.retired + length (holds_of e.point).kept
 caller-has n e =
     omega (
@@ -190,7 +188,7 @@ caller-stocked g caller n e fits =
 abbrev retired_of : ErrandFields → ℕ
 retired_of e = length e.retired
 
--- what all callers have
+-- what all callers have, and those that wait, are no more than they have retired and have in stock
 callers-stocked : (g : Geometry) (s : State) (l : Lists) (n : ℕ) → IsSoundWith g s l
     → sum_below n (λ d. callers_sum g (errand_has d) s.errand) + callers_sum g waits_of s.errand
     ≤ callers_sum g retired_of s.errand + sum_below CLASSES (λ class. callers_sum g (errand_stock class) s.errand)
@@ -224,14 +222,14 @@ retired-most g s l sound =
     let same : (s.errand caller).geometry.callers ≡ g.callers = ap (λ (o : Geometry). o.callers) own.geometry in
     omega (arith, own.rule.room, spare-most (s.errand caller).point))
 
--- a caller that waits
+-- a caller that waits is one of all that do
 waits-least : (g : Geometry) (s : State) (caller class : ℕ) → caller < g.callers → class < CLASSES
     → waits_in class (s.errand caller).point ≤ callers_sum g waits_of s.errand
 unfolding callers_sum
 waits-least g s caller class has is =
     omega (arith, term-sum g.callers (λ i. waits_of (s.errand i)) caller has, term-sum CLASSES (λ c. waits_in c (s.errand caller).point) class is)
 
--- all places together
+-- all descriptors, and the callers that wait for one, are at most the stocks, the retired and the available ones
 places-all : (g : Geometry) (s : State) (l : Lists) → IsSoundWith g s l
     → descriptor_count g + callers_sum g waits_of s.errand
     ≤ sum_below CLASSES (stock_of g s l) + callers_sum g retired_of s.errand + length l.available
@@ -266,13 +264,13 @@ places-all g s l sound =
       full-stocked n s,
     )
 
--- no more is out than the classes have
+-- no more descriptors are in stock than the classes have
 all-stock-most : (g : Geometry) (s : State) (l : Lists) → IsSoundWith g s l
     → sum_below CLASSES (stock_of g s l) ≤ CLASSES * (g.frames + g.heaps + 2 * g.callers)
 all-stock-most g s l sound =
     sum-most CLASSES (stock_of g s l) (g.frames + g.heaps + 2 * g.callers) (λ class has. sound.stocked.most class has)
 
--- so where a caller waits, one is available
+-- a descriptor is available where a caller waits for one
 available-least : (g : Geometry) (s : State) (l : Lists) → IsSoundWith g s l → (caller class : ℕ) → caller < g.callers → class < CLASSES
     → waits_in class (s.errand caller).point ≡ 1 → 1 ≤ length l.available
 unfolding descriptor_count
@@ -293,7 +291,7 @@ waiting-has g s sound caller class has is waits =
     stack-top (next_in s.word Partials) (s.word name.DescHead) (descriptor_count g) l.available with.listed.available with.listed.available_exist
     (available-least g s l with caller class has is waits)
 
--- the seat of a caller that looks
+-- the seat of a caller at the load of the available ones' head is of a class for which it waits
 looks-seat : (g : Geometry) (caller : ℕ) (p : Point) (seat : SeatFields) (o : Continuation) → FitsPoint g caller p → p ≡ point.Desc (desc.LoadDescHead seat) o
     → (seat.class < CLASSES) × (waits_in seat.class p ≡ 1)
 looks-seat g caller p seat o fits is =

@@ -1,21 +1,21 @@
 -- Sums over the numbers below a bound, over the words and over the callers.
 use Rattle.std.proofs.Common.{ℕ, zero, suc, ◌≡◌, ◌≢◌, ◌<◌, ◌≤◌, ◌+◌, ◌*◌, List, [], ◌∷◌, length, refl, arith, inl, inr, subst, ap, sym, ◌∙◌, ◌==◌, if◌then◌else◌}
-use Rattle.std.proofs.lemmas.Bool.{cases_eq, cond-true, cond-false, eq-eqb, ne_eqb}
+use Rattle.std.proofs.Common.{eq-eqb, ne_eqb}
+use Rattle.std.proofs.lemmas.Bool.{cases_eq, cond-true, cond-false}
 use Rattle.sound_state.proofs.Common.{Geometry, WordName, word_count, Exists, word_name, Writes, occurs, ErrandFields, Moves, sum_below, words_sum, callers_sum}
-use Rattle.word_table.specs.Table.{word_index}
-use Rattle.word_table.proofs.TableLemmas.{word_index-within, word_name-word_index, word_index-word_name}
+use Rattle.sound_state.proofs.Common.{word_index, word_index-within, word_name-word_index, word_index-word_name}
 
--- equal terms, equal sums
+-- sums of equal terms are equal
 pub sum-same : (n : ℕ) (f f' : ℕ → ℕ) → ((j : ℕ) → j < n → f' j ≡ f j) → sum_below n f' ≡ sum_below n f
 sum-same zero f f' h = refl
 sum-same (suc n) f f' h = omega (arith, sum-same n f f' (λ j lt. h j (omega arith)), h n (omega arith))
 
--- terms that are 0
+-- a sum of terms that are 0 is 0
 pub sum-none : (n : ℕ) (f : ℕ → ℕ) → ((j : ℕ) → j < n → f j ≡ 0) → sum_below n f ≡ 0
 sum-none zero f h = refl
 sum-none (suc n) f h = omega (arith, sum-none n f (λ j lt. h j (omega arith)), h n (omega arith))
 
--- one term changes
+-- a sum in which one term changes changes by that term
 pub sum-change :
     (n : ℕ) (f f' : ℕ → ℕ) (i : ℕ) → i < n → ((j : ℕ) → j < n → j ≢ i → f' j ≡ f j)
     → sum_below n f' + f i ≡ sum_below n f + f' i
@@ -32,13 +32,13 @@ sum-change (suc n) f f' i lt h =
           omega arith
     ]
 
--- all terms but one are 0
+-- a sum whose terms but one are 0 is that one
 pub sum-one : (n : ℕ) (f : ℕ → ℕ) (i : ℕ) → i < n → ((j : ℕ) → j < n → j ≢ i → f j ≡ 0) → sum_below n f ≡ f i
 sum-one n f i lt h =
     let none : sum_below n (λ j. 0) ≡ 0 = sum-none n (λ j. 0) (λ j jn. refl) in
     omega (arith, none, sum-change n f (λ j. 0) i lt (λ j jn ne. sym (h j jn ne)))
 
--- a term is no more than the sum
+-- a term is no more than its sum
 pub term-sum : (n : ℕ) (f : ℕ → ℕ) (i : ℕ) → i < n → f i ≤ sum_below n f
 term-sum zero f i lt = omega arith
 term-sum (suc n) f i lt =
@@ -47,7 +47,7 @@ term-sum (suc n) f i lt =
       | inr ne ↦ omega (arith, term-sum n f i (omega arith))
     ]
 
--- two terms are no more than the sum
+-- two terms are no more than their sum
 pub two-terms : (n : ℕ) (f : ℕ → ℕ) (i j : ℕ) → i < n → j < n → i ≢ j → f i + f j ≤ sum_below n f
 two-terms n f i j has_i has_j differ =
     let rest : ℕ → ℕ = λ k. if k == i then 0 else f k in
@@ -66,27 +66,27 @@ some-term (suc n) f some =
       | inr here ↦ (n, omega arith, omega (arith, here))
     ]
 
--- no term is more than another, so no sum is
+-- a sum whose terms are no more than another's is no more than that
 pub sum-least : (n : ℕ) (f f' : ℕ → ℕ) → ((j : ℕ) → j < n → f j ≤ f' j) → sum_below n f ≤ sum_below n f'
 sum-least zero f f' h = omega arith
 sum-least (suc n) f f' h = omega (arith, sum-least n f f' (λ j lt. h j (omega arith)), h n (omega arith))
 
--- the sum of sums of terms
+-- a sum of sums of two terms is the sum of both sums
 pub sum-plus : (n : ℕ) (f f' : ℕ → ℕ) → sum_below n (λ j. f j + f' j) ≡ sum_below n f + sum_below n f'
 sum-plus zero f f' = refl
 sum-plus (suc n) f f' = omega (arith, sum-plus n f f')
 
--- as many ones
+-- a sum of ones is their number
 pub sum-ones : (n : ℕ) → sum_below n (λ j. 1) ≡ n
 sum-ones zero = refl
 sum-ones (suc n) = omega (arith, sum-ones n)
 
--- terms that are no more than a number
+-- a sum of terms that are at most k is at most k times their number
 pub sum-most : (n : ℕ) (f : ℕ → ℕ) (k : ℕ) → ((j : ℕ) → j < n → f j ≤ k) → sum_below n f ≤ n * k
 sum-most zero f k h = omega arith
 sum-most (suc n) f k h = omega (arith, sum-most n f k (λ j lt. h j (omega arith)), h n (omega arith))
 
--- nor a sum one of whose terms is 0
+-- a sum of terms that are at most k, one of them 0, is at most k times the others
 pub sum-most-but :
     (n : ℕ) (f : ℕ → ℕ) (k i : ℕ) → i < n → f i ≡ 0 → ((j : ℕ) → j < n → f j ≤ k) → sum_below n f + k ≤ n * k
 sum-most-but n f k i lt none most =
@@ -102,13 +102,13 @@ sum-most-but n f k i lt none most =
     ]) in
     omega (arith, change, here, none, each)
 
--- sums of sums, in the other order
+-- a sum of sums is the same in the other order
 pub sum-swap :
     (n m : ℕ) (f : ℕ → ℕ → ℕ) → sum_below n (λ i. sum_below m (f i)) ≡ sum_below m (λ j. sum_below n (λ i. f i j))
 sum-swap zero m f = sym (sum-none m (λ j. 0) (λ j lt. refl))
 sum-swap (suc n) m f = omega (arith, sum-swap n m f, sum-plus m (λ j. sum_below n (λ i. f i j)) (f n))
 
--- a number is one of those below a bound once, or never
+-- a number is counted once at most among those below a bound
 one-never : (n x : ℕ) → n ≤ x → sum_below n (λ i. if x == i then 1 else 0) ≡ 0
 one-never n x h =
     sum-none n (λ i. if x == i then 1 else 0) (λ i lt. cond-false {A = ℕ} (x == i) 1 0 (ne_eqb x i (λ e. let no : ⊥ = omega (arith, e) in no)))
@@ -121,7 +121,7 @@ sum-once (suc n) x =
       | inr ne ↦ omega (arith, sum-once n x, cond-false {A = ℕ} (x == n) 1 0 (ne_eqb x n ne))
     ]
 
--- all that occurs in a list is no more than the list has
+-- the numbers below a bound occur in a list no more often than it is long
 pub sum-occurs : (n : ℕ) (xs : List ℕ) → sum_below n (λ i. occurs i xs) ≤ length xs
 sum-occurs n [] = omega (arith, sum-none n (λ i. 0) (λ i lt. refl))
 sum-occurs n (x ∷ xs) =
@@ -156,7 +156,7 @@ words-same g weight words words' h =
     sum-same (word_count g) (λ k. weight (word_name g k) (words (word_name g k)))
     (λ k. weight (word_name g k) (words' (word_name g k))) (λ k lt. ap (weight (word_name g k)) (h (word_name g k)))
 
--- words that weigh nothing
+-- words that weigh nothing weigh nothing together
 pub words-none :
     (g : Geometry) (weight : WordName → ℕ → ℕ) (words : WordName → ℕ)
     → ((name : WordName) → weight name (words name) ≡ 0) → words_sum g weight words ≡ 0
@@ -164,7 +164,7 @@ unfolding words_sum
 words-none g weight words h =
     sum-none (word_count g) (λ k. weight (word_name g k) (words (word_name g k))) (λ k lt. h (word_name g k))
 
--- words of which one alone weighs something
+-- words of which one alone weighs something weigh what that one does
 pub words-one :
     (g : Geometry) (weight : WordName → ℕ → ℕ) (words : WordName → ℕ) (name : WordName) → Exists g name
     → ((other : WordName) → other ≢ name → weight other (words other) ≡ 0) → words_sum g weight words ≡ weight name (words name)
@@ -185,7 +185,7 @@ callers-moved g weight errands caller e errands' has m =
     let changed = sum-change g.callers (λ i. weight (errands i)) (λ i. weight (errands' i)) caller has (λ i lt ne. ap weight (m.elsewhere i ne)) in
     omega (arith, changed, ap weight m.here)
 
--- callers that weigh nothing
+-- callers that weigh nothing weigh nothing together
 pub callers-none :
     (g : Geometry) (weight : ErrandFields → ℕ) (errands : ℕ → ErrandFields)
     → ((caller : ℕ) → caller < g.callers → weight (errands caller) ≡ 0) → callers_sum g weight errands ≡ 0

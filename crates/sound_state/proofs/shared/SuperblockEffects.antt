@@ -2,24 +2,20 @@
 use Rattle.std.proofs.Common.{ℕ, Some, ◌≡◌, ◌≢◌, ◌<◌, ◌+◌, [], ◌∷◌, ◌++◌, List, refl, arith, ap, sym, subst, inl, inr, ◌∙◌, ◌==◌, if◌then◌else◌, IsTrue, IsSome}
 use Rattle.std.proofs.Math.Path.{fun_ext}
 use Rattle.std.proofs.lemmas.Bool.{cases_eq}
-use Rattle.sound_state.proofs.Common.{Geometry, block_count_of, block_place, frame_of, frame_of-block_place, AnchorFields, anchor_of, info_of, link_of, WordName}
-use Rattle.sound_state.proofs.Common.{Site, descriptor_count, word_count, info_in, IsSiteOf, word_name, cases_name, occurs, link_in, prefix_name, Event, block_at}
-use Rattle.sound_state.proofs.Common.{pool_of, State, Lists, IsLocated, IsSoundWith, words_sum, Superblock, AreChained, IsChained, anchor_for, info_for}
-use Rattle.sound_state.proofs.Common.{info_or_zero, superblock_of, free_chain, is_bound, is_there, live_at, reserved_of, waiting_of}
-use Rattle.heap_geometry.specs.Place.{index_of}
+use Rattle.sound_state.proofs.Common.{Geometry, block_count_of, block_place, frame_of, frame_of-block_place, AnchorFields, anchor_of, info_of, link_of, WordName, Site}
+use Rattle.sound_state.proofs.Common.{descriptor_count, word_count, info_in, IsSiteOf, word_name, cases_name, occurs, link_in, prefix_name, Event, block_at, pool_of}
+use Rattle.sound_state.proofs.Common.{State, Lists, IsLocated, IsSoundWith, words_sum, Superblock, AreChained, IsChained, anchor_for, info_for, info_or_zero}
+use Rattle.sound_state.proofs.Common.{superblock_of, free_chain, is_bound, is_there, live_at, reserved_of, waiting_of, index_of, occurs-here, fresh_block, pool_of-push}
+use Rattle.sound_state.proofs.Common.{block_at-past, held_back}
 use Rattle.heap_geometry.proofs.PlaceLemmas.{index_of-block_place}
 use Rattle.word_table.specs.declared.name.WordName.TheVariants as name
-use Rattle.superblock_parts.proofs.ChainLemmas.{occurs-here}
 use Rattle.pool_model.specs.declared.event.Event.TheVariants.{Alloc}
-use Rattle.pool_model.specs.Pool.{fresh_block}
-use Rattle.pool_model.proofs.HistoryLemmas.{pool_of-push}
-use Rattle.pool_model.proofs.PoolLemmas.{block_at-here, block_at-past}
-use Rattle.sound_state.specs.Superblocks.{held_back}
+use Rattle.pool_model.proofs.PoolLemmas.{block_at-here}
 use Rattle.sound_state.proofs.shared.FrameLemmas.{bound-apart}
 use Rattle.sound_state.proofs.shared.ListFacts.{occurs-past}
 use Rattle.sound_state.proofs.shared.SumLemmas.{sum-same}
 
--- what holds of one descriptor or block, and of every other, holds of each
+-- what holds of one number, and of every other, holds of each
 pub of-each : (P : ℕ → Type 0) (i : ℕ) → P i → ((j : ℕ) → j ≢ i → P j) → (j : ℕ) → P j
 of-each P i here others j =
     elim (cases_eq j i) [
@@ -27,17 +23,17 @@ of-each P i here others j =
       | inr differ ↦ others j differ
     ]
 
--- the word says where a superblock lies, or is of the arena
+-- a word that says where superblocks lie, or is of the arena
 abbrev pub IsLayWord : WordName → Type 0
 IsLayWord (name.Info d) = Unit {0}
 IsLayWord (name.Arena place) = Unit {0}
 IsLayWord n = ⊥
 
--- all of these are what they were
+-- all words that say where superblocks lie, and those of the arena, are what they were
 pub record LieStill (s s' : State) : Type 0 where
   pub words : (n : WordName) → IsLayWord n → s'.word n ≡ s.word n
 
--- the same superblock, but for which of its blocks are live
+-- two superblocks that are the same, but for which of their blocks are live
 pub record IsSameButLive (b b' : Superblock) : Type 0 where
   pub anchor : b'.anchor ≡ b.anchor
   pub reserved : b'.reserved ≡ b.reserved
@@ -52,7 +48,7 @@ module _ {s s' : State} (still : LieStill s s') where
   pub infos-stay : (g : Geometry) (l : Lists) → AreChained g s l → (d : ℕ) → d < descriptor_count g → IsSome (info_in g (s'.word (name.Info d)))
   infos-stay g l old d has = subst (λ w. IsSome (info_in g w)) (sym (still.words (name.Info d) tt)) (old.infos d has)
 
-  -- no link changes, and no size
+  -- no link and no size of a superblock changes where they lie as they did
   pub next-stays : (g : Geometry) (d : ℕ) → (superblock_of g s' d).next ≡ (superblock_of g s d).next
   next-stays g d =
       fun_ext
@@ -62,14 +58,14 @@ module _ {s s' : State} (still : LieStill s s') where
   pub size-stays : (g : Geometry) (d : ℕ) → (superblock_of g s' d).size ≡ (superblock_of g s d).size
   size-stays g d = ap (λ x. block_count_of x.class) (info-stays d)
 
-  -- and no block becomes live or free, where there is no new event
+  -- no block of a superblock becomes live or free where there is no new event
   pub live-stays : (g : Geometry) → s'.history ≡ s.history → (d : ℕ) → (superblock_of g s' d).live ≡ (superblock_of g s d).live
   live-stays g none d =
       fun_ext
       (λ k. ap (λ past. is_there (block_at (block_place (info_for s' d).frame (info_for s' d).class k) (pool_of past))) none
       ∙ ap (λ x. live_at s (block_place x.frame x.class k)) (info-stays d))
 
-  -- so a superblock with the same anchor, of which as much is reserved and waits, is the same but for what is live
+  -- a superblock with the same anchor, of which as much is reserved and waits, is the same but for what is live
   pub superblock-stays :
       (g : Geometry) (d : ℕ) → anchor_for s' d ≡ anchor_for s d → reserved_of g s' d ≡ reserved_of g s d → waiting_of g s' d ≡ waiting_of g s d
       → IsSameButLive (superblock_of g s d) (superblock_of g s' d)
@@ -81,7 +77,7 @@ module _ {s s' : State} (still : LieStill s s') where
     size = size-stays g d;
   }
 
--- the number of an anchor's name
+-- the number of the descriptor whose anchor the word is
 abbrev pub anchor_number : WordName → ℕ
 anchor_number (name.Anchor d) = d
 anchor_number n = 0
@@ -91,21 +87,21 @@ pub record AnchorEffects (s : State) (desc : ℕ) (s' : State) : Type 0 where
   pub elsewhere : (n : WordName) → n ≢ name.Anchor desc → s'.word n ≡ s.word n
 
 module _ {s : State} {desc : ℕ} {s' : State} (h : AnchorEffects s desc s') where
-  -- so all lie where they did, and all other anchors stay
+  -- all superblocks lie where they did after a write of one anchor, and all other anchors stay
   pub anchor-still : LieStill s s'
   anchor-still = record { words = λ n is. h.elsewhere n (λ same. subst IsLayWord same is) }
 
   pub anchors-stay : (d : ℕ) → d ≢ desc → anchor_for s' d ≡ anchor_for s d
   anchors-stay d differ = ap anchor_of (h.elsewhere (name.Anchor d) (λ same. differ (ap anchor_number same)))
 
-  -- what that one still says, all say still
+  -- what the changed anchor still says, all anchors say still
   pub field-stays :
       {X : Type 0} (field : AnchorFields → X) → field (anchor_for s' desc) ≡ field (anchor_for s desc) → (d : ℕ)
       → field (anchor_for s' d) ≡ field (anchor_for s d)
   field-stays field here =
       of-each (λ k. field (anchor_for s' k) ≡ field (anchor_for s k)) desc here (λ d differ. ap field (anchors-stay d differ))
 
-  -- words that weigh nothing at an anchor weigh the same
+  -- words that weigh nothing at an anchor weigh the same after a write of one
   pub weights-stay :
       (g : Geometry) (weight : WordName → ℕ → ℕ) → ((w : ℕ) → weight (name.Anchor desc) w ≡ 0)
       → words_sum g weight s'.word ≡ words_sum g weight s.word
@@ -136,24 +132,24 @@ same-chain-chained b b' old avail chain next size few used =
       some = few;
     }
 
--- as many are held back, where as many wait
+-- as many blocks are held back where as many callers wait
 pub held-same : (b b' : Superblock) → b'.waiting ≡ b.waiting → (j : ℕ) → held_back b' j ≡ held_back b j
 held-same b b' waits j = ap (λ w. if j == 0 then w else 0) waits
 
--- such is one that is the same but for what is live, where no block becomes live or free
+-- a superblock that is the same but for what is live, where no block becomes live or free, keeps its blocks in order
 pub same-chained :
     (b b' : Superblock) → IsChained b → IsSameButLive b b' → ((j : ℕ) → j < b.size → b'.live j ≡ b.live j) → IsChained b'
 same-chained b b' old h live =
     same-chain-chained b b' old (ap (λ x. x.avail) h.anchor) (rw (h.next, h.anchor, h.reserved) refl) h.next h.size
     (omega (arith, old.some, ap (λ x. x.count) h.anchor, h.size)) (λ j lt. omega (arith, live j lt, held-same b b' h.waiting j))
 
--- the blocks of a superblock that lies there
+-- the live blocks of a superblock that lies in this frame with this class
 pub located-live :
     (g : Geometry) (s : State) (d f c : ℕ) → IsLocated s d f c → (i : ℕ) → (superblock_of g s d).live i ≡ live_at s (block_place f c i)
 located-live g s d f c lies i =
     ap (λ x. live_at s (block_place x (info_for s d).class i)) lies.frame ∙ ap (λ x. live_at s (block_place f x i)) lies.class
 
--- after the gift of a block it is there, and all other places are as they were
+-- a block is there after its gift, and all other places are as they were
 pub given-here :
     (caller words place : ℕ) (past past' : List Event) → past' ≡ past ++ Alloc caller words place ∷ []
     → block_at place (pool_of past') ≡ Some (fresh_block caller words place)
@@ -179,7 +175,7 @@ pub record BlockEffects (g : Geometry) (s : State) (l : Lists) (caller : ℕ) (a
       (p : ℕ) → p ≢ block_place at.frame at.seat.class i → block_at p (pool_of s'.history) ≡ block_at p (pool_of s.history)
 
 module _ {g : Geometry} {s : State} {l : Lists} {caller : ℕ} {at : Site} {i : ℕ} {s' : State} (h : BlockEffects g s l caller at i s') where
-  -- it is none of another superblock's, which has the live blocks that it had
+  -- another superblock has the live blocks that it had: none of them is the block that changes
   pub others-live :
       IsSoundWith g s l → (d : ℕ) → d < descriptor_count g → IsTrue (is_bound g s l d) → d ≢ at.desc → (j : ℕ) → j < (superblock_of g s d).size
       → (superblock_of g s' d).live j ≡ (superblock_of g s d).live j
@@ -193,7 +189,7 @@ module _ {g : Geometry} {s : State} {l : Lists} {caller : ℕ} {at : Site} {i : 
       bound-apart g s l d at.desc at.frame old has h.site.desc h.site.frame bound h.bound lies h.located.frame differ in
       ap (λ x. live_at s' (block_place x.frame x.class j)) (info-stays h.still d) ∙ ap is_there (h.there place apart)
 
-  -- its own superblock lies where it did, and has the other live blocks that it had
+  -- the superblock of the block that changes lies where it did, and has the other live blocks that it had
   pub live-after : (j : ℕ) → (superblock_of g s' at.desc).live j ≡ live_at s' (block_place at.frame at.seat.class j)
   live-after j =
       let info = info-stays h.still at.desc in
@@ -211,7 +207,7 @@ module _ {g : Geometry} {s : State} {l : Lists} {caller : ℕ} {at : Site} {i : 
       live-after j ∙ ap is_there (h.there (block_place at.frame at.seat.class j) apart)
       ∙ sym (located-live g s at.desc at.frame at.seat.class h.located j)
 
-  -- all superblocks keep their blocks in order, where its own does, and the others are the same but for what is live
+  -- all superblocks keep their blocks in order, where that of the changed block does and the others are the same but for what is live
   pub chained-after :
       IsSoundWith g s l → ((d : ℕ) → IsTrue (is_bound g s' l d) → IsTrue (is_bound g s l d))
       → (IsTrue (is_bound g s' l at.desc) → IsChained (superblock_of g s' at.desc))

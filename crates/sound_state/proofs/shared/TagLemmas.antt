@@ -1,27 +1,25 @@
 -- Tags stay below their ends: what the events and the turns allow.
 use Rattle.std.proofs.Common.{ℕ, false, cond, ◌≡◌, ◌<◌, ◌≤◌, ◌+◌, ◌*◌, ◌^◌, List, [], ◌∷◌, ◌++◌, Some, refl, sym, ◌∙◌, ap, arith, ⊎_elim, eq-eqb, ne_eqb, inl, inr}
-use Rattle.std.specs.Prelude.{sum_by, count_by, nat_le}
-use Rattle.std.proofs.lemmas.Bool.{cases_eq, cases_lt, lt-leb, le-leb, cond_both}
+use Rattle.std.proofs.Common.{sum_by, count_by, nat_le, le-leb}
+use Rattle.std.proofs.lemmas.Bool.{cases_eq, cases_lt, lt-leb, cond_both}
 use Rattle.std.proofs.lemmas.Nat.{mul-le}
 use Rattle.std.proofs.lemmas.List.Sums.{sum_by-cons, sum_by_push}
 use Rattle.sound_state.proofs.Common.{Geometry, CLASSES, Need, Small, IsChecked, need_of, frame_of, head_of, descriptor_count, Event, block_at, pool_of}
 use Rattle.sound_state.proofs.Common.{IsLegalWithoutCounts, State, Lists, IsSoundWith, IsSoundWithoutCounts, sum_below, callers_sum, anchor_for, gives_small}
-use Rattle.heap_geometry.specs.declared.limits.TheConstants.{MAX_CALLERS, MAX_TURNS, SMALL_MOST, LARGE_MOST}
-use Rattle.heap_geometry.specs.declared.need.Need.TheVariants.{Large, TooLarge}
-use Rattle.packed_words.specs.declared.widths.TheConstants.{TAG_BITS}
+use Rattle.sound_state.proofs.Common.{SMALL_MOST, TooLarge, TAG_BITS, Caller, Looked, Refuse, Write, Put, Take, TakeNone, caller_of, Pool, fresh_block, handed_to}
+use Rattle.sound_state.proofs.Common.{pool_after, IsFree, IsAllowed, IsLegalEventWithoutCounts, block_at-past, pool_of-push, large-frame, is_small_alloc, is_small_free}
+use Rattle.sound_state.proofs.Common.{turn_unframed, turns_of, cleared_of}
+use Rattle.heap_geometry.specs.declared.limits.TheConstants.{MAX_CALLERS, MAX_TURNS, LARGE_MOST}
+use Rattle.heap_geometry.specs.declared.need.Need.TheVariants.{Large}
 use Rattle.word_table.specs.declared.name.WordName.TheVariants as name
-use Rattle.pool_model.specs.declared.owner.Owner.TheVariants.{Caller, Shelf}
-use Rattle.pool_model.specs.declared.event.Event.TheVariants.{Alloc, Looked, Refuse, Free, Write, Put, Take, TakeNone}
-use Rattle.pool_model.specs.Histories.{caller_of}
-use Rattle.pool_model.specs.Pool.{Block, Pool, fresh_block, written, handed_to, without, with_changed, pool_after}
-use Rattle.pool_model.specs.Legal.{IsFree, IsAllowed, IsLegalEventWithoutCounts}
-use Rattle.pool_model.proofs.PoolLemmas.{block_at-past}
-use Rattle.pool_model.proofs.HistoryLemmas.{kept, pool_of-push}
-use Rattle.pool_model.proofs.WellFormedLemmas.{free-place, large-frame}
-use Rattle.sound_state.specs.Turns.{is_small_alloc, is_small_free, turn_unframed, turns_of, cleared_of}
+use Rattle.pool_model.specs.declared.owner.Owner.TheVariants.{Shelf}
+use Rattle.pool_model.specs.declared.event.Event.TheVariants.{Alloc, Free}
+use Rattle.pool_model.specs.Pool.{Block, written, without, with_changed}
+use Rattle.pool_model.proofs.HistoryLemmas.{kept}
+use Rattle.pool_model.proofs.WellFormedLemmas.{free-place}
 use Rattle.sound_state.proofs.shared.SumLemmas.{sum-same, sum-plus, sum-most, sum-least, term-sum}
 
--- each small allocation is one of its caller's
+-- each small allocation is given to one of the heap's callers
 alloc-given : (g : Geometry) (event : Event) → caller_of event < g.callers
     → cond (is_small_alloc event) 1 0 ≤ sum_below g.callers (λ caller. cond (gives_small caller event) 1 0)
 alloc-given g (Alloc by need place) has =
@@ -36,7 +34,7 @@ alloc-given g (Put by place shelf) has = omega arith
 alloc-given g (Take by shelf place) has = omega arith
 alloc-given g (TakeNone by shelf) has = omega arith
 
--- all small allocations are the callers' together
+-- all small allocations are at most those given to each caller together
 small-given : (g : Geometry) (history : List Event) → IsLegalWithoutCounts g history
     → count_by is_small_alloc history ≤ sum_below g.callers (λ caller. count_by (gives_small caller) history)
 small-given g history legal =
@@ -55,7 +53,7 @@ small-given g history legal =
     let once = alloc-given g event h.0 in
     omega arith) legal (omega arith)
 
--- 1 where the block lies in a frame
+-- 1 where the block lies in one of the heap's frames
 abbrev framed : Geometry → Block → ℕ
 framed g block = cond (nat_le (frame_of block.place + 1) g.frames) 1 0
 
@@ -95,7 +93,7 @@ framed-changed g place change (first ∷ pool) keeps =
     rw (ne_eqb first.place place past) (omega arith))
     (cases_eq first.place place)
 
--- a larger need isn't served by a small block
+-- a need that isn't small isn't served by a small block
 large-need : (need class : ℕ) → SMALL_MOST < need → need_of need ≡ Small class → ⊥
 unfolding need_of
 large-need need class above is =
@@ -104,7 +102,7 @@ large-need need class above is =
       | inl more ↦ let e = rw (lt-leb need SMALL_MOST above, lt-leb need LARGE_MOST more) at is in cc
     ]
 
--- what is given in a frame is small
+-- a block given for a need that isn't small lies in no frame
 given-framed : (g : Geometry) (pool : Pool) (need place : ℕ) (n : Need) → need_of need ≡ n → IsFree g pool n place → SMALL_MOST < need
     → nat_le (frame_of place + 1) g.frames ≡ false
 given-framed g pool need place (Small class) is free above = absurd (large-need need class above is)
@@ -152,7 +150,7 @@ small-freed g history legal =
     let pool : sum_by (framed g) (pool_of (before ++ event ∷ [])) ≡ sum_by (framed g) (pool_after (pool_of before) event) = ap (sum_by (framed g)) (pool_of-push before event) in
     omega arith) legal (omega arith)
 
--- all turns are within the limits
+-- all turns are at most the most callers times the most turns
 pub turns-most : (g : Geometry) (s : State) (l : Lists) → IsChecked g → IsSoundWith g s l → callers_sum g turns_of s.errand ≤ MAX_CALLERS * MAX_TURNS
 unfolding callers_sum
 turns-most g s l checked sound =
@@ -195,18 +193,18 @@ list-tags-below g s sound class has =
 pub turns-below : (g : Geometry) (s : State) → IsSoundWithoutCounts g s → callers_sum g turns_of s.errand + 1 < 2 ^ TAG_BITS
 turns-below g s sound = omega (arith, turns-most g s sound.parts.0 sound.checked sound.parts.1)
 
--- an anchor is popped once for each small block that is given
+-- an anchor's tag is at most the small blocks that were given
 pub anchor-tags-counted :
     (g : Geometry) (s : State) → IsSoundWithoutCounts g s → (d : ℕ) → d < descriptor_count g → (anchor_for s d).tag ≤ count_by is_small_alloc s.history
 anchor-tags-counted g s sound d has = sound.parts.1.turned.anchor_tags d has
 
--- the frames are popped once in a turn
+-- the frames' stack is popped at most once in a turn
 pub frame-tag-counted :
     (g : Geometry) (s : State) → IsSoundWithoutCounts g s
     → (head_of (s.word name.FrameHead)).tag + callers_sum g turn_unframed s.errand ≤ callers_sum g turns_of s.errand
 frame-tag-counted g s sound = sound.parts.1.turned.frame_tag
 
--- a list is popped once in a turn, twice after a free, and once more where what it emptied is cleared
+-- a class's list is popped at most once in a turn, and three times for a small block that is freed
 pub list-tags-counted :
     (g : Geometry) (s : State) → IsSoundWithoutCounts g s → (class : ℕ) → class < CLASSES
     → (head_of (s.word (name.ListHead class))).tag ≤ callers_sum g turns_of s.errand + 3 * count_by (is_small_free g) s.history

@@ -1,12 +1,11 @@
 -- The blocks of a superblock, counted.
-use Rattle.std.proofs.Common.{ℕ, ◌≡◌, ◌<◌, ◌≤◌, ◌+◌, List, [], ◌∷◌, length, refl, arith, sym, ◌∙◌, ◌==◌, if◌then◌else◌}
-use Rattle.std.proofs.lemmas.Bool.{cond-true, cond-false, eq-eqb, ne_eqb}
-use Rattle.sound_state.proofs.Common.{occurs, sum_below, Superblock, IsChained, free_chain}
-use Rattle.superblock_parts.proofs.ChainLemmas.{chain_of-length, occurs-here, occurs-more}
-use Rattle.sound_state.specs.Superblocks.{held_back}
+use Rattle.std.proofs.Common.{ℕ, ◌≡◌, ◌<◌, ◌≤◌, ◌+◌, List, [], ◌∷◌, length, refl, arith, sym, ◌∙◌, ◌==◌, if◌then◌else◌, eq-eqb, ne_eqb}
+use Rattle.std.proofs.lemmas.Bool.{cond-true, cond-false}
+use Rattle.sound_state.proofs.Common.{occurs, sum_below, Superblock, IsChained, free_chain, occurs-here, occurs-more, held_back}
+use Rattle.superblock_parts.proofs.ChainLemmas.{chain_of-length}
 use Rattle.sound_state.proofs.shared.SumLemmas.{sum-same, sum-none, sum-one, sum-ones, sum-plus}
 
--- all indexes of a list below a bound
+-- numbers that are all below a bound occur as often, counted by number, as their list is long
 pub occurs-all : (n : ℕ) (xs : List ℕ) → ((j : ℕ) → 0 < occurs j xs → j < n) → sum_below n (λ j. occurs j xs) ≡ length xs
 occurs-all n [] within = sum-none n (λ j. 0) (λ j lt. refl)
 occurs-all n (x ∷ xs) within =
@@ -21,7 +20,7 @@ occurs-all n (x ∷ xs) within =
       occurs-all n xs (λ j on. within j (omega (arith, on, occurs-more j x xs))),
     )
 
--- where block 0 is held back, one caller waits, and it is neither free nor live
+-- a superblock of which block 0 is held back waits at one caller, and that block is neither free nor live
 pub held-back-once :
     (b : Superblock) → IsChained b → 1 ≤ b.waiting → (occurs 0 (free_chain b) ≡ 0) × (b.live 0 ≡ 0) × (b.waiting ≡ 1)
 held-back-once b chained waits =
@@ -29,7 +28,7 @@ held-back-once b chained waits =
     let back : held_back b 0 ≡ b.waiting = refl in
     (omega (arith, once, back, waits), omega (arith, once, back, waits), omega (arith, once, back, waits))
 
--- the blocks of a superblock: the free ones, the live ones, and one that is held back
+-- the free blocks of a superblock, its live ones and the one that is held back are all its blocks
 pub tally : (b : Superblock) → IsChained b → b.anchor.count + b.reserved + sum_below b.size b.live + b.waiting ≡ b.size
 tally b chained =
     let free : sum_below b.size (λ j. occurs j (free_chain b)) ≡ b.anchor.count + b.reserved =

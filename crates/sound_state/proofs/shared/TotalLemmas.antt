@@ -7,7 +7,7 @@ use Rattle.sound_state.proofs.Common.{Geometry, ErrandFields, sum_below, callers
 use Rattle.sound_state.specs.Totals.{AreAllErrands}
 use Rattle.sound_state.proofs.shared.SumLemmas.{sum-one, sum-plus, sum-none, sum-same}
 
--- an entry of the list, for the callers below a number
+-- an entry of a list of errands, for the callers below a number
 abbrev IsEntry : ℕ → (ℕ → ErrandFields) → ErrandFields → Type 0
 IsEntry n errands e = (e.caller < n) × (e ≡ errands e.caller)
 
@@ -18,7 +18,7 @@ for_caller weight caller e = if e.caller == caller then weight e else 0
 abbrev one_for : ℕ → ErrandFields → ℕ
 one_for caller e = if e.caller == caller then 1 else 0
 
--- counted by callers or by entries, it is the same
+-- a list of entries weighs the same counted by callers and by entries
 by-callers :
     (weight : ErrandFields → ℕ) (errands : ℕ → ErrandFields) (n : ℕ) (list : List ErrandFields) → All (IsEntry n errands) list
     → sum_below n (λ caller. sum_by (for_caller weight caller) list) ≡ sum_by weight list
@@ -51,7 +51,7 @@ weighs-none weight caller (e ∷ list) none =
           omega (arith, all, gone, rest)
     ]
 
--- one that has one entry weighs what its errand does
+-- a caller that has one entry weighs what its errand does
 weighs-once :
     (weight : ErrandFields → ℕ) (errands : ℕ → ErrandFields) (n caller : ℕ) (list : List ErrandFields) → All (IsEntry n errands) list
     → sum_by (one_for caller) list ≡ 1 → sum_by (for_caller weight caller) list ≡ weight (errands caller)

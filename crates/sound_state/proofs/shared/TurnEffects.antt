@@ -1,16 +1,18 @@
 -- What an effect does to events, turns, cleared counts and tags, and that all of them stay within their bounds.
 use Rattle.std.proofs.Common.{ℕ, Bool, true, false, cond, ◌≡◌, ◌≢◌, ◌<◌, ◌≤◌, ◌+◌, ◌*◌, List, [], ◌∷◌, ◌++◌, refl, arith, ap, sym, ◌∙◌, inl, inr, None, length}
-use Rattle.std.specs.Prelude.{count_by, nat_le}
-use Rattle.std.proofs.lemmas.Bool.{le-leb, eq-eqb, ne_eqb, cases_lt, lt-leb}
+use Rattle.std.proofs.Common.{count_by, nat_le, le-leb, eq-eqb, ne_eqb}
+use Rattle.std.proofs.lemmas.Bool.{cases_lt, lt-leb}
 use Rattle.std.proofs.lemmas.List.Sums.{sum_by_push}
 use Rattle.sound_state.proofs.Common.{need_of, Geometry, CLASSES, frame_of, Small, head_of, descriptor_count, Event, ErrandFields, spare_of, pushed_by, State, Moves}
 use Rattle.sound_state.proofs.Common.{Point, passed_by, held_by, Lists, turn_stage_of, in_turn, is_unneeded, waits_in, sum_below, callers_sum, anchor_for, IsTurned}
-use Rattle.sound_state.proofs.Common.{gives_small, refuses_small, one_if, emptied_out, pops_left}
-use Rattle.heap_geometry.specs.declared.limits.TheConstants.{SMALL_MOST, LARGE_MOST}
+use Rattle.sound_state.proofs.Common.{gives_small, refuses_small, one_if, emptied_out, pops_left, SMALL_MOST, is_turn, lacks_frame, lacks_partial, lacks_answer}
+use Rattle.sound_state.proofs.Common.{out_of_turn, is_small_alloc, is_small_free, turn_open, turn_unframed, turn_unlisted, turn_unanswered, errand_discards}
+use Rattle.sound_state.proofs.Common.{errand_pops, turns_of, cleared_of}
+use Rattle.heap_geometry.specs.declared.limits.TheConstants.{LARGE_MOST}
 use Rattle.word_table.specs.declared.name.WordName.TheVariants as name
 use Rattle.pool_model.specs.declared.event.Event.TheVariants.{Alloc, Free}
-use Rattle.sound_state.specs.TurnStages.{TurnStage, frame_taken, is_turn, lacks_frame, lacks_partial, lacks_answer, out_of_turn}
-use Rattle.sound_state.specs.Turns.{is_small_alloc, is_small_free, turn_open, turn_unframed, turn_unlisted, turn_unanswered, errand_discards, errand_pops, turns_of, cleared_of, all_turns, all_cleared, all_emptied, small_frees, pops_to_come}
+use Rattle.sound_state.specs.TurnStages.{TurnStage, frame_taken}
+use Rattle.sound_state.specs.Turns.{all_turns, all_cleared, all_emptied, small_frees, pops_to_come}
 use Rattle.sound_state.proofs.shared.CallerLemmas.{each-other}
 use Rattle.sound_state.proofs.shared.SumLemmas.{callers-moved, sum-same}
 
@@ -22,7 +24,7 @@ pub record EventEffects (g : Geometry) (caller : ℕ) (past past' : List Event) 
   pub allocs : count_by is_small_alloc past' ≡ count_by is_small_alloc past + given
   pub frees : count_by (is_small_free g) past' ≡ count_by (is_small_free g) past + freed
 
--- no event is new
+-- the effects on the counts of events where no event is new
 pub no-event : (g : Geometry) (caller : ℕ) (past past' : List Event) → past' ≡ past → EventEffects g caller past past' 0 0
 no-event g caller past past' same = record {
   elsewhere = λ i differ. ap (count_by (gives_small i)) same;
@@ -32,13 +34,13 @@ no-event g caller past past' same = record {
   frees = omega (arith, ap (count_by (is_small_free g)) same);
 }
 
--- one event is new
+-- one new event adds to a count what it counts
 counted-one :
     (f : Event → Bool) (event : Event) (past past' : List Event) → past' ≡ past ++ event ∷ []
     → count_by f past' ≡ count_by f past + cond (f event) 1 0
 counted-one f event past past' one = ap (count_by f) one ∙ sum_by_push (λ x. cond (f x) 1 0) past event
 
--- a small block is given
+-- the effects on the counts of events where a small block is given
 pub alloc-event :
     (g : Geometry) (caller words place : ℕ) (past past' : List Event) → nat_le words SMALL_MOST ≡ true → past' ≡ past ++ Alloc caller words place ∷ []
     → EventEffects g caller past past' 1 0
@@ -56,7 +58,7 @@ alloc-event g caller words place past past' small one =
       frees = counts (is_small_free g);
     }
 
--- a small block is freed
+-- the effects on the counts of events where a small block is freed
 pub small-free-event :
     (g : Geometry) (caller place : ℕ) (past past' : List Event) → frame_of place < g.frames → past' ≡ past ++ Free caller place ∷ []
     → EventEffects g caller past past' 0 1
@@ -71,7 +73,7 @@ small-free-event g caller place past past' within one =
       frees = omega (arith, counts (is_small_free g), here);
     }
 
--- what a caller weighs in a turn, or in none; whether it has popped no frame in it, and has discarded what it made
+-- what a caller weighs in a turn: whether it is in one, has popped no frame in it, and discards what it made
 pub record TurnWeighs (e : ErrandFields) (turn frameless discarding : ℕ) : Type 0 where
   pub under_way : turn_open e ≡ turn
   pub discards : errand_discards e ≡ discarding
@@ -79,12 +81,12 @@ pub record TurnWeighs (e : ErrandFields) (turn frameless discarding : ℕ) : Typ
   pub unframed : turn_unframed e ≡ frameless
   pub unlisted : turn_unlisted e ≤ turn
 
--- one or nothing
+-- a condition counts one or nothing
 pub one_if-most : (b : Bool) → one_if b ≤ 1
 one_if-most true = omega arith
 one_if-most false = omega arith
 
--- no stage weighs more than its turn
+-- a stage weighs no more in what lacks a partial superblock than in its turn
 lacks_partial-most : (stage : TurnStage) → one_if (lacks_partial stage) ≤ one_if (is_turn stage)
 lacks_partial-most stage = grind (arith)
 
@@ -100,7 +102,7 @@ stage-weighs stage e stands unanswered = record {
   unlisted = rw stands (lacks_partial-most stage);
 }
 
--- in no turn it weighs nothing
+-- a caller in no turn weighs nothing
 pub no-turn-weighs : (e : ErrandFields) → turn_stage_of e.point ≡ out_of_turn → TurnWeighs e 0 0 0
 no-turn-weighs e stands = stage-weighs out_of_turn e stands refl
 
@@ -114,7 +116,7 @@ emptied-kept g s l s' l' same = sum-same (descriptor_count g) (emptied_out g s l
 pub head-tag : {w w' : ℕ} → w' ≡ w → (head_of w').tag ≡ (head_of w).tag
 head-tag same = ap (λ w. (head_of w).tag) same
 
--- a caller goes on, and this is all that changes of what bounds the turns
+-- a caller goes on, and all that bounds tags and turns changes as this says
 pub record TurnEffects (g : Geometry) (s : State) (l : Lists) (caller : ℕ) (e : ErrandFields) (s' : State) (l' : Lists) (given freed : ℕ) : Type 0 where
   pub in_heap : caller < g.callers
   pub moves : Moves s.errand caller e s'.errand
@@ -137,7 +139,7 @@ pub record TurnEffects (g : Geometry) (s : State) (l : Lists) (caller : ℕ) (e 
       → (head_of (s'.word (name.ListHead class))).tag + errand_pops e + turn_unlisted e + (s.errand caller).turns + (s.errand caller).cleared
       ≤ (head_of (s.word (name.ListHead class))).tag + errand_pops (s.errand caller) + turn_unlisted (s.errand caller) + e.turns + e.cleared + 2 * freed
 
--- the bounds hold, but for the one on what this caller was given and refused
+-- the bounds of tags and turns hold, but for the one on how often this caller was answered
 pub record IsTurnedBut (g : Geometry) (s : State) (l : Lists) (caller : ℕ) : Type 0 where
   pub own_turns : (i : ℕ) → i < g.callers → count_by (gives_small i) s.history + turn_open (s.errand i) ≤ (s.errand i).turns
   pub own_lost :
@@ -165,7 +167,7 @@ turned-but g s l caller turned = record {
   list_tags = turned.list_tags;
 }
 
--- then the bounds stay, and this caller's hold where they did not
+-- the bounds of tags and turns stay, and the caller's own hold where they did not
 pub turned-from :
     (g : Geometry) (s : State) (l : Lists) (caller : ℕ) (e : ErrandFields) (s' : State) (l' : Lists) (given freed : ℕ)
     → TurnEffects g s l caller e s' l' given freed → IsTurnedBut g s l caller → IsTurned g s' l'
@@ -200,7 +202,7 @@ turned-from g s l caller e s' l' given freed h turned =
           );
     }
 
--- what a small block serves is small
+-- words that a small block serves are small
 pub small-served : (words class : ℕ) → need_of words ≡ Small class → nat_le words SMALL_MOST ≡ true
 unfolding need_of
 small-served words class is =
@@ -213,26 +215,30 @@ small-served words class is =
           ]
     ]
 
--- so they stay where all of them held
+-- the bounds of tags and turns stay where all of them held
 pub turned-after :
     (g : Geometry) (s : State) (l : Lists) (caller : ℕ) (e : ErrandFields) (s' : State) (l' : Lists) (given freed : ℕ)
     → TurnEffects g s l caller e s' l' given freed → IsTurned g s l → IsTurned g s' l'
 turned-after g s l caller e s' l' given freed h turned = turned-from g s l caller e s' l' given freed h (turned-but g s l caller turned)
 
--- a point of a superblock that pushes, scans and waits for nothing, in a turn that has given no block yet, or has
-pub record StandsIn (giving : Bool) (p : Point) : Type 0 where
-  pub turn : in_turn p ≡ giving
-  pub frame : lacks_frame (turn_stage_of p) ≡ giving
-  pub answer : lacks_answer (turn_stage_of p) ≡ giving
-  pub unneeded : is_unneeded (turn_stage_of p) ≡ false
-  pub pops : pops_left p ≡ 0
+-- a point at which a caller waits for no descriptor, and pushes and scans none
+pub record IsQuiet (p : Point) : Type 0 where
   pub waits : (class : ℕ) → waits_in class p ≡ 0
   pub pushed : pushed_by p ≡ None
   pub passed : passed_by p ≡ 0
   pub unread : length (held_by p) ≡ 0
   pub spare : spare_of p ≡ 0
 
--- what a turn weighs that has given no block yet, and one that has
+-- a point in a superblock that pushes, scans and waits for nothing, in a turn that has given no block yet, or has
+pub record StandsIn (giving : Bool) (p : Point) : Type 0 where
+  pub turn : in_turn p ≡ giving
+  pub frame : lacks_frame (turn_stage_of p) ≡ giving
+  pub answer : lacks_answer (turn_stage_of p) ≡ giving
+  pub unneeded : is_unneeded (turn_stage_of p) ≡ false
+  pub pops : pops_left p ≡ 0
+  pub quiet : IsQuiet p
+
+-- what a caller weighs that stands so, in a turn that has given no block yet, or has
 pub stands-weighs : (giving : Bool) (e : ErrandFields) → StandsIn giving e.point → TurnWeighs e (one_if giving) (one_if giving) 0
 stands-weighs giving e h = record {
   under_way = ap one_if h.turn;

@@ -1,13 +1,9 @@
 -- A superblock that waits to be installed has all its blocks reserved or held back.
 use Rattle.std.proofs.Common.{ℕ, ◌≡◌, ◌<◌, ◌+◌, ◌-◌, arith, ap, ◌∙◌}
 use Rattle.std.proofs.lemmas.List.Elements.{recursion_from_All}
-use Rattle.sound_state.proofs.Common.{block_count_of, Geometry, anchor_of, Site, new_credits, ErrandFields, State, Continuation, Point, waiting, holds_of, Lists}
-use Rattle.sound_state.proofs.Common.{IsSo, recalls_of, IsSoundWith, sum_below, callers_sum, anchor_for, info_for, superblock_of, reserved_of, reserved_among}
-use Rattle.sound_state.proofs.Common.{errand_reserves, errand_keeps}
-use Rattle.packed_words.proofs.AnchorLemmas.{anchor_of-anchor_word}
-use Rattle.packed_words.specs.Anchor.{IsAnchor}
-use Rattle.word_table.proofs.SeatLemmas.{block_count_of-most}
-use Rattle.superblock_parts.specs.Anchors.{new_anchor}
+use Rattle.sound_state.proofs.Common.{block_count_of, Geometry, anchor_of, Site, new_credits, ErrandFields, State, Continuation, Point, waiting, holds_of, Lists, IsSo}
+use Rattle.sound_state.proofs.Common.{recalls_of, IsSoundWith, sum_below, callers_sum, anchor_for, info_for, superblock_of, reserved_of, reserved_among}
+use Rattle.sound_state.proofs.Common.{errand_reserves, errand_keeps, anchor_of-anchor_word, IsAnchor, block_count_of-most, new_anchor}
 use Rattle.superblock_parts.specs.declared.point.BlockPoint.TheVariants as block
 use Rattle.errand_steps.specs.declared.point.Point.TheVariants as point
 use Rattle.sound_state.proofs.shared.PointLemmas.{fits-at, so-at}
@@ -35,7 +31,7 @@ pub install-waits :
 unfolding holds_of
 install-waits e site o stands = rw stands (grind (arith))
 
--- so it has all that is reserved of it, and nothing of it is live
+-- a caller that waits to install a superblock has all that is reserved of it, and nothing of it is live
 pub waits-alone :
     (g : Geometry) (s : State) (l : Lists) (i : ℕ) (site : Site) (o : Continuation) → IsSoundWith g s l → i < g.callers
     → (s.errand i).point ≡ point.Block (block.InstallSuperblock site) o

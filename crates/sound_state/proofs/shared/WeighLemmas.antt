@@ -1,14 +1,13 @@
 -- A step whose word and errand weigh together what they weighed before changes nothing that is shown.
 use Rattle.std.proofs.Common.{ℕ, ◌≡◌, ◌<◌, ◌≤◌, ◌+◌, refl, arith, ap, sym, subst, inl, inr, ◌∙◌}
-use Rattle.sound_state.proofs.Common.{Geometry, anchor_of, info_of, WordName, descriptor_count, Exists, Writes, cases_name, ErrandFields, State, Moves}
-use Rattle.sound_state.proofs.Common.{errand_frames, waiting, on_its_way, word_keeps, errand_has, full_keeps, Lists, word_stock, errand_stock, full_stock, sum_below}
-use Rattle.sound_state.proofs.Common.{info_or_zero, word_reserves, errand_reserves, errand_keeps, errand_away, away_of, is_bound, emptied_out}
+use Rattle.sound_state.proofs.Common.{Geometry, anchor_of, info_of, WordName, descriptor_count, Exists, Writes, cases_name, ErrandFields, State, Moves, errand_frames}
+use Rattle.sound_state.proofs.Common.{waiting, on_its_way, word_keeps, errand_has, full_keeps, Lists, word_stock, errand_stock, full_stock, sum_below, info_or_zero}
+use Rattle.sound_state.proofs.Common.{word_reserves, errand_reserves, errand_keeps, errand_away, away_of, is_bound, emptied_out, IsPlain}
 use Rattle.word_table.specs.declared.name.WordName.TheVariants as name
-use Rattle.sound_state.specs.Recalls.{IsPlain}
 use Rattle.sound_state.proofs.shared.AlikeLemmas.{Alike}
 use Rattle.sound_state.proofs.shared.SumLemmas.{words-written, callers-moved, sum-same}
 
--- the word is none of a processor heap's: no active word and no slot
+-- the word is no active word and no slot
 abbrev pub IsStill : WordName → Type 0
 IsStill (name.Active heap class) = ⊥
 IsStill (name.Slot heap class) = ⊥
@@ -17,7 +16,7 @@ IsStill n = Unit {0}
 plain-still : (n : WordName) → IsPlain n → IsStill n
 plain-still n plain = grind (arith)
 
--- the word after the step and the new errand weigh what the word before it and the old errand did; a hazard word that the step writes may change
+-- the word after the step and the new errand weigh what those before it did; a hazard word that the step writes may change
 pub record WeighMost (n : WordName) (before after : ℕ) (a b : ErrandFields) : Type 0 where
   pub plain : IsPlain n → after ≡ before
   pub reserves : (d : ℕ) → word_reserves d n after + errand_reserves d b ≡ word_reserves d n before + errand_reserves d a
@@ -28,7 +27,7 @@ pub record WeighMost (n : WordName) (before after : ℕ) (a b : ErrandFields) : 
   pub frames : (f : ℕ) → errand_frames f b ≡ errand_frames f a
   pub stock : (class : ℕ) → word_stock class n after + errand_stock class b ≡ word_stock class n before + errand_stock class a
 
--- the same, and a hazard word doesn't change either
+-- the word after the step and the new errand weigh what the word before it and the old errand did; no hazard word changes
 pub record WeighAlike (n : WordName) (before after : ℕ) (a b : ErrandFields) : Type 0 where
   pub still : IsStill n → after ≡ before
   pub reserves : (d : ℕ) → word_reserves d n after + errand_reserves d b ≡ word_reserves d n before + errand_reserves d a
@@ -51,7 +50,7 @@ alike-most n before after a b h = record {
   stock = h.stock;
 }
 
--- nor does any other one
+-- no hazard word changes where the write leaves its own, if that is one
 pub hazards-stay :
     (words : WordName → ℕ) (n : WordName) (new : ℕ) (words' : WordName → ℕ) → Writes words n new words'
     → (IsStill n → new ≡ words n) → (i : ℕ) → words' (name.Hazard i) ≡ words (name.Hazard i)
@@ -61,7 +60,7 @@ hazards-stay words n new words' w still i =
       | inr differ ↦ w.elsewhere (name.Hazard i) differ
     ]
 
--- words that are none of a processor heap's nor hazard words stay
+-- words that are no active words, no slots and no hazard words stay
 plain-same :
     (words : WordName → ℕ) (n : WordName) (new : ℕ) (words' : WordName → ℕ) → Writes words n new words'
     → (IsPlain n → new ≡ words n) → (m : WordName) → IsPlain m → words' m ≡ words m
@@ -78,7 +77,7 @@ away-same :
 away-same g s l caller n before after e s' has m weigh d =
     omega (arith, callers-moved g (errand_away d) s.errand caller e s'.errand has m, weigh.away d)
 
--- as many superblocks are FULL, where no anchor and no descriptor's word changes
+-- as many superblocks are FULL, where no anchor and no info word changes
 pub full-same :
     (g : Geometry) (s s' : State) (class : ℕ) → ((d : ℕ) → s'.word (name.Anchor d) ≡ s.word (name.Anchor d))
     → ((d : ℕ) → s'.word (name.Info d) ≡ s.word (name.Info d))
@@ -87,7 +86,7 @@ full-same g s s' class anchor info =
     sum-same (descriptor_count g) (full_stock s class) (full_stock s' class)
     (λ d lt. rw (ap anchor_of (anchor d), ap (λ x. info_or_zero (info_of x)) (info d)) refl)
 
--- the same, but that an EMPTY superblock's descriptor may go away, and stand for its class no more
+-- word and errand weigh what they did, but that an EMPTY superblock's descriptor may go away, and stand for its class no more
 pub record WeighClose (n : WordName) (before after : ℕ) (a b : ErrandFields) : Type 0 where
   pub plain : IsPlain n → after ≡ before
   pub reserves : (d : ℕ) → word_reserves d n after + errand_reserves d b ≡ word_reserves d n before + errand_reserves d a
@@ -148,7 +147,7 @@ weigh-alike g s l caller n new e s' exists has w m past weigh =
       stock = λ class. omega (arith, weigh.stock class);
     })
 
--- as many descriptors are EMPTY and out
+-- as many superblocks are EMPTY and out
 pub weigh-emptied :
     (g : Geometry) (s : State) (l : Lists) (caller : ℕ) (n : WordName) (new : ℕ) (e : ErrandFields) (s' : State) → caller < g.callers
     → Writes s.word n new s'.word → Moves s.errand caller e s'.errand → WeighMost n (s.word n) new (s.errand caller) e

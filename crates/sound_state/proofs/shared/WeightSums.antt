@@ -1,10 +1,9 @@
 -- Sums over the words and over the callers, compared word by word and caller by caller.
 use Rattle.std.proofs.Common.{ℕ, ◌≡◌, ◌<◌, ◌≤◌, ◌+◌, ◌*◌, arith}
-use Rattle.sound_state.proofs.Common.{Geometry, WordName, word_count, Exists, word_name, ErrandFields, sum_below, words_sum, callers_sum}
-use Rattle.word_table.proofs.TableLemmas.{word_name-Exists}
+use Rattle.sound_state.proofs.Common.{Geometry, WordName, word_count, Exists, word_name, ErrandFields, sum_below, words_sum, callers_sum, word_name-Exists}
 use Rattle.sound_state.proofs.shared.SumLemmas.{sum-least, sum-swap, sum-most-but, some-term, term-sum}
 
--- where each word weighs at least as much by a second weight, all do
+-- all words weigh at least as much by a second weight, where each of them does
 pub words-least :
     (g : Geometry) (a b : WordName → ℕ → ℕ) (words : WordName → ℕ) → ((m : WordName) → Exists g m → a m (words m) ≤ b m (words m))
     → words_sum g a words ≤ words_sum g b words
@@ -13,7 +12,7 @@ words-least g a b words least =
     sum-least (word_count g) (λ k. a (word_name g k) (words (word_name g k))) (λ k. b (word_name g k) (words (word_name g k)))
     (λ k lt. least (word_name g k) (word_name-Exists g k lt))
 
--- where each word that weighs something does so by a second weight, and one weighs something
+-- some word weighs something by a second weight, where each that does by the first does so, and one does
 pub words-some :
     (g : Geometry) (a b : WordName → ℕ → ℕ) (words : WordName → ℕ) → ((m : WordName) → 0 < a m (words m) → 0 < b m (words m))
     → 0 < words_sum g a words → 0 < words_sum g b words
@@ -22,7 +21,7 @@ words-some g a b words weighs some =
     let (k, lt, here) = some-term (word_count g) (λ k. a (word_name g k) (words (word_name g k))) some in
     omega (arith, weighs (word_name g k) here, term-sum (word_count g) (λ k. b (word_name g k) (words (word_name g k))) k lt)
 
--- where many weights together find no more in each word than this, they find no more in all
+-- many weights together find no more in all words than these most, where they find no more in each
 pub words-together :
     (g : Geometry) (n : ℕ) (weight : ℕ → WordName → ℕ → ℕ) (words most : WordName → ℕ)
     → ((m : WordName) → Exists g m → sum_below n (λ d. weight d m (words m)) ≤ most m)
@@ -37,7 +36,7 @@ words-together g n weight words most each =
           (λ k lt. each (word_name g k) (word_name-Exists g k lt)),
     )
 
--- the same of the callers
+-- all callers weigh at least as much by a second weight where each does, and something where each that does so weighs something
 pub callers-least :
     (g : Geometry) (a b : ErrandFields → ℕ) (errands : ℕ → ErrandFields) → ((e : ErrandFields) → a e ≤ b e)
     → callers_sum g a errands ≤ callers_sum g b errands
@@ -52,7 +51,7 @@ callers-some g a b errands weighs some =
     let (i, lt, here) = some-term g.callers (λ i. a (errands i)) some in
     omega (arith, weighs (errands i) here, term-sum g.callers (λ i. b (errands i)) i lt)
 
--- where many weights together find at most k at each caller, and nothing at one
+-- many weights together find at most k at each caller but one, where they find nothing at that one and at most k at each
 pub callers-together :
     (g : Geometry) (n : ℕ) (weight : ℕ → ErrandFields → ℕ) (errands : ℕ → ErrandFields) (caller k : ℕ) → caller < g.callers
     → sum_below n (λ d. weight d (errands caller)) ≡ 0 → ((e : ErrandFields) → sum_below n (λ d. weight d e) ≤ k)

@@ -1,16 +1,11 @@
 -- What a step changes, where its point is known, what it finds and where it leads; and what an exchange changes that is won.
-use Rattle.std.proofs.Common.{ℕ, ◌≡◌, ◌≢◌, ◌<◌, ◌^◌, refl, ap, sym, subst, inl, inr, ◌∙◌, ◌⊎◌, ◌==◌}
-use Rattle.std.proofs.lemmas.Bool.{cond-true, eq-eqb}
-use Rattle.sound_state.proofs.Common.{Geometry, AnchorFields, anchor_of, anchor_word, Found, WordName, name_of, after_action, Writes, Next, Reply, At, End, Point}
-use Rattle.sound_state.proofs.Common.{Idle, ErrandFields, settle_of, counts_lost, counts_cleared, raised, event_of, next_of, plan_point_of, State, Step, Moves}
-use Rattle.sound_state.proofs.Common.{found_at, name_at, with_event, Lists, IsSoundWith, IsOwnErrand, anchor_for}
-use Rattle.packed_words.specs.Anchor.{IsAnchor}
-use Rattle.packed_words.proofs.AnchorLemmas.{anchor_of-anchor_word, anchor_word-below}
-use Rattle.word_table.specs.declared.action.Action.TheVariants.{Cas}
+use Rattle.std.proofs.Common.{ℕ, ◌≡◌, ◌≢◌, ◌<◌, ◌^◌, refl, ap, sym, subst, inl, inr, ◌∙◌, ◌⊎◌, ◌==◌, eq-eqb}
+use Rattle.std.proofs.lemmas.Bool.{cond-true}
+use Rattle.sound_state.proofs.Common.{Geometry, AnchorFields, anchor_of, anchor_word, Found, WordName, name_of, after_action, Writes, Next, Reply, At, End, Point, Idle}
+use Rattle.sound_state.proofs.Common.{ErrandFields, settle_of, counts_lost, counts_cleared, raised, event_of, next_of, plan_point_of, State, Step, Moves, found_at}
+use Rattle.sound_state.proofs.Common.{name_at, with_event, Lists, IsSoundWith, IsOwnErrand, anchor_for, IsAnchor, anchor_of-anchor_word, anchor_word-below, Cas}
+use Rattle.sound_state.proofs.Common.{found_by, IsErrand, settle_errand}
 use Rattle.word_table.specs.declared.name.WordName.TheVariants as name
-use Rattle.word_table.specs.Actions.{found_by}
-use Rattle.errand_steps.specs.Errands.{IsErrand}
-use Rattle.errand_steps.proofs.ErrandLemmas.{settle_errand}
 use Rattle.sound_state.proofs.shared.CreditLemmas.{won_with}
 use Rattle.sound_state.proofs.shared.StepLemmas.{at_point, found_from, settle-at, settle-end, words-below, raised-below}
 
@@ -25,7 +20,7 @@ settle-leads e x q leads =
       | inr end ↦ settle-end e x end.0 end.1 ∙ ap (at_point e x) (sym end.2)
     ]
 
--- a step from a point that finds this and leads there, or ends the call
+-- what a step from p changes that finds x and leads to q, or ends the call there
 pub record StepEffects (g : Geometry) (s : State) (caller : ℕ) (p : Point) (x : Found) (q : Point) (s' : State) : Type 0 where
   pub moves : Moves s.errand caller (at_point (s.errand caller) x q) s'.errand
   pub writes :
@@ -59,7 +54,7 @@ step-effects g s l caller s' p x q old has here finds leads step =
       cleared = ap (λ r. raised (counts_cleared r x) (s.errand caller).cleared) here;
     }
 
--- such a step whose exchange is won
+-- what a step from p to q changes whose exchange is won
 pub record WonEffects (g : Geometry) (s : State) (caller : ℕ) (p : Point) (n : WordName) (expected new : ℕ) (q : Point) (s' : State) : Type 0 where
   pub step : StepEffects g s caller p (won_with expected) q s'
   pub writes : Writes s.word n new s'.word
@@ -80,7 +75,7 @@ won-effects g s l caller s' p n expected new q old has here word plan leads belo
     (subst (λ c. Writes s.word (name_of c) (after_action c (s.word (name_of c))) s'.word) plan effects.writes) in
     record { step = effects; writes = writes; below = words-below s.word n new s'.word writes old.words below }
 
--- such a step whose exchange is of an anchor
+-- what a step from p to q changes whose exchange of an anchor is won
 pub record AnchorWon (g : Geometry) (s : State) (caller : ℕ) (p : Point) (d : ℕ) (a b : AnchorFields) (q : Point) (s' : State) : Type 0 where
   pub step : StepEffects g s caller p (won_with (anchor_word a)) q s'
   pub before : anchor_for s d ≡ a

@@ -1,28 +1,21 @@
 -- What single words say: active words, next words, shelves, descriptors and the names of the arena.
 use Rattle.std.proofs.Common.{ℕ, false, Some, ◌≡◌, ◌<◌, ◌+◌, ◌*◌, ◌^◌, refl, arith, ap, ne_eqb, Option, None, ◌%◌, sym, subst, ◌==◌, IsSome}
 use Rattle.sound_state.proofs.Common.{IsChecked, Geometry, active_word, active_of, Null, Held, descriptor_count, SeatFields, active_name, IsSiteOf, Exists, Site}
-use Rattle.sound_state.proofs.Common.{info_or_zero}
-use Rattle.packed_words.proofs.ActiveLemmas.{active-exact}
-use Rattle.packed_words.specs.Active.{IsActiveWord}
-use Rattle.packed_words.specs.Info.{InfoFields, IsInfo}
-use Rattle.packed_words.specs.Shelf.{shelf_word}
+use Rattle.sound_state.proofs.Common.{info_or_zero, active-exact, IsActiveWord, InfoFields, shelf_word, CREDIT_BITS, descriptor_count_within, arena_words, heap_of}
+use Rattle.sound_state.proofs.Common.{info_within, IsSeatOf, info_at}
+use Rattle.packed_words.specs.Info.{IsInfo}
 use Rattle.packed_words.specs.declared.shelf.ShelfWord.TheVariants as shelf
-use Rattle.packed_words.specs.declared.widths.TheConstants.{CREDIT_BITS}
-use Rattle.word_table.proofs.CountLemmas.{descriptor_count_within}
 use Rattle.word_table.proofs.SeatLemmas.{heap_of-within}
-use Rattle.word_table.specs.Counts.{arena_words}
-use Rattle.word_table.specs.Seats.{heap_of, info_within}
-use Rattle.word_table.specs.Sites.{IsSeatOf, info_at}
 use Rattle.hazard_parts.specs.Points.{link_in}
 
--- the numbers of an active word fit, and it says them
+-- an active word has room for any descriptor and its credits, and says them
 pub held-fits : (g : Geometry) (d credits : ℕ) → IsChecked g → d < descriptor_count g → credits < 2 ^ CREDIT_BITS → IsActiveWord (Held d credits)
 held-fits g d credits checked has few = (omega (arith, has, descriptor_count_within g checked), few)
 
 pub held-said : (d credits : ℕ) → IsActiveWord (Held d credits) → active_of (active_word (Held d credits)) ≡ Some (Held d credits)
 held-said d credits fit = active-exact.back (Held d credits) fit
 
--- it isn't 0, and null is
+-- an active word that holds a superblock isn't 0, and one that is null is
 pub held-not-zero : (d credits : ℕ) → (active_word (Held d credits) == 0) ≡ false
 unfolding active_word
 held-not-zero d credits = ne_eqb (credits + (d + 1) * 2 ^ CREDIT_BITS) 0 (λ e. let bad : ⊥ = omega (arith, e) in bad)
@@ -67,7 +60,7 @@ payload-uncut g place i checked within = omega (arith, within, checked.frames.1,
 pub name-below : (g : Geometry) (d : ℕ) → IsChecked g → d < descriptor_count g → d + 1 < 2 ^ 64
 name-below g d checked exists = omega (arith, descriptor_count_within g checked, exists)
 
--- what a descriptor says of a superblock at hand is within the limits of the heap
+-- the processor heap of a superblock at hand, and its info word, are within the heap's limits
 pub site-heap : (g : Geometry) (caller : ℕ) (at : Site) → IsChecked g → IsSiteOf g caller at → heap_of at.seat < g.heaps
 site-heap g caller at checked site =
     let heaps : 0 < at.seat.geometry.heaps = subst (λ h. 0 < h.heaps) (sym site.seat.geometry) (omega (arith, checked.heaps.0)) in

@@ -1,14 +1,13 @@
 -- A step that moves blocks of a superblock between its count and what is reserved: what it changes, and that everything else stays.
 use Rattle.std.proofs.Common.{ℕ, Bool, false, ◌≡◌, ◌≢◌, ◌<◌, ◌≤◌, ◌+◌, ◌^◌, ◌==◌, IsTrue, if◌then◌else◌, All}
 use Rattle.sound_state.proofs.Common.{Geometry, block_count_of, AnchorFields, is_empty, WordName, Site, IsSiteOf, occurs, ErrandFields, State, Moves, waiting}
-use Rattle.sound_state.proofs.Common.{on_its_way, holds_of, IsKeptAs, full_keeps, Lists, IsLocated, bound_here, recalls_of, IsOwnErrand, turn_stage_of, stock_among}
-use Rattle.sound_state.proofs.Common.{anchor_for, is_bound, reserved_among, kept_among}
+use Rattle.sound_state.proofs.Common.{on_its_way, holds_of, IsKeptAs, full_keeps, Lists, IsLocated, bound_here, recalls_of, turn_stage_of, stock_among}
+use Rattle.sound_state.proofs.Common.{anchor_for, is_bound, reserved_among, kept_among, clear, lacks_partial}
 use Rattle.packed_words.specs.declared.anchor.AnchorState.TheVariants as phase
 use Rattle.word_table.specs.declared.name.WordName.TheVariants as name
-use Rattle.sound_state.specs.Holdings.{clear}
-use Rattle.sound_state.specs.TurnStages.{lacks_partial}
 use Rattle.sound_state.proofs.shared.PointLemmas.{kept_places}
 use Rattle.sound_state.proofs.shared.TurnEffects.{StandsIn}
+use Rattle.sound_state.proofs.shared.CallerLemmas.{KeepsCounts}
 
 -- a caller that alone keeps a superblock moves blocks between its count and what it has reserved, and all else stays
 pub record Shifts (g : Geometry) (s : State) (l : Lists) (caller : ℕ) (at : Site) (a b : AnchorFields) (e : ErrandFields) (s' : State) : Type 0 where
@@ -27,11 +26,7 @@ pub record Shifts (g : Geometry) (s : State) (l : Lists) (caller : ℕ) (at : Si
   pub elsewhere : (n : WordName) → n ≢ name.Anchor at.desc → s'.word n ≡ s.word n
   pub below : (n : WordName) → s'.word n < 2 ^ 64
   pub history : s'.history ≡ s.history
-  pub rule : IsOwnErrand g caller e
-  pub retired : e.retired ≡ (s.errand caller).retired
-  pub turns : e.turns ≡ (s.errand caller).turns
-  pub lost : e.lost ≡ (s.errand caller).lost
-  pub cleared : e.cleared ≡ (s.errand caller).cleared
+  pub own : KeepsCounts g caller (s.errand caller) e
   pub reserves :
       b.count + reserved_among at.desc (holds_of e.point).credits
       ≡ a.count + reserved_among at.desc (holds_of (s.errand caller).point).credits

@@ -6,14 +6,15 @@ use Rattle.sound_state.proofs.Common.{waiting_of, reserved_of, word_reserves, er
 use Rattle.word_table.specs.declared.name.WordName.TheVariants as name
 use Rattle.sound_state.proofs.shared.HasLemmas.{bound-stands}
 use Rattle.sound_state.proofs.shared.HoldingEffects.{HoldingEffects, waits-go, ways-go, credits-go, away-goes, framed-after}
-use Rattle.sound_state.proofs.shared.SuperblockEffects.{of-each, LieStill, AnchorEffects, anchor-still, anchors-stay, field-stays, weights-stay, info-stays, infos-stay, next-stays, size-stays, live-stays, same-chain-chained, held-same}
+use Rattle.sound_state.proofs.shared.SuperblockEffects.{of-each, LieStill, AnchorEffects, anchor-still, anchors-stay, field-stays, weights-stay, info-stays, infos-stay}
+use Rattle.sound_state.proofs.shared.SuperblockEffects.{next-stays, size-stays, live-stays, same-chain-chained, held-same}
 use Rattle.sound_state.proofs.shifts.ShiftEffects.{Shifts}
 
 module _
     {g : Geometry} {s : State} {l : Lists} {caller : ℕ} {at : Site} {a b : AnchorFields} {e : ErrandFields} {s' : State}
     (h : Shifts g s l caller at a b e s') where
   shifted-holds : HoldingEffects g s caller (holds_of (s.errand caller).point) (holds_of e.point) e s'
-  shifted-holds = record { in_heap = h.in_heap; moves = h.moves; retired = h.retired; before = refl; after = refl }
+  shifted-holds = record { in_heap = h.in_heap; moves = h.moves; retired = h.own.retired; before = refl; after = refl }
 
   shifted-write : AnchorEffects s at.desc s'
   shifted-write = record { elsewhere = h.elsewhere }
@@ -21,14 +22,14 @@ module _
   shifted-lie : LieStill s s'
   shifted-lie = anchor-still shifted-write
 
-  -- the words of all descriptors stay, and all other descriptors' anchors
+  -- the info words of all descriptors stay, and all other descriptors' anchors
   pub shifted-info : (d : ℕ) → info_for s' d ≡ info_for s d
   shifted-info = info-stays shifted-lie
 
   pub shifted-anchor : (d : ℕ) → d ≢ at.desc → anchor_for s' d ≡ anchor_for s d
   shifted-anchor = anchors-stay shifted-write
 
-  -- all tags stay, and the first available blocks
+  -- all tags stay at a shift, and all first available blocks
   pub shifted-tag : (d : ℕ) → (anchor_for s' d).tag ≡ (anchor_for s d).tag
   shifted-tag = field-stays shifted-write (λ x. x.tag) (ap (λ x. x.tag) h.after ∙ h.tag ∙ sym (ap (λ x. x.tag) h.before))
 
@@ -41,7 +42,7 @@ module _
       (ap (λ x. is_empty x.state) h.after ∙ h.in_use
       ∙ sym (bound-stands (away_of g s l at.desc == 0) (is_empty (anchor_for s at.desc).state) h.bound))
 
-  -- nothing waits or is on its way that wasn't, so what is bound stays
+  -- nothing waits or is on its way that wasn't before, so what is bound stays
   shifted-waits : (d : ℕ) → waiting_of g s' d ≡ waiting_of g s d
   shifted-waits d = omega (arith, waits-go shifted-holds d, h.waits d)
 
@@ -54,12 +55,12 @@ module _
   pub shifted-bound : (d : ℕ) → is_bound g s' l d ≡ is_bound g s l d
   shifted-bound d = rw (shifted-away d, shifted-empty d) refl
 
-  -- words that weigh nothing at an anchor weigh the same
+  -- words that weigh nothing at an anchor weigh the same after a shift
   pub shifted-words :
       (weight : WordName → ℕ → ℕ) → ((w : ℕ) → weight (name.Anchor at.desc) w ≡ 0) → words_sum g weight s'.word ≡ words_sum g weight s.word
   shifted-words = weights-stay shifted-write g
 
-  -- the count and what is reserved stay together
+  -- the count and what is reserved of a superblock stay together
   pub shifted-together : (d : ℕ) → (anchor_for s' d).count + reserved_of g s' d ≡ (anchor_for s d).count + reserved_of g s d
   shifted-together =
       let words = λ (d : ℕ). shifted-words (word_reserves d) (λ w. refl) in
@@ -75,18 +76,18 @@ module _
       (λ d ne.
       omega (arith, credits-go shifted-holds d, words d, h.reserves_elsewhere d ne, ap (λ x. x.count) (shifted-anchor d ne)))
 
-  -- so each superblock has the chain that it had
+  -- each superblock has after a shift the chain that it had
   pub shifted-chain : (d : ℕ) → free_chain (superblock_of g s' d) ≡ free_chain (superblock_of g s d)
   shifted-chain d = rw (next-stays shifted-lie g d, shifted-together d, shifted-avail d) refl
 
-  -- the count stays below the size
+  -- the count of each superblock stays below its size
   shifted-few : (d : ℕ) → (anchor_for s d).count < (superblock_of g s d).size → (anchor_for s' d).count < (superblock_of g s' d).size
   shifted-few =
       of-each (λ k. (anchor_for s k).count < (superblock_of g s k).size → (anchor_for s' k).count < (superblock_of g s' k).size) at.desc
       (λ old. omega (arith, size-stays shifted-lie g at.desc, ap block_count_of h.located.class, ap (λ x. x.count) h.after, h.some))
       (λ d ne old. omega (arith, old, ap (λ x. x.count) (shifted-anchor d ne), size-stays shifted-lie g d))
 
-  -- all superblocks keep their blocks in order
+  -- all superblocks keep their blocks in order at a shift
   pub shifted-chained : IsSoundWith g s l → AreChained g s' l
   shifted-chained old = record {
     infos = infos-stay shifted-lie g l old.chained;
@@ -98,7 +99,7 @@ module _
         (λ j lt. omega (arith, ap (λ f. f j) (live-stays shifted-lie g h.history d), held-same b b' (shifted-waits d) j));
   }
 
-  -- all frames stay where they are
+  -- all frames stay where they are at a shift
   pub shifted-framed : IsSoundWith g s l → IsFramed g s' l
   shifted-framed old =
       framed-after shifted-holds l (λ f d. rw (shifted-bound d, shifted-waits d, shifted-info d) refl) h.frames old.framed

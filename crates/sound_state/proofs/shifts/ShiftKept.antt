@@ -1,14 +1,13 @@
 -- A step that moves blocks between the count and what is reserved leaves each descriptor in one place, and as many out for each class.
 use Rattle.std.proofs.Common.{ℕ, arith, inr}
-use Rattle.sound_state.proofs.Common.{Geometry, AnchorFields, Site, ErrandFields, State, IsKept, Lists, IsSoundWith}
-use Rattle.sound_state.specs.Stock.{IsStocked}
+use Rattle.sound_state.proofs.Common.{Geometry, AnchorFields, Site, ErrandFields, State, IsKept, Lists, IsSoundWith, IsStocked}
 use Rattle.sound_state.proofs.shared.KeptLemmas.{HasAlone, MovesAt, has-alone, moved-kept, moved-stocked}
 use Rattle.sound_state.proofs.shifts.ShiftEffects.{Shifts}
 
 module _
     {g : Geometry} {s : State} {l : Lists} {caller : ℕ} {at : Site} {a b : AnchorFields} {e : ErrandFields} {s' : State}
     (h : Shifts g s l caller at a b e s') where
-  -- the caller alone has the descriptor
+  -- the caller of a shift alone has the descriptor
   pub shifted-alone : IsKept g s l → HasAlone g s l caller at.desc
   shifted-alone kept = has-alone g s l caller at.desc kept h.in_heap h.site.desc h.has
 
@@ -21,9 +20,9 @@ module _
     before = h.before;
     after = h.after;
     elsewhere = h.elsewhere;
-    retired = h.retired;
+    retired = h.own.retired;
     places = h.places;
-    stock = λ class. omega (arith, h.stock class, h.stands_before.waits class, h.stands_after.waits class);
+    stock = λ class. omega (arith, h.stock class, h.stands_before.quiet.waits class, h.stands_after.quiet.waits class);
     goes = inr (h.has, h.full);
     own = h.kept_after;
   }

@@ -1,30 +1,30 @@
 -- A step that moves blocks between the count and what is reserved keeps what the callers remember, and so the state sound.
-use Rattle.std.proofs.Common.{ℕ, ◌≡◌, ◌≢◌, ◌<◌, arith, ap, sym, subst, ◌∙◌, IsTrue}
-use Rattle.std.specs.List.{All}
-use Rattle.sound_state.proofs.Common.{Geometry, AnchorFields, Site, own, IsLegalWithoutCounts, ErrandFields, State, errand_has, Lists, Recall, IsSo, bound_for}
-use Rattle.sound_state.proofs.Common.{bound_at, pops, links, says, IsSoundWithoutCounts, IsSoundWith, IsOwnErrand, superblock_of}
-use Rattle.sound_state.specs.Recalls.{IsRemembered}
-use Rattle.sound_state.proofs.shared.RecallEffects.{IsSteadyWord, Leaves, IsLeft, popped-same, here-so, remembered-left}
-use Rattle.sound_state.proofs.shared.RecallTables.{InstallsNone, IsBacked, backed-recalls}
-use Rattle.sound_state.proofs.shared.ShownLemmas.{each-caller}
+use Rattle.std.proofs.Common.{ℕ, ◌≡◌, ◌≢◌, ◌<◌, arith, ap, sym, subst, IsTrue, All}
+use Rattle.sound_state.proofs.Common.{Geometry, AnchorFields, Site, own, ErrandFields, State, errand_has, Lists, IsSo, occurs}
+use Rattle.sound_state.proofs.Common.{IsSoundWithoutCounts, IsSoundWith, IsOwnErrand, IsRemembered}
+use Rattle.sound_state.proofs.shared.RecallEffects.{IsSteadyWord, Leaves, IsLeft, chain-gains, here-so, remembered-left}
+use Rattle.sound_state.proofs.shared.RecallFrame.{Part, bindings, chains, single}
+use Rattle.sound_state.proofs.shared.RecallTables.{InstallsNone, IsSpared, spared-point}
 use Rattle.sound_state.proofs.shared.WaitsAlone.{install-waits}
 use Rattle.sound_state.proofs.shifts.ShiftEffects.{Shifts}
 use Rattle.sound_state.proofs.shifts.ShiftFacts.{shifted-tag, shifted-empty, shifted-ways, shifted-bound, shifted-chain, shifted-chained, shifted-framed}
 use Rattle.sound_state.proofs.shifts.ShiftKept.{shifted-alone, shifted-kept, shifted-stocked}
 use Rattle.sound_state.proofs.shifts.ShiftTurns.{shifted-owned, shifted-listed, shifted-guarded, shifted-turned, shifted-tied}
+use Rattle.sound_state.proofs.shared.CallerLemmas.{each-caller}
+use Rattle.sound_state.proofs.shared.KeepsSound.{silent-sound}
 
--- a shift
+-- a shift of blocks between the count and what is reserved, seen by the callers that remember
 module _
     {g : Geometry} {s : State} {l : Lists} {caller : ℕ} {at : Site} {a b : AnchorFields} {e : ErrandFields} {s' : State}
     (h : Shifts g s l caller at a b e s') where
-  -- nobody else waits to install its superblock
+  -- nobody else waits to install the superblock of a shift
   shifted-installed : IsSoundWith g s l → (i : ℕ) → i < g.callers → i ≢ caller → InstallsNone (s.errand i).point at.desc
   shifted-installed old i has ne site o stands same =
       let none : errand_has site.desc (s.errand i) ≡ 0 =
       subst (λ k. errand_has k (s.errand i) ≡ 0) (sym same) ((shifted-alone h old.kept).others i has ne) in
       omega (arith, none, install-waits (s.errand i) site o stands)
 
-  -- so it leaves what the others remember
+  -- a shift leaves what the others remember
   shifted-leaves : (i : ℕ) → Leaves g s l s' i
   shifted-leaves i = record {
     steady = λ n is. h.elsewhere n (λ same. subst IsSteadyWord same is);
@@ -34,14 +34,12 @@ module _
     ways = λ d so. shifted-ways h d;
   }
 
-  shifted-left : (r : Recall) → IsBacked g s l at.desc r → IsLeft g s l s' r
-  shifted-left (bound_for d c) backed = subst IsTrue (sym (shifted-bound h d))
-  shifted-left (bound_at d f c) backed = subst IsTrue (sym (shifted-bound h d))
-  shifted-left (pops d x) backed =
-      popped-same (superblock_of g s d) (superblock_of g s' d) x (shifted-tag h d) (shifted-chain h d)
-  shifted-left (links d x prefix) backed = λ is. is ∙ shifted-tag h d
-  shifted-left (says n w) backed = h.elsewhere n backed
-  shifted-left r backed = tt
+  shifted-left : (p : Part) → IsSpared at.desc p → IsLeft g s l s' p
+  shifted-left (bindings d) spared = subst IsTrue (sym (shifted-bound h d))
+  shifted-left (chains d) spared =
+      λ here. chain-gains g s l s' (shifted-leaves caller).steady d (shifted-tag h d) (λ k. subst (λ xs. 0 < occurs k xs) (sym (shifted-chain h d)))
+  shifted-left (single n) spared = λ said. h.elsewhere n spared
+  shifted-left p spared = tt
 
   pub shifted-remembered : IsSoundWith g s l → IsRemembered g s' l
   shifted-remembered old =
@@ -49,15 +47,13 @@ module _
       (subst (All (IsSo g s' l caller)) (sym h.recalls_after)
       (here-so g s l s' (shifted-leaves caller).steady caller at (subst IsTrue (sym (shifted-bound h at.desc)) h.bound) h.located))
       (λ i has ne. shifted-leaves i)
-      (λ i has ne k d lt.
-      shifted-left _
-      (backed-recalls g s l i at.desc old has (shifted-installed old i has ne) k d lt)) old.remembered
+      (λ i has ne k d lt. shifted-left _ (spared-point at.desc (s.errand i).point (shifted-installed old i has ne) k d lt)) old
 
-  -- so the state stays sound
+  -- the state stays sound
   pub shifted-with : IsSoundWith g s l → IsSoundWith g s' l
   shifted-with old = record {
     words = h.below;
-    errands = each-caller g (IsOwnErrand g) s.errand caller e s'.errand h.moves h.rule old.errands;
+    errands = each-caller g (IsOwnErrand g) s.errand caller e s'.errand h.moves h.own.rule old.errands;
     listed = shifted-listed h old;
     kept = shifted-kept h old;
     chained = shifted-chained h old;
@@ -70,8 +66,4 @@ module _
   }
 
   pub shifted-sound : IsSoundWithoutCounts g s → IsSoundWith g s l → IsSoundWithoutCounts g s'
-  shifted-sound sound old = record {
-    checked = sound.checked;
-    legal = subst (IsLegalWithoutCounts g) (sym h.history) sound.legal;
-    parts = (l, shifted-with old);
-  }
+  shifted-sound sound old = silent-sound g s s' l sound h.history (shifted-with old)

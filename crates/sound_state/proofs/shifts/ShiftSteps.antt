@@ -1,39 +1,27 @@
 -- Reserved blocks are returned, and blocks of a partial superblock are granted.
-use Rattle.std.proofs.Common.{ℕ, Bool, true, false, ◌≡◌, ◌≢◌, ◌<◌, ◌≤◌, ◌+◌, ◌^◌, List, [], ◌∷◌, refl, arith, ap, sym, subst, inl, inr, ◌∙◌}
-use Rattle.std.specs.Prelude.{◌==◌, IsTrue, if◌then◌else◌, nat_lt, All}
-use Rattle.std.proofs.lemmas.Bool.{cases_eq, cases_lt, cond-true, eq-eqb, lt-ltb}
-use Rattle.std.proofs.lemmas.List.Elements.{All-nil, All-cons, All-head, All-tail}
-use Rattle.std.proofs.Math.Nat.{mod-eq_of_lt}
+use Rattle.std.proofs.Common.{ℕ, Bool, true, false, ◌≡◌, ◌≢◌, ◌<◌, ◌≤◌, ◌+◌, ◌^◌, List, [], refl, arith, ap, sym, subst, inl, inr, ◌∙◌, ◌==◌, IsTrue, if◌then◌else◌}
+use Rattle.std.proofs.Common.{nat_lt, All, eq-eqb, lt-ltb, mod-eq_of_lt}
+use Rattle.std.proofs.lemmas.Bool.{cases_eq, cases_lt, cond-true}
+use Rattle.std.proofs.lemmas.List.Elements.{All-nil, All-cons, All-head}
 use Rattle.sound_state.proofs.Common.{Geometry, Need, block_count_of, block_place, AnchorFields, anchor_of, anchor_word, info_of, is_empty, Site, occurs, Grant}
-use Rattle.sound_state.proofs.Common.{Continuation, Point, Block, Partial, event_of, next_of, asked, plan_point_of, State, Step, Kept, reserving, waiting}
-use Rattle.sound_state.proofs.Common.{partly_used, on_its_way, holds_before_pop, holds_of, Status, IsPartlyUsed, IsKeptAs, full_keeps, Lists, IsLocated, IsOwned}
-use Rattle.sound_state.proofs.Common.{IsSo, bound_at, located, recalls_of, IsSoundWithoutCounts, IsSoundWith, turn_stage_of, stock_among, sum_below, callers_sum}
-use Rattle.sound_state.proofs.Common.{Superblock, IsChained, anchor_for, info_for, info_or_zero, superblock_of, live_at, is_there, is_bound, away_of, reserved_among}
-use Rattle.sound_state.proofs.Common.{errand_reserves, errand_keeps, kept_among}
+use Rattle.sound_state.proofs.Common.{Continuation, Point, Block, Partial, event_of, next_of, asked, plan_point_of, State, Step, Kept, reserving, waiting, partly_used}
+use Rattle.sound_state.proofs.Common.{on_its_way, holds_before_pop, holds_of, Status, IsPartlyUsed, IsKeptAs, full_keeps, Lists, IsOwned, recalls_of, IsSoundWith}
+use Rattle.sound_state.proofs.Common.{turn_stage_of, stock_among, sum_below, callers_sum, Superblock, IsChained, anchor_for, info_for, info_or_zero, superblock_of}
+use Rattle.sound_state.proofs.Common.{live_at, is_there, is_bound, away_of, reserved_among, errand_reserves, errand_keeps, kept_among, IsAnchor, COUNT_BITS}
+use Rattle.sound_state.proofs.Common.{anchor_of-anchor_word, Cas, heap_of, block_count_of-most, Handed, keep, holds_after_pop, IsActive, lacks_partial, same_status}
 use Rattle.heap_geometry.specs.declared.need.Need.TheVariants as need
-use Rattle.packed_words.specs.Anchor.{IsAnchor}
 use Rattle.packed_words.specs.declared.anchor.AnchorState.{AnchorState as Phase}
 use Rattle.packed_words.specs.declared.anchor.AnchorState.TheVariants as phase
-use Rattle.packed_words.specs.declared.widths.TheConstants.{COUNT_BITS}
-use Rattle.packed_words.proofs.AnchorLemmas.{anchor_of-anchor_word}
 use Rattle.partial_parts.specs.declared.point.PartialPoint.TheVariants as partial
 use Rattle.partial_parts.specs.Grants.{grant_more, granted, granted_state}
-use Rattle.word_table.specs.declared.action.Action.TheVariants.{Cas}
 use Rattle.word_table.specs.declared.name.WordName.TheVariants as name
-use Rattle.word_table.specs.Seats.{heap_of}
-use Rattle.word_table.proofs.SeatLemmas.{block_count_of-most}
 use Rattle.superblock_parts.specs.Anchors.{returned}
 use Rattle.superblock_parts.specs.declared.point.BlockPoint.TheVariants as block
 use Rattle.errand_steps.specs.declared.continuation.Continuation.TheVariants as continuation
-use Rattle.sound_state.specs.Holdings.{Handed, keep, holds_after_pop}
-use Rattle.sound_state.specs.Keepers.{IsActive}
-use Rattle.sound_state.specs.Recalls.{in_use}
-use Rattle.sound_state.specs.TurnStages.{lacks_partial}
-use Rattle.sound_state.specs.Superblocks.{same_status}
 use Rattle.sound_state.proofs.quiet.QuietExchanges.{return_credits-lost}
 use Rattle.sound_state.proofs.quiet.QuietPartials.{grant_lost-sound}
 use Rattle.sound_state.proofs.shared.HasLemmas.{keeps-near, kept-itself}
-use Rattle.sound_state.proofs.shared.PointLemmas.{fits-at, so-at, kept-at, hands-at, the-alloc, kept_places}
+use Rattle.sound_state.proofs.shared.PointLemmas.{fits-at, kept-at, hands-at, the-alloc, kept_places, recalled-at}
 use Rattle.sound_state.proofs.shared.TurnEffects.{StandsIn}
 use Rattle.sound_state.proofs.shifts.ShiftEffects.{Shifts}
 use Rattle.sound_state.proofs.shifts.ShiftRecalls.{shifted-sound}
@@ -49,11 +37,11 @@ use Rattle.sound_state.proofs.shared.KeepsSound.{KeepsSound, KeepsSoundWhere}
 live-fewer : (b : Superblock) (i : ℕ) → IsChained b → i < b.size → b.live i ≡ 1 → b.anchor.count + b.reserved < b.size
 live-fewer b i chained within live = omega (arith, tally b chained, term-sum b.size b.live i within, live)
 
--- a live block at hand
+-- a block that a caller owns is live, and counts as one
 hand-live : (s : State) (caller place : ℕ) (n : Need) → IsOwned s caller place n → live_at s place ≡ 1
 hand-live s caller place n owned = ap is_there owned.block.1
 
--- before and after a return
+-- what a caller holds weighs before and after a return the same, with what is FULL; and what it has reserved goes
 return-places :
     (at : Site) (i more : ℕ) (state : Phase) (d : ℕ) → full_keeps state ≡ 0
     → kept_places d (keep at.desc at.seat.class partly_used) + (if at.desc == d then full_keeps phase.Partial else 0)
@@ -75,7 +63,7 @@ return-elsewhere at i more d ne = grind (arith, ne)
 return-has : (at : Site) (i more : ℕ) → 1 ≤ kept_places at.desc (holds_after_pop at i more).kept
 return-has at i more = grind (arith)
 
--- none else is kept
+-- what is kept neither reserving nor partly used stays at a return
 return-others :
     (status : Status) (at : Site) (i more d : ℕ) → same_status reserving status ≡ false → same_status partly_used status ≡ false
     → kept_among status d (keep at.desc at.seat.class partly_used) ≡ kept_among status d (holds_after_pop at i more).kept
@@ -87,15 +75,15 @@ return-stands at i more a o = grind (arith)
 put-stands : (at : Site) (heap i words : ℕ) → StandsIn false (Partial (partial.PutSlot at.seat at.desc heap) (continuation.GiveBlock words at.desc at.frame i))
 put-stands at heap i words = grind (arith)
 
--- the anchor with the returned blocks
+-- the anchor of a partial superblock with the returned blocks
 abbrev pub with_returned : ℕ → AnchorFields → AnchorFields
 with_returned more a = record { avail = a.avail; count = a.count + more; state = phase.Partial; tag = a.tag }
 
--- where a return leads
+-- the point to which a won return leads
 abbrev pub puts_away : Site → ℕ → Continuation → Point
 puts_away at i o = Partial (partial.PutSlot at.seat at.desc (heap_of at.seat)) (continuation.GiveBlock (asked o) at.desc at.frame i)
 
--- reserved blocks and free ones are fewer than all blocks, since one is at hand
+-- a return leaves fewer free blocks than all, since one is at hand
 return-fewer :
     (g : Geometry) (s : State) (l : Lists) (caller : ℕ) (site : Site) (i more : ℕ) (a : AnchorFields) (o : Continuation) → IsSoundWith g s l
     → caller < g.callers → (s.errand caller).point ≡ Block (block.ReturnCredits site i more a) o
@@ -104,7 +92,7 @@ unfolding holds_of recalls_of callers_sum
 return-fewer g s l caller site i more a o old has here =
     let p : Point = Block (block.ReturnCredits site i more a) o in
     let fit = fits-at g s l caller p old has here in
-    let so = All-head (IsSo g s l caller) (bound_at site.desc site.frame site.seat.class) [] (so-at g s l caller p old has here) in
+    let (so, none) = recalled-at g s l caller p old has here in
     let owned : IsOwned s caller (block_place site.frame site.seat.class i) (need.Small site.seat.class) =
     All-head (λ (x : Handed). IsOwned s caller x.place x.need)
     (record { place = block_place site.frame site.seat.class i; need = need.Small site.seat.class }) [] (hands-at g s l caller p old has here) in
@@ -135,7 +123,7 @@ return-shifts g s l caller s' site i more a o old has here word step =
     let q : Point = puts_away site i o in
     let b : AnchorFields = with_returned more a in
     let fit = fits-at g s l caller p old has here in
-    let so = All-head (IsSo g s l caller) (bound_at site.desc site.frame site.seat.class) [] (so-at g s l caller p old has here) in
+    let (so, none) = recalled-at g s l caller p old has here in
     let active : IsActive s site.desc site.seat.class =
     All-head (λ k. IsKeptAs s k.status k.desc k.class) (record { desc = site.desc; class = site.seat.class; status = reserving }) []
     (kept-at g s l caller p old has here) in
@@ -168,11 +156,7 @@ return-shifts g s l caller s' site i more a o old has here word step =
       elsewhere = won.elsewhere;
       below = won.below;
       history = won.step.history;
-      rule = won.step.rule;
-      retired = refl;
-      turns = refl;
-      lost = won.step.lost;
-      cleared = won.step.cleared;
+      own = record { rule = won.step.rule; retired = refl; turns = refl; lost = won.step.lost; cleared = won.step.cleared };
       reserves =
           let mine : reserved_among site.desc (holds_of (s.errand caller).point).credits ≡ more =
           ap (λ r. reserved_among site.desc (holds_of r).credits) here ∙ return-reserves site i more in
@@ -210,7 +194,7 @@ return-shifts g s l caller s' site i more a o old has here word step =
       partials = sym (ap (λ p. lacks_partial (turn_stage_of p)) here);
     }
 
--- reserved blocks are returned
+-- the won return of reserved blocks keeps the state sound
 pub return_credits_won-sound :
     (site : Site) (i more : ℕ) (a : AnchorFields) (o : Continuation)
     → KeepsSoundWhere (Block (block.ReturnCredits site i more a) o) (λ s. s.word (name.Anchor site.desc) ≡ anchor_word a)
@@ -219,7 +203,7 @@ return_credits_won-sound site i more a o g s caller s' sound has here word step 
     let old : IsSoundWith g s l = sound.parts.1 in
     shifted-sound (return-shifts g s l caller s' site i more a o old has here word step) sound old
 
--- before and after a grant, by whether more than one block is granted
+-- what a caller keeps after a grant, by whether more than one block is granted
 abbrev grant_keeps : ℕ → ℕ → Bool → List Kept
 grant_keeps d class t = if t then keep d class reserving else []
 
@@ -316,10 +300,7 @@ grant-shifts g s l caller s' site a words old has here word step =
     let d : ℕ = site.desc in
     let c : ℕ = site.seat.class in
     let fit = fits-at g s l caller p old has here in
-    let recalled = so-at g s l caller p old has here in
-    let used : is_empty a.state ≡ false = All-head (IsSo g s l caller) (in_use a) (located d site.frame c ∷ []) recalled in
-    let lies : IsLocated s d site.frame c =
-    All-head (IsSo g s l caller) (located d site.frame c) [] (All-tail (IsSo g s l caller) (in_use a) (located d site.frame c ∷ []) recalled) in
+    let (used, (lies, none)) = recalled-at g s l caller p old has here in
     let partly : IsPartlyUsed s d c =
     All-head (λ k. IsKeptAs s k.status k.desc k.class) (record { desc = d; class = c; status = partly_used }) [] (kept-at g s l caller p old has here) in
     let fits : IsAnchor a = fit.point.1.fits in
@@ -354,11 +335,7 @@ grant-shifts g s l caller s' site a words old has here word step =
       elsewhere = won.elsewhere;
       below = won.below;
       history = won.step.history;
-      rule = won.step.rule;
-      retired = refl;
-      turns = refl;
-      lost = won.step.lost;
-      cleared = won.step.cleared;
+      own = record { rule = won.step.rule; retired = refl; turns = refl; lost = won.step.lost; cleared = won.step.cleared };
       reserves =
           let mine : reserved_among d (holds_of (s.errand caller).point).credits ≡ 0 = ap (λ r. reserved_among d (holds_of r).credits) here in
           omega (arith, mine, grant-reserves d c more, granted-together a count);
@@ -389,7 +366,7 @@ grant-shifts g s l caller s' site a words old has here word step =
       partials = sym (ap (λ p. lacks_partial (turn_stage_of p)) here);
     }
 
--- blocks of a partial superblock are granted
+-- the won grant of blocks of a partial superblock keeps the state sound
 pub grant_won-sound :
     (site : Site) (a : AnchorFields) (o : Continuation)
     → KeepsSoundWhere (Partial (partial.Grant site a) o) (λ s. s.word (name.Anchor site.desc) ≡ anchor_word a)
@@ -401,7 +378,7 @@ grant_won-sound site a o g s caller s' sound has here word step =
     here ∙ ap (λ o. Partial (partial.Grant site a) o) alloc in
     shifted-sound (grant-shifts g s l caller s' site a (asked o) old has stands word step) sound old
 
--- so it is after both, won or lost
+-- a return keeps the state sound, won or lost
 pub return_credits-sound : (site : Site) (i more : ℕ) (a : AnchorFields) (o : Continuation) → KeepsSound (Block (block.ReturnCredits site i more a) o)
 return_credits-sound site i more a o g s caller s' sound has here step =
     elim (cases_eq (s.word (name.Anchor site.desc)) (anchor_word a)) [

@@ -2,18 +2,16 @@
 use Rattle.std.proofs.Common.{ℕ, ◌≡◌, ◌<◌, ◌+◌, ◌*◌, ◌^◌, refl, arith, ap, sym, subst, inl, inr, ◌∙◌, ◌⊎◌, All, Any, IsTrue}
 use Rattle.std.specs.Int.{bit_at}
 use Rattle.sound_state.proofs.Common.{Geometry, Need, frame_of, AnchorFields, Site, block_at, pool_of, ErrandFields, State, IsGuarded, holds_of, Lists, IsListed}
-use Rattle.sound_state.proofs.Common.{IsLocated, IsOwned, IsSoundWith, IsTied, IsLive, IsTurned, one_if}
-use Rattle.heap_geometry.specs.Place.{unit_place}
+use Rattle.sound_state.proofs.Common.{IsLocated, IsOwned, IsSoundWith, IsTied, IsLive, IsTurned, one_if, unit_place, IsExcepted, turn_unlisted}
 use Rattle.word_table.specs.declared.name.WordName.TheVariants as name
 use Rattle.pool_model.specs.Pool.{Block}
-use Rattle.sound_state.specs.Ties.{IsExcepted}
-use Rattle.sound_state.specs.Turns.{turn_unlisted}
-use Rattle.sound_state.proofs.shared.ShownLemmas.{each-caller, Excepts}
 use Rattle.sound_state.proofs.shifts.ShiftEffects.{Shifts}
 use Rattle.sound_state.proofs.shifts.ShiftFacts.{shifted-info, shifted-tag, shifted-empty, shifted-away, shifted-bound}
 use Rattle.sound_state.proofs.shared.GuardEffects.{guarded-clear}
 use Rattle.sound_state.proofs.shared.ListEffects.{IsListWord, listed-kept}
 use Rattle.sound_state.proofs.shared.TurnEffects.{emptied-kept, head-tag, no-event, turned-after, stands-weighs}
+use Rattle.sound_state.proofs.shared.TieLemmas.{Excepts}
+use Rattle.sound_state.proofs.shared.CallerLemmas.{each-caller}
 
 module _
     {g : Geometry} {s : State} {l : Lists} {caller : ℕ} {at : Site} {a b : AnchorFields} {e : ErrandFields} {s' : State}
@@ -23,9 +21,8 @@ module _
 
   pub shifted-guarded : IsSoundWith g s l → IsGuarded g s'
   shifted-guarded old =
-      let after = h.stands_after in
-      guarded-clear g s caller e s' h.in_heap h.moves (λ i. h.elsewhere (name.Hazard i) (λ same. cc)) h.clear_before h.clear_after after.pushed after.passed
-      after.unread after.spare old.guarded
+      guarded-clear g s caller e s' h.in_heap h.moves (λ i. h.elsewhere (name.Hazard i) (λ same. cc)) h.clear_before h.clear_after h.stands_after.quiet
+      old.guarded
 
   pub shifted-turned : IsSoundWith g s l → IsTurned g s' l
   shifted-turned old =
@@ -43,7 +40,7 @@ module _
         in_heap = h.in_heap;
         moves = h.moves;
         events = events;
-        own_turns = omega (arith, turned.own_turns caller h.in_heap, events.gives, before.under_way, after.under_way, h.turns);
+        own_turns = omega (arith, turned.own_turns caller h.in_heap, events.gives, before.under_way, after.under_way, h.own.turns);
         own_lost =
             omega (
               arith,
@@ -54,20 +51,20 @@ module _
               before.unanswered,
               after.discards,
               after.unanswered,
-              h.turns,
-              h.lost,
+              h.own.turns,
+              h.own.lost,
             );
         own_answers =
-            omega (arith, turned.own_answers caller h.in_heap, events.gives, events.refuses caller, before.unanswered, after.unanswered, h.turns);
+            omega (arith, turned.own_answers caller h.in_heap, events.gives, events.refuses caller, before.unanswered, after.unanswered, h.own.turns);
         anchor_tags = λ d has. omega (arith, shifted-tag h d);
-        frame_turns = omega (arith, head-tag (h.elsewhere name.FrameHead (λ same. cc)), before.unframed, after.unframed, h.turns);
-        emptied = omega (arith, emptied_same, h.cleared);
+        frame_turns = omega (arith, head-tag (h.elsewhere name.FrameHead (λ same. cc)), before.unframed, after.unframed, h.own.turns);
+        emptied = omega (arith, emptied_same, h.own.cleared);
         list_turns = λ class has.
-            omega (arith, head-tag (h.elsewhere (name.ListHead class) (λ same. cc)), q.pops, unlisted, h.turns, h.cleared);
+            omega (arith, head-tag (h.elsewhere (name.ListHead class) (λ same. cc)), q.pops, unlisted, h.own.turns, h.own.cleared);
       })
       turned
 
-  -- the pool stays, so does what is owned, and what is excepted
+  -- the pool stays at a shift, and so does what is owned and what is excepted
   pub shifted-located : (d f c : ℕ) → IsLocated s d f c → IsLocated s' d f c
   shifted-located d f c k = record {
     frame = ap (λ x. x.frame) (shifted-info h d) ∙ k.frame;

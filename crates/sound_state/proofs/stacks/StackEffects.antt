@@ -2,23 +2,20 @@
 use Rattle.std.proofs.Common.{ℕ, Some, length, ◌≡◌, ◌<◌, ◌≤◌, ◌+◌, ◌^◌, ◌⊎◌, slice_index, count_by, All}
 use Rattle.sound_state.proofs.Common.{Geometry, CLASSES, head_of, WordName, SeatFields, occurs, Pile, head_name, ErrandFields, spare_of, pushed_by, State, Moves}
 use Rattle.sound_state.proofs.Common.{errand_frames, IsGuard, IsHazard, passed_by, held_by, on_its_way, holds_of, IsPartlyUsed, IsWithout, IsKeptAs, Lists, IsListed}
-use Rattle.sound_state.proofs.Common.{IsSo, IsOwned, recalls_of, IsOwnErrand, callers_sum, anchor_for, reserved_of, waiting_of, errand_keeps, errand_away}
-use Rattle.sound_state.proofs.Common.{gives_small, refuses_small}
+use Rattle.sound_state.proofs.Common.{IsSo, IsOwned, recalls_of, IsOwnErrand, callers_sum, anchor_for, reserved_of, waiting_of, errand_keeps, errand_away, gives_small}
+use Rattle.sound_state.proofs.Common.{refuses_small, places_of, list_of, stock_of, turn_open, turn_unanswered, errand_discards, turn_unframed, turn_unlisted}
+use Rattle.sound_state.proofs.Common.{errand_pops}
 use Rattle.packed_words.specs.declared.anchor.AnchorState.TheVariants as phase
 use Rattle.word_table.specs.declared.name.WordName.TheVariants as name
-use Rattle.sound_state.specs.Keepers.{places_of}
-use Rattle.sound_state.specs.Recalls.{list_of}
-use Rattle.sound_state.specs.Stock.{stock_of}
-use Rattle.sound_state.specs.Turns.{turn_open, turn_unanswered, errand_discards, turn_unframed, turn_unlisted, errand_pops}
-use Rattle.sound_state.proofs.shared.ShownLemmas.{Excepts}
+use Rattle.sound_state.proofs.shared.TieLemmas.{Excepts}
 
--- the word is no head of a tagged stack
+-- the word is no head of frames or of a class's list
 abbrev pub IsNoHead : WordName → Type 0
 IsNoHead name.FrameHead = ⊥
 IsNoHead (name.ListHead class) = ⊥
 IsNoHead n = Unit {0}
 
--- a caller may stand where it goes on: as `MayGoOn`, but it may begin a scan
+-- a caller may stand where it goes on to b: as `MayGoOn`, but it may begin a scan
 pub record MayStand (g : Geometry) (s : State) (l : Lists) (caller : ℕ) (a b : ErrandFields) : Type 0 where
   pub rule : IsOwnErrand g caller b
   pub kept : All (λ k. IsKeptAs s k.status k.desc k.class) (holds_of b.point).kept

@@ -1,17 +1,16 @@
 -- A won push onto a stack after which a descriptor is retired.
-use Rattle.std.proofs.Common.{ℕ, zero, suc, Bool, true, false, None, Some, ◌≡◌, ◌<◌, ◌≤◌, ◌+◌, [], ◌∷◌, ◌++◌, length, refl, arith, ap, sym, subst, inl, inr, ◌∙◌}
-use Rattle.std.specs.Prelude.{◌==◌, ◌⊎◌, slice_index, replicate, All, Any, IsTrue, if◌then◌else◌}
-use Rattle.std.proofs.lemmas.Bool.{cases_eq, cond-false, eq-eqb, leb-true, ne_eqb}
-use Rattle.std.proofs.lemmas.List.{length-append}
+use Rattle.std.proofs.Common.{ℕ, zero, suc, Bool, true, false, None, Some, ◌≡◌, ◌<◌, ◌≤◌, ◌+◌, [], ◌∷◌, ◌++◌, length, refl, arith, ap, sym, subst, inl, inr, ◌∙◌, ◌==◌}
+use Rattle.std.proofs.Common.{◌⊎◌, slice_index, replicate, All, Any, IsTrue, if◌then◌else◌, eq-eqb, leb-true, ne_eqb, length-append}
+use Rattle.std.proofs.lemmas.Bool.{cases_eq, cond-false}
 use Rattle.std.proofs.lemmas.List.Elements.{All-append, All-nil, All-cons, All-head}
-use Rattle.sound_state.proofs.Common.{Geometry, HeadFields, head_of, WordName, SeatFields, Writes, Pile, Frames, Partials, head_name, Retire, Continuation, Point}
-use Rattle.sound_state.proofs.Common.{Idle, Block, Stack, Desc, Found, name_of, after_action, cases_name, occurs, ErrandFields, settle_of, course_of, raised}
-use Rattle.sound_state.proofs.Common.{counts_lost, counts_cleared, spare_of, pushed_by, event_of, next_of, plan_point_of, State, Step, found_at, name_at, Kept}
-use Rattle.sound_state.proofs.Common.{Status, holds_of, waiting, partly_used, on_its_way, IsGuard, IsHazard, passed_by, held_by, turn_stage_of, in_turn, is_unneeded}
-use Rattle.sound_state.proofs.Common.{anchor_for, kept_among, reserved_among, one_if, pops_left, IsKeptAs, IsWithout, Lists, IsSo, IsOwned, emptied, recalls_of}
-use Rattle.sound_state.proofs.Common.{IsSoundWithoutCounts, IsSoundWith, waits_in, stock_among}
-use Rattle.packed_words.specs.Head.{IsHead, head_word}
-use Rattle.packed_words.proofs.HeadLemmas.{head_of-head_word}
+use Rattle.sound_state.proofs.Common.{Geometry, HeadFields, head_of, WordName, SeatFields, Writes, Pile, Frames, Partials, head_name, Retire, Continuation, Point, Idle}
+use Rattle.sound_state.proofs.Common.{Block, Stack, Desc, Found, name_of, after_action, cases_name, occurs, ErrandFields, settle_of, course_of, raised, counts_lost}
+use Rattle.sound_state.proofs.Common.{counts_cleared, spare_of, pushed_by, event_of, next_of, plan_point_of, State, Step, found_at, name_at, Kept, Status, holds_of}
+use Rattle.sound_state.proofs.Common.{waiting, partly_used, on_its_way, IsGuard, IsHazard, passed_by, held_by, turn_stage_of, in_turn, is_unneeded, anchor_for}
+use Rattle.sound_state.proofs.Common.{kept_among, reserved_among, one_if, pops_left, IsKeptAs, IsWithout, Lists, IsSo, IsOwned, recalls_of, IsSoundWithoutCounts}
+use Rattle.sound_state.proofs.Common.{IsSoundWith, waits_in, stock_among, IsHead, head_word, head_of-head_word, IsErrand, plan_of, one_more, is_full, is_spent}
+use Rattle.sound_state.proofs.Common.{no_words, counts_won, settle_errand, pushes, clear, keep, continuation_holds, lacks_frame, lacks_partial, lacks_answer, list_of}
+use Rattle.sound_state.proofs.Common.{resumed_recalls}
 use Rattle.word_table.specs.declared.name.WordName.TheVariants as name
 use Rattle.superblock_parts.specs.declared.point.BlockPoint.TheVariants as block
 use Rattle.stack_parts.specs.declared.point.StackPoint.TheVariants as stack
@@ -19,12 +18,6 @@ use Rattle.hazard_parts.specs.declared.point.DescPoint.TheVariants as desc
 use Rattle.errand_steps.specs.declared.continuation.Continuation.TheVariants as continuation
 use Rattle.hazard_parts.specs.declared.limits.TheConstants.{HELD_MOST}
 use Rattle.packed_words.specs.declared.anchor.AnchorState.TheVariants as phase
-use Rattle.errand_steps.specs.Errands.{IsErrand, plan_of, one_more, is_full, is_spent, no_words, counts_won}
-use Rattle.errand_steps.proofs.ErrandLemmas.{settle_errand}
-use Rattle.errand_steps.specs.Continuations.{pushes}
-use Rattle.sound_state.specs.Holdings.{clear, keep, continuation_holds}
-use Rattle.sound_state.specs.TurnStages.{lacks_frame, lacks_partial, lacks_answer}
-use Rattle.sound_state.specs.Recalls.{list_of, resumed_recalls}
 use Rattle.sound_state.proofs.shared.ListFacts.{occurs-push}
 use Rattle.sound_state.proofs.shared.PointLemmas.{kept_places, fits-at, kept-at}
 use Rattle.sound_state.proofs.quiet.QuietStacks.{push_top_lost-sound}
@@ -34,13 +27,13 @@ use Rattle.sound_state.proofs.stacks.StackShifts.{Exchanges, ErrandsBalanced, ex
 use Rattle.sound_state.proofs.shared.StepLemmas.{raised-least, raised-below, found_from}
 use Rattle.sound_state.proofs.shared.KeepsSound.{KeepsSound, KeepsSoundWhere}
 
--- no word is read yet
+-- no hazard word is noted yet in a list of zeros
 unread-none : (n i : ℕ) → slice_index (replicate n 0) i ≡ 0
 unread-none zero i = refl
 unread-none (suc n) zero = refl
 unread-none (suc n) (suc i) = unread-none n i
 
--- the errand after a step that retires d
+-- the errand of a caller after a step that retires d, with so many turns
 abbrev retired_in_turn : ErrandFields → Found → ℕ → Point → ℕ → ErrandFields
 retired_in_turn e x d q t =
     record e {
@@ -52,7 +45,7 @@ retired_in_turn e x d q t =
       cleared = raised (counts_cleared e.point x) e.cleared;
     }
 
--- where the list is full a scan begins; else the call ends, or goes on with a turn where the caller has one left
+-- a retirement begins a scan where the list is full; else the call ends, or goes on with a turn where the caller has one left
 settle-full-in-turn :
     (e : ErrandFields) (x : Found) (seat : SeatFields) (d : ℕ) (o : Continuation) → next_of e.point x ≡ Retire seat d o → is_full e ≡ true
     → settle_of e x ≡ retired_in_turn e x d (Desc (desc.ReadHazard seat no_words 0) o) e.turns
@@ -78,7 +71,7 @@ settle-turns :
 unfolding settle_of course_of
 settle-turns e x seat d words is full left = rw (is, full, left) refl
 
--- how far a call's turn is at two points, with so many turns
+-- a turn goes on from p to q, with so many turns begun before and after
 record RetireTurns (p q : Point) (n t : ℕ) : Type 0 where
   under_way : one_if (in_turn q) + n ≤ one_if (in_turn p) + t
   discards :
@@ -127,7 +120,7 @@ scan-bare seat o is = record {
   waits = λ class. refl;
 }
 
--- a descriptor that is retired: it was on its way there, or kept as a partly used one that is EMPTY
+-- a descriptor that may be retired: it was on its way, or kept as a partly used one that is EMPTY
 abbrev MayRetire : State → Status → ℕ → Type 0
 MayRetire s status d = (status ≡ on_its_way) ⊎ ((status ≡ partly_used) × ((anchor_for s d).state ≡ phase.Empty))
 
@@ -145,7 +138,7 @@ way-one d x class = grind (arith)
 way-none : (d x class : ℕ) → kept_among on_its_way x (keep d class partly_used) ≡ 0
 way-none d x class = grind (arith)
 
--- what is away then
+-- what is away after a retirement, where the retired descriptor was on its way or its superblock is EMPTY
 retire-away :
     (s : State) (status : Status) (d x class old new : ℕ) → MayRetire s status d
     → new ≡ old + (if d == x then 1 else 0)
@@ -164,7 +157,7 @@ without-retired : (s : State) (status : Status) (d class : ℕ) → MayRetire s 
 without-retired s status d class (inl is) kept = subst (λ x. IsKeptAs s x d class) is kept
 without-retired s status d class (inr is) kept = inr is.1
 
--- a head whose tag stays
+-- each head's tag stays after a write of a head with the same tag
 tag-stays :
     (words words' : WordName → ℕ) (n m : WordName) (new : HeadFields) → IsHead new → Writes words n (head_word new) words'
     → (head_of (words n)).tag ≡ new.tag → (head_of (words' m)).tag ≡ (head_of (words m)).tag
@@ -176,7 +169,7 @@ tag-stays words words' n m new fits writes same =
       | inr differ ↦ ap (λ w. (head_of w).tag) (writes.elsewhere m differ)
     ]
 
--- a push that goes on with a retirement of d holds nothing but d, and the index where it isn't on the stack yet
+-- a push that goes on with a retirement of d holds nothing but d, and the index that isn't on the stack yet
 record RetiresOff (seat : SeatFields) (pile : Pile) (i : ℕ) (h : HeadFields) (o : Continuation) (d : ℕ) (status : Status) : Type 0 where
   more : HoldsMore seat pile i (continuation_holds seat o) (holds_of (Stack (stack.PushTop seat pile i h) o))
   kept : (continuation_holds seat o).kept ≡ keep d seat.class status
@@ -195,14 +188,14 @@ retire-off : (seat : SeatFields) (i : ℕ) (h : HeadFields) (d : ℕ) → Retire
 unfolding holds_of
 retire-off seat i h d = grind (arith)
 
--- where the caller goes on when it has retired d, with so many turns: it stands bare
+-- a caller that has retired d goes on at the point, with so many turns, and stands bare there
 record RetiresBare (g : Geometry) (s : State) (caller : ℕ) (p : Point) (d : ℕ) (q : Point) (t : ℕ) : Type 0 where
   settles : settle_of (s.errand caller) (found_at s caller) ≡ retired_in_turn (s.errand caller) (found_at s caller) d q t
   bare : StandsBare q
   full : spare_of q ≡ 1 → length (s.errand caller).retired ≡ g.callers
   turns : RetireTurns p q (s.errand caller).turns t
 
--- the errand that a won push leaves so, and what it exchanges
+-- some lists, errand and exchange with which a won push retires a descriptor
 abbrev Retired : Geometry → State → Lists → ℕ → SeatFields → Pile → ℕ → HeadFields → Type 0
 Retired g s l caller seat pile i h =
     (e : ErrandFields) × Exchanges g s l caller seat pile (head_pushed i h) e (with_list l seat pile (i ∷ list_of l seat pile))
@@ -325,7 +318,7 @@ full-list g s l caller p old has stands spare full =
     let callers : (s.errand caller).geometry.callers ≡ g.callers = ap (λ (k : Geometry). k.callers) own.geometry in
     omega (arith, callers, own.rule.room, ap spare_of stands, spare, leb-true (s.errand caller).geometry.callers (length (s.errand caller).retired) full)
 
--- a turn that is left can be counted
+-- a caller that has a turn left may count one more
 one-more-turn :
     (g : Geometry) (s : State) (l : Lists) (caller : ℕ) → IsSoundWith g s l → caller < g.callers → is_spent (s.errand caller) ≡ false
     → one_more (s.errand caller).turns ≡ (s.errand caller).turns + 1
@@ -333,7 +326,7 @@ one-more-turn g s l caller old has left =
     let own = old.errands caller has in
     omega (arith, own.rule.turns, own.rule.geometry.turn_limit.1)
 
--- a frame goes back, and the descriptor of a superblock that wasn't needed is retired
+-- the won push of a frame, after which the descriptor of a superblock that wasn't needed is retired
 discard-exchanges :
     (g : Geometry) (s : State) (l : Lists) (caller : ℕ) (seat : SeatFields) (i : ℕ) (h : HeadFields) (words d : ℕ) → IsSoundWithoutCounts g s
     → IsSoundWith g s l → caller < g.callers → (s.errand caller).point ≡ Stack (stack.PushTop seat Frames i h) (continuation.Discard words d)
@@ -389,7 +382,7 @@ push_discard_won-sound seat i h words d g s caller s' sound has stands word step
     let to = discard-exchanges g s l caller seat i h words d sound old has stands word in
     (with_list l seat Frames (i ∷ list_of l seat Frames), to.0, to.1)) step
 
--- a partial superblock goes back, and the one that was EMPTY is retired
+-- the won push of a partial superblock, after which the one that was EMPTY is retired
 retire-exchanges :
     (g : Geometry) (s : State) (l : Lists) (caller : ℕ) (seat : SeatFields) (i : ℕ) (h : HeadFields) (d : ℕ) → IsSoundWithoutCounts g s
     → IsSoundWith g s l → caller < g.callers → (s.errand caller).point ≡ Stack (stack.PushTop seat Partials i h) (continuation.Retire d)
@@ -403,7 +396,7 @@ retire-exchanges g s l caller seat i h d sound old has stands word =
     let won : (s.word (name.ListHead seat.class) == head_word h) ≡ true = eq-eqb (s.word (name.ListHead seat.class)) (head_word h) word in
     let next : next_of a.point x ≡ Retire seat d continuation.EndFree =
     subst (λ z. next_of z (found_from s z) ≡ Retire seat d continuation.EndFree) (sym stands) (rw won refl) in
-    let is = All-head (IsSo g s l caller) (emptied d) [] (pushes-on g s l caller seat Partials i h (continuation.Retire d) sound old has stands word).so in
+    let is = All-head (IsSo g s l caller) _ [] (pushes-on g s l caller seat Partials i h (continuation.Retire d) sound old has stands word).so in
     let retires =
     push-exchanges g s l caller seat Partials i h (continuation.Retire d) d partly_used sound old has stands word (retire-off seat i h d) (inr (refl, is.state)) in
     elim (says-either (is_full a)) [
@@ -434,7 +427,7 @@ push_retire_won-sound seat i h d g s caller s' sound has stands word step =
     let to = retire-exchanges g s l caller seat i h d sound old has stands word in
     (with_list l seat Partials (i ∷ list_of l seat Partials), to.0, to.1)) step
 
--- after a push a frame's descriptor is retired, or an EMPTY superblock's, or nothing
+-- a won push of what is given back keeps the state sound: a frame's descriptor or an EMPTY superblock's is retired, or nothing
 push-top-won :
     (g : Geometry) (s : State) (caller : ℕ) (s' : State) (seat : SeatFields) (pile : Pile) (i : ℕ) (h : HeadFields) (o : Continuation)
     → pushes pile o ≡ true → IsSoundWithoutCounts g s → caller < g.callers → (s.errand caller).point ≡ Stack (stack.PushTop seat pile i h) o
@@ -448,7 +441,7 @@ push-top-won g s caller s' seat Frames i h (continuation.Retire d) is sound has 
 push-top-won g s caller s' seat pile i h o is sound has stands word step =
     push_going_on-sound g s caller s' seat pile i h o sound has stands refl word step
 
--- a won push onto a stack
+-- a won push onto a stack keeps the state sound
 pub push_top_won-sound :
     (seat : SeatFields) (pile : Pile) (i : ℕ) (h : HeadFields) (o : Continuation)
     → KeepsSoundWhere (Stack (stack.PushTop seat pile i h) o) (λ s. s.word (head_name seat pile) ≡ head_word h)
@@ -456,7 +449,7 @@ push_top_won-sound seat pile i h o g s caller s' sound has stands word step =
     let fit = fits-at g s sound.parts.0 caller (Stack (stack.PushTop seat pile i h) o) sound.parts.1 has stands in
     push-top-won g s caller s' seat pile i h o (holds-true (pushes pile o) fit.goes) sound has stands word step
 
--- won or lost
+-- a push onto a stack, won or lost, keeps the state sound
 pub push_top-sound :
     (seat : SeatFields) (pile : Pile) (i : ℕ) (h : HeadFields) (o : Continuation) → KeepsSound (Stack (stack.PushTop seat pile i h) o)
 push_top-sound seat pile i h o g s caller s' sound has stands step =

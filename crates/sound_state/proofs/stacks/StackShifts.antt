@@ -1,20 +1,17 @@
 -- The lists and what a caller holds, where an index goes from a stack to its hand or back; and the step that does it.
 use Rattle.std.proofs.Common.{ℕ, false, None, ◌≡◌, ◌≢◌, ◌<◌, ◌≤◌, ◌+◌, List, ◌∷◌, length, refl, arith, ap, sym, subst, inl, inr, ◌∙◌, ◌==◌, ◌⊎◌, All, if◌then◌else◌}
-use Rattle.std.proofs.lemmas.Bool.{cases_eq, cond-true, cond-false, eq-eqb, ne_eqb}
-use Rattle.sound_state.proofs.Common.{Geometry, CLASSES, anchor_of, HeadFields, head_of, info_of, WordName, name_of, after_action, descriptor_count, SeatFields}
-use Rattle.sound_state.proofs.Common.{Writes, cases_name, occurs, Pile, Frames, Partials, head_name, IsLegalWithoutCounts, Point, ErrandFields, settle_of}
-use Rattle.sound_state.proofs.Common.{counts_cleared, raised, event_of, next_of, plan_point_of, State, Step, Moves, found_at, name_at, with_event, errand_frames}
-use Rattle.sound_state.proofs.Common.{Holding, Kept, holds_of, waiting, partly_used, on_its_way, IsPartlyUsed, word_keeps, errand_has, full_keeps, Lists, IsListed}
+use Rattle.std.proofs.Common.{eq-eqb, ne_eqb}
+use Rattle.std.proofs.lemmas.Bool.{cases_eq, cond-true, cond-false}
+use Rattle.sound_state.proofs.Common.{Geometry, CLASSES, anchor_of, HeadFields, head_of, info_of, WordName, name_of, after_action, descriptor_count, SeatFields, Writes}
+use Rattle.sound_state.proofs.Common.{cases_name, occurs, Pile, Frames, Partials, head_name, Point, ErrandFields, settle_of, counts_cleared}
+use Rattle.sound_state.proofs.Common.{raised, event_of, next_of, plan_point_of, State, Step, Moves, found_at, name_at, with_event, errand_frames, Holding, Kept}
+use Rattle.sound_state.proofs.Common.{holds_of, waiting, partly_used, on_its_way, IsPartlyUsed, word_keeps, errand_has, full_keeps, Lists, IsListed}
 use Rattle.sound_state.proofs.Common.{IsSoundWithoutCounts, IsSoundWith, turn_stage_of, word_stock, errand_stock, full_stock, stock_among, waits_in, sum_below}
 use Rattle.sound_state.proofs.Common.{anchor_for, info_or_zero, word_reserves, errand_reserves, errand_keeps, errand_away, kept_among, reserved_among, one_if}
-use Rattle.sound_state.proofs.Common.{pops_left}
+use Rattle.sound_state.proofs.Common.{pops_left, IsHead, head_word, head_of-head_word, list_of, lacks_frame, lacks_partial, turn_unframed, turn_unlisted, errand_pops}
 use Rattle.packed_words.specs.declared.anchor.AnchorState.TheVariants as phase
-use Rattle.packed_words.specs.Head.{IsHead, head_word}
-use Rattle.packed_words.proofs.HeadLemmas.{head_of-head_word, head_word-below}
+use Rattle.packed_words.proofs.HeadLemmas.{head_word-below}
 use Rattle.word_table.specs.declared.name.WordName.TheVariants as name
-use Rattle.sound_state.specs.Recalls.{list_of}
-use Rattle.sound_state.specs.TurnStages.{lacks_frame, lacks_partial}
-use Rattle.sound_state.specs.Turns.{turn_unframed, turn_unlisted, errand_pops}
 use Rattle.sound_state.proofs.shared.PointLemmas.{kept_places}
 use Rattle.sound_state.proofs.shared.ShownLemmas.{MayGoOn}
 use Rattle.sound_state.proofs.shared.WonEffects.{settle-leads, LeadsTo}
@@ -23,19 +20,20 @@ use Rattle.sound_state.proofs.stacks.StackFacts.{restacked-sound}
 use Rattle.sound_state.proofs.shared.KeptLemmas.{words-but}
 use Rattle.sound_state.proofs.shared.StepLemmas.{PointGoes, at_point, goes-stands, may-after, words-below, found_from}
 use Rattle.sound_state.proofs.shared.SumLemmas.{sum-same, sum-change, callers-moved}
+use Rattle.sound_state.proofs.shared.KeepsSound.{silent-sound}
 
--- the lists with another one for a stack
+-- the lists with another list for one stack
 abbrev pub with_list : Lists → SeatFields → Pile → List ℕ → Lists
 with_list l seat Frames xs = record { frames = xs; available = l.available; partials = l.partials }
 with_list l seat Partials xs =
     record { frames = l.frames; available = l.available; partials = λ c. if c == seat.class then xs else l.partials c }
 
--- all stacks but one are the same lists
+-- all stacks' lists but that of one are the same
 abbrev pub OthersStay : SeatFields → Pile → Lists → Lists → Type 0
 OthersStay seat pile l l' =
     (seat2 : SeatFields) (pile2 : Pile) → head_name seat2 pile2 ≢ head_name seat pile → list_of l' seat2 pile2 ≡ list_of l seat2 pile2
 
--- the first lists are the second ones with an index in front of a stack
+-- the lists l are the lists l' with an index in front of one stack
 pub record OneMore (seat : SeatFields) (pile : Pile) (x : ℕ) (l l' : Lists) : Type 0 where
   pub available : l.available ≡ l'.available
   pub here : list_of l seat pile ≡ x ∷ list_of l' seat pile
@@ -57,7 +55,7 @@ list-available : (l : Lists) (seat : SeatFields) (pile : Pile) (xs : List ℕ) �
 list-available l seat Frames xs = refl
 list-available l seat Partials xs = refl
 
--- a pop leaves the rest of a list, a push puts one in front
+-- a pop leaves the rest of a stack's list, and a push puts an index in front of it
 pub more-popped :
     (l : Lists) (seat : SeatFields) (pile : Pile) (x : ℕ) (rest : List ℕ) → list_of l seat pile ≡ x ∷ rest
     → OneMore seat pile x l (with_list l seat pile rest)
@@ -75,7 +73,7 @@ more-pushed l seat pile x = record {
   others = λ seat2 pile2 differ. sym (list-elsewhere l seat pile (x ∷ list_of l seat pile) seat2 pile2 differ);
 }
 
--- the second holding is the first one with the index in hand
+-- a holding is another one with the index in hand
 abbrev pub HoldsMore : SeatFields → Pile → ℕ → Holding → Holding → Type 0
 HoldsMore seat Frames x h h' = (h'.kept ≡ h.kept) × (h'.frames ≡ x ∷ h.frames)
 HoldsMore seat Partials x h h' =
@@ -104,7 +102,7 @@ balance-back l l' h h' b = record {
   ways = λ d. sym (b.ways d);
 }
 
--- one more partly used superblock that is kept
+-- one more partly used superblock kept is in one place more, and in stock for its class once more
 pub partly-kept-more :
     (d x class : ℕ) (ks : List Kept)
     → kept_places d (record { desc = x; class = class; status = partly_used } ∷ ks) ≡ (if x == d then 1 else 0) + kept_places d ks
@@ -120,12 +118,12 @@ ways-more :
     → kept_among on_its_way d (record { desc = x; class = class; status = partly_used } ∷ ks) ≡ kept_among on_its_way d ks
 ways-more d x class ks = grind (arith)
 
--- the class of a list's head
+-- the class of the list whose head the word is
 abbrev pub list_class : WordName → ℕ
 list_class (name.ListHead class) = class
 list_class n = 0
 
--- a list of partial superblocks of another class
+-- the list of another class stays, where all stacks but one do
 partials-stay :
     (seat : SeatFields) (l l' : Lists) → OthersStay seat Partials l l' → (c : ℕ) → c ≢ seat.class → l'.partials c ≡ l.partials c
 partials-stay seat l l' others c differ =
@@ -190,7 +188,7 @@ PaysForTag Frames was now p q = now + one_if (lacks_frame (turn_stage_of q)) ≤
 PaysForTag Partials was now p q =
     now + pops_left q + one_if (lacks_partial (turn_stage_of q)) ≤ was + pops_left p + one_if (lacks_partial (turn_stage_of p))
 
--- where a stack has another head, its list is that of the second lists, and all others stay
+-- a stack has another head, its list is that of the second lists, and all other lists stay
 pub record NewList (g : Geometry) (s : State) (l : Lists) (seat : SeatFields) (pile : Pile) (new : HeadFields) (l' : Lists) : Type 0 where
   pub fits : IsHead new
   pub listed : (words' : WordName → ℕ) → Writes s.word (head_name seat pile) (head_word new) words' → IsListed g words' l'
@@ -201,7 +199,7 @@ pub record NewList (g : Geometry) (s : State) (l : Lists) (seat : SeatFields) (p
       → occurs i (list_of l seat pile) ≤ occurs i (list_of l' seat pile)
   pub others : OthersStay seat pile l l'
 
--- a step from the first point to the second, with a won exchange of a head
+-- a step from p to q, with a won exchange of a head
 pub record ShiftsHead (g : Geometry) (s : State) (l : Lists) (caller : ℕ) (p q : Point) (seat : SeatFields) (pile : Pile) (new : HeadFields)
     (l' : Lists) : Type 0 where
   pub leads : LeadsTo (next_of p (found_from s p)) q
@@ -221,7 +219,7 @@ pub no-head-apart : (seat : SeatFields) (pile : Pile) (n : WordName) → IsNoHea
 no-head-apart seat Frames n is same = let bad : ⊥ = subst IsNoHead same is in bad
 no-head-apart seat Partials n is same = let bad : ⊥ = subst IsNoHead same is in bad
 
--- a head weighs nothing
+-- a stack's head weighs nothing
 reserves-none : (d : ℕ) (seat : SeatFields) (pile : Pile) (w : ℕ) → word_reserves d (head_name seat pile) w ≡ 0
 reserves-none d seat Frames w = refl
 reserves-none d seat Partials w = refl
@@ -234,7 +232,7 @@ stock-none : (class : ℕ) (seat : SeatFields) (pile : Pile) (w : ℕ) → word_
 stock-none class seat Frames w = refl
 stock-none class seat Partials w = refl
 
--- each head's tag is what it was, or more
+-- each head's tag is what it was, or more, after a write of a head
 tag-grows :
     (words words' : WordName → ℕ) (n m : WordName) (new : HeadFields) → IsHead new → Writes words n (head_word new) words'
     → (head_of (words n)).tag ≤ new.tag → (head_of (words m)).tag ≤ (head_of (words' m)).tag
@@ -246,7 +244,7 @@ tag-grows words words' n m new fits writes grows =
       | inr differ ↦ omega (arith, ap (λ w. (head_of w).tag) (writes.elsewhere m differ))
     ]
 
--- where two piles have one head they have one list
+-- two stacks that have one head have one list
 list-named :
     (P : List ℕ → List ℕ → Type 0) (l l' : Lists) (seat seat2 : SeatFields) (pile pile2 : Pile)
     → head_name seat2 pile2 ≡ head_name seat pile → P (list_of l seat pile) (list_of l' seat pile)
@@ -273,7 +271,7 @@ still-listed s l l' seat seat2 pile pile2 new words' fits writes others still sa
       | inr differ ↦ omega (arith, ap (occurs i) (others seat2 pile2 differ))
     ]
 
--- what the turn pays for the frames' tag and for a class's
+-- the turn pays for the tag of the frames' head, and for that of a class's
 frame-spends :
     (s : State) (seat : SeatFields) (pile : Pile) (p q : Point) (new : HeadFields) (words' : WordName → ℕ) → IsHead new
     → Writes s.word (head_name seat pile) (head_word new) words' → PaysForTag pile (head_of (s.word (head_name seat pile))).tag new.tag p q
@@ -321,7 +319,7 @@ pub record ErrandsBalanced (g : Geometry) (s : State) (l l' : Lists) (a b : Erra
   pub stock :
       (class : ℕ) → length (l'.partials class) + errand_stock class b ≤ length (l.partials class) + errand_stock class a
 
--- a won exchange of a head, after which a caller goes on so
+-- a won exchange of a head, after which its caller goes on with this errand
 pub record Exchanges (g : Geometry) (s : State) (l : Lists) (caller : ℕ) (seat : SeatFields) (pile : Pile) (new : HeadFields) (e : ErrandFields)
     (l' : Lists) : Type 0 where
   pub event : event_of caller (s.errand caller).point (found_from s (s.errand caller).point) ≡ None
@@ -341,7 +339,7 @@ pub record Exchanges (g : Geometry) (s : State) (l : Lists) (caller : ℕ) (seat
       → (head_of (words' (name.ListHead class))).tag + errand_pops e + turn_unlisted e + (s.errand caller).turns
       ≤ (head_of (s.word (name.ListHead class))).tag + errand_pops (s.errand caller) + turn_unlisted (s.errand caller) + e.turns
 
--- what such a step changes
+-- what a won exchange of a head, after which its caller goes on so, changes
 exchanges-restacks :
     (g : Geometry) (s : State) (l : Lists) (caller : ℕ) (s' : State) (seat : SeatFields) (pile : Pile) (new : HeadFields) (e : ErrandFields)
     (l' : Lists) → IsSoundWith g s l → caller < g.callers → Exchanges g s l caller seat pile new e l' → Step s caller s'
@@ -397,7 +395,7 @@ exchanges-restacks g s l caller s' seat pile new e l' old has h step =
       list_turns = λ class. h.list_turns class s'.word writes;
     }
 
--- it keeps the state sound, with other lists
+-- a step that exchanges a head keeps the state sound, with other lists
 pub exchanges-sound :
     (g : Geometry) (s : State) (caller : ℕ) (s' : State) (seat : SeatFields) (pile : Pile) (new : HeadFields) → IsSoundWithoutCounts g s
     → caller < g.callers
@@ -408,16 +406,9 @@ exchanges-sound g s caller s' seat pile new sound has h step =
     let old = sound.parts.1 in
     let found = h l old in
     let past : s'.history ≡ s.history = step.history ∙ ap (with_event s.history) found.2.event in
-    record {
-      checked = sound.checked;
-      legal = subst (IsLegalWithoutCounts g) (sym past) sound.legal;
-      parts = (
-        found.0,
-        restacked-sound (exchanges-restacks g s l caller s' seat pile new found.1 found.0 old has found.2 step) old,
-      );
-    }
+    silent-sound g s s' found.0 sound past (restacked-sound (exchanges-restacks g s l caller s' seat pile new found.1 found.0 old has found.2 step) old)
 
--- who may go on, and scans nothing, may stand there
+-- a caller that may go on, and scans nothing, may stand where it goes on
 may-stand :
     (g : Geometry) (s : State) (l : Lists) (caller : ℕ) (a b : ErrandFields) → MayGoOn g s l caller a b → PointGoes g s l caller a.point b.point
     → b.cleared ≡ a.cleared → MayStand g s l caller a b
@@ -441,7 +432,7 @@ may-stand g s l caller a b m goes cleared = record {
   cleared = cleared;
 }
 
--- a step from a point to a point is such an exchange
+-- a step from a point to a point that shifts a stack's head is an exchange of that head
 shifts-exchanges :
     (g : Geometry) (s : State) (l : Lists) (caller : ℕ) (q : Point) (seat : SeatFields) (pile : Pile) (new : HeadFields)
     (l' : Lists) → IsSoundWith g s l → caller < g.callers → ShiftsHead g s l caller (s.errand caller).point q seat pile new l'
@@ -476,7 +467,7 @@ shifts-exchanges g s l caller q seat pile new l' old has h =
           omega (arith, list-spends s seat pile (s.errand caller).point q new words' class h.list.fits writes h.spends h.goes.turn.pops);
     }
 
--- it keeps the state sound, with other lists
+-- a step from p to q that shifts a stack's head keeps the state sound, with other lists
 pub shifts-sound :
     (g : Geometry) (s : State) (caller : ℕ) (s' : State) (p q : Point) (seat : SeatFields) (pile : Pile) (new : HeadFields) → IsSoundWithoutCounts g s
     → caller < g.callers → (s.errand caller).point ≡ p

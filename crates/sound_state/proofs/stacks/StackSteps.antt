@@ -1,34 +1,32 @@
 -- The steps of a won pop from a stack and of a won push onto one.
-use Rattle.std.proofs.Common.{ℕ, Bool, true, false, ◌≡◌, ◌≢◌, ◌<◌, ◌≤◌, ◌+◌, ◌-◌, ◌^◌, List, [], ◌∷◌, refl, arith, ap, sym, subst, inl, inr, ◌∙◌, ◌==◌, ◌⊎◌, All, IsTrue}
-use Rattle.std.proofs.lemmas.Bool.{cases_eq, cond-true, cond-false, eq-eqb, ne_eqb}
-use Rattle.std.proofs.lemmas.List.Elements.{All-nil, All-cons, All-head, All-tail}
-use Rattle.std.proofs.Math.Nat.{mod-eq_of_lt}
+use Rattle.std.proofs.Common.{ℕ, Bool, true, false, ◌≡◌, ◌≢◌, ◌<◌, ◌≤◌, ◌+◌, ◌-◌, ◌^◌, List, [], ◌∷◌, refl, arith, ap, sym, subst, inl, inr, ◌∙◌, ◌==◌, ◌⊎◌, All}
+use Rattle.std.proofs.Common.{IsTrue, eq-eqb, ne_eqb, mod-eq_of_lt}
+use Rattle.std.proofs.lemmas.Bool.{cases_eq, cond-true, cond-false}
+use Rattle.std.proofs.lemmas.List.Elements.{All-nil, All-cons, All-head, All-tail, All-from_recursion}
 use Rattle.std.proofs.Math.Path.{fun_ext}
-use Rattle.sound_state.proofs.Common.{Geometry, CLASSES, IsChecked, HeadFields, head_of, WordName, descriptor_count, SeatFields, Writes, occurs, Pile, Frames}
-use Rattle.sound_state.proofs.Common.{Partials, head_name, next_name, Stacked, next_in, At, Continuation, Point, Idle, Block, Stack, Desc, Partial, event_of}
-use Rattle.sound_state.proofs.Common.{next_of, plan_point_of, State, Step, Holding, Kept, holds_of, partly_used, IsKeptAs, IsPartlyUsed, Lists, IsListed, IsSo}
-use Rattle.sound_state.proofs.Common.{recalls_of, says, IsSoundWithoutCounts, IsSoundWith, waits_in}
+use Rattle.sound_state.proofs.Common.{Geometry, CLASSES, IsChecked, HeadFields, head_of, WordName, descriptor_count, SeatFields, Writes, occurs, Pile, Frames, Partials}
+use Rattle.sound_state.proofs.Common.{head_name, next_name, Stacked, next_in, At, Continuation, Point, Idle, Block, Stack, Desc, Partial, event_of, next_of}
+use Rattle.sound_state.proofs.Common.{plan_point_of, State, Step, Holding, Kept, holds_of, partly_used, IsKeptAs, IsPartlyUsed, Lists, IsListed, IsSo, recalls_of}
+use Rattle.sound_state.proofs.Common.{IsSoundWithoutCounts, IsSoundWith, waits_in, IsHead, head_word, head_of-head_word, descriptor_count_within, pile_limit, put_away}
+use Rattle.sound_state.proofs.Common.{pushes, list_of, continuation_recalls, made}
 use Rattle.packed_words.specs.declared.widths.TheConstants.{TOP_BITS, HEAD_TAG_BITS}
-use Rattle.packed_words.specs.Head.{IsHead, head_word}
-use Rattle.packed_words.proofs.HeadLemmas.{head_of-head_word}
 use Rattle.word_table.specs.declared.name.WordName.TheVariants as name
-use Rattle.word_table.proofs.CountLemmas.{descriptor_count_within}
 use Rattle.superblock_parts.specs.declared.point.BlockPoint.TheVariants as block
 use Rattle.stack_parts.specs.declared.point.StackPoint.TheVariants as stack
-use Rattle.stack_parts.specs.Piles.{pile_limit, popped_head, pushed_head}
+use Rattle.stack_parts.specs.Piles.{popped_head, pushed_head}
 use Rattle.hazard_parts.specs.declared.point.DescPoint.TheVariants as desc
 use Rattle.partial_parts.specs.declared.point.PartialPoint.TheVariants as partial
 use Rattle.errand_steps.specs.declared.continuation.Continuation.TheVariants as continuation
-use Rattle.errand_steps.specs.Nexts.{popped, put_away}
-use Rattle.errand_steps.specs.Continuations.{pops, pushes}
+use Rattle.errand_steps.specs.Nexts.{popped}
+use Rattle.errand_steps.specs.Continuations.{pops}
 use Rattle.errand_steps.specs.Points.{site_of}
-use Rattle.sound_state.specs.Recalls.{list_of, continuation_recalls, nexts, tops, tops_exist, made}
-use Rattle.sound_state.proofs.shared.PointLemmas.{HoldsAlike, alike-goes, fits-at, kept-at, so-at}
+use Rattle.sound_state.proofs.shared.PointLemmas.{HoldsAlike, alike-goes, fits-at, kept-at, recalled-at}
 use Rattle.sound_state.proofs.quiet.QuietStacks.{pop_top_lost-sound}
 use Rattle.sound_state.proofs.shared.StackedLemmas.{pile-stacked, pile-exists}
 use Rattle.sound_state.proofs.shared.WonEffects.{LeadsTo}
 use Rattle.sound_state.proofs.stacks.StackEffects.{IsNoHead}
-use Rattle.sound_state.proofs.stacks.StackShifts.{NewList, HoldsMore, OneMore, PaysForTag, with_list, more-popped, more-pushed, more-balanced, balance-back, shifts-sound, list_class, no-head-apart, list-elsewhere}
+use Rattle.sound_state.proofs.stacks.StackShifts.{NewList, HoldsMore, OneMore, PaysForTag, with_list, more-popped, more-pushed, more-balanced, balance-back}
+use Rattle.sound_state.proofs.stacks.StackShifts.{shifts-sound, list_class, no-head-apart, list-elsewhere}
 use Rattle.sound_state.proofs.shared.StepLemmas.{TurnGoes}
 use Rattle.sound_state.proofs.shared.TagLemmas.{frame-tag-below, list-tags-below}
 use Rattle.sound_state.proofs.shared.KeepsSound.{KeepsSound, KeepsSoundWhere}
@@ -58,7 +56,7 @@ partials-with P l seat xs class here others =
           subst (P class) (sym (cond-false {A = List ℕ} (class == seat.class) xs (l.partials class) (ne_eqb class seat.class differ))) (others differ)
     ]
 
--- the words with another head make the lists with another one
+-- the words with another head for a stack make the lists with another list for it
 listed-with :
     (g : Geometry) (s : State) (l : Lists) (seat : SeatFields) (pile : Pile) (new : HeadFields) (xs : List ℕ) (words' : WordName → ℕ)
     → IsListed g s.word l → IsHead new → Writes s.word (head_name seat pile) (head_word new) words'
@@ -98,7 +96,7 @@ listed-with g s l seat Partials new xs words' listed fits w stacked exist =
           partials-with (λ c. All (λ d. d < descriptor_count g)) l seat xs class exist (λ differ. listed.partials_exist class has);
     }
 
--- the superblocks of all lists are partly used, where those of the new one are
+-- the superblocks of all lists are partly used, where those of the new list are
 partly-with :
     (s : State) (l : Lists) (seat : SeatFields) (pile : Pile) (xs : List ℕ)
     → ((class : ℕ) → class < CLASSES → All (λ d. IsPartlyUsed s d class) (l.partials class))
@@ -127,7 +125,7 @@ list-partly :
 list-partly g s l seat Frames old has is = absurd (cc)
 list-partly g s l seat Partials old has is = old.kept.listed seat.class has
 
--- so what is kept with one more of them in hand is in its state, and what is kept without it
+-- all that is kept is in its state
 abbrev pub AreKept : State → List Kept → Type 0
 AreKept s ks = All (λ k. IsKeptAs s k.status k.desc k.class) ks
 
@@ -154,7 +152,7 @@ in-hand s seat Partials x a b more kept is =
     All-head (λ k. IsKeptAs s k.status k.desc k.class) (record { desc = x; class = seat.class; status = partly_used }) a.kept
     (subst (AreKept s) more.0 kept)
 
--- where a won pop leads, and what the caller holds and remembers there
+-- the point to which a won pop leads, and what the caller holds and remembers there
 record PopLeads (seat : SeatFields) (pile : Pile) (h : HeadFields) (below : ℕ) (o : Continuation) (q : Point) : Type 0 where
   next : popped seat (h.top - 1) o ≡ At q
   holds : HoldsAlike (Stack (stack.PopTop seat pile h below) o) q
@@ -164,7 +162,7 @@ record PopLeads (seat : SeatFields) (pile : Pile) (h : HeadFields) (below : ℕ)
   recalls : (recalls_of q ≡ []) ⊎ ((frame : ℕ) × (class : ℕ) × (recalls_of q ≡ made frame class 0 ∷ []))
   spends : PaysForTag pile h.tag (h.tag + 1) (Stack (stack.PopTop seat pile h below) o) q
 
--- what is remembered after a pop is so: no link is stored yet
+-- what is remembered where a won pop leads is so: no link is stored yet
 pop-recalls :
     (g : Geometry) (s : State) (l : Lists) (caller : ℕ) (q : Point)
     → (recalls_of q ≡ []) ⊎ ((frame : ℕ) × (class : ℕ) × (recalls_of q ≡ made frame class 0 ∷ [])) → All (IsSo g s l caller) (recalls_of q)
@@ -173,7 +171,7 @@ pop-recalls g s l caller q (inr one) =
     subst (All (IsSo g s l caller)) (sym one.2)
     (All-cons (IsSo g s l caller) (made one.0 one.1 0) [] (λ i below. let bad : ⊥ = omega (arith, below) in absurd bad) (All-nil (IsSo g s l caller)))
 
--- a won pop that leads there
+-- a won pop from a stack that leads to q keeps the state sound
 pop-leads-sound :
     (g : Geometry) (s : State) (caller : ℕ) (s' : State) (seat : SeatFields) (pile : Pile) (h : HeadFields) (below : ℕ) (o : Continuation) (q : Point)
     → PopLeads seat pile h below o q → IsSoundWithoutCounts g s → caller < g.callers → (s.errand caller).point ≡ Stack (stack.PopTop seat pile h below) o
@@ -188,8 +186,7 @@ pop-leads-sound g s caller s' seat pile h below o q to sound has stands word ste
     let fit = fits-at g s l caller p old has stands in
     let class : seat.class < CLASSES = fit.point.0.seat.class in
     let before : head_of (s.word (head_name seat pile)) ≡ h = ap head_of word ∙ head_of-head_word h fit.point.0.head in
-    let so = so-at g s l caller p old has stands in
-    let next = All-head (IsSo g s l caller) (nexts seat pile h below) (tops seat pile h ∷ continuation_recalls seat o) so in
+    let (next, rest) = recalled-at g s l caller p old has stands in
     let below_is : s.word (next_name pile (h.top - 1)) ≡ below = next (sym (ap (λ x. x.tag) before)) in
     let stacked : Stacked (next_in s.word pile) h.top (list_of l seat pile) =
     subst (λ x. Stacked (next_in s.word pile) x.top (list_of l seat pile)) before (pile-stacked g s l seat pile old.listed class) in
@@ -237,7 +234,7 @@ pop-leads-sound g s caller s' seat pile h below o q to sound has stands word ste
       },
     )) step
 
--- a frame is popped for a new superblock; a partial superblock is taken, or cleared from its list
+-- the point to which a won pop leads: for a frame to a new superblock, for a partial superblock to its take or its look
 abbrev popped_to : SeatFields → HeadFields → Continuation → Point
 popped_to seat h (continuation.TakeFrame words d) =
     Block (block.LinkBlock (record { seat = seat; desc = d; frame = h.top - 1 }) 0) (continuation.Alloc words)
@@ -262,11 +259,11 @@ pop-leads seat Partials h below continuation.Clear is = grind (arith)
 pop-leads seat Partials h below (continuation.ClearSecond first) is = grind (arith)
 pop-leads seat pile h below o is = absurd (cc)
 
--- what holds is true
+-- a condition that holds is true
 pub holds-true : (b : Bool) → IsTrue b → b ≡ true
 holds-true b is = grind (arith, is)
 
--- a won pop from a stack
+-- a won pop from a stack keeps the state sound
 pub pop_top_won-sound :
     (seat : SeatFields) (pile : Pile) (h : HeadFields) (below : ℕ) (o : Continuation)
     → KeepsSoundWhere (Stack (stack.PopTop seat pile h below) o) (λ s. s.word (head_name seat pile) ≡ head_word h)
@@ -275,7 +272,7 @@ pop_top_won-sound seat pile h below o g s caller s' sound has stands word step =
     pop-leads-sound g s caller s' seat pile h below o (popped_to seat h o) (pop-leads seat pile h below o (holds-true (pops pile o) fit.goes))
     sound has stands word step
 
--- won or lost
+-- a pop from a stack, won or lost, keeps the state sound
 pub pop_top-sound :
     (seat : SeatFields) (pile : Pile) (h : HeadFields) (below : ℕ) (o : Continuation) → KeepsSound (Stack (stack.PopTop seat pile h below) o)
 pop_top-sound seat pile h below o g s caller s' sound has stands step =
@@ -284,7 +281,7 @@ pop_top-sound seat pile h below o g s caller s' sound has stands step =
       | inr lost ↦ pop_top_lost-sound seat pile h below o g s caller s' sound has stands lost step
     ]
 
--- where a won push leads, and what the caller holds and remembers there
+-- the point to which a won push leads, and what the caller holds and remembers there
 record PushLeads (seat : SeatFields) (pile : Pile) (i : ℕ) (h : HeadFields) (o : Continuation) (q : Point) : Type 0 where
   next : LeadsTo (put_away seat o) q
   holds : HoldsAlike (Stack (stack.PushTop seat pile i h) o) q
@@ -293,12 +290,12 @@ record PushLeads (seat : SeatFields) (pile : Pile) (i : ℕ) (h : HeadFields) (o
   waits : (class : ℕ) → waits_in class q ≡ 0
   recalls : recalls_of q ≡ continuation_recalls seat o
 
--- a tag that stays costs nothing
+-- a turn that is no further back pays for a tag that stays
 push-spends : (pile : Pile) (t : ℕ) (p q : Point) → TurnGoes p q → PaysForTag pile t t p q
 push-spends Frames t p q goes = omega (arith, goes.unframed)
 push-spends Partials t p q goes = omega (arith, goes.pops)
 
--- the head after a push
+-- the head after a push of an index
 abbrev pub head_pushed : ℕ → HeadFields → HeadFields
 head_pushed i h = record { top = i + 1; tag = h.tag }
 
@@ -326,8 +323,7 @@ pushes-on g s l caller seat pile i h o sound old has stands word =
     let fit = fits-at g s l caller p old has stands in
     let class : seat.class < CLASSES = fit.point.0.seat.class in
     let before : head_of (s.word (head_name seat pile)) ≡ h = ap head_of word ∙ head_of-head_word h fit.point.1 in
-    let so = so-at g s l caller p old has stands in
-    let said = All-head (IsSo g s l caller) (says (next_name pile i) h.top) (tops_exist seat pile h ∷ continuation_recalls seat o) so in
+    let (said, (exists, rest)) = recalled-at g s l caller p old has stands in
     let xs : List ℕ = list_of l seat pile in
     let stacked : Stacked (next_in s.word pile) h.top xs =
     subst (λ x. Stacked (next_in s.word pile) x.top xs) before (pile-stacked g s l seat pile old.listed class) in
@@ -353,12 +349,10 @@ pushes-on g s l caller seat pile i h o sound old has stands word =
         still = λ same j. omega (arith, ap (occurs j) (more-pushed l seat pile i).here);
         others = list-elsewhere l seat pile (i ∷ xs);
       };
-      so =
-          All-tail (IsSo g s l caller) (tops_exist seat pile h) (continuation_recalls seat o)
-          (All-tail (IsSo g s l caller) (says (next_name pile i) h.top) (tops_exist seat pile h ∷ continuation_recalls seat o) so);
+      so = All-from_recursion (IsSo g s l caller) (continuation_recalls seat o) rest;
     }
 
--- a won push that leads there
+-- a won push onto a stack that leads to q keeps the state sound
 push-leads-sound :
     (g : Geometry) (s : State) (caller : ℕ) (s' : State) (seat : SeatFields) (pile : Pile) (i : ℕ) (h : HeadFields) (o : Continuation) (q : Point)
     → PushLeads seat pile i h o q → IsSoundWithoutCounts g s → caller < g.callers → (s.errand caller).point ≡ Stack (stack.PushTop seat pile i h) o
@@ -390,7 +384,7 @@ push-leads-sound g s caller s' seat pile i h o q to sound has stands word step =
       },
     )) step
 
--- the block is handed out; the hazard word is cleared; the first of two goes back, too; the superblock is looked for in its slot; or the call ends
+-- the point to which a won push leads: by what waits behind, a block, a hazard word, the first of two, a slot or the end
 abbrev pushed_to : SeatFields → Continuation → Point
 pushed_to seat (continuation.GiveBlock words d frame k) = Block (block.StorePrefix (site_of seat d frame) k) (continuation.Alloc words)
 pushed_to seat (continuation.Finish true) = Desc (desc.ClearHazard seat) continuation.EndFree
@@ -398,7 +392,7 @@ pushed_to seat (continuation.PushFirst first) = Stack (stack.LoadTopToPush seat 
 pushed_to seat (continuation.Remove d heap) = Partial (partial.LoadHeldSlot seat d heap) continuation.Free
 pushed_to seat o = Idle
 
--- the continuations of a push after which nothing is retired
+-- whether nothing is retired after a push with this continuation
 abbrev pub keeps_list : Continuation → Bool
 keeps_list (continuation.Discard words d) = false
 keeps_list (continuation.Retire d) = false
@@ -416,7 +410,7 @@ push-leads seat Partials i h (continuation.PushFirst first) is goes = grind (ari
 push-leads seat Frames i h (continuation.Remove d heap) is goes = grind (arith)
 push-leads seat pile i h o is goes = absurd (cc)
 
--- a won push onto a stack, after which nothing is retired
+-- a won push onto a stack, after which nothing is retired, keeps the state sound
 pub push_going_on-sound :
     (g : Geometry) (s : State) (caller : ℕ) (s' : State) (seat : SeatFields) (pile : Pile) (i : ℕ) (h : HeadFields) (o : Continuation)
     → IsSoundWithoutCounts g s → caller < g.callers → (s.errand caller).point ≡ Stack (stack.PushTop seat pile i h) o → keeps_list o ≡ true

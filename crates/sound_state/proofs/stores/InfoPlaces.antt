@@ -1,26 +1,26 @@
 -- Who alone may store what a descriptor says: the caller that keeps it, partly used or on its way.
 use Rattle.std.proofs.Common.{ℕ, Some, ◌≡◌, ◌≢◌, ◌<◌, ◌≤◌, ◌+◌, ◌^◌, List, [], ◌∷◌, arith, ap, sym, subst, inl, inr, ◌∙◌, ◌==◌, ◌&&◌, if◌then◌else◌, IsTrue, IsSome}
+use Rattle.std.proofs.Common.{eq-eqb}
 use Rattle.std.specs.List.{AllByRecursion}
-use Rattle.std.proofs.lemmas.Bool.{cases_eq, cond-true, eq-eqb}
+use Rattle.std.proofs.lemmas.Bool.{cases_eq, cond-true}
 use Rattle.std.proofs.lemmas.List.Elements.{All-from_recursion}
 use Rattle.sound_state.proofs.Common.{Geometry, Held, active_of, WordName, Site, descriptor_count, info_in, Writes, occurs, Continuation, State, Kept, Status}
 use Rattle.sound_state.proofs.Common.{reserving, waiting, partly_used, on_its_way, holds_of, word_keeps, full_keeps, Lists, IsSoundWith, anchor_for, is_bound}
-use Rattle.sound_state.proofs.Common.{kept_among}
+use Rattle.sound_state.proofs.Common.{kept_among, active_keeps, same_status}
 use Rattle.word_table.specs.declared.name.WordName.TheVariants as name
 use Rattle.superblock_parts.specs.declared.point.BlockPoint.TheVariants as block
 use Rattle.errand_steps.specs.declared.point.Point.TheVariants as point
-use Rattle.sound_state.specs.Keepers.{active_keeps}
-use Rattle.sound_state.specs.Superblocks.{same_status}
 use Rattle.sound_state.proofs.shared.ListFacts.{all-occurring}
 use Rattle.sound_state.proofs.shared.UnplacedLemmas.{IsUnplaced}
 use Rattle.sound_state.proofs.stores.StoreFields.{IsPlaceKept, IsKeptStill, PlacesKept, LoneKept}
-use Rattle.sound_state.proofs.stores.StoreReads.{links-stay, blocks-kept, place-same, all-places-kept, IsPlaceUnread, link-unread, block-unread, place-unread, lone-kept}
+use Rattle.sound_state.proofs.stores.StoreReads.{links-stay, blocks-kept, place-same, all-places-kept, IsPlaceUnread, link-unread, block-unread, place-unread}
+use Rattle.sound_state.proofs.stores.StoreReads.{lone-kept}
 
 abbrev pub info_number : WordName → ℕ
 info_number (name.Info d) = d
 info_number n = 0
 
--- the other descriptors say what they said
+-- the other descriptors say what they said after a write of one info word
 pub infos-elsewhere :
     (s : State) (d new : ℕ) (words' : WordName → ℕ) → Writes s.word (name.Info d) new words' → (e : ℕ) → e ≢ d
     → words' (name.Info e) ≡ s.word (name.Info e)
@@ -30,7 +30,7 @@ pub places-elsewhere :
     (s : State) (d new : ℕ) (words' : WordName → ℕ) → Writes s.word (name.Info d) new words' → (e : ℕ) → e ≢ d → IsPlaceKept s words' e
 places-elsewhere s d new words' w e differ = place-same s words' e (infos-elsewhere s d new words' w e differ)
 
--- each descriptor says where a superblock may lie
+-- each descriptor says where a superblock may lie after a write of such an info word
 infos-some :
     (g : Geometry) (s : State) (l : Lists) (d new : ℕ) (words' : WordName → ℕ) → IsSoundWith g s l → IsSome (info_in g new)
     → Writes s.word (name.Info d) new words' → (e : ℕ) → e < descriptor_count g → IsSome (info_in g (words' (name.Info e)))
@@ -40,7 +40,7 @@ infos-some g s l d new words' old some w e has =
       | inr differ ↦ subst (λ v. IsSome (info_in g v)) (sym (infos-elsewhere s d new words' w e differ)) (old.chained.infos e has)
     ]
 
--- a store of what a descriptor says keeps what is read, where what is read of the descriptor is kept
+-- a store into an info word keeps what is read of words that are stored alone, where what is read of the descriptor is kept
 infos-kept :
     (g : Geometry) (s : State) (l : Lists) (d new : ℕ) (words' : WordName → ℕ) → IsSoundWith g s l → new < 2 ^ 64
     → Writes s.word (name.Info d) new words' → PlacesKept g s l words'
@@ -55,7 +55,7 @@ infos-kept g s l d new words' old below w places unread =
       place = unread i has;
     })
 
--- so a caller that keeps it has it on its way
+-- kept descriptors are kept still where all others' frames and classes stay, and d is kept only on its way
 abbrev kept_once : Status → ℕ → ℕ → Status → ℕ
 kept_once as_kept d e status = if (e == d) && same_status status as_kept then 1 else 0
 
@@ -76,7 +76,7 @@ still-kept s w d (k ∷ ks) other r v p = (
   still-kept s w d ks other (omega (arith, r)) (omega (arith, v)) (omega (arith, p)),
 )
 
--- a store that leaves the frame and the class
+-- a store that leaves the frame and the class of a descriptor keeps what is read of words that are stored alone
 pub placed-kept :
     (g : Geometry) (s : State) (l : Lists) (d new : ℕ) (words' : WordName → ℕ) → IsSoundWith g s l → new < 2 ^ 64
     → IsSome (info_in g new) → Writes s.word (name.Info d) new words' → IsPlaceKept s words' d
@@ -96,7 +96,7 @@ placed-kept g s l d new words' old below some w here apart =
 pub holds-it : (d e credits : ℕ) → e ≡ d → 1 ≤ active_keeps d (Some (Held e credits))
 holds-it d e credits is = omega (arith, cond-true {A = ℕ} (e == d) 1 0 (eq-eqb e d is))
 
--- a store of what such a descriptor says
+-- a store of what a descriptor in no place says keeps what is read of the words that are stored alone
 pub unplaced-kept :
     (g : Geometry) (s : State) (l : Lists) (d new : ℕ) (words' : WordName → ℕ) → IsSoundWith g s l → new < 2 ^ 64
     → IsSome (info_in g new) → Writes s.word (name.Info d) new words' → IsUnplaced g s l d

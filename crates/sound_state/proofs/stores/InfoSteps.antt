@@ -1,25 +1,19 @@
 -- Steps that store what a descriptor says.
-use Rattle.std.proofs.Common.{ℕ, true, Some, ◌≡◌, ◌≢◌, ◌<◌, ◌≤◌, [], ◌∷◌, refl, arith, ap, sym, subst, ◌∙◌, IsSome, nat_lt}
-use Rattle.std.proofs.lemmas.Bool.{lt-ltb}
-use Rattle.std.proofs.lemmas.List.Elements.{All-cons, All-head}
-use Rattle.sound_state.proofs.Common.{Geometry, IsChecked, block_count_of, info_of, WordName, Site, descriptor_count, info_in, IsSiteOf, Writes, Continuation, Point}
-use Rattle.sound_state.proofs.Common.{Block, Partial, event_of, next_of, plan_point_of, State, Step, partly_used, on_its_way, holds_of, errand_has, Lists, IsSo}
-use Rattle.sound_state.proofs.Common.{IsLocated, recalls_of, located, says, IsSoundWithoutCounts, IsSoundWith, info_or_zero, errand_keeps, kept_among}
-use Rattle.packed_words.specs.Info.{InfoFields, info_word}
-use Rattle.packed_words.proofs.InfoLemmas.{info-exact}
+use Rattle.std.proofs.Common.{ℕ, true, Some, ◌≡◌, ◌≢◌, ◌<◌, ◌≤◌, refl, arith, ap, sym, subst, ◌∙◌, IsSome, nat_lt, lt-ltb}
+use Rattle.std.proofs.lemmas.List.Elements.{All-cons}
+use Rattle.sound_state.proofs.Common.{Geometry, IsChecked, info_of, WordName, Site, descriptor_count, info_in, IsSiteOf, Writes, Continuation, Point, Block, Partial}
+use Rattle.sound_state.proofs.Common.{event_of, next_of, plan_point_of, State, partly_used, on_its_way, holds_of, errand_has, Lists, IsSo, recalls_of, IsSoundWith}
+use Rattle.sound_state.proofs.Common.{info_or_zero, errand_keeps, kept_among, InfoFields, info_word, info-exact, info_within, info_at}
 use Rattle.word_table.specs.declared.name.WordName.TheVariants as name
-use Rattle.word_table.specs.Seats.{info_within}
-use Rattle.word_table.specs.Sites.{info_at}
 use Rattle.superblock_parts.specs.declared.point.BlockPoint.TheVariants as block
 use Rattle.partial_parts.specs.declared.point.PartialPoint.TheVariants as partial
-use Rattle.sound_state.specs.Recalls.{made}
 use Rattle.sound_state.proofs.shared.UnplacedLemmas.{way-unplaced, IsUnplaced}
 use Rattle.sound_state.proofs.shared.WordFacts.{site-heap, site-info}
 use Rattle.sound_state.proofs.stores.StoreFields.{between, IsPlaceKept}
 use Rattle.sound_state.proofs.stores.StoreReads.{IsPlaceUnread}
 use Rattle.sound_state.proofs.stores.StoreSteps.{store-sound}
 use Rattle.sound_state.proofs.stores.InfoPlaces.{info_number, places-elsewhere, placed-kept, unplaced-kept}
-use Rattle.sound_state.proofs.shared.PointLemmas.{fits-at, so-at}
+use Rattle.sound_state.proofs.shared.PointLemmas.{fits-at, so-at, recalled-at}
 use Rattle.sound_state.proofs.quiet.QuietLinks.{written-at}
 use Rattle.sound_state.proofs.shared.HasLemmas.{kept-itself, keeps-at, has-at, only-one}
 use Rattle.sound_state.proofs.shared.KeepsSound.{KeepsSound}
@@ -47,7 +41,7 @@ anchor-apart g s l caller d i at o old has has_i exists mine elsewhere stands sa
     (has-at (s.errand i) (Block (block.StoreAnchor at) o) on_its_way at.desc stands (kept-itself on_its_way at.desc at.seat.class)) in
     elsewhere (subst (λ k. (s.errand k).point ≡ Block (block.StoreAnchor at) o) (only-one g s l caller i d old has has_i exists mine his) stands)
 
--- the processor heap of a partial superblock that was taken
+-- the store of a taken superblock's processor heap keeps the state sound
 pub store_owner-sound : (site : Site) (o : Continuation) → KeepsSound (Partial (partial.StoreOwner site) o)
 unfolding plan_point_of next_of event_of holds_of recalls_of
 store_owner-sound site o g s caller s' sound has at step =
@@ -66,8 +60,7 @@ store_owner-sound site o g s caller s' sound has at step =
       lone = tt;
       holds = grind (arith);
       kept = λ l old.
-          let lies : IsLocated s d site.frame site.seat.class =
-          All-head (IsSo g s l caller) (located d site.frame site.seat.class) [] (so-at g s l caller p old has at) in
+          let (lies, none) = recalled-at g s l caller p old has at in
           placed-kept g s l d new s'.word old (info-exact.fits (info_at site) is_info) (site-some g caller site sound.checked fit) w
           (ap (λ i. (info_or_zero i).frame) back ∙ sym lies.frame, ap (λ i. (info_or_zero i).class) back ∙ sym lies.class)
           (λ i has_i other o'.
@@ -77,7 +70,7 @@ store_owner-sound site o g s caller s' sound has at step =
     })
     step
 
--- who holds a partial superblock at hand keeps it, so it isn't such a one
+-- a caller that has a partial superblock at hand keeps it, so a descriptor that is in no place isn't its own
 unkept-place :
     (g : Geometry) (s : State) (l : Lists) (i d new : ℕ) (at : Site) (words' : WordName → ℕ) (p : Point) → i < g.callers
     → (s.errand i).point ≡ p → 1 ≤ kept_among partly_used at.desc (holds_of p).kept → Writes s.word (name.Info d) new words'
@@ -104,7 +97,7 @@ unplaced-unread g s l i d new words' (Partial (partial.Grant at x) o) has stands
     unkept-place g s l i d new at words' (Partial (partial.Grant at x) o) has stands (kept-itself partly_used at.desc at.seat.class) w free
 unplaced-unread g s l i d new words' p has stands w free anchor = tt
 
--- what the descriptor of a new superblock says
+-- the store of what the descriptor of a new superblock says keeps the state sound
 pub store_info-sound : (site : Site) (o : Continuation) → KeepsSound (Block (block.StoreInfo site) o)
 unfolding plan_point_of next_of event_of holds_of recalls_of
 store_info-sound site o g s caller s' sound has at step =
@@ -131,7 +124,7 @@ store_info-sound site o g s caller s' sound has at step =
           anchor-apart g s l caller d i other o' old has has_i fit.desc (omega (arith, way))
           (λ stands. let both : p ≡ Block (block.StoreAnchor other) o' = sym at ∙ stands in cc)));
       so = λ l old.
-          All-cons (IsSo g (between s s'.word) l caller) (says (name.Info d) new) (made site.frame site.seat.class (block_count_of site.seat.class) ∷ [])
+          All-cons (IsSo g (between s s'.word) l caller) _ (recalls_of p)
           (tt, w.here) (so-at g (between s s'.word) l caller p old has at);
     })
     step

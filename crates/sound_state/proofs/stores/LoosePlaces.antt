@@ -4,18 +4,14 @@ use Rattle.std.proofs.lemmas.Bool.{cases_eq}
 use Rattle.std.proofs.lemmas.Option.{none-some}
 use Rattle.sound_state.proofs.Common.{Geometry, Need, Small, block_count_of, block_place, frame_of, frame_of-block_place, WordName, Site, descriptor_count, Writes}
 use Rattle.sound_state.proofs.Common.{occurs, prefix_name, block_at, pool_of, place-found, Point, FitsPoint, State, holds_of, Lists, IsOwned, IsSoundWith}
-use Rattle.sound_state.proofs.Common.{IsSoundWithoutCounts, info_for, is_bound, superblock_of, free_chain, IsLive}
-use Rattle.heap_geometry.specs.declared.need.Need.TheVariants.{Large, TooLarge}
-use Rattle.heap_geometry.specs.Need.{usable_words}
-use Rattle.heap_geometry.proofs.PlaceLemmas.{block-within}
+use Rattle.sound_state.proofs.Common.{IsSoundWithoutCounts, info_for, is_bound, superblock_of, free_chain, IsLive, TooLarge, usable_words, block-within, IsPlaceFor}
+use Rattle.sound_state.proofs.Common.{IsWellFormed, large-frame, class_span, making, IsExcepted}
+use Rattle.heap_geometry.specs.declared.need.Need.TheVariants.{Large}
 use Rattle.word_table.specs.declared.name.WordName.TheVariants as name
 use Rattle.superblock_parts.specs.declared.point.BlockPoint.TheVariants as block
 use Rattle.pool_model.specs.Pool.{Block}
-use Rattle.pool_model.specs.WellFormed.{IsPlaceFor, IsWellFormed}
-use Rattle.pool_model.proofs.WellFormedLemmas.{small-frame, large-frame, class_span}
+use Rattle.pool_model.proofs.WellFormedLemmas.{small-frame}
 use Rattle.errand_steps.specs.declared.point.Point.TheVariants as point
-use Rattle.sound_state.specs.Holdings.{making}
-use Rattle.sound_state.specs.Ties.{IsExcepted}
 use Rattle.sound_state.proofs.shared.ListFacts.{written-within}
 use Rattle.sound_state.proofs.shared.MakingPlaces.{IsMaking, is-making, making-unbound, making-alone, live-unmade, small-unmade}
 use Rattle.sound_state.proofs.shared.OverlapLemmas.{live-apart, free-unlive, formed-at}
@@ -62,7 +58,7 @@ arena-kept g s l p new words' old loose below w =
       place = place-unread s words' n (s.errand i).point (place-stays s n new words' w (λ no. no)) (λ at o stands is. cc);
     })
 
--- no payload has a place at which a block is live
+-- no written word of a block lies at a place at which a block is live
 unwritten-live :
     (g : Geometry) (s : State) (p place i v : ℕ) (b c : Block) → IsSoundWithoutCounts g s → IsLive s p b → IsLive s place c
     → slice_index_or c.contents i None ≡ Some v → place + 1 + i ≢ p
@@ -77,7 +73,7 @@ unwritten-live g s p place i v b c sound live at of same =
       | inr after ↦ omega (arith, after, here, there, same)
     ]
 
--- nor does a payload lie there
+-- a written word of a live block that lies in a frame lies in the block's own frame
 written-frame :
     (g : Geometry) (s : State) (place i v : ℕ) (b : Block) (n : Need) → IsSoundWithoutCounts g s → IsLive s place b → b.need ≡ n
     → slice_index_or b.contents i None ≡ Some v → frame_of (place + 1 + i) < g.frames → frame_of place ≡ frame_of (place + 1 + i)
@@ -96,12 +92,12 @@ written-frame g s place i v b (Large units) sound live of stands below =
 written-frame g s place i v b TooLarge sound live of stands below =
     absurd (subst (λ n. IsPlaceFor g n b.place) of (formed-at g s place b sound live).place)
 
--- what a caller does with the frame of a place, and with a block there: it makes no superblock, and owns no block
+-- a caller makes no superblock in the frame of the place, and owns no block there
 pub record IsElsewhere (s : State) (i p : ℕ) : Type 0 where
   pub owns : (n : Need) → IsOwned s i p n → ⊥
   pub makes : (f : ℕ) → IsMaking s i f → frame_of p ≢ f
 
--- so it remembers nothing of the place
+-- a caller that makes no superblock in the frame of a place, and owns no block there, remembers nothing of the place
 unmade-unread :
     (g : Geometry) (s : State) (i p : ℕ) (q : Point) (at : Site) (k : ℕ) → (s.errand i).point ≡ q → holds_of q ≡ making at
     → IsElsewhere s i p → k < block_count_of at.seat.class → prefix_name at.frame at.seat.class k ≢ name.Arena p
@@ -154,7 +150,7 @@ live-loose g s l caller p class sound old has owned excepted off = record {
       ];
 }
 
--- so may the maker of a superblock store the link of one of its blocks
+-- the maker of a superblock may store the link of one of its blocks
 pub making-loose :
     (g : Geometry) (s : State) (l : Lists) (caller f class i : ℕ) → IsSoundWithoutCounts g s → IsSoundWith g s l → caller < g.callers
     → f < g.frames → i < block_count_of class → IsMaking s caller f → IsBlockUnread (name.Arena (block_place f class i)) (s.errand caller).point

@@ -1,35 +1,31 @@
 -- Steps that store the prefix word or the link of a block.
-use Rattle.std.proofs.Common.{ℕ, Bool, true, false, Option, Some, None, ◌≡◌, ◌<◌, ◌≤◌, ◌+◌, ◌^◌, ◌*◌, [], ◌∷◌, refl, arith, ap, sym, subst, inl, inr, ◌∙◌}
-use Rattle.std.specs.Prelude.{All, Any, IsTrue, nat_lt, if◌then◌else◌}
-use Rattle.std.proofs.lemmas.Bool.{cases_eq, cases_Bool, ltb-false}
+use Rattle.std.proofs.Common.{ℕ, Bool, true, false, Option, Some, None, ◌≡◌, ◌<◌, ◌≤◌, ◌+◌, ◌^◌, ◌*◌, [], ◌∷◌, refl, arith, ap, sym, subst, inl, inr, ◌∙◌, All, Any}
+use Rattle.std.proofs.Common.{IsTrue, nat_lt, if◌then◌else◌, ltb-false}
+use Rattle.std.proofs.lemmas.Bool.{cases_eq, cases_Bool}
 use Rattle.std.proofs.lemmas.List.Elements.{All-nil, All-cons, All-head}
 use Rattle.sound_state.proofs.Common.{Geometry, Need, block_count_of, block_place, frame_of, frame_of-block_place, AnchorFields, WordName, Found, Site}
-use Rattle.sound_state.proofs.Common.{descriptor_count, Writes, prefix_name, BlockPoint, IsLegalWithoutCounts, At, End, Continuation, Point, Idle, Block, Reply}
-use Rattle.sound_state.proofs.Common.{settle_of, raised, counts_cleared, counts_lost, event_of, next_of, plan_point_of, State, Step, Moves, name_at, word_at}
-use Rattle.sound_state.proofs.Common.{found_at, with_event, holds_of, Lists, IsSo, IsOwned, IsLocated, recalls_of, bound_here, bound_at, says, IsSoundWithoutCounts}
-use Rattle.sound_state.proofs.Common.{IsSoundWith, waits_in, is_bound, IsLive}
+use Rattle.sound_state.proofs.Common.{descriptor_count, Writes, prefix_name, BlockPoint, At, End, Continuation, Point, Idle, Block, Reply}
+use Rattle.sound_state.proofs.Common.{settle_of, raised, counts_cleared, counts_lost, event_of, next_of, plan_point_of, State, Step, Moves, name_at, word_at, found_at}
+use Rattle.sound_state.proofs.Common.{with_event, holds_of, Lists, IsSo, IsOwned, IsLocated, recalls_of, bound_here, IsSoundWithoutCounts, IsSoundWith, waits_in}
+use Rattle.sound_state.proofs.Common.{is_bound, IsLive, prefix_word, descriptor_count_within, block_count_of-most, Handed, Freed, block_holds, making, AreMade}
+use Rattle.sound_state.proofs.Common.{block_recalls, made}
 use Rattle.heap_geometry.specs.declared.need.Need.TheVariants as need
 use Rattle.packed_words.specs.declared.prefix.Prefix.TheVariants.{Small}
-use Rattle.packed_words.specs.Prefix.{prefix_word}
 use Rattle.word_table.specs.declared.name.WordName.TheVariants as name
-use Rattle.word_table.proofs.CountLemmas.{descriptor_count_within}
-use Rattle.word_table.proofs.SeatLemmas.{block_count_of-most}
 use Rattle.superblock_parts.specs.Anchors.{new_link}
 use Rattle.superblock_parts.specs.Points.{after_link}
 use Rattle.superblock_parts.proofs.ChainLemmas.{prefix_name-apart}
 use Rattle.superblock_parts.specs.declared.point.BlockPoint.TheVariants as block
 use Rattle.pool_model.specs.Pool.{Block as Live}
 use Rattle.errand_steps.specs.declared.reply.Reply.TheVariants as reply
-use Rattle.sound_state.specs.Holdings.{Handed, Freed, block_holds, making}
-use Rattle.sound_state.specs.Recalls.{AreMade, block_recalls, made}
 use Rattle.sound_state.proofs.shared.FrameLemmas.{one-in-frame}
 use Rattle.sound_state.proofs.shared.AlikeLemmas.{sound-alike}
 use Rattle.sound_state.proofs.shared.ListFacts.{any-none, any-one}
 use Rattle.sound_state.proofs.shared.MakingPlaces.{is-making}
-use Rattle.sound_state.proofs.shared.ShownLemmas.{IsSaidAt, MayGoOn}
+use Rattle.sound_state.proofs.shared.ShownLemmas.{MayGoOn}
 use Rattle.sound_state.proofs.stores.LoosePlaces.{arena-kept, IsLoose, live-loose, making-loose}
 use Rattle.sound_state.proofs.shared.NothingLemmas.{idle-nothing, nothing-guards, settled-own, nothing-may}
-use Rattle.sound_state.proofs.shared.PointLemmas.{exists-at, fits-at, so-at, frees-at, hands-at, hazard-at, WeighFrom, weigh-stays, from-weighs}
+use Rattle.sound_state.proofs.shared.PointLemmas.{exists-at, fits-at, so-at, frees-at, hands-at, hazard-at, WeighFrom, weigh-stays, from-weighs, recalled-at}
 use Rattle.sound_state.proofs.stores.StoreFields.{between, sound-between}
 use Rattle.sound_state.proofs.stores.StoreReads.{lone-written, IsBlockUnread}
 use Rattle.sound_state.proofs.stores.StoreSteps.{StoresTo, store-written, step-between, store-sound}
@@ -37,12 +33,13 @@ use Rattle.sound_state.proofs.quiet.QuietLemmas.{HoldsSame}
 use Rattle.sound_state.proofs.quiet.QuietLinks.{written-at}
 use Rattle.sound_state.proofs.shared.StepLemmas.{HoldsException, TurnGoes, at_point, settle-end, raised-least, found_from, actives-stay}
 use Rattle.sound_state.proofs.shared.WeighLemmas.{WeighAlike, weigh-alike, alike-most, WeighMost, weigh-emptied}
-use Rattle.sound_state.proofs.shared.KeepsSound.{KeepsSound}
+use Rattle.sound_state.proofs.shared.KeepsSound.{KeepsSound, silent-sound}
+use Rattle.sound_state.proofs.shared.TieLemmas.{IsSaidAt}
 
 the-one : {X : Type 0} (P : X → Type 0) (x : X) → P x → Any P (x ∷ [])
 the-one P x is = (0, x, omega arith, refl, is)
 
--- the link of a block that is freed
+-- the store of the link of a block that is freed keeps the state sound
 pub store_link-sound :
     (site : Site) (i : ℕ) (a : AnchorFields) (guarded : Bool) (heap : ℕ) (o : Continuation)
     → KeepsSound (Block (block.StoreLink site i a guarded heap) o)
@@ -71,12 +68,12 @@ store_link-sound site i a guarded heap o g s caller s' sound has stands step =
           (subst (IsBlockUnread (name.Arena place)) (sym stands) tt))
           below w;
       so = λ l old.
-          All-cons (IsSo g (between s s'.word) l caller) (says (prefix_name site.frame site.seat.class i) a.avail) (bound_here site) (tt, w.here)
+          All-cons (IsSo g (between s s'.word) l caller) _ (bound_here site) (tt, w.here)
           (so-at g (between s s'.word) l caller p old has stands);
     })
     step
 
--- the block at a place serves one need
+-- the need of the block at a place, where one is live there: it serves one need only
 abbrev need_there : Option Live → Need
 need_there None = need.TooLarge
 need_there (Some b) = b.need
@@ -86,7 +83,7 @@ same-need :
 same-need s caller place n m b owned live of =
     sym owned.block.3 ∙ ap need_there (sym owned.block.1 ∙ live) ∙ of
 
--- a small block's prefix word that says its descriptor
+-- a small block's prefix word is said that says its superblock's descriptor
 small-prefix-says :
     (g : Geometry) (s : State) (l : Lists) (caller : ℕ) (site : Site) (i : ℕ) → IsSoundWith g s l → site.frame < g.frames
     → site.desc < descriptor_count g → i < block_count_of site.seat.class → IsTrue (is_bound g s l site.desc)
@@ -121,7 +118,7 @@ pub record IsLastStore (g : Geometry) (s : State) (caller place new : ℕ) (p : 
   pub said :
       (l : Lists) → IsSoundWith g (between s s'.word) l → (q : ℕ) → HoldsException (holds_of p) q → IsSaidAt g (between s s'.word) l q
 
--- who is idle keeps nothing
+-- a caller whose call ends may go on idle
 idle-may :
     (g : Geometry) (s : State) (l : Lists) (caller : ℕ) (x : Found) → IsSoundWith g s l → caller < g.callers → x.value < 2 ^ 64
     → settle_of (s.errand caller) x ≡ at_point (s.errand caller) x Idle → counts_cleared (s.errand caller).point x ≡ false
@@ -149,7 +146,7 @@ idle-weighs :
 unfolding holds_of
 idle-weighs n w p credits kept frames waits = weigh-stays n w p Idle (sym credits) (sym kept) (sym frames) (λ class. sym (waits class))
 
--- it keeps the state sound
+-- the store of the last prefix word keeps the state sound
 last-sound :
     (g : Geometry) (s : State) (caller : ℕ) (s' : State) (place new : ℕ) (p : Point) (r : Reply) → IsSoundWithoutCounts g s → caller < g.callers
     → (s.errand caller).point ≡ p → IsLastStore g s caller place new p r s' → new < 2 ^ 64 → Step s caller s' → IsSoundWithoutCounts g s'
@@ -175,33 +172,27 @@ last-sound g s caller s' place new p r sound has stands given below step =
     (subst (λ v. WeighAlike n (t.word n) v (s.errand caller) e) (sym (same n))
     (from-weighs n (t.word n) (t.word n) (s.errand caller) x Idle
     (idle-weighs n (t.word n) (s.errand caller).point h.credits h.kept h.frames h.waits))) in
-    record {
-      checked = sound.checked;
-      legal = subst (IsLegalWithoutCounts g) (sym past) sound.legal;
-      parts = (
-        l,
-        sound-alike g t l caller e s'
-            (record {
-              in_heap = has;
-              moves = moves;
-              alike = weigh-alike g t l caller n (s'.word n) e s' (exists-at g s caller (s.errand caller).point sound has refl) has wrote moves past weigh;
-              may = idle-may g t l caller x whole has (whole.words n) after still h.turn (h.said l whole);
-              others = λ i differ. same (name.Hazard i);
-              guards = nothing-guards g t caller Idle (s.errand caller).retired (s'.word (name.Hazard caller)) idle-nothing (same (name.Hazard caller) ∙ h.hazard);
-              actives = actives-stay g t l s'.word whole.kept same;
-              words = λ m. subst (λ v. v < 2 ^ 64) (sym (same m)) (whole.words m);
-              emptied =
-                  omega (arith, weigh-emptied g t l caller n (s'.word n) e s' has wrote moves weigh, ap (λ b. raised b (s.errand caller).cleared) still);
-            })
-            whole,
-      );
-    }
+    silent-sound g s s' l sound past
+    (sound-alike g t l caller e s'
+    (record {
+      in_heap = has;
+      moves = moves;
+      alike = weigh-alike g t l caller n (s'.word n) e s' (exists-at g s caller (s.errand caller).point sound has refl) has wrote moves past weigh;
+      may = idle-may g t l caller x whole has (whole.words n) after still h.turn (h.said l whole);
+      others = λ i differ. same (name.Hazard i);
+      guards = nothing-guards g t caller Idle (s.errand caller).retired (s'.word (name.Hazard caller)) idle-nothing (same (name.Hazard caller) ∙ h.hazard);
+      actives = actives-stay g t l s'.word whole.kept same;
+      words = λ m. subst (λ v. v < 2 ^ 64) (sym (same m)) (whole.words m);
+      emptied =
+          omega (arith, weigh-emptied g t l caller n (s'.word n) e s' has wrote moves weigh, ap (λ b. raised b (s.errand caller).cleared) still);
+    })
+    whole)
 
 small-prefix : (d : ℕ) → prefix_word (Small d) ≡ 2 * d
 unfolding prefix_word
 small-prefix d = omega arith
 
--- the prefix word of a block that is handed out
+-- the store of the prefix word of a block that is handed out keeps the state sound
 pub store_prefix-sound : (site : Site) (i : ℕ) (o : Continuation) → KeepsSound (Block (block.StorePrefix site i) o)
 unfolding plan_point_of next_of event_of holds_of recalls_of
 store_prefix-sound site i o g s caller s' sound has stands step =
@@ -232,8 +223,7 @@ store_prefix-sound site i o g s caller s' sound has stands step =
           let t = between s s'.word in
           let owned : IsOwned t caller place (need.Small class) =
           All-head (λ x. IsOwned t caller x.place x.need) handed [] (hands-at g t l caller p old has stands) in
-          let here : IsSo g t l caller (bound_at site.desc site.frame class) =
-          All-head (IsSo g t l caller) (bound_at site.desc site.frame class) [] (so-at g t l caller p old has stands) in
+          let (here, none) = recalled-at g t l caller p old has stands in
           let said : IsSaidAt g t l place =
           small-prefix-says g t l caller site i old fit.site.frame fit.site.desc fit.index here.0 here.1 owned (w.here ∙ two) in
           elim x [
@@ -247,7 +237,7 @@ store_prefix-sound site i o g s caller s' sound has stands step =
 new_link-below : (class i : ℕ) → i < block_count_of class → new_link class i < 2 ^ 64
 new_link-below class i within = grind (arith, within, block_count_of-most class)
 
--- with one more link stored the links of more blocks are made
+-- the links of more blocks are made with one more link stored
 links-made-more :
     (s : State) (f c i n : ℕ) → AreMade s f c i → s.word (prefix_name f c i) ≡ new_link c i → n ≤ i + 1 → AreMade s f c n
 links-made-more s f c i n so_far one most k below =
@@ -256,7 +246,7 @@ links-made-more s f c i n so_far one most k below =
       | inr differ ↦ so_far k (omega (arith, below, most, differ))
     ]
 
--- the link of a block of a superblock in the making, and where it leads
+-- the store of the link of a block of a superblock in the making keeps the state sound, where it leads on so
 link_block-to :
     (g : Geometry) (s : State) (caller : ℕ) (s' : State) (site : Site) (i : ℕ) (o : Continuation) (q : BlockPoint) (n : ℕ) → IsSoundWithoutCounts g s
     → caller < g.callers → (s.errand caller).point ≡ Block (block.LinkBlock site i) o → Step s caller s'
@@ -285,7 +275,7 @@ link_block-to g s caller s' site i o q n sound has stands step leads holds recal
           (new_link-below c i fit.index) w;
       so = λ l old.
           let t = between s s'.word in
-          let so_far : AreMade t f c i = All-head (IsSo g t l caller) (made f c i) [] (so-at g t l caller p old has stands) in
+          let (so_far, none) = recalled-at g t l caller p old has stands in
           subst (All (IsSo g t l caller)) (sym recalls)
           (All-cons (IsSo g t l caller) (made f c n) [] (links-made-more t f c i n so_far w.here most) (All-nil (IsSo g t l caller)));
     })

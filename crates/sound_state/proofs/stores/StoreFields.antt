@@ -1,25 +1,20 @@
 -- A store into a link, a word of the arena or what a descriptor says keeps the state sound where what is read of that word stays.
-use Rattle.std.proofs.Common.{ℕ, Bool, true, false, Some, None, ◌≡◌, ◌<◌, ◌≤◌, ◌+◌, ◌^◌, ◌-◌, ◌*◌, refl, arith, ap, sym, subst, inl, inr, ◌∙◌}
-use Rattle.std.specs.Prelude.{◌⊎◌, ◌==◌, ◌&&◌, if◌then◌else◌, All, IsTrue, IsSome, slice_index_or}
-use Rattle.sound_state.proofs.Common.{Geometry, CLASSES, block_count_of, block_place, frame_of, Need, Held, active_of, AnchorFields, HeadFields, head_of, info_of}
-use Rattle.sound_state.proofs.Common.{link_of, WordName, descriptor_count, SeatFields, info_in, occurs, link_in, prefix_name, Pile, Frames, Partials, next_in}
-use Rattle.sound_state.proofs.Common.{head_name, next_name, State, IsFramed, fills_frame, IsGuarded, Status, reserving, waiting, partly_used, on_its_way, holds_of}
-use Rattle.sound_state.proofs.Common.{IsKept, IsPartlyUsed, IsKeptAs, word_keeps, errand_has, full_keeps, Lists, IsListed, Recall, IsLocated, IsSo, IsOwned}
-use Rattle.sound_state.proofs.Common.{recalls_of, located, pops, links, says, emptied, noted, IsSoundWith, word_stock, full_stock}
-use Rattle.sound_state.proofs.Common.{sum_below, words_sum, callers_sum, Superblock, AreChained, IsChained, info_or_zero, anchor_for, info_for, live_at}
-use Rattle.sound_state.proofs.Common.{superblock_of, free_chain, is_bound, waiting_of, word_reserves, errand_reserves, IsTied, IsLive, IsTurned}
+use Rattle.std.proofs.Common.{ℕ, Bool, true, false, Some, None, ◌≡◌, ◌<◌, ◌≤◌, ◌+◌, ◌^◌, ◌*◌, refl, arith, ap, sym, subst, inl, inr, ◌∙◌, ◌⊎◌, ◌==◌, ◌&&◌}
+use Rattle.std.proofs.Common.{if◌then◌else◌, All, IsTrue, IsSome, slice_index_or}
+use Rattle.sound_state.proofs.Common.{Geometry, CLASSES, block_count_of, block_place, frame_of, Need, Held, active_of, head_of, info_of, link_of, WordName}
+use Rattle.sound_state.proofs.Common.{descriptor_count, SeatFields, info_in, occurs, link_in, prefix_name, Pile, Frames, Partials, next_in, head_name, next_name, State}
+use Rattle.sound_state.proofs.Common.{IsFramed, fills_frame, IsGuarded, Status, reserving, waiting, partly_used, on_its_way, holds_of, IsKept, IsPartlyUsed, IsKeptAs}
+use Rattle.sound_state.proofs.Common.{word_keeps, errand_has, full_keeps, Lists, IsListed, IsLocated, IsOwned, IsSoundWith, word_stock, full_stock, sum_below}
+use Rattle.sound_state.proofs.Common.{words_sum, callers_sum, Superblock, AreChained, IsChained, info_or_zero, anchor_for, info_for, live_at, superblock_of, free_chain}
+use Rattle.sound_state.proofs.Common.{is_bound, waiting_of, word_reserves, errand_reserves, IsTied, IsLive, IsTurned, Guards, IsActive, list_of, IsStocked, IsExcepted}
 use Rattle.word_table.specs.declared.name.WordName.TheVariants as name
 use Rattle.superblock_parts.proofs.ChainLemmas.{chain_of-same}
 use Rattle.pool_model.specs.Pool.{Block}
-use Rattle.sound_state.specs.Guards.{Guards}
-use Rattle.sound_state.specs.Keepers.{IsActive}
-use Rattle.sound_state.specs.Recalls.{IsPopped, IsTopStill, tops, nexts, made}
-use Rattle.sound_state.specs.Stock.{IsStocked}
-use Rattle.sound_state.specs.Ties.{IsExcepted}
 use Rattle.sound_state.proofs.shared.HolderLemmas.{IsHolderWeight, keeps-holder, reserves-holder, stock-holder}
 use Rattle.sound_state.proofs.shared.StackedLemmas.{stacked-agrees}
 use Rattle.sound_state.proofs.shared.SumLemmas.{sum-same}
-use Rattle.sound_state.proofs.shared.RecallFrame.{Part, PartStays, part_of, so-stays, bindings, events, constant}
+use Rattle.sound_state.proofs.shared.BackedRecalls.{AllRead, fits-own, recalls-stay}
+use Rattle.sound_state.proofs.shared.RecallFrame.{ChainStays, Part, PartStays, bindings, places, chains, stacks, link_words, availables, events, single, constant}
 
 -- a word that a caller stores alone
 abbrev pub IsLone : WordName → Type 0
@@ -29,7 +24,7 @@ IsLone (name.FrameNext f) = Unit {0}
 IsLone (name.Info d) = Unit {0}
 IsLone n = ⊥
 
--- the second words, with what the first ones have of these
+-- the words, with what w has for those that a caller stores alone
 abbrev pub with_lone : (WordName → ℕ) → (WordName → ℕ) → WordName → ℕ
 with_lone new words (name.Arena place) = new (name.Arena place)
 with_lone new words (name.Next d) = new (name.Next d)
@@ -37,22 +32,22 @@ with_lone new words (name.FrameNext f) = new (name.FrameNext f)
 with_lone new words (name.Info d) = new (name.Info d)
 with_lone new words n = words n
 
--- the state in between: the words that are stored alone are these, and nothing else has changed
+-- the state in between: the words that a caller stores alone are those of w, and nothing else has changed
 abbrev pub between : State → (WordName → ℕ) → State
 between s w = record { word = with_lone w s.word; errand = s.errand; history = s.history }
 
--- the descriptor's word names the frame and the class that it named
+-- the descriptor's info word in w names the frame and the class that it named
 abbrev pub IsPlaceKept : State → (WordName → ℕ) → ℕ → Type 0
 IsPlaceKept s w d =
     ((info_or_zero (info_of (w (name.Info d)))).frame ≡ (info_for s d).frame)
     × ((info_or_zero (info_of (w (name.Info d)))).class ≡ (info_for s d).class)
 
--- what a caller keeps has its class still, but on its way it has none
+-- a kept descriptor has its frame and class still, unless it is on its way
 abbrev pub IsKeptStill : State → (WordName → ℕ) → Status → ℕ → Type 0
 IsKeptStill s w on_its_way d = Unit {0}
 IsKeptStill s w status d = IsPlaceKept s w d
 
--- the prefix word of a superblock's block is what it was
+-- the prefix word of a superblock's block in w is what it was
 abbrev pub IsPrefixKept : State → (WordName → ℕ) → ℕ → ℕ → Type 0
 IsPrefixKept s w d i =
     w (prefix_name (info_for s d).frame (info_for s d).class i) ≡ s.word (prefix_name (info_for s d).frame (info_for s d).class i)
@@ -60,26 +55,14 @@ IsPrefixKept s w d i =
 abbrev pub IsChainKept : Geometry → State → (WordName → ℕ) → ℕ → Type 0
 IsChainKept g s w d = (i : ℕ) → 0 < occurs i (free_chain (superblock_of g s d)) → IsPrefixKept s w d i
 
--- what is remembered of such a word is still so
-abbrev pub IsStillSaid : Geometry → State → Lists → (WordName → ℕ) → Recall → Type 0
-IsStillSaid g s l w (located d f c) = IsPlaceKept s w d
-IsStillSaid g s l w (pops d x) = IsPlaceKept s w d × IsChainKept g s w d
-IsStillSaid g s l w (links d x prefix) = IsPlaceKept s w d × (x.tag ≡ (anchor_for s d).tag → IsPrefixKept s w d x.avail)
-IsStillSaid g s l w (nexts seat pile h below) =
-    h.tag ≡ (head_of (s.word (head_name seat pile))).tag → w (next_name pile (h.top - 1)) ≡ s.word (next_name pile (h.top - 1))
-IsStillSaid g s l w (says n v) = with_lone w s.word n ≡ s.word n
-IsStillSaid g s l w (made f c blocks) = (i : ℕ) → i < blocks → w (prefix_name f c i) ≡ s.word (prefix_name f c i)
-IsStillSaid g s l w (noted d next) = 0 < occurs d l.available → w (name.Next d) ≡ s.word (name.Next d)
-IsStillSaid g s l w r = Unit {0}
+-- what is read of such a word is what it was: only these parts are read by callers that don't hold what is stored
+abbrev pub IsStillSaid : State → (WordName → ℕ) → Part → Type 0
+IsStillSaid s w (places d) = IsPlaceKept s w d
+IsStillSaid s w (link_words f c blocks) = (k : ℕ) → k < blocks → w (prefix_name f c k) ≡ s.word (prefix_name f c k)
+IsStillSaid s w (single n) = with_lone w s.word n ≡ s.word n
+IsStillSaid s w p = Unit {0}
 
--- what is bound and what was told don't change, and what is read of the words that are stored alone is said apart
-abbrev IsBetweenPart : Part → Type 0
-IsBetweenPart bindings = Unit {0}
-IsBetweenPart events = Unit {0}
-IsBetweenPart constant = Unit {0}
-IsBetweenPart p = ⊥
-
--- the links of what is listed are what they were, and the others are in range
+-- the links of what is listed are what they were, and all other links are in range
 pub record LinksKept (g : Geometry) (s : State) (l : Lists) (w : WordName → ℕ) : Type 0 where
   pub nexts : (d : ℕ) → d < descriptor_count g → w (name.Next d) ≤ descriptor_count g
   pub frame_nexts : (f : ℕ) → f < g.frames → w (name.FrameNext f) ≤ g.frames
@@ -87,7 +70,7 @@ pub record LinksKept (g : Geometry) (s : State) (l : Lists) (w : WordName → �
   pub available : (d : ℕ) → 0 < occurs d l.available → w (name.Next d) ≡ s.word (name.Next d)
   pub partials : (class : ℕ) → class < CLASSES → (d : ℕ) → 0 < occurs d (l.partials class) → w (name.Next d) ≡ s.word (name.Next d)
 
--- the descriptors that somebody reads name the frame and the class that they named
+-- descriptors that somebody reads name the frame and the class that they named
 pub record PlacesKept (g : Geometry) (s : State) (l : Lists) (w : WordName → ℕ) : Type 0 where
   pub infos : (d : ℕ) → d < descriptor_count g → IsSome (info_in g (w (name.Info d)))
   pub bound : (d : ℕ) → IsTrue (is_bound g s l d) → IsPlaceKept s w d
@@ -107,15 +90,15 @@ pub record BlocksKept (g : Geometry) (s : State) (l : Lists) (w : WordName → �
       (place i v : ℕ) (b : Block) → IsLive s place b → slice_index_or b.contents i None ≡ Some v
       → w (name.Arena (place + 1 + i)) ≡ s.word (name.Arena (place + 1 + i))
 
--- so what is read of the words that are stored alone stays
+-- what is read of the words that are stored alone stays
 pub record LoneKept (g : Geometry) (s : State) (l : Lists) (w : WordName → ℕ) : Type 0 where
   pub words : (n : WordName) → with_lone w s.word n < 2 ^ 64
   pub links : LinksKept g s l w
   pub places : PlacesKept g s l w
   pub blocks : BlocksKept g s l w
-  pub recalls : (caller : ℕ) → caller < g.callers → All (IsStillSaid g s l w) (recalls_of (s.errand caller).point)
+  pub recalls : (caller : ℕ) → caller < g.callers → AllRead (IsStillSaid s w) (s.errand caller).point
 
--- what only processor heaps' words weigh stays
+-- what only active words and slots weigh stays in the state in between
 lone-weighs :
     (weight : WordName → ℕ → ℕ) (w words : WordName → ℕ) → IsHolderWeight weight → (n : WordName)
     → weight n (with_lone w words n) ≡ weight n (words n)
@@ -131,7 +114,7 @@ lone-sum :
 unfolding words_sum
 lone-sum g weight w words h = sum-same _ _ _ (λ k lt. lone-weighs weight w words h _)
 
--- what is said of a descriptor's word or anchor, and of a block, is said where the frame and the class stay
+-- what is said of a descriptor or a block is said in between, where the frame and the class stay
 partly-between : (s : State) (w : WordName → ℕ) (d c : ℕ) → IsPlaceKept s w d → IsPartlyUsed s d c → IsPartlyUsed (between s w) d c
 partly-between s w d c same k = record { class = same.1 ∙ k.class; state = k.state }
 
@@ -180,7 +163,7 @@ superblock-between g s w d same =
     ∙ ap (λ f. with_place (words_sum g (word_reserves d) s.word) f now.class) same.0
     ∙ ap (λ c. with_place (words_sum g (word_reserves d) s.word) info.frame c) same.1
 
--- the chain is the same where its links are
+-- a superblock's chain is the same where the links of its free blocks are
 same-chain :
     (next : ℕ → ℕ) (b : Superblock) → ((i : ℕ) → 0 < occurs i (free_chain b) → next i ≡ b.next i)
     → free_chain (with_next next b) ≡ free_chain b
@@ -200,59 +183,58 @@ chained-next next b same h =
       some = h.some;
     }
 
-popped-next :
-    (next : ℕ → ℕ) (b : Superblock) (x : AnchorFields) → ((i : ℕ) → 0 < occurs i (free_chain b) → next i ≡ b.next i) → IsPopped b x
-    → IsPopped (with_next next b) x
-popped-next next b x same h =
-    let chain : free_chain (with_next next b) ≡ free_chain b = same-chain next b same in
-    record {
-      tag = h.tag;
-      first = λ is. subst (λ xs. 0 < occurs x.avail xs) (sym chain) (h.first is);
-    }
-
 kept-links :
     (g : Geometry) (s : State) (w : WordName → ℕ) (d : ℕ) → IsChainKept g s w d → (i : ℕ) → 0 < occurs i (free_chain (superblock_of g s d))
     → links_of s w d i ≡ (superblock_of g s d).next i
 kept-links g s w d kept i on = ap link_of (kept i on)
 
-top-between :
-    (s : State) (l : Lists) (w : WordName → ℕ) (seat : SeatFields) (pile : Pile) (h : HeadFields) → IsTopStill s l seat pile h
-    → IsTopStill (between s w) l seat pile h
-top-between s l w seat Frames h k = record { tag = k.tag; top = k.top }
-top-between s l w seat Partials h k = record { tag = k.tag; top = k.top }
+chain-between :
+    (g : Geometry) (s : State) (w : WordName → ℕ) (d : ℕ) → IsPlaceKept s w d → IsChainKept g s w d → ChainStays g s (between s w) d
+chain-between g s w d place kept =
+    let same = superblock-between g s w d place in
+    let chain : free_chain (with_next (links_of s w d) (superblock_of g s d)) ≡ free_chain (superblock_of g s d) =
+    same-chain (links_of s w d) (superblock_of g s d) (kept-links g s w d kept) in
+    record {
+      tag = omega arith;
+      chain = λ is k. subst (λ xs. 0 < occurs k xs) (sym (ap free_chain same ∙ chain));
+      next = λ is k on. ap (λ b. b.next k) same ∙ kept-links g s w d kept k on;
+    }
 
-next-between :
-    (g : Geometry) (s : State) (l : Lists) (w : WordName → ℕ) (i : ℕ) (seat : SeatFields) (pile : Pile) (h : HeadFields) (below : ℕ)
-    → IsStillSaid g s l w (nexts seat pile h below) → IsSo g s l i (nexts seat pile h below) → IsSo g (between s w) l i (nexts seat pile h below)
-next-between g s l w i seat Frames h below still so = λ is. still is ∙ so is
-next-between g s l w i seat Partials h below still so = λ is. still is ∙ so is
+head-between : (s : State) (w : WordName → ℕ) (seat : SeatFields) (p : Pile) → (between s w).word (head_name seat p) ≡ s.word (head_name seat p)
+head-between s w seat Frames = refl
+head-between s w seat Partials = refl
 
--- what is bound, and the caller's events and blocks, stay all the same
+next-between : (s : State) (w : WordName → ℕ) (p : Pile) (k : ℕ) → (between s w).word (next_name p k) ≡ w (next_name p k)
+next-between s w Frames k = refl
+next-between s w Partials k = refl
+
+listed-next :
+    (g : Geometry) (s : State) (l : Lists) (w : WordName → ℕ) (seat : SeatFields) (pile : Pile) (i : ℕ) → LinksKept g s l w
+    → seat.class < CLASSES → 0 < occurs i (list_of l seat pile) → w (next_name pile i) ≡ s.word (next_name pile i)
+listed-next g s l w seat Frames i kept class on = kept.frames i on
+listed-next g s l w seat Partials i kept class on = kept.partials seat.class class i on
+
+-- each part stays
 between-part :
-    (g : Geometry) (s : State) (l : Lists) (w : WordName → ℕ) (i : ℕ) → ((d : ℕ) → IsTrue (is_bound g s l d) → IsPlaceKept s w d) → (p : Part)
-    → IsBetweenPart p → PartStays g s l (between s w) l i p
-between-part g s l w i kept bindings stays = λ d bound. (bound, kept d bound)
-between-part g s l w i kept events stays = record { own_events = refl; owned = owned-between s w i }
-between-part g s l w i kept constant stays = tt
-between-part g s l w i kept p stays = absurd stays
-
--- what is remembered stays so
-so-between :
-    (g : Geometry) (s : State) (l : Lists) (w : WordName → ℕ) (i : ℕ) (r : Recall)
-    → ((d : ℕ) → IsTrue (is_bound g s l d) → IsPlaceKept s w d) → IsStillSaid g s l w r → IsSo g s l i r → IsSo g (between s w) l i r
-so-between g s l w i (located d f c) kept still so = located-between s w d f c still so
-so-between g s l w i (pops d x) kept still so =
-    subst (λ b. IsPopped b x) (sym (superblock-between g s w d still.0))
-    (popped-next (links_of s w d) (superblock_of g s d) x (kept-links g s w d still.1) so)
-so-between g s l w i (links d x prefix) kept still so =
-    λ is. ap (λ b. b.next x.avail) (superblock-between g s w d still.0) ∙ ap link_of (still.1 is) ∙ so is
-so-between g s l w i (tops seat p head) kept still so = top-between s l w seat p head so
-so-between g s l w i (nexts seat p head below) kept still so = next-between g s l w i seat p head below still so
-so-between g s l w i (says n v) kept still so = (so.0, still ∙ so.1)
-so-between g s l w i (made f c blocks) kept still so = λ k below. still k below ∙ so k below
-so-between g s l w i (emptied d) kept still so = record { state = so.state; unavailable = so.unavailable; standing = so.standing }
-so-between g s l w i (noted d next) kept still so = λ on. still on ∙ so on
-so-between g s l w i r kept still so = so-stays g s l (between s w) l i r (between-part g s l w i kept (part_of r) tt) so
+    (g : Geometry) (s : State) (l : Lists) (w : WordName → ℕ) (i : ℕ) → LoneKept g s l w → (p : Part) → IsStillSaid s w p
+    → PartStays g s l (between s w) l i p
+between-part g s l w i kept (bindings d) still = λ bound. (bound, kept.places.bound d bound)
+between-part g s l w i kept (places d) still = still
+between-part g s l w i kept (chains d) still = λ here. chain-between g s w d (kept.places.bound d here.1) (kept.blocks.chains d here.0 here.1)
+between-part g s l w i kept (stacks seat p) still =
+    λ class. record {
+      tag = omega (arith, ap (λ v. (head_of v).tag) (head-between s w seat p));
+      list = λ same k on. on;
+      next = λ same k on. next-between s w p k ∙ listed-next g s l w seat p k kept.links class on;
+    }
+between-part g s l w i kept (link_words f c blocks) still = still
+between-part g s l w i kept (availables d) still = record {
+  emptied = λ so. record { state = so.state; unavailable = so.unavailable; standing = so.standing };
+  next = λ on. (on, kept.links.available d on);
+}
+between-part g s l w i kept events still = record { own_events = refl; owned = owned-between s w i }
+between-part g s l w i kept (single n) still = λ said. still
+between-part g s l w i kept constant still = tt
 
 listed-between :
     (g : Geometry) (s : State) (l : Lists) (w : WordName → ℕ) → LinksKept g s l w → IsListed g s.word l → IsListed g (with_lone w s.word) l
@@ -301,7 +283,7 @@ chained-between g s l w kept chained = record {
       (chained-next (links_of s w d) (superblock_of g s d) (kept-links g s w d (kept.blocks.chains d has bound)) (chained.chained d has bound));
 }
 
--- a bound superblock fills_frame the frame that it did
+-- a bound superblock fills the frame that it did
 fill-same :
     (b : Bool) (w x y f : ℕ) → (b ≡ true → y ≡ x)
     → ◌≡◌ {A = ℕ} (if b && (w == 0) && (y == f) then 1 else 0) (if b && (w == 0) && (x == f) then 1 else 0)
@@ -393,7 +375,7 @@ tied-between g s l w kept tied =
       frees = λ i has k d lt. owned-between s w i _ _ (tied.frees i has k d lt);
     }
 
--- so the state in between is sound
+-- the state in between is sound
 pub sound-between :
     (g : Geometry) (s : State) (l : Lists) (w : WordName → ℕ) → LoneKept g s l w → IsSoundWith g s l → IsSoundWith g (between s w) l
 sound-between g s l w kept sound = record {
@@ -404,7 +386,9 @@ sound-between g s l w kept sound = record {
   chained = chained-between g s l w kept sound.chained;
   framed = framed-between g s l w kept.places sound.framed;
   remembered = record {
-    so = λ i has k d lt. so-between g s l w i _ kept.places.bound (kept.recalls i has k d lt) (sound.remembered.so i has k d lt);
+    so = λ i has.
+        recalls-stay g s l i (between s w) l (s.errand i).point (fits-own g i (s.errand i) (sound.errands i has)) (sound.remembered.so i has)
+        (λ k d lt. between-part g s l w i kept _ (kept.recalls i has k d lt));
   };
   guarded = guarded-between g s w sound.guarded;
   stocked = stocked-between g s l w kept.places sound.stocked;

@@ -1,24 +1,23 @@
 -- A store into a word that its caller stores alone keeps what is read of the other words, and what every caller remembers but for that word.
-use Rattle.std.proofs.Common.{ℕ, ◌≡◌, ◌≢◌, ◌<◌, ◌≤◌, ◌+◌, ◌^◌, ◌-◌, refl, arith, ap, sym, subst, inl, inr, ◌∙◌, IsSome}
+use Rattle.std.proofs.Common.{ℕ, ◌≡◌, ◌≢◌, ◌<◌, ◌≤◌, ◌+◌, ◌^◌, refl, arith, ap, sym, subst, inl, inr, ◌∙◌, IsSome}
 use Rattle.std.specs.List.{AllByRecursion}
-use Rattle.std.proofs.lemmas.List.Elements.{All-from_recursion, recursion_from_All}
-use Rattle.sound_state.proofs.Common.{Geometry, CLASSES, block_count_of, info_of, WordName, Site, descriptor_count, SeatFields, info_in, Writes, occurs, prefix_name}
-use Rattle.sound_state.proofs.Common.{BlockPoint, Pile, Frames, Partials, StackPoint, next_name, DescPoint, PartialPoint, LargePoint, Continuation, Point, FitsPoint}
-use Rattle.sound_state.proofs.Common.{State, Status, on_its_way, Lists, IsSo, recalls_of, IsSoundWith, info_or_zero}
+use Rattle.std.proofs.lemmas.List.Elements.{All-from_recursion}
+use Rattle.sound_state.proofs.Common.{Geometry, block_count_of, info_of, WordName, Site, descriptor_count, SeatFields, info_in, Writes, prefix_name, BlockPoint}
+use Rattle.sound_state.proofs.Common.{StackPoint, next_name, DescPoint, PartialPoint, LargePoint, Continuation, Point, State, Status, on_its_way, Lists, recalls_of}
+use Rattle.sound_state.proofs.Common.{IsSoundWith, info_or_zero, continuation_recalls, stack_recalls, resumed_recalls, desc_recalls, block_recalls, partial_recalls}
+use Rattle.sound_state.proofs.Common.{large_recalls}
 use Rattle.word_table.specs.declared.name.WordName.TheVariants as name
-use Rattle.superblock_parts.specs.Points.{FitsBlock}
 use Rattle.superblock_parts.specs.declared.point.BlockPoint.TheVariants as block
 use Rattle.stack_parts.specs.declared.point.StackPoint.TheVariants as stack
-use Rattle.stack_parts.specs.Points.{FitsStack}
 use Rattle.hazard_parts.specs.declared.point.DescPoint.TheVariants as desc
 use Rattle.partial_parts.specs.declared.point.PartialPoint.TheVariants as partial
 use Rattle.errand_steps.specs.declared.point.Point.TheVariants as point
-use Rattle.sound_state.specs.Recalls.{IsTopStill, continuation_recalls, stack_recalls, resumed_recalls, desc_recalls, block_recalls, partial_recalls, large_recalls, list_of}
-use Rattle.sound_state.proofs.shared.PointLemmas.{fits-at}
+use Rattle.sound_state.proofs.shared.RecallFrame.{Reads}
+use Rattle.sound_state.proofs.shared.RecallTables.{IsLink, next-is_link}
 use Rattle.sound_state.proofs.shared.StepLemmas.{words-below}
 use Rattle.sound_state.proofs.stores.StoreFields.{IsLone, with_lone, IsPlaceKept, IsKeptStill, IsStillSaid, LinksKept, PlacesKept, BlocksKept, LoneKept}
 
--- the words after a write of such a word are those of the state in between
+-- the words after a write of one that is stored alone are those of the state in between
 pub lone-written :
     (words : WordName → ℕ) (n : WordName) (new : ℕ) (words' : WordName → ℕ) → IsLone n → Writes words n new words' → (m : WordName)
     → words' m ≡ with_lone words' words m
@@ -28,12 +27,7 @@ lone-written words n new words' lone w (name.FrameNext f) = refl
 lone-written words n new words' lone w (name.Info d) = refl
 lone-written words n new words' lone w m = w.elsewhere m (λ is. subst IsLone (sym is) lone)
 
--- the three kinds of such words: links, words of the arena, and what descriptors say
-abbrev pub IsLink : WordName → Type 0
-IsLink (name.Next d) = Unit {0}
-IsLink (name.FrameNext f) = Unit {0}
-IsLink n = ⊥
-
+-- the two other kinds of such words beside links: words of the arena, and what descriptors say
 abbrev pub IsOfArena : WordName → Type 0
 IsOfArena (name.Arena place) = Unit {0}
 IsOfArena n = ⊥
@@ -42,7 +36,7 @@ abbrev pub IsOfDesc : WordName → Type 0
 IsOfDesc (name.Info d) = Unit {0}
 IsOfDesc n = ⊥
 
--- a store of another kind keeps the links
+-- a store into no link word keeps the links
 pub links-stay :
     (g : Geometry) (s : State) (l : Lists) (n : WordName) (new : ℕ) (words' : WordName → ℕ) → IsSoundWith g s l → Writes s.word n new words'
     → (IsLink n → ⊥) → LinksKept g s l words'
@@ -56,7 +50,7 @@ links-stay g s l n new words' old w other =
       partials = λ class has d on. same (name.Next d) tt;
     }
 
--- and the words of the arena
+-- a store of another kind keeps the words of the arena
 pub blocks-kept :
     (g : Geometry) (s : State) (l : Lists) (n : WordName) (new : ℕ) (words' : WordName → ℕ) → Writes s.word n new words'
     → (IsOfArena n → ⊥) → BlocksKept g s l words'
@@ -76,7 +70,7 @@ one-kept : (s : State) (w : WordName → ℕ) (status : Status) (e : ℕ) → ((
 one-kept s w on_its_way e place = tt
 one-kept s w status e place = place e
 
--- where every frame and class stay, what the descriptors say is kept
+-- what the descriptors say is kept where every frame and class stay
 pub all-places-kept :
     (g : Geometry) (s : State) (l : Lists) (w : WordName → ℕ) → ((d : ℕ) → d < descriptor_count g → IsSome (info_in g (w (name.Info d))))
     → ((d : ℕ) → IsPlaceKept s w d) → PlacesKept g s l w
@@ -90,7 +84,7 @@ all-places-kept g s l w infos place = record {
   full = λ d has. inl (place d);
 }
 
--- so a store of another kind keeps them
+-- a store of another kind keeps them
 pub place-stays :
     (s : State) (n : WordName) (new : ℕ) (words' : WordName → ℕ) → Writes s.word n new words' → (IsOfDesc n → ⊥) → (d : ℕ) → IsPlaceKept s words' d
 place-stays s n new words' w other d =
@@ -105,7 +99,7 @@ places-stay g s l n new words' old w other =
     subst (λ v. IsSome (info_in g v)) (sym (w.elsewhere (name.Info d) (λ is. other (subst IsOfDesc is tt)))) (old.chained.infos d has))
     (place-stays s n new words' w other)
 
--- a caller at the point remembers nothing of the link, nothing of the word of the arena, and of descriptors only what stays
+-- a caller at the point remembers nothing of the link word, or of the word of the arena; or of the descriptor only what stays
 abbrev pub IsLinkUnread : WordName → Point → Type 0
 IsLinkUnread n (point.Stack (stack.PushTop seat pile i h) o) = next_name pile i ≢ n
 IsLinkUnread n (point.Desc (desc.PushDesc seat d top) o) = name.Next d ≢ n
@@ -132,11 +126,7 @@ pub record IsUnread (s : State) (w : WordName → ℕ) (n : WordName) (p : Point
   pub block : IsBlockUnread n p
   pub place : IsPlaceUnread s w n p
 
--- a word of another kind is none of them
-pub next-is_link : (pile : Pile) (i : ℕ) → IsLink (next_name pile i)
-next-is_link Frames i = tt
-next-is_link Partials i = tt
-
+-- words of stacks, of the arena and of descriptors are of one kind only
 pub link-unread : (n : WordName) (p : Point) → (IsLink n → ⊥) → IsLinkUnread n p
 link-unread n (point.Stack (stack.PushTop seat pile i h) o) other = λ is. other (subst IsLink is (next-is_link pile i))
 link-unread n (point.Desc (desc.PushDesc seat d top) o) other = λ is. other (subst IsLink is tt)
@@ -149,7 +139,7 @@ block-unread n (point.Block (block.StoreInfo at) o) other = λ k lt is. other (s
 block-unread n (point.Block (block.StoreAnchor at) o) other = λ k lt is. other (subst IsOfArena is tt)
 block-unread n p other = tt
 
--- where every frame and class stay, only one that is about to store the anchor remembers the whole word
+-- only a caller that is about to store the anchor remembers the whole word, where every frame and class stay
 pub place-unread :
     (s : State) (w : WordName → ℕ) (n : WordName) (p : Point) → ((d : ℕ) → IsPlaceKept s w d)
     → ((at : Site) (o : Continuation) → p ≡ point.Block (block.StoreAnchor at) o → name.Info at.desc ≢ n) → IsPlaceUnread s w n p
@@ -159,102 +149,57 @@ place-unread s w n (point.Partial (partial.LoadGrantAnchor at) o) place anchor =
 place-unread s w n (point.Partial (partial.Grant at a) o) place anchor = place at.desc
 place-unread s w n p place anchor = tt
 
--- a store that keeps what is read of each kind, and leaves the other words
-record IsKeeping (g : Geometry) (s : State) (l : Lists) (n : WordName) (w : WordName → ℕ) : Type 0 where
-  others : (m : WordName) → m ≢ n → with_lone w s.word m ≡ s.word m
-  links : LinksKept g s l w
-  places : PlacesKept g s l w
-  blocks : BlocksKept g s l w
+-- a store that leaves the other words, of which nothing is read at the point, leaves all that is read there word by word
+module _
+    (s : State) (w : WordName → ℕ) (n : WordName) (others : (m : WordName) → m ≢ n → with_lone w s.word m ≡ s.word m) where
+  said-block : (p : BlockPoint) (o : Continuation) → IsUnread s w n (point.Block p o) → AllByRecursion (Reads (IsStillSaid s w)) (block_recalls p)
+  said-block (block.InstallSuperblock at) o off = (refl, (tt, tt))
+  said-block (block.PushBlock at k x stored heap) o off = (others (prefix_name at.frame at.seat.class k) off.block, (tt, tt))
+  said-block (block.LinkBlock at k) o off = (λ j lt. others (prefix_name at.frame at.seat.class j) (off.block j lt), tt)
+  said-block (block.StoreInfo at) o off = (λ j lt. others (prefix_name at.frame at.seat.class j) (off.block j lt), tt)
+  said-block (block.StoreAnchor at) o off =
+      (others (name.Info at.desc) off.place, (λ j lt. others (prefix_name at.frame at.seat.class j) (off.block j lt), tt))
+  said-block p o off = grind (arith)
 
-block-still-said :
-    (g : Geometry) (s : State) (l : Lists) (w : WordName → ℕ) (i : ℕ) (n : WordName) (p : BlockPoint) (o : Continuation) → IsKeeping g s l n w
-    → FitsBlock g i p → AllByRecursion (IsSo g s l i) (block_recalls p) → IsUnread s w n (point.Block p o)
-    → AllByRecursion (IsStillSaid g s l w) (block_recalls p)
-block-still-said g s l w i n (block.LoadLink at share x) o h fits so off =
-    ((h.places.bound at.desc so.1.0.0, h.blocks.chains at.desc fits.site.desc so.1.0.0), (tt, tt))
-block-still-said g s l w i n (block.PopBlock at share x prefix) o h fits so off =
-    let place = h.places.bound at.desc so.1.1.0.0 in
-    let chain = h.blocks.chains at.desc fits.site.desc so.1.1.0.0 in
-    ((place, λ is. chain x.avail (so.1.0.first is)), ((place, chain), (tt, tt)))
-block-still-said g s l w i n (block.InstallSuperblock at) o h fits so off = (refl, (tt, tt))
-block-still-said g s l w i n (block.PushBlock at k x stored heap) o h fits so off = (h.others (prefix_name at.frame at.seat.class k) off.block, (tt, tt))
-block-still-said g s l w i n (block.LinkBlock at k) o h fits so off = (λ j lt. h.others (prefix_name at.frame at.seat.class j) (off.block j lt), tt)
-block-still-said g s l w i n (block.StoreInfo at) o h fits so off = (λ j lt. h.others (prefix_name at.frame at.seat.class j) (off.block j lt), tt)
-block-still-said g s l w i n (block.StoreAnchor at) o h fits so off =
-    (h.others (name.Info at.desc) off.place, (λ j lt. h.others (prefix_name at.frame at.seat.class j) (off.block j lt), tt))
-block-still-said g s l w i n p o h fits so off = grind (arith)
+  said-continuation : (seat : SeatFields) (o : Continuation) → AllByRecursion (Reads (IsStillSaid s w)) (continuation_recalls seat o)
+  said-continuation seat o = grind (arith)
 
-said-continuation :
-    (g : Geometry) (s : State) (l : Lists) (w : WordName → ℕ) (seat : SeatFields) (o : Continuation)
-    → AllByRecursion (IsStillSaid g s l w) (continuation_recalls seat o)
-said-continuation g s l w seat o = grind (arith)
+  said-stack : (p : StackPoint) (o : Continuation) → IsUnread s w n (point.Stack p o) → AllByRecursion (Reads (IsStillSaid s w)) (stack_recalls p o)
+  said-stack (stack.PushTop seat pile j head) o off = (others (next_name pile j) off.link, (tt, said-continuation seat o))
+  said-stack p o off = grind (arith, said-continuation)
 
-listed-next :
-    (g : Geometry) (s : State) (l : Lists) (w : WordName → ℕ) (seat : SeatFields) (pile : Pile) (i : ℕ) → LinksKept g s l w
-    → seat.class < CLASSES → 0 < occurs i (list_of l seat pile) → w (next_name pile i) ≡ s.word (next_name pile i)
-listed-next g s l w seat Frames i kept class on = kept.frames i on
-listed-next g s l w seat Partials i kept class on = kept.partials seat.class class i on
+  said-resumed : (seat : SeatFields) (o : Continuation) → AllByRecursion (Reads (IsStillSaid s w)) (resumed_recalls seat o)
+  said-resumed seat o = grind (arith)
 
-said-stack :
-    (g : Geometry) (s : State) (l : Lists) (w : WordName → ℕ) (i : ℕ) (n : WordName) (p : StackPoint) (o : Continuation) → IsKeeping g s l n w
-    → FitsStack g i p → AllByRecursion (IsSo g s l i) (stack_recalls p o) → IsUnread s w n (point.Stack p o)
-    → AllByRecursion (IsStillSaid g s l w) (stack_recalls p o)
-said-stack g s l w i n (stack.LoadTop seat pile) o h fits so off = said-continuation g s l w seat o
-said-stack g s l w i n (stack.LoadBelow seat pile head) o h fits so off = (tt, said-continuation g s l w seat o)
-said-stack g s l w i n (stack.PopTop seat pile head below) o h fits so off =
-    let top : IsTopStill s l seat pile head = so.1.0 in
-    (λ is. listed-next g s l w seat pile (head.top - 1) h.links fits.0.seat.class (top.top is), (tt, said-continuation g s l w seat o))
-said-stack g s l w i n (stack.ConfirmEmpty seat pile head) o h fits so off = said-continuation g s l w seat o
-said-stack g s l w i n (stack.LoadTopToPush seat pile j) o h fits so off = said-continuation g s l w seat o
-said-stack g s l w i n (stack.StoreBelow seat pile j head) o h fits so off = (tt, said-continuation g s l w seat o)
-said-stack g s l w i n (stack.PushTop seat pile j head) o h fits so off = (h.others (next_name pile j) off.link, (tt, said-continuation g s l w seat o))
+  said-desc : (p : DescPoint) (o : Continuation) → IsUnread s w n (point.Desc p o) → AllByRecursion (Reads (IsStillSaid s w)) (desc_recalls p o)
+  said-desc (desc.PushDesc seat d top) o off = (others (name.Next d) off.link, said-resumed seat o)
+  said-desc p o off = grind (arith, said-resumed, said-continuation)
 
-said-resumed :
-    (g : Geometry) (s : State) (l : Lists) (w : WordName → ℕ) (seat : SeatFields) (o : Continuation)
-    → AllByRecursion (IsStillSaid g s l w) (resumed_recalls seat o)
-said-resumed g s l w seat o = grind (arith)
+  said-partial : (p : PartialPoint) (o : Continuation) → IsUnread s w n (point.Partial p o) → AllByRecursion (Reads (IsStillSaid s w)) (partial_recalls p o)
+  said-partial (partial.StoreOwner at) o off = (off.place, tt)
+  said-partial (partial.LoadGrantAnchor at) o off = (off.place, tt)
+  said-partial (partial.Grant at x) o off = (tt, (off.place, tt))
+  said-partial p o off = grind (arith, said-continuation)
 
-said-desc :
-    (g : Geometry) (s : State) (l : Lists) (w : WordName → ℕ) (n : WordName) (p : DescPoint) (o : Continuation) → IsKeeping g s l n w
-    → IsUnread s w n (point.Desc p o) → AllByRecursion (IsStillSaid g s l w) (desc_recalls p o)
-said-desc g s l w n (desc.PopDesc seat d next) o h off = (λ on. h.links.available d on, (tt, tt))
-said-desc g s l w n (desc.ClearHazard seat) o h off = said-continuation g s l w seat o
-said-desc g s l w n (desc.PushDesc seat d top) o h off = (h.others (name.Next d) off.link, said-resumed g s l w seat o)
-said-desc g s l w n p o h off = grind (arith, said-resumed)
+  said-large : (p : LargePoint) → AllByRecursion (Reads (IsStillSaid s w)) (large_recalls p)
+  said-large p = grind (arith)
 
-said-partial :
-    (g : Geometry) (s : State) (l : Lists) (w : WordName → ℕ) (n : WordName) (p : PartialPoint) (o : Continuation) → IsUnread s w n (point.Partial p o)
-    → AllByRecursion (IsStillSaid g s l w) (partial_recalls p o)
-said-partial g s l w n (partial.StoreOwner at) o off = (off.place, tt)
-said-partial g s l w n (partial.LoadGrantAnchor at) o off = (off.place, tt)
-said-partial g s l w n (partial.Grant at x) o off = (tt, (off.place, tt))
-said-partial g s l w n (partial.PutSlot seat e heap) o off = said-continuation g s l w seat o
-said-partial g s l w n p o off = grind (arith)
+  said-point : (p : Point) → IsUnread s w n p → AllByRecursion (Reads (IsStillSaid s w)) (recalls_of p)
+  unfolding recalls_of
+  said-point point.Idle off = tt
+  said-point (point.Block p o) off = said-block p o off
+  said-point (point.Stack p o) off = said-stack p o off
+  said-point (point.Desc p o) off = said-desc p o off
+  said-point (point.Partial p o) off = said-partial p o off
+  said-point (point.Large p o) off = said-large p
 
-said-large : (g : Geometry) (s : State) (l : Lists) (w : WordName → ℕ) (p : LargePoint) → AllByRecursion (IsStillSaid g s l w) (large_recalls p)
-said-large g s l w p = grind (arith)
-
--- what each point remembers is still said
-said-point :
-    (g : Geometry) (s : State) (l : Lists) (w : WordName → ℕ) (i : ℕ) (n : WordName) (p : Point) → IsKeeping g s l n w → FitsPoint g i p
-    → AllByRecursion (IsSo g s l i) (recalls_of p) → IsUnread s w n p → AllByRecursion (IsStillSaid g s l w) (recalls_of p)
-unfolding recalls_of
-said-point g s l w i n point.Idle h fits so off = tt
-said-point g s l w i n (point.Block p o) h fits so off = block-still-said g s l w i n p o h fits.point so off
-said-point g s l w i n (point.Stack p o) h fits so off = said-stack g s l w i n p o h fits.point so off
-said-point g s l w i n (point.Desc p o) h fits so off = said-desc g s l w n p o h off
-said-point g s l w i n (point.Partial p o) h fits so off = said-partial g s l w n p o off
-said-point g s l w i n (point.Large p o) h fits so off = said-large g s l w p
-
--- so the store keeps all that is read
+-- the store keeps all that is read
 pub lone-kept :
     (g : Geometry) (s : State) (l : Lists) (n : WordName) (new : ℕ) (words' : WordName → ℕ) → IsSoundWith g s l → IsLone n → new < 2 ^ 64
     → Writes s.word n new words' → LinksKept g s l words' → PlacesKept g s l words' → BlocksKept g s l words'
     → ((i : ℕ) → i < g.callers → IsUnread s words' n (s.errand i).point) → LoneKept g s l words'
 lone-kept g s l n new words' old lone below w links places blocks unread =
     let same = lone-written s.word n new words' lone w in
-    let keeping : IsKeeping g s l n words' =
-    record { others = λ m differ. sym (same m) ∙ w.elsewhere m differ; links = links; places = places; blocks = blocks } in
     record {
       words = λ m. subst (λ v. v < 2 ^ 64) (same m) (words-below s.word n new words' w old.words below m);
       links = links;
@@ -262,7 +207,6 @@ lone-kept g s l n new words' old lone below w links places blocks unread =
       blocks = blocks;
       recalls = λ i has.
           let p : Point = (s.errand i).point in
-          All-from_recursion (IsStillSaid g s l words') (recalls_of p)
-          (said-point g s l words' i n p keeping (fits-at g s l i p old has refl)
-          (recursion_from_All (IsSo g s l i) (recalls_of p) (old.remembered.so i has)) (unread i has));
+          All-from_recursion (Reads (IsStillSaid s words')) (recalls_of p)
+          (said-point s words' n (λ m differ. sym (same m) ∙ w.elsewhere m differ) p (unread i has));
     }

@@ -2,16 +2,13 @@
 use Rattle.std.proofs.Common.{ℕ, false, None, ◌≡◌, ◌<◌, refl, ap, sym, subst, ◌∙◌, All}
 use Rattle.sound_state.proofs.Common.{Geometry, WordName, name_of, after_action, Writes, Next, At, Point, ErrandFields, settle_of, course_of, counts_lost}
 use Rattle.sound_state.proofs.Common.{counts_cleared, event_of, next_of, plan_point_of, State, Step, Moves, word_at, with_event, Lists, IsSo, recalls_of}
-use Rattle.sound_state.proofs.Common.{IsSoundWithoutCounts, IsSoundWith}
-use Rattle.word_table.specs.declared.action.Action.TheVariants.{Store}
-use Rattle.word_table.specs.Actions.{found_by}
-use Rattle.errand_steps.specs.Errands.{plan_of}
+use Rattle.sound_state.proofs.Common.{IsSoundWithoutCounts, IsSoundWith, Store, found_by, plan_of}
 use Rattle.sound_state.proofs.quiet.QuietLemmas.{HoldsSame}
 use Rattle.sound_state.proofs.quiet.QuietSteps.{LeadsQuietly, quiet-at}
 use Rattle.sound_state.proofs.stores.StoreFields.{IsLone, between, LoneKept, sound-between}
 use Rattle.sound_state.proofs.stores.StoreReads.{lone-written}
 
--- the point stores a word, and whatever it finds there, it tells nothing and leads to the same
+-- the point stores this into the word; whatever it finds there, it tells nothing, counts nothing and leads to the same
 pub record StoresTo (caller : ℕ) (p : Point) (n : WordName) (new : ℕ) (to : Next) : Type 0 where
   pub plan : plan_point_of p ≡ Store n new
   pub next : (v : ℕ) → next_of p (found_by (plan_point_of p) v) ≡ to
@@ -19,7 +16,7 @@ pub record StoresTo (caller : ℕ) (p : Point) (n : WordName) (new : ℕ) (to : 
   pub lost : (v : ℕ) → counts_lost p (found_by (plan_point_of p) v) ≡ false
   pub cleared : (v : ℕ) → counts_cleared p (found_by (plan_point_of p) v) ≡ false
 
--- the step's write
+-- a step from a point that stores writes what it stores into its word
 pub store-written :
     (s : State) (caller : ℕ) (s' : State) (n : WordName) (new : ℕ) (to : Next) → StoresTo caller (s.errand caller).point n new to → Step s caller s'
     → Writes s.word n new s'.word
@@ -31,7 +28,7 @@ settle-same :
 unfolding settle_of course_of
 settle-same caller e n new to x y h = rw (h.next x, h.next y, h.lost x, h.lost y, h.cleared x, h.cleared y, h.plan) refl
 
--- such a step is one from the state in between, too, where its word says already what is stored
+-- a step that stores a word is one from the state in between, too, where the word already says what is stored
 pub step-between :
     (s : State) (caller : ℕ) (s' : State) (n : WordName) (new : ℕ) (to : Next) → IsLone n → StoresTo caller (s.errand caller).point n new to
     → Step s caller s' → Step (between s s'.word) caller s'
@@ -47,7 +44,7 @@ step-between s caller s' n new to lone h step =
       history = step.history ∙ ap (with_event s.history) (h.event (word_at s caller) ∙ sym (h.event (word_at t caller)));
     }
 
--- a step that stores such a word and leads to this point, where the caller holds the same
+-- a step from p that stores a word which its caller stores alone, and leads to q, where the caller holds the same
 pub record IsStoring (g : Geometry) (s : State) (caller : ℕ) (p q : Point) (n : WordName) (new : ℕ) (s' : State) : Type 0 where
   pub stores : StoresTo caller p n new (At q)
   pub lone : IsLone n
@@ -55,7 +52,7 @@ pub record IsStoring (g : Geometry) (s : State) (caller : ℕ) (p q : Point) (n 
   pub kept : (l : Lists) → IsSoundWith g s l → LoneKept g s l s'.word
   pub so : (l : Lists) → IsSoundWith g (between s s'.word) l → All (IsSo g (between s s'.word) l caller) (recalls_of q)
 
--- keeps the state sound
+-- a step that stores a word which its caller stores alone, and leads where the caller holds the same, keeps the state sound
 pub store-sound :
     (g : Geometry) (s : State) (caller : ℕ) (s' : State) (p q : Point) (n : WordName) (new : ℕ) → IsSoundWithoutCounts g s → caller < g.callers
     → (s.errand caller).point ≡ p → IsStoring g s caller p q n new s' → Step s caller s' → IsSoundWithoutCounts g s'

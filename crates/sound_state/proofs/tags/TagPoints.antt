@@ -1,27 +1,19 @@
 -- What the step from each point does to the tag in an anchor's word.
-use Rattle.std.proofs.Common.{ℕ, Bool, false, ◌≡◌, ◌<◌, ◌≤◌, ◌+◌, ◌%◌, ◌^◌, refl, arith, ap, inl, inr, ◌∙◌, ◌⊎◌, ◌==◌, ◌&&◌, if◌then◌else◌}
-use Rattle.std.proofs.lemmas.Bool.{cases_eq, cond_both, eq-eqb, ne_eqb}
+use Rattle.std.proofs.Common.{ℕ, Bool, false, ◌≡◌, ◌<◌, ◌≤◌, ◌+◌, ◌%◌, ◌^◌, refl, arith, ap, inl, inr, ◌∙◌, ◌⊎◌, ◌==◌, ◌&&◌, if◌then◌else◌, eq-eqb, ne_eqb}
+use Rattle.std.proofs.lemmas.Bool.{cases_eq, cond_both}
 use Rattle.sound_state.proofs.Common.{Geometry, AnchorFields, anchor_of, anchor_word, name_of, after_action, link_of, BlockPoint, Share, Pile, Frames, Partials}
 use Rattle.sound_state.proofs.Common.{StackPoint, head_name, next_name, DescPoint, LargePoint, PartialPoint, SeatFields, Point, FitsPoint, plan_point_of, on_its_way}
-use Rattle.sound_state.proofs.Common.{holds_of, kept_among, one_if}
+use Rattle.sound_state.proofs.Common.{holds_of, kept_among, one_if, AVAIL_BITS, COUNT_BITS, TAG_BITS, IsAnchor, anchor_of-anchor_word, Action, is_last, FitsBlock}
+use Rattle.sound_state.proofs.Common.{plan_block_of, plan_stack_of, plan_desc_of, plan_large_of, plan_partial_of, block_holds}
 use Rattle.packed_words.specs.declared.anchor.AnchorState.TheVariants as phase
-use Rattle.packed_words.specs.declared.widths.TheConstants.{AVAIL_BITS, COUNT_BITS, TAG_BITS}
-use Rattle.packed_words.specs.Anchor.{IsAnchor}
-use Rattle.packed_words.proofs.AnchorLemmas.{anchor_of-anchor_word}
-use Rattle.word_table.specs.declared.action.Action.{Action}
 use Rattle.word_table.specs.declared.name.WordName.TheVariants as name
 use Rattle.word_table.specs.Actions.{is_won}
-use Rattle.superblock_parts.specs.Anchors.{is_last, popped, pushed, pushed_state, returned}
-use Rattle.superblock_parts.specs.Points.{FitsBlock, plan_block_of}
+use Rattle.superblock_parts.specs.Anchors.{popped, pushed, pushed_state, returned}
 use Rattle.superblock_parts.specs.declared.point.BlockPoint.TheVariants as block
-use Rattle.stack_parts.specs.Points.{plan_stack_of}
-use Rattle.hazard_parts.specs.Points.{plan_desc_of}
-use Rattle.large_parts.specs.Points.{plan_large_of}
-use Rattle.partial_parts.specs.Points.{FitsPartial, plan_partial_of}
+use Rattle.partial_parts.specs.Points.{FitsPartial}
 use Rattle.partial_parts.specs.Grants.{granted}
 use Rattle.partial_parts.specs.declared.point.PartialPoint.TheVariants as partial
 use Rattle.errand_steps.specs.declared.point.Point.TheVariants as point
-use Rattle.sound_state.specs.Holdings.{block_holds}
 use Rattle.sound_state.specs.Tags.{pops_block, pops_at}
 use Rattle.sound_state.proofs.shared.SuperblockEffects.{anchor_number}
 
@@ -29,7 +21,7 @@ use Rattle.sound_state.proofs.shared.SuperblockEffects.{anchor_number}
 abbrev tag_in : ℕ → ℕ
 tag_in w = (anchor_of w).tag
 
--- the action leaves a word's tag, or the next one where it pops
+-- the action leaves the tag of an anchor's word, or the next one where it pops
 abbrev TagGoes : Action → Bool → ℕ → Type 0
 TagGoes a pops w = tag_in (after_action a w) ≡ tag_in w + one_if (pops && is_won a w)
 
@@ -54,7 +46,7 @@ returned-tag more a fits = record { avail = fits.avail; count = omega arith; tag
 granted-tag : (a : AnchorFields) → IsAnchor a → IsAnchor (granted a)
 granted-tag a fits = record { avail = fits.avail; count = omega (arith, fits.count); tag = fits.tag }
 
--- it fits, and has the tag of the other
+-- an anchor fits, and has this tag
 abbrev HasTag : ℕ → AnchorFields → Type 0
 HasTag tag b = IsAnchor b × (b.tag ≡ tag)
 
@@ -88,7 +80,7 @@ pop-goes w d e share a prefix fits room same =
       | inr ne ↦ rw (eq-eqb e d same, ne_eqb w (anchor_word a) ne) (omega arith)
     ]
 
--- in a superblock: whoever stores an anchor keeps the descriptor on its way
+-- the step in a superblock does so to an anchor's tag, or its caller keeps the descriptor on its way
 tag-block :
     (g : Geometry) (caller d w : ℕ) (p : BlockPoint) → FitsBlock g caller p → tag_in w + 1 < 2 ^ TAG_BITS
     → name_of (plan_block_of p) ≡ name.Anchor d
@@ -106,7 +98,7 @@ tag-block g caller d w (block.LoadReturn at i more) fits room is = inl (omega ar
 tag-block g caller d w (block.LoadPushAnchor at i stored) fits room is = inl (omega arith)
 tag-block g caller d w p fits room is = absurd (cc)
 
--- at a stack
+-- no step at a stack is on an anchor
 head-not-anchor : (s : SeatFields) (pile : Pile) (d : ℕ) → head_name s pile ≡ name.Anchor d → ⊥
 head-not-anchor s Frames d is = cc
 head-not-anchor s Partials d is = cc
@@ -118,14 +110,14 @@ next-not-anchor Partials i d is = cc
 stack-not-anchor : (p : StackPoint) (d : ℕ) → name_of (plan_stack_of p) ≡ name.Anchor d → ⊥
 stack-not-anchor p d is = grind (arith, head-not-anchor, next-not-anchor, is)
 
--- at the descriptors, the hazard words, a large block or a shelf
+-- no step at the descriptors, the hazard words, a large block or a shelf is on an anchor
 not-desc : (p : DescPoint) (d : ℕ) → name_of (plan_desc_of p) ≡ name.Anchor d → ⊥
 not-desc p d is = grind (arith, is)
 
 large-not-anchor : (p : LargePoint) (d : ℕ) → name_of (plan_large_of p) ≡ name.Anchor d → ⊥
 large-not-anchor p d is = grind (arith, is)
 
--- at a partial superblock
+-- the step at a partial superblock leaves the tag in an anchor's word
 tag-partial :
     (g : Geometry) (caller d w : ℕ) (p : PartialPoint) → FitsPartial g caller p → name_of (plan_partial_of p) ≡ name.Anchor d
     → TagGoes (plan_partial_of p) false w
@@ -134,7 +126,7 @@ tag-partial g caller d w (partial.LoadGrantAnchor at) fits is = omega arith
 tag-partial g caller d w (partial.LoadListedAnchor s k) fits is = omega arith
 tag-partial g caller d w p fits is = absurd (cc)
 
--- at each point
+-- the step at each point does so to an anchor's tag, or its caller keeps the descriptor on its way
 pub tag-point :
     (g : Geometry) (caller d w : ℕ) (p : Point) → FitsPoint g caller p → tag_in w + 1 < 2 ^ TAG_BITS → name_of (plan_point_of p) ≡ name.Anchor d
     → TagGoes (plan_point_of p) (pops_at d p) w ⊎ (1 ≤ kept_among on_its_way d (holds_of p).kept)
@@ -146,7 +138,7 @@ tag-point g caller d w (point.Desc p o) fits room is = absurd (not-desc p d is)
 tag-point g caller d w (point.Partial p o) fits room is = inl (tag-partial g caller d w p fits.point is)
 tag-point g caller d w (point.Large p o) fits room is = absurd (large-not-anchor p d is)
 
--- a pop is at the anchor of what it pops from
+-- a pop is at the anchor of the superblock from which it pops
 pops-block : (d : ℕ) (p : BlockPoint) → name_of (plan_block_of p) ≡ name.Anchor d ⊎ (pops_block d p ≡ false)
 pops-block d (block.PopBlock at share a prefix) =
     elim (cases_eq at.desc d) [ inl is ↦ inl (ap name.Anchor is) | inr ne ↦ inr (ne_eqb at.desc d ne) ]

@@ -1,14 +1,12 @@
 -- What moves of any callers do to the tag of a superblock.
 use Rattle.std.proofs.Common.{ℕ, ◌≡◌, ◌≢◌, ◌<◌, ◌+◌, List, [], ◌∷◌, arith, ap}
-use Rattle.sound_state.proofs.Common.{Geometry, anchor_of, State, IsSoundWithoutCounts, anchor_for}
+use Rattle.sound_state.proofs.Common.{Geometry, anchor_of, State, IsSoundWithoutCounts, anchor_for, IsBound, Move, begins, steps, Moved}
 use Rattle.word_table.specs.declared.name.WordName.TheVariants as name
-use Rattle.sound_state.specs.Consequences.{IsBound}
-use Rattle.sound_state.specs.Runs.{Move, begins, steps, Moved}
 use Rattle.sound_state.specs.Tags.{pops_in, ReachesBound}
 use Rattle.sound_state.proofs.ReachLemmas.{move-sound}
 use Rattle.sound_state.proofs.tags.TagSteps.{tag-stepped}
 
--- a call that begins leaves the words
+-- any move raises the tag of a bound superblock where it pops a block of it, and leaves it else
 tag-moved :
     (g : Geometry) (s : State) (move : Move) (s' : State) (d : ℕ) → IsSoundWithoutCounts g s → Moved g s move s' → IsBound g s d
     → (anchor_for s' d).tag ≡ (anchor_for s d).tag + pops_in s d move

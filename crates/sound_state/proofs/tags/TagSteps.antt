@@ -1,9 +1,9 @@
 -- What a step does to the tag of a superblock.
 use Rattle.std.proofs.Common.{ℕ, ◌≡◌, ◌≢◌, ◌<◌, ◌+◌, refl, arith, ap, sym, inl, inr, ◌∙◌, ◌&&◌}
 use Rattle.sound_state.proofs.Common.{Geometry, anchor_of, after_action, cases_name, plan_point_of, State, Step, name_at, IsSoundWithoutCounts, anchor_for, one_if}
+use Rattle.sound_state.proofs.Common.{IsBound}
 use Rattle.word_table.specs.declared.name.WordName.TheVariants as name
 use Rattle.word_table.specs.Actions.{is_won}
-use Rattle.sound_state.specs.Consequences.{IsBound}
 use Rattle.sound_state.specs.Tags.{pops_at, pops_from}
 use Rattle.sound_state.proofs.shared.BoundLemmas.{bound-with}
 use Rattle.sound_state.proofs.shared.PointLemmas.{fits-now}
@@ -11,7 +11,7 @@ use Rattle.sound_state.proofs.shared.TagLemmas.{anchor-tags-below}
 use Rattle.sound_state.proofs.shared.UnplacedLemmas.{way-unplaced}
 use Rattle.sound_state.proofs.tags.TagPoints.{tag-point, pops-point}
 
--- a step at another word leaves the anchor, and pops nothing of the superblock
+-- a step at another word than the anchor leaves the tag of a superblock, and pops nothing of it
 elsewhere-tag :
     (s : State) (caller : ℕ) (s' : State) (d : ℕ) → Step s caller s' → name.Anchor d ≢ name_at s caller
     → (anchor_for s' d).tag ≡ (anchor_for s d).tag + pops_from s caller d
@@ -22,7 +22,7 @@ elsewhere-tag s caller s' d step differ =
       | inr none ↦ rw none (omega (arith, same))
     ]
 
--- one at the anchor
+-- a step at the anchor of a bound superblock raises its tag where it pops a block of it, and leaves it else
 here-tag :
     (g : Geometry) (s : State) (caller : ℕ) (s' : State) (d : ℕ) → IsSoundWithoutCounts g s → caller < g.callers → Step s caller s' → IsBound g s d
     → name_at s caller ≡ name.Anchor d → (anchor_for s' d).tag ≡ (anchor_for s d).tag + pops_from s caller d
@@ -40,7 +40,7 @@ here-tag g s caller s' d sound has step bound is =
       | inr way ↦ absurd ((way-unplaced g s l caller d old has bound.exists way).bound (bound-with g s l d old bound))
     ]
 
--- any step
+-- any step raises the tag of a bound superblock where it pops a block of it, and leaves it else
 pub tag-stepped :
     (g : Geometry) (s : State) (caller : ℕ) (s' : State) (d : ℕ) → IsSoundWithoutCounts g s → caller < g.callers → Step s caller s' → IsBound g s d
     → (anchor_for s' d).tag ≡ (anchor_for s d).tag + pops_from s caller d

@@ -1,22 +1,18 @@
 -- A step that leaves all words and tells a look or a refusal.
 use Rattle.std.proofs.Common.{ℕ, Some, ◌≡◌, ◌<◌, ◌≤◌, ◌+◌, ◌*◌, ◌^◌, [], ◌∷◌, ◌++◌, refl, arith, ap, sym, subst, ◌∙◌}
 use Rattle.sound_state.proofs.Common.{Geometry, CLASSES, anchor_of, info_of, WordName, descriptor_count, after_action, Event, IsLegalWithoutCounts, ErrandFields}
-use Rattle.sound_state.proofs.Common.{settle_of, State, Step, Moves, action_at, name_at, word_at, found_at, with_event, errand_frames, waiting, on_its_way}
-use Rattle.sound_state.proofs.Common.{word_keeps, errand_has, full_keeps, Lists, IsSoundWith, IsSoundWithoutCounts, word_stock, full_stock, errand_stock, sum_below}
-use Rattle.sound_state.proofs.Common.{info_or_zero, word_reserves, errand_reserves, errand_keeps, errand_away, away_of, emptied_out}
+use Rattle.sound_state.proofs.Common.{settle_of, State, Step, Moves, action_at, name_at, word_at, found_at, with_event, errand_frames, waiting, on_its_way, word_keeps}
+use Rattle.sound_state.proofs.Common.{errand_has, full_keeps, Lists, IsSoundWith, IsSoundWithoutCounts, word_stock, full_stock, errand_stock, sum_below, info_or_zero}
+use Rattle.sound_state.proofs.Common.{word_reserves, errand_reserves, errand_keeps, errand_away, away_of, emptied_out, caller_of, IsAllowed, IsLegalEventWithoutCounts}
+use Rattle.sound_state.proofs.Common.{EachAfter-push, event_at, stock_of}
 use Rattle.word_table.specs.declared.name.WordName.TheVariants as name
-use Rattle.pool_model.specs.Histories.{caller_of}
-use Rattle.pool_model.specs.Legal.{IsAllowed, IsLegalEventWithoutCounts}
-use Rattle.pool_model.proofs.HistoryLemmas.{EachAfter-push}
-use Rattle.errand_steps.specs.Steps.{event_at}
-use Rattle.sound_state.specs.Stock.{stock_of}
 use Rattle.sound_state.proofs.shared.AlikeLemmas.{Alike, sound-but}
 use Rattle.sound_state.proofs.shared.ShownLemmas.{MayGoOn, MayGuard, IsSoundBut}
 use Rattle.sound_state.proofs.shared.StepLemmas.{actives-stay, words-stay}
 use Rattle.sound_state.proofs.shared.SumLemmas.{words-same, callers-moved, sum-same}
 use Rattle.sound_state.proofs.tellings.TellLemmas.{IsTold, told_state, told-but}
 
--- the errand after it weighs what it weighed; it may have retired what was on its way
+-- the new errand weighs what the old one did; it may have retired what was on its way
 pub record WeighTold (a b : ErrandFields) : Type 0 where
   pub reserves : (d : ℕ) → errand_reserves d b ≡ errand_reserves d a
   pub waits : (d : ℕ) → errand_keeps waiting d b ≡ errand_keeps waiting d a
@@ -25,7 +21,7 @@ pub record WeighTold (a b : ErrandFields) : Type 0 where
   pub places : (d : ℕ) → errand_has d b ≡ errand_has d a
   pub frames : (f : ℕ) → errand_frames f b ≡ errand_frames f a
 
--- the class has a descriptor for what the caller keeps or waits for now
+-- the class has a descriptor for what a caller keeps or waits for after the step
 abbrev pub StockFor : Geometry → State → Lists → ErrandFields → ErrandFields → Type 0
 StockFor g s l a b =
     (class : ℕ) → class < CLASSES
@@ -40,7 +36,7 @@ pub record TellsOn (g : Geometry) (s : State) (l : Lists) (caller : ℕ) (event 
   pub cleared : e.cleared ≡ (s.errand caller).cleared
   pub stock : StockFor g s l (s.errand caller) e
 
--- as many descriptors are away
+-- as many descriptors are away after a step that tells a look or a refusal
 told-away :
     (g : Geometry) (s : State) (l : Lists) (caller : ℕ) (e : ErrandFields) (s' : State) → caller < g.callers → Moves s.errand caller e s'.errand
     → WeighTold (s.errand caller) e → (d : ℕ) → away_of g s' l d ≡ away_of g s l d
@@ -73,14 +69,14 @@ told-alike g s l caller event e s' has same m past weigh room =
           };
     }
 
--- the state after it is sound
+-- the state after a step that tells the event and leaves all words is sound
 tells-on :
     (g : Geometry) (s : State) (l : Lists) (caller : ℕ) (event : Event) (e : ErrandFields) (s' : State) → IsSoundWith g s l → caller < g.callers
     → ((n : WordName) → s'.word n ≡ s.word n) → Moves s.errand caller e s'.errand → s'.history ≡ s.history ++ event ∷ []
     → TellsOn g s l caller event e → IsSoundWith g s' l
 tells-on g s l caller event e s' sound has same m past tells =
     let t = told_state s event in
-    let but : IsSoundBut g t l caller = told-but g s l caller event tells.told sound in
+    let but : IsSoundBut g t l caller = told-but g s l caller event tells.told has sound in
     sound-but g t l caller e s'
     (record {
       in_heap = has;
@@ -99,7 +95,7 @@ tells-on g s l caller event e s' sound has same m past tells =
     })
     but
 
--- so such a step keeps the state sound
+-- a step that tells such an event keeps the state sound
 pub step-tells :
     (g : Geometry) (s : State) (caller : ℕ) (event : Event) (e : ErrandFields) (s' : State) → IsSoundWithoutCounts g s → caller < g.callers
     → settle_of (s.errand caller) (found_at s caller) ≡ e → event_at s caller ≡ Some event

@@ -4,30 +4,21 @@ use Rattle.sound_state.proofs.Common.{Pile, Frames, Partials, head_name, next_in
 use Rattle.sound_state.proofs.Common.{raised, counts_lost, counts_cleared, event_of, FitsPoint, spare_of, next_of, plan_point_of, State, Step, action_at, name_at}
 use Rattle.sound_state.proofs.Common.{word_at, found_at, IsHazard, Status, holds_of, waiting, reserving, on_its_way, partly_used, IsWithout, IsKeptAs, Lists, IsSo}
 use Rattle.sound_state.proofs.Common.{IsOwned, recalls_of, looked, IsSoundWithoutCounts, IsSoundWith, errand_stock, one_if, pops_left, gives_small, refuses_small}
-use Rattle.sound_state.specs.TurnStages.{lacks_frame, lacks_partial, lacks_answer}
+use Rattle.sound_state.proofs.Common.{lacks_frame, lacks_partial, lacks_answer, SMALL_MOST, head_word, head_of-head_word, Looked, Refuse, is_full, no_words, confirms}
+use Rattle.sound_state.proofs.Common.{event_at, clear, refused, turn_unanswered}
 use Rattle.sound_state.proofs.quiet.QuietStacks.{confirm_empty_lost-sound}
 use Rattle.std.proofs.Common.{ℕ, true, false, cond, Some, ◌≡◌, ◌<◌, ◌≤◌, ◌+◌, ◌^◌, List, [], ◌∷◌, ◌++◌, refl, arith, ap, sym, subst, inl, inr, ◌∙◌, eq-eqb, ne_eqb}
-use Rattle.std.specs.Prelude.{◌==◌, if◌then◌else◌, All, IsTrue, count_by, nat_le}
+use Rattle.std.proofs.Common.{◌==◌, if◌then◌else◌, All, IsTrue, count_by, nat_le}
 use Rattle.std.proofs.lemmas.Bool.{cases_eq, cases_Bool, cond-true, cond-false}
 use Rattle.std.proofs.lemmas.Option.{none-some}
 use Rattle.std.proofs.lemmas.List.Elements.{All-cons, All-nil}
-use Rattle.heap_geometry.specs.declared.limits.TheConstants.{SMALL_MOST}
-use Rattle.packed_words.specs.Head.{head_word}
-use Rattle.packed_words.proofs.HeadLemmas.{head_of-head_word}
 use Rattle.word_table.specs.declared.name.WordName.TheVariants as name
 use Rattle.stack_parts.specs.declared.point.StackPoint.TheVariants as stack
 use Rattle.stack_parts.specs.Points.{IsBare}
 use Rattle.hazard_parts.specs.declared.point.DescPoint.TheVariants as desc
-use Rattle.pool_model.specs.declared.event.Event.TheVariants.{Looked, Refuse}
 use Rattle.pool_model.specs.Legal.{IsRefusable}
 use Rattle.errand_steps.specs.declared.continuation.Continuation.TheVariants as continuation
 use Rattle.errand_steps.specs.declared.reply.Reply.TheVariants as reply
-use Rattle.errand_steps.specs.Errands.{is_full, no_words}
-use Rattle.errand_steps.specs.Continuations.{confirms}
-use Rattle.errand_steps.specs.Steps.{event_at}
-use Rattle.sound_state.specs.Holdings.{clear}
-use Rattle.sound_state.specs.Recalls.{refused}
-use Rattle.sound_state.specs.Turns.{turn_unanswered}
 use Rattle.sound_state.proofs.shared.EventFacts.{counted-not, told-counts, refused-ends}
 use Rattle.sound_state.proofs.shared.ListFacts.{occurs-push}
 use Rattle.sound_state.proofs.shared.ShownLemmas.{MayGoOn, MayGuard, IsSoundBut}
@@ -43,7 +34,7 @@ use Rattle.sound_state.proofs.shared.StepLemmas.{PointStands, raised-least, Turn
 use Rattle.sound_state.proofs.tellings.TellLemmas.{IsTold, told_state, told-but, told-ends}
 use Rattle.sound_state.proofs.shared.KeepsSound.{KeepsSound, KeepsSoundWhere}
 
--- where the caller remembers nothing, and was answered as often as before, all of the state is sound
+-- all of a state is sound that is so but for a caller, where that one remembers nothing and was answered as often as before
 but-whole :
     (g : Geometry) (s : State) (l : Lists) (caller : ℕ) → IsSoundBut g s l caller → All (IsSo g s l caller) (recalls_of (s.errand caller).point)
     → count_by (gives_small caller) s.history + count_by (refuses_small caller) s.history + turn_unanswered (s.errand caller)
@@ -84,7 +75,7 @@ but-whole g s l caller but own answers = record {
   tied = but.tied;
 }
 
--- a look and a refusal are such events
+-- a look, and a refusal, are events that leave the pool and count no block
 looked-told : (g : Geometry) (caller class : ℕ) → IsTold g caller (Looked caller class)
 looked-told g caller class =
     record { number = refl; pool = λ pool. refl; gives = λ i. refl; refuses = λ i differ. refl; allocs = refl; frees = refl }
@@ -99,7 +90,7 @@ refused-told g caller words = record {
   frees = refl;
 }
 
--- a look: the caller waits for a descriptor
+-- the point of a look, by which a caller confirms that its class's list is empty, and where it leads
 abbrev looking : SeatFields → HeadFields → ℕ → Point
 looking seat h words = Stack (stack.ConfirmEmpty seat Partials h) (continuation.Alloc words)
 
@@ -180,7 +171,7 @@ look-guards g s caller seat words retired word = record {
   unread = λ i passed below. let bad : ⊥ = omega (arith, below) in absurd bad;
 }
 
--- the head's top is 0, so the class's list is empty
+-- a class's list is empty, where the head that a caller has read without an index is still there
 bare-list :
     (g : Geometry) (s : State) (l : Lists) (caller : ℕ) (seat : SeatFields) (h : HeadFields) → IsSoundWith g s l → IsBare g caller seat h
     → s.word (name.ListHead seat.class) ≡ head_word h → l.partials seat.class ≡ []
@@ -189,7 +180,7 @@ bare-list g s l caller seat h old fits same =
     (old.listed.partials seat.class fits.seat.class)
     (ap (λ w. (head_of w).top) same ∙ ap (λ x. x.top) (head_of-head_word h fits.head) ∙ fits.top)
 
--- a look that finds no partial superblock
+-- a look that finds no partial superblock keeps the state sound
 pub confirm_no_partial-sound :
     (seat : SeatFields) (h : HeadFields) (words : ℕ)
     → KeepsSoundWhere (Stack (stack.ConfirmEmpty seat Partials h) (continuation.Alloc words)) (λ s. s.word (name.ListHead seat.class) ≡ head_word h)
@@ -215,7 +206,7 @@ confirm_no_partial-sound seat h words g s caller s' sound has stands same step =
     fits.point.seat.class
     (λ l old.
     let t = told_state s event in
-    let but : IsSoundBut g t l caller = told-but g s l caller event (looked-told g caller seat.class) old in
+    let but : IsSoundBut g t l caller = told-but g s l caller event (looked-told g caller seat.class) has old in
     let whole : IsSoundWith g t l =
     but-whole g t l caller but (subst (λ r. All (IsSo g t l caller) (recalls_of r)) (sym stands) (All-nil (IsSo g t l caller)))
     (omega (
@@ -236,14 +227,14 @@ confirm_no_partial-sound seat h words g s caller s' sound has stands same step =
     })
     step
 
--- a refusal: the caller retires the descriptor that was on its way
+-- the point of a refusal, by which a caller confirms that no frame is left, and where it leads
 abbrev refusing : SeatFields → HeadFields → ℕ → ℕ → Point
 refusing seat h words d = Stack (stack.ConfirmEmpty seat Frames h) (continuation.TakeFrame words d)
 
 abbrev scanning : SeatFields → Point
 scanning seat = Desc (desc.ReadHazard seat no_words 0) continuation.Refuse
 
--- how far the caller's turn is
+-- a turn goes on from p to q by a refusal: it is answered, and no further back
 record TurnRefused (p q : Point) : Type 0 where
   under_way : one_if (in_turn q) ≤ one_if (in_turn p)
   discards : one_if (is_unneeded (turn_stage_of q)) ≤ one_if (is_unneeded (turn_stage_of p))
@@ -251,7 +242,7 @@ record TurnRefused (p q : Point) : Type 0 where
   unframed : one_if (lacks_frame (turn_stage_of q)) ≤ one_if (lacks_frame (turn_stage_of p))
   pops : pops_left q + one_if (lacks_partial (turn_stage_of q)) ≤ pops_left p + one_if (lacks_partial (turn_stage_of p))
 
--- it keeps that one, and holds nothing then
+-- a caller that is refused lets the descriptor go that it keeps, and holds nothing then
 refused-lets :
     (seat : SeatFields) (h : HeadFields) (words d : ℕ) (q : Point) → HoldsNothing q → Lets (refusing seat h words d) q d seat.class on_its_way clear
 unfolding holds_of
@@ -343,7 +334,7 @@ refused-tells g s l caller x q words d class old has word after still small to t
       stock = refused-room g s l caller x q d class old to;
     }
 
--- a refusal for want of a frame
+-- a refusal for want of a frame keeps the state sound
 pub confirm_no_frame-sound :
     (seat : SeatFields) (h : HeadFields) (words d : ℕ)
     → KeepsSoundWhere (Stack (stack.ConfirmEmpty seat Frames h) (continuation.TakeFrame words d)) (λ s. s.word name.FrameHead ≡ head_word h)
@@ -393,7 +384,7 @@ confirm_no_frame-sound seat h words d g s caller s' sound has stands same step =
           step
     ]
 
--- so does the look whether the stack is still empty, where it is
+-- the look whether the stack is still empty keeps the state sound, where it is
 confirm_empty-cases :
     (g : Geometry) (s : State) (caller : ℕ) (s' : State) (seat : SeatFields) (pile : Pile) (h : HeadFields) (o : Continuation) → IsTrue (confirms pile o)
     → IsSoundWithoutCounts g s → caller < g.callers → (s.errand caller).point ≡ Stack (stack.ConfirmEmpty seat pile h) o
@@ -412,7 +403,7 @@ confirm_empty_won-sound seat pile h o g s caller s' sound has stands same step =
     fits-at g s sound.parts.0 caller (Stack (stack.ConfirmEmpty seat pile h) o) sound.parts.1 has stands in
     confirm_empty-cases g s caller s' seat pile h o fits.goes sound has stands same step
 
--- won or lost
+-- the look whether a stack is still empty, won or lost, keeps the state sound
 pub confirm_empty-sound :
     (seat : SeatFields) (pile : Pile) (h : HeadFields) (o : Continuation) → KeepsSound (Stack (stack.ConfirmEmpty seat pile h) o)
 confirm_empty-sound seat pile h o g s caller s' sound has stands step =

@@ -1,17 +1,14 @@
 -- Where a class's list is empty, fewer descriptors are out for the class than it has.
-use Rattle.std.proofs.Common.{ℕ, Bool, true, false, Option, Some, None, ◌≡◌, ◌<◌, ◌≤◌, ◌+◌, ◌*◌, [], length, refl, sym, ◌∙◌, ap, arith, inl, inr}
-use Rattle.std.specs.Prelude.{◌==◌, ◌&&◌, not, if◌then◌else◌, IsSome}
-use Rattle.std.proofs.lemmas.Bool.{cases_eq, cases_Bool, cond-true, cond-false, eq-eqb, ne_eqb}
-use Rattle.sound_state.proofs.Common.{Geometry, ActiveWord, Null, Held, active_of, info_of, is_empty, WordName, descriptor_count, word_count, Exists, word_name}
-use Rattle.sound_state.proofs.Common.{Point, State, fills_frame, waiting, holds_of, word_keeps, full_keeps, errand_has, Lists, word_stock, full_stock, errand_stock}
-use Rattle.sound_state.proofs.Common.{stock_among, waits_in, IsSoundWith, sum_below, words_sum, callers_sum, anchor_for, info_for, errand_keeps, errand_away}
-use Rattle.sound_state.proofs.Common.{away_of, waiting_of, is_bound}
+use Rattle.std.proofs.Common.{ℕ, Bool, true, false, Option, Some, None, ◌≡◌, ◌<◌, ◌≤◌, ◌+◌, ◌*◌, [], length, refl, sym, ◌∙◌, ap, arith, inl, inr, ◌==◌, ◌&&◌, not}
+use Rattle.std.proofs.Common.{if◌then◌else◌, IsSome, eq-eqb, ne_eqb}
+use Rattle.std.proofs.lemmas.Bool.{cases_eq, cases_Bool, cond-true, cond-false}
+use Rattle.sound_state.proofs.Common.{Geometry, ActiveWord, Null, Held, active_of, info_of, is_empty, WordName, descriptor_count, word_count, Exists, word_name, Point}
+use Rattle.sound_state.proofs.Common.{State, fills_frame, waiting, holds_of, word_keeps, full_keeps, errand_has, Lists, word_stock, full_stock, errand_stock}
+use Rattle.sound_state.proofs.Common.{stock_among, waits_in, IsSoundWith, sum_below, words_sum, callers_sum, anchor_for, info_for, errand_keeps, errand_away, away_of}
+use Rattle.sound_state.proofs.Common.{waiting_of, is_bound, word_name-Exists, active_keeps, stock_of}
 use Rattle.packed_words.specs.declared.anchor.AnchorState.{AnchorState as Phase}
 use Rattle.packed_words.specs.declared.anchor.AnchorState.TheVariants as phase
 use Rattle.word_table.specs.declared.name.WordName.TheVariants as name
-use Rattle.word_table.proofs.TableLemmas.{word_name-Exists}
-use Rattle.sound_state.specs.Keepers.{active_keeps}
-use Rattle.sound_state.specs.Stock.{stock_of}
 use Rattle.sound_state.proofs.shared.HeapNames.{slot_one, slots-most}
 use Rattle.sound_state.proofs.shared.RecallEffects.{empty-is}
 use Rattle.sound_state.proofs.shared.WeightSums.{words-least}
@@ -52,7 +49,7 @@ class-word class c word = grind (arith)
 class-slot : (class c word : ℕ) → (if (c == class) && (word == 0) then 0 else (if c == class then 1 else 0)) ≤ (if c == class then 1 else 0)
 class-slot class c word = grind (arith)
 
--- a word of the class is a slot, or an active word that holds a descriptor
+-- a word of the class in stock is a slot, or an active word that holds a descriptor
 word-parts :
     (g : Geometry) (s : State) (l : Lists) → IsSoundWith g s l → (class : ℕ) (n : WordName) → Exists g n
     → word_stock class n (s.word n) ≤ sum_below (descriptor_count g) (λ d. active_part d n (s.word n)) + slot_one class n
@@ -85,7 +82,7 @@ words-parts g s l sound class =
       slots-most g class,
     )
 
--- an active word keeps its descriptor; that of an EMPTY superblock it doesn't
+-- an active word keeps the descriptor that it holds, and holds none whose superblock is EMPTY
 part-kept : (d : ℕ) (n : WordName) (word : ℕ) → active_part d n word ≤ word_keeps d n word
 part-kept d n word = grind (arith)
 
@@ -118,7 +115,7 @@ parts-not g s l sound d empty =
     sum-none (word_count g) (λ k. active_part d (word_name g k) (s.word (word_name g k)))
     (λ k lt. part-not g s l sound d empty (word_name g k) (word_name-Exists g k lt))
 
--- who has it nowhere has it neither away nor waiting
+-- callers have a descriptor at least as often as it is away with one of them and waits
 nowhere :
     (g : Geometry) (s : State) (d : ℕ)
     → callers_sum g (errand_away d) s.errand + waiting_of g s d ≤ callers_sum g (errand_has d) s.errand
@@ -138,7 +135,7 @@ fills-one bound waits frame is none = grind (arith, is, none)
 bound-one : (away : ℕ) (p : Phase) → away ≡ 0 → is_empty p ≡ false → ((away == 0) && not (is_empty p)) ≡ true
 bound-one away p none is = grind (arith, none, is)
 
--- a superblock that an active word holds, or that is FULL, fills_frame a frame
+-- a superblock that an active word holds, or that is FULL, fills a frame
 desc-fills :
     (g : Geometry) (s : State) (l : Lists) → IsSoundWith g s l → (d : ℕ) → d < descriptor_count g
     → words_sum g (active_part d) s.word + full_keeps (anchor_for s d).state ≤ sum_below g.frames (λ f. fills_frame g s l f d)
@@ -170,7 +167,7 @@ desc-fills g s l sound d has =
           ]
     ]
 
--- there are no more of these than frames
+-- no more superblocks are FULL or held by active words than there are frames
 filled-most :
     (g : Geometry) (s : State) (l : Lists) → IsSoundWith g s l
     → sum_below (descriptor_count g) (λ d. words_sum g (active_part d) s.word) + sum_below (descriptor_count g) (λ d. full_keeps (anchor_for s d).state)
@@ -202,7 +199,7 @@ unfolding callers_sum
 callers-two g s caller class has none =
     omega (arith, sum-most-but g.callers (λ i. errand_stock class (s.errand i)) 2 caller has none (λ i lt. point-stocks-two class (s.errand i).point))
 
--- so one more may be out
+-- one descriptor more may be out for a class whose list is empty and for which a caller keeps none and waits for none
 pub look-stock :
     (g : Geometry) (s : State) (l : Lists) (caller class : ℕ) → IsSoundWith g s l → caller < g.callers → l.partials class ≡ []
     → errand_stock class (s.errand caller) ≡ 0 → stock_of g s l class + 1 ≤ g.frames + g.heaps + 2 * g.callers

@@ -4,20 +4,20 @@ ghost use Rattle.std.specs.Prelude.{ℕ, ◌≡◌, ◌<◌, List, Some, None, l
 ghost use Rattle.std.specs.List.{slice_index_or};
 ghost use Rattle.heap_geometry.specs.Need.{usable_words};
 ghost use Rattle.pool_model.specs.declared.event.Event.{Event};
+ghost use Rattle.errand_steps.specs.declared.told.Ending.TheVariants as ending;
 ghost use Rattle.trace_text.specs.declared.trace.Op.{Op};
 ghost use Rattle.trace_text.specs.declared.trace.Op.TheVariants as op;
 ghost use Rattle.trace_text.specs.declared.limits.TheConstants.{REGISTERS};
 ghost use Rattle.heap_geometry.specs.declared.limits.TheConstants.{SHELVES};
 ghost use Rattle.trace_text.specs.Traces.{IsOp};
-ghost use Rattle.lane_engine.specs.declared.stepped.Stepped.TheVariants as stepped;
 ghost use Rattle.lane_engine.specs.Machines.{ServesCaller};
-ghost use Rattle.trace_lane.specs.Advances.{MayAnswer, GoesOnBy, word_behind, total_with};
+ghost use Rattle.trace_lane.specs.Advances.{MayAnswer, MayAnswerEnd, GoesOnBy, GoesOnByEnd, word_behind, total_with};
 
 use super::LaneState;
 use super::registers::{put_in, take_out};
 use crate::stage::OperationStage;
+use errand_steps::told::{Ending, Stepped};
 use lane_engine::grip::Grip;
-use lane_engine::stepped::Stepped;
 use lane_engine::token::Token;
 use lane_outcomes::outcome::Outcome;
 use lane_outcomes::registers::Held;
@@ -83,32 +83,44 @@ impl LaneState<Grip> {
         requires ready { (seen : List Event) × (operations : List Op) × MayAnswer operation told core.old seen operations self.old }
         ensures answered { GoesOnBy operation told core.old core.new self.old self.new }
     {
+        if let Stepped::Done(ended) = told {
+            self.end_call(core, operation, ended);
+        }
+    }
+
+    /// Goes on by how a call of the operation at hand has ended.
+    fn end_call(&mut self, core: &mut Core, operation: Op, ended: Ending<Grip>)
+        requires serves { ServesCaller core.old self.old.caller }
+        requires operation { IsOp operation }
+        requires ready { (seen : List Event) × (operations : List Op) × MayAnswerEnd operation ended core.old seen operations self.old }
+        ensures answered { GoesOnByEnd operation ended core.old core.new self.old self.new }
+    {
         match operation {
-            Op::Alloc { r, need: _, v } => self.after_alloc(core, r, v, told),
-            Op::Free { r: _ } => self.after_free(core, told),
-            Op::Fill { r, v } => self.after_fill(core, r, v, told),
-            Op::Check { r } => self.after_check(core, r, told),
-            Op::Put { r, shelf: _ } => self.after_put(core, r, told),
-            Op::Take { r, shelf } => self.after_take(core, r, shelf, told),
-            Op::Resize { r, need: _ } => self.after_resize(core, r, told),
+            Op::Alloc { r, need: _, v } => self.after_alloc(core, r, v, ended),
+            Op::Free { r: _ } => self.after_free(core, ended),
+            Op::Fill { r, v } => self.after_fill(core, r, v, ended),
+            Op::Check { r } => self.after_check(core, r, ended),
+            Op::Put { r, shelf: _ } => self.after_put(core, r, ended),
+            Op::Take { r, shelf } => self.after_take(core, r, shelf, ended),
+            Op::Resize { r, need: _ } => self.after_resize(core, r, ended),
         }
     }
 
     /// An allocation: the block that is given goes into the register, and is filled.
-    fn after_alloc(&mut self, core: &mut Core, r: u16, v: u64, told: Stepped<Grip>)
+    fn after_alloc(&mut self, core: &mut Core, r: u16, v: u64, ended: Ending<Grip>)
         requires serves { ServesCaller core.old self.old.caller }
         requires register { r < REGISTERS }
-        requires ready { (need : ℕ) × (seen : List Event) × (operations : List Op) × MayAnswer (op.Alloc r need v) told core.old seen operations self.old }
-        ensures answered { (need : ℕ) → GoesOnBy (op.Alloc r need v) told core.old core.new self.old self.new }
+        requires ready { (need : ℕ) × (seen : List Event) × (operations : List Op) × MayAnswerEnd (op.Alloc r need v) ended core.old seen operations self.old }
+        ensures answered { (need : ℕ) → GoesOnByEnd (op.Alloc r need v) ended core.old core.new self.old self.new }
     {
-        match told {
-            Stepped::Given(block) => {
+        match ended {
+            Ending::Given(block) => {
                 put_in(&mut self.registers, r, block);
                 self.write_word(core, r, v, 0);
             }
-            Stepped::Refused => self.finish(Outcome::Refused),
-            Stepped::Spent => self.finish(Outcome::Spent),
-            Stepped::Wrote => {
+            Ending::Refused => self.finish(Outcome::Refused),
+            Ending::Spent => self.finish(Outcome::Spent),
+            Ending::Wrote => {
                 let words = self.words_in(r);
                 let place = self.place_in(r);
                 match self.next_word(words) {
@@ -116,32 +128,28 @@ impl LaneState<Grip> {
                     None => self.finish(Outcome::Given { words, place }),
                 }
             }
-            _ => {}
+            _ => unreachable!(),
         }
     }
 
     /// A free.
-    fn after_free(&mut self, _core: &mut Core, told: Stepped<Grip>)
+    fn after_free(&mut self, _core: &mut Core, ended: Ending<Grip>)
         requires serves { ServesCaller _core.old self.old.caller }
-        requires ready { (r : ℕ) × (seen : List Event) × (operations : List Op) × MayAnswer (op.Free r) told _core.old seen operations self.old }
-        ensures answered { (r : ℕ) → GoesOnBy (op.Free r) told _core.old _core.new self.old self.new }
+        requires ready { (r : ℕ) × (seen : List Event) × (operations : List Op) × MayAnswerEnd (op.Free r) ended _core.old seen operations self.old }
+        ensures answered { (r : ℕ) → GoesOnByEnd (op.Free r) ended _core.old _core.new self.old self.new }
     {
-        let Stepped::Freed = told else {
-            return;
-        };
+        let Ending::Freed = ended else { unreachable!() };
         self.finish(Outcome::Freed);
     }
 
     /// A fill: the write of the next word begins.
-    fn after_fill(&mut self, core: &mut Core, r: u16, v: u64, told: Stepped<Grip>)
+    fn after_fill(&mut self, core: &mut Core, r: u16, v: u64, ended: Ending<Grip>)
         requires serves { ServesCaller core.old self.old.caller }
         requires register { r < REGISTERS }
-        requires ready { (seen : List Event) × (operations : List Op) × MayAnswer (op.Fill r v) told core.old seen operations self.old }
-        ensures answered { GoesOnBy (op.Fill r v) told core.old core.new self.old self.new }
+        requires ready { (seen : List Event) × (operations : List Op) × MayAnswerEnd (op.Fill r v) ended core.old seen operations self.old }
+        ensures answered { GoesOnByEnd (op.Fill r v) ended core.old core.new self.old self.new }
     {
-        let Stepped::Wrote = told else {
-            return;
-        };
+        let Ending::Wrote = ended else { unreachable!() };
         let words = self.words_in(r);
         match self.next_word(words) {
             Some(next) => self.write_word(core, r, v, next),
@@ -150,14 +158,14 @@ impl LaneState<Grip> {
     }
 
     /// A check: the word is added, and the read of the next one begins.
-    fn after_check(&mut self, core: &mut Core, r: u16, told: Stepped<Grip>)
+    fn after_check(&mut self, core: &mut Core, r: u16, ended: Ending<Grip>)
         requires serves { ServesCaller core.old self.old.caller }
         requires register { r < REGISTERS }
-        requires ready { (seen : List Event) × (operations : List Op) × MayAnswer (op.Check r) told core.old seen operations self.old }
-        ensures answered { GoesOnBy (op.Check r) told core.old core.new self.old self.new }
+        requires ready { (seen : List Event) × (operations : List Op) × MayAnswerEnd (op.Check r) ended core.old seen operations self.old }
+        ensures answered { GoesOnByEnd (op.Check r) ended core.old core.new self.old self.new }
     {
-        let Stepped::Word(word) = told else {
-            return;
+        let Ending::Word(word) = ended else {
+            unreachable!()
         };
         let total = self.total_with(word);
         let words = self.words_in(r);
@@ -168,64 +176,64 @@ impl LaneState<Grip> {
     }
 
     /// A put: where the shelf is full the block goes back into the register.
-    fn after_put(&mut self, _core: &mut Core, r: u16, told: Stepped<Grip>)
+    fn after_put(&mut self, _core: &mut Core, r: u16, ended: Ending<Grip>)
         requires serves { ServesCaller _core.old self.old.caller }
         requires register { r < REGISTERS }
-        requires ready { (shelf : ℕ) × (seen : List Event) × (operations : List Op) × MayAnswer (op.Put r shelf) told _core.old seen operations self.old }
-        ensures answered { (shelf : ℕ) → GoesOnBy (op.Put r shelf) told _core.old _core.new self.old self.new }
+        requires ready { (shelf : ℕ) × (seen : List Event) × (operations : List Op) × MayAnswerEnd (op.Put r shelf) ended _core.old seen operations self.old }
+        ensures answered { (shelf : ℕ) → GoesOnByEnd (op.Put r shelf) ended _core.old _core.new self.old self.new }
     {
-        match told {
-            Stepped::Put => self.finish(Outcome::Put),
-            Stepped::Full(block) => {
+        match ended {
+            Ending::Put => self.finish(Outcome::Put),
+            Ending::Full { block, .. } => {
                 put_in(&mut self.registers, r, block);
                 self.finish(Outcome::ShelfFull);
             }
-            _ => {}
+            _ => unreachable!(),
         }
     }
 
     /// A take: one that missed the shelf's block is tried again.
-    fn after_take(&mut self, core: &mut Core, r: u16, shelf: u8, told: Stepped<Grip>)
+    fn after_take(&mut self, core: &mut Core, r: u16, shelf: u8, ended: Ending<Grip>)
         requires serves { ServesCaller core.old self.old.caller }
         requires register { r < REGISTERS }
         requires shelf { shelf < SHELVES }
-        requires ready { (seen : List Event) × (operations : List Op) × MayAnswer (op.Take r shelf) told core.old seen operations self.old }
-        ensures answered { GoesOnBy (op.Take r shelf) told core.old core.new self.old self.new }
+        requires ready { (seen : List Event) × (operations : List Op) × MayAnswerEnd (op.Take r shelf) ended core.old seen operations self.old }
+        ensures answered { GoesOnByEnd (op.Take r shelf) ended core.old core.new self.old self.new }
     {
-        match told {
-            Stepped::Got(block) => {
+        match ended {
+            Ending::Got(block) => {
                 let words = block.words();
                 let place = block.place();
                 let need = block.need();
                 put_in(&mut self.registers, r, block);
                 self.finish(Outcome::Took { words, place, need });
             }
-            Stepped::Empty => self.finish(Outcome::ShelfEmpty),
-            Stepped::Missed => core.begin_take(self.caller, shelf),
-            _ => {}
+            Ending::Empty => self.finish(Outcome::ShelfEmpty),
+            Ending::Missed { .. } => core.begin_take(self.caller, shelf),
+            _ => unreachable!(),
         }
     }
 
     /// A resize: the block that is given goes into the register, the old one is copied there word by word, and then it
     /// is freed.
-    fn after_resize(&mut self, core: &mut Core, r: u16, told: Stepped<Grip>)
+    fn after_resize(&mut self, core: &mut Core, r: u16, ended: Ending<Grip>)
         requires serves { ServesCaller core.old self.old.caller }
         requires register { r < REGISTERS }
-        requires ready { (need : ℕ) × (seen : List Event) × (operations : List Op) × MayAnswer (op.Resize r need) told core.old seen operations self.old }
-        ensures answered { (need : ℕ) → GoesOnBy (op.Resize r need) told core.old core.new self.old self.new }
+        requires ready { (need : ℕ) × (seen : List Event) × (operations : List Op) × MayAnswerEnd (op.Resize r need) ended core.old seen operations self.old }
+        ensures answered { (need : ℕ) → GoesOnByEnd (op.Resize r need) ended core.old core.new self.old self.new }
     {
-        match told {
-            Stepped::Given(block) => self.copy_into(core, r, block),
-            Stepped::Refused => self.finish(Outcome::Refused),
-            Stepped::Spent => self.finish(Outcome::Spent),
-            Stepped::Word(word) => self.copy_word(core, r, word),
-            Stepped::Wrote => self.copy_next(core, r),
-            Stepped::Freed => {
+        match ended {
+            Ending::Given(block) => self.copy_into(core, r, block),
+            Ending::Refused => self.finish(Outcome::Refused),
+            Ending::Spent => self.finish(Outcome::Spent),
+            Ending::Word(word) => self.copy_word(core, r, word),
+            Ending::Wrote => self.copy_next(core, r),
+            Ending::Freed => {
                 let words = self.words_in(r);
                 let place = self.place_in(r);
                 self.finish(Outcome::Resized { words, place });
             }
-            _ => {}
+            _ => unreachable!(),
         }
     }
 
@@ -234,8 +242,8 @@ impl LaneState<Grip> {
         requires serves { ServesCaller core.old self.old.caller }
         requires register { r < REGISTERS }
         requires ready { (need : ℕ) × (seen : List Event) × (operations : List Op)
-            × MayAnswer (op.Resize r need) (stepped.Given block) core.old seen operations self.old }
-        ensures answered { (need : ℕ) → GoesOnBy (op.Resize r need) (stepped.Given block) core.old core.new self.old self.new }
+            × MayAnswerEnd (op.Resize r need) (ending.Given block) core.old seen operations self.old }
+        ensures answered { (need : ℕ) → GoesOnByEnd (op.Resize r need) (ending.Given block) core.old core.new self.old self.new }
     {
         let Some(old) = take_out(&mut self.registers, r) else {
             unreachable!()
@@ -254,8 +262,8 @@ impl LaneState<Grip> {
         requires serves { ServesCaller core.old self.old.caller }
         requires register { r < REGISTERS }
         requires ready { (need : ℕ) × (seen : List Event) × (operations : List Op)
-            × MayAnswer (op.Resize r need) (stepped.Word word) core.old seen operations self.old }
-        ensures answered { (need : ℕ) → GoesOnBy (op.Resize r need) (stepped.Word word) core.old core.new self.old self.new }
+            × MayAnswerEnd (op.Resize r need) (ending.Word word) core.old seen operations self.old }
+        ensures answered { (need : ℕ) → GoesOnByEnd (op.Resize r need) (ending.Word word) core.old core.new self.old self.new }
     {
         let OperationStage::Copying { old, next, word: _ } = self.stage else {
             unreachable!()
@@ -269,8 +277,8 @@ impl LaneState<Grip> {
         requires serves { ServesCaller core.old self.old.caller }
         requires register { r < REGISTERS }
         requires ready { (need : ℕ) × (seen : List Event) × (operations : List Op)
-            × MayAnswer (op.Resize r need) stepped.Wrote core.old seen operations self.old }
-        ensures answered { (need : ℕ) → GoesOnBy (op.Resize r need) stepped.Wrote core.old core.new self.old self.new }
+            × MayAnswerEnd (op.Resize r need) ending.Wrote core.old seen operations self.old }
+        ensures answered { (need : ℕ) → GoesOnByEnd (op.Resize r need) ending.Wrote core.old core.new self.old self.new }
     {
         let OperationStage::Copying { old, .. } = self.stage else {
             unreachable!()

@@ -5,7 +5,7 @@ use Rattle.sound_state.specs.Lists.{Lists, IsListed}
 use Rattle.heap_census.specs.Census.{IsClassCount, closed_state, no_blocks}
 use Rattle.heap_census.proofs.counting.count_classes.Given as goal
 
--- the classes so far are counted
+-- the classes before the next one are counted
 abbrev pub invariant-loop-class : goal.invariant-loop-class
 invariant-loop-class l = record {
   classes : length l.counts ≡ CLASSES;

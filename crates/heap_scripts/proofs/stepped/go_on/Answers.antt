@@ -1,8 +1,9 @@
 use Rattle.std.proofs.Common.{◌≡◌, ◌++◌, [], append-nil, sym, subst}
+use Rattle.errand_steps.specs.declared.told.Ending.{Ending}
+use Rattle.errand_steps.specs.declared.told.Stepped.{Stepped}
+use Rattle.errand_steps.specs.declared.told.Stepped.TheVariants as step
 use Rattle.errand_steps.specs.Begins.{IsBusy}
-use Rattle.live_heap.specs.declared.answers.Ending.{Ending}
-use Rattle.live_heap.specs.declared.answers.Step.{Step}
-use Rattle.live_heap.specs.declared.answers.Step.TheVariants as step
+use Rattle.live_heap.specs.declared.block.Block.{Block}
 use Rattle.live_heap.specs.Answers.{HasStepped}
 use Rattle.live_heap.specs.Hands.{IsHand, brought_in}
 use Rattle.live_heap.specs.Steps.{IsDone}
@@ -21,7 +22,7 @@ loop-preserved c =
     let i = c.loop.invariant in
     let w = i.hand.waits i.busy in
     let stepped : HasStepped c.loop.pass c.step.new.pass c.step.result = c.step.ensures.busy i.busy in
-    let on : (same : Step) → c.step.result ≡ same → ¬ IsDone same → IsHand c.args.heap.now c.step.new.pass (c.loop.blocks.items ++ brought_in same) × IsBusy c.step.new.pass.errand =
+    let on : (same : Stepped Block) → c.step.result ≡ same → ¬ IsDone same → IsHand c.args.heap.now c.step.new.pass (c.loop.blocks.items ++ brought_in same) × IsBusy c.step.new.pass.errand =
     λ same is undone.
     let told = subst (HasStepped c.loop.pass c.step.new.pass) is stepped in (
       c.hands_go_through_steps.ensures.stepped c.args.heap.now c.loop.pass c.step.new.pass c.loop.blocks.items same i.hand i.busy c.step.ensures.of told,

@@ -1,7 +1,8 @@
 use Rattle.std.proofs.Common.{◌<◌, ◌++◌, length, refl, sym, subst, rules}
+use Rattle.errand_steps.specs.declared.told.Stepped.{Stepped}
 use Rattle.errand_steps.specs.Begins.{IsIdle}
 use Rattle.errand_steps.specs.Calls.{Call, put}
-use Rattle.live_heap.specs.declared.answers.Step.{Step}
+use Rattle.live_heap.specs.declared.block.Block.{Block}
 use Rattle.live_heap.specs.Answers.{HasStepped}
 use Rattle.live_heap.specs.Hands.{IsHand, brought_in}
 use Rattle.heap_scripts.proofs.stepped.put.Goals as goal
@@ -29,6 +30,6 @@ returns c =
     let stepped = subst (HasStepped b q) done.1 (c.step.ensures.busy calling.busy) in
     let rest = c.remove-block.new.self.items in
     subst (IsHand c.args.heap.now q) (sym c.take_step.ensures)
-    (subst (λ (told : Step). IsHand c.args.heap.now q (rest ++ brought_in told)) (sym done.1)
+    (subst (λ (told : Stepped Block). IsHand c.args.heap.now q (rest ++ brought_in told)) (sym done.1)
     (c.hands_go_through_calls.ensures.ended c.args.heap.now p q rest call 0 done.0 c.requires.of out.2 c.step.ensures.of out.1
     (law.ends p call 0 b q done.0 calling stepped) (law.tells p call 0 b q done.0 calling stepped)))

@@ -1,8 +1,8 @@
 use Rattle.std.proofs.Common.{◌≡◌, ◌++◌, List, refl, sym, ap, ◌∙◌, subst, rules}
+use Rattle.errand_steps.specs.declared.told.Stepped.{Stepped}
+use Rattle.errand_steps.specs.declared.told.Stepped.TheVariants as step
 use Rattle.errand_steps.specs.Begins.{IsIdle}
 use Rattle.errand_steps.specs.Calls.{Call, take}
-use Rattle.live_heap.specs.declared.answers.Step.{Step}
-use Rattle.live_heap.specs.declared.answers.Step.TheVariants as step
 use Rattle.live_heap.specs.declared.block.Block.{Block}
 use Rattle.live_heap.specs.Answers.{HasStepped}
 use Rattle.live_heap.specs.Hands.{IsHand, brought_in}
@@ -26,6 +26,6 @@ returns c =
     let stepped = subst (HasStepped a q) done.1 (c.step-2.ensures.busy on.busy) in
     subst (IsHand c.args.heap.now q)
     (sym (c.take_step.ensures ∙ ap (λ (l : List Block). l ++ brought_in c.step-2.result) c.reserve.ensures.items))
-    (subst (λ (told : Step). IsHand c.args.heap.now q (blocks ++ brought_in told)) (sym done.1)
+    (subst (λ (told : Stepped Block). IsHand c.args.heap.now q (blocks ++ brought_in told)) (sym done.1)
     (c.hands_go_through_calls.ensures.ended c.args.heap.now p q blocks call 1 done.0 c.requires.of (c.requires.holds idle) c.step-2.ensures.of
     (λ k d within. tt) (law.ends p call 1 a q done.0 on stepped) (law.tells p call 1 a q done.0 on stepped)))

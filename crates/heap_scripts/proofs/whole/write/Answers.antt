@@ -1,6 +1,6 @@
 use Rattle.std.proofs.Common.{◌<◌, length, append-nil, subst, rules}
+use Rattle.errand_steps.specs.declared.told.Ending.TheVariants as ending
 use Rattle.errand_steps.specs.Begins.{IsIdle}
-use Rattle.live_heap.specs.declared.answers.Ending.TheVariants as ending
 use Rattle.live_heap.specs.Hands.{IsHand}
 use Rattle.heap_scripts.proofs.whole.write.Goals as goal
 

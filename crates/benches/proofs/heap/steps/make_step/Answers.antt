@@ -1,5 +1,5 @@
 use Rattle.std.proofs.Common.{ap, ◌∙◌}
-use Rattle.live_heap.specs.declared.answers.Step.TheVariants.{Done}
+use Rattle.errand_steps.specs.declared.told.Stepped.TheVariants.{Done}
 use Rattle.benches.proofs.MadeLemmas.{given-owned}
 use Rattle.benches.proofs.heap.steps.make_step.Goals as goal
 

@@ -7,7 +7,7 @@ use Rattle.live_heap.proofs.Holding.{all-out}
 use Rattle.block_cache.proofs.MagazineLemmas.{less-on-top, magazine-at, magazine-less, magazines-after, replaces}
 use Rattle.block_cache.proofs.magazines.Magazines.pop.Goals as goal
 
--- what a pop replaces
+-- the magazine that a pop replaces
 pub returns-clause-ready : goal.returns-clause-ready
 returns-clause-ready c =
     let s = c.args.self.now in

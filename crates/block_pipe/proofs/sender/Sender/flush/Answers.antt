@@ -9,7 +9,7 @@ use Rattle.block_pipe.specs.Notes.{MayComeNext, StandsFor, of_sender}
 use Rattle.block_pipe.proofs.NoteMoves.{of-same, sends, stands-learn}
 use Rattle.block_pipe.proofs.sender.Sender.flush.Goals as goal
 
--- the pending note is the next one
+-- the pending note is the sender's, and may come next behind those that it has sent
 next-of :
     (pipe : Pipe) (s : Sender) (note : Note) → IsSender pipe s → s.pending ≡ Some note
     → (note.sender ≡ s.number) × IsNextIn pipe (view s.end).sent note

@@ -1,7 +1,8 @@
 use Rattle.std.proofs.Common.{Option, Some, None, sym, ◌∙◌, subst, refl, inl}
+use Rattle.errand_steps.specs.declared.told.Ending.{Ending}
 use Rattle.errand_steps.specs.Calls.{alloc}
 use Rattle.live_heap.specs.declared.answers.AllocAnswer.{AllocAnswer}
-use Rattle.live_heap.specs.declared.answers.Ending.{Ending}
+use Rattle.live_heap.specs.declared.block.Block.{Block}
 use Rattle.live_heap.specs.Answers.{AllocTells, reply_in}
 use Rattle.live_heap.specs.Calls.{GoesOn}
 use Rattle.live_heap.proofs.CallsGrow.{alloc-calling}
@@ -17,7 +18,7 @@ pub alloc_ended-requires : goal.alloc_ended-requires
 alloc_ended-requires c =
     let b = c.begin_alloc.ensures in
     let calling = alloc-calling c.args.pass.now c.begin_alloc.new.pass c.args.need b.begun c.requires.idle (sym b.answer ∙ c.in-Started.is) in
-    let G : Option Ending → Type 0 = λ o. GoesOn c.args.pass.now (alloc c.args.need) 0 c.begin_alloc.new.pass c.args.tries (reply_in o) c.go_on.new.pass in
+    let G : Option (Ending Block) → Type 0 = λ o. GoesOn c.args.pass.now (alloc c.args.need) 0 c.begin_alloc.new.pass c.args.tries (reply_in o) c.go_on.new.pass in
     let ends : G (Some c.in-Some.ending) = subst G c.in-Some.is (c.go_on.ensures.goes c.args.pass.now (alloc c.args.need) 0 calling) in
     let all = ends.called.ended.ended in
     ending-of_alloc c.args.need c.in-Some.ending all.0 all.1
@@ -55,7 +56,7 @@ returns-in-Some-clause-tells c =
     let p = c.args.pass.now in
     let q = c.go_on.new.pass in
     let calling = alloc-calling p c.begin_alloc.new.pass c.args.need b.begun c.requires.idle (sym b.answer ∙ c.in-Started.is) in
-    let G : Option Ending → Type 0 = λ o. GoesOn p (alloc c.args.need) 0 c.begin_alloc.new.pass c.args.tries (reply_in o) q in
+    let G : Option (Ending Block) → Type 0 = λ o. GoesOn p (alloc c.args.need) 0 c.begin_alloc.new.pass c.args.tries (reply_in o) q in
     let ends : G (Some c.in-Some.ending) = subst G c.in-Some.is (c.go_on.ensures.goes p (alloc c.args.need) 0 calling) in
     let T : AllocAnswer → Type 0 = λ a. AllocTells p c.args.need c.args.tries a q in
     subst T (sym c.alloc_ended.ensures)
@@ -73,6 +74,6 @@ returns-in-None-clause-tells c =
     let p = c.args.pass.now in
     let q = c.go_on.new.pass in
     let calling = alloc-calling p c.begin_alloc.new.pass c.args.need b.begun c.requires.idle (sym b.answer ∙ c.in-Started.is) in
-    let G : Option Ending → Type 0 = λ o. GoesOn p (alloc c.args.need) 0 c.begin_alloc.new.pass c.args.tries (reply_in o) q in
+    let G : Option (Ending Block) → Type 0 = λ o. GoesOn p (alloc c.args.need) 0 c.begin_alloc.new.pass c.args.tries (reply_in o) q in
     let over : G None = subst G c.in-None.is (c.go_on.ensures.goes p (alloc c.args.need) 0 calling) in
     interrupted-since p c.begin_alloc.new.pass (alloc c.args.need) c.args.tries q b.begun over

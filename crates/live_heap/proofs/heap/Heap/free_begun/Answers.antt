@@ -1,6 +1,7 @@
 use Rattle.std.proofs.Common.{Option, Some, None, subst}
+use Rattle.errand_steps.specs.declared.told.Ending.{Ending}
 use Rattle.errand_steps.specs.Calls.{Call, free}
-use Rattle.live_heap.specs.declared.answers.Ending.{Ending}
+use Rattle.live_heap.specs.declared.block.Block.{Block}
 use Rattle.live_heap.specs.Answers.{reply_in}
 use Rattle.live_heap.specs.Calls.{GoesOn}
 use Rattle.live_heap.proofs.Begun.{heap-block}
@@ -23,7 +24,7 @@ returns-in-Some c =
     let begun = c.begin_free.ensures.begun in
     let calling = other-calling p c.begin_free.new.pass call begun c.requires.idle
     (heap-block c.args.self.now p c.args.block c.requires.of c.requires.owned) (λ words is. cc) in
-    let G : Option Ending → Type 0 = λ o. GoesOn p call 0 c.begin_free.new.pass c.args.tries (reply_in o) q in
+    let G : Option (Ending Block) → Type 0 = λ o. GoesOn p call 0 c.begin_free.new.pass c.args.tries (reply_in o) q in
     let ends : G (Some c.in-Some.field-0) = subst G c.in-Some.is (c.go_on.ensures.goes p call 0 calling) in
     record {
       of = c.go_on.ensures.of;
@@ -38,6 +39,6 @@ returns-in-None c =
     let begun = c.begin_free.ensures.begun in
     let calling = other-calling p c.begin_free.new.pass call begun c.requires.idle
     (heap-block c.args.self.now p c.args.block c.requires.of c.requires.owned) (λ words is. cc) in
-    let G : Option Ending → Type 0 = λ o. GoesOn p call 0 c.begin_free.new.pass c.args.tries (reply_in o) q in
+    let G : Option (Ending Block) → Type 0 = λ o. GoesOn p call 0 c.begin_free.new.pass c.args.tries (reply_in o) q in
     let over : G None = subst G c.in-None.is (c.go_on.ensures.goes p call 0 calling) in
     record { of = c.go_on.ensures.of; tells = interrupted-since p c.begin_free.new.pass call c.args.tries q begun over }

@@ -1,7 +1,7 @@
 use Rattle.std.proofs.Common.{◌≡◌, sym, ap, ◌∙◌, rules, inl, inr}
+use Rattle.errand_steps.specs.declared.told.Ending.TheVariants.{Put, Full}
+use Rattle.errand_steps.specs.declared.told.Stepped.TheVariants.{Done}
 use Rattle.errand_steps.specs.Calls.{Call, put}
-use Rattle.live_heap.specs.declared.answers.Ending.TheVariants.{Put, Full}
-use Rattle.live_heap.specs.declared.answers.Step.TheVariants.{Done}
 use Rattle.live_heap.proofs.Begun.{heap-block}
 use Rattle.live_heap.proofs.CallsGrow.{other-calling}
 use Rattle.live_heap.proofs.CallsOne.{ends-one, put-full, put-told}

@@ -1,8 +1,8 @@
 use Rattle.std.proofs.Common.{◌<◌, ◌+◌, refl, subst}
 use Rattle.word_table.specs.Counts.{arena_words}
+use Rattle.errand_steps.specs.declared.told.Ending.TheVariants as ending
+use Rattle.errand_steps.specs.declared.told.Stepped.TheVariants as step
 use Rattle.errand_steps.specs.Calls.{Call, begun_by, read}
-use Rattle.live_heap.specs.declared.answers.Ending.TheVariants as ending
-use Rattle.live_heap.specs.declared.answers.Step.TheVariants as step
 use Rattle.live_heap.specs.declared.pass.Pass.{Pass}
 use Rattle.live_heap.specs.Going.{in_call}
 use Rattle.live_heap.specs.Sights.{found_in}

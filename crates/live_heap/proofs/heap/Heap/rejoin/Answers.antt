@@ -1,7 +1,7 @@
 use Rattle.std.proofs.Common.{refl, sym, subst}
 use Rattle.errand_steps.specs.Begins.{IsBusy}
 use Rattle.live_heap.specs.declared.pass.Pass.{Pass}
-use Rattle.live_heap.proofs.JoinLemmas.{joins-answerable, joins-cleared, joins-ends, joins-lost, joins-more, joins-never, joins-of}
+use Rattle.live_heap.proofs.JoinLemmas.{joins-tellable, joins-cleared, joins-ends, joins-lost, joins-more, joins-never, joins-of}
 use Rattle.live_heap.proofs.heap.Heap.rejoin.Goals as goal
 
 pub plan-action-requires : goal.plan-action-requires
@@ -44,7 +44,7 @@ pub ended-requires : goal.ended-requires
 ended-requires g c =
     let q : Pass = record { seat = c.args.pass.now.seat; errand = c.go_on.new.self } in
     let t = c.go_on.ensures in
-    joins-answerable c.args.self.now g.start c.args.tries _ c.args.pass.now c.requires.1 q c.go_on.result refl t.errand t.answer c.in-Done.reply c.in-Done.is
+    joins-tellable c.args.self.now g.start c.args.tries _ c.args.pass.now c.requires.1 q c.go_on.result refl t.errand t.answer c.in-Done.reply c.in-Done.is
 
 pub returns-in-Done : goal.returns-in-Done
 returns-in-Done g c =

@@ -2,12 +2,13 @@ use Rattle.std.proofs.Common.{ap, sym, ◌∙◌, subst}
 use Rattle.word_table.specs.Actions.{name_of}
 use Rattle.word_table.specs.Table.{Exists}
 use Rattle.errand_steps.specs.Errands.{ErrandFields}
+use Rattle.errand_steps.specs.Told.{GivesBack, IsTellable}
 use Rattle.step_machine.proofs.MomentAnswers.{settle-caller}
 use Rattle.live_heap.specs.declared.pass.Pass.{Pass}
-use Rattle.live_heap.specs.Answers.{GivesBack, IsAnswerable}
+use Rattle.live_heap.specs.Answers.{block_need, block_place}
 use Rattle.live_heap.proofs.Begun.{of-laid}
 use Rattle.live_heap.proofs.Stepped.{of-sight, still-of, took-access, took-step, has-stepped}
-use Rattle.live_heap.proofs.Told.{moment-answerable}
+use Rattle.live_heap.proofs.Told.{moment-tellable}
 use Rattle.live_heap.proofs.heap.Heap.step.Goals as goal
 
 pub act-found-requires-clause-sight : goal.act-found-requires-clause-sight
@@ -22,7 +23,7 @@ told-requires c =
     let s = c.act-found.ensures.step in
     let q : Pass = record { seat = c.act-found.new.seat; errand = c.go_on-progress.new.self } in
     let m = took-step c.args.pass.now q s.0 c.go_on-progress.result (c.go_on-progress.ensures.errand ∙ s.2) (c.go_on-progress.ensures.answer ∙ s.3) s.1 in
-    subst (λ o. IsAnswerable o c.go_on-progress.result) (sym c.offered-offer.ensures) (moment-answerable _ _ _ _ _ m)
+    subst (λ o. IsTellable o c.go_on-progress.result) (sym c.offered-offer.ensures) (moment-tellable _ _ _ _ _ m)
 
 pub returns-clause-of : goal.returns-clause-of
 returns-clause-of c =
@@ -43,4 +44,4 @@ returns-clause-busy c =
     let m = took-step c.args.pass.now q s.0 c.go_on-progress.result (c.go_on-progress.ensures.errand ∙ s.2) (c.go_on-progress.ensures.answer ∙ s.3) s.1 in
     λ busy.
     has-stepped c.args.pass.now q c.go_on-progress.result c.told.result m (took-access c.args.pass.now.errand c.args.pass.now q s.0 s.1) c.told.ensures.progress
-    (subst (λ o. GivesBack o c.told.result) c.offered-offer.ensures c.told.ensures.back)
+    (subst (λ o. GivesBack block_place block_need o c.told.result) c.offered-offer.ensures c.told.ensures.back)

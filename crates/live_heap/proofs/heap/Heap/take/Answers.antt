@@ -1,7 +1,7 @@
 use Rattle.std.proofs.Common.{◌≡◌, sym, ap, ◌∙◌, rules, inl, inr}
+use Rattle.errand_steps.specs.declared.told.Ending.TheVariants.{Got, Empty, Missed}
+use Rattle.errand_steps.specs.declared.told.Stepped.TheVariants.{Done}
 use Rattle.errand_steps.specs.Calls.{Call, take}
-use Rattle.live_heap.specs.declared.answers.Ending.TheVariants.{Got, Empty, Missed}
-use Rattle.live_heap.specs.declared.answers.Step.TheVariants.{Done}
 use Rattle.live_heap.proofs.CallsGrow.{other-calling}
 use Rattle.live_heap.proofs.CallsAnswers.{got-owns}
 use Rattle.live_heap.proofs.CallsOne.{ends-one, take-goes_on, take-missed, take-told}

@@ -1,7 +1,7 @@
 use Rattle.std.proofs.Common.{◌<◌, ◌+◌, arith, subst}
 use Rattle.word_table.specs.Counts.{arena_words}
+use Rattle.errand_steps.specs.declared.told.Ending.TheVariants as ending
 use Rattle.errand_steps.specs.Calls.{Call, begun_by, write}
-use Rattle.live_heap.specs.declared.answers.Ending.TheVariants as ending
 use Rattle.live_heap.specs.declared.pass.Pass.{Pass}
 use Rattle.live_heap.specs.Sights.{found_in}
 use Rattle.live_heap.proofs.Begun.{heap-at, of-laid}

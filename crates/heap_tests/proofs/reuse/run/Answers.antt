@@ -1,0 +1,33 @@
+use Rattle.std.proofs.Common.{ℕ, ◌∙◌, subst, sym}
+use Rattle.heap_tests.specs.Reuse.{HasWorked}
+use Rattle.heap_tests.proofs.EmbeddedEnds.{none-live}
+use Rattle.heap_tests.proofs.ReuseEnds.{worked-hits, worked-nothing, worked-turns}
+use Rattle.heap_tests.proofs.reuse.run.Goals as goal
+
+pub returns-in_ok-close-in-Ok : goal.returns-in_ok-close-in-Ok
+returns-in_ok-close-in-Ok c =
+    let h = c.in_ok-heap.heap in
+    let first = c.in_ok-heap.cache in
+    let last = c.work.new.cache in
+    let sum = c.in-Ok.sum in
+    let opened = c.in_ok-heap.ensures in
+    let worked = c.in-Ok.ensures in
+    let told = c.in_ok-close-in-Ok.ensures in
+    let closed = c.in_ok-close-in-Ok.field-0.closed in
+    let weaker = c.histories_grow_by_events.ensures.weaker in
+    let legal = weaker closed.geometry closed.events (c.closed_heaps_are_sound.ensures.legal closed told.at_rest) in
+    let nothing = worked-nothing h first sum last closed c.live_blocks_are_counted.ensures.blocks opened worked told.closed legal in
+    record {
+      heap = h;
+      cache = first;
+      opened = opened;
+      last = last;
+      worked = subst (λ (n : ℕ). HasWorked h first n last) (sym told.counts.0) worked;
+      closed = told.closed;
+      hits = told.counts.1 ∙ worked-hits h first sum last opened worked;
+      turns =
+          told.counts.2
+          ∙ worked-turns h first sum last c.passes_are_served.ensures.served c.passes_are_served.ensures.alone weaker opened worked;
+      nothing = nothing;
+      live = told.counts.3 ∙ none-live closed nothing;
+    }
