@@ -41,7 +41,7 @@ def tables_of(text):
 
 def tables():
     """All tables in specs: crate, name, types, whether with a default line."""
-    for path in sorted(ROOT.glob("crates/*/specs/*.antt")):
+    for path in sorted(ROOT.glob("crates/*/specs/**/*.antt")):
         crate = path.relative_to(ROOT / "crates").parts[0]
         for name, over, default in tables_of(path.read_text()):
             yield crate, name, over, default

@@ -1,6 +1,8 @@
 -- A call by a handle.
 use Rattle.std.proofs.Common.{inl, inr, ⊎_elim, w32, to_z, of_z, ℕ, ◌≡◌, Bool, Option, Some, None, Result, Ok, Err, refl, sym, ap, ◌∙◌, subst}
-use Rattle.std.specs.Prelude.{ℤ, pos, Bool, true, false}
+use Rattle.std.specs.Prelude.{ℤ, pos, Box, Bool, true, false, option_map}
+use Rattle.std.specs.Global.{Global}
+use Rattle.std.proofs.lemmas.Option.{same_Some}
 use Rattle.std.specs.Arc.{arc_value}
 use Rattle.live_heap.specs.declared.heap.Heap.{Heap}
 use Rattle.shared_heap.specs.declared.shared.SharedHeap.{SharedHeap}
@@ -10,7 +12,7 @@ use Rattle.balloc_c.specs.declared.hand.Hand.{Hand}
 use Rattle.balloc_c.specs.declared.refusal.Refusal.{Refusal}
 use Rattle.balloc_c.specs.declared.refusal.Refusal.TheVariants as refusal
 use Rattle.balloc_c.specs.Closed.{Closes, ClosesHeap, LeavesBlocks, Shuts, TellsCensus}
-use Rattle.balloc_c.specs.Tended.{heap_of}
+use Rattle.balloc_c.specs.Hands.{heap_of}
 use Rattle.balloc_c.specs.Codes.{code_in, code_of, resumed_code}
 use Rattle.balloc_c.specs.Outcomes.{Told}
 
@@ -53,11 +55,10 @@ pub shown_cause : (cause : Refusal) (code : ℤ) → code ≡ code_of cause → 
 shown_cause cause code is = ap (λ (z : ℤ). to_z w32 (of_z w32 z)) is ∙ cause-fits cause
 
 pub told :
-    {A : Type 0} (Call : Hand → Result A Refusal → Hand → Type 0) (Shows : Result A Refusal → Type 0) (was now : Option Hand)
-    (before next : Hand) (result : Result A Refusal) → was ≡ Some before → now ≡ Some next → Shows result → Call before result next
-    → Told Call was Shows now
-told Call Shows was now before next result held holds shows called =
-    subst (λ (o : Option Hand). Told Call o Shows now) (sym held) (result, next, shows, holds, called)
+    {A : Type 0} (Call : Hand → Result A Refusal → Hand → Type 0) (Shows : Result A Refusal → Type 0) (was : Option Hand) (before next : Hand)
+    (result : Result A Refusal) → was ≡ Some before → Shows result → Call before result next → Told Call was Shows (Some next)
+told Call Shows was before next result held shows called =
+    subst (λ (o : Option Hand). Told Call o Shows (Some next)) (sym held) (result, next, shows, refl, called)
 
 -- what is told of a close that was made, and of one that leaves the pass open
 pub closes :
@@ -74,17 +75,23 @@ closes frees was now before next outcome done won lost won_told lost_told held l
     )
 
 pub stays_open :
-    (frees : Bool) (was now : Option Hand) (before next : Hand) (outcome : Result (Unit {0}) Refusal) (cause : Refusal) (code : ℤ) (won lost : ℕ)
-    → was ≡ Some before → LeavesBlocks frees before outcome next → outcome ≡ Err cause → code ≡ code_of cause → now ≡ Some next
-    → Closes frees was code won lost won lost now
-stays_open frees was now before next outcome cause code won lost held leaves is told holds =
-    subst (λ (o : Option Hand). Closes frees o code won lost won lost now) (sym held) (
+    (frees : Bool) (was : Option Hand) (before next : Hand) (outcome : Result (Unit {0}) Refusal) (cause : Refusal) (code : ℤ) (won lost : ℕ)
+    → was ≡ Some before → LeavesBlocks frees before outcome next → outcome ≡ Err cause → code ≡ code_of cause
+    → Closes frees was code won lost won lost (Some next)
+stays_open frees was before next outcome cause code won lost held leaves is told =
+    subst (λ (o : Option Hand). Closes frees o code won lost won lost (Some next)) (sym held) (
       outcome,
       next,
       leaves,
       told ∙ sym (ap code_in is),
-      subst (λ (r : Result (Unit {0}) Refusal). Shuts r next won lost won lost now) (sym is) (refl, refl, holds),
+      subst (λ (r : Result (Unit {0}) Refusal). Shuts r next won lost won lost (Some next)) (sym is) (refl, refl, refl),
     )
+
+-- what is taken out of a handle is the pass that it held
+pub taken :
+    (next : Hand) (out : Option (Box Hand Global)) (box : Box Hand Global) → Some next ≡ option_map (λ b. b.value) out → out ≡ Some box
+    → next ≡ box.value
+taken next out box holds is = same_Some next box.value (holds ∙ ap (option_map (λ b. b.value)) is)
 
 -- what a close that was made tells of the heap, and that one that was not made tells nothing
 same-heap : (frees : Bool) (before next : Hand) (outcome : Result (Unit {0}) Refusal) → LeavesBlocks frees before outcome next → heap_of next ≡ heap_of before

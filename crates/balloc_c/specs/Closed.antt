@@ -15,7 +15,7 @@ use Rattle.balloc_c.specs.Census.{IsCountOf}
 use Rattle.balloc_c.specs.Codes.{code_in}
 use Rattle.balloc_c.specs.Outcomes.{Answers, Makes, barred, counts_of, is_busy}
 use Rattle.balloc_c.specs.Slots.{blocks_of}
-use Rattle.balloc_c.specs.Tended.{heap_of}
+use Rattle.balloc_c.specs.Hands.{heap_of}
 use Rattle.balloc_c.specs.Through.{IsFlush, IsFree}
 
 -- the block of a slot was freed, or its free is under way; where there is none nothing has happened

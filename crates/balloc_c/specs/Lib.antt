@@ -1,6 +1,8 @@
 pub mod Census
 pub mod Closed
 pub mod Codes
+pub mod Hands
+pub mod Lent
 pub mod Numbers
 pub mod Opened
 pub mod Outcomes

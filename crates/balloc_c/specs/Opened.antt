@@ -10,7 +10,7 @@ use Rattle.balloc_c.specs.declared.handle.PassHandle.{PassHandle}
 use Rattle.balloc_c.specs.declared.refusal.Refusal.{Refusal}
 use Rattle.balloc_c.specs.declared.refusal.Refusal.TheVariants as refusal
 use Rattle.balloc_c.specs.Slots.{blocks_of}
-use Rattle.balloc_c.specs.Tended.{heap_of}
+use Rattle.balloc_c.specs.Hands.{heap_of}
 
 -- the numbers of a heap with one caller for each handle; more than there may be stand for all that are more
 abbrev pub numbers : ℕ → ℕ → ℕ → ℕ → ℕ → Geometry

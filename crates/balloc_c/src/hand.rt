@@ -3,6 +3,8 @@
 ghost use Rattle.std.specs.Prelude.{◌≡◌, []};
 ghost use Rattle.std.specs.Arc.{arc_value};
 ghost use Rattle.block_cache.specs.Caches.{Holds, IsCache};
+ghost use Rattle.balloc_c.specs.Slots.{blocks_of};
+ghost use Rattle.balloc_c.specs.Tended.{Tends};
 
 use crate::counted::Counted;
 use crate::refusal::Refusal;
@@ -20,21 +22,20 @@ pub struct Hand {
     heap: Arc<SharedHeap, Global>,
     cache: Cache,
     table: Table,
+    ghost is_tended: { ∥ Tends (arc_value heap).heap cache (blocks_of table.slots.items) ∥₁ },
 }
 
 impl Hand {
     ghost use Rattle.balloc_c.specs.Outcomes.{TellsWords, HasAllocated, HasFreed, HasPut, HasRead, HasResumed, HasTaken, HasWritten, Makes, counts_of};
     ghost use Rattle.balloc_c.specs.Closed.{LeavesBlocks, TellsCensus};
-    ghost use Rattle.balloc_c.specs.Slots.{blocks_of};
     ghost use Rattle.balloc_c.specs.Ranges.{HasFilled, HasReadRange, HasSummed, HasWrittenRange, IsFound};
-    ghost use Rattle.balloc_c.specs.Tended.{IsTended};
+    ghost use Rattle.balloc_c.specs.Hands.{IsTended};
 
     /// A pass with no block.
     pub fn new(alloc: Global, heap: Arc<SharedHeap, Global>, cache: Cache) -> Hand
         requires cache { IsCache (arc_value heap).heap cache }
         requires holds { Holds cache [] }
-        ensures tended { IsTended result }
-        ensures parts { (arc_value result.heap ≡ arc_value heap) × (result.cache ≡ cache) × (blocks_of result.table.slots.items ≡ []) }
+        ensures { (arc_value result.heap ≡ arc_value heap) × (result.cache ≡ cache) × (blocks_of result.table.slots.items ≡ []) }
     {
         Hand {
             heap,
@@ -43,30 +44,32 @@ impl Hand {
         }
     }
 
+    /// What its type keeps, opened for a call: a field holds it only as a fact that has one proof.
+    fn tended(&self)
+        ensures { IsTended self.now }
+    {}
+
     /// An allocation of so many usable words. Answers the block's number.
     pub fn alloc(&mut self, words: u32) -> Result<u64, Refusal>
-        requires { IsTended self.old }
-        ensures tended { IsTended self.new }
-        ensures made { Makes (λ c t. HasAllocated c t words) self.old result self.new }
+        ensures { Makes (λ c t. HasAllocated c t words) self.old result self.new }
     {
+        self.tended();
         calls::alloc(self.heap.heap(), &mut self.cache, &mut self.table, words)
     }
 
     /// Frees the block of this number.
     pub fn free(&mut self, number: u64) -> Result<(), Refusal>
-        requires { IsTended self.old }
-        ensures tended { IsTended self.new }
-        ensures made { Makes (λ c t. HasFreed c t number) self.old result self.new }
+        ensures { Makes (λ c t. HasFreed c t number) self.old result self.new }
     {
+        self.tended();
         calls::free(self.heap.heap(), &mut self.cache, &mut self.table, number)
     }
 
     /// Frees all its blocks, those in magazines too, where they are to be freed.
     pub fn leave(&mut self, frees: bool) -> Result<(), Refusal>
-        requires { IsTended self.old }
-        ensures tended { IsTended self.new }
-        ensures left { LeavesBlocks frees self.old result self.new }
+        ensures { LeavesBlocks frees self.old result self.new }
     {
+        self.tended();
         if frees {
             calls::free_all(self.heap.heap(), &mut self.cache, &mut self.table)
         } else {
@@ -76,9 +79,9 @@ impl Hand {
 
     /// Gives its pass back. Where it was the last one of the heap, the heap closes, and what it holds is told.
     pub fn end(self, alloc: Global, counted: &mut Counted)
-        requires { IsTended self }
         ensures { TellsCensus self counted.old counted.new }
     {
+        self.tended();
         let Hand {
             heap,
             cache,
@@ -94,10 +97,9 @@ impl Hand {
 
     /// Goes on with the call that was interrupted. Answers the number of a block that it got.
     pub fn resume(&mut self) -> Result<Option<u64>, Refusal>
-        requires { IsTended self.old }
-        ensures tended { IsTended self.new }
-        ensures made { Makes (λ c t. HasResumed c t) self.old result self.new }
+        ensures { Makes (λ c t. HasResumed c t) self.old result self.new }
     {
+        self.tended();
         calls::resume(self.heap.heap(), &mut self.cache, &mut self.table)
     }
 
@@ -110,10 +112,9 @@ impl Hand {
 
     /// Writes a word of the block of this number.
     pub fn write(&mut self, number: u64, i: u32, value: u64) -> Result<(), Refusal>
-        requires { IsTended self.old }
-        ensures tended { IsTended self.new }
-        ensures made { Makes (λ c t. HasWritten c t number i value) self.old result self.new }
+        ensures { Makes (λ c t. HasWritten c t number i value) self.old result self.new }
     {
+        self.tended();
         calls::write(
             self.heap.heap(),
             &mut self.cache,
@@ -126,19 +127,17 @@ impl Hand {
 
     /// Reads a word of the block of this number.
     pub fn read(&mut self, number: u64, i: u32) -> Result<u64, Refusal>
-        requires { IsTended self.old }
-        ensures tended { IsTended self.new }
-        ensures made { Makes (λ c t. HasRead c t number i) self.old result self.new }
+        ensures { Makes (λ c t. HasRead c t number i) self.old result self.new }
     {
+        self.tended();
         calls::read(self.heap.heap(), &mut self.cache, &self.table, number, i)
     }
 
     /// Writes words of the block of this number in a row, from one on.
     pub fn write_range(&mut self, number: u64, from: u32, words: &[u64]) -> Result<(), Refusal>
-        requires { IsTended self.old }
-        ensures tended { IsTended self.new }
-        ensures made { Makes (λ c t. HasWrittenRange c t number from words.now) self.old result self.new }
+        ensures { Makes (λ c t. HasWrittenRange c t number from words.now) self.old result self.new }
     {
+        self.tended();
         ranges::write_range(
             self.heap.heap(),
             &mut self.cache,
@@ -151,11 +150,10 @@ impl Hand {
 
     /// Reads words of the block of this number in a row, from one on.
     pub fn read_range(&mut self, number: u64, from: u32, words: &mut [u64]) -> Result<(), Refusal>
-        requires { IsTended self.old }
-        ensures tended { IsTended self.new }
         ensures made { Makes (λ c t. HasReadRange c t number from words.old words.new) self.old result self.new }
         ensures found { IsFound result words.old words.new }
     {
+        self.tended();
         ranges::read_range(
             self.heap.heap(),
             &mut self.cache,
@@ -168,28 +166,25 @@ impl Hand {
 
     /// Fills the block of this number: word i with from + i, modulo 2^64.
     pub fn fill(&mut self, number: u64, from: u64) -> Result<(), Refusal>
-        requires { IsTended self.old }
-        ensures tended { IsTended self.new }
-        ensures made { Makes (λ c t. HasFilled c t number from) self.old result self.new }
+        ensures { Makes (λ c t. HasFilled c t number from) self.old result self.new }
     {
+        self.tended();
         ranges::fill(self.heap.heap(), &mut self.cache, &self.table, number, from)
     }
 
     /// The sum of the words of the block of this number, modulo 2^64.
     pub fn sum(&mut self, number: u64) -> Result<u64, Refusal>
-        requires { IsTended self.old }
-        ensures tended { IsTended self.new }
-        ensures made { Makes (λ c t. HasSummed c t number) self.old result self.new }
+        ensures { Makes (λ c t. HasSummed c t number) self.old result self.new }
     {
+        self.tended();
         ranges::sum(self.heap.heap(), &mut self.cache, &self.table, number)
     }
 
     /// Puts the block of this number on a shelf.
     pub fn put(&mut self, number: u64, shelf: u8) -> Result<(), Refusal>
-        requires { IsTended self.old }
-        ensures tended { IsTended self.new }
-        ensures made { Makes (λ c t. HasPut c t number shelf) self.old result self.new }
+        ensures { Makes (λ c t. HasPut c t number shelf) self.old result self.new }
     {
+        self.tended();
         calls::put(
             self.heap.heap(),
             &mut self.cache,
@@ -201,10 +196,9 @@ impl Hand {
 
     /// Takes the block that lies on a shelf. Answers its number.
     pub fn take(&mut self, shelf: u8) -> Result<u64, Refusal>
-        requires { IsTended self.old }
-        ensures tended { IsTended self.new }
-        ensures made { Makes (λ c t. HasTaken c t shelf) self.old result self.new }
+        ensures { Makes (λ c t. HasTaken c t shelf) self.old result self.new }
     {
+        self.tended();
         calls::take(self.heap.heap(), &mut self.cache, &mut self.table, shelf)
     }
 

@@ -1,6 +1,6 @@
 //! The handle that C holds.
 
-ghost use Rattle.std.specs.Prelude.{◌≡◌, Option, Some, None, IfSome, is_some, option_map};
+ghost use Rattle.std.specs.Prelude.{◌≡◌, Option, Some, None, is_some, option_map};
 
 use crate::hand::Hand;
 use crate::held::Held;
@@ -19,7 +19,8 @@ pub struct PassHandle {
 }
 
 impl PassHandle {
-    ghost use Rattle.balloc_c.specs.Tended.{IsTended};
+    ghost use Rattle.std.specs.Borrow.{sem};
+    ghost use Rattle.balloc_c.specs.Lent.{LendsHand};
 
     /// Whether it holds a pass.
     pub fn live(&self) -> bool
@@ -28,10 +29,21 @@ impl PassHandle {
         self.live
     }
 
+    /// Its pass, where that lies, if it holds one.
+    pub fn hand(&mut self) -> Option<&mut Hand>
+        ensures* writes_back { sem 𝓛 (LendsHand self.entry result) }
+        ensures value { self.old.held.hand ≡ option_map (λ hand. hand.now) result }
+    {
+        if self.live {
+            Some(self.held.hand())
+        } else {
+            None
+        }
+    }
+
     /// Takes the pass out, where there is one.
     pub fn take(&mut self, alloc: Global) -> Option<Box<Hand>>
         ensures empty { self.new.held.hand ≡ None }
-        ensures tended { IfSome result (λ hand. IsTended hand.value) }
         ensures value { self.old.held.hand ≡ option_map (λ hand. hand.value) result }
     {
         if self.live {
@@ -46,7 +58,6 @@ impl PassHandle {
     /// Puts a pass in, where there is none.
     pub fn give(&mut self, hand: Box<Hand>)
         requires empty { self.old.held.hand ≡ None }
-        requires tended { IsTended hand.value }
         ensures { self.new.held.hand ≡ Some hand.value }
     {
         self.live = true;

@@ -24,7 +24,8 @@ impl Model for Held {
 }
 
 impl Held {
-    ghost use Rattle.balloc_c.specs.Tended.{IsTended};
+    ghost use Rattle.std.specs.Borrow.{sem};
+    ghost use Rattle.balloc_c.specs.Lent.{LendsHeld};
 
     /// Nothing.
     pub fn none(alloc: Global) -> Held
@@ -38,7 +39,6 @@ impl Held {
 
     /// The pass of a box.
     pub fn of_parts(parts: Parts<Hand, Global>) -> Held
-        requires { IsTended parts.value }
         ensures { result.hand ≡ Some parts.value }
     {
         let Parts { ptr, alloc } = parts;
@@ -51,13 +51,22 @@ impl Held {
     /// The box of its pass.
     pub fn into_parts(self) -> Parts<Hand, Global>
         requires { (hand : Hand) × (self.hand ≡ Some hand) }
-        ensures { IsTended result.value × (self.hand ≡ Some result.value) }
+        ensures { self.hand ≡ Some result.value }
     {
         let Held { at, alloc } = self;
         Parts {
             ptr: at as *mut Hand,
             alloc,
         }
+    }
+
+    /// Its pass, where that lies.
+    pub fn hand(&mut self) -> &mut Hand
+        requires { (hand : Hand) × (self.old.hand ≡ Some hand) }
+        ensures* writes_back { sem 𝓛 (LendsHeld self.entry result) }
+        ensures value { self.old.hand ≡ Some result.now }
+    {
+        unsafe { &mut *(self.at as *mut Hand) }
     }
 
     /// Lets nothing go.

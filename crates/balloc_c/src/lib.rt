@@ -81,11 +81,10 @@ fn code_resumed(outcome: Result<Option<u64>, Refusal>, out: &mut u64) -> i32
 
 /// The code of a call by the pass that a handle holds, or that it holds none.
 macro_rules! answered {
-    ($alloc:ident, $pass:ident, $hand:ident => $call:expr, $outcome:ident => $code:expr) => {
-        match $pass.take($alloc) {
-            Some(mut $hand) => {
+    ($pass:ident, $hand:ident => $call:expr, $outcome:ident => $code:expr) => {
+        match $pass.hand() {
+            Some($hand) => {
                 let $outcome = $call;
-                $pass.give($hand);
                 $code
             }
             None => Refusal::Closed.code(),
@@ -133,29 +132,24 @@ pub extern "C" fn balloc_close(
     ensures census { ClosesHeap pass.old.held.hand result census.old census.new }
 {
     census.counted = false;
-    match pass.take(alloc) {
-        Some(mut hand) => match hand.leave(frees) {
-            Ok(()) => {
-                let (_, hand_won, hand_lost, _) = hand.counts();
-                *won = hand_won;
-                *lost = hand_lost;
-                Box::into_inner(hand).end(alloc, census);
-                DONE
-            }
-            Err(refusal) => {
-                pass.give(hand);
-                refusal.code()
-            }
-        },
-        None => Refusal::Closed.code(),
+    let Some(hand) = pass.hand() else {
+        return Refusal::Closed.code();
+    };
+    if let Err(refusal) = hand.leave(frees) {
+        return refusal.code();
     }
+    let hand = pass.take(alloc).unwrap();
+    let (_, hand_won, hand_lost, _) = hand.counts();
+    *won = hand_won;
+    *lost = hand_lost;
+    Box::into_inner(hand).end(alloc, census);
+    DONE
 }
 
 /// Tells what a pass has counted: its turns, the exchanges that it won and lost, and the empty superblocks that
 /// it took for partial ones.
 #[unsafe(no_mangle)]
 pub extern "C" fn balloc_counts(
-    alloc: Global,
     pass: &mut PassHandle,
     turns: &mut u64,
     won: &mut u64,
@@ -165,14 +159,13 @@ pub extern "C" fn balloc_counts(
     ensures told { TellsCounts pass.old.held.hand result (turns.old, won.old, lost.old, cleared.old) (turns.new, won.new, lost.new, cleared.new) }
     ensures same { pass.new.held.hand ≡ pass.old.held.hand }
 {
-    match pass.take(alloc) {
+    match pass.hand() {
         Some(hand) => {
             let (hand_turns, hand_won, hand_lost, hand_cleared) = hand.counts();
             *turns = hand_turns;
             *won = hand_won;
             *lost = hand_lost;
             *cleared = hand_cleared;
-            pass.give(hand);
             DONE
         }
         None => Refusal::Closed.code(),
@@ -181,84 +174,61 @@ pub extern "C" fn balloc_counts(
 
 /// Allocates a block of so many usable words, and tells its number.
 #[unsafe(no_mangle)]
-pub extern "C" fn balloc_alloc(
-    alloc: Global,
-    pass: &mut PassHandle,
-    words: u32,
-    id: &mut u64,
-) -> i32
+pub extern "C" fn balloc_alloc(pass: &mut PassHandle, words: u32, id: &mut u64) -> i32
     ensures told { Told (Makes (λ c t. HasAllocated c t words)) pass.old.held.hand
         (λ outcome. (result ≡ code_in outcome) × (id.new ≡ value_in outcome id.old)) pass.new.held.hand }
 {
-    answered!(alloc, pass, hand => hand.alloc(words), outcome => code_with(outcome, id))
+    answered!(pass, hand => hand.alloc(words), outcome => code_with(outcome, id))
 }
 
 /// Frees a block.
 #[unsafe(no_mangle)]
-pub extern "C" fn balloc_free(alloc: Global, pass: &mut PassHandle, id: u64) -> i32
+pub extern "C" fn balloc_free(pass: &mut PassHandle, id: u64) -> i32
     ensures told { Told (Makes (λ c t. HasFreed c t id)) pass.old.held.hand
         (λ outcome. result ≡ code_in outcome) pass.new.held.hand }
 {
-    answered!(alloc, pass, hand => hand.free(id), outcome => code_of(outcome))
+    answered!(pass, hand => hand.free(id), outcome => code_of(outcome))
 }
 
 /// Goes on with a call that was interrupted, and tells the number of the block that it got.
 #[unsafe(no_mangle)]
-pub extern "C" fn balloc_resume(alloc: Global, pass: &mut PassHandle, id: &mut u64) -> i32
+pub extern "C" fn balloc_resume(pass: &mut PassHandle, id: &mut u64) -> i32
     ensures told { Told (Makes (λ c t. HasResumed c t)) pass.old.held.hand
         (λ outcome. (result ≡ resumed_code outcome) × (id.new ≡ resumed_number outcome id.old)) pass.new.held.hand }
 {
-    answered!(alloc, pass, hand => hand.resume(), outcome => code_resumed(outcome, id))
+    answered!(pass, hand => hand.resume(), outcome => code_resumed(outcome, id))
 }
 
 /// Tells how many usable words a block has, which may be more than were asked for.
 #[unsafe(no_mangle)]
-pub extern "C" fn balloc_words(
-    alloc: Global,
-    pass: &mut PassHandle,
-    id: u64,
-    words: &mut u64,
-) -> i32
+pub extern "C" fn balloc_words(pass: &mut PassHandle, id: u64, words: &mut u64) -> i32
     ensures told { Told (Makes (λ c t. HasCounted c t id)) pass.old.held.hand
         (λ outcome. (result ≡ code_in outcome) × (words.new ≡ value_in outcome words.old)) pass.new.held.hand }
 {
-    answered!(alloc, pass, hand => hand.words(id), outcome => code_with(outcome, words))
+    answered!(pass, hand => hand.words(id), outcome => code_with(outcome, words))
 }
 
 /// Writes a word of a block.
 #[unsafe(no_mangle)]
-pub extern "C" fn balloc_write(
-    alloc: Global,
-    pass: &mut PassHandle,
-    id: u64,
-    i: u32,
-    value: u64,
-) -> i32
+pub extern "C" fn balloc_write(pass: &mut PassHandle, id: u64, i: u32, value: u64) -> i32
     ensures told { Told (Makes (λ c t. HasWritten c t id i value)) pass.old.held.hand
         (λ outcome. result ≡ code_in outcome) pass.new.held.hand }
 {
-    answered!(alloc, pass, hand => hand.write(id, i, value), outcome => code_of(outcome))
+    answered!(pass, hand => hand.write(id, i, value), outcome => code_of(outcome))
 }
 
 /// Reads a word of a block.
 #[unsafe(no_mangle)]
-pub extern "C" fn balloc_read(
-    alloc: Global,
-    pass: &mut PassHandle,
-    id: u64,
-    i: u32,
-    value: &mut u64,
-) -> i32
+pub extern "C" fn balloc_read(pass: &mut PassHandle, id: u64, i: u32, value: &mut u64) -> i32
     ensures told { Told (Makes (λ c t. HasRead c t id i)) pass.old.held.hand
         (λ outcome. (result ≡ code_in outcome) × (value.new ≡ value_in outcome value.old)) pass.new.held.hand }
 {
-    answered!(alloc, pass, hand => hand.read(id, i), outcome => code_with(outcome, value))
+    answered!(pass, hand => hand.read(id, i), outcome => code_with(outcome, value))
 }
 
 /// Writes words of a block in a row, from one on: all of them, or none.
 #[unsafe(no_mangle)]
 pub extern "C" fn balloc_write_range(
-    alloc: Global,
     pass: &mut PassHandle,
     id: u64,
     from: u32,
@@ -267,13 +237,12 @@ pub extern "C" fn balloc_write_range(
     ensures told { Told (Makes (λ c t. HasWrittenRange c t id from words.now)) pass.old.held.hand
         (λ outcome. result ≡ code_in outcome) pass.new.held.hand }
 {
-    answered!(alloc, pass, hand => hand.write_range(id, from, words), outcome => code_of(outcome))
+    answered!(pass, hand => hand.write_range(id, from, words), outcome => code_of(outcome))
 }
 
 /// Reads words of a block in a row, from one on: all of them, or none.
 #[unsafe(no_mangle)]
 pub extern "C" fn balloc_read_range(
-    alloc: Global,
     pass: &mut PassHandle,
     id: u64,
     from: u32,
@@ -282,41 +251,41 @@ pub extern "C" fn balloc_read_range(
     ensures told { Told (Makes (λ c t. HasReadRange c t id from words.old words.new)) pass.old.held.hand
         (λ outcome. (result ≡ code_in outcome) × IsFound outcome words.old words.new) pass.new.held.hand }
 {
-    answered!(alloc, pass, hand => hand.read_range(id, from, words), outcome => code_of(outcome))
+    answered!(pass, hand => hand.read_range(id, from, words), outcome => code_of(outcome))
 }
 
 /// Fills a block: word i with from + i, modulo 2^64.
 #[unsafe(no_mangle)]
-pub extern "C" fn balloc_fill(alloc: Global, pass: &mut PassHandle, id: u64, from: u64) -> i32
+pub extern "C" fn balloc_fill(pass: &mut PassHandle, id: u64, from: u64) -> i32
     ensures told { Told (Makes (λ c t. HasFilled c t id from)) pass.old.held.hand
         (λ outcome. result ≡ code_in outcome) pass.new.held.hand }
 {
-    answered!(alloc, pass, hand => hand.fill(id, from), outcome => code_of(outcome))
+    answered!(pass, hand => hand.fill(id, from), outcome => code_of(outcome))
 }
 
 /// Tells the sum of the words of a block, modulo 2^64.
 #[unsafe(no_mangle)]
-pub extern "C" fn balloc_sum(alloc: Global, pass: &mut PassHandle, id: u64, sum: &mut u64) -> i32
+pub extern "C" fn balloc_sum(pass: &mut PassHandle, id: u64, sum: &mut u64) -> i32
     ensures told { Told (Makes (λ c t. HasSummed c t id)) pass.old.held.hand
         (λ outcome. (result ≡ code_in outcome) × (sum.new ≡ value_in outcome sum.old)) pass.new.held.hand }
 {
-    answered!(alloc, pass, hand => hand.sum(id), outcome => code_with(outcome, sum))
+    answered!(pass, hand => hand.sum(id), outcome => code_with(outcome, sum))
 }
 
 /// Puts a block on a shelf.
 #[unsafe(no_mangle)]
-pub extern "C" fn balloc_put(alloc: Global, pass: &mut PassHandle, id: u64, shelf: u8) -> i32
+pub extern "C" fn balloc_put(pass: &mut PassHandle, id: u64, shelf: u8) -> i32
     ensures told { Told (Makes (λ c t. HasPut c t id shelf)) pass.old.held.hand
         (λ outcome. result ≡ code_in outcome) pass.new.held.hand }
 {
-    answered!(alloc, pass, hand => hand.put(id, shelf), outcome => code_of(outcome))
+    answered!(pass, hand => hand.put(id, shelf), outcome => code_of(outcome))
 }
 
 /// Takes the block that lies on a shelf, and tells its number.
 #[unsafe(no_mangle)]
-pub extern "C" fn balloc_take(alloc: Global, pass: &mut PassHandle, shelf: u8, id: &mut u64) -> i32
+pub extern "C" fn balloc_take(pass: &mut PassHandle, shelf: u8, id: &mut u64) -> i32
     ensures told { Told (Makes (λ c t. HasTaken c t shelf)) pass.old.held.hand
         (λ outcome. (result ≡ code_in outcome) × (id.new ≡ value_in outcome id.old)) pass.new.held.hand }
 {
-    answered!(alloc, pass, hand => hand.take(shelf), outcome => code_with(outcome, id))
+    answered!(pass, hand => hand.take(shelf), outcome => code_with(outcome, id))
 }

@@ -3,7 +3,7 @@ use Rattle.std.specs.Prelude.{ℕ, ◌≡◌, ◌++◌, List, [], ◌∷◌}
 use Rattle.heap_geometry.specs.declared.need.Need.{Need}
 use Rattle.errand_steps.specs.Begins.{IsBusy, IsIdle}
 use Rattle.errand_steps.specs.Calls.{Call, free}
-use Rattle.call_events.specs.Stages.{StageOfCall, freeing, given}
+use Rattle.errand_steps.specs.tables.CallStage.{StageOfCall, freeing, given}
 use Rattle.live_heap.specs.declared.block.Block.{Block}
 use Rattle.live_heap.specs.declared.pass.Pass.{Pass}
 use Rattle.live_heap.specs.Answers.{IsTried}

@@ -24,7 +24,8 @@ use Rattle.errand_steps.specs.Points.{plan_point_of}
 use Rattle.errand_steps.specs.Steps.{with_event}
 use Rattle.errand_steps.proofs.NextLemmas.{Follows}
 use Rattle.errand_steps.proofs.StepLemmas.{follows-next}
-use Rattle.call_events.specs.Stages.{asking, stage_of, continuation_stage}
+use Rattle.errand_steps.specs.tables.CallStage.{asking, continuation_stage}
+use Rattle.call_events.specs.Stages.{stage_of}
 use Rattle.call_events.specs.UnderWay.{SoFar}
 use Rattle.call_events.proofs.LeadsDefs.{still, over, outcome_of, SoFarAt, Leads}
 use Rattle.call_events.proofs.PointEvents.{block-leads, stack-leads, desc-leads, partial-leads, large-leads}

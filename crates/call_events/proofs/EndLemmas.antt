@@ -10,7 +10,7 @@ use Rattle.errand_steps.specs.declared.point.Point.{Point}
 use Rattle.errand_steps.specs.declared.reply.Reply.{Reply}
 use Rattle.errand_steps.specs.declared.reply.Reply.TheVariants as reply
 use Rattle.call_events.specs.Ends.{end_of}
-use Rattle.call_events.specs.Stages.{StageOfCall, asking, asking_run, refused, given, freeing, freed, writing, reading, putting, taking}
+use Rattle.errand_steps.specs.tables.CallStage.{StageOfCall, asking, asking_run, refused, given, freeing, freed, writing, reading, putting, taking}
 use Rattle.call_events.specs.UnderWay.{SoFar, IsUnderWay}
 use Rattle.call_events.proofs.EventLists.{spending, refusing-run}
 use Rattle.call_events.proofs.SoFarLemmas.{one-event}

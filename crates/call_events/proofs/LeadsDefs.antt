@@ -9,7 +9,9 @@ use Rattle.errand_steps.specs.declared.reply.Reply.{Reply}
 use Rattle.errand_steps.specs.declared.reply.Reply.TheVariants as reply
 use Rattle.errand_steps.specs.Calls.{Call}
 use Rattle.call_events.specs.Ends.{HasEnded}
-use Rattle.call_events.specs.Stages.{StageOfCall, asking, asking_run, refused, given, freeing, freed, writing, reading, putting, taking, none, stage_of, continuation_stage}
+use Rattle.errand_steps.specs.tables.CallStage.{StageOfCall, asking, asking_run, refused, given, freeing, freed, writing, reading, putting, taking, none}
+use Rattle.errand_steps.specs.tables.CallStage.{continuation_stage}
+use Rattle.call_events.specs.Stages.{stage_of}
 use Rattle.call_events.specs.UnderWay.{SoFar}
 
 -- a call after a step: at a stage, or ended

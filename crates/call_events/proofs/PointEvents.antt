@@ -14,7 +14,11 @@ use Rattle.errand_steps.specs.declared.continuation.Continuation.{Continuation}
 use Rattle.errand_steps.specs.declared.point.Point.TheVariants as point
 use Rattle.errand_steps.specs.Events.{event_of}
 use Rattle.errand_steps.specs.Nexts.{next_of}
-use Rattle.errand_steps.specs.Continuations.{goes_block, goes_stack, goes_desc, goes_partial, GoesLarge}
+use Rattle.errand_steps.specs.tables.Blocks.{goes_block}
+use Rattle.errand_steps.specs.tables.Stacks.{goes_stack}
+use Rattle.errand_steps.specs.tables.Descs.{goes_desc}
+use Rattle.errand_steps.specs.tables.Partials.{goes_partial}
+use Rattle.errand_steps.specs.tables.LargeBlocks.{GoesLarge}
 use Rattle.call_events.specs.Stages.{stage_of}
 use Rattle.call_events.proofs.LeadsDefs.{Leads, outcome_of}
 

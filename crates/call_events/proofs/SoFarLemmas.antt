@@ -9,7 +9,7 @@ use Rattle.pool_model.specs.Calls as ended
 use Rattle.errand_steps.specs.declared.reply.Reply.TheVariants as reply
 use Rattle.errand_steps.specs.Calls.{Call, alloc, free, write, read, put, take}
 use Rattle.errand_steps.specs.Steps.{with_event}
-use Rattle.call_events.specs.Stages.{StageOfCall, asking, asking_run, refused, given, freeing, freed, writing, reading, putting, taking}
+use Rattle.errand_steps.specs.tables.CallStage.{StageOfCall, asking, asking_run, refused, given, freeing, freed, writing, reading, putting, taking}
 use Rattle.call_events.specs.UnderWay.{SoFar, HasLooked}
 use Rattle.call_events.proofs.EventLists.{looked-less, looked-more, refusing, giving, spending, refusing-run, giving-run}
 use Rattle.call_events.proofs.LeadsDefs.{Outcome, still, over, SoFarAt, Leads}

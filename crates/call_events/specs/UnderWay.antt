@@ -9,7 +9,8 @@ use Rattle.pool_model.specs.Calls.{looks, IsGiving, IsRefusing}
 use Rattle.errand_steps.specs.declared.point.Point.{Point}
 use Rattle.errand_steps.specs.Begins.{IsHeapBlock}
 use Rattle.errand_steps.specs.Calls.{Call, alloc, free, write, read, put, take}
-use Rattle.call_events.specs.Stages.{StageOfCall, asking, asking_run, refused, given, freeing, freed, writing, reading, putting, taking, stage_of}
+use Rattle.errand_steps.specs.tables.CallStage.{StageOfCall, asking, asking_run, refused, given, freeing, freed, writing, reading, putting, taking}
+use Rattle.call_events.specs.Stages.{stage_of}
 
 -- the events are looks for a class: any number of them; at least one
 abbrev pub HasLooked : ℕ → ℕ → Bool → List Event → Type 0

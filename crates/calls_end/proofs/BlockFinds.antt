@@ -1,8 +1,8 @@
 -- What the loads in a superblock find in a sound state.
 use Rattle.std.proofs.Common.{ℕ, Option, Some, None, ◌≡◌, ◌<◌, refl, arith, sym, subst, nat_lt, IsSome, IsTrue}
 use Rattle.std.proofs.lemmas.Bool.{cond-true, lt-ltb, true≢false}
-use Rattle.sound_state.proofs.Common.{Geometry, IsChecked, block_count_of, block_place, ActiveWord, Null, Held, Site, descriptor_count, SeatFields}
-use Rattle.sound_state.proofs.Common.{IsSiteOf, Continuation, Block, State, Lists, IsLocated, IsSoundWith, anchor_for, is_bound}
+use Rattle.sound_state.proofs.Common.{Geometry, IsChecked, block_count_of, block_place, ActiveWord, Null, Held, Site, descriptor_count, SeatFields, IsSiteOf, Continuation}
+use Rattle.sound_state.proofs.Common.{Block, State, Lists, IsLocated, IsSoundWith, anchor_for, is_bound}
 use Rattle.packed_words.specs.declared.prefix.Prefix.TheVariants.{Small}
 use Rattle.packed_words.specs.Prefix.{prefix_word, prefix_of}
 use Rattle.packed_words.proofs.ExactLemmas.{back}
@@ -29,12 +29,11 @@ names-desc g (Some (Held d credits)) some exists = exists d credits refl
 -- the anchor of a superblock names one of its blocks
 pub anchor-finds :
     (g : Geometry) (s : State) (l : Lists) (caller : ℕ) (at : Site) → IsSoundWith g s l → IsSiteOf g caller at → IsTrue (is_bound g s l at.desc)
-    → IsLocated s at.desc at.frame at.seat.class → IsSome (anchor_in at.seat.class (s.word (name.Anchor at.desc)))
+    → IsLocated s at.desc at.frame at.seat.class → anchor_in at.seat.class (s.word (name.Anchor at.desc)) ≡ Some (anchor_for s at.desc)
 anchor-finds g s l caller at old site bound located =
     let avail : (anchor_for s at.desc).avail < block_count_of at.seat.class =
     subst (λ c. (anchor_for s at.desc).avail < block_count_of c) located.class (old.chained.chained at.desc site.desc bound).avail in
-    subst IsSome
-    (sym (cond-true (nat_lt (anchor_for s at.desc).avail (block_count_of at.seat.class)) (Some (anchor_for s at.desc)) None (lt-ltb _ _ avail))) refl
+    cond-true (nat_lt (anchor_for s at.desc).avail (block_count_of at.seat.class)) (Some (anchor_for s at.desc)) None (lt-ltb _ _ avail)
 
 -- the prefix word of a block that a caller frees says which descriptor is its superblock's
 pub prefix-finds :

@@ -1,12 +1,12 @@
 -- What a step at the descriptors or the hazard words leaves to do.
 use Rattle.std.proofs.Common.{ℕ, ◌≡◌, ◌<◌, ◌+◌, arith, sym, subst, inr}
-use Rattle.sound_state.proofs.Common.{Geometry, descriptor_count, SeatFields, DescPoint, Continuation, Desc, next_of, plan_point_of, State}
-use Rattle.sound_state.proofs.Common.{IsSoundWithoutCounts}
+use Rattle.sound_state.proofs.Common.{Geometry, descriptor_count, SeatFields, DescPoint, Continuation, Desc, next_of, plan_point_of, State, IsSoundWithoutCounts}
 use Rattle.word_table.specs.declared.name.WordName.TheVariants as name
 use Rattle.word_table.specs.Seats.{desc_named}
 use Rattle.hazard_parts.specs.declared.point.DescPoint.TheVariants as desc
 use Rattle.hazard_parts.specs.Points.{after_head}
-use Rattle.calls_end.specs.StepsLeft.{steps_left, frame_left}
+use Rattle.calls_end.specs.StepsLeft.{steps_left}
+use Rattle.errand_steps.specs.tables.Lengths.{frame_left}
 use Rattle.calls_end.proofs.LeftDefs.{LeavesLess}
 use Rattle.sound_state.proofs.shared.PointLemmas.{fits-now}
 use Rattle.sound_state.proofs.shared.StockLemmas.{looking-has}

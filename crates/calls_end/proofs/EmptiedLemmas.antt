@@ -1,6 +1,5 @@
 -- How often an allocation may clear: no more superblocks than are EMPTY and out for its class, and one less after it did.
-use Rattle.std.proofs.Common.{ℕ, zero, suc, Bool, true, false, ◌≡◌, ◌<◌, ◌≤◌, ◌+◌, refl, arith, ap, sym, subst, inl, inr, ◌∙◌, ◌==◌, ◌&&◌, if◌then◌else◌, count_by}
-use Rattle.std.proofs.Common.{true≢false, eq-eqb}
+use Rattle.std.proofs.Common.{ℕ, Bool, true, false, ◌≡◌, ◌<◌, ◌≤◌, ◌+◌, refl, arith, ap, sym, subst, inl, inr, ◌∙◌, ◌==◌, ◌&&◌, if◌then◌else◌, count_by, true≢false, eq-eqb}
 use Rattle.std.proofs.lemmas.Bool.{cases_eq, cases_Bool, cond-true}
 use Rattle.sound_state.proofs.Common.{Geometry, Site, descriptor_count, occurs, is_empty, Retire, Continuation, Point, Partial, counts_cleared, settle_of, course_of}
 use Rattle.sound_state.proofs.Common.{next_of, plan_point_of, asked, State, Step, found_at, partly_used, holds_of, Lists, recalls_of, IsSoundWithoutCounts, IsSoundWith}
@@ -12,27 +11,12 @@ use Rattle.calls_end.specs.Alone.{class_at, away_in, empty_for, emptied_for, cle
 use Rattle.calls_end.proofs.AvailableLemmas.{away-is}
 use Rattle.calls_end.proofs.TurnAway.{LeavesOut, step-leaves-out, away_after, next-away}
 use Rattle.calls_end.proofs.TurnWords.{next_ways}
-use Rattle.calls_end.proofs.ClearLemmas.{turn-before, clears-turn, class-before}
+use Rattle.calls_end.proofs.ClearLemmas.{turn-before, clears-turn}
 use Rattle.sound_state.proofs.shared.HasLemmas.{keeps-at, kept-itself, keeps-near}
 use Rattle.sound_state.proofs.shared.PointLemmas.{fits-at, recalled-at}
 use Rattle.sound_state.proofs.shared.StepLemmas.{found_from}
-use Rattle.sound_state.proofs.shared.SumLemmas.{sum-least, term-sum}
+use Rattle.sound_state.proofs.shared.SumLemmas.{sum-least, term-sum, sum-less}
 use Rattle.sound_state.proofs.shared.TurnEffects.{one_if-most}
-
--- a sum of terms that are no more, and one of which is less, is less
-sum-less :
-    (n : ℕ) (f f' : ℕ → ℕ) (i : ℕ) → i < n → ((j : ℕ) → j < n → f' j ≤ f j) → f' i + 1 ≤ f i → sum_below n f' + 1 ≤ sum_below n f
-sum-less zero f f' i lt least less = absurd (let no : ⊥ = omega (arith, lt) in no)
-sum-less (suc n) f f' i lt least less =
-    elim (cases_eq i n) [
-      | inl last ↦
-          let rest = sum-least n f' f (λ j below. least j (omega arith)) in
-          let one : f' n + 1 ≤ f n = subst (λ k. f' k + 1 ≤ f k) last less in
-          omega (arith, rest, one)
-      | inr differ ↦
-          let rest = sum-less n f f' i (omega arith) (λ j below. least j (omega arith)) less in
-          omega (arith, rest, least n (omega arith))
-    ]
 
 -- the descriptor isn't away, and its superblock is EMPTY and of the class
 record IsOut (g : Geometry) (s : State) (l : Lists) (class d : ℕ) : Type 0 where
@@ -152,8 +136,7 @@ pub cond-most : (b : Bool) (n : ℕ) → (if b then n else 0) ≤ n
 cond-most b n = grind (arith)
 
 not-turn : (b : Bool) → (b ≡ true → ⊥) → b ≡ false
-not-turn true isnt = absurd (isnt refl)
-not-turn false isnt = refl
+not-turn b isnt = grind (arith, isnt)
 
 -- a caller may clear as often after a step of its own as before, and once less where the step cleared
 pub clearings-fall :
@@ -164,10 +147,8 @@ clearings-fall g s caller s' sound after has step =
     let x = found_at s caller in
     let q = (s'.errand caller).point in
     let fits = fits-at g s sound.parts.0 caller e.point sound.parts.1 has refl in
-    let turn_then : in_turn q ≡ true → in_turn e.point ≡ true =
+    let goes : in_turn q ≡ true → (in_turn e.point ≡ true) × (class_at (settle_of e x).point ≡ class_at e.point) =
     λ turn. turn-before g caller e x fits (ap (λ f. in_turn f.point) (sym step.errand.here) ∙ turn) in
-    let class_then : in_turn q ≡ true → class_at q ≡ class_at e.point =
-    λ turn. ap (λ f. class_at f.point) step.errand.here ∙ class-before g caller e x fits (ap (λ f. in_turn f.point) (sym step.errand.here) ∙ turn) in
     let cleared_then : counts_cleared e.point x ≡ true → in_turn e.point ≡ true = λ clears. clears-turn g caller e.point x fits clears in
     elim (cases_Bool (in_turn e.point)) [
       | inl turn ↦
@@ -175,12 +156,13 @@ clearings-fall g s caller s' sound after has step =
           let falls = emptied-falls g s caller s' sound after has turn step in
           elim (cases_Bool (in_turn q)) [
             | inl still ↦
-                let later : clearings g s' caller ≡ emptied_for g s' (class_at e.point) = rw still (ap (emptied_for g s') (class_then still)) in
+                let later : clearings g s' caller ≡ emptied_for g s' (class_at e.point) =
+                rw still (ap (emptied_for g s') (ap (λ f. class_at f.point) step.errand.here ∙ (goes still).1)) in
                 omega (arith, before, later, falls)
             | inr ended ↦ let later : clearings g s' caller ≡ 0 = rw ended refl in omega (arith, before, later, falls)
           ]
       | inr isnt ↦
-          let still : in_turn q ≡ false = not-turn (in_turn q) (λ is. true≢false (sym (turn_then is) ∙ isnt)) in
+          let still : in_turn q ≡ false = not-turn (in_turn q) (λ is. true≢false (sym ((goes is).0) ∙ isnt)) in
           let none : counts_cleared e.point x ≡ false = not-turn (counts_cleared e.point x) (λ is. true≢false (sym (cleared_then is) ∙ isnt)) in
           let later : clearings g s' caller ≡ 0 = rw still refl in
           omega (arith, later, ap one_if none)

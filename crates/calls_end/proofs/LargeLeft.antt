@@ -1,8 +1,8 @@
 -- At a large block, a usable word or a shelf each step is lost or leaves fewer steps to do.
 use Rattle.std.proofs.Common.{ℕ, false, Some, ◌≡◌, ◌<◌, ◌+◌, ◌*◌, [], arith, subst, inl, inr, IsTrue}
 use Rattle.std.proofs.lemmas.List.Elements.{All-head}
-use Rattle.sound_state.proofs.Common.{Geometry, LargePoint, Continuation, Point, Large, next_of, plan_point_of, State, holds_of, Lists}
-use Rattle.sound_state.proofs.Common.{IsOwned, IsSoundWithoutCounts, IsSoundWith}
+use Rattle.sound_state.proofs.Common.{Geometry, LargePoint, Continuation, Point, Large, next_of, plan_point_of, State, holds_of, Lists, IsOwned, IsSoundWithoutCounts}
+use Rattle.sound_state.proofs.Common.{IsSoundWith}
 use Rattle.heap_geometry.specs.declared.limits.TheConstants.{MAX_UNITS}
 use Rattle.heap_geometry.specs.declared.need.Need.TheVariants as need
 use Rattle.heap_geometry.specs.Geometry.{IsWithin}
@@ -13,7 +13,7 @@ use Rattle.packed_words.proofs.PrefixLemmas.{prefix-exact}
 use Rattle.word_table.specs.declared.name.WordName.TheVariants as name
 use Rattle.large_parts.specs.declared.point.LargePoint.TheVariants as large
 use Rattle.large_parts.specs.Runs.{RunFields}
-use Rattle.sound_state.specs.Holdings.{Handed, Freed}
+use Rattle.errand_steps.specs.tables.Holding.{Handed, Freed}
 use Rattle.calls_end.specs.StepsLeft.{steps_left}
 use Rattle.calls_end.proofs.LeftDefs.{LessAt, LeavesLess}
 use Rattle.sound_state.proofs.shared.ListFacts.{any-none, any-one}
@@ -30,8 +30,7 @@ unfolding plan_point_of next_of steps_left
 prefix-less g place run o v units is = grind (arith, is)
 
 -- a caller that begins to free a run excepts no block
-run-excepts :
-    (place : ℕ) (run : RunFields) (o : Continuation) (p : ℕ) → HoldsException (holds_of (Large (large.LoadRunPrefix place run) o)) p → ⊥
+run-excepts : (place : ℕ) (run : RunFields) (o : Continuation) (p : ℕ) → HoldsException (holds_of (Large (large.LoadRunPrefix place run) o)) p → ⊥
 unfolding holds_of
 run-excepts place run o p (inl a) = any-none (λ (b : Handed). b.place ≡ p) a
 run-excepts place run o p (inr a) =

@@ -2,7 +2,8 @@
 use Rattle.std.proofs.Common.{ℕ, true, ◌≡◌, ◌<◌, ◌+◌, ◌⊎◌}
 use Rattle.sound_state.proofs.Common.{Geometry, name_of, Next, At, End, Retire, Pick, Unlist, Point, counts_lost, counts_cleared, next_of, plan_point_of, State}
 use Rattle.errand_steps.specs.declared.next.Next.TheVariants.{Turn}
-use Rattle.calls_end.specs.StepsLeft.{steps_left, scan_left, active_left, resumed_left}
+use Rattle.calls_end.specs.StepsLeft.{steps_left}
+use Rattle.errand_steps.specs.tables.Lengths.{scan_left, active_left, resumed_left}
 use Rattle.lost_exchanges.proofs.WinDefs.{found_in}
 
 -- how many steps are left where a caller goes on, whatever its retired list says

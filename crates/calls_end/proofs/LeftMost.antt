@@ -1,14 +1,20 @@
 -- No point leaves more steps than a call makes between two lost exchanges.
 use Rattle.std.proofs.Common.{ℕ, ◌+◌, ◌<◌, ◌≤◌, arith}
-use Rattle.sound_state.proofs.Common.{Geometry, IsChecked, SeatFields, BlockPoint, StackPoint, DescPoint, PartialPoint, LargePoint, Continuation, Point, Idle, Block}
-use Rattle.sound_state.proofs.Common.{Stack, Desc, Partial, Large, FitsPoint}
+use Rattle.sound_state.proofs.Common.{Geometry, IsChecked, SeatFields, BlockPoint, StackPoint, DescPoint, PartialPoint, LargePoint, Continuation, Point, Idle, Block, Stack}
+use Rattle.sound_state.proofs.Common.{Desc, Partial, Large, FitsPoint}
 use Rattle.heap_geometry.specs.declared.limits.TheConstants.{CALL_STEPS, MAX_CALLERS, MAX_COUNT}
 use Rattle.word_table.proofs.SeatLemmas.{block_count_of-most}
 use Rattle.superblock_parts.specs.Points.{seat_of_block}
 use Rattle.stack_parts.specs.Points.{seat_of_stack}
 use Rattle.hazard_parts.specs.Points.{seat_of_desc}
 use Rattle.partial_parts.specs.Points.{seat_of_partial}
-use Rattle.calls_end.specs.StepsLeft.{steps_left, scan_left, active_left, resumed_left, put_left, top_left, cleared_left, listed_left, block_left, stack_left, desc_point_left, partial_left, large_left}
+use Rattle.calls_end.specs.StepsLeft.{steps_left}
+use Rattle.errand_steps.specs.tables.Lengths.{scan_left, active_left, resumed_left, put_left, top_left, cleared_left, listed_left}
+use Rattle.errand_steps.specs.tables.Blocks.{block_left}
+use Rattle.errand_steps.specs.tables.Stacks.{stack_left}
+use Rattle.errand_steps.specs.tables.Descs.{desc_point_left}
+use Rattle.errand_steps.specs.tables.Partials.{partial_left}
+use Rattle.errand_steps.specs.tables.LargeBlocks.{large_left}
 
 -- bounds of steps left in the largest heap: of a scan, from the active word on, and from there on behind a scan
 abbrev scan_bound : ℕ

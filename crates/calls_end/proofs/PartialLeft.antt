@@ -3,10 +3,9 @@ use Rattle.std.proofs.Common.{ℕ, false, ◌≡◌, ◌<◌, ◌≤◌, [], ref
 use Rattle.std.proofs.lemmas.Bool.{eq-eqb}
 use Rattle.std.proofs.lemmas.Bool.Decides.{nat_tests}
 use Rattle.std.proofs.lemmas.List.Elements.{All-head}
-use Rattle.sound_state.proofs.Common.{Geometry, block_count_of, anchor_of, Site, PartialPoint}
-use Rattle.sound_state.proofs.Common.{is_empty, Continuation, Point, Partial, next_of, plan_point_of, State, partly_used, holds_of, Lists, IsLocated, IsSo, located}
-use Rattle.sound_state.proofs.Common.{recalls_of, IsSoundWithoutCounts, IsSoundWith, IsChained, superblock_of, anchor_for, is_bound, away_of, errand_keeps}
-use Rattle.sound_state.proofs.Common.{kept_among}
+use Rattle.sound_state.proofs.Common.{Geometry, block_count_of, anchor_of, Site, PartialPoint, is_empty, Continuation, Point, Partial, next_of, plan_point_of, State}
+use Rattle.sound_state.proofs.Common.{partly_used, holds_of, Lists, IsLocated, IsSo, located, recalls_of, IsSoundWithoutCounts, IsSoundWith, IsChained, superblock_of}
+use Rattle.sound_state.proofs.Common.{anchor_for, is_bound, away_of, errand_keeps, kept_among}
 use Rattle.word_table.specs.declared.name.WordName.TheVariants as name
 use Rattle.partial_parts.specs.declared.point.PartialPoint.TheVariants as partial
 use Rattle.calls_end.specs.StepsLeft.{steps_left}

@@ -1,42 +1,32 @@
 -- What a caller's own turns come to, however many there are.
-use Rattle.std.proofs.Common.{ℕ, zero, suc, ◌≡◌, ◌<◌, ◌≤◌, ◌+◌, ◌*◌, ◌^◌, arith, ap, sym, subst, inl, inr, ◌∙◌, ◌-◌, replicate, true≢false}
+use Rattle.std.proofs.Common.{ℕ, zero, suc, ◌≡◌, ◌<◌, ◌≤◌, ◌+◌, ◌*◌, ◌^◌, arith, sym, subst, inl, inr, ◌∙◌, ◌-◌, replicate, true≢false, refl}
 use Rattle.std.proofs.lemmas.Bool.{cases_Bool}
-use Rattle.sound_state.proofs.Common.{Geometry, descriptor_count, counts_lost, counts_cleared, State, Step, found_at, IsSound, in_turn, one_if, CALL_STEPS}
-use Rattle.sound_state.proofs.Common.{descriptor_count_within, IsIdle, is_idle, Run}
+use Rattle.sound_state.proofs.Common.{Geometry, descriptor_count, counts_lost, counts_cleared, State, Step, found_at, IsSound, in_turn, CALL_STEPS, descriptor_count_within}
+use Rattle.sound_state.proofs.Common.{IsIdle, is_idle, Run}
 use Rattle.calls_end.specs.Alone.{stale_words, empty_for, emptied_for, class_at, clearings, alone_left}
-use Rattle.calls_end.specs.StepsLeft.{steps_left}
 use Rattle.sound_state.proofs.CountedLemmas.{without-counts, steps-counted}
 use Rattle.calls_end.proofs.AloneLemmas.{alone-falls, alone-stale, step-there}
 use Rattle.calls_end.proofs.EmptiedLemmas.{cond-most, clearings-fall}
-use Rattle.calls_end.proofs.RunsShort.{most-left, raised-one, step-counts}
-use Rattle.calls_end.proofs.LeftSteps.{steps-go_on}
+use Rattle.calls_end.proofs.RunsShort.{most-left, step-counts, step-spends, Spends, same-spends, then-spends}
 use Rattle.calls_end.proofs.StaleMost.{stale-most}
-use Rattle.sound_state.proofs.shared.StepLemmas.{raised-least, raised-most, raised-by}
+use Rattle.sound_state.proofs.shared.StepLemmas.{raised-most}
 use Rattle.sound_state.proofs.shared.SumLemmas.{sum-most}
-use Rattle.sound_state.proofs.shared.TagLemmas.{cleared-below}
 use Rattle.sound_state.proofs.shared.TurnEffects.{one_if-most}
 
 -- n steps of a caller alone lead from the one state to the other, by what it lost and cleared, and by what is left
 pub record LeadsAlone (g : Geometry) (s : State) (caller n : ℕ) (s' : State) : Type 0 where
   pub left : n + alone_left g s' caller ≤ alone_left g s caller
-  pub lost : (s.errand caller).lost ≤ (s'.errand caller).lost
   pub met : (s'.errand caller).lost + stale_words g s' caller ≤ (s.errand caller).lost + stale_words g s caller
-  pub cleared : (s.errand caller).cleared ≤ (s'.errand caller).cleared
   pub emptied : (s'.errand caller).cleared + clearings g s' caller ≤ (s.errand caller).cleared + clearings g s caller
-  pub few :
-      (s'.errand caller).lost + 1 < 2 ^ 64
-      → n + CALL_STEPS * ((s.errand caller).lost + (s.errand caller).cleared) + steps_left g (s'.errand caller).point
-      ≤ CALL_STEPS * ((s'.errand caller).lost + (s'.errand caller).cleared) + steps_left g (s.errand caller).point
+  pub spends : Spends g (s.errand caller) (s'.errand caller) n 0
 
 -- no steps of a caller lead so alone from a state to itself
 stays-alone : (g : Geometry) (s : State) (caller : ℕ) → LeadsAlone g s caller 0 s
 stays-alone g s caller = record {
   left = omega arith;
-  lost = omega arith;
   met = omega arith;
-  cleared = omega arith;
   emptied = omega arith;
-  few = λ room. omega arith;
+  spends = same-spends g (s.errand caller) (s.errand caller) refl;
 }
 
 -- some steps of a caller alone and then some more lead so together
@@ -45,11 +35,9 @@ then-alone :
     → LeadsAlone g s caller (n + m) s'
 then-alone g s caller n t m s' a b = record {
   left = omega (arith, a.left, b.left);
-  lost = omega (arith, a.lost, b.lost);
   met = omega (arith, a.met, b.met);
-  cleared = omega (arith, a.cleared, b.cleared);
   emptied = omega (arith, a.emptied, b.emptied);
-  few = λ room. let early : (t.errand caller).lost + 1 < 2 ^ 64 = omega (arith, room, b.lost) in omega (arith, a.few early, b.few room);
+  spends = then-spends g (s.errand caller) (t.errand caller) (s'.errand caller) n m 0 a.spends b.spends;
 }
 
 -- one step of a caller leads so alone, by what it lost and cleared and by what is left
@@ -61,22 +49,11 @@ step-alone g s caller s' sound has step =
     let b = counts_lost e.point (found_at s caller) in
     let c = counts_cleared e.point (found_at s caller) in
     let counts = step-counts s caller s' step in
-    let cleared : (s'.errand caller).cleared ≡ e.cleared + one_if c =
-    counts.1 ∙ raised-by c e.cleared (cleared-below g s plain caller has) in
-    let most = most-left g s' caller after has in
     record {
       left = omega (arith, alone-falls g s caller s' sound has step);
-      lost = omega (arith, counts.0, raised-least b e.lost (sound.parts.1.errands caller has).lost);
       met = omega (arith, counts.0, raised-most b e.lost, alone-stale g s caller s' sound has step);
-      cleared = omega (arith, cleared);
-      emptied = omega (arith, cleared, clearings-fall g s caller s' plain (without-counts g s' after) has step);
-      few = λ room.
-          let up : (s'.errand caller).lost ≡ e.lost + one_if b = counts.0 ∙ raised-one b e.lost (omega (arith, room, counts.0)) in
-          elim (steps-go_on g s caller s' plain has step) [
-            | inl loses ↦ omega (arith, up, cleared, most, ap one_if loses)
-            | inr rest ↦
-                elim rest [ inl clears ↦ omega (arith, up, cleared, most, ap one_if clears) | inr fewer ↦ omega (arith, up, cleared, fewer) ]
-          ];
+      emptied = omega (arith, counts.1, raised-most c e.cleared, clearings-fall g s caller s' plain (without-counts g s' after) has step);
+      spends = step-spends g s caller s' sound has step;
     }
 
 -- turns of one caller, however many, lead so alone, by what it lost and cleared and by what is left
@@ -149,4 +126,4 @@ pub leads-few :
     → (s'.errand caller).lost + 1 < 2 ^ 64
     → n < CALL_STEPS * (1 + ((s'.errand caller).lost - (s.errand caller).lost) + ((s'.errand caller).cleared - (s.errand caller).cleared))
 leads-few g s caller n s' sound has leads room =
-    omega (arith, most-left g s caller sound has, leads.lost, leads.cleared, leads.few room)
+    omega (arith, most-left g s caller sound has, leads.spends.lost, leads.spends.cleared, leads.spends.paid (omega (arith, room)))

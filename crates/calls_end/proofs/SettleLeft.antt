@@ -1,29 +1,27 @@
 -- What the retired list and the turn limit leave to do.
-use Rattle.std.proofs.Common.{ℕ, zero, suc, false, Option, Some, None, ◌≡◌, ◌≢◌, ◌<◌, ◌≤◌, ◌+◌, List, [], ◌∷◌, length, get_or, refl, ◌∙◌, arith, ap, sym, subst, ◌==◌}
-use Rattle.std.proofs.Common.{All, AllPairs, IsSome, count_by, nat_lt, slice_set, if◌then◌else◌, true≢false, eq-eqb}
+use Rattle.std.proofs.Common.{ℕ, zero, suc, false, Option, ◌≡◌, ◌≢◌, ◌<◌, ◌≤◌, ◌+◌, List, [], ◌∷◌, length, get_or, refl, ◌∙◌, arith, ap, sym, subst, ◌==◌, All, AllPairs}
+use Rattle.std.proofs.Common.{IsSome, count_by, nat_lt, slice_set, if◌then◌else◌, true≢false, eq-eqb}
 use Rattle.std.proofs.lemmas.Bool.{cond_both, cond-true}
 use Rattle.std.proofs.lemmas.List.{get_or_default}
 use Rattle.std.proofs.lemmas.List.Elements.{All-head, All-tail}
 use Rattle.std.proofs.lemmas.List.Kept.{AllPairs-cons}
 use Rattle.std.proofs.lemmas.List.Sums.{sum_by-cons}
-use Rattle.sound_state.proofs.Common.{Geometry, Found, descriptor_count, SeatFields, occurs, DescPoint, Continuation, Next, At, End, Retire, Pick, Unlist, Point}
-use Rattle.sound_state.proofs.Common.{ErrandFields, settle_of, course_of, spare_of, next_of, plan_point_of, State, found_at, errand_has, IsSoundWithoutCounts}
-use Rattle.sound_state.proofs.Common.{callers_sum, settle_block_of, settle_stack_of, first_unheld, settle_desc_of, after_hazard, named_in, settle_partial_of}
-use Rattle.sound_state.proofs.Common.{settle_large_of, Turn, after_list, after_turn, picked, turned, is_full, no_words, point_after, resumed, enter_block, enter_stack}
-use Rattle.sound_state.proofs.Common.{enter_desc, enter_partial, enter_large}
+use Rattle.sound_state.proofs.Common.{Geometry, descriptor_count, SeatFields, occurs, Continuation, Next, At, End, Retire, Pick, Unlist, Point, ErrandFields, settle_of}
+use Rattle.sound_state.proofs.Common.{course_of, spare_of, next_of, plan_point_of, State, found_at, errand_has, IsSoundWithoutCounts, callers_sum, first_unheld}
+use Rattle.sound_state.proofs.Common.{after_hazard, named_in, Turn, after_list, after_turn, picked, turned, is_full, scan_begins, point_after, resumed, enter_desc}
 use Rattle.word_table.specs.declared.name.WordName.TheVariants as name
 use Rattle.word_table.specs.declared.onward.Onward.TheVariants.{Stays, Leaves}
 use Rattle.hazard_parts.specs.declared.exit.DescExit.TheVariants.{Scanned}
 use Rattle.hazard_parts.specs.declared.point.DescPoint.TheVariants as desc
 use Rattle.hazard_parts.proofs.PickLemmas.{some-picked}
 use Rattle.errand_steps.specs.declared.point.Point.TheVariants as point
-use Rattle.calls_end.specs.StepsLeft.{steps_left, scan_left, active_left, resumed_left}
+use Rattle.calls_end.specs.StepsLeft.{steps_left}
+use Rattle.errand_steps.specs.tables.Lengths.{scan_left, active_left, resumed_left}
 use Rattle.calls_end.proofs.LeftDefs.{next_left, word_under}
-use Rattle.sound_state.proofs.shared.GuardEffects.{scans}
 use Rattle.sound_state.proofs.shared.ListFacts.{contains-occurs}
 use Rattle.sound_state.proofs.shared.PointLemmas.{fits-now, noted-unread}
 use Rattle.sound_state.proofs.shared.SumLemmas.{term-sum}
-use Rattle.lost_exchanges.proofs.SettleExpects.{is_pick, no-pick-block, no-pick-stack, no-pick-partial, no-pick-large}
+use Rattle.lost_exchanges.proofs.SettleExpects.{is_pick, no-pick}
 use Rattle.lost_exchanges.proofs.WinDefs.{found_in}
 
 -- numbers that occur at most once are all different
@@ -46,8 +44,7 @@ used-once : (w : ℕ) → used w ≤ 1
 used-once w = grind (arith)
 
 -- noted words that are all 0 from n on name at most n things
-few-used :
-    (xs : List ℕ) (n : ℕ) → ((i : ℕ) → n ≤ i → i < length xs → get_or xs i 0 ≡ 0) → count_by (λ word. nat_lt 0 word) xs ≤ n
+few-used : (xs : List ℕ) (n : ℕ) → ((i : ℕ) → n ≤ i → i < length xs → get_or xs i 0 ≡ 0) → count_by (λ word. nat_lt 0 word) xs ≤ n
 few-used [] n none = omega arith
 few-used (x ∷ xs) zero none =
     let first : used x ≡ 0 = ap used (none 0 (omega arith) (omega arith)) in
@@ -62,7 +59,7 @@ retired-apart :
     (g : Geometry) (s : State) (caller : ℕ) → IsSoundWithoutCounts g s → caller < g.callers → AllPairs (λ a b. a ≢ b) (s.errand caller).retired
 unfolding callers_sum
 retired-apart g s caller sound has =
-    let own = sound.parts.1.errands caller has in
+    let own = sound.parts.1.formed.errands caller has in
     let listed = subst (λ h. All (λ d. d < descriptor_count h) (s.errand caller).retired) own.geometry own.rule.listed in
     occurs-apart (s.errand caller).retired
     (λ k e within.
@@ -93,8 +90,7 @@ unfolding steps_left
 resumed-left g e s o = grind (arith)
 
 -- a call whose next turn begins, or that ends, has no more steps left than from the active word on
-turned-left :
-    (g : Geometry) (e : ErrandFields) (s : SeatFields) (need : ℕ) → steps_left g (point_after (turned e s need)) ≤ active_left g s
+turned-left : (g : Geometry) (e : ErrandFields) (s : SeatFields) (need : ℕ) → steps_left g (point_after (turned e s need)) ≤ active_left g s
 unfolding steps_left
 turned-left g e s need = grind (arith)
 
@@ -104,7 +100,7 @@ retired-left :
     → steps_left g (point_after (after_turn e (after_list e (Retire s d o)))) ≤ scan_left g + resumed_left g s o
 unfolding steps_left
 retired-left g e s d o =
-    cond_both (is_full e) (At (point.Desc (desc.ReadHazard s no_words 0) o)) (resumed s o)
+    cond_both (is_full e) (At (scan_begins s o)) (resumed s o)
     (λ n. steps_left g (point_after (after_turn e n)) ≤ scan_left g + resumed_left g s o) (λ full. omega arith)
     (λ room. omega (arith, resumed-left g e s o))
 
@@ -113,13 +109,11 @@ picked-left :
     (g : Geometry) (e : ErrandFields) (s : SeatFields) (o : Continuation) (first : Option ℕ) → IsSome first
     → steps_left g (point_after (after_turn e (picked e s o first))) ≤ resumed_left g s o + 3
 unfolding steps_left
-picked-left g e s o None some = absurd (true≢false (sym some))
-picked-left g e s o (Some d) some = omega arith
+picked-left g e s o first some = grind (arith, some)
 
 -- whatever follows a step, but for the end of a scan, leaves no more to do than that says
 listed-left :
-    (g : Geometry) (e : ErrandFields) (n : Next) → is_pick n ≡ false
-    → steps_left g (point_after (after_turn e (after_list e n))) ≤ next_left g n
+    (g : Geometry) (e : ErrandFields) (n : Next) → is_pick n ≡ false → steps_left g (point_after (after_turn e (after_list e n))) ≤ next_left g n
 unfolding steps_left
 listed-left g e (At p) plain = omega arith
 listed-left g e (End r) plain = omega arith
@@ -128,16 +122,11 @@ listed-left g e (Retire s d o) plain = retired-left g e s d o
 listed-left g e (Pick s held o) plain = absurd (true≢false plain)
 listed-left g e (Unlist s d o) plain = resumed-left g e s o
 
--- a step that is no read of a hazard word ends no scan
-no-pick-desc : (p : DescPoint) (x : Found) (o : Continuation) → scans p ≡ false → is_pick (enter_desc (settle_desc_of p x) o) ≡ false
-no-pick-desc p x o plain = grind (arith, plain)
-
 -- a hazard word that a scan reads leaves no more to do than what follows says, if a descriptor can be picked then
 hazard-left :
     (g : Geometry) (e : ErrandFields) (s : SeatFields) (held : List ℕ) (i v : ℕ) (o : Continuation)
     → IsSome (first_unheld (slice_set held i (named_in s.geometry v)) e.retired)
-    → steps_left g (point_after (after_turn e (after_list e (enter_desc (after_hazard s held i v) o))))
-    ≤ next_left g (enter_desc (after_hazard s held i v) o)
+    → steps_left g (point_after (after_turn e (after_list e (enter_desc (after_hazard s held i v) o)))) ≤ next_left g (enter_desc (after_hazard s held i v) o)
 unfolding steps_left
 hazard-left g e s held i v o some =
     let noted = slice_set held i (named_in s.geometry v) in
@@ -151,36 +140,15 @@ Settles g s e p =
     steps_left g (point_after (after_turn e (after_list e (next_of p (found_in p (word_under s p))))))
     ≤ next_left g (next_of p (found_in p (word_under s p)))
 
--- a step at the descriptors or the hazard words leaves no more to do than what follows it says
-desc-settles :
-    (g : Geometry) (s : State) (caller : ℕ) (p : DescPoint) (o : Continuation) → IsSoundWithoutCounts g s → caller < g.callers
-    → (s.errand caller).point ≡ point.Desc p o → Settles g s (s.errand caller) (point.Desc p o)
-unfolding plan_point_of next_of
-desc-settles g s caller (desc.ReadHazard seat held i) o sound has stands =
-    hazard-left g (s.errand caller) seat held i (s.word (name.Hazard i)) o (picks-some g s caller seat held i o sound has stands)
-desc-settles g s caller p o sound has stands =
-    let x = found_in (point.Desc p o) (word_under s (point.Desc p o)) in
-    listed-left g (s.errand caller) (enter_desc (settle_desc_of p x) o) (no-pick-desc p x o refl)
-
 -- a step at each point leaves no more to do than what follows it says
 settles-at :
     (g : Geometry) (s : State) (caller : ℕ) (p : Point) → IsSoundWithoutCounts g s → caller < g.callers → (s.errand caller).point ≡ p
     → Settles g s (s.errand caller) p
 unfolding plan_point_of next_of
-settles-at g s caller point.Idle sound has stands = listed-left g (s.errand caller) (At point.Idle) refl
-settles-at g s caller (point.Block p o) sound has stands =
-    let n = settle_block_of p (found_in (point.Block p o) (word_under s (point.Block p o))) in
-    listed-left g (s.errand caller) (enter_block n o) (no-pick-block n o)
-settles-at g s caller (point.Stack p o) sound has stands =
-    let n = settle_stack_of p (found_in (point.Stack p o) (word_under s (point.Stack p o))) in
-    listed-left g (s.errand caller) (enter_stack n o) (no-pick-stack n o)
-settles-at g s caller (point.Desc p o) sound has stands = desc-settles g s caller p o sound has stands
-settles-at g s caller (point.Partial p o) sound has stands =
-    let n = settle_partial_of p (found_in (point.Partial p o) (word_under s (point.Partial p o))) in
-    listed-left g (s.errand caller) (enter_partial n o) (no-pick-partial n o)
-settles-at g s caller (point.Large p o) sound has stands =
-    let n = settle_large_of p (found_in (point.Large p o) (word_under s (point.Large p o))) in
-    listed-left g (s.errand caller) (enter_large n o) (no-pick-large n o)
+settles-at g s caller (point.Desc (desc.ReadHazard seat held i) o) sound has stands =
+    hazard-left g (s.errand caller) seat held i (s.word (name.Hazard i)) o (picks-some g s caller seat held i o sound has stands)
+settles-at g s caller p sound has stands =
+    let x = found_in p (word_under s p) in listed-left g (s.errand caller) (next_of p x) (no-pick p x refl)
 
 -- no more steps are left after a step than what follows it says
 pub left-settles :

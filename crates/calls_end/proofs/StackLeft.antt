@@ -1,7 +1,7 @@
 -- What a step at a stack leaves to do.
 use Rattle.std.proofs.Common.{ℕ, ◌≡◌, ◌<◌, ◌≤◌, arith, sym, subst, inr, IsTrue}
-use Rattle.sound_state.proofs.Common.{Geometry, HeadFields, head_of, SeatFields, Pile, StackPoint, head_name, next_in, Continuation}
-use Rattle.sound_state.proofs.Common.{Stack, next_of, plan_point_of, State, IsSoundWithoutCounts}
+use Rattle.sound_state.proofs.Common.{Geometry, HeadFields, head_of, SeatFields, Pile, StackPoint, head_name, next_in, Continuation, Stack, next_of, plan_point_of, State}
+use Rattle.sound_state.proofs.Common.{IsSoundWithoutCounts}
 use Rattle.word_table.specs.Sites.{IsSeatOf}
 use Rattle.stack_parts.specs.declared.point.StackPoint.TheVariants as stack
 use Rattle.stack_parts.specs.Piles.{pile_limit}
@@ -9,7 +9,8 @@ use Rattle.stack_parts.specs.Points.{after_top}
 use Rattle.errand_steps.specs.Nexts.{enter_stack, found_empty}
 use Rattle.errand_steps.specs.Continuations.{pops}
 use Rattle.sound_state.specs.Recalls.{list_of}
-use Rattle.calls_end.specs.StepsLeft.{steps_left, top_left}
+use Rattle.calls_end.specs.StepsLeft.{steps_left}
+use Rattle.errand_steps.specs.tables.Lengths.{top_left}
 use Rattle.calls_end.proofs.LeftDefs.{LeavesLess, next_left}
 use Rattle.sound_state.proofs.shared.PointLemmas.{fits-now}
 use Rattle.sound_state.proofs.shared.StackedLemmas.{pile-stacked, pile-exists, top-exists}

@@ -1,15 +1,15 @@
 -- A step of a caller makes no word stale for it, and one that is lost finds a stale word, which is stale no more.
-use Rattle.std.proofs.Common.{ℕ, Bool, true, false, ◌≡◌, ◌≢◌, ◌<◌, ◌≤◌, ◌+◌, refl, arith, ap, sym, subst, inl, inr, ◌∙◌, ◌==◌, not, if◌then◌else◌, [], Any, eq-eqb}
-use Rattle.std.proofs.Common.{ne_eqb, true≢false}
+use Rattle.std.proofs.Common.{ℕ, Bool, true, false, ◌≡◌, ◌≢◌, ◌<◌, ◌≤◌, ◌+◌, arith, ap, sym, subst, inl, inr, ◌∙◌, ◌==◌, not, [], Any, ne_eqb, true≢false}
 use Rattle.std.specs.List.{list_any}
-use Rattle.std.proofs.lemmas.Bool.{cases_eq, cases_Bool, cond-true, cond-false, and_parts, and_from}
+use Rattle.std.proofs.lemmas.Bool.{cases_Bool, and_parts, and_from}
 use Rattle.std.proofs.lemmas.List.Folds.{Any-from_list_any, list_any-from_Any}
 use Rattle.sound_state.proofs.Common.{Geometry, WordName, word_count, Exists, word_name, cases_name, counts_lost, settle_of, State, Step, action_at, name_at, word_at}
-use Rattle.sound_state.proofs.Common.{found_at, sum_below, one_if, word_index, word_index-within, word_index-word_name, word_name-word_index}
+use Rattle.sound_state.proofs.Common.{found_at, one_if, word_index, word_index-within, word_name-word_index}
 use Rattle.calls_end.specs.Alone.{is_stale_by, is_stale, stale_words}
-use Rattle.lost_exchanges.specs.Expectations.{Expected, expects_of}
+use Rattle.errand_steps.specs.tables.Expected.{Expected}
+use Rattle.lost_exchanges.specs.Expectations.{expects_of}
 use Rattle.lost_exchanges.specs.Wins.{same_name}
-use Rattle.sound_state.proofs.shared.SumLemmas.{sum-change, sum-least, sum-none}
+use Rattle.sound_state.proofs.shared.SumLemmas.{sum-least, sum-none, sum-less}
 use Rattle.lost_exchanges.proofs.ExpectLemmas.{some-all}
 use Rattle.lost_exchanges.proofs.NoteLemmas.{ExpectsAfter}
 use Rattle.lost_exchanges.proofs.SameNames.{same-name-is, same-name-one}
@@ -58,8 +58,7 @@ stale-apart s caller s' m step expects apart stale =
     ]
 
 -- the word of a caller's step isn't stale for it after the step
-pub stale-here :
-    (s : State) (caller : ℕ) (s' : State) → Step s caller s' → ExpectsAfter s caller → is_stale s' caller (name_at s caller) ≡ false
+pub stale-here : (s : State) (caller : ℕ) (s' : State) → Step s caller s' → ExpectsAfter s caller → is_stale s' caller (name_at s caller) ≡ false
 stale-here s caller s' step expects =
     elim (cases_Bool (is_stale s' caller (name_at s caller))) [
       | inl stale ↦
@@ -83,20 +82,8 @@ pub lost-met :
     → is_stale s caller (name_at s caller) ≡ true
 lost-met s caller loses lost = stale-by s caller (name_at s caller) (loses lost)
 
-lost-stale :
-    (s : State) (caller : ℕ) → LosesOn (s.errand caller).point (word_at s caller)
-    → one_if (counts_lost (s.errand caller).point (found_at s caller)) ≤ one_if (is_stale s caller (name_at s caller))
-lost-stale s caller loses =
-    elim (cases_Bool (counts_lost (s.errand caller).point (found_at s caller))) [
-      | inl lost ↦
-          let stale : is_stale s caller (name_at s caller) ≡ true = lost-met s caller loses lost in
-          omega (arith, ap one_if lost, ap one_if stale)
-      | inr isnt ↦ omega (arith, ap one_if isnt)
-    ]
-
 one-least : (a b : Bool) → (a ≡ true → b ≡ true) → one_if a ≤ one_if b
-one-least true b follows = omega (arith, ap one_if (follows refl))
-one-least false b follows = omega arith
+one-least a b follows = grind (arith, follows)
 
 -- a caller's stale words grow by none in its step, and are one fewer after a lost one
 pub stale-falls :
@@ -105,31 +92,19 @@ pub stale-falls :
     → stale_words g s' caller + one_if (counts_lost (s.errand caller).point (found_at s caller)) ≤ stale_words g s caller
 stale-falls g s caller s' exists step expects loses =
     let n = name_at s caller in
-    let i = word_index g n in
     let before = λ (k : ℕ). one_if (is_stale s caller (word_name g k)) in
     let after = λ (k : ℕ). one_if (is_stale s' caller (word_name g k)) in
-    let middle = λ (k : ℕ). if k == i then 0 else before k in
-    let within : i < word_count g = word_index-within g n exists in
-    let back : word_name g i ≡ n = word_name-word_index g n exists in
-    let here : before i ≡ one_if (is_stale s caller n) = ap (λ m. one_if (is_stale s caller m)) back in
-    let none : after i ≡ 0 = ap (λ m. one_if (is_stale s' caller m)) back ∙ ap one_if (stale-here s caller s' step expects) in
-    let changed : sum_below (word_count g) middle + before i ≡ sum_below (word_count g) before + middle i =
-    sum-change (word_count g) before middle i within (λ j lt ne. cond-false {A = ℕ} (j == i) 0 (before j) (ne_eqb j i ne)) in
-    let zero_here : middle i ≡ 0 = cond-true {A = ℕ} (i == i) 0 (before i) (eq-eqb i i refl) in
-    let least : sum_below (word_count g) after ≤ sum_below (word_count g) middle =
-    sum-least (word_count g) after middle
-    (λ k lt.
-    elim (cases_eq k i) [
-      | inl same ↦ omega (arith, ap after same, none)
-      | inr differ ↦
-          let apart : word_name g k ≢ n = λ is. differ (sym (word_index-word_name g k lt) ∙ ap (word_index g) is) in
-          omega (
-            arith,
-            cond-false {A = ℕ} (k == i) 0 (before k) (ne_eqb k i differ),
-            one-least (is_stale s' caller (word_name g k)) (is_stale s caller (word_name g k)) (stale-apart s caller s' (word_name g k) step expects apart),
-          )
-    ]) in
-    omega (arith, changed, zero_here, least, here, lost-stale s caller loses)
+    let least : (k : ℕ) → k < word_count g → after k ≤ before k =
+    λ k lt. one-least (is_stale s' caller (word_name g k)) (is_stale s caller (word_name g k)) (stale-kept s caller s' (word_name g k) step expects) in
+    elim (cases_Bool (counts_lost (s.errand caller).point (found_at s caller))) [
+      | inl lost ↦
+          let i = word_index g n in
+          let back : word_name g i ≡ n = word_name-word_index g n exists in
+          let was : before i ≡ 1 = ap (λ m. one_if (is_stale s caller m)) back ∙ ap one_if (lost-met s caller loses lost) in
+          let is : after i ≡ 0 = ap (λ m. one_if (is_stale s' caller m)) back ∙ ap one_if (stale-here s caller s' step expects) in
+          omega (arith, ap one_if lost, sum-less (word_count g) before after i (word_index-within g n exists) least (omega (arith, was, is)))
+      | inr kept ↦ omega (arith, ap one_if kept, sum-least (word_count g) after before least)
+    ]
 
 -- a caller that expects nothing has no stale word
 pub none-stale : (g : Geometry) (s : State) (caller : ℕ) → expects_of (s.errand caller).point ≡ [] → stale_words g s caller ≡ 0

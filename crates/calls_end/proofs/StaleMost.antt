@@ -1,19 +1,18 @@
 -- No more than two words are ever stale for a caller: a caller expects no more.
-use Rattle.std.proofs.Common.{ℕ, Bool, true, false, ◌≡◌, ◌<◌, ◌≤◌, ◌+◌, List, [], ◌∷◌, length, refl, arith, ap, inl, inr, ◌∙◌, ◌==◌, ◌||◌, if◌then◌else◌, eq-eqb}
+use Rattle.std.proofs.Common.{ℕ, Bool, ◌≡◌, ◌<◌, ◌≤◌, ◌+◌, List, [], ◌∷◌, length, refl, arith, ap, inl, inr, ◌∙◌, ◌==◌, ◌||◌, if◌then◌else◌, eq-eqb}
 use Rattle.std.specs.List.{list_any}
 use Rattle.std.proofs.lemmas.Bool.{cases_Bool, cond-true}
-use Rattle.sound_state.proofs.Common.{Geometry, word_count, word_name, BlockPoint, StackPoint, DescPoint, PartialPoint, LargePoint, Continuation, Point, Idle, Block}
-use Rattle.sound_state.proofs.Common.{Stack, Desc, Partial, Large, State, sum_below, one_if, word_index, word_index-word_name}
+use Rattle.sound_state.proofs.Common.{Geometry, word_count, word_name, Point, State, sum_below, one_if, word_index, word_index-word_name}
 use Rattle.calls_end.specs.Alone.{is_stale_by, stale_words}
-use Rattle.lost_exchanges.specs.Expectations.{Expected, expects_of, block_expects, stack_expects, desc_expects, partial_expects, large_expects}
+use Rattle.errand_steps.specs.tables.Expected.{Expected}
+use Rattle.lost_exchanges.specs.Expectations.{expects_of}
 use Rattle.lost_exchanges.specs.Wins.{same_name}
 use Rattle.sound_state.proofs.shared.SumLemmas.{sum-none, sum-least, sum-plus, sum-once}
 use Rattle.sound_state.proofs.shared.TurnEffects.{one_if-most}
 use Rattle.lost_exchanges.proofs.SameNames.{same-name-is}
 
 either-most : (a b : Bool) → one_if (a || b) ≤ one_if a + one_if b
-either-most true b = omega arith
-either-most false b = omega arith
+either-most a b = grind (arith)
 
 -- an expectation makes a word stale only at the one number that it has in the table
 name-once : (g : Geometry) (s : State) (e : Expected) (k : ℕ) → k < word_count g
@@ -42,29 +41,9 @@ stale-by-most g s (e ∷ es) =
     (λ k lt. either-most (is_stale_by s (word_name g k) e) (list_any (is_stale_by s (word_name g k)) es)) in
     omega (arith, first, both, sum-once n (word_index g e.word), sum-plus n one rest, stale-by-most g s es)
 
-block-few : (p : BlockPoint) → length (block_expects p) ≤ 2
-block-few p = grind (arith)
-
-stack-few : (p : StackPoint) (o : Continuation) → length (stack_expects p o) ≤ 2
-stack-few p o = grind (arith)
-
-desc-few : (p : DescPoint) (o : Continuation) → length (desc_expects p o) ≤ 2
-desc-few p o = grind (arith)
-
-partial-few : (p : PartialPoint) (o : Continuation) → length (partial_expects p o) ≤ 2
-partial-few p o = grind (arith)
-
-large-few : (p : LargePoint) → length (large_expects p) ≤ 2
-large-few p = grind (arith)
-
 expects-few : (p : Point) → length (expects_of p) ≤ 2
 unfolding expects_of
-expects-few Idle = omega arith
-expects-few (Block p o) = block-few p
-expects-few (Stack p o) = stack-few p o
-expects-few (Desc p o) = desc-few p o
-expects-few (Partial p o) = partial-few p o
-expects-few (Large p o) = large-few p
+expects-few p = grind (arith)
 
 pub stale-most : (g : Geometry) (s : State) (caller : ℕ) → stale_words g s caller ≤ 2
 stale-most g s caller = omega (arith, stale-by-most g s (expects_of (s.errand caller).point), expects-few (s.errand caller).point)

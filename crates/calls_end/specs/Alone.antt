@@ -18,7 +18,8 @@ use Rattle.partial_parts.specs.Points.{seat_of_partial}
 use Rattle.errand_steps.specs.declared.point.Point.{Point}
 use Rattle.errand_steps.specs.declared.point.Point.TheVariants.{Idle, Block, Stack, Desc, Partial, Large}
 use Rattle.errand_steps.specs.Steps.{State}
-use Rattle.lost_exchanges.specs.Expectations.{Expected, expects_of}
+use Rattle.errand_steps.specs.tables.Expected.{Expected}
+use Rattle.lost_exchanges.specs.Expectations.{expects_of}
 use Rattle.sound_state.specs.TurnStages.{in_turn}
 use Rattle.calls_end.specs.StepsLeft.{steps_left}
 use Rattle.sound_state.specs.Sums.{sum_below, callers_sum}

@@ -26,9 +26,14 @@ use Rattle.large_parts.specs.declared.point.LargePoint.{LargePoint}
 use Rattle.large_parts.specs.declared.exit.LargeExit.{LargeExit}
 use Rattle.large_parts.specs.Points.{FitsLarge, FitsLargeExit}
 use Rattle.errand_steps.specs.declared.continuation.Continuation.{Continuation}
-use Rattle.errand_steps.specs.Fits.{FitsContinuation, spare_of_desc, pushed_by_desc}
+use Rattle.errand_steps.specs.Fits.{FitsContinuation}
+use Rattle.errand_steps.specs.tables.Descs.{spare_of_desc, pushed_by_desc, goes_desc}
 use Rattle.errand_steps.specs.Nexts.{enter_block, enter_stack, enter_desc, enter_partial, enter_large, leave_block, leave_stack, leave_desc, leave_partial}
-use Rattle.errand_steps.specs.Continuations.{goes_block, goes_stack, goes_desc, goes_partial, GoesLarge, goes_block_exit, goes_stack_exit, goes_desc_exit, goes_partial_exit, GoesLargeExit}
+use Rattle.errand_steps.specs.tables.Blocks.{goes_block}
+use Rattle.errand_steps.specs.tables.Stacks.{goes_stack}
+use Rattle.errand_steps.specs.tables.Partials.{goes_partial}
+use Rattle.errand_steps.specs.tables.LargeBlocks.{GoesLarge}
+use Rattle.errand_steps.specs.Continuations.{goes_block_exit, goes_stack_exit, goes_desc_exit, goes_partial_exit, GoesLargeExit}
 use Rattle.errand_steps.proofs.NextLemmas.{Follows}
 use Rattle.errand_steps.proofs.ContinuationLemmas.{alloc-asked}
 

@@ -8,15 +8,13 @@ use Rattle.heap_geometry.specs.declared.geometry.Geometry.{Geometry}
 use Rattle.word_table.specs.declared.action.Found.{Found}
 use Rattle.word_table.specs.Counts.{descriptor_count}
 use Rattle.word_table.specs.Seats.{SeatFields}
-use Rattle.hazard_parts.specs.declared.point.DescPoint.TheVariants as desc
 use Rattle.hazard_parts.specs.Retired.{first_unheld, without}
 use Rattle.hazard_parts.proofs.PickLemmas.{some-listed}
 use Rattle.errand_steps.specs.declared.continuation.Continuation.{Continuation}
 use Rattle.errand_steps.specs.declared.point.Point.{Point}
-use Rattle.errand_steps.specs.declared.point.Point.TheVariants.{Desc}
 use Rattle.errand_steps.specs.declared.next.Next.{Next}
 use Rattle.errand_steps.specs.declared.next.Next.TheVariants.{At, End, Turn, Retire, Pick, Unlist}
-use Rattle.errand_steps.specs.Errands.{ErrandFields, IsErrand, IsListable, after_list, after_turn, picked, point_after, list_after, begins_turn, raised, is_full, no_words, led_by, settle_of, course_of}
+use Rattle.errand_steps.specs.Errands.{ErrandFields, IsErrand, IsListable, after_list, after_turn, picked, point_after, list_after, begins_turn, raised, is_full, scan_begins, led_by, settle_of, course_of}
 use Rattle.errand_steps.specs.Fits.{FitsPoint, spare_of, pushed_by}
 use Rattle.errand_steps.specs.Nexts.{next_of, resumed}
 use Rattle.errand_steps.proofs.NextLemmas.{FitsNext, IsResuming, Follows, follows-resumed}
@@ -66,7 +64,7 @@ stands-added e s d o h f =
     All-append (λ k. k < descriptor_count e.geometry) e.retired (d ∷ []) h.listed
     (All-cons (λ k. k < descriptor_count e.geometry) d [] f.fits.0 (All-nil (λ k. k < descriptor_count e.geometry))) in
     let longer : length (e.retired ++ d ∷ []) ≡ length e.retired + 1 = length-append e.retired (d ∷ []) in
-    cond_both (is_full e) (At (Desc (desc.ReadHazard s no_words 0) o)) (resumed s o) (λ m. Stands e (e.retired ++ d ∷ []) m)
+    cond_both (is_full e) (At (scan_begins s o)) (resumed s o) (λ m. Stands e (e.retired ++ d ∷ []) m)
     (λ full. record {
       fits = record {
         point = (record { seat = f.fits.1.seat; words = refl }, omega (arith, h.geometry.callers.0));

@@ -26,7 +26,10 @@ use Rattle.errand_steps.specs.declared.continuation.Continuation.{Continuation}
 use Rattle.errand_steps.specs.declared.point.Point.{Point}
 use Rattle.errand_steps.specs.declared.point.Point.TheVariants.{Idle, Block, Stack, Desc, Partial, Large}
 use Rattle.errand_steps.specs.Begins.{IsHeapBlock}
-use Rattle.errand_steps.specs.Events.{block_event, stack_event, large_event, run_event, won_event, event_of}
+use Rattle.errand_steps.specs.tables.Blocks.{block_event}
+use Rattle.errand_steps.specs.tables.Stacks.{stack_event}
+use Rattle.errand_steps.specs.tables.LargeBlocks.{large_event, run_event}
+use Rattle.errand_steps.specs.Events.{won_event, event_of}
 use Rattle.errand_steps.specs.Fits.{FitsInBlock, FitsInLarge, FitsPoint}
 use Rattle.errand_steps.specs.Points.{asked}
 use Rattle.errand_steps.proofs.ContinuationLemmas.{alloc-asked, run-asked}

@@ -23,9 +23,13 @@ use Rattle.large_parts.proofs.PointLemmas as large
 use Rattle.errand_steps.specs.declared.continuation.Continuation.{Continuation}
 use Rattle.errand_steps.specs.declared.point.Point.{Point}
 use Rattle.errand_steps.specs.declared.point.Point.TheVariants.{Idle, Block, Stack, Desc, Partial, Large}
-use Rattle.errand_steps.specs.Fits.{FitsContinuation, FitsPoint, spare_of, spare_of_desc, pushed_by, pushed_by_desc}
+use Rattle.errand_steps.specs.Fits.{FitsContinuation, FitsPoint, spare_of, pushed_by}
+use Rattle.errand_steps.specs.tables.Descs.{spare_of_desc, pushed_by_desc, goes_desc}
 use Rattle.errand_steps.specs.Nexts.{next_of, enter_desc}
-use Rattle.errand_steps.specs.Continuations.{goes_block, goes_stack, goes_desc, goes_partial, GoesLarge}
+use Rattle.errand_steps.specs.tables.Blocks.{goes_block}
+use Rattle.errand_steps.specs.tables.Stacks.{goes_stack}
+use Rattle.errand_steps.specs.tables.Partials.{goes_partial}
+use Rattle.errand_steps.specs.tables.LargeBlocks.{GoesLarge}
 use Rattle.errand_steps.proofs.EnterLemmas.{GoesOnBlock, GoesOnStack, GoesOnDesc, GoesOnPartial, GoesOnLarge, spare_of_desc_exit, pushed_by_desc_exit, enters-block, enters-stack, enters-desc, enters-partial, enters-large}
 use Rattle.errand_steps.proofs.NextLemmas.{Follows}
 

@@ -2,30 +2,21 @@
 use Rattle.std.specs.Prelude.{ℕ, Bool, true, false, ◌≡◌, IsTrue}
 use Rattle.heap_geometry.specs.declared.need.Need.TheVariants as need
 use Rattle.heap_geometry.specs.Need.{need_of}
-use Rattle.superblock_parts.specs.declared.point.BlockPoint.{BlockPoint}
-use Rattle.superblock_parts.specs.declared.point.BlockPoint.TheVariants as block
 use Rattle.superblock_parts.specs.declared.exit.BlockExit.{BlockExit}
 use Rattle.superblock_parts.specs.declared.exit.BlockExit.TheVariants as block_exit
 use Rattle.stack_parts.specs.declared.point.Pile.{Pile}
 use Rattle.stack_parts.specs.declared.point.Pile.TheVariants.{Frames, Partials}
-use Rattle.stack_parts.specs.declared.point.StackPoint.{StackPoint}
-use Rattle.stack_parts.specs.declared.point.StackPoint.TheVariants as stack
 use Rattle.stack_parts.specs.declared.exit.StackExit.{StackExit}
 use Rattle.stack_parts.specs.declared.exit.StackExit.TheVariants as stack_exit
-use Rattle.hazard_parts.specs.declared.point.DescPoint.{DescPoint}
-use Rattle.hazard_parts.specs.declared.point.DescPoint.TheVariants as desc
 use Rattle.hazard_parts.specs.declared.exit.DescExit.{DescExit}
 use Rattle.hazard_parts.specs.declared.exit.DescExit.TheVariants as desc_exit
-use Rattle.partial_parts.specs.declared.point.PartialPoint.{PartialPoint}
-use Rattle.partial_parts.specs.declared.point.PartialPoint.TheVariants as partial
 use Rattle.partial_parts.specs.declared.exit.PartialExit.{PartialExit}
 use Rattle.partial_parts.specs.declared.exit.PartialExit.TheVariants as partial_exit
-use Rattle.large_parts.specs.declared.point.LargePoint.{LargePoint}
-use Rattle.large_parts.specs.declared.point.LargePoint.TheVariants as large
 use Rattle.large_parts.specs.declared.exit.LargeExit.{LargeExit}
 use Rattle.large_parts.specs.declared.exit.LargeExit.TheVariants as large_exit
 use Rattle.errand_steps.specs.declared.continuation.Continuation.{Continuation}
-use Rattle.errand_steps.specs.declared.continuation.Continuation.TheVariants.{Alloc, TakeFrame, GiveBlock, Discard, Turn, Look, Refuse, Free, Remove, Clear, ClearSecond, Retire, PushFirst, Finish, EndFree, Nothing}
+use Rattle.errand_steps.specs.declared.continuation.Continuation.TheVariants.{Alloc, TakeFrame, GiveBlock, Discard, Turn, Look, Refuse, Free, Remove, Clear, ClearSecond}
+use Rattle.errand_steps.specs.declared.continuation.Continuation.TheVariants.{Retire, PushFirst, Finish, EndFree, Nothing}
 
 -- the continuation is that of an allocation at work in a superblock; that of a free at work there
 abbrev pub is_alloc : Continuation → Bool
@@ -95,62 +86,28 @@ is_clearing Clear = true
 is_clearing (ClearSecond first) = true
 is_clearing o = false
 
--- the continuations that stand at a point of a superblock; at an exit
-abbrev pub goes_block : BlockPoint → Continuation → Bool
-goes_block (block.LoadPrefix s frame i) o = is_free o
-goes_block (block.LoadPushAnchor at i stored) o = is_free o
-goes_block (block.StoreGuard at i a) o = is_free o
-goes_block (block.LoadOwner at i a) o = is_free o
-goes_block (block.StoreLink at i a stored heap) o = is_free o
-goes_block (block.PushBlock at i a stored heap) o = is_free o
-goes_block p o = is_alloc o
-
+-- the continuations that stand at an exit from a superblock
 abbrev pub goes_block_exit : BlockExit → Continuation → Bool
 goes_block_exit (block_exit.BecameEmpty at heap) o = is_free o
 goes_block_exit (block_exit.BecamePartial at stored) o = is_free o
 goes_block_exit (block_exit.Pushed s stored) o = is_free o
 goes_block_exit e o = is_alloc o
 
--- the continuations that stand at a point of a stack; at an exit
-abbrev pub goes_stack : StackPoint → Continuation → Bool
-goes_stack (stack.LoadTop s pile) o = pops pile o
-goes_stack (stack.LoadBelow s pile h) o = pops pile o
-goes_stack (stack.PopTop s pile h below) o = pops pile o
-goes_stack (stack.ConfirmEmpty s pile h) o = confirms pile o
-goes_stack (stack.LoadTopToPush s pile i) o = pushes pile o
-goes_stack (stack.StoreBelow s pile i h) o = pushes pile o
-goes_stack (stack.PushTop s pile i h) o = pushes pile o
-
+-- the continuations that stand at an exit from a stack
 abbrev pub goes_stack_exit : StackExit → Continuation → Bool
 goes_stack_exit (stack_exit.Popped s pile i) o = pops pile o
 goes_stack_exit (stack_exit.FoundEmpty s pile h) o = pops pile o
 goes_stack_exit (stack_exit.ConfirmedEmpty s pile) o = confirms pile o
 goes_stack_exit (stack_exit.Pushed s pile) o = pushes pile o
 
--- the continuations that stand at a point of the descriptors or the hazard words; at an exit
-abbrev pub goes_desc : DescPoint → Continuation → Bool
-goes_desc (desc.ClearHazard s) o = clears o
-goes_desc (desc.ReadHazard s held at) o = resumes o
-goes_desc (desc.LoadHeadToPush s d) o = resumes o
-goes_desc (desc.StoreNextDesc s d top) o = resumes o
-goes_desc (desc.PushDesc s d top) o = resumes o
-goes_desc p o = is_alloc o
-
+-- the continuations that stand at an exit from the descriptors or the hazard words
 abbrev pub goes_desc_exit : DescExit → Continuation → Bool
 goes_desc_exit (desc_exit.Got s d) o = is_alloc o
 goes_desc_exit (desc_exit.Cleared s) o = clears o
 goes_desc_exit (desc_exit.Scanned s held) o = resumes o
 goes_desc_exit (desc_exit.Pushed s d) o = resumes o
 
--- the continuations that stand at a point of a partial superblock; at an exit
-abbrev pub goes_partial : PartialPoint → Continuation → Bool
-goes_partial (partial.LoadOwner s d) o = is_finish o
-goes_partial (partial.PutSlot s d heap) o = fills o
-goes_partial (partial.LoadHeldSlot s d heap) o = is_free o
-goes_partial (partial.RemoveFromSlot s d heap) o = is_free o
-goes_partial (partial.LoadListedAnchor s d) o = is_clearing o
-goes_partial p o = is_alloc o
-
+-- the continuations that stand at an exit from a partial superblock
 abbrev pub goes_partial_exit : PartialExit → Continuation → Bool
 goes_partial_exit (partial_exit.SlotFilled s) o = fills o
 goes_partial_exit (partial_exit.Displaced s d) o = fills o
@@ -169,13 +126,7 @@ abbrev pub is_last : Continuation → Bool
 is_last Nothing = true
 is_last o = false
 
--- the continuations that stand at a point of a large block, a usable word or a shelf; at an exit
-abbrev pub GoesLarge : LargePoint → Continuation → Type 0
-GoesLarge (large.LoadUnits w) o = IsRunFor w.units o
-GoesLarge (large.TakeRun w bits) o = IsRunFor w.units o
-GoesLarge (large.StoreRunPrefix place run) o = IsRunFor run.units o
-GoesLarge p o = IsTrue (is_last o)
-
+-- the continuations that stand at an exit from a large block, a usable word or a shelf
 abbrev pub GoesLargeExit : LargeExit → Continuation → Type 0
 GoesLargeExit (large_exit.GivenRun place run) o = IsRunFor run.units o
 GoesLargeExit large_exit.NoRun o = IsTrue (is_alloc o)

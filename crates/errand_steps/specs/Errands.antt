@@ -63,6 +63,10 @@ plan_of e = plan_point_of e.point
 abbrev pub no_words : List ℕ
 no_words = replicate HELD_MOST 0
 
+-- the point at which a scan of the hazard words begins
+abbrev pub scan_begins : SeatFields → Continuation → Point
+scan_begins s o = Desc (desc.ReadHazard s no_words 0) o
+
 -- the caller has no turn left
 abbrev pub is_spent : ErrandFields → Bool
 is_spent e = e.turns == e.geometry.turn_limit
@@ -81,7 +85,7 @@ abbrev pub after_list : ErrandFields → Next → Next
 after_list e (At p) = At p
 after_list e (End r) = End r
 after_list e (Turn s need) = Turn s need
-after_list e (Retire s d o) = if is_full e then At (Desc (desc.ReadHazard s no_words 0) o) else resumed s o
+after_list e (Retire s d o) = if is_full e then At (scan_begins s o) else resumed s o
 after_list e (Pick s held o) = picked e s o (first_unheld held e.retired)
 after_list e (Unlist s d o) = resumed s o
 

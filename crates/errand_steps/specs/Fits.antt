@@ -1,5 +1,5 @@
 -- Everything that a caller remembers exists in its heap.
-use Rattle.std.specs.Prelude.{ℕ, Option, Some, None, ◌≡◌, ◌<◌, IsTrue}
+use Rattle.std.specs.Prelude.{ℕ, Option, None, ◌≡◌, ◌<◌, IsTrue}
 use Rattle.heap_geometry.specs.declared.geometry.Geometry.{Geometry}
 use Rattle.heap_geometry.specs.declared.need.Need.TheVariants as need
 use Rattle.heap_geometry.specs.Need.{need_of}
@@ -11,18 +11,22 @@ use Rattle.superblock_parts.specs.Points.{IsBlockOf, FitsBlock, seat_of_block}
 use Rattle.stack_parts.specs.declared.point.StackPoint.{StackPoint}
 use Rattle.stack_parts.specs.Points.{FitsStack, seat_of_stack}
 use Rattle.hazard_parts.specs.declared.point.DescPoint.{DescPoint}
-use Rattle.hazard_parts.specs.declared.point.DescPoint.TheVariants as desc
 use Rattle.hazard_parts.specs.Points.{FitsDesc, seat_of_desc}
 use Rattle.partial_parts.specs.declared.point.PartialPoint.{PartialPoint}
 use Rattle.partial_parts.specs.Points.{FitsPartial, seat_of_partial}
 use Rattle.large_parts.specs.declared.point.LargePoint.{LargePoint}
 use Rattle.large_parts.specs.Points.{FitsLarge}
 use Rattle.errand_steps.specs.declared.continuation.Continuation.{Continuation}
-use Rattle.errand_steps.specs.declared.continuation.Continuation.TheVariants.{Alloc, TakeFrame, GiveBlock, Discard, Turn, Look, Refuse, Free, Remove, Clear, ClearSecond, Retire, PushFirst, Finish, EndFree, Nothing}
+use Rattle.errand_steps.specs.declared.continuation.Continuation.TheVariants.{Alloc, TakeFrame, GiveBlock, Discard, Turn, Look, Refuse, Free, Remove, Clear, ClearSecond}
+use Rattle.errand_steps.specs.declared.continuation.Continuation.TheVariants.{Retire, PushFirst, Finish, EndFree, Nothing}
 use Rattle.errand_steps.specs.declared.point.Point.{Point}
 use Rattle.errand_steps.specs.declared.point.Point.TheVariants as point
 use Rattle.errand_steps.specs.Points.{site_of}
-use Rattle.errand_steps.specs.Continuations.{goes_block, goes_stack, goes_desc, goes_partial, GoesLarge}
+use Rattle.errand_steps.specs.tables.Blocks.{goes_block}
+use Rattle.errand_steps.specs.tables.Stacks.{goes_stack}
+use Rattle.errand_steps.specs.tables.Descs.{goes_desc, spare_of_desc, pushed_by_desc}
+use Rattle.errand_steps.specs.tables.Partials.{goes_partial}
+use Rattle.errand_steps.specs.tables.LargeBlocks.{GoesLarge}
 
 -- blocks of the seat's class serve so many words
 abbrev pub IsSmallFor : SeatFields → ℕ → Type 0
@@ -94,24 +98,9 @@ FitsPoint g caller (point.Desc p o) = FitsInDesc g caller p o
 FitsPoint g caller (point.Partial p o) = FitsInPartial g caller p o
 FitsPoint g caller (point.Large p o) = FitsInLarge g p o
 
--- how many entries the caller's list may have beyond its callers: one during a scan and the push after it
-abbrev pub spare_of_desc : DescPoint → ℕ
-spare_of_desc (desc.ReadHazard s held at) = 1
-spare_of_desc (desc.LoadHeadToPush s d) = 1
-spare_of_desc (desc.StoreNextDesc s d top) = 1
-spare_of_desc (desc.PushDesc s d top) = 1
-spare_of_desc p = 0
-
 abbrev pub spare_of : Point → ℕ
 spare_of (point.Desc p o) = spare_of_desc p
 spare_of p = 0
-
--- the retired descriptor that is on its way to the available ones
-abbrev pub pushed_by_desc : DescPoint → Option ℕ
-pushed_by_desc (desc.LoadHeadToPush s d) = Some d
-pushed_by_desc (desc.StoreNextDesc s d top) = Some d
-pushed_by_desc (desc.PushDesc s d top) = Some d
-pushed_by_desc p = None
 
 abbrev pub pushed_by : Point → Option ℕ
 pushed_by (point.Desc p o) = pushed_by_desc p

@@ -10,3 +10,4 @@ pub mod Openings
 pub mod Points
 pub mod Steps
 pub mod Told
+pub mod tables

@@ -2,7 +2,10 @@
 
 ghost use Rattle.std.specs.Prelude.{◌≡◌};
 ghost use Rattle.large_parts.specs.Points.{first_wanted};
-ghost use Rattle.errand_steps.specs.Events.{block_event, stack_event, large_event, empty_event, run_event, won_event, event_of};
+ghost use Rattle.errand_steps.specs.tables.Blocks.{block_event};
+ghost use Rattle.errand_steps.specs.tables.Stacks.{stack_event, empty_event};
+ghost use Rattle.errand_steps.specs.tables.LargeBlocks.{large_event, run_event};
+ghost use Rattle.errand_steps.specs.Events.{won_event, event_of};
 
 use crate::continuation::asked;
 use crate::point::Point;

@@ -6,7 +6,8 @@ use Rattle.errand_steps.specs.Begins.{IsIdle}
 use Rattle.errand_steps.specs.Errands.{ErrandFields}
 use Rattle.errand_steps.specs.Steps.{State}
 use Rattle.sound_state.specs.Frames.{errand_frames}
-use Rattle.sound_state.specs.Holdings.{Holding, Status, reserving, waiting, partly_used, on_its_way, nothing, holds_of}
+use Rattle.errand_steps.specs.tables.Holding.{Holding, Status, reserving, waiting, partly_used, on_its_way, nothing}
+use Rattle.sound_state.specs.Holdings.{holds_of}
 use Rattle.sound_state.specs.Keepers.{errand_has, with_callers}
 use Rattle.sound_state.specs.Lists.{Lists}
 use Rattle.sound_state.specs.Sound.{IsSoundWith, IsSoundWithoutCounts}

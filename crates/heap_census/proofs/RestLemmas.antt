@@ -41,7 +41,7 @@ class-read word (Some i) reads = reads.0.class
 pub info-class : (g : Geometry) (s : State) (l : Lists) (d : ℕ) → Rests g s l → d < descriptor_count g → (info_for s d).class < CLASSES
 info-class g s l d rests has =
     class-read (s.word (name.Info d)) (info_of (s.word (name.Info d)))
-    (info-exact.reads (s.word (name.Info d)) (rests.parts.words (name.Info d)))
+    (info-exact.reads (s.word (name.Info d)) (rests.parts.formed.words (name.Info d)))
 
 -- a closed heap rests, with some lists
 pub closed-rests : (c : ClosedFields) → IsResting c → (l : Lists) × Rests c.geometry (closed_state c) l
@@ -105,4 +105,4 @@ pub offers-most : (c : ClosedFields) (heap class : ℕ) → IsResting c → offe
 offers-most c heap class resting =
     let (l, rests) = closed-rests c resting in
     let word : ℕ = (closed_state c).word (name.Active heap class) in
-    offers-within word (active_of word) (active-exact.reads word (rests.parts.words (name.Active heap class)))
+    offers-within word (active_of word) (active-exact.reads word (rests.parts.formed.words (name.Active heap class)))

@@ -140,7 +140,7 @@ pub stops-behind :
     (h : Heap) (from p q : Pass) (calls : List Made) (place : ℕ) (need : Need) (IsNext : List Made → Call → Type 0) (call : Call) (stop : Stop)
     → Has h from calls p place need → IsNext calls call → Stops h p call stop q → HasStopped h from IsNext stop
 stops-behind h from p q calls place need IsNext call stop has next stops =
-    record { calls = calls; p = p; made = has.made; call = call; next = next; q = q; stops = stops }
+    (q, record { calls = calls; last = p; made = has.made; call = call; next = next; stops = stops })
 
 -- an error that goes on through a `?`
 pub err-as : {A : Type 0} (r : Result A Stop) (stop : Stop) (P : Stop → Type 0) → IsErrAnd r (λ s. s ≡ stop) → P stop → IfErr r P

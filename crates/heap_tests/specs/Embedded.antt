@@ -80,15 +80,19 @@ IsNextOfSecond calls call =
     (place : ℕ) × (need : Need) × (handed : ℕ) × (answer : Reply) × (rest : List Made)
     × (second_calls place need handed ≡ calls ++ answered call answer ∷ rest)
 
--- a pass has made the first ones of its calls since it stood as `from`, and then the next one, which was answered so
-pub record HasStopped (h : Heap) (from : Pass) (IsNext : List Made → Call → Type 0) (stop : Stop) : Type 0 where
+-- what stood as `from` has made the first ones of its calls, and then the next one, which was answered so and left it as `to`
+pub record HasStoppedBy {S : Type 0} (makes : S → Call → Reply → S → Type 0) (ends : S → Call → Stop → S → Type 0) (IsNext : List Made → Call → Type 0)
+    (from : S) (stop : Stop) (to : S) : Type 0 where
   pub calls : List Made
-  pub p : Pass
-  pub made : LeadsBy (Makes h) from calls p
+  pub last : S
+  pub made : LeadsBy makes from calls last
   pub call : Call
   pub next : IsNext calls call
-  pub q : Pass
-  pub stops : Stops h p call stop q
+  pub stops : ends last call stop to
+
+-- a pass was stopped by the next one of its calls
+abbrev pub HasStopped : Heap → Pass → (List Made → Call → Type 0) → Stop → Type 0
+HasStopped h from IsNext stop = (q : Pass) × HasStoppedBy (Makes h) (Stops h) IsNext from stop q
 
 -- a call that was answered so has stopped the first one of the two passes of a new heap, or the second one behind all calls of the first
 pub record WasStopped (stop : Stop) : Type 0 where

@@ -1,5 +1,5 @@
 -- A program that uses a block again and again, through a cache.
-use Rattle.std.specs.Prelude.{ℕ, zero, suc, ◌≡◌, ◌-◌, List, [], ◌∷◌}
+use Rattle.std.specs.Prelude.{ℕ, zero, suc, ◌≡◌, ◌<◌, ◌-◌, ◌⊎◌, ◌++◌, List, [], ◌∷◌}
 use Rattle.heap_geometry.specs.Need.{need_of}
 use Rattle.pool_model.specs.Pool.{pool_of}
 use Rattle.errand_steps.specs.declared.reply.Reply.{Reply}
@@ -21,6 +21,7 @@ use Rattle.heap_tests.specs.declared.embedded.Stop.{Stop}
 use Rattle.heap_tests.specs.declared.embedded.Stop.TheVariants as stop
 use Rattle.heap_tests.specs.declared.reuse.TheConstants.{DEPTH, ROUNDS}
 use Rattle.heap_tests.specs.declared.reuse.Reused.{Reused}
+use Rattle.heap_tests.specs.Embedded.{HasStoppedBy}
 
 -- a whole call through a cache of this heap, whose magazines stay as deep
 abbrev pub Makes : Heap → Cache → Call → Reply → Cache → Type 0
@@ -51,6 +52,29 @@ abbrev pub MakesRounds : Heap → Cache → ℕ → Cache → Type 0
 MakesRounds h c zero d = d ≡ c
 MakesRounds h c (suc rounds) d = (mid : Cache) × MakesRounds h c rounds mid × IsRound h mid rounds d
 
+-- the call is the next one of a round with this word behind such calls
+abbrev pub IsNextOfRound : ℕ → List Made → Call → Type 0
+IsNextOfRound word calls call =
+    (place : ℕ) × (answer : Reply) × (rest : List Made) × (round_calls place word ≡ calls ++ answered call answer ∷ rest)
+
+-- a round was stopped by the next one of its calls
+abbrev pub HasStopped : Heap → Cache → ℕ → Stop → Cache → Type 0
+HasStopped h c word told d = HasStoppedBy (Makes h) (Stops h) (IsNextOfRound word) c told d
+
+-- behind fewer rounds than all, the next one was stopped
+pub record HasStoppedRounds (h : Heap) (c : Cache) (told : Stop) (d : Cache) : Type 0 where
+  pub rounds : ℕ
+  pub few : rounds < ROUNDS
+  pub mid : Cache
+  pub made : MakesRounds h c rounds mid
+  pub stopped : HasStopped h mid rounds told d
+
+-- a round was stopped; or all were made, and one of the frees that empty the magazines was interrupted
+abbrev pub HasStoppedWork : Heap → Cache → Stop → Cache → Type 0
+HasStoppedWork h c told d =
+    HasStoppedRounds h c told d
+    ⊎ ((mid : Cache) × MakesRounds h c ROUNDS mid × FlushTells h mid TRIES free_answer.Busy d × (told ≡ stop.Busy))
+
 -- a new heap with one caller, and a cache in front of its pass that has no block
 pub record IsOpened (h : Heap) (c : Cache) : Type 0 where
   pub alone : h.layout.callers ≡ 1
@@ -70,6 +94,14 @@ pub record HasWorked (h : Heap) (c : Cache) (sum : ℕ) (d : Cache) : Type 0 whe
   pub hits : d.hits ≡ mid.hits
   pub rests : RestsAt h d
   pub empty : cached_in d ≡ []
+
+-- a call that was answered so has stopped the work with a new heap through a cache
+pub record WasStopped (told : Stop) : Type 0 where
+  pub heap : Heap
+  pub cache : Cache
+  pub opened : IsOpened heap cache
+  pub last : Cache
+  pub stopped : HasStoppedWork heap cache told last
 
 -- a new heap was worked with through a cache and closed. A magazine served each allocation but the first one, which took the only turn; and no block is live
 pub record HasReused (reused : Reused) : Type 0 where

@@ -12,7 +12,7 @@ ghost use Rattle.live_heap.specs.Endings.{HasClosed, IsResting};
 ghost use Rattle.block_cache.specs.Caches.{cached_in};
 ghost use Rattle.block_cache.specs.Whole.{HoldsAt, RestsAt};
 ghost use Rattle.heap_tests.specs.Embedded.{live_in};
-ghost use Rattle.heap_tests.specs.Reuse.{HasReused, HasWorked, IsOpened, IsRound, Makes, MakesRounds, Stops};
+ghost use Rattle.heap_tests.specs.Reuse.{HasReused, HasStopped, HasStoppedRounds, HasStoppedWork, HasWorked, IsOpened, IsRound, Makes, MakesRounds, Stops, WasStopped};
 
 use crate::embedded::{Stop, TRIES, count_live};
 use block_cache::cache::Cache;
@@ -84,6 +84,7 @@ fn round(heap: &Heap, cache: &mut Cache, word: u64) -> Result<u64, Stop>
     requires { RestsAt heap.now cache.old }
     ensures made { IfOk result (λ read. IsRound heap.now cache.old word cache.new) }
     ensures same { IfOk result (λ read. read ≡ word) }
+    ensures stopped { IfErr result (λ stop. HasStopped heap.now cache.old word stop cache.new) }
 {
     ended_calls_are_whole();
     whole_calls_keep_blocks();
@@ -101,6 +102,7 @@ fn rounds(heap: &Heap, cache: &mut Cache) -> Result<u64, Stop>
     ensures rests { IfOk result (λ sum. RestsAt heap.now cache.new) }
     ensures made { IfOk result (λ sum. MakesRounds heap.now cache.old ROUNDS cache.new) }
     ensures sum { IfOk result (λ sum. sum ≡ min (sum_below ROUNDS (λ word. word)) (2 ^ 64 - 1)) }
+    ensures stopped { IfErr result (λ stop. HasStoppedRounds heap.now cache.old stop cache.new) }
 {
     let mut sum = 0u64;
     for word in 0..ROUNDS {
@@ -112,7 +114,8 @@ fn rounds(heap: &Heap, cache: &mut Cache) -> Result<u64, Stop>
 /// The rounds, and the flush that ends them.
 fn work(heap: &Heap, cache: &mut Cache) -> Result<u64, Stop>
     requires { RestsAt heap.now cache.old }
-    ensures { IfOk result (λ sum. HasWorked heap.now cache.old sum cache.new) }
+    ensures worked { IfOk result (λ sum. HasWorked heap.now cache.old sum cache.new) }
+    ensures stopped { IfErr result (λ stop. HasStoppedWork heap.now cache.old stop cache.new) }
 {
     let sum = rounds(heap, cache)?;
     match cache.flush(heap, TRIES) {
@@ -173,7 +176,8 @@ fn close(alloc: Global, heap: Heap, cache: Cache, sum: u64) -> Result<Reused, Al
 
 /// The program: it opens a heap, makes its rounds, and closes the heap.
 pub fn run(alloc: Global) -> Result<Result<Reused, Stop>, AllocError>
-    ensures { IfOk result (λ told. IfOk told HasReused) }
+    ensures ran { IfOk result (λ told. IfOk told HasReused) }
+    ensures stopped { IfOk result (λ told. IfErr told WasStopped) }
 {
     passes_are_served();
     closed_heaps_are_sound();

@@ -30,7 +30,8 @@ use Rattle.errand_steps.specs.Nexts.{next_of}
 use Rattle.errand_steps.specs.Points.{plan_point_of, is_idle}
 use Rattle.errand_steps.specs.Steps.{State, Step, event_at, found_at, with_event}
 use Rattle.errand_steps.proofs.EventLemmas.{event_own}
-use Rattle.call_events.specs.Stages.{block_stage, continuation_stage}
+use Rattle.errand_steps.specs.tables.Blocks.{block_stage}
+use Rattle.errand_steps.specs.tables.CallStage.{continuation_stage}
 use Rattle.call_events.specs.UnderWay.{IsUnderWay, SoFar}
 use Rattle.calls_end.specs.Alone.{alone_left, class_at, clearings, emptied_for, stale_words}
 use Rattle.lost_exchanges.specs.Expectations.{expects_of}

@@ -68,7 +68,7 @@ pub settled-of :
     → IsSettled e f before after answer
 settled-of e f before after answer m =
     let x : Find = found_at m.state e.caller in
-    let own_errand = m.sound.parts.1.errands e.caller m.has in
+    let own_errand = m.sound.parts.1.formed.errands e.caller m.has in
     let counted = without-counts e.geometry m.state m.sound in
     let own_then = moment-own_after e f before after answer m in
     let left : steps_left f.geometry f.point < CALL_STEPS = left-most f.geometry f.caller f.point own_then.rule.geometry own_then.rule.point in
@@ -77,7 +77,7 @@ settled-of e f before after answer m =
       rule = subst IsErrand m.here own_errand.rule;
       cleared = subst (λ (d : ErrandFields). d.cleared < 2 ^ TAG_BITS) m.here (cleared-far e.geometry m.state e.caller counted m.has);
       busy = subst IsBusy m.here m.step.busy;
-      word = m.sound.parts.1.words (name_at m.state e.caller);
+      word = m.sound.parts.1.formed.words (name_at m.state e.caller);
       won = subst (λ (d : ErrandFields). x.won ≡ is_won (plan_of d) x.value) m.here refl;
       settled = sym m.there ∙ m.step.errand.here ∙ ap (λ (d : ErrandFields). settle_of d x) m.here;
       answers = m.answers;

@@ -23,7 +23,8 @@ use Rattle.errand_steps.specs.declared.reply.Reply.{Reply}
 use Rattle.errand_steps.specs.declared.reply.Reply.TheVariants as reply
 use Rattle.errand_steps.specs.Calls.{Call, alloc, free, put, read, take, write}
 use Rattle.call_events.specs.Ends.{HasEnded, end_of}
-use Rattle.call_events.specs.Stages.{StageOfCall, asking, asking_run, freed, freeing, given, putting, reading, refused, stage_of, taking, writing}
+use Rattle.errand_steps.specs.tables.CallStage.{StageOfCall, asking, asking_run, freed, freeing, given, putting, reading, refused, taking, writing}
+use Rattle.call_events.specs.Stages.{stage_of}
 use Rattle.call_events.specs.UnderWay.{HasLooked, SoFar}
 use Rattle.live_heap.specs.declared.heap.Heap.{Heap}
 use Rattle.live_heap.specs.declared.pass.Pass.{Pass}

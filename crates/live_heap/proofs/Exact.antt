@@ -13,7 +13,8 @@ use Rattle.pool_model.proofs.OwnedLemmas.{of-self, owned-found}
 use Rattle.errand_steps.specs.declared.reply.Reply.{Reply}
 use Rattle.errand_steps.specs.declared.reply.Reply.TheVariants as reply
 use Rattle.errand_steps.specs.Calls.{Call, alloc, free, put, take, write}
-use Rattle.call_events.specs.Stages.{StageOfCall, freed, given, stage_of}
+use Rattle.errand_steps.specs.tables.CallStage.{StageOfCall, freed, given}
+use Rattle.call_events.specs.Stages.{stage_of}
 use Rattle.call_events.specs.UnderWay.{SoFar}
 use Rattle.step_machine.specs.Cores.{OwnsAfter}
 use Rattle.live_heap.specs.declared.block.Block.{Block}

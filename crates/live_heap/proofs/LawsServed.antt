@@ -17,7 +17,8 @@ use Rattle.errand_steps.specs.Calls.{Call, alloc, free, write, read, put, take, 
 use Rattle.errand_steps.specs.Errands.{ErrandFields, IsErrand, is_spent}
 use Rattle.sound_state.specs.Recalls.{IsOwned}
 use Rattle.sound_state.specs.Runs.{MayBegin}
-use Rattle.sound_state.specs.TurnStages.{turn_stage_of, out_of_turn, lacks_answer, is_unneeded}
+use Rattle.sound_state.specs.TurnStages.{turn_stage_of, lacks_answer, is_unneeded}
+use Rattle.errand_steps.specs.tables.TurnStage.{out_of_turn}
 use Rattle.sound_state.specs.Turns.{one_if, errand_discards, turn_unanswered}
 use Rattle.errand_steps.proofs.BegunErrands.{idle-is, alloc-errand, free-errand, write-errand, read-errand, put-errand, take-errand}
 use Rattle.step_machine.specs.Moments.{IsServed}

@@ -255,7 +255,7 @@ module _ (g : Geometry) (words : List ℕ) (views : List View) (id : ℕ) (v : V
   sound = run-sound g state begun.made_then begun.reached
 
   own_errand : IsOwnErrand g caller e
-  own_errand = subst (IsOwnErrand g caller) begun.moves.here (sound.parts.1.errands caller has)
+  own_errand = subst (IsOwnErrand g caller) begun.moves.here (sound.parts.1.formed.errands caller has)
 
   there : Exists g (name_of (plan_of e))
   there = subst (λ h. Exists h (name_of (plan_of e))) own_errand.geometry

@@ -21,7 +21,8 @@ use Rattle.errand_steps.specs.Errands.{ErrandFields, settle_of, counts_cleared, 
 use Rattle.errand_steps.specs.Events.{event_of}
 use Rattle.errand_steps.specs.Fits.{FitsContinuation, FitsPoint}
 use Rattle.errand_steps.specs.Steps.{with_event}
-use Rattle.call_events.specs.Stages.{StageOfCall, asking, asking_run, refused, given, freeing, freed, writing, reading, putting, taking, none, stage_of}
+use Rattle.errand_steps.specs.tables.CallStage.{StageOfCall, asking, asking_run, refused, given, freeing, freed, writing, reading, putting, taking, none}
+use Rattle.call_events.specs.Stages.{stage_of}
 use Rattle.call_events.specs.UnderWay.{IsUnderWay, SoFar}
 use Rattle.call_events.proofs.AnswerLemmas.{step-goes_on}
 use Rattle.step_machine.specs.Moments.{IsMoment}

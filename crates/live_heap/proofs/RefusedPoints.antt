@@ -30,7 +30,9 @@ use Rattle.errand_steps.specs.declared.reply.Reply.TheVariants as reply
 use Rattle.errand_steps.specs.Begins.{IsIdle}
 use Rattle.errand_steps.specs.Continuations.{confirms}
 use Rattle.errand_steps.specs.Errands.{ErrandFields, after_list, after_turn, course_of, point_after, settle_of}
-use Rattle.errand_steps.specs.Events.{block_event, event_of, run_event, won_event}
+use Rattle.errand_steps.specs.tables.Blocks.{block_event}
+use Rattle.errand_steps.specs.Events.{event_of, won_event}
+use Rattle.errand_steps.specs.tables.LargeBlocks.{run_event}
 use Rattle.errand_steps.specs.Fits.{FitsContinuation, FitsPoint}
 use Rattle.errand_steps.specs.Nexts.{enter_large, next_of}
 use Rattle.errand_steps.specs.Points.{asked, is_idle, plan_point_of}

@@ -215,7 +215,7 @@ module _ (first q : Pass) (call : Call) (steps : ℕ) (answer : Reply) (h : HasC
 moment-fits :
     (e f : ErrandFields) (before after : List Event) (answer : Progress) (m : IsMoment e f before after answer)
     → FitsPoint (m.state.errand e.caller).geometry (m.state.errand e.caller).caller (m.state.errand e.caller).point
-moment-fits e f before after answer m = (m.sound.parts.1.errands e.caller m.has).rule.point
+moment-fits e f before after answer m = (m.sound.parts.1.formed.errands e.caller m.has).rule.point
 
 -- what a step has found that told a look, or the refusal of a small need
 module _ (first : Pass) (s : SeenStep) (by : IsBySame first.errand s) where

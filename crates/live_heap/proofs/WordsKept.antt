@@ -19,7 +19,8 @@ use Rattle.pool_model.proofs.WellFormedLemmas.{sound-of}
 use Rattle.errand_steps.specs.declared.reply.Reply.{Reply}
 use Rattle.errand_steps.specs.declared.reply.Reply.TheVariants as reply
 use Rattle.errand_steps.specs.Calls.{Call, alloc, free, put, read, take, write}
-use Rattle.call_events.specs.Stages.{StageOfCall, freed, given, stage_of}
+use Rattle.errand_steps.specs.tables.CallStage.{StageOfCall, freed, given}
+use Rattle.call_events.specs.Stages.{stage_of}
 use Rattle.live_heap.specs.declared.heap.Heap.{Heap}
 use Rattle.live_heap.specs.declared.pass.Pass.{Pass}
 use Rattle.live_heap.specs.Answers.{IsContents}

@@ -9,8 +9,8 @@ use Rattle.pool_model.specs.Pool.{Block, block_at, fresh_block, handed_to, pool_
 use Rattle.errand_steps.specs.declared.reply.Reply.{Reply}
 use Rattle.errand_steps.specs.declared.reply.Reply.TheVariants as reply
 use Rattle.errand_steps.specs.Calls.{Call, alloc, free, put, take, write}
-use Rattle.call_events.specs.Stages.{StageOfCall}
-use Rattle.call_events.specs.Stages as stage
+use Rattle.errand_steps.specs.tables.CallStage.{StageOfCall}
+use Rattle.errand_steps.specs.tables.CallStage as stage
 use Rattle.step_machine.specs.Keeping.{LeavesPlace}
 use Rattle.live_heap.specs.declared.pass.Pass.{Pass}
 use Rattle.live_heap.specs.Passes.{seen}

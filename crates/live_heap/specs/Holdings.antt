@@ -4,8 +4,8 @@ use Rattle.heap_geometry.specs.declared.need.Need.{Need}
 use Rattle.errand_steps.specs.declared.reply.Reply.{Reply}
 use Rattle.errand_steps.specs.declared.reply.Reply.TheVariants as reply
 use Rattle.errand_steps.specs.Calls.{Call, alloc, free, put, take}
-use Rattle.call_events.specs.Stages.{StageOfCall}
-use Rattle.call_events.specs.Stages as stage
+use Rattle.errand_steps.specs.tables.CallStage.{StageOfCall}
+use Rattle.errand_steps.specs.tables.CallStage as stage
 use Rattle.live_heap.specs.declared.block.Block.{Block}
 use Rattle.live_heap.specs.declared.pass.Pass.{Pass}
 use Rattle.live_heap.specs.Contents.{owned_in}

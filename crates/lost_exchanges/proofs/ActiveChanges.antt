@@ -1,14 +1,13 @@
 -- Which steps change an active word, and what a caller's point says of its installs.
-use Rattle.std.proofs.Common.{ℕ, true, false, ◌≡◌, ◌≢◌, ◌≤◌, refl, arith, sym, inl, inr, ◌∙◌, ◌⊎◌, ◌-◌, ◌&&◌, IsTrue, eq-eqb, ne_eqb}
-use Rattle.std.proofs.lemmas.Bool.{cases_eq}
-use Rattle.sound_state.proofs.Common.{Null, Held, active_word, WordName, Found, name_of, after_action, active_name, BlockPoint, new_credits, Point, plan_point_of}
-use Rattle.sound_state.proofs.Common.{turn_stage_of, is_unneeded, one_if, Cas, found_by, plan_block_of, counts_won, is_seeking}
+use Rattle.std.proofs.Common.{ℕ, true, false, ◌≡◌, ◌≢◌, ◌≤◌, arith, ◌⊎◌, ◌&&◌, IsTrue}
+use Rattle.sound_state.proofs.Common.{Null, Held, active_word, WordName, Found, name_of, after_action, BlockPoint, Point, plan_point_of, turn_stage_of, is_unneeded, one_if}
+use Rattle.sound_state.proofs.Common.{Cas, found_by, plan_block_of, counts_won, is_seeking}
 use Rattle.word_table.specs.declared.name.WordName.TheVariants as name
-use Rattle.superblock_parts.specs.declared.point.BlockPoint.TheVariants as block
 use Rattle.superblock_parts.specs.Points.{credit_taken}
 use Rattle.errand_steps.specs.declared.point.Point.TheVariants as point
 use Rattle.lost_exchanges.specs.Installs.{IsActiveName}
-use Rattle.lost_exchanges.specs.Wins.{offers, is_offer, is_between}
+use Rattle.lost_exchanges.specs.Wins.{offers, is_between}
+use Rattle.errand_steps.specs.tables.Blocks.{is_offer}
 use Rattle.lost_exchanges.proofs.WinDefs.{found_in}
 
 -- a held active word isn't null
@@ -26,31 +25,19 @@ ChangesActive p v =
 install-changes :
     (v new : ℕ) (n : WordName) → new ≢ active_word Null
     → (v ≢ active_word Null) ⊎ (IsTrue true × (counts_won (Cas n (active_word Null) new) (found_by (Cas n (active_word Null) new) v) ≡ true))
-install-changes v new n held =
-    elim (cases_eq v (active_word Null)) [
-      | inl is ↦ inr (refl, rw (eq-eqb v (active_word Null) is, ne_eqb (active_word Null) new (λ same. held (sym same))) refl)
-      | inr differs ↦ inl differs
-    ]
+install-changes v new n held = grind (arith, held)
 
 -- a take of a credit after which the active word isn't null found it not null
 take-changes :
     (v d credits : ℕ) → after_action (Cas (name.Active 0 0) (active_word (Held d credits)) (credit_taken d credits)) v ≢ active_word Null
     → v ≢ active_word Null
-take-changes v d credits some =
-    elim (cases_eq v (active_word (Held d credits))) [
-      | inl is ↦ λ null. held-not-null d credits (sym is ∙ null)
-      | inr differs ↦ λ null. some (rw (ne_eqb v (active_word (Held d credits)) differs) null)
-    ]
+take-changes v d credits some = grind (arith, some, held-not-null)
 
 -- a step in a superblock that doesn't leave its active word null found it held, or is an offer that was won
 block-changes :
     (p : BlockPoint) (v : ℕ) → IsActiveName (name_of (plan_block_of p)) → after_action (plan_block_of p) v ≢ active_word Null
     → (v ≢ active_word Null) ⊎ (IsTrue (is_offer p) × (counts_won (plan_block_of p) (found_by (plan_block_of p) v) ≡ true))
-block-changes (block.LoadActive s) v is some = inl some
-block-changes (block.TakeCredit s d credits) v is some = inl (take-changes v d credits some)
-block-changes (block.InstallCredits at i more) v is some = install-changes v _ (active_name at.seat) (held-not-null at.desc (more - 1))
-block-changes (block.InstallSuperblock at) v is some = install-changes v _ (active_name at.seat) (held-not-null at.desc (new_credits at.seat.class))
-block-changes p v is some = absurd is
+block-changes p v is some = grind (arith, is, some, install-changes, take-changes, held-not-null)
 
 -- a step at each point that doesn't leave its active word null found it held, or is an offer that was won
 pub active-change : (p : Point) (v : ℕ) → ChangesActive p v

@@ -1,11 +1,10 @@
 -- A call that begins keeps what was won and noted.
-use Rattle.std.proofs.Common.{ℕ, false, Some, ◌≡◌, ◌<◌, ◌≤◌, ◌+◌, [], length, refl, arith, ap, sym, subst, ◌∙◌, ◌^◌, ◌-◌, All, IsTrue, min, drop, count_by, true≢false}
-use Rattle.std.specs.Prelude as list
+use Rattle.std.proofs.Common.{ℕ, false, Some, ◌≡◌, ◌<◌, ◌≤◌, ◌+◌, [], refl, arith, ap, sym, subst, ◌∙◌, ◌^◌, ◌-◌, All, IsTrue, min, count_by, true≢false}
 use Rattle.std.proofs.lemmas.Bool.{cond_both}
 use Rattle.std.proofs.lemmas.List.Elements.{All-nil}
-use Rattle.sound_state.proofs.Common.{Geometry, Need, Small, need_of, ErrandFields, State, Moves, turn_stage_of, gives_small, refuses_small, TooLarge, IsIdle}
-use Rattle.sound_state.proofs.Common.{begins_alloc, alloc_begun, free_begun, write_begun, read_begun, put_begun, take_begun, Call, alloc, free, begun_by, is_spent}
-use Rattle.sound_state.proofs.Common.{BeginsCall, with_errands, is_seeking, turn_unanswered, errand_discards}
+use Rattle.sound_state.proofs.Common.{Geometry, Need, Small, need_of, ErrandFields, State, Moves, turn_stage_of, gives_small, refuses_small, TooLarge, IsIdle, begins_alloc}
+use Rattle.sound_state.proofs.Common.{alloc_begun, free_begun, write_begun, read_begun, put_begun, take_begun, Call, alloc, free, begun_by, is_spent, BeginsCall}
+use Rattle.sound_state.proofs.Common.{with_errands, is_seeking, turn_unanswered, errand_discards}
 use Rattle.heap_geometry.specs.declared.need.Need.TheVariants.{Large}
 use Rattle.lost_exchanges.specs.Contention.{is_by, IsExpected, lost_of}
 use Rattle.lost_exchanges.specs.Expectations.{expects_of}
@@ -15,17 +14,7 @@ use Rattle.lost_exchanges.specs.Won.{IsWon}
 use Rattle.errand_steps.proofs.BegunErrands.{idle-is}
 use Rattle.sound_state.proofs.shared.SumLemmas.{callers-moved}
 use Rattle.sound_state.proofs.shared.CallerLemmas.{each-caller}
-
--- what a caller noted when it found no superblock active bounds its errand
-abbrev SinceBounds : State → Wins → ℕ → ErrandFields → Type 0
-SinceBounds s w caller e =
-    (wins : ℕ) → w.found_none caller ≡ Some wins
-    → (wins ≤ length w.list)
-    × (e.turns
-    ≤ count_by (gives_small caller) s.history + count_by (refuses_small caller) s.history
-    + count_by (installs_against caller) (list.take wins w.list) + turn_unanswered e)
-    × All (IsInstalledSince s w.list caller wins) (expects_of e.point)
-    × (errand_discards e ≤ count_by (installs_against caller) (drop wins w.list))
+use Rattle.lost_exchanges.proofs.InstallWins.{SinceBy, holds-since}
 
 -- an errand that begins counts as the idle one before it, expects nothing, and has at most one turn more, which has no answer yet
 record BeginsAs (e f : ErrandFields) : Type 0 where
@@ -110,18 +99,18 @@ begun-won g s w caller f errands won has idle b moves =
             each-caller g (λ k e. IsTrue (is_seeking (turn_stage_of e.point)) → (wins : ℕ) × (w.found_none k ≡ Some wins)) s.errand caller f errands moves
             (λ seeks. absurd (true≢false (sym seeks ∙ b.seeks))) i.found;
         since = λ k wins has_k is.
-            let x =
-            each-caller g (SinceBounds s w) s.errand caller f errands moves
+            holds-since s' w k wins
+            (each-caller g (λ k e. (past : ℕ) → w.found_none k ≡ Some past → SinceBy s' w k past e) s.errand caller f errands moves
             (λ past noted.
-            let old = i.since caller past has noted in (
-              old.past,
-              omega (arith, b.turns, old.turns, quiet),
-              subst (All (IsInstalledSince s w.list caller past)) (sym b.expects) (All-nil (IsInstalledSince s w.list caller past)),
-              omega (arith, b.discards),
-            ))
-            (λ j has_j past noted. let old = i.since j past has_j noted in (old.past, old.turns, old.installed, old.discards))
-            k has_k wins is in
-            record { past = x.0; turns = x.1; installed = x.2; discards = x.3 };
+            let old = i.since caller past has noted in record {
+              past = old.past;
+              turns = omega (arith, b.turns, old.turns, quiet);
+              installed = subst (All (IsInstalledSince s w.list caller past)) (sym b.expects) (All-nil (IsInstalledSince s w.list caller past));
+              discards = omega (arith, b.discards);
+            })
+            (λ j has_j past noted.
+            let old = i.since j past has_j noted in record { past = old.past; turns = old.turns; installed = old.installed; discards = old.discards })
+            k has_k wins is);
       };
     }
 

@@ -2,9 +2,8 @@
 use Rattle.std.proofs.Common.{ℕ, Bool, true, false, Option, Some, None, ◌≡◌, ◌≢◌, ◌<◌, ◌^◌, [], refl, arith, sym, ◌==◌, nat_lt, if◌then◌else◌}
 use Rattle.std.specs.List.{AllByRecursion}
 use Rattle.std.proofs.lemmas.Bool.{cond_both}
-use Rattle.sound_state.proofs.Common.{ActiveWord, Null, Held, active_word, active_of, AnchorFields, anchor_word, WordName, Site, descriptor_count}
-use Rattle.sound_state.proofs.Common.{SeatFields, info_in, active_name, BlockPoint, Share, Credit, LastCredit, Grant, Continuation, Point, Block, next_of}
-use Rattle.sound_state.proofs.Common.{plan_point_of}
+use Rattle.sound_state.proofs.Common.{ActiveWord, Null, Held, active_word, active_of, AnchorFields, anchor_word, WordName, Site, descriptor_count, SeatFields, info_in}
+use Rattle.sound_state.proofs.Common.{active_name, BlockPoint, Share, Credit, LastCredit, Grant, Continuation, Point, Block, next_of, plan_point_of}
 use Rattle.packed_words.specs.Active.{IsActiveWord}
 use Rattle.packed_words.specs.Fields.{Reads}
 use Rattle.packed_words.proofs.ActiveLemmas.{active-exact}
@@ -14,10 +13,12 @@ use Rattle.word_table.specs.Seats.{anchor_in}
 use Rattle.superblock_parts.specs.declared.point.BlockPoint.TheVariants as block
 use Rattle.superblock_parts.specs.Anchors.{more_of}
 use Rattle.superblock_parts.specs.Points.{plan_block_of, after_active, after_info, after_anchor, after_pop, after_return_anchor, after_push_anchor, after_owner, after_link}
-use Rattle.errand_steps.specs.declared.continuation.Continuation.TheVariants as continuation
 use Rattle.errand_steps.specs.Nexts.{enter_block}
-use Rattle.lost_exchanges.specs.Expectations.{block_expects, expects_of, continuation_expects, none_active, unless_credit, anchor_still}
-use Rattle.lost_exchanges.proofs.ExpectLemmas.{read-anchor, AllApart, unmoved, unmoved-carried, MayAll, SeesAs, expects-none, seen-more, load-sees, load-seen, rest-carried, option_both}
+use Rattle.errand_steps.specs.tables.Blocks.{block_expects, unless_credit, anchor_still}
+use Rattle.lost_exchanges.specs.Expectations.{expects_of}
+use Rattle.errand_steps.specs.tables.Expected.{continuation_expects, none_active}
+use Rattle.lost_exchanges.proofs.ExpectLemmas.{read-anchor, AllApart, unmoved, unmoved-carried, MayAll, SeesAs, expects-none, seen-more, load-sees, load-seen, rest-carried}
+use Rattle.lost_exchanges.proofs.ExpectLemmas.{option_both}
 use Rattle.lost_exchanges.proofs.WinDefs.{ExpectsOn, next_expects}
 
 -- a step from p to q carries or sees all that its caller expects after it
@@ -27,10 +28,7 @@ BlockCarries p o v q = MayAll (Block p o) v (expects_of (Block q o))
 -- a step that sees that no superblock is active sees what is expected by what waits behind a part
 seen-continuation :
     (p : Point) (v : ℕ) (s : SeatFields) (o : Continuation) → SeesAs p v (active_name s) (active_word Null) → MayAll p v (continuation_expects s o)
-seen-continuation p v s (continuation.Alloc words) seen = seen-more p v (active_name s) (active_word Null) [] seen (expects-none p v)
-seen-continuation p v s (continuation.TakeFrame words d) seen = seen-more p v (active_name s) (active_word Null) [] seen (expects-none p v)
-seen-continuation p v s (continuation.Look words) seen = seen-more p v (active_name s) (active_word Null) [] seen (expects-none p v)
-seen-continuation p v s o seen = expects-none p v
+seen-continuation p v s o seen = grind (arith, seen, seen-more, expects-none)
 
 -- an active word that says something is the word that it was made of
 active-said : (v : ℕ) (w : ActiveWord) → v < 2 ^ 64 → active_of v ≡ Some w → v ≡ active_word w
@@ -88,9 +86,7 @@ pop-on at (Grant n) a prefix o v =
 
 -- what a share's caller expects to be null is no other word than its active word
 credit-apart : (s : SeatFields) (share : Share) (n : WordName) → active_name s ≢ n → AllByRecursion (λ e. e.word ≢ n) (unless_credit s share)
-credit-apart s Credit n apart = tt
-credit-apart s LastCredit n apart = (apart, tt)
-credit-apart s (Grant more) n apart = (apart, tt)
+credit-apart s share n apart = grind (arith, apart)
 
 -- a step that is no exchange is on none of the words of which its caller expects something
 block-apart : (p : BlockPoint) (o : Continuation) → AllApart (Block p o) (unmoved (plan_block_of p) (block_expects p))

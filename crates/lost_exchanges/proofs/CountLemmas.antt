@@ -19,8 +19,7 @@ pub count-append : {X : Type 0} (p : X → Bool) (xs ys : List X) → count_by p
 count-append p xs ys = sum_by-append (λ x. cond (p x) 1 0) xs ys
 
 pub count-behind :
-    {X : Type 0} (p : X → Bool) (xs ys : List X) (n : ℕ) → n ≤ length xs
-    → count_by p (drop n (xs ++ ys)) ≡ count_by p (drop n xs) + count_by p ys
+    {X : Type 0} (p : X → Bool) (xs ys : List X) (n : ℕ) → n ≤ length xs → count_by p (drop n (xs ++ ys)) ≡ count_by p (drop n xs) + count_by p ys
 count-behind p xs ys n within = ap (count_by p) (drop-append-le n xs ys within) ∙ count-append p (drop n xs) ys
 
 -- what a list counts for each caller is what its first element and the others count

@@ -9,14 +9,16 @@ use Rattle.hazard_parts.specs.declared.point.DescPoint.TheVariants as desc
 use Rattle.hazard_parts.specs.Points.{plan_desc_of, seat_of_desc, link_in, after_head, after_next, after_hazard, after_top}
 use Rattle.errand_steps.specs.Fits.{FitsInDesc}
 use Rattle.errand_steps.specs.Nexts.{enter_desc}
-use Rattle.lost_exchanges.specs.Expectations.{Expected, desc_expects, expects_of, continuation_expects}
+use Rattle.errand_steps.specs.tables.Expected.{Expected, continuation_expects}
+use Rattle.errand_steps.specs.tables.Descs.{desc_expects}
+use Rattle.lost_exchanges.specs.Expectations.{expects_of}
 use Rattle.sound_state.proofs.shared.WordFacts.{link-some}
-use Rattle.lost_exchanges.proofs.ExpectLemmas.{AllApart, unmoved, unmoved-carried, IsIn, MayOne, MayAll, all-in, all-in_rest, continuation-carried, load-seen, option_both, named-desc}
+use Rattle.lost_exchanges.proofs.ExpectLemmas.{AllApart, unmoved, unmoved-carried, IsIn, MayOne, MayAll, all-in, all-in_rest, continuation-carried, load-seen, option_both}
+use Rattle.lost_exchanges.proofs.ExpectLemmas.{named-desc}
 use Rattle.lost_exchanges.proofs.WinDefs.{ExpectsOn, next_expects}
 
 -- what waits behind a part at the descriptors or the hazard words is expected there
-desc-holds :
-    (p : DescPoint) (o : Continuation) → All (IsIn (expects_of (Desc p o))) (continuation_expects (seat_of_desc p) o)
+desc-holds : (p : DescPoint) (o : Continuation) → All (IsIn (expects_of (Desc p o))) (continuation_expects (seat_of_desc p) o)
 unfolding expects_of
 desc-holds p o = grind (arith, all-in, all-in_rest)
 

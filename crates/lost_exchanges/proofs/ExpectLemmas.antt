@@ -12,7 +12,8 @@ use Rattle.packed_words.proofs.AnchorLemmas.{anchor_word-anchor_of}
 use Rattle.word_table.specs.Actions.{found_by}
 use Rattle.word_table.specs.Seats.{desc_named, anchor_in}
 use Rattle.errand_steps.specs.Continuations.{is_alloc}
-use Rattle.lost_exchanges.specs.Expectations.{Expected, expect, expects_of, continuation_expects, none_active}
+use Rattle.errand_steps.specs.tables.Expected.{Expected, expect, continuation_expects, none_active}
+use Rattle.lost_exchanges.specs.Expectations.{expects_of}
 use Rattle.lost_exchanges.proofs.WinDefs.{IsSeen, MayExpect, found_in}
 
 -- the caller expects this among others
@@ -102,8 +103,7 @@ continuation-carried p v s o within apart = all-carried p v (continuation_expect
 
 -- what the step sees, and expectations that it carries or sees, are so together
 pub seen-more :
-    (p : Point) (v : ℕ) (word : WordName) (value : ℕ) (es : List Expected) → SeesAs p v word value → MayAll p v es
-    → MayAll p v (expect word value es)
+    (p : Point) (v : ℕ) (word : WordName) (value : ℕ) (es : List Expected) → SeesAs p v word value → MayAll p v es → MayAll p v (expect word value es)
 seen-more p v word value es seen rest =
     All-cons (MayOne p v) (record { word = word; value = value }) es (inr seen) rest
 
@@ -122,8 +122,7 @@ pub expects-none : (p : Point) (v : ℕ) → MayAll p v []
 expects-none p v = All-nil (MayOne p v)
 
 -- what holds of both forms that an optional value may have holds of it
-pub option_both :
-    {A B : Type 0} (f : Option A → B) (o : Option A) (P : B → Type 0) → P (f None) → ((a : A) → o ≡ Some a → P (f (Some a))) → P (f o)
+pub option_both : {A B : Type 0} (f : Option A → B) (o : Option A) (P : B → Type 0) → P (f None) → ((a : A) → o ≡ Some a → P (f (Some a))) → P (f o)
 option_both f None P none some = none
 option_both f (Some a) P none some = some a refl
 

@@ -4,7 +4,8 @@ use Rattle.std.proofs.lemmas.List.Elements.{All-head}
 use Rattle.sound_state.proofs.Common.{Null, active_word, Found, name_of, BlockPoint, Continuation, Point, plan_point_of, turn_stage_of, is_unneeded, one_if, is_seeking}
 use Rattle.superblock_parts.specs.declared.point.BlockPoint.TheVariants as block
 use Rattle.errand_steps.specs.declared.point.Point.TheVariants as point
-use Rattle.lost_exchanges.specs.Expectations.{Expected, expects_of}
+use Rattle.errand_steps.specs.tables.Expected.{Expected}
+use Rattle.lost_exchanges.specs.Expectations.{expects_of}
 use Rattle.lost_exchanges.specs.Installs.{IsActiveName}
 use Rattle.lost_exchanges.specs.Wins.{found_none_by}
 use Rattle.lost_exchanges.proofs.WinDefs.{looks_active, offers_new, found_in}
@@ -29,8 +30,7 @@ pub found_none-seeks : (p : Point) (x : Found) (wins : ℕ) (old : Option ℕ) �
 found_none-seeks p x wins old seeks = grind (arith, seeks)
 
 -- a note made by a load of an active word: it found none active, when there were so many wins
-found_none-load :
-    (v wins n : ℕ) → cond (v == active_word Null) (Some wins) None ≡ Some n → (n ≡ wins) × (v ≡ active_word Null)
+found_none-load : (v wins n : ℕ) → cond (v == active_word Null) (Some wins) None ≡ Some n → (n ≡ wins) × (v ≡ active_word Null)
 found_none-load v wins n is = grind (arith, is, eqb-true)
 
 -- a note of having found none active is the one before the step, or made by its load of an active word
@@ -63,7 +63,6 @@ loses-block (block.InstallSuperblock at) o v P lost all = record {
 }
 loses-block p o v P lost all = absurd (true≢false (sym lost))
 
-pub loses-new :
-    (p : Point) (v : ℕ) (P : Expected → Type 0) → IsTrue (offers_new p && not (found_in p v).won) → All P (expects_of p) → LosesNew p v P
+pub loses-new : (p : Point) (v : ℕ) (P : Expected → Type 0) → IsTrue (offers_new p && not (found_in p v).won) → All P (expects_of p) → LosesNew p v P
 loses-new (point.Block p o) v P lost all = loses-block p o v P lost all
 loses-new p v P lost all = absurd (true≢false (sym lost))

@@ -1,12 +1,13 @@
 -- A step keeps what bounds the turns by the installs.
-use Rattle.std.proofs.Common.{ℕ, false, Some, None, ◌≡◌, ◌≢◌, ◌<◌, ◌≤◌, ◌+◌, List, length, take, drop, refl, arith, ap, sym, subst, inl, inr, ◌∙◌, ◌&&◌, ◌==◌, not, All}
-use Rattle.std.proofs.Common.{Any, count_by, IsTrue, eq-eqb, ne_eqb, take_all}
+use Rattle.std.proofs.Common.{ℕ, false, Some, ◌≡◌, ◌≢◌, ◌<◌, ◌≤◌, ◌+◌, List, length, take, drop, refl, arith, ap, sym, subst, inl, inr, ◌∙◌, ◌&&◌, not, Any, count_by}
+use Rattle.std.proofs.Common.{IsTrue, eq-eqb, ne_eqb, take_all}
 use Rattle.std.proofs.lemmas.Bool.{cases_Bool, cond-true, cond-false}
-use Rattle.sound_state.proofs.Common.{Geometry, Null, active_word, after_action, cases_name, ErrandFields, FitsPoint, State, Step, action_at, name_at, word_at}
-use Rattle.sound_state.proofs.Common.{found_at, turn_stage_of, one_if, gives_small, refuses_small, is_seeking, turn_unanswered, errand_discards}
-use Rattle.lost_exchanges.specs.Expectations.{Expected, expects_of}
+use Rattle.sound_state.proofs.Common.{Geometry, Null, active_word, after_action, cases_name, ErrandFields, FitsPoint, State, Step, action_at, name_at, word_at, found_at}
+use Rattle.sound_state.proofs.Common.{turn_stage_of, one_if, gives_small, refuses_small, is_seeking, turn_unanswered, errand_discards, with_errands}
+use Rattle.errand_steps.specs.tables.Expected.{Expected}
+use Rattle.lost_exchanges.specs.Expectations.{expects_of}
 use Rattle.lost_exchanges.specs.Installs.{IsInstalled, HoldsSince, IsInstalledSince, IsActiveName, installs_by, installs_against, installs_on, errand_offers}
-use Rattle.lost_exchanges.specs.Wins.{Win, Wins, win_at, wins_after, win_list_after, found_none_by, found_none_after, is_between}
+use Rattle.lost_exchanges.specs.Wins.{Win, Wins, win_at, wins_after, win_list_after, found_none_by, is_between}
 use Rattle.sound_state.proofs.shared.CallerLemmas.{each-other}
 use Rattle.sound_state.proofs.shared.ListFacts.{any-none}
 use Rattle.lost_exchanges.proofs.ActiveChanges.{active-change, seeks-inside}
@@ -16,7 +17,8 @@ use Rattle.lost_exchanges.proofs.InstallPoints.{looks-only, found_none-looks, fo
 use Rattle.lost_exchanges.proofs.TurnWins.{settled, Turned, step-turned, own-after, stay-after, own-turns}
 use Rattle.lost_exchanges.proofs.StepWins.{list-least}
 use Rattle.lost_exchanges.proofs.ExpectLemmas.{in-all}
-use Rattle.lost_exchanges.proofs.WinDefs.{IsCarried, IsSeen, MayExpect, offers_new, looks_active}
+use Rattle.lost_exchanges.proofs.WinDefs.{IsCarried, IsSeen, offers_new, looks_active}
+use Rattle.lost_exchanges.proofs.NoteLemmas.{ExpectsAfter}
 
 -- what the step sees or leaves of an active word is as expected
 seen-installed :
@@ -54,24 +56,17 @@ discards-after s w caller s' n h since =
     ]
 
 -- what HoldsSince says, where the caller's errand is this one
-record HoldsSinceBy (s : State) (list : List Win) (caller n : ℕ) (e : ErrandFields) : Type 0 where
-  past : n ≤ length list
-  turns :
-      e.turns
-      ≤ count_by (gives_small caller) s.history + count_by (refuses_small caller) s.history + count_by (installs_against caller) (take n list) + turn_unanswered e
-  installed : All (IsInstalledSince s list caller n) (expects_of e.point)
-  discards : errand_discards e ≤ count_by (installs_against caller) (drop n list)
+abbrev pub SinceBy : State → Wins → ℕ → ℕ → ErrandFields → Type 0
+SinceBy s w caller n e = HoldsSince (with_errands s (λ i. e)) w caller n
 
 -- what HoldsSince says of an errand holds of the caller's own
-holds-since : (s : State) (w : Wins) (caller n : ℕ) → HoldsSinceBy s w.list caller n (s.errand caller) → HoldsSince s w caller n
+pub holds-since : (s : State) (w : Wins) (caller n : ℕ) → SinceBy s w caller n (s.errand caller) → HoldsSince s w caller n
 holds-since s w caller n h = record { past = h.past; turns = h.turns; installed = h.installed; discards = h.discards }
 
 -- a caller that still is in its turn after a step keeps what held since its note
 still-since :
     (s : State) (w : Wins) (caller : ℕ) (s' : State) (n : ℕ) → Turned s caller s' → Step s caller s' → HoldsSince s w caller n
-    → is_between (settled s caller).point ≡ false
-    → All (MayExpect (s.errand caller).point (action_at s caller) (found_at s caller)) (expects_of (settled s caller).point)
-    → HoldsSinceBy s' (win_list_after s caller w.list) caller n (settled s caller)
+    → is_between (settled s caller).point ≡ false → ExpectsAfter s caller → SinceBy s' (wins_after s caller w) caller n (settled s caller)
 still-since s w caller s' n h step since inside expects = record {
   past = omega (arith, since.past, list-least s caller w.list);
   turns = rw (take-win n w.list (win_at s caller) since.past) (stay-after s caller s' (count_by (installs_against caller) (take n w.list)) h inside since.turns);
@@ -86,9 +81,8 @@ still-since s w caller s' n h step since inside expects = record {
 -- a caller that finds no superblock active now notes so, and it holds since
 newly-since :
     (g : Geometry) (s : State) (w : Wins) (caller : ℕ) (s' : State) → caller < g.callers → Turned s caller s' → Step s caller s' → IsInstalled g s w
-    → IsTrue (looks_active (s.errand caller).point)
-    → All (MayExpect (s.errand caller).point (action_at s caller) (found_at s caller)) (expects_of (settled s caller).point)
-    → HoldsSinceBy s' (win_list_after s caller w.list) caller (length (win_list_after s caller w.list)) (settled s caller)
+    → IsTrue (looks_active (s.errand caller).point) → ExpectsAfter s caller
+    → SinceBy s' (wins_after s caller w) caller (length (win_list_after s caller w.list)) (settled s caller)
 newly-since g s w caller s' has h step old looks expects =
     let list = win_list_after s caller w.list in
     let only = looks-only (s.errand caller).point looks in
@@ -127,7 +121,7 @@ other-installed s w caller s' i n e step ne past installed active null differs =
 -- a step keeps what holds since another caller's note
 other-since :
     (s : State) (w : Wins) (caller : ℕ) (s' : State) (i n : ℕ) → Turned s caller s' → Step s caller s' → i ≢ caller → HoldsSince s w i n
-    → HoldsSinceBy s' (win_list_after s caller w.list) i n (s.errand i)
+    → SinceBy s' (wins_after s caller w) i n (s.errand i)
 other-since s w caller s' i n h step ne since = record {
   past = omega (arith, since.past, list-least s caller w.list);
   turns = rw (take-win n w.list (win_at s caller) since.past) (omega (arith, since.turns, h.gives i, h.refuses i));
@@ -141,15 +135,10 @@ found_none-own :
     → (is_between (settled s caller).point ≡ false)
     × (found_none_by (s.errand caller).point (found_at s caller) (length (win_list_after s caller w.list)) (w.found_none caller) ≡ Some n)
 found_none-own s w caller n is =
-    let own : found_none_after s caller (length (win_list_after s caller w.list)) (w.found_none caller) ≡ Some n =
-    sym
-    (cond-true (caller == caller) (found_none_after s caller (length (win_list_after s caller w.list)) (w.found_none caller)) (w.found_none caller)
-    (eq-eqb caller caller refl)) ∙ is in
+    let own = rw (eq-eqb caller caller refl) at is in
     elim (cases_Bool (is_between (settled s caller).point)) [
-      | inl between ↦
-          let none : found_none_after s caller (length (win_list_after s caller w.list)) (w.found_none caller) ≡ None = cond-true _ _ _ between in
-          absurd (cc (none, own))
-      | inr inside ↦ (inside, sym (cond-false _ _ _ inside) ∙ own)
+      | inl between ↦ let none = rw between at own in absurd (cc)
+      | inr inside ↦ (inside, rw inside at own)
     ]
 
 -- what its caller notes in a step is its note afterwards; another caller's note stays
@@ -165,14 +154,13 @@ other-note s w caller i ne = cond-false _ _ _ (ne_eqb i caller ne)
 -- what a caller has noted after its step holds since so many wins
 own-since :
     (g : Geometry) (s : State) (w : Wins) (caller : ℕ) (s' : State) (n : ℕ) → caller < g.callers → Turned s caller s' → Step s caller s' → IsInstalled g s w
-    → All (MayExpect (s.errand caller).point (action_at s caller) (found_at s caller)) (expects_of (settled s caller).point)
-    → (wins_after s caller w).found_none caller ≡ Some n → HoldsSinceBy s' (win_list_after s caller w.list) caller n (settled s caller)
+    → ExpectsAfter s caller → (wins_after s caller w).found_none caller ≡ Some n → SinceBy s' (wins_after s caller w) caller n (settled s caller)
 own-since g s w caller s' n has h step old expects is =
     let own = found_none-own s w caller n is in
     elim (found_none-from (s.errand caller).point (found_at s caller) (length (win_list_after s caller w.list)) (w.found_none caller) n own.1) [
       | inl before ↦ still-since s w caller s' n h step (old.since caller n has before) own.0 expects
       | inr looks ↦
-          subst (λ m. HoldsSinceBy s' (win_list_after s caller w.list) caller m (settled s caller)) (sym looks.1)
+          subst (λ m. SinceBy s' (wins_after s caller w) caller m (settled s caller)) (sym looks.1)
           (newly-since g s w caller s' has h step old looks.0 expects)
     ]
 
@@ -200,8 +188,7 @@ own-seeking g s w caller s' has h old seeks =
 -- each step keeps what bounds turns by installs, where what its caller expects after it is carried or seen
 pub step-installed :
     (g : Geometry) (s : State) (w : Wins) (caller : ℕ) (s' : State) → caller < g.callers → FitsPoint g caller (s.errand caller).point → Step s caller s'
-    → IsInstalled g s w → All (MayExpect (s.errand caller).point (action_at s caller) (found_at s caller)) (expects_of (settled s caller).point)
-    → IsInstalled g s' (wins_after s caller w)
+    → IsInstalled g s w → ExpectsAfter s caller → IsInstalled g s' (wins_after s caller w)
 step-installed g s w caller s' has fits step old expects =
     let h = step-turned g s caller s' fits step in
     let list = win_list_after s caller w.list in
@@ -224,7 +211,7 @@ step-installed g s w caller s' has fits step old expects =
           (λ i has_i ne seeks. let noted = old.found i has_i seeks in (noted.0, other-note s w caller i ne ∙ noted.1));
       since = λ i n has_i is.
           holds-since s' (wins_after s caller w) i n
-          (each-other g (λ i e. (n : ℕ) → (wins_after s caller w).found_none i ≡ Some n → HoldsSinceBy s' list i n e)
+          (each-other g (λ i e. (n : ℕ) → (wins_after s caller w).found_none i ≡ Some n → SinceBy s' (wins_after s caller w) i n e)
           s.errand caller (settled s caller) s'.errand step.errand
           (λ n is. own-since g s w caller s' n has h step old expects is)
           (λ i has_i ne n is. other-since s w caller s' i n h step ne (old.since i n has_i (sym (other-note s w caller i ne) ∙ is))) i has_i n is);

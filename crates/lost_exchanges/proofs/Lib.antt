@@ -22,7 +22,6 @@ pub mod StepWins
 pub mod StoreLemmas
 pub mod TurnBounds
 pub mod TurnEnds
-pub mod TurnParts
 pub mod TurnPoints
 pub mod TurnSettles
 pub mod TurnWins

@@ -9,8 +9,7 @@ use Rattle.sound_state.proofs.shared.SumLemmas.{sum-same, term-sum}
 use Rattle.lost_exchanges.proofs.CountLemmas.{counts-first, count-one}
 
 -- there are no more wins than those of each caller together
-all-won :
-    (n : ℕ) (xs : List Win) → All (λ x. x.caller < n) xs → length xs ≤ sum_below n (λ caller. count_by (is_by caller) xs)
+all-won : (n : ℕ) (xs : List Win) → All (λ x. x.caller < n) xs → length xs ≤ sum_below n (λ caller. count_by (is_by caller) xs)
 all-won n [] all = omega arith
 all-won n (x ∷ xs) all =
     let here : x.caller < n = All-head (λ y. y.caller < n) x xs all in

@@ -18,8 +18,7 @@ state_with words errands history = record { word = words; errand = errands; hist
 
 -- one word is written in one way only, and one errand is moved in one way only
 writes-one :
-    (before a b : WordName → ℕ) (name : WordName) (value : ℕ) → Writes before name value a → Writes before name value b → (n : WordName)
-    → a n ≡ b n
+    (before a b : WordName → ℕ) (name : WordName) (value : ℕ) → Writes before name value a → Writes before name value b → (n : WordName) → a n ≡ b n
 writes-one before a b name value first second n =
     elim (cases_name n name) [
       | inl same ↦ ap a same ∙ (first.here ∙ (sym second.here ∙ ap b (sym same)))
@@ -60,8 +59,7 @@ moved-one g s a b (steps caller) first second = step-one s a b caller first.1 se
 
 -- every run makes a list of wins
 pub reached-made :
-    (g : Geometry) (s : State) (w : Wins) (moves : List Move) (s' : State) → Reaches g s moves s'
-    → (w' : Wins) × ReachesWith g s w moves s' w'
+    (g : Geometry) (s : State) (w : Wins) (moves : List Move) (s' : State) → Reaches g s moves s' → (w' : Wins) × ReachesWith g s w moves s' w'
 reached-made g s w [] s' reached = (w, (reached, refl))
 reached-made g s w (move ∷ rest) s' (next, moved, reached) =
     let (w', made) = reached-made g next (made_by s move w) rest s' reached in
@@ -93,8 +91,7 @@ made-one g s w (move ∷ rest) a b u v (m, first, firsts) (n, second, seconds) =
 
 -- a move keeps what was won and noted
 moved-won :
-    (g : Geometry) (s : State) (w : Wins) (move : Move) (s' : State) → IsSound g s → IsWon g s w → Moved g s move s'
-    → IsWon g s' (made_by s move w)
+    (g : Geometry) (s : State) (w : Wins) (move : Move) (s' : State) → IsSound g s → IsWon g s w → Moved g s move s' → IsWon g s' (made_by s move w)
 moved-won g s w (begins caller call) s' sound won moved = begins-won g s w caller call s' won moved.0 moved.1
 moved-won g s w (steps caller) s' sound won moved = steps-won g s w caller s' (without-counts g s sound) won moved.0 moved.1
 

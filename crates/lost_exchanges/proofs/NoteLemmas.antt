@@ -3,17 +3,17 @@ use Rattle.std.proofs.Common.{ℕ, Bool, true, false, Option, ◌≡◌, ◌≢�
 use Rattle.std.proofs.Common.{option_to_list, All, IsTrue, eq-eqb, ne_eqb}
 use Rattle.std.proofs.lemmas.Bool.{cases_Bool, cases_eq}
 use Rattle.std.proofs.lemmas.List.Elements.{All-append}
-use Rattle.sound_state.proofs.Common.{Geometry, WordName, cases_name, settle_of, raised, State, Step, action_at, name_at, word_at, found_at, counts_won}
-use Rattle.sound_state.proofs.Common.{is_lost_exchange}
+use Rattle.sound_state.proofs.Common.{Geometry, WordName, cases_name, settle_of, raised, State, Step, action_at, name_at, word_at, found_at}
 use Rattle.lost_exchanges.specs.Contention.{IsExpected, IsNoted, IsDirty, is_by, is_against, dirty_since}
-use Rattle.lost_exchanges.specs.Expectations.{Expected, expects_of}
-use Rattle.lost_exchanges.specs.Wins.{Win, Wins, win_at, win_list_after, note_at, is_self_exchange, wins_after}
+use Rattle.errand_steps.specs.tables.Expected.{Expected}
+use Rattle.lost_exchanges.specs.Expectations.{expects_of}
+use Rattle.lost_exchanges.specs.Wins.{Win, Wins, win_at, win_list_after, note_at, wins_after}
 use Rattle.sound_state.proofs.shared.CallerLemmas.{each-other}
 use Rattle.lost_exchanges.proofs.CountLemmas.{count-append}
 use Rattle.lost_exchanges.proofs.DirtyLemmas.{IsPast, dirty-stays, dirty-now}
 use Rattle.lost_exchanges.proofs.ExpectLemmas.{in-all}
 use Rattle.lost_exchanges.proofs.StepWins.{IsStore, word-stays, the_win, list-least, all-win, no-count, no-won, one-count, against-other, noted-others, noted-apart}
-use Rattle.lost_exchanges.proofs.StepWins.{noted-own, note-seen, note-lost, note-confirmed}
+use Rattle.lost_exchanges.proofs.StepWins.{noted-own, note-seen, confirms_at, fails_at, wins_at}
 use Rattle.lost_exchanges.proofs.WinDefs.{IsSeen, MayExpect}
 
 -- the step carries or sees all that its caller expects after it
@@ -28,9 +28,7 @@ StoresAlone g s caller =
     → All (λ e. IsStore (action_at s caller) → e.word ≢ name_at s caller) (expects_of (s.errand other).point)
 
 -- the caller's count of its wins after its step
-own-won :
-    (s : State) (caller : ℕ) (s' : State) → Step s caller s'
-    → (s'.errand caller).won ≡ raised (counts_won (action_at s caller) (found_at s caller)) (s.errand caller).won
+own-won : (s : State) (caller : ℕ) (s' : State) → Step s caller s' → (s'.errand caller).won ≡ raised (wins_at s caller) (s.errand caller).won
 unfolding settle_of
 own-won s caller s' step = ap (λ e. e.won) step.errand.here
 
@@ -38,8 +36,7 @@ own-won s caller s' step = ap (λ e. e.won) step.errand.here
 won-more :
     (b : Bool) (before after list list' : ℕ) → after ≡ raised b before → before ≡ min list (2 ^ 64 - 1) → (b ≡ true → list' ≡ list + 1)
     → (b ≡ false → list' ≡ list) → after ≡ min list' (2 ^ 64 - 1)
-won-more true before after list list' is was more same = omega (arith, is, was, more refl)
-won-more false before after list list' is was more same = omega (arith, is, was, same refl)
+won-more b before after list list' is was more same = grind (arith, is, was, more, same)
 
 -- a caller's win is by that caller
 is-own : (s : State) (caller : ℕ) → is_by caller (the_win s caller) ≡ true
@@ -54,7 +51,7 @@ won-after g s caller s' w has step old =
     let both = λ (i : ℕ). count-append (is_by i) w.list more in
     each-other g (λ i e. e.won ≡ min (count_by (is_by i) (w.list ++ more)) (2 ^ 64 - 1)) s.errand caller (s'.errand caller) s'.errand
     (record { here = refl; elsewhere = step.errand.elsewhere })
-    (won-more (counts_won (action_at s caller) (found_at s caller)) (s.errand caller).won (s'.errand caller).won (count_by (is_by caller) w.list)
+    (won-more (wins_at s caller) (s.errand caller).won (s'.errand caller).won (count_by (is_by caller) w.list)
     (count_by (is_by caller) (w.list ++ more)) (own-won s caller s' step) (old.won caller has)
     (λ won. omega (arith, both caller, one-count (is_by caller) s caller won (is-own s caller)))
     (λ none. omega (arith, both caller, no-won (is_by caller) s caller none)))
@@ -67,15 +64,12 @@ note-past :
 note-past s caller list old past =
     let after = win_list_after s caller list in
     let longer = list-least s caller list in
-    elim (cases_Bool (is_lost_exchange (action_at s caller) (found_at s caller))) [
-      | inl lost ↦ subst (IsPast after) (sym (note-lost s caller (length after) old lost)) (λ wins is. absurd (cc))
+    elim (cases_Bool (fails_at s caller)) [
+      | inl lost ↦ rw lost (λ wins is. absurd (cc))
       | inr kept ↦
-          elim (cases_Bool (is_self_exchange (action_at s caller))) [
-            | inl same ↦
-                subst (IsPast after) (sym (note-confirmed s caller (length after) old kept same)) (λ wins is. omega (arith, longer, past wins is))
-            | inr new ↦
-                subst (IsPast after) (sym (note-seen s caller (length after) old kept new))
-                (λ wins is. let one : length after ≡ wins = cc in omega (arith, one))
+          elim (cases_Bool (confirms_at s caller)) [
+            | inl same ↦ rw (kept, same) (λ wins is. omega (arith, longer, past wins is))
+            | inr new ↦ rw (kept, new) (λ wins is. let one : length after ≡ wins = cc in omega (arith, one))
           ]
     ]
 
@@ -120,7 +114,7 @@ expected-others g s caller s' w step old i other e store h =
             elim (cases_name e.word (name_at s caller)) [
               | inr differ ↦ inl (step.word.elsewhere e.word differ ∙ is)
               | inl here ↦
-                  elim (cases_Bool (counts_won (action_at s caller) (found_at s caller))) [
+                  elim (cases_Bool (wins_at s caller)) [
                     | inr none ↦
                         inl
                         (ap s'.word here ∙ (step.word.here

@@ -10,15 +10,15 @@ use Rattle.partial_parts.specs.declared.exit.PartialExit.TheVariants as exit
 use Rattle.partial_parts.specs.declared.point.PartialPoint.TheVariants as partial
 use Rattle.partial_parts.specs.Grants.{grant_more}
 use Rattle.partial_parts.specs.Points.{after_kept, after_taken_info, after_live, after_owner, after_displaced}
-use Rattle.lost_exchanges.specs.Expectations.{expects_of, continuation_expects}
+use Rattle.lost_exchanges.specs.Expectations.{expects_of}
+use Rattle.errand_steps.specs.tables.Expected.{continuation_expects}
 use Rattle.lost_exchanges.proofs.ExpectLemmas.{read-anchor, IsIn, MayOne, MayAll, all-in, all-in_rest, continuation-carried, load-seen, expects-none, option_both}
 use Rattle.lost_exchanges.proofs.ExpectLemmas.{named-desc, alloc-active}
 use Rattle.lost_exchanges.proofs.StackExpects.{put-leads}
 use Rattle.lost_exchanges.proofs.WinDefs.{ExpectsOn, next_expects}
 
 -- what waits behind a part at a partial superblock is expected there
-partial-holds :
-    (p : PartialPoint) (o : Continuation) → All (IsIn (expects_of (Partial p o))) (continuation_expects (seat_of_partial p) o)
+partial-holds : (p : PartialPoint) (o : Continuation) → All (IsIn (expects_of (Partial p o))) (continuation_expects (seat_of_partial p) o)
 unfolding expects_of
 partial-holds p o = grind (arith, all-in, all-in_rest)
 

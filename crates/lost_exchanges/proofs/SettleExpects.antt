@@ -2,56 +2,38 @@
 use Rattle.std.proofs.Common.{ℕ, Bool, true, false, Option, Some, None, ◌≡◌, List, refl, ◌∙◌, arith, ap, sym, All, true≢false}
 use Rattle.std.proofs.lemmas.Bool.{cond_both}
 use Rattle.std.proofs.lemmas.List.Elements.{All-nil}
-use Rattle.sound_state.proofs.Common.{Found, SeatFields, BlockPoint, StackPoint, DescPoint, PartialPoint, LargePoint, Continuation, Next, At, End, Retire, Pick, Unlist}
-use Rattle.sound_state.proofs.Common.{Point, ErrandFields, settle_of, course_of, next_of, Onward, settle_block_of, StackExit, settle_stack_of, first_unheld}
-use Rattle.sound_state.proofs.Common.{settle_desc_of, PartialExit, settle_partial_of, LargeExit, settle_large_of, Turn, after_list, after_turn, picked, turned, is_full}
-use Rattle.sound_state.proofs.Common.{no_words, point_after, resumed, enter_block, enter_stack, enter_desc, enter_partial, enter_large}
-use Rattle.superblock_parts.specs.declared.exit.BlockExit.{BlockExit}
+use Rattle.sound_state.proofs.Common.{Found, SeatFields, Continuation, Next, At, End, Retire, Pick, Unlist, Point, ErrandFields, settle_of, course_of, next_of}
+use Rattle.sound_state.proofs.Common.{first_unheld, Turn, after_list, after_turn, picked, turned, is_full, scan_begins, point_after, resumed}
 use Rattle.hazard_parts.specs.declared.point.DescPoint.TheVariants as desc
 use Rattle.errand_steps.specs.declared.point.Point.TheVariants as point
-use Rattle.lost_exchanges.specs.Expectations.{Expected, expects_of, continuation_expects, desc_expects}
+use Rattle.errand_steps.specs.tables.Expected.{Expected, continuation_expects}
+use Rattle.lost_exchanges.specs.Expectations.{expects_of}
 use Rattle.lost_exchanges.proofs.WinDefs.{next_expects}
+use Rattle.sound_state.proofs.shared.GuardEffects.{scans}
 
 -- whether a scan is over
 abbrev pub is_pick : Next → Bool
 is_pick (Pick s held o) = true
 is_pick n = false
 
--- no step of another part than that of the descriptors ends a scan
-pub no-pick-block : (n : Onward BlockPoint BlockExit) (o : Continuation) → is_pick (enter_block n o) ≡ false
-no-pick-block n o = grind (arith)
+-- whether a scan reads a hazard word at the point
+abbrev pub is_scan : Point → Bool
+is_scan (point.Desc p o) = scans p
+is_scan p = false
 
-pub no-pick-stack : (n : Onward StackPoint StackExit) (o : Continuation) → is_pick (enter_stack n o) ≡ false
-no-pick-stack n o = grind (arith)
-
-pub no-pick-partial : (n : Onward PartialPoint PartialExit) (o : Continuation) → is_pick (enter_partial n o) ≡ false
-no-pick-partial n o = grind (arith)
-
-pub no-pick-large : (n : Onward LargePoint LargeExit) (o : Continuation) → is_pick (enter_large n o) ≡ false
-no-pick-large n o = grind (arith)
-
--- a scan's last hazard word is read where no more is expected than by what waits behind the part
-scanned-expects :
-    (P : Expected → Type 0) (q : DescPoint) (r : Continuation) (x : Found) (s : SeatFields) (held : List ℕ) (o : Continuation)
-    → enter_desc (settle_desc_of q x) r ≡ Pick s held o → All P (continuation_expects s o) → All P (desc_expects q r)
-scanned-expects P (desc.ReadHazard t words at) r x s held o is all = grind (arith, is)
-scanned-expects P q r x s held o is all = grind (arith, is, All-nil P)
+-- only a step that reads a hazard word ends a scan
+pub no-pick : (p : Point) (x : Found) → is_scan p ≡ false → is_pick (next_of p x) ≡ false
+unfolding next_of
+no-pick (point.Desc p o) x plain = grind (arith, plain)
+no-pick p x plain = grind (arith)
 
 -- a caller whose scan ends expects at its point no more than by what waits behind the part
 picked-expects :
     (P : Expected → Type 0) (p : Point) (x : Found) (s : SeatFields) (held : List ℕ) (o : Continuation) → next_of p x ≡ Pick s held o
     → All P (continuation_expects s o) → All P (expects_of p)
 unfolding next_of expects_of
-picked-expects P point.Idle x s held o is all = All-nil P
-picked-expects P (point.Block p r) x s held o is all =
-    absurd (true≢false (ap is_pick (sym is) ∙ no-pick-block (settle_block_of p x) r))
-picked-expects P (point.Stack p r) x s held o is all =
-    absurd (true≢false (ap is_pick (sym is) ∙ no-pick-stack (settle_stack_of p x) r))
-picked-expects P (point.Desc p r) x s held o is all = scanned-expects P p r x s held o is all
-picked-expects P (point.Partial p r) x s held o is all =
-    absurd (true≢false (ap is_pick (sym is) ∙ no-pick-partial (settle_partial_of p x) r))
-picked-expects P (point.Large p r) x s held o is all =
-    absurd (true≢false (ap is_pick (sym is) ∙ no-pick-large (settle_large_of p x) r))
+picked-expects P (point.Desc (desc.ReadHazard t words at) r) x s held o is all = grind (arith, is)
+picked-expects P p x s held o is all = absurd (true≢false (ap is_pick (sym is) ∙ no-pick p x refl))
 
 -- a call that is resumed behind a retirement expects no more than by what waits behind the part
 resumed-expects :
@@ -63,8 +45,7 @@ resumed-expects P e s o all = grind (arith, all)
 -- a call whose scan picks a descriptor, or none, expects no more than by what waits behind the part
 first-expects :
     (P : Expected → Type 0) (e : ErrandFields) (x : Found) (s : SeatFields) (held : List ℕ) (o : Continuation) (first : Option ℕ)
-    → next_of e.point x ≡ Pick s held o → All P (continuation_expects s o)
-    → All P (expects_of (point_after (after_turn e (picked e s o first))))
+    → next_of e.point x ≡ Pick s held o → All P (continuation_expects s o) → All P (expects_of (point_after (after_turn e (picked e s o first))))
 unfolding expects_of
 first-expects P e x s held o None is all = picked-expects P e.point x s held o is all
 first-expects P e x s held o (Some d) is all = all
@@ -80,7 +61,7 @@ retired-expects :
     → All P (expects_of (point_after (after_turn e (after_list e (Retire s d o)))))
 unfolding expects_of
 retired-expects P e s d o all =
-    cond_both (is_full e) (At (point.Desc (desc.ReadHazard s no_words 0) o)) (resumed s o)
+    cond_both (is_full e) (At (scan_begins s o)) (resumed s o)
     (λ n. All P (expects_of (point_after (after_turn e n)))) (λ full. all) (λ room. resumed-expects P e s o all)
 
 -- what holds of all that is expected where a step leads holds of all that its caller expects then, whatever its list says
@@ -97,7 +78,6 @@ listed-expects P e x (Unlist s d o) is all = resumed-expects P e s o all
 
 -- what holds of all that a caller expects where its step leads holds of all that it expects after the step
 pub expects-settled :
-    (e : ErrandFields) (x : Found) (P : Expected → Type 0) → All P (next_expects (next_of e.point x))
-    → All P (expects_of (settle_of e x).point)
+    (e : ErrandFields) (x : Found) (P : Expected → Type 0) → All P (next_expects (next_of e.point x)) → All P (expects_of (settle_of e x).point)
 unfolding settle_of course_of
 expects-settled e x P all = listed-expects P e x (next_of e.point x) refl all

@@ -2,8 +2,7 @@
 use Rattle.std.proofs.Common.{ℕ, ◌≢◌, ◌<◌, ◌^◌, ◌-◌, refl, arith, sym, All, ◌==◌}
 use Rattle.std.proofs.lemmas.Bool.{cond_both}
 use Rattle.std.proofs.lemmas.List.Elements.{All-nil}
-use Rattle.sound_state.proofs.Common.{HeadFields, head_of, name_of, SeatFields, active_name, Pile, StackPoint, head_name, Continuation}
-use Rattle.sound_state.proofs.Common.{Stack, next_of, plan_point_of}
+use Rattle.sound_state.proofs.Common.{HeadFields, head_of, name_of, SeatFields, active_name, Pile, StackPoint, head_name, Continuation, Stack, next_of, plan_point_of}
 use Rattle.packed_words.specs.Head.{head_word}
 use Rattle.packed_words.proofs.HeadLemmas.{head_word-head_of}
 use Rattle.word_table.specs.declared.onward.Onward.{Onward}
@@ -13,7 +12,9 @@ use Rattle.stack_parts.specs.declared.exit.StackExit.TheVariants as exit
 use Rattle.stack_parts.specs.declared.point.StackPoint.TheVariants as stack
 use Rattle.stack_parts.specs.Points.{plan_stack_of, seat_of_stack, after_top}
 use Rattle.errand_steps.specs.Nexts.{enter_stack, popped, confirmed_empty, put_away}
-use Rattle.lost_exchanges.specs.Expectations.{Expected, stack_expects, expects_of, continuation_expects, head_still}
+use Rattle.errand_steps.specs.tables.Expected.{Expected, continuation_expects}
+use Rattle.errand_steps.specs.tables.Stacks.{stack_expects, head_still}
+use Rattle.lost_exchanges.specs.Expectations.{expects_of}
 use Rattle.lost_exchanges.proofs.ExpectLemmas.{AllApart, unmoved, unmoved-carried, IsIn, MayOne, MayAll, all-in, all-in_rest, continuation-carried, load-seen}
 use Rattle.lost_exchanges.proofs.WinDefs.{ExpectsOn, next_expects}
 
@@ -22,8 +23,7 @@ stack-apart : (p : StackPoint) → active_name (seat_of_stack p) ≢ name_of (pl
 stack-apart p = grind (arith)
 
 -- what waits behind a part at a stack is expected there
-stack-holds :
-    (p : StackPoint) (o : Continuation) → All (IsIn (expects_of (Stack p o))) (continuation_expects (seat_of_stack p) o)
+stack-holds : (p : StackPoint) (o : Continuation) → All (IsIn (expects_of (Stack p o))) (continuation_expects (seat_of_stack p) o)
 unfolding expects_of
 stack-holds p o = grind (arith, all-in, all-in_rest)
 
@@ -71,8 +71,7 @@ unfolding plan_point_of expects_of
 stack-carried p o v = unmoved-carried (Stack p o) v (stack_expects p o) refl (still-apart p o)
 
 -- a step at a stack carries or sees all that its caller expects after it
-pub stack-expects :
-    (p : StackPoint) (o : Continuation) (v : ℕ) → v < 2 ^ 64 → ExpectsOn (Stack p o) v
+pub stack-expects : (p : StackPoint) (o : Continuation) (v : ℕ) → v < 2 ^ 64 → ExpectsOn (Stack p o) v
 unfolding plan_point_of next_of expects_of
 stack-expects (stack.LoadTop s pile) o v below =
     let p = stack.LoadTop s pile in

@@ -2,16 +2,15 @@
 use Rattle.std.proofs.Common.{ℕ, ◌≡◌, ◌≢◌, ◌<◌, ◌≤◌, List, refl, arith, subst, inl, inr, ◌∙◌, ◌⊎◌, IsTrue, All, eq-eqb}
 use Rattle.std.specs.List.{AllByRecursion}
 use Rattle.std.proofs.lemmas.List.Elements.{All-from_recursion, recursion_from_All}
-use Rattle.sound_state.proofs.Common.{Geometry, WordName, name_of, descriptor_count, SeatFields, Exists, BlockPoint, Share, Credit, LastCredit, Grant, Pile, Frames}
-use Rattle.sound_state.proofs.Common.{Partials, StackPoint, head_name, next_name, DescPoint, PartialPoint, LargePoint, Continuation, Point, plan_point_of, State}
-use Rattle.sound_state.proofs.Common.{partly_used, on_its_way, holds_of, Lists, IsSo, recalls_of, IsSoundWith, is_bound, kept_among, errand_keeps, plan-exists, keep}
-use Rattle.sound_state.proofs.Common.{partial_holds, block_recalls}
+use Rattle.sound_state.proofs.Common.{Geometry, WordName, name_of, descriptor_count, SeatFields, Exists, BlockPoint, Share, Grant, Pile, head_name, next_name, PartialPoint}
+use Rattle.sound_state.proofs.Common.{Continuation, Point, plan_point_of, State, partly_used, on_its_way, holds_of, Lists, IsSo, recalls_of, IsSoundWith, is_bound}
+use Rattle.sound_state.proofs.Common.{kept_among, errand_keeps, plan-exists, keep, partial_holds, block_recalls}
 use Rattle.word_table.specs.declared.name.WordName.TheVariants as name
-use Rattle.superblock_parts.specs.declared.point.BlockPoint.TheVariants as block
-use Rattle.stack_parts.specs.declared.point.StackPoint.TheVariants as stack
 use Rattle.partial_parts.specs.declared.point.PartialPoint.TheVariants as partial
 use Rattle.errand_steps.specs.declared.point.Point.TheVariants as point
-use Rattle.lost_exchanges.specs.Expectations.{Expected, unless_credit, continuation_expects, block_expects, stack_expects, desc_expects, partial_expects, large_expects}
+use Rattle.errand_steps.specs.tables.Expected.{Expected, continuation_expects}
+use Rattle.errand_steps.specs.tables.Blocks.{unless_credit, block_expects}
+use Rattle.errand_steps.specs.tables.Partials.{partial_expects}
 use Rattle.lost_exchanges.specs.Expectations.{expects_of}
 use Rattle.sound_state.proofs.shared.HasLemmas.{kept-itself}
 use Rattle.sound_state.proofs.shared.UnplacedLemmas.{IsUnplaced, way-unplaced}
@@ -39,14 +38,11 @@ way-here d class = rw (eq-eqb d d refl) (omega arith)
 -- what a caller expects is of words of exchange, where Q holds of what is bound and of what the caller keeps
 module _ (g : Geometry) (s : State) (l : Lists) (i : ℕ) (Q : ℕ → Type 0) where
   apart-share : (seat : SeatFields) (share : Share) → AreApart Q (unless_credit seat share)
-  apart-share seat Credit = tt
-  apart-share seat LastCredit = (tt, tt)
-  apart-share seat (Grant more) = (tt, tt)
+  apart-share seat share = grind (arith)
 
   -- what a caller expects in a superblock is of such words, where Q holds of what is bound
   expects-apart-block :
-      (p : BlockPoint) → ((d : ℕ) → IsTrue (is_bound g s l d) → Q d) → AllByRecursion (IsSo g s l i) (block_recalls p)
-      → AreApart Q (block_expects p)
+      (p : BlockPoint) → ((d : ℕ) → IsTrue (is_bound g s l d) → Q d) → AllByRecursion (IsSo g s l i) (block_recalls p) → AreApart Q (block_expects p)
   expects-apart-block p free so = grind (arith, so, free, apart-share)
 
   -- what a caller expects by what waits behind a part is of such words
@@ -54,26 +50,13 @@ module _ (g : Geometry) (s : State) (l : Lists) (i : ℕ) (Q : ℕ → Type 0) w
   expects-apart-continuation seat o = grind (arith)
 
   apart-head : (seat : SeatFields) (pile : Pile) → IsApartFrom Q (head_name seat pile)
-  apart-head seat Frames = tt
-  apart-head seat Partials = tt
-
-  -- what a caller expects at a stack is of such words
-  expects-apart-stack : (p : StackPoint) (o : Continuation) → AreApart Q (stack_expects p o)
-  expects-apart-stack p o = grind (arith, apart-head, expects-apart-continuation)
-
-  -- what a caller expects at the descriptors or the hazard words is of such words
-  expects-apart-desc : (p : DescPoint) (o : Continuation) → AreApart Q (desc_expects p o)
-  expects-apart-desc p o = grind (arith, expects-apart-continuation)
+  apart-head seat pile = grind (arith)
 
   -- what a caller expects at a partial superblock is of such words, where Q holds of what it keeps partly used
   expects-apart-partial :
       (p : PartialPoint) (o : Continuation) → ((d : ℕ) → 1 ≤ kept_among partly_used d (partial_holds p o).kept → Q d) → AreApart Q (partial_expects p o)
   expects-apart-partial (partial.Grant at a) o kept = (kept at.desc (kept-itself partly_used at.desc at.seat.class), expects-apart-continuation at.seat o)
   expects-apart-partial p o kept = grind (arith, expects-apart-continuation)
-
-  -- what a caller expects at a large block or a shelf is of such words
-  expects-apart-large : (p : LargePoint) → AreApart Q (large_expects p)
-  expects-apart-large p = grind (arith)
 
   expects-apart-point :
       (p : Point) → ((d : ℕ) → IsTrue (is_bound g s l d) → Q d) → ((d : ℕ) → 1 ≤ kept_among partly_used d (holds_of p).kept → Q d)
@@ -91,13 +74,10 @@ StoresApart p =
     ⊎ ((d : ℕ) × (1 ≤ kept_among on_its_way d (holds_of p).kept) × (name_of (plan_point_of p) ≡ name.Anchor d))
 
 stores-next : (pile : Pile) (k : ℕ) → IsApartFrom (λ d. Unit {0}) (next_name pile k) → ⊥
-stores-next Frames k bad = bad
-stores-next Partials k bad = bad
+stores-next pile k bad = grind (arith, bad)
 
 stores-point : (p : Point) → StoresApart p
 unfolding plan_point_of holds_of
-stores-point (point.Block (block.StoreAnchor at) o) = λ is. inr (at.desc, way-here at.desc at.seat.class, refl)
-stores-point (point.Stack (stack.StoreBelow seat pile k h) o) = λ is. inl (stores-next pile k)
 stores-point p = grind (arith)
 
 -- no other caller expects anything of a word into which a caller stores
@@ -118,7 +98,7 @@ stores-unexpected g s l caller other old has has_other differ =
       | inr new ↦
           λ is.
           let d = new.0 in
-          let own = old.errands caller has in
+          let own = old.formed.errands caller has in
           let exists : Exists g (name_of (plan_point_of p)) =
           subst (λ h. Exists h (name_of (plan_point_of p))) own.geometry
           (plan-exists (s.errand caller).geometry (s.errand caller).caller p own.rule.geometry own.rule.caller own.rule.point) in

@@ -1,6 +1,6 @@
 -- Callers take no more turns than small blocks are given.
-use Rattle.std.proofs.Common.{ℕ, Bool, true, false, cond, ◌≡◌, ◌<◌, ◌≤◌, ◌+◌, List, [], ◌∷◌, refl, arith, inl, inr, ◌==◌, ◌&&◌, not, if◌then◌else◌, nat_le, All}
-use Rattle.std.proofs.Common.{count_by, eq-eqb, ne_eqb}
+use Rattle.std.proofs.Common.{ℕ, Bool, true, false, cond, ◌≡◌, ◌<◌, ◌≤◌, ◌+◌, List, [], ◌∷◌, refl, arith, inl, inr, ◌==◌, ◌&&◌, not, if◌then◌else◌, nat_le, All, count_by}
+use Rattle.std.proofs.Common.{eq-eqb, ne_eqb}
 use Rattle.std.proofs.lemmas.Bool.{cases_eq, cond-true, cond-false}
 use Rattle.std.proofs.lemmas.List.Elements.{All-head, All-tail}
 use Rattle.sound_state.proofs.Common.{SMALL_MOST, Geometry, Event, State, sum_below, one_if, gives_small, refuses_small, is_small_alloc, turn_unanswered}
@@ -13,8 +13,7 @@ use Rattle.lost_exchanges.proofs.CountLemmas.{counts-first, count-append}
 
 -- an install counts once at most: as its caller's, or as another's
 install-of-one :
-    (caller by : ℕ) (install : Bool)
-    → one_if (install && not (by == caller)) + one_if (install && (by == caller)) ≤ one_if (install && (by == by))
+    (caller by : ℕ) (install : Bool) → one_if (install && not (by == caller)) + one_if (install && (by == caller)) ≤ one_if (install && (by == by))
 install-of-one caller by install = rw (eq-eqb by by refl) (grind (arith))
 
 all-installs :
@@ -42,13 +41,11 @@ given n by true = omega (
 )
 given n by false = omega (arith, sum-none n (λ caller. cond {A = ℕ} ((by == caller) && false) 1 0) (λ caller lt. grind (arith)))
 
-given-alloc :
-    (n : ℕ) (e : Event) → sum_below n (λ caller. cond {A = ℕ} (gives_small caller e) 1 0) ≤ cond (is_small_alloc e) 1 0
+given-alloc : (n : ℕ) (e : Event) → sum_below n (λ caller. cond {A = ℕ} (gives_small caller e) 1 0) ≤ cond (is_small_alloc e) 1 0
 given-alloc n (Alloc by words place) = given n by (nat_le words SMALL_MOST)
 given-alloc n e = omega (arith, sum-none n (λ caller. 0) (λ caller lt. refl))
 
-all-given :
-    (n : ℕ) (history : List Event) → sum_below n (λ caller. count_by (gives_small caller) history) ≤ count_by is_small_alloc history
+all-given : (n : ℕ) (history : List Event) → sum_below n (λ caller. count_by (gives_small caller) history) ≤ count_by is_small_alloc history
 all-given n [] = omega (arith, sum-none n (λ caller. 0) (λ caller lt. refl))
 all-given n (e ∷ history) =
     omega (
@@ -61,8 +58,7 @@ all-given n (e ∷ history) =
     )
 
 -- what all callers but one install is no more than what they are given
-others-given :
-    (n caller : ℕ) (f h : ℕ → ℕ) → caller < n → ((k : ℕ) → k < n → f k ≤ h k) → sum_below n f + h caller ≤ sum_below n h + f caller
+others-given : (n caller : ℕ) (f h : ℕ → ℕ) → caller < n → ((k : ℕ) → k < n → f k ≤ h k) → sum_below n f + h caller ≤ sum_below n h + f caller
 others-given n caller f h has least =
     let mixed = λ (k : ℕ). if k == caller then h k else f k in
     let here : mixed caller ≡ h caller = cond-true {A = ℕ} (caller == caller) (h caller) (f caller) (eq-eqb caller caller refl) in

@@ -53,8 +53,7 @@ own-after g s w caller s' has h old =
 turn-after :
     (s : State) (caller : ℕ) (s' : State) (installs : ℕ) → Turned s caller s'
     → (s.errand caller).turns + next_ends (next_of (s.errand caller).point (found_at s caller)) ≤ turns_allowed s caller installs
-    → (settled s caller).turns
-    ≤ count_by (gives_small caller) s'.history + count_by (refuses_small caller) s'.history + installs + turn_unanswered (settled s caller)
+    → (settled s caller).turns ≤ count_by (gives_small caller) s'.history + count_by (refuses_small caller) s'.history + installs + turn_unanswered (settled s caller)
 turn-after s caller s' installs h before =
     omega (arith, before, h.gives caller, h.refuses caller, h.goes.unanswered, h.settles.to.turn, h.settles.turns)
 
@@ -62,8 +61,7 @@ turn-after s caller s' installs h before =
 pub stay-after :
     (s : State) (caller : ℕ) (s' : State) (installs : ℕ) → Turned s caller s' → is_between (settled s caller).point ≡ false
     → (s.errand caller).turns ≤ turns_allowed s caller installs
-    → (settled s caller).turns
-    ≤ count_by (gives_small caller) s'.history + count_by (refuses_small caller) s'.history + installs + turn_unanswered (settled s caller)
+    → (settled s caller).turns ≤ count_by (gives_small caller) s'.history + count_by (refuses_small caller) s'.history + installs + turn_unanswered (settled s caller)
 stay-after s caller s' installs h inside before =
     let none : one_if (begins_turn (s.errand caller) (after_list (s.errand caller) (next_of (s.errand caller).point (found_at s caller)))) ≡ 0 =
     ap one_if (h.settles.to.begins inside) in

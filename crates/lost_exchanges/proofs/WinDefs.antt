@@ -1,12 +1,14 @@
 -- What a step does to what its caller expects, and to its turn: the statements that the points owe.
 use Rattle.std.proofs.Common.{ℕ, Bool, true, false, ◌≡◌, ◌≢◌, ◌≤◌, ◌+◌, List, [], ◌⊎◌, ◌&&◌, not, All, Any, Option, Some, None, IsTrue}
-use Rattle.sound_state.proofs.Common.{Null, active_word, Found, WordName, name_of, after_action, BlockPoint, Event, Next, At, End, Retire, Pick, Unlist, Point}
-use Rattle.sound_state.proofs.Common.{counts_lost, event_of, next_of, plan_point_of, turn_stage_of, is_unneeded, one_if, gives_small, refuses_small, Action, found_by}
-use Rattle.sound_state.proofs.Common.{Turn, is_lost_exchange, continuation_turn_stage, is_turn, lacks_answer, is_seeking}
+use Rattle.sound_state.proofs.Common.{Null, active_word, Found, WordName, name_of, after_action, BlockPoint, Event, Next, At, End, Retire, Pick, Unlist, Point, counts_lost}
+use Rattle.sound_state.proofs.Common.{event_of, next_of, plan_point_of, turn_stage_of, is_unneeded, one_if, gives_small, refuses_small, Action, found_by, Turn}
+use Rattle.sound_state.proofs.Common.{is_lost_exchange, continuation_turn_stage, lacks_answer, is_seeking, out_of_turn}
 use Rattle.superblock_parts.specs.declared.point.BlockPoint.TheVariants as block
 use Rattle.errand_steps.specs.declared.point.Point.TheVariants as point
-use Rattle.lost_exchanges.specs.Expectations.{Expected, expects_of, continuation_expects}
+use Rattle.errand_steps.specs.tables.Expected.{Expected, continuation_expects}
+use Rattle.lost_exchanges.specs.Expectations.{expects_of}
 use Rattle.sound_state.specs.TurnStages.{is_offering}
+use Rattle.errand_steps.specs.tables.TurnStage.{TurnStage, not_needed}
 use Rattle.lost_exchanges.specs.Wins.{is_self_exchange, offers}
 
 -- an expectation that a caller had before its step, of another word than the step's
@@ -32,34 +34,27 @@ next_expects (Retire s d o) = continuation_expects s o
 next_expects (Pick s held o) = continuation_expects s o
 next_expects (Unlist s d o) = continuation_expects s o
 
--- 1 where the turn has no answer yet when a caller goes on; where its superblock wasn't needed; whether it found none active
+-- how far the turn is when a caller goes on: it takes another one only where its superblock wasn't needed
+abbrev pub next_stage : Next → TurnStage
+next_stage (At p) = turn_stage_of p
+next_stage (End r) = out_of_turn
+next_stage (Turn s need) = not_needed
+next_stage (Retire s d o) = continuation_turn_stage o
+next_stage (Pick s held o) = continuation_turn_stage o
+next_stage (Unlist s d o) = continuation_turn_stage o
+
+-- 1 where the turn has no answer yet when a caller goes on; where its superblock wasn't needed; whether it found none active; 1 where it offers
 abbrev pub next_unanswered : Next → ℕ
-next_unanswered (At p) = one_if (lacks_answer (turn_stage_of p))
-next_unanswered (End r) = 0
-next_unanswered (Turn s need) = 1
-next_unanswered (Retire s d o) = one_if (lacks_answer (continuation_turn_stage o))
-next_unanswered (Pick s held o) = one_if (lacks_answer (continuation_turn_stage o))
-next_unanswered (Unlist s d o) = one_if (lacks_answer (continuation_turn_stage o))
+next_unanswered n = one_if (lacks_answer (next_stage n))
 
 abbrev pub next_discards : Next → ℕ
-next_discards (At p) = one_if (is_unneeded (turn_stage_of p))
-next_discards (End r) = 0
-next_discards (Turn s need) = 1
-next_discards (Retire s d o) = one_if (is_unneeded (continuation_turn_stage o))
-next_discards (Pick s held o) = one_if (is_unneeded (continuation_turn_stage o))
-next_discards (Unlist s d o) = one_if (is_unneeded (continuation_turn_stage o))
+next_discards n = one_if (is_unneeded (next_stage n))
 
 abbrev pub next_seeks : Next → Bool
-next_seeks (At p) = is_seeking (turn_stage_of p)
-next_seeks (End r) = false
-next_seeks (Turn s need) = false
-next_seeks (Retire s d o) = is_turn (continuation_turn_stage o)
-next_seeks (Pick s held o) = is_turn (continuation_turn_stage o)
-next_seeks (Unlist s d o) = is_turn (continuation_turn_stage o)
+next_seeks n = is_seeking (next_stage n)
 
 abbrev pub next_offers : Next → ℕ
-next_offers (At p) = one_if (is_offering (turn_stage_of p))
-next_offers n = 0
+next_offers n = one_if (is_offering (next_stage n))
 
 -- whether a caller at the point loads the active word
 abbrev pub looks_active : Point → Bool

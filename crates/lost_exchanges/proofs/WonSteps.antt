@@ -1,10 +1,11 @@
 -- Every step keeps what was won, noted and lost.
 use Rattle.std.proofs.Common.{ℕ, true, ◌≡◌, ◌≢◌, ◌<◌, ◌≤◌, ◌+◌, ◌-◌, ◌*◌, ◌^◌, List, [], ◌∷◌, arith, subst, refl, ◌==◌, not, Any}
 use Rattle.std.proofs.lemmas.List.Elements.{All-nil}
-use Rattle.sound_state.proofs.Common.{Geometry, WordName, name_of, Exists, Point, Idle, Block, Stack, Desc, Partial, Large, counts_lost, FitsPoint, next_of}
-use Rattle.sound_state.proofs.Common.{plan_point_of, State, Step, action_at, name_at, word_at, found_at, IsSound, IsSoundWithoutCounts, one_if, counts_won, plan-exists}
+use Rattle.sound_state.proofs.Common.{Geometry, WordName, name_of, Exists, Point, Idle, Block, Stack, Desc, Partial, Large, counts_lost, FitsPoint, next_of, plan_point_of}
+use Rattle.sound_state.proofs.Common.{State, Step, action_at, name_at, word_at, found_at, IsSound, IsSoundWithoutCounts, one_if, plan-exists}
 use Rattle.lost_exchanges.specs.Contention.{IsDirty, dirty_pairs}
-use Rattle.lost_exchanges.specs.Expectations.{Expected, expects_of}
+use Rattle.errand_steps.specs.tables.Expected.{Expected}
+use Rattle.lost_exchanges.specs.Expectations.{expects_of}
 use Rattle.lost_exchanges.specs.Wins.{Wins, wins_after}
 use Rattle.lost_exchanges.specs.Won.{IsWon}
 use Rattle.sound_state.proofs.CountedLemmas.{without-counts}
@@ -21,6 +22,7 @@ use Rattle.lost_exchanges.proofs.SettleExpects.{expects-settled}
 use Rattle.lost_exchanges.proofs.StackExpects.{stack-expects}
 use Rattle.lost_exchanges.proofs.StoreLemmas.{stores-unexpected}
 use Rattle.lost_exchanges.proofs.WinDefs.{ExpectsOn, LosesOn, MayExpect, found_in}
+use Rattle.lost_exchanges.proofs.StepWins.{loses_at, wins_at}
 
 -- a step carries or sees all that its caller expects after it
 expects-on : (g : Geometry) (caller : ℕ) (p : Point) (v : ℕ) → FitsPoint g caller p → v < 2 ^ 64 → ExpectsOn p v
@@ -42,8 +44,7 @@ first-differs n v [] none = absurd none
 first-differs n v (e ∷ es) is = any-first (λ e. (e.word ≡ n) × (v ≢ e.value)) e es (is.0, lost-differs v e.value is.1)
 
 -- a step that counts as lost has first an expectation of its word, of another number there
-lost-expects :
-    (p : Point) (v : ℕ) → counts_lost p (found_in p v) ≡ true → FirstDiffers (name_of (plan_point_of p)) v (expects_of p)
+lost-expects : (p : Point) (v : ℕ) → counts_lost p (found_in p v) ≡ true → FirstDiffers (name_of (plan_point_of p)) v (expects_of p)
 unfolding plan_point_of expects_of
 lost-expects p v lost = grind (arith, lost)
 
@@ -55,9 +56,9 @@ loses-on p v lost = first-differs (name_of (plan_point_of p)) v (expects_of p) (
 pub expects-after : (g : Geometry) (s : State) (caller : ℕ) → IsSoundWithoutCounts g s → caller < g.callers → ExpectsAfter s caller
 expects-after g s caller sound has =
     let e = s.errand caller in
-    let own = sound.parts.1.errands caller has in
+    let own = sound.parts.1.formed.errands caller has in
     expects-settled e (found_at s caller) (MayExpect e.point (action_at s caller) (found_at s caller))
-    (expects-on e.geometry e.caller e.point (word_at s caller) own.rule.point (sound.parts.1.words (name_at s caller)))
+    (expects-on e.geometry e.caller e.point (word_at s caller) own.rule.point (sound.parts.1.formed.words (name_at s caller)))
 
 -- a step keeps what was won and noted, and what these bound
 pub steps-won :
@@ -67,7 +68,7 @@ steps-won g s w caller s' sound won has step =
     let l = sound.parts.0 in
     let old = sound.parts.1 in
     let e = s.errand caller in
-    let own = old.errands caller has in
+    let own = old.formed.errands caller has in
     let expects = expects-after g s caller sound has in
     let exists : Exists g (name_at s caller) =
     subst (λ h. Exists h (name_at s caller)) own.geometry
@@ -81,15 +82,14 @@ steps-won g s w caller s' sound won has step =
 
 -- the pair of a caller and the word on which it loses was dirty
 pub lost-dirty :
-    (g : Geometry) (s : State) (w : Wins) (caller : ℕ) → IsWon g s w → caller < g.callers → counts_lost (s.errand caller).point (found_at s caller) ≡ true
+    (g : Geometry) (s : State) (w : Wins) (caller : ℕ) → IsWon g s w → caller < g.callers → loses_at s caller ≡ true
     → IsDirty w caller (name_at s caller)
-lost-dirty g s w caller won has lost = was-dirty g s caller w has won.noted (loses-on (s.errand caller).point (word_at s caller)) lost
+lost-dirty g s w caller won has lost = was-dirty g s caller w won.noted has (loses-on (s.errand caller).point (word_at s caller)) lost
 
 -- the dirty pairs change in a step with what is won and lost
 pub step-pairs :
     (g : Geometry) (s : State) (w : Wins) (caller : ℕ) → IsSound g s → IsWon g s w → caller < g.callers
-    → dirty_pairs g (wins_after s caller w) + one_if (counts_lost (s.errand caller).point (found_at s caller))
-    ≤ dirty_pairs g w + (g.callers - 1) * one_if (counts_won (action_at s caller) (found_at s caller))
+    → dirty_pairs g (wins_after s caller w) + one_if (loses_at s caller) ≤ dirty_pairs g w + (g.callers - 1) * one_if (wins_at s caller)
 step-pairs g s w caller sound won has =
     let p = (s.errand caller).point in
-    pairs-after g s caller w has (exists-at g s caller p (without-counts g s sound) has refl) (loses-on p (word_at s caller)) won.noted
+    pairs-after g s caller w won.noted has (exists-at g s caller p (without-counts g s sound) has refl) (loses-on p (word_at s caller))

@@ -6,7 +6,8 @@ use Rattle.word_table.specs.Counts.{word_count}
 use Rattle.word_table.specs.Table.{word_name}
 use Rattle.errand_steps.specs.Errands.{ErrandFields}
 use Rattle.errand_steps.specs.Steps.{State}
-use Rattle.lost_exchanges.specs.Expectations.{Expected, expects_of}
+use Rattle.errand_steps.specs.tables.Expected.{Expected}
+use Rattle.lost_exchanges.specs.Expectations.{expects_of}
 use Rattle.sound_state.specs.Sums.{sum_below, callers_sum}
 use Rattle.sound_state.specs.Turns.{one_if}
 use Rattle.lost_exchanges.specs.Wins.{Win, Wins, same_name}

@@ -8,7 +8,8 @@ use Rattle.word_table.specs.declared.name.WordName.TheVariants as name
 use Rattle.errand_steps.specs.Errands.{ErrandFields}
 use Rattle.errand_steps.specs.Steps.{State}
 use Rattle.lost_exchanges.specs.Contention.{is_by, is_against}
-use Rattle.lost_exchanges.specs.Expectations.{Expected, expects_of}
+use Rattle.errand_steps.specs.tables.Expected.{Expected}
+use Rattle.lost_exchanges.specs.Expectations.{expects_of}
 use Rattle.sound_state.specs.TurnStages.{turn_stage_of, is_seeking, is_offering}
 use Rattle.sound_state.specs.Turns.{one_if, gives_small, refuses_small, errand_discards, turn_unanswered}
 use Rattle.lost_exchanges.specs.Wins.{Win, Wins}

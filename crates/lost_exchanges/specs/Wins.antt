@@ -7,12 +7,12 @@ use Rattle.word_table.specs.declared.action.Action.TheVariants.{Cas}
 use Rattle.word_table.specs.declared.action.Found.{Found}
 use Rattle.word_table.specs.declared.name.WordName.{WordName}
 use Rattle.word_table.specs.declared.name.WordName.TheVariants.{Arena, Anchor, Next, Info, Active, Slot, ListHead, FrameNext, FrameHead, DescHead, Hazard, Units, Shelf}
-use Rattle.superblock_parts.specs.declared.point.BlockPoint.{BlockPoint}
 use Rattle.superblock_parts.specs.declared.point.BlockPoint.TheVariants as block
 use Rattle.errand_steps.specs.declared.point.Point.{Point}
 use Rattle.errand_steps.specs.declared.point.Point.TheVariants as point
 use Rattle.errand_steps.specs.Errands.{settle_of, counts_won, is_lost_exchange}
 use Rattle.errand_steps.specs.Steps.{State, action_at, name_at, found_at}
+use Rattle.errand_steps.specs.tables.Blocks.{is_offer}
 
 -- a change that a caller won: an exchange of two numbers that differ, a swap or an and; and whether it made a superblock the active one
 pub record Win : Type 0 where
@@ -45,12 +45,6 @@ same_name (Hazard i) (Hazard j) = i == j
 same_name Units Units = true
 same_name (Shelf i) (Shelf j) = i == j
 same_name m n = false
-
--- whether a step from the point offers a superblock as the active one
-abbrev pub is_offer : BlockPoint → Bool
-is_offer (block.InstallCredits at i more) = true
-is_offer (block.InstallSuperblock at) = true
-is_offer p = false
 
 abbrev pub offers : Point → Bool
 offers (point.Block p o) = is_offer p

@@ -1,10 +1,10 @@
 //! In which order operations on a machine pass a gate.
 
-use crate::printed::trace_of;
 use edge_io::gate::Gate;
 use std::alloc::Global;
 use std::cell::Cell;
 use std::test::Fail;
+use text_tests::printed::trace_of;
 use trace_commands::told::schedule;
 
 /// A gate that expects these operations of these lanes, in this order.

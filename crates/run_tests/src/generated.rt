@@ -1,6 +1,5 @@
 //! Commands on workloads, which read nothing.
 
-use crate::printed::is_printed;
 use crate::running::{
     Left, ROOM, Told, failing_sink, failing_source, leaves, next_reads, run_from, run_on,
     wide_sink, writes,
@@ -12,6 +11,8 @@ use std::alloc::{AllocError, Global};
 use std::sync::Wait;
 use std::test::Fail;
 use std::thread::Threads;
+use text_tests::printed::printed;
+use trace_text::limits::MAX_INPUT;
 
 #[test]
 fn workloads_are_summed_up(rt: HostRuntime) -> Result<(), Fail> {
@@ -44,7 +45,10 @@ fn what_is_printed_is_printed_again(rt: HostRuntime) -> Result<(), Fail> {
     let text = sink.bytes();
     let is_workload = text.starts_with(b"heap 1024 8 0\nlane\na ");
     assert_eq!(rt; (told, is_workload), ((REPORTED, Left::Nothing), true));
-    is_printed(&rt, text, text)
+    assert!(rt; text.len() <= MAX_INPUT);
+    let again = printed(rt.alloc(), text)?;
+    assert_eq!(rt; again.as_slice(), text);
+    Ok(())
 }
 
 /// How a workload's run ends whose source fails at its first call, and what the source gives afterwards:

@@ -6,7 +6,6 @@ ghost use Rattle.trace_text.specs.Traces.{IsTrace};
 ghost use Rattle.trace_text.specs.declared.limits.TheConstants.{MAX_INPUT};
 ghost use Rattle.workloads.specs.declared.making.TheConstants.{MAX_SIZE};
 
-use crate::printed::trace_of;
 use command_line::command::Workload;
 use command_line::summary::summary;
 use edge_io::gate::NoGate;
@@ -16,6 +15,7 @@ use lane_outcomes::report::report;
 use std::alloc::{AllocError, Global};
 use std::process::Abort;
 use std::test::Fail;
+use text_tests::printed::trace_of;
 use trace_commands::driven::{DrivenRun, drive};
 use trace_text::limits::{MAX_INPUT, MAX_LANES};
 use trace_text::trace::Trace;

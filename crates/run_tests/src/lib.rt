@@ -1,5 +1,5 @@
 //! Tests of whole runs of the program, over edges in memory: what it writes, how it ends and what it
-//! leaves; and of the texts that it reads and writes.
+//! leaves.
 #![tactic(auto)]
 
 #[cfg(test)]
@@ -21,10 +21,6 @@ mod handovers;
 #[cfg(test)]
 mod meetings;
 #[cfg(test)]
-mod outcomes;
-#[cfg(test)]
-mod printed;
-#[cfg(test)]
 mod refusals;
 #[cfg(test)]
 mod replays;
@@ -39,8 +35,4 @@ mod statuses;
 #[cfg(test)]
 mod stores;
 #[cfg(test)]
-mod texts;
-#[cfg(test)]
 mod turns;
-#[cfg(test)]
-mod workload_texts;

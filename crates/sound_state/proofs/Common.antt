@@ -4,9 +4,10 @@ pub use Rattle.errand_steps.proofs.PlanLemmas.{plan-exists}
 pub use Rattle.errand_steps.specs.Begins.{IsBusy, IsIdle, begins_alloc}
 unfoldable pub use Rattle.errand_steps.specs.Begins.{alloc_begun, free_begun, put_begun, read_begun, take_begun, write_begun}
 pub use Rattle.errand_steps.specs.Calls.{Call, alloc, begun_by, free, put, read, write}
-pub use Rattle.errand_steps.specs.Continuations.{IsRunFor, clears, confirms, goes_desc, is_alloc, pushes}
+pub use Rattle.errand_steps.specs.Continuations.{IsRunFor, clears, confirms, is_alloc, pushes}
+pub use Rattle.errand_steps.specs.tables.Descs.{goes_desc, desc_holds, desc_recalls}
 pub use Rattle.errand_steps.specs.Errands.{ErrandFields, counts_cleared, counts_lost, raised, IsErrand, after_list, after_turn, begins_turn, counts_won, is_full}
-pub use Rattle.errand_steps.specs.Errands.{is_lost_exchange, is_spent, no_words, one_more, picked, plan_of, point_after, turned}
+pub use Rattle.errand_steps.specs.Errands.{is_lost_exchange, is_spent, no_words, one_more, picked, plan_of, scan_begins, point_after, turned}
 unfoldable pub use Rattle.errand_steps.specs.Errands.{course_of, settle_of, answer_of}
 unfoldable pub use Rattle.errand_steps.specs.Events.{event_of}
 pub use Rattle.errand_steps.specs.Fits.{FitsPoint, pushed_by, spare_of, FitsContinuation, FitsInDesc, FitsInPartial, FitsInStack}
@@ -81,18 +82,23 @@ pub use Rattle.pool_model.specs.declared.owner.Owner.TheVariants.{Caller}
 pub use Rattle.sound_state.specs.Consequences.{IsBound}
 pub use Rattle.sound_state.specs.Frames.{IsFramed, errand_frames, fills_frame}
 pub use Rattle.sound_state.specs.Guards.{IsGuard, IsGuarded, IsHazard, held_by, passed_by, Guards}
-pub use Rattle.sound_state.specs.Holdings.{Holding, Kept, Status, holds_before_pop, on_its_way, partly_used, reserving, waiting, Freed, Handed, HazardState}
-pub use Rattle.sound_state.specs.Holdings.{block_handed, block_holds, clear, continuation_holds, desc_holds, guarded, holds_after_pop, if_stored, keep, making}
-pub use Rattle.sound_state.specs.Holdings.{nothing, partial_holds, reserve, stack_holds}
+pub use Rattle.errand_steps.specs.tables.Holding.{Holding, Kept, Status, on_its_way, partly_used, reserving, waiting, Freed, Handed, HazardState, block_handed, clear}
+pub use Rattle.errand_steps.specs.tables.Holding.{continuation_holds, guarded, keep, nothing, reserve}
+pub use Rattle.errand_steps.specs.tables.Blocks.{holds_before_pop, block_holds, holds_after_pop, if_stored, making, block_recalls}
+pub use Rattle.errand_steps.specs.tables.Partials.{partial_holds, partial_recalls}
+pub use Rattle.errand_steps.specs.tables.Stacks.{stack_holds, stack_recalls}
 unfoldable pub use Rattle.sound_state.specs.Holdings.{holds_of}
 pub use Rattle.sound_state.specs.Keepers.{IsKept, IsKeptAs, IsPartlyUsed, IsWithout, errand_has, full_keeps, word_keeps, IsActive, active_keeps, places_of}
 pub use Rattle.sound_state.specs.Lists.{IsListed, Lists}
-pub use Rattle.sound_state.specs.Recalls.{IsLocated, IsOwned, IsSo, Recall, bound_at, bound_for, bound_here, emptied, links, located, looked, noted, pops, says}
-pub use Rattle.sound_state.specs.Recalls.{AreMade, EndsRefused, IsEmptied, IsPlain, IsRemembered, block_recalls, continuation_recalls, desc_recalls}
-pub use Rattle.sound_state.specs.Recalls.{large_recalls, list_of, made, partial_recalls, refused, resumed_recalls, stack_recalls}
+pub use Rattle.sound_state.specs.Recalls.{IsLocated, IsOwned, IsSo}
+pub use Rattle.errand_steps.specs.tables.Recall.{Recall, bound_at, bound_for, bound_here, emptied, links, located, looked, noted, pops, says, continuation_recalls, made}
+pub use Rattle.errand_steps.specs.tables.Recall.{refused, resumed_recalls}
+pub use Rattle.sound_state.specs.Recalls.{AreMade, EndsRefused, IsEmptied, IsPlain, IsRemembered}
+pub use Rattle.errand_steps.specs.tables.LargeBlocks.{large_recalls}
+pub use Rattle.sound_state.specs.Recalls.{list_of}
 unfoldable pub use Rattle.sound_state.specs.Recalls.{recalls_of}
 pub use Rattle.sound_state.specs.Runs.{BeginsCall, Move, Moved, Reaches, begins, steps}
-pub use Rattle.sound_state.specs.Sound.{IsOwnErrand, IsSound, IsSoundWith, IsSoundWithoutCounts, with_errands}
+pub use Rattle.sound_state.specs.Sound.{IsFormed, IsOwnErrand, IsSound, IsSoundWith, IsSoundWithoutCounts, with_errands}
 pub use Rattle.sound_state.specs.Stock.{errand_stock, full_stock, stock_among, waits_in, word_stock, IsStocked, stock_of}
 pub use Rattle.sound_state.specs.Sums.{sum_below}
 unfoldable pub use Rattle.sound_state.specs.Sums.{callers_sum, words_sum}
@@ -100,8 +106,9 @@ pub use Rattle.sound_state.specs.Superblocks.{AreChained, IsChained, Superblock,
 pub use Rattle.sound_state.specs.Superblocks.{info_for, info_or_zero, is_bound, is_there, kept_among, live_at, reserved_among, reserved_of, superblock_of}
 pub use Rattle.sound_state.specs.Superblocks.{waiting_of, word_reserves, held_back, offered, same_status}
 pub use Rattle.sound_state.specs.Ties.{IsLive, IsTied, IsBlockOfDesc, IsCovered, IsExcepted}
-pub use Rattle.sound_state.specs.TurnStages.{in_turn, is_unneeded, turn_stage_of, continuation_turn_stage, is_seeking, is_turn, lacks_answer, lacks_frame}
-pub use Rattle.sound_state.specs.TurnStages.{lacks_partial, out_of_turn}
+pub use Rattle.sound_state.specs.TurnStages.{in_turn, is_unneeded, turn_stage_of, is_seeking, is_turn, lacks_answer, lacks_frame}
+pub use Rattle.errand_steps.specs.tables.TurnStage.{continuation_turn_stage, out_of_turn}
+pub use Rattle.sound_state.specs.TurnStages.{lacks_partial}
 pub use Rattle.sound_state.specs.Turns.{IsTurned, emptied_out, gives_small, one_if, pops_left, refuses_small, cleared_of, errand_discards, errand_pops}
 pub use Rattle.sound_state.specs.Turns.{is_small_alloc, is_small_free, turn_open, turn_unanswered, turn_unframed, turn_unlisted, turns_of}
 pub use Rattle.stack_parts.specs.Piles.{head_name, next_name, pile_limit}

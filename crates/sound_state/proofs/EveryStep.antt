@@ -1,9 +1,9 @@
 -- Every step of every caller keeps the state sound.
 use Rattle.std.proofs.Common.{ℕ, Bool, ◌≡◌, ◌<◌, refl, ap, sym, inl, inr, ◌∙◌, IsTrue, true≢false}
 use Rattle.std.proofs.lemmas.Bool.{cases_eq, cases_Bool}
-use Rattle.sound_state.proofs.Common.{Geometry, head_of, SeatFields, Site, BlockPoint, DescPoint, PartialPoint, is_empty, Pile, StackPoint, head_name, Continuation}
-use Rattle.sound_state.proofs.Common.{Point, Idle, Block, Stack, Desc, Partial, Large, asked, plan_point_of, State, Step, IsSoundWithoutCounts, anchor_for, clears}
-use Rattle.sound_state.proofs.Common.{is_idle}
+use Rattle.sound_state.proofs.Common.{Geometry, head_of, SeatFields, Site, BlockPoint, DescPoint, PartialPoint, is_empty, Pile, StackPoint, head_name, Continuation, Point}
+use Rattle.sound_state.proofs.Common.{Idle, Block, Stack, Desc, Partial, Large, asked, plan_point_of, State, Step, IsSoundWithoutCounts, anchor_for, clears, is_idle}
+use Rattle.sound_state.proofs.Common.{LargePoint, shelf_word}
 use Rattle.superblock_parts.specs.declared.point.BlockPoint.TheVariants as block
 use Rattle.hazard_parts.specs.declared.point.DescPoint.TheVariants as desc
 use Rattle.partial_parts.specs.declared.point.PartialPoint.TheVariants as partial
@@ -24,7 +24,17 @@ use Rattle.sound_state.proofs.shifts.ShiftSteps.{return_credits-sound, grant-sou
 use Rattle.sound_state.proofs.stacks.StackSteps.{pop_top-sound}
 use Rattle.sound_state.proofs.stacks.StackRetires.{push_top-sound}
 use Rattle.sound_state.proofs.tellings.ConfirmSteps.{confirm_empty-sound}
-use Rattle.sound_state.proofs.large.TouchShown.{large-sound}
+use Rattle.packed_words.specs.declared.shelf.ShelfWord.TheVariants as shelf
+use Rattle.word_table.specs.declared.name.WordName.TheVariants as name
+use Rattle.large_parts.specs.declared.point.LargePoint.TheVariants as large
+use Rattle.sound_state.proofs.large.TouchFrees.{free_run-sound}
+use Rattle.sound_state.proofs.large.TouchPrefix.{store_run_prefix-sound}
+use Rattle.sound_state.proofs.large.TouchShelves.{put_block-sound, take_block-sound, confirm_nothing-sound}
+use Rattle.sound_state.proofs.large.TouchTakes.{take_run-sound}
+use Rattle.sound_state.proofs.large.TouchWords.{store_word-sound}
+use Rattle.sound_state.proofs.quiet.QuietExchanges.{either-sound}
+use Rattle.sound_state.proofs.quiet.QuietLarge.{load_units-sound, take_run_lost-sound, load_run_prefix-sound, load_shelf-sound, load_word-sound, put_block_lost-sound}
+use Rattle.sound_state.proofs.quiet.QuietLarge.{take_block_lost-sound, confirm_nothing_lost-sound}
 use Rattle.sound_state.proofs.anchors.AnchorSteps.{store_anchor-sound}
 use Rattle.sound_state.proofs.quiet.QuietBlocks.{load_active-sound}
 use Rattle.sound_state.proofs.quiet.QuietCredits.{take_credit-sound, install_credits-sound}
@@ -33,9 +43,8 @@ use Rattle.sound_state.proofs.quiet.QuietPops.{load_info-sound, load_anchor-soun
 use Rattle.sound_state.proofs.quiet.QuietPushes.{load_guarded_owner-sound, load_prefix-sound, load_push_anchor-sound}
 use Rattle.sound_state.proofs.quiet.QuietPartials as partials
 use Rattle.sound_state.proofs.retirements.RetirePartials as retired
-use Rattle.sound_state.proofs.quiet.QuietEnds.{clear_ends-sound}
 use Rattle.sound_state.proofs.quiet.QuietLinks.{store_below-sound, store_next_desc-sound}
-use Rattle.sound_state.proofs.quiet.QuietStacks.{load_top-sound, load_below-sound, load_top_to_push-sound}
+use Rattle.sound_state.proofs.quiet.QuietStacks.{clear_ends-sound, load_top-sound, load_below-sound, load_top_to_push-sound}
 use Rattle.sound_state.proofs.shared.KeepsSound.{KeepsSound, KeepsSoundWhere}
 
 -- the load of an empty head keeps the state sound: an allocation or a clearing goes on, and a clearing without a superblock ends
@@ -185,6 +194,20 @@ partial-sound (partial.RemoveFromSlot seat d heap) o g s caller s' sound has sta
     let is : o ≡ continuation.Free = the-free o (fits-now g s caller _ sound has stands).goes in
     partials.remove_from_slot-sound seat d heap g s caller s' sound has (stands ∙ ap (Partial (partial.RemoveFromSlot seat d heap)) is) step
 partial-sound (partial.LoadListedAnchor seat d) o g s caller s' sound has stands step = listed-sound seat d o g s caller s' sound has stands step
+
+large-sound : (p : LargePoint) (o : Continuation) → KeepsSound (Large p o)
+large-sound (large.LoadUnits w) o = load_units-sound w o
+large-sound (large.TakeRun w bits) o = either-sound _ name.Units bits (take_run-sound w bits o) (take_run_lost-sound w bits o)
+large-sound (large.StoreRunPrefix place run) o = store_run_prefix-sound place run o
+large-sound (large.LoadRunPrefix place run) o = load_run_prefix-sound place run o
+large-sound (large.FreeRun place run) o = free_run-sound place run o
+large-sound (large.StoreWord place i value) o = store_word-sound place i value o
+large-sound (large.LoadWord place i) o = load_word-sound place i o
+large-sound (large.PutBlock k place n) o = either-sound _ (name.Shelf k) (shelf_word shelf.Nothing) (put_block-sound k place n o) (put_block_lost-sound k place n o)
+large-sound (large.LoadShelf k) o = load_shelf-sound k o
+large-sound (large.TakeBlock k place n) o =
+    either-sound _ (name.Shelf k) (shelf_word (shelf.Block place n)) (take_block-sound k place n o) (take_block_lost-sound k place n o)
+large-sound (large.ConfirmNothing k) o = either-sound _ (name.Shelf k) (shelf_word shelf.Nothing) (confirm_nothing-sound k o) (confirm_nothing_lost-sound k o)
 
 -- a step from any point keeps the state sound
 step-at : (p : Point) → KeepsSound p

@@ -1,7 +1,6 @@
 -- Every state that callers reach is sound.
 use Rattle.std.proofs.Common.{ℕ, ◌<◌, List, [], ◌∷◌, sym, subst}
-use Rattle.sound_state.proofs.Common.{Geometry, State, IsSound, IsSoundWithoutCounts, Call, alloc, free, write, read, put, BeginsCall, Move, begins, steps, Moved}
-use Rattle.sound_state.proofs.Common.{Reaches}
+use Rattle.sound_state.proofs.Common.{Geometry, State, IsSound, IsSoundWithoutCounts, Call, alloc, free, write, read, put, BeginsCall, Move, begins, steps, Moved, Reaches}
 use Rattle.errand_steps.specs.Calls.{take}
 use Rattle.pool_model.specs.Legal.{IsLegal}
 use Rattle.sound_state.proofs.CountedLemmas.{without-counts, with-counts, steps-counted}

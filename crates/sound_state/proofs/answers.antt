@@ -1,4 +1,3 @@
 pub mod AnswerCourses
 pub mod AnswerPoints
-pub mod LargeAnswers
 pub mod StepAnswers

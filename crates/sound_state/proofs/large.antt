@@ -3,7 +3,6 @@ pub mod TouchFrees
 pub mod TouchPrefix
 pub mod TouchPrefixes
 pub mod TouchShelves
-pub mod TouchShown
 pub mod TouchSteps
 pub mod TouchTakes
 pub mod TouchTies

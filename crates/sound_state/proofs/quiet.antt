@@ -1,7 +1,6 @@
 pub mod QuietBlocks
 pub mod QuietCredits
 pub mod QuietDescs
-pub mod QuietEnds
 pub mod QuietExchanges
 pub mod QuietLarge
 pub mod QuietLemmas

@@ -6,6 +6,7 @@ pub mod CallerLemmas
 pub mod ClearedLemmas
 pub mod CreditLemmas
 pub mod EventFacts
+pub mod FormedLemmas
 pub mod FrameLemmas
 pub mod GivenBlocks
 pub mod GuardEffects
@@ -46,3 +47,4 @@ pub mod WeighLemmas
 pub mod WeightSums
 pub mod WonEffects
 pub mod WordFacts
+pub mod WrittenWords

@@ -2,13 +2,13 @@
 use Rattle.std.specs.Prelude.{ℕ, ◌≡◌, ◌<◌, ◌≤◌, ◌+◌, Some, List, [], Contains, slice_index, length}
 use Rattle.heap_geometry.specs.declared.geometry.Geometry.{Geometry}
 use Rattle.word_table.specs.declared.name.WordName.TheVariants as name
-use Rattle.hazard_parts.specs.declared.point.DescPoint.{DescPoint}
-use Rattle.hazard_parts.specs.declared.point.DescPoint.TheVariants as desc
 use Rattle.errand_steps.specs.declared.point.Point.{Point}
 use Rattle.errand_steps.specs.declared.point.Point.TheVariants as point
 use Rattle.errand_steps.specs.Fits.{spare_of, pushed_by}
 use Rattle.errand_steps.specs.Steps.{State}
-use Rattle.sound_state.specs.Holdings.{HazardState, clear, left, named, guarded, owned, holds_of}
+use Rattle.errand_steps.specs.tables.Holding.{HazardState, clear, left, named, guarded, owned}
+use Rattle.sound_state.specs.Holdings.{holds_of}
+use Rattle.errand_steps.specs.tables.Descs.{passed_by_desc, held_by_desc}
 
 -- the caller's hazard word is as its state at the caller's point asks
 abbrev pub IsHazard : HazardState → ℕ → Type 0
@@ -31,18 +31,9 @@ pub record Guards (s : State) (caller d : ℕ) : Type 0 where
   pub word : s.word (name.Hazard caller) ≡ d + 1
   pub guard : IsGuard (holds_of (s.errand caller).point).hazard
 
--- how many hazard words a caller's scan has passed, and what the hazard words named that it noted
-abbrev pub passed_by_desc : DescPoint → ℕ
-passed_by_desc (desc.ReadHazard s held at) = at
-passed_by_desc p = 0
-
 abbrev pub passed_by : Point → ℕ
 passed_by (point.Desc p o) = passed_by_desc p
 passed_by p = 0
-
-abbrev pub held_by_desc : DescPoint → List ℕ
-held_by_desc (desc.ReadHazard s held at) = held
-held_by_desc p = []
 
 abbrev pub held_by : Point → List ℕ
 held_by (point.Desc p o) = held_by_desc p

@@ -13,7 +13,8 @@ use Rattle.word_table.specs.Counts.{descriptor_count}
 use Rattle.word_table.specs.Occurs.{occurs}
 use Rattle.errand_steps.specs.Errands.{ErrandFields}
 use Rattle.errand_steps.specs.Steps.{State}
-use Rattle.sound_state.specs.Holdings.{Status, reserving, waiting, partly_used, on_its_way, holds_of}
+use Rattle.errand_steps.specs.tables.Holding.{Status, reserving, waiting, partly_used, on_its_way}
+use Rattle.sound_state.specs.Holdings.{holds_of}
 use Rattle.sound_state.specs.Lists.{Lists}
 use Rattle.sound_state.specs.Sums.{sum_below, words_sum, callers_sum}
 use Rattle.sound_state.specs.Superblocks.{anchor_for, info_for, errand_keeps}

@@ -29,10 +29,14 @@ pub record IsOwnErrand (g : Geometry) (caller : ℕ) (e : ErrandFields) : Type 0
   pub rule : IsErrand e
   pub lost : e.lost < 2 ^ 64
 
--- the words, the errands and the events of the state go together, with these lists
-pub record IsSoundWith (g : Geometry) (s : State) (l : Lists) : Type 0 where
+-- each word is one of 64 bits, and each errand its caller's own
+pub record IsFormed (g : Geometry) (s : State) : Type 0 where
   pub words : (n : WordName) → s.word n < 2 ^ 64
   pub errands : (caller : ℕ) → caller < g.callers → IsOwnErrand g caller (s.errand caller)
+
+-- the words, the errands and the events of the state go together, with these lists
+pub record IsSoundWith (g : Geometry) (s : State) (l : Lists) : Type 0 where
+  pub formed : IsFormed g s
   pub listed : IsListed g s.word l
   pub kept : IsKept g s l
   pub chained : AreChained g s l

@@ -5,17 +5,17 @@ use Rattle.heap_geometry.specs.declared.limits.TheConstants.{CLASSES}
 use Rattle.word_table.specs.declared.name.WordName.{WordName}
 use Rattle.word_table.specs.declared.name.WordName.TheVariants as name
 use Rattle.word_table.specs.Counts.{descriptor_count}
-use Rattle.hazard_parts.specs.declared.point.DescPoint.{DescPoint}
-use Rattle.hazard_parts.specs.declared.point.DescPoint.TheVariants as desc
 use Rattle.errand_steps.specs.declared.point.Point.{Point}
 use Rattle.errand_steps.specs.declared.point.Point.TheVariants as point
 use Rattle.errand_steps.specs.Errands.{ErrandFields}
 use Rattle.errand_steps.specs.Steps.{State}
-use Rattle.sound_state.specs.Holdings.{Kept, holds_of}
+use Rattle.errand_steps.specs.tables.Holding.{Kept}
+use Rattle.sound_state.specs.Holdings.{holds_of}
 use Rattle.sound_state.specs.Keepers.{full_keeps}
 use Rattle.sound_state.specs.Lists.{Lists}
 use Rattle.sound_state.specs.Sums.{sum_below, words_sum, callers_sum}
 use Rattle.sound_state.specs.Superblocks.{anchor_for, info_for}
+use Rattle.errand_steps.specs.tables.Descs.{waits_in_desc}
 
 -- 1 where an active word or a slot of the class holds a descriptor
 abbrev pub word_stock : ℕ → WordName → ℕ → ℕ
@@ -28,19 +28,11 @@ abbrev pub stock_among : ℕ → List Kept → ℕ
 stock_among class [] = 0
 stock_among class (k ∷ rest) = (if k.class == class then 1 else 0) + stock_among class rest
 
--- 1 where a caller saw the class's list empty and has no descriptor yet; and with how many descriptors it keeps for the class
-abbrev pub waits_in_desc : ℕ → DescPoint → ℕ
-waits_in_desc class (desc.LoadDescHead s) = if s.class == class then 1 else 0
-waits_in_desc class (desc.StoreHazard s d) = if s.class == class then 1 else 0
-waits_in_desc class (desc.ReloadDescHead s d) = if s.class == class then 1 else 0
-waits_in_desc class (desc.LoadNextDesc s d) = if s.class == class then 1 else 0
-waits_in_desc class (desc.PopDesc s d next) = if s.class == class then 1 else 0
-waits_in_desc class p = 0
-
 abbrev pub waits_in : ℕ → Point → ℕ
 waits_in class (point.Desc p o) = waits_in_desc class p
 waits_in class p = 0
 
+-- the same, and with how many descriptors the caller keeps for the class
 abbrev pub errand_stock : ℕ → ErrandFields → ℕ
 errand_stock class e = stock_among class (holds_of e.point).kept + waits_in class e.point
 

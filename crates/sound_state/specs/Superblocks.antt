@@ -18,7 +18,8 @@ use Rattle.partial_parts.specs.Grants.{is_empty}
 use Rattle.pool_model.specs.Pool.{Block, block_at, pool_of}
 use Rattle.errand_steps.specs.Errands.{ErrandFields}
 use Rattle.errand_steps.specs.Steps.{State}
-use Rattle.sound_state.specs.Holdings.{Reserved, Kept, Status, reserving, waiting, partly_used, on_its_way, holds_of}
+use Rattle.errand_steps.specs.tables.Holding.{Reserved, Kept, Status, reserving, waiting, partly_used, on_its_way}
+use Rattle.sound_state.specs.Holdings.{holds_of}
 use Rattle.sound_state.specs.Lists.{Lists}
 use Rattle.sound_state.specs.Sums.{words_sum, callers_sum}
 

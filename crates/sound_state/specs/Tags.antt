@@ -1,19 +1,13 @@
 -- The tags of anchors: one more for each block that is popped.
-use Rattle.std.specs.Prelude.{ℕ, Bool, false, ◌≡◌, ◌+◌, ◌==◌, ◌&&◌, List, [], ◌∷◌}
+use Rattle.std.specs.Prelude.{ℕ, Bool, false, ◌≡◌, ◌+◌, ◌&&◌, List, [], ◌∷◌}
 use Rattle.heap_geometry.specs.declared.geometry.Geometry.{Geometry}
-use Rattle.superblock_parts.specs.declared.point.BlockPoint.{BlockPoint}
-use Rattle.superblock_parts.specs.declared.point.BlockPoint.TheVariants as block
 use Rattle.errand_steps.specs.declared.point.Point.{Point}
 use Rattle.errand_steps.specs.declared.point.Point.TheVariants as point
 use Rattle.errand_steps.specs.Steps.{State, found_at}
 use Rattle.sound_state.specs.Consequences.{IsBound}
 use Rattle.sound_state.specs.Runs.{Move, begins, steps, Moved}
 use Rattle.sound_state.specs.Turns.{one_if}
-
--- whether a caller at the point is about to pop a block of d
-abbrev pub pops_block : ℕ → BlockPoint → Bool
-pops_block d (block.PopBlock at share a prefix) = at.desc == d
-pops_block d p = false
+use Rattle.errand_steps.specs.tables.Blocks.{pops_block}
 
 abbrev pub pops_at : ℕ → Point → Bool
 pops_at d (point.Block p o) = pops_block d p

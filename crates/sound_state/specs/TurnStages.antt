@@ -1,72 +1,10 @@
 -- How far an allocation of a small block is.
 use Rattle.std.specs.Prelude.{Bool, true, false}
-use Rattle.superblock_parts.specs.declared.point.BlockPoint.{BlockPoint}
-use Rattle.superblock_parts.specs.declared.point.BlockPoint.TheVariants as block
-use Rattle.superblock_parts.specs.declared.point.Share.{Share}
-use Rattle.superblock_parts.specs.declared.point.Share.TheVariants.{Grant}
-use Rattle.partial_parts.specs.declared.point.PartialPoint.{PartialPoint}
-use Rattle.partial_parts.specs.declared.point.PartialPoint.TheVariants as partial
-use Rattle.errand_steps.specs.declared.continuation.Continuation.{Continuation}
-use Rattle.errand_steps.specs.declared.continuation.Continuation.TheVariants as continuation
 use Rattle.errand_steps.specs.declared.point.Point.{Point}
 use Rattle.errand_steps.specs.declared.point.Point.TheVariants as point
-
--- how far a caller is in a turn of a small block's allocation
-pub data TurnStage : Type 0 where
-  -- in no turn: the caller allocates no small block, or has its block already
-  out_of_turn : TurnStage
-  -- the caller is at the active word, or at a block that it takes of the active superblock
-  at_active : TurnStage
-  -- the caller found no superblock active, and looks for a partial one, or for a descriptor and a frame
-  searching : TurnStage
-  -- the caller has taken a partial superblock, or a grant of it
-  partial_taken : TurnStage
-  -- the caller has popped a frame: its new superblock is in the making, or waits
-  frame_taken : TurnStage
-  -- the caller's new superblock wasn't needed
-  not_needed : TurnStage
-  -- the caller was refused, and retires its descriptor before its call ends
-  turned_down : TurnStage
-  -- the caller has its block, and offers what it reserved beside
-  offering : TurnStage
-
--- how far a turn is at a point in a superblock, for who has this share of one
-abbrev pub share_turn_stage : Share → TurnStage
-share_turn_stage (Grant more) = partial_taken
-share_turn_stage share = at_active
-
-abbrev pub block_turn_stage : BlockPoint → TurnStage
-block_turn_stage (block.LoadActive s) = at_active
-block_turn_stage (block.TakeCredit s d credits) = at_active
-block_turn_stage (block.LoadInfo s d (Grant more)) = searching
-block_turn_stage (block.LoadInfo s d share) = at_active
-block_turn_stage (block.LoadAnchor at share) = share_turn_stage share
-block_turn_stage (block.LoadLink at share a) = share_turn_stage share
-block_turn_stage (block.PopBlock at share a prefix) = share_turn_stage share
-block_turn_stage (block.InstallCredits at i more) = offering
-block_turn_stage (block.InstallSuperblock at) = frame_taken
-block_turn_stage (block.LinkBlock at i) = frame_taken
-block_turn_stage (block.StoreInfo at) = frame_taken
-block_turn_stage (block.StoreAnchor at) = frame_taken
-block_turn_stage p = out_of_turn
-
--- how far a turn is by what waits behind a part
-abbrev pub continuation_turn_stage : Continuation → TurnStage
-continuation_turn_stage (continuation.Alloc words) = searching
-continuation_turn_stage (continuation.TakeFrame words d) = searching
-continuation_turn_stage (continuation.Look words) = searching
-continuation_turn_stage (continuation.Discard words d) = not_needed
-continuation_turn_stage (continuation.Turn words) = not_needed
-continuation_turn_stage continuation.Refuse = turned_down
-continuation_turn_stage o = out_of_turn
-
--- how far a turn is at a partial superblock
-abbrev pub partial_turn_stage : PartialPoint → Continuation → TurnStage
-partial_turn_stage (partial.LoadTakenInfo s d) o = partial_taken
-partial_turn_stage (partial.StoreOwner at) o = partial_taken
-partial_turn_stage (partial.LoadGrantAnchor at) o = partial_taken
-partial_turn_stage (partial.Grant at a) o = partial_taken
-partial_turn_stage p o = continuation_turn_stage o
+use Rattle.errand_steps.specs.tables.TurnStage.{TurnStage, out_of_turn, at_active, partial_taken, frame_taken, not_needed, turned_down, offering, continuation_turn_stage}
+use Rattle.errand_steps.specs.tables.Blocks.{block_turn_stage}
+use Rattle.errand_steps.specs.tables.Partials.{partial_turn_stage}
 
 -- how far a turn is at any point
 abbrev pub turn_stage_of : Point → TurnStage

@@ -6,7 +6,6 @@ use Rattle.heap_geometry.specs.declared.limits.TheConstants.{CLASSES, SMALL_MOST
 use Rattle.packed_words.specs.Head.{head_of}
 use Rattle.word_table.specs.declared.name.WordName.TheVariants as name
 use Rattle.word_table.specs.Counts.{descriptor_count}
-use Rattle.partial_parts.specs.declared.point.PartialPoint.TheVariants as partial
 use Rattle.partial_parts.specs.Grants.{is_empty}
 use Rattle.pool_model.specs.declared.event.Event.{Event}
 use Rattle.pool_model.specs.declared.event.Event.TheVariants.{Alloc, Refuse, Free}
@@ -21,6 +20,7 @@ use Rattle.sound_state.specs.TurnStages.{turn_stage_of, in_turn, lacks_frame, la
 use Rattle.sound_state.specs.Sums.{sum_below, callers_sum}
 use Rattle.sound_state.specs.Superblocks.{anchor_for, away_of}
 use Rattle.heap_geometry.specs.Place.{frame_of}
+use Rattle.errand_steps.specs.tables.Partials.{partial_pops}
 
 -- whether the event gives a small block to this caller, refuses it one, gives one to anybody, or frees one
 abbrev pub gives_small : ℕ → Event → Bool
@@ -64,9 +64,7 @@ abbrev pub pops_left : Point → ℕ
 pops_left (point.Block p o) = 0
 pops_left (point.Stack p o) = continuation_pops o
 pops_left (point.Desc p o) = continuation_pops o
-pops_left (point.Partial (partial.LoadHeldSlot s d heap) o) = 2
-pops_left (point.Partial (partial.RemoveFromSlot s d heap) o) = 2
-pops_left (point.Partial (partial.LoadListedAnchor s d) continuation.Clear) = 1
+pops_left (point.Partial p o) = partial_pops p o
 pops_left p = 0
 
 abbrev pub errand_pops : ErrandFields → ℕ

@@ -120,7 +120,7 @@ pub so-far-lost :
     → ((errand_at old.errands caller).lost ≤ (errand_at now.errands caller).lost)
     × ((errand_at now.errands caller).lost ≤ (errand_at old.errands caller).lost + stale_words old.geometry (state_of old) caller)
 so-far-lost old now caller steps has h =
-    let leads = so-far-leads old now caller steps has h in (leads.lost, omega (arith, leads.met))
+    let leads = so-far-leads old now caller steps has h in (leads.spends.lost, omega (arith, leads.met))
 
 pub so-far-first :
     (old now : CoreFields) (caller steps : ℕ) → caller < old.geometry.callers → IsSoFar old now caller steps → (e : ErrandFields) (call : Call)
@@ -136,4 +136,4 @@ pub so-far-cleared :
     → ((errand_at old.errands caller).cleared ≤ (errand_at now.errands caller).cleared)
     × ((errand_at now.errands caller).cleared ≤ (errand_at old.errands caller).cleared + clearings old.geometry (state_of old) caller)
 so-far-cleared old now caller steps has h =
-    let leads = so-far-leads old now caller steps has h in (leads.cleared, omega (arith, leads.emptied))
+    let leads = so-far-leads old now caller steps has h in (leads.spends.cleared, omega (arith, leads.emptied))

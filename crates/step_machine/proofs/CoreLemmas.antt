@@ -116,7 +116,7 @@ errand-own c value caller x core view below read =
     let callers : c.geometry.callers ≡ value.geometry.callers = ap (λ (v : CoreFields). v.geometry.callers) view in
     let below' : caller < c.geometry.callers = omega (arith, callers) in
     let P : ErrandFields → Type 0 = IsOwnErrand c.geometry caller in
-    subst P (sym (get_or_read c.errands caller x (omega (arith, core.errands)) read no_errand)) ((core-sound c core).parts.1.errands caller below')
+    subst P (sym (get_or_read c.errands caller x (omega (arith, core.errands)) read no_errand)) ((core-sound c core).parts.1.formed.errands caller below')
 
 -- a word of the heap of an errand that is read is one of the machine's
 pub errand-heap :

@@ -43,10 +43,10 @@ module _ (e f : ErrandFields) (before after : List Event) (answer : Progress) (m
   moment-sound = steps-counted e.geometry m.state e.caller m.next m.sound m.has m.step
 
   pub moment-own : IsOwnErrand e.geometry e.caller e
-  moment-own = subst (IsOwnErrand e.geometry e.caller) m.here (m.sound.parts.1.errands e.caller m.has)
+  moment-own = subst (IsOwnErrand e.geometry e.caller) m.here (m.sound.parts.1.formed.errands e.caller m.has)
 
   pub moment-own_after : IsOwnErrand e.geometry e.caller f
-  moment-own_after = subst (IsOwnErrand e.geometry e.caller) m.there (moment-sound.parts.1.errands e.caller m.has)
+  moment-own_after = subst (IsOwnErrand e.geometry e.caller) m.there (moment-sound.parts.1.formed.errands e.caller m.has)
 
   -- the reply with which the step ends its call is so
   pub moment-meant : (r : Reply) → answer ≡ progress.Done r → IsMeant e.geometry m.state e.caller r m.next

@@ -23,7 +23,7 @@ reached-served g s made caller run has =
     record {
       checked = sound.checked;
       has = has;
-      own_errand = sound.parts.1.errands caller has;
+      own_errand = sound.parts.1.formed.errands caller has;
       legal = sound.legal;
       answers = sound.parts.1.turned.own_answers caller has;
       by_lost = sound.parts.1.turned.own_lost caller has;
@@ -43,7 +43,7 @@ pub core-moment :
 core-moment c after caller answer core has stepped =
     let s = state_of c in
     let e : ErrandFields = errand_at c.errands caller in
-    let mine : IsOwnErrand c.geometry caller e = (core-sound c core).parts.1.errands caller has in
+    let mine : IsOwnErrand c.geometry caller e = (core-sound c core).parts.1.formed.errands caller has in
     record {
       has = subst (λ g. e.caller < g.callers) (sym mine.geometry) (subst (λ k. k < c.geometry.callers) (sym mine.number) has);
       state = s;

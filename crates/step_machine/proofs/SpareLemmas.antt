@@ -8,7 +8,7 @@ use Rattle.pool_model.specs.declared.event.Event.TheVariants.{Alloc, Refuse, Fre
 use Rattle.pool_model.specs.Calls.{Ended, EventsOf, IsGiving, IsRefusing, IsSpending, looks}
 use Rattle.pool_model.specs.Calls as ended
 use Rattle.errand_steps.specs.Calls.{Call, alloc, free, write, read, put, take}
-use Rattle.call_events.specs.Stages.{StageOfCall, asking, asking_run, refused, given, freeing, freed, writing, reading, putting, taking}
+use Rattle.errand_steps.specs.tables.CallStage.{StageOfCall, asking, asking_run, refused, given, freeing, freed, writing, reading, putting, taking}
 use Rattle.call_events.specs.UnderWay.{SoFar, HasLooked}
 use Rattle.step_machine.specs.Keeping.{AllSpare, LeavesPlace, LeavesAtEnd}
 

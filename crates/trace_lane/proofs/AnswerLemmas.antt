@@ -148,13 +148,13 @@ pub settled-of :
     → IsSettled e f before after answer
 settled-of e f before after answer m =
     let x = found_at m.state e.caller in
-    let own_errand = m.sound.parts.1.errands e.caller m.has in
+    let own_errand = m.sound.parts.1.formed.errands e.caller m.has in
     record {
       x = x;
       rule = subst IsErrand m.here own_errand.rule;
       lost = subst (λ (d : ErrandFields). d.lost < 2 ^ 64) m.here own_errand.lost;
       busy = subst IsBusy m.here m.step.busy;
-      word = m.sound.parts.1.words (name_at m.state e.caller);
+      word = m.sound.parts.1.formed.words (name_at m.state e.caller);
       won = subst (λ (d : ErrandFields). x.won ≡ is_won (plan_of d) x.value) m.here refl;
       settled = sym m.there ∙ m.step.errand.here ∙ ap (λ (d : ErrandFields). settle_of d x) m.here;
       answers = m.answers;
@@ -326,7 +326,7 @@ ends-read e f before after added place need i v m way =
       is_word =
           subst (λ k. IsWord (slice_index_or says.2.contents k None) v) at.1
           (word-read (slice_index_or says.2.contents says.1 None) v says.8);
-      fits = subst (λ n. n < 2 ^ 64) (sym says.7) (sound.parts.1.words (name.Arena (says.0 + 1 + says.1)));
+      fits = subst (λ n. n < 2 ^ 64) (sym says.7) (sound.parts.1.formed.words (name.Arena (says.0 + 1 + says.1)));
     }
 
 ends-full :

@@ -16,7 +16,7 @@ use Rattle.pool_model.proofs.HistoryLemmas.{pool_of-push, push-append}
 use Rattle.pool_model.proofs.OwnerLemmas.{free-elsewhere, others-keep, owner-one}
 use Rattle.pool_model.proofs.PoolLemmas.{block_at-past, block_at-without_other, block_at-changed_other}
 use Rattle.errand_steps.specs.Calls.{alloc}
-use Rattle.call_events.specs.Stages.{StageOfCall, asking, asking_run, refused, given}
+use Rattle.errand_steps.specs.tables.CallStage.{StageOfCall, asking, asking_run, refused, given}
 use Rattle.call_events.specs.UnderWay.{HasLooked, SoFar}
 
 -- the event neither gives the block at this place away nor writes into it; none of the events does

@@ -1,4 +1,4 @@
-use Rattle.std.proofs.Common.{w32, to_z, of_z, ◌≡◌, Some, Result, sym, ap, ◌∙◌}
+use Rattle.std.proofs.Common.{w32, to_z, of_z, ◌≡◌, Result}
 use Rattle.balloc_c.specs.declared.refusal.Refusal.{Refusal}
 use Rattle.balloc_c.specs.Codes.{code_in}
 use Rattle.balloc_c.specs.Outcomes.{Makes}
@@ -10,7 +10,8 @@ pub returns-in-Some : goal.returns-in-Some
 returns-in-Some c =
     record {
       told = made (Makes (λ s t. HasReadRange s t c.args.id c.args.from c.args.words.now c.read_range-outcome.new.words))
-          (λ (outcome : Result (Unit {0}) Refusal). (to_z w32 (of_z w32 c.code_of.result) ≡ code_in outcome) × IsFound outcome c.args.words.now c.read_range-outcome.new.words) c.args.pass.now.held.hand c.give.new.self.held.hand
-          c.deref_mut.result.now c.read_range-outcome.new.self c.read_range-outcome.result (c.in-Some.ensures.value ∙ ap Some (sym c.deref_mut.ensures.value))
-          c.give.ensures (shown c.read_range-outcome.result c.code_of.result c.code_of.ensures, c.read_range-outcome.ensures.found) c.read_range-outcome.ensures.made;
+          (λ (outcome : Result (Unit {0}) Refusal). (to_z w32 (of_z w32 c.code_of.result) ≡ code_in outcome)
+          × IsFound outcome c.args.words.now c.read_range-outcome.new.words)
+          c.args.pass.now.held.hand c.in-Some.hand.now c.read_range-outcome.new.self c.read_range-outcome.result c.in-Some.ensures.value
+          (shown c.read_range-outcome.result c.code_of.result c.code_of.ensures, c.read_range-outcome.ensures.found) c.read_range-outcome.ensures.made;
     }

@@ -1,4 +1,4 @@
-use Rattle.std.proofs.Common.{w32, to_z, of_z, ℕ, ◌≡◌, Option, Some, Result, sym, ap, ◌∙◌}
+use Rattle.std.proofs.Common.{w32, to_z, of_z, ℕ, ◌≡◌, Option, Result}
 use Rattle.balloc_c.specs.declared.refusal.Refusal.{Refusal}
 use Rattle.balloc_c.specs.Codes.{resumed_code, resumed_number}
 use Rattle.balloc_c.specs.Outcomes.{HasResumed, Makes}
@@ -9,7 +9,8 @@ pub returns-in-Some : goal.returns-in-Some
 returns-in-Some c =
     record {
       told = made (Makes (λ s t. HasResumed s t))
-          (λ (outcome : Result (Option ℕ) Refusal). (to_z w32 (of_z w32 c.code_resumed.result) ≡ resumed_code outcome) × (c.code_resumed.new.out ≡ resumed_number outcome c.args.id.now)) c.args.pass.now.held.hand c.give.new.self.held.hand
-          c.deref_mut.result.now c.resume-outcome.new.self c.resume-outcome.result (c.in-Some.ensures.value ∙ ap Some (sym c.deref_mut.ensures.value))
-          c.give.ensures (shown_resumed c.resume-outcome.result c.code_resumed.result c.code_resumed.ensures.code, c.code_resumed.ensures.value) c.resume-outcome.ensures.made;
+          (λ (outcome : Result (Option ℕ) Refusal). (to_z w32 (of_z w32 c.code_resumed.result) ≡ resumed_code outcome)
+          × (c.code_resumed.new.out ≡ resumed_number outcome c.args.id.now))
+          c.args.pass.now.held.hand c.in-Some.hand.now c.resume-outcome.new.self c.resume-outcome.result c.in-Some.ensures.value
+          (shown_resumed c.resume-outcome.result c.code_resumed.result c.code_resumed.ensures.code, c.code_resumed.ensures.value) c.resume-outcome.ensures;
     }

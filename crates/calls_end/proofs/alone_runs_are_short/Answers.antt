@@ -13,8 +13,8 @@ returns-clause-few c =
 
 pub returns-clause-lost : goal.returns-clause-lost
 returns-clause-lost c =
-    λ g s caller turns n after sound has run. let leads = runs-alone g turns s caller n after sound has run in (leads.lost, leads.met)
+    λ g s caller turns n after sound has run. let leads = runs-alone g turns s caller n after sound has run in (leads.spends.lost, leads.met)
 
 pub returns-clause-cleared : goal.returns-clause-cleared
 returns-clause-cleared c =
-    λ g s caller turns n after sound has run. let leads = runs-alone g turns s caller n after sound has run in (leads.cleared, leads.emptied)
+    λ g s caller turns n after sound has run. let leads = runs-alone g turns s caller n after sound has run in (leads.spends.cleared, leads.emptied)

@@ -1,17 +1,17 @@
 -- A step that stores the anchor of a new superblock: its descriptor gets it, and nothing else changes.
 use Rattle.std.proofs.Common.{ℕ, true, ◌≡◌, ◌≢◌, ◌<◌, ◌≤◌, ◌+◌, refl, arith, ap, ◌∙◌}
 use Rattle.sound_state.proofs.Common.{Geometry, anchor_of, anchor_word, WordName, Site, IsSiteOf, Writes, new_credits, ErrandFields, State, Moves, waiting, on_its_way}
-use Rattle.sound_state.proofs.Common.{holds_of, errand_has, Lists, IsSoundWith, words_sum, callers_sum, anchor_for, info_for, is_bound, away_of, errand_away}
-use Rattle.sound_state.proofs.Common.{errand_keeps, kept_among, waiting_of, word_reserves, reserved_of, anchor_of-anchor_word, new_anchor, making}
+use Rattle.sound_state.proofs.Common.{holds_of, errand_has, Lists, IsSoundWith, words_sum, callers_sum, anchor_for, info_for, is_bound, away_of, errand_away, errand_keeps}
+use Rattle.sound_state.proofs.Common.{kept_among, waiting_of, word_reserves, reserved_of, anchor_of-anchor_word, new_anchor, making}
 use Rattle.word_table.specs.declared.name.WordName.TheVariants as name
 use Rattle.sound_state.proofs.shared.UnplacedLemmas.{IsUnplaced, way-unplaced}
-use Rattle.sound_state.proofs.shared.WaitsAlone.{new_anchor-fits}
 use Rattle.sound_state.proofs.anchors.NewSuperblocks.{unbound-reserves}
 use Rattle.sound_state.proofs.shared.SumLemmas.{callers-none, sum-least, term-sum}
-use Rattle.sound_state.proofs.shared.HoldingEffects.{HoldingEffects, waits-go, ways-go, credits-go, away-goes, places-go}
-use Rattle.sound_state.proofs.shared.MakingWeights.{is_it, it-elsewhere, installing_holds, making-others, making-places, installing-waits, installing-others}
-use Rattle.sound_state.proofs.shared.MakingWeights.{installing-credits, installing-apart, it-here, making-ways}
+use Rattle.sound_state.proofs.shared.HoldingEffects.{HoldingEffects, waits-go, ways-go, credits-go, away-goes}
+use Rattle.sound_state.proofs.shared.MakingWeights.{is_it, it-elsewhere, installing_holds, making-others, installing-waits, installing-others, installing-credits}
+use Rattle.sound_state.proofs.shared.MakingWeights.{installing-apart, it-here, making-ways}
 use Rattle.sound_state.proofs.shared.SuperblockEffects.{AnchorEffects, anchor-still, anchors-stay, info-stays, weights-stay}
+use Rattle.sound_state.proofs.shared.WrittenWords.{new_anchor-fits}
 
 -- a caller stores the anchor of its new superblock, and all else stays
 pub record Anchors (g : Geometry) (s : State) (l : Lists) (caller : ℕ) (at : Site) (e : ErrandFields) (s' : State) : Type 0 where
@@ -46,15 +46,11 @@ module _ {g : Geometry} {s : State} {l : Lists} {caller : ℕ} {at : Site} {e : 
   pub anchored-waits : (d : ℕ) → waiting_of g s' d ≡ waiting_of g s d + is_it at d
   anchored-waits d = omega (arith, waits-go anchored-holds d, making-others waiting at d refl, installing-waits at d)
 
-  pub anchored-ways :
-      (d : ℕ) → callers_sum g (errand_keeps on_its_way d) s'.errand + is_it at d ≡ callers_sum g (errand_keeps on_its_way d) s.errand
+  pub anchored-ways : (d : ℕ) → callers_sum g (errand_keeps on_its_way d) s'.errand + is_it at d ≡ callers_sum g (errand_keeps on_its_way d) s.errand
   anchored-ways d = omega (arith, ways-go anchored-holds d, making-ways at d, installing-others on_its_way at d refl)
 
   pub anchored-away : (d : ℕ) → away_of g s' l d + is_it at d ≡ away_of g s l d
   anchored-away d = omega (arith, away-goes anchored-holds l d, making-ways at d, installing-others on_its_way at d refl)
-
-  pub anchored-has : (d : ℕ) → callers_sum g (errand_has d) s'.errand ≡ callers_sum g (errand_has d) s.errand
-  anchored-has d = omega (arith, places-go anchored-holds d, making-places at d)
 
   -- before the store of its new superblock's anchor a descriptor is on its way, and nowhere else
   on-its-way : errand_keeps on_its_way at.desc (s.errand caller) ≡ 1

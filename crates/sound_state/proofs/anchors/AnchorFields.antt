@@ -1,9 +1,9 @@
 -- The store of a new superblock's anchor keeps the chains, the frames, the places of descriptors, the lists and what is remembered.
-use Rattle.std.proofs.Common.{ℕ, Bool, true, false, ◌≡◌, ◌≢◌, ◌<◌, refl, arith, ap, sym, subst, inl, inr, ◌∙◌, ◌==◌, ◌&&◌, if◌then◌else◌, IsTrue}
+use Rattle.std.proofs.Common.{ℕ, Bool, ◌≡◌, ◌≢◌, ◌<◌, refl, arith, ap, sym, subst, inl, inr, ◌∙◌, ◌==◌, ◌&&◌, if◌then◌else◌, IsTrue}
 use Rattle.std.proofs.Math.Path.{fun_ext}
 use Rattle.std.proofs.lemmas.Bool.{cases_eq}
 use Rattle.sound_state.proofs.Common.{Geometry, block_count_of, block_place, Site, link_in, ErrandFields, State, IsFramed, fills_frame, Lists, IsListed, IsLocated}
-use Rattle.sound_state.proofs.Common.{IsSoundWith, AreChained, IsChained, info_for, is_bound, live_at, superblock_of, waiting_of, AreMade}
+use Rattle.sound_state.proofs.Common.{IsSoundWith, AreChained, IsChained, info_for, is_bound, live_at, superblock_of, waiting_of, AreMade, pool_of}
 use Rattle.sound_state.proofs.anchors.AnchorFacts.{Anchors, anchored-holds, anchored-write, anchored-anchor, anchored-here, anchored-waits, anchored-bound}
 use Rattle.sound_state.proofs.anchors.AnchorFacts.{anchored-reserved, anchored-credits, anchored-none, anchored-free}
 use Rattle.sound_state.proofs.shared.FrameLemmas.{waiting-fills}
@@ -16,8 +16,7 @@ use Rattle.sound_state.proofs.shared.SuperblocksStay.{same-superblock}
 
 -- what isn't bound fills no frame
 unbound-fill : (b : Bool) (n x f : ℕ) → (IsTrue b → ⊥) → ◌≡◌ {A = ℕ} (if b && (n == 0) && (x == f) then 1 else 0) 0
-unbound-fill true n x f none = absurd (none refl)
-unbound-fill false n x f none = refl
+unbound-fill b n x f none = grind (arith, none)
 
 module _ {g : Geometry} {s : State} {l : Lists} {caller : ℕ} {at : Site} {e : ErrandFields} {s' : State} (h : Anchors g s l caller at e s') where
   anchored-lie : LieStill s s'
@@ -30,7 +29,7 @@ module _ {g : Geometry} {s : State} {l : Lists} {caller : ℕ} {at : Site} {e : 
   pub anchored-superblock : (d : ℕ) → d ≢ at.desc → superblock_of g s' d ≡ superblock_of g s d
   anchored-superblock d differ =
       same-superblock _ _ _ _ _ _ _ _ _ _ _ _ (anchored-anchor h d differ) (anchored-reserved h d differ)
-      (anchored-others-wait d differ) (next-stays anchored-lie g d) (live-stays anchored-lie g h.history d) (size-stays anchored-lie g d)
+      (anchored-others-wait d differ) (next-stays anchored-lie g d) (live-stays anchored-lie g (ap pool_of h.history) d) (size-stays anchored-lie g d)
 
   -- the new superblock is as it was made
   pub anchored-new :
@@ -42,7 +41,7 @@ module _ {g : Geometry} {s : State} {l : Lists} {caller : ℕ} {at : Site} {e : 
       next-stays anchored-lie g d ∙ ap (λ x. link_in s.word x (info_for s d).class) lies.frame ∙ ap (λ x. link_in s.word at.frame x) lies.class in
       same-superblock _ _ _ _ _ _ _ _ _ _ _ _ (anchored-here h)
       (omega (arith, anchored-credits h, none.0)) (omega (arith, anchored-waits h d, it-here at, none.1)) next
-      (live-stays anchored-lie g h.history d ∙ fun_ext (located-live g s d at.frame at.seat.class lies))
+      (live-stays anchored-lie g (ap pool_of h.history) d ∙ fun_ext (located-live g s d at.frame at.seat.class lies))
       (size-stays anchored-lie g d ∙ ap block_count_of lies.class)
 
   -- the chains of bound superblocks are in order after the store of an anchor

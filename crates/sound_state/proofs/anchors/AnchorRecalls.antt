@@ -1,8 +1,8 @@
 -- The store of a new superblock's anchor keeps what the other callers remember.
 use Rattle.std.proofs.Common.{ℕ, ◌≡◌, ◌≢◌, ◌<◌, ◌≤◌, arith, ap, sym, subst, ◌∙◌, IsTrue, All}
 use Rattle.std.proofs.lemmas.List.Elements.{All-cons, recursion_from_All}
-use Rattle.sound_state.proofs.Common.{Continuation, Geometry, Site, is_empty, own, Point, ErrandFields, State, on_its_way, Lists, IsLocated, IsSo, bound_here}
-use Rattle.sound_state.proofs.Common.{recalls_of, IsSoundWith, callers_sum, kept_among, is_bound, errand_keeps, IsEmptied, IsRemembered}
+use Rattle.sound_state.proofs.Common.{Continuation, Geometry, Site, is_empty, own, Point, ErrandFields, State, on_its_way, Lists, IsLocated, IsSo, bound_here, recalls_of}
+use Rattle.sound_state.proofs.Common.{IsSoundWith, callers_sum, kept_among, is_bound, errand_keeps, IsEmptied, IsRemembered}
 use Rattle.superblock_parts.specs.declared.point.BlockPoint.TheVariants as block
 use Rattle.errand_steps.specs.declared.point.Point.TheVariants as point
 use Rattle.sound_state.proofs.shared.MakingWeights.{it-here, making-ways, is_it}

@@ -1,30 +1,30 @@
 -- The store of a new superblock's anchor keeps the state sound.
 use Rattle.std.proofs.Common.{ℕ, Option, Some, None, ◌≡◌, ◌<◌, ◌≤◌, ◌+◌, refl, arith, ap, sym, inl, ◌∙◌}
-use Rattle.sound_state.proofs.Common.{Geometry, block_count_of, block_place, frame_of-block_place, anchor_word, info_of, Site, IsSiteOf, Writes, BlockPoint}
-use Rattle.sound_state.proofs.Common.{block_at, pool_of, Continuation, Block, ErrandFields, counts_lost, event_of, next_of, plan_point_of, State}
-use Rattle.sound_state.proofs.Common.{holds_of, Lists, IsLocated, recalls_of, IsSoundWith, IsOwnErrand, turn_stage_of, info_or_zero, anchor_for, away_of, is_there}
-use Rattle.sound_state.proofs.Common.{live_at, IsTurned, one_if, pops_left, emptied_out, anchor_word-below, info-exact, info_at, new_anchor, lacks_partial}
-use Rattle.sound_state.proofs.Common.{turn_unlisted, errand_pops}
+use Rattle.sound_state.proofs.Common.{Geometry, block_count_of, block_place, frame_of-block_place, anchor_word, info_of, Site, IsSiteOf, Writes, BlockPoint, block_at}
+use Rattle.sound_state.proofs.Common.{pool_of, Continuation, Block, ErrandFields, event_of, next_of, plan_point_of, State, holds_of, Lists, IsLocated, recalls_of}
+use Rattle.sound_state.proofs.Common.{IsSoundWith, turn_stage_of, info_or_zero, anchor_for, away_of, is_there, live_at, IsTurned, one_if, pops_left, emptied_out}
+use Rattle.sound_state.proofs.Common.{info-exact, info_at, new_anchor, lacks_partial, turn_unlisted, errand_pops}
 use Rattle.word_table.specs.declared.name.WordName.TheVariants as name
 use Rattle.superblock_parts.specs.declared.point.BlockPoint.TheVariants as block
 use Rattle.pool_model.specs.Pool.{Block as Live}
-use Rattle.sound_state.specs.TurnStages.{block_turn_stage, frame_taken}
+use Rattle.errand_steps.specs.tables.Blocks.{block_turn_stage}
+use Rattle.errand_steps.specs.tables.TurnStage.{frame_taken}
 use Rattle.sound_state.proofs.anchors.AnchorFacts.{Anchors, anchored-anchor, anchored-here, anchored-away, anchored-home}
 use Rattle.sound_state.proofs.anchors.AnchorFields.{anchored-chained, anchored-framed, anchored-listed}
 use Rattle.sound_state.proofs.anchors.AnchorKept.{anchored-kept}
 use Rattle.sound_state.proofs.anchors.AnchorRecalls.{anchored-remembered}
 use Rattle.sound_state.proofs.anchors.AnchorRests.{anchored-stocked, anchored-guarded, anchored-tied}
+use Rattle.sound_state.specs.Stock.{waits_in}
 use Rattle.sound_state.proofs.shared.MakingPlaces.{is-making, live-unmade}
-use Rattle.sound_state.proofs.shared.WaitsAlone.{new_anchor-fits}
 use Rattle.sound_state.proofs.shared.PointLemmas.{fits-at, recalled-at}
-use Rattle.sound_state.proofs.shared.StepLemmas.{at_point, words-below, raised-least, found_from}
-use Rattle.sound_state.proofs.shared.TurnEffects.{TurnWeighs, emptied-kept, head-tag, no-event, stage-weighs, turned-after}
+use Rattle.sound_state.proofs.shared.StepLemmas.{at_point, found_from, keeps-counts}
+use Rattle.sound_state.proofs.shared.TurnEffects.{TurnWeighs, emptied-kept, head-tag, no-event, stage-weighs, turned-after, counts-kept}
 use Rattle.sound_state.proofs.shared.MakingWeights.{it-here, it-elsewhere}
 use Rattle.sound_state.proofs.shared.WonEffects.{StepEffects, step-effects}
 use Rattle.sound_state.proofs.shared.SuperblockEffects.{of-each}
 use Rattle.sound_state.proofs.shared.WordFacts.{site-info}
 use Rattle.sound_state.proofs.shared.KeepsSound.{KeepsSound, silent-sound}
-use Rattle.sound_state.proofs.shared.CallerLemmas.{each-caller}
+use Rattle.sound_state.proofs.shared.CallerLemmas.{KeepsCounts}
 
 -- a caller that makes a superblock is in a turn
 making-weighs : (e : ErrandFields) (b : BlockPoint) (o : Continuation) → e.point ≡ Block b o → block_turn_stage b ≡ frame_taken → TurnWeighs e 1 0 0
@@ -34,9 +34,8 @@ making-weighs e b o stands is = stage-weighs frame_taken e (ap turn_stage_of sta
 anchored-turned :
     (g : Geometry) (s : State) (l : Lists) (caller : ℕ) (at : Site) (e : ErrandFields) (s' : State) (o : Continuation) → Anchors g s l caller at e s'
     → (s.errand caller).point ≡ Block (block.StoreAnchor at) o → e.point ≡ Block (block.InstallSuperblock at) o
-    → e.turns ≡ (s.errand caller).turns → (s.errand caller).lost ≤ e.lost → e.cleared ≡ (s.errand caller).cleared
-    → IsSoundWith g s l → IsTurned g s' l
-anchored-turned g s l caller at e s' o h before after turns lost cleared old =
+    → KeepsCounts (s.errand caller) e → IsSoundWith g s l → IsTurned g s' l
+anchored-turned g s l caller at e s' o h before after own old =
     let turned = old.turned in
     let p = making-weighs (s.errand caller) (block.StoreAnchor at) o before refl in
     let q = making-weighs e (block.InstallSuperblock at) o after refl in
@@ -58,18 +57,15 @@ anchored-turned g s l caller at e s' o h before after turns lost cleared old =
       in_heap = h.in_heap;
       moves = h.moves;
       events = events;
-      own_turns = omega (arith, turned.own_turns caller h.in_heap, events.gives, p.under_way, q.under_way, turns);
-      own_lost =
-          omega (arith, turned.own_lost caller h.in_heap, events.gives, events.refuses caller, p.unanswered, q.discards, q.unanswered, turns, lost);
-      own_answers = omega (arith, turned.own_answers caller h.in_heap, events.gives, events.refuses caller, p.unanswered, q.unanswered, turns);
+      counts = counts-kept turned h.in_heap events own p q refl (omega arith);
       anchor_tags = λ d has.
           of-each (λ k. (anchor_for s' k).tag ≤ (anchor_for s k).tag + 0) at.desc
           (omega (arith, ap (λ a. a.tag) (anchored-here h)))
           (λ d differ. omega (arith, ap (λ a. a.tag) (anchored-anchor h d differ))) d;
-      frame_turns = omega (arith, head-tag (h.writes.elsewhere name.FrameHead (λ is. cc)), q.unframed, turns);
-      emptied = omega (arith, emptied_same, cleared);
+      frame_turns = omega (arith, head-tag (h.writes.elsewhere name.FrameHead (λ is. cc)), q.unframed, own.turns);
+      emptied = omega (arith, emptied_same, own.cleared);
       list_turns = λ class has.
-          omega (arith, head-tag (h.writes.elsewhere (name.ListHead class) (λ is. cc)), unlisted, q.unlisted, pops, turns, cleared);
+          omega (arith, head-tag (h.writes.elsewhere (name.ListHead class) (λ is. cc)), unlisted, q.unlisted, pops, own.turns, own.cleared);
     })
     turned
 
@@ -89,7 +85,7 @@ store_anchor-sound site o g s caller s' sound has stands step =
     let x = found_from s p in
     let e = at_point (s.errand caller) x q in
     let fit : IsSiteOf g caller site = (fits-at g s l caller p old has stands).point in
-    let effects : StepEffects g s caller p x q s' = step-effects g s l caller s' p x q old has stands refl (inl refl) step in
+    let effects : StepEffects s caller p x q s' = step-effects s caller s' p x q stands refl (inl refl) step in
     let past : s'.history ≡ s.history = effects.history in
     let w : Writes s.word (name.Anchor site.desc) (anchor_word (new_anchor c)) s'.word = effects.writes in
     let h : Anchors g s l caller site e s' = record {
@@ -115,22 +111,16 @@ store_anchor-sound site o g s caller s' sound has stands step =
     (λ b live.
     live-unmade g s l caller site.frame (block_place site.frame c i) b b.need sound old has fit.frame
     (is-making s caller p site stands refl) live refl (frame_of-block_place site.frame c i lt)) in
-    silent-sound g s s' l sound past
-    (record {
-      words =
-          words-below s.word (name.Anchor site.desc) (anchor_word (new_anchor c)) s'.word w old.words
-          (anchor_word-below (new_anchor c) (new_anchor-fits c));
-      errands = each-caller g (IsOwnErrand g) s.errand caller e s'.errand effects.moves effects.rule old.errands;
+    silent-sound g s caller s' l sound has step past
+    (λ formed. record {
+      formed = formed;
       listed = anchored-listed h old;
       kept = anchored-kept h old lies;
       chained = anchored-chained h old lies links_made unlive;
       framed = anchored-framed h old;
       remembered = anchored-remembered h old lies o refl;
-      guarded = anchored-guarded g s l caller site e s' o h refl old;
-      stocked = anchored-stocked g s l caller site e s' o h stands refl old;
-      turned =
-          anchored-turned g s l caller site e s' o h stands refl refl
-          (raised-least (counts_lost (s.errand caller).point x) (s.errand caller).lost (old.errands caller has).lost)
-          effects.cleared old;
+      guarded = anchored-guarded g s l caller site e s' h (grind (arith)) old;
+      stocked = anchored-stocked g s l caller site e s' h (λ class. ap (waits_in class) stands) (λ class. refl) old;
+      turned = anchored-turned g s l caller site e s' o h stands refl (keeps-counts (s.errand caller) p x q stands refl refl) old;
       tied = anchored-tied h old;
     })

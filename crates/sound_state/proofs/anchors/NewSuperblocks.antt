@@ -1,29 +1,22 @@
 -- A new superblock: before its anchor is stored nobody has reserved blocks of it, and after it its blocks are in order.
-use Rattle.std.proofs.Common.{ℕ, true, zero, suc, Option, Some, None, ◌≡◌, ◌≢◌, ◌<◌, ◌≤◌, ◌+◌, ◌-◌, List, refl, arith, ap, sym, subst, ◌∙◌, ◌==◌, IsTrue, nat_lt}
-use Rattle.std.proofs.Common.{if◌then◌else◌, ne_eqb, lt-ltb, ltb-true}
+use Rattle.std.proofs.Common.{ℕ, true, zero, suc, Option, ◌≡◌, ◌≢◌, ◌<◌, ◌≤◌, ◌+◌, ◌-◌, List, refl, arith, ap, sym, subst, ◌∙◌, ◌==◌, IsTrue, nat_lt, if◌then◌else◌, ne_eqb}
+use Rattle.std.proofs.Common.{lt-ltb, ltb-true}
 use Rattle.std.specs.List.{AllByRecursion}
 use Rattle.std.proofs.lemmas.Bool.{cond-true, cond-false, cond_both}
 use Rattle.std.proofs.lemmas.List.Elements.{recursion_from_All}
-use Rattle.sound_state.proofs.Common.{Geometry, CLASSES, block_count_of, block_place, ActiveWord, Null, Held, active_of, link_of, WordName, word_count, word_name}
-use Rattle.sound_state.proofs.Common.{occurs, new_credits, link_in, BlockPoint, Share, Credit, LastCredit, Grant, StackPoint, DescPoint, PartialPoint, LargePoint}
-use Rattle.sound_state.proofs.Common.{Continuation, Point, State, holds_before_pop, holds_of, word_keeps, Lists, IsSo, recalls_of, IsSoundWith, words_sum, callers_sum}
+use Rattle.sound_state.proofs.Common.{Geometry, CLASSES, block_count_of, block_place, ActiveWord, link_of, WordName, word_count, word_name, occurs, new_credits, link_in}
+use Rattle.sound_state.proofs.Common.{BlockPoint, Share, Point, State, holds_before_pop, holds_of, word_keeps, Lists, IsSo, recalls_of, IsSoundWith, words_sum, callers_sum}
 use Rattle.sound_state.proofs.Common.{Superblock, IsChained, is_bound, free_chain, live_at, word_reserves, reserved_among, errand_reserves, reserved_of}
-use Rattle.sound_state.proofs.Common.{block_count_of-least, block_count_of-most, new_anchor, chain_of, block_holds, stack_holds, desc_holds, partial_holds}
-use Rattle.sound_state.proofs.Common.{active_keeps, AreMade, block_recalls, offered}
-use Rattle.word_table.specs.declared.name.WordName.TheVariants as name
+use Rattle.sound_state.proofs.Common.{block_count_of-least, block_count_of-most, new_anchor, chain_of, block_holds, active_keeps, AreMade, block_recalls, offered}
 use Rattle.superblock_parts.specs.Anchors.{new_link}
-use Rattle.superblock_parts.specs.declared.point.BlockPoint.TheVariants as block
 use Rattle.errand_steps.specs.declared.point.Point.TheVariants as point
-use Rattle.sound_state.specs.Holdings.{large_holds}
 use Rattle.sound_state.proofs.beginnings.OpeningLists.{indexes, indexes-before, indexes-once, indexes-end, indexes-chained}
 use Rattle.sound_state.proofs.shared.SumLemmas.{sum-none, term-sum, callers-none}
 use Rattle.sound_state.proofs.shared.RecallTables.{bound-differs}
 
 -- blocks of another descriptor that a caller has reserved are none of this one
 before-other : (e d class : ℕ) (share : Share) → e ≢ d → reserved_among d (holds_before_pop e class share).credits ≡ 0
-before-other e d class Credit differ = grind (arith, ne_eqb e d differ)
-before-other e d class LastCredit differ = grind (arith, ne_eqb e d differ)
-before-other e d class (Grant more) differ = grind (arith, ne_eqb e d differ)
+before-other e d class share differ = grind (arith, differ)
 
 one-other : (e d blocks : ℕ) → e ≢ d → (if e == d then blocks else 0) + 0 ≡ 0
 one-other e d blocks differ = grind (arith, ne_eqb e d differ)
@@ -31,47 +24,20 @@ one-other e d blocks differ = grind (arith, ne_eqb e d differ)
 -- a descriptor that isn't bound, of which no caller has reserved blocks
 module _ (g : Geometry) (s : State) (l : Lists) (i d : ℕ) (free : IsTrue (is_bound g s l d) → ⊥) where
   unbound-block : (p : BlockPoint) → AllByRecursion (IsSo g s l i) (block_recalls p) → reserved_among d (block_holds p).credits ≡ 0
-  unbound-block (block.LoadInfo seat e share) so = before-other e d seat.class share (bound-differs g s l d free _ so.0.0)
-  unbound-block (block.LoadAnchor at share) so = before-other at.desc d at.seat.class share (bound-differs g s l d free _ so.0.0)
-  unbound-block (block.LoadLink at share x) so = before-other at.desc d at.seat.class share (bound-differs g s l d free _ so.1.0.0)
-  unbound-block (block.PopBlock at share x prefix) so = before-other at.desc d at.seat.class share (bound-differs g s l d free _ so.1.1.0.0)
-  unbound-block (block.InstallCredits at k more) so = one-other at.desc d more (bound-differs g s l d free _ so.0.0)
-  unbound-block (block.InstallSuperblock at) so = one-other at.desc d (new_credits at.seat.class + 1) (bound-differs g s l d free _ so.1.0.0)
-  unbound-block (block.LoadReturn at k more) so = one-other at.desc d more (bound-differs g s l d free _ so.0.0)
-  unbound-block (block.ReturnCredits at k more x) so = one-other at.desc d more (bound-differs g s l d free _ so.0.0)
-  unbound-block p so = grind (arith)
+  unbound-block p so = grind (arith, so, bound-differs g s l d free, before-other, one-other)
 
-  -- nothing is reserved at a point out of a superblock
-  none-stack : (p : StackPoint) (o : Continuation) → reserved_among d (stack_holds p o).credits ≡ 0
-  none-stack p o = grind (arith)
-
-  none-desc : (p : DescPoint) (o : Continuation) → reserved_among d (desc_holds p o).credits ≡ 0
-  none-desc p o = grind (arith)
-
-  none-partial : (p : PartialPoint) (o : Continuation) → reserved_among d (partial_holds p o).credits ≡ 0
-  none-partial p o = grind (arith)
-
-  none-large : (p : LargePoint) → reserved_among d (large_holds p).credits ≡ 0
-  none-large p = grind (arith)
-
+  -- a caller at any point has reserved nothing of a descriptor that isn't bound
   unbound-point : (p : Point) → AllByRecursion (IsSo g s l i) (recalls_of p) → reserved_among d (holds_of p).credits ≡ 0
   unfolding holds_of recalls_of
-  unbound-point point.Idle so = refl
   unbound-point (point.Block p o) so = unbound-block p so
-  unbound-point (point.Stack p o) so = none-stack p o
-  unbound-point (point.Desc p o) so = none-desc p o
-  unbound-point (point.Partial p o) so = none-partial p o
-  unbound-point (point.Large p o) so = none-large p
+  unbound-point p so = grind (arith)
 
 -- an active word that doesn't hold a descriptor offers no blocks of it
 held-none : (d : ℕ) (o : Option ActiveWord) → active_keeps d o ≡ 0 → offered d o ≡ 0
-held-none d None none = refl
-held-none d (Some Null) none = refl
-held-none d (Some (Held e credits)) none = grind (arith, none)
+held-none d o none = grind (arith, none)
 
 word-reserves-none : (d : ℕ) (n : WordName) (w : ℕ) → word_keeps d n w ≡ 0 → word_reserves d n w ≡ 0
-word-reserves-none d (name.Active heap class) w none = held-none d (active_of w) none
-word-reserves-none d n w none = refl
+word-reserves-none d n w none = grind (arith, none, held-none)
 
 -- a descriptor that isn't bound, and that no active word or slot holds, has no reserved blocks
 pub unbound-reserves :
@@ -126,8 +92,7 @@ new-fit c has = grind (arith, block_count_of-least c has)
 
 -- the blocks of a new superblock but its first one are free, one behind the other
 new-chain :
-    (s : State) (f c : ℕ) → c < CLASSES → AreMade s f c (block_count_of c)
-    → free_chain (new_superblock s f c) ≡ indexes 1 (block_count_of c - 1)
+    (s : State) (f c : ℕ) → c < CLASSES → AreMade s f c (block_count_of c) → free_chain (new_superblock s f c) ≡ indexes 1 (block_count_of c - 1)
 new-chain s f c has made_all =
     let all : (block_count_of c - 1) - (new_credits c + 1) + (new_credits c + 1) ≡ block_count_of c - 1 = omega (arith, new-fit c has) in
     ap (λ k. chain_of (link_in s.word f c) k 1) all
@@ -135,9 +100,7 @@ new-chain s f c has made_all =
     (omega (arith, block_count_of-least c has)) (λ i lt. made-next s f c i made_all lt)
 
 -- each block of a new superblock is free, or held back
-new-once :
-    (count i live : ℕ) (xs : List ℕ) → xs ≡ indexes 1 (count - 1) → i < count → live ≡ 0
-    → occurs i xs + live + (if i == 0 then 1 else 0) ≡ 1
+new-once : (count i live : ℕ) (xs : List ℕ) → xs ≡ indexes 1 (count - 1) → i < count → live ≡ 0 → occurs i xs + live + (if i == 0 then 1 else 0) ≡ 1
 new-once count zero live xs chain lt none = omega (arith, ap (occurs 0) chain, indexes-before 1 (count - 1) 0 (omega arith), none)
 new-once count (suc i) live xs chain lt none =
     let behind : ◌≡◌ {A = ℕ} (if suc i == 0 then 1 else 0) 0 =

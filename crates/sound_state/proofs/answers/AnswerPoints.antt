@@ -1,19 +1,17 @@
 -- With which answer a call ends at each point.
-use Rattle.std.proofs.Common.{ℕ, Bool, true, false, Option, Some, None, ◌≡◌, refl, arith, inl, inr, ◌⊎◌, if◌then◌else◌, IsTrue}
+use Rattle.std.proofs.Common.{ℕ, Bool, true, false, Option, None, ◌≡◌, arith, ◌⊎◌, if◌then◌else◌, IsTrue}
 use Rattle.heap_geometry.specs.declared.need.Need.TheVariants as need
-use Rattle.sound_state.proofs.Common.{block_place, Found, BlockPoint, StackPoint, DescPoint, PartialPoint, LargePoint, Continuation, At, Large, Reply, ErrandFields}
-use Rattle.sound_state.proofs.Common.{Prefix, ShelfWord, Onward, settle_block_of, settle_stack_of, settle_desc_of, settle_partial_of, LargeExit, after_shelf}
-use Rattle.sound_state.proofs.Common.{WantFields, RunFields, enter_block, enter_stack, enter_desc, enter_partial, enter_large}
-use Rattle.packed_words.specs.declared.prefix.Prefix.TheVariants as prefix
-use Rattle.packed_words.specs.declared.shelf.ShelfWord.TheVariants as lies
+use Rattle.sound_state.proofs.Common.{block_place, Found, BlockPoint, StackPoint, DescPoint, PartialPoint, LargePoint, Continuation, Reply, ErrandFields, Onward}
+use Rattle.sound_state.proofs.Common.{settle_block_of, settle_stack_of, settle_desc_of, settle_partial_of, LargeExit, WantFields, enter_block, enter_stack, enter_desc}
+use Rattle.sound_state.proofs.Common.{enter_partial, enter_large}
 use Rattle.superblock_parts.specs.declared.point.BlockPoint.TheVariants as block
 use Rattle.stack_parts.specs.declared.point.StackPoint.TheVariants as stack
 use Rattle.hazard_parts.specs.declared.point.DescPoint.TheVariants as desc
-use Rattle.large_parts.specs.Points.{after_take, after_run_prefix}
+use Rattle.large_parts.specs.Points.{after_take}
 use Rattle.errand_steps.specs.declared.continuation.Continuation.TheVariants as continuation
 use Rattle.errand_steps.specs.declared.reply.Reply.TheVariants as reply
 use Rattle.errand_steps.specs.Nexts.{leave_large}
-use Rattle.errand_steps.specs.Continuations.{goes_partial}
+use Rattle.errand_steps.specs.tables.Partials.{goes_partial}
 use Rattle.sound_state.proofs.answers.AnswerCourses.{IsResumed, EndsBy}
 
 -- the answer of a call that ends in a superblock: a block is given, or a free ends
@@ -58,32 +56,15 @@ partial-ends e p o x r goes ends = grind (arith, goes, ends)
 pub either-ends :
     (e : ErrandFields) (won : Bool) (p q : Onward LargePoint LargeExit) (o : Continuation) (r : Reply) → EndsBy e (enter_large (if won then p else q) o) r
     → ((won ≡ true) × EndsBy e (enter_large p o) r) ⊎ ((won ≡ false) × EndsBy e (enter_large q o) r)
-either-ends e true p q o r ends = inl (refl, ends)
-either-ends e false p q o r ends = inr (refl, ends)
+either-ends e won p q o r ends = grind (arith, ends)
 
 pub either-left :
     (e : ErrandFields) (won : Bool) (a b : LargeExit) (o : Continuation) (r : Reply) → EndsBy e (leave_large (if won then a else b) o) r
     → ((won ≡ true) × EndsBy e (leave_large a o) r) ⊎ ((won ≡ false) × EndsBy e (leave_large b o) r)
-either-left e true a b o r ends = inl (refl, ends)
-either-left e false a b o r ends = inr (refl, ends)
+either-left e won a b o r ends = grind (arith, ends)
 
 -- a call that ends when it takes a run is refused: no run is free
 pub take-ends :
     (e : ErrandFields) (w : WantFields) (o : Continuation) (first : Option ℕ) (r : Reply) → EndsBy e (enter_large (after_take w first) o) r
     → (first ≡ None) × (r ≡ reply.Refused)
-take-ends e w o None r ends = (refl, ends)
-take-ends e w o (Some first) r ends = absurd ends
-
--- a load of a run's prefix word or of a shelf never ends a call
-pub prefix-goes-on :
-    (e : ErrandFields) (place : ℕ) (run : RunFields) (o : Continuation) (word : Option Prefix) (r : Reply)
-    → EndsBy e (At (Large (after_run_prefix place run word) o)) r → ⊥
-prefix-goes-on e place run o None r ends = ends
-prefix-goes-on e place run o (Some (prefix.Small d)) r ends = ends
-prefix-goes-on e place run o (Some (prefix.Large units)) r ends = ends
-
-pub shelf-goes-on :
-    (e : ErrandFields) (k : ℕ) (o : Continuation) (word : Option ShelfWord) (r : Reply) → EndsBy e (At (Large (after_shelf k word) o)) r → ⊥
-shelf-goes-on e k o None r ends = ends
-shelf-goes-on e k o (Some lies.Nothing) r ends = ends
-shelf-goes-on e k o (Some (lies.Block place n)) r ends = ends
+take-ends e w o first r ends = grind (arith, ends)

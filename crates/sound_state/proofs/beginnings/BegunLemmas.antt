@@ -1,15 +1,14 @@
 -- A call that begins keeps the state sound.
-use Rattle.std.proofs.Common.{ℕ, false, ◌≡◌, ◌<◌, ◌≤◌, ◌+◌, List, [], ◌∷◌, refl, arith, sym, subst, inl, inr, ◌∙◌, ◌^◌, All, count_by}
+use Rattle.std.proofs.Common.{ℕ, false, ◌≡◌, ◌<◌, ◌+◌, List, [], ◌∷◌, refl, arith, sym, subst, inl, inr, ◌^◌, All}
 use Rattle.std.proofs.Math.Path.{fun_ext}
 use Rattle.std.proofs.lemmas.Bool.{cases_eq, cases_Bool, cond-true, cond-false}
 use Rattle.std.proofs.lemmas.List.Elements.{All-nil, All-cons}
 use Rattle.std.proofs.lemmas.Option.{none-some}
-use Rattle.sound_state.proofs.Common.{Geometry, Need, Small, need_of, block_place, frame_of, pool_of, place-found, sound-of, WordName, Writes, Point, Idle}
-use Rattle.sound_state.proofs.Common.{ErrandFields, State, Moves, IsGuard, IsHazard, Holding, holds_of, IsKeptAs, IsWithout}
-use Rattle.sound_state.proofs.Common.{Lists, IsSo, IsOwned, recalls_of, IsSoundWith, IsOwnErrand, IsSoundWithoutCounts, turn_stage_of, in_turn, is_unneeded}
-use Rattle.sound_state.proofs.Common.{gives_small, refuses_small, one_if, pops_left, SHELVES, TooLarge, usable_words, index_of, IsWellFormed, every-each, IsIdle}
-use Rattle.sound_state.proofs.Common.{begins_alloc, alloc_begun, free_begun, write_begun, read_begun, put_begun, take_begun, IsErrand, is_spent, one_more, Freed}
-use Rattle.sound_state.proofs.Common.{nothing, with_errands, lacks_frame, lacks_partial, lacks_answer, out_of_turn, turn_open, turn_unanswered, errand_discards}
+use Rattle.sound_state.proofs.Common.{Geometry, Need, Small, need_of, block_place, frame_of, pool_of, place-found, sound-of, WordName, Writes, Point, Idle, ErrandFields}
+use Rattle.sound_state.proofs.Common.{State, Moves, Holding, holds_of, IsKeptAs, IsWithout, Lists, IsSo, IsOwned, recalls_of, IsSoundWith, IsSoundWithoutCounts}
+use Rattle.sound_state.proofs.Common.{turn_stage_of, in_turn, is_unneeded, one_if, pops_left, SHELVES, TooLarge, usable_words, index_of, IsWellFormed, every-each, IsIdle}
+use Rattle.sound_state.proofs.Common.{begins_alloc, alloc_begun, free_begun, write_begun, read_begun, put_begun, take_begun, IsErrand, is_spent, one_more, Freed, nothing}
+use Rattle.sound_state.proofs.Common.{with_errands, lacks_frame, lacks_partial, lacks_answer, out_of_turn}
 use Rattle.heap_geometry.specs.declared.need.Need.TheVariants.{Large}
 use Rattle.heap_geometry.proofs.PlaceLemmas.{block_place-split}
 use Rattle.word_table.specs.declared.name.WordName.TheVariants as name
@@ -19,7 +18,8 @@ use Rattle.sound_state.proofs.shared.AlikeLemmas.{sound-alike}
 use Rattle.sound_state.proofs.shared.ShownLemmas.{MayGoOn, MayGuard}
 use Rattle.sound_state.proofs.shared.StepLemmas.{HoldsException, actives-stay}
 use Rattle.sound_state.proofs.shared.WeighLemmas.{WeighAlike, WeighMost, alike-most, weigh-alike, weigh-emptied}
-use Rattle.sound_state.proofs.shared.TurnEffects.{IsQuiet}
+use Rattle.sound_state.proofs.shared.TurnEffects.{IsQuiet, OwnCounts, own-counts}
+use Rattle.sound_state.proofs.shared.FormedLemmas.{formed-begun}
 
 -- what a caller holds that holds nothing but blocks which it frees
 abbrev pub freeing : List Freed → Holding
@@ -54,18 +54,7 @@ pub begun-weighs :
     (g : Geometry) (s : State) (l : Lists) (caller : ℕ) (a : ErrandFields) (p : Point) (turns : ℕ) (blocks : List Freed) → IsIdle a
     → BeginsAt g s l caller p blocks → (n : WordName) (w : ℕ) → WeighAlike n w w a (record a { point = p; turns = turns })
 unfolding holds_of
-begun-weighs g s l caller a p turns blocks idle b n w =
-    let was = idle-is a.point idle in
-    record {
-      still = λ plain. refl;
-      reserves = λ d. rw (was, b.fresh.holds) refl;
-      waits = λ d. rw (was, b.fresh.holds) refl;
-      ways = λ d. rw (was, b.fresh.holds) refl;
-      away = λ d. rw (was, b.fresh.holds) refl;
-      places = λ d. rw (was, b.fresh.holds) refl;
-      frames = λ f. rw (was, b.fresh.holds) refl;
-      stock = λ class. rw (was, b.fresh.holds, b.fresh.quiet.waits class) refl;
-    }
+begun-weighs g s l caller a p turns blocks idle b n w = grind (arith, idle, b, idle-is)
 
 -- a caller that holds nothing excepts no block
 not-excepts : (place : ℕ) → HoldsException nothing place → ⊥
@@ -76,39 +65,32 @@ not-excepts place (inr x) = omega (arith, x.2)
 begun-may :
     (g : Geometry) (s : State) (l : Lists) (caller : ℕ) (a : ErrandFields) (p : Point) (t turns : ℕ) (blocks : List Freed)
     → IsSoundWith g s l → caller < g.callers → s.errand caller ≡ a → IsIdle a → BeginsAt g s l caller p blocks
-    → IsErrand (record a { point = p; turns = turns }) → TakesTurns p t a.turns turns → MayGoOn g s l caller a (record a { point = p; turns = turns })
+    → TakesTurns p t a.turns turns → MayGoOn g s l caller a (record a { point = p; turns = turns })
 unfolding holds_of
-begun-may g s l caller a p t turns blocks sound has stands idle b rule takes =
+begun-may g s l caller a p t turns blocks sound has stands idle b takes =
     let was = idle-is a.point idle in
-    let own = subst (IsOwnErrand g caller) stands (sound.errands caller has) in
-    let turned : count_by (gives_small caller) s.history + turn_open a ≤ a.turns =
-    subst (λ e. count_by (gives_small caller) s.history + turn_open e ≤ e.turns) stands (sound.turned.own_turns caller has) in
+    let counts : OwnCounts caller s.history a = subst (OwnCounts caller s.history) stands (own-counts g s l caller sound.turned has) in
     let idle_takes : TakesTurns a.point 0 0 0 = subst (λ q. TakesTurns q 0 0 0) (sym was) idle-takes in
     record {
-      rule = record { number = own.number; geometry = own.geometry; rule = rule; lost = own.lost };
-      retired = subst (λ e. All (IsWithout s) e.retired) stands (sound.kept.retired caller has);
-      kept = subst (λ h. All (λ k. IsKeptAs s k.status k.desc k.class) h.kept) (sym b.fresh.holds)
-          (All-nil (λ k. IsKeptAs s k.status k.desc k.class));
-      so = b.so;
-      full = λ is. let bad : ⊥ = omega (arith, is, b.fresh.quiet.spare) in absurd bad;
-      hands = subst (λ h. All (λ x. IsOwned s caller x.place x.need) h.hands) (sym b.fresh.holds) (All-nil (λ x. IsOwned s caller x.place x.need));
-      frees = subst (λ h. All (λ x. IsOwned s caller x.place x.need) h.frees) (sym b.fresh.holds) b.frees;
+      stands = record {
+        retired = subst (λ e. All (IsWithout s) e.retired) stands (sound.kept.retired caller has);
+        kept = subst (λ h. All (λ k. IsKeptAs s k.status k.desc k.class) h.kept) (sym b.fresh.holds)
+            (All-nil (λ k. IsKeptAs s k.status k.desc k.class));
+        so = b.so;
+        full = λ is. let bad : ⊥ = omega (arith, is, b.fresh.quiet.spare) in absurd bad;
+        hands = subst (λ h. All (λ x. IsOwned s caller x.place x.need) h.hands) (sym b.fresh.holds) (All-nil (λ x. IsOwned s caller x.place x.need));
+        frees = subst (λ h. All (λ x. IsOwned s caller x.place x.need) h.frees) (sym b.fresh.holds) b.frees;
+      };
       excepts = λ place x. absurd (not-excepts place (subst (λ q. HoldsException (holds_of q) place) was x));
-      own_turns = omega (arith, turned, takes.turns, takes.under_way);
-      own_lost =
-          let lost : a.turns + errand_discards a ≤ count_by (gives_small caller) s.history + count_by (refuses_small caller) s.history + a.lost + turn_unanswered a =
-          subst
-          (λ e. e.turns + errand_discards e
-          ≤ count_by (gives_small caller) s.history + count_by (refuses_small caller) s.history + e.lost + turn_unanswered e) stands
-          (sound.turned.own_lost caller has) in
-          omega (arith, lost, takes.turns, takes.discards, takes.unanswered, idle_takes.unanswered);
-      own_answers =
-          let answered : count_by (gives_small caller) s.history + count_by (refuses_small caller) s.history + turn_unanswered a ≤ a.turns =
-          subst (λ e. count_by (gives_small caller) s.history + count_by (refuses_small caller) s.history + turn_unanswered e ≤ e.turns) stands
-          (sound.turned.own_answers caller has) in
-          omega (arith, answered, takes.turns, takes.unanswered);
-      frame_turns = omega (arith, takes.turns, takes.unframed);
-      list_turns = omega (arith, takes.turns, takes.unlisted, b.fresh.pops);
+      counts = record {
+        own = record {
+          turns = omega (arith, counts.turns, takes.turns, takes.under_way);
+          lost = omega (arith, counts.lost, takes.turns, takes.discards, takes.unanswered, idle_takes.unanswered);
+          answers = omega (arith, counts.answers, takes.turns, takes.unanswered);
+        };
+        frame_turns = omega (arith, takes.turns, takes.unframed);
+        list_turns = omega (arith, takes.turns, takes.unlisted, b.fresh.pops);
+      };
     }
 
 -- a caller at the point where a call begins guards nothing, nor does it push or scan
@@ -116,17 +98,7 @@ begun-guards :
     (g : Geometry) (s : State) (l : Lists) (caller : ℕ) (p : Point) (retired : List ℕ) (blocks : List Freed) → IsSoundWith g s l
     → caller < g.callers → IsIdle (s.errand caller) → BeginsAt g s l caller p blocks → MayGuard g s caller p retired (s.word (name.Hazard caller))
 unfolding holds_of
-begun-guards g s l caller p retired blocks sound has idle b =
-    let was = idle-is (s.errand caller).point idle in
-    record {
-      hazard =
-          subst (λ h. IsHazard h.hazard (s.word (name.Hazard caller))) (sym b.fresh.holds)
-          (subst (λ e. IsHazard (holds_of e).hazard (s.word (name.Hazard caller))) was (sound.guarded.words caller has));
-      guard = λ d word guard. absurd (subst (λ h. IsGuard h.hazard) b.fresh.holds guard);
-      pushed = λ i d has_i guards is. absurd (none-some d (sym b.fresh.quiet.pushed ∙ is));
-      passed = λ i d has_i guards listed below. let bad : ⊥ = omega (arith, below, b.fresh.quiet.passed) in absurd bad;
-      unread = λ i passed below. let bad : ⊥ = omega (arith, below, b.fresh.quiet.unread) in absurd bad;
-    }
+begun-guards g s l caller p retired blocks sound has idle b = grind (arith, sound, has, idle, b, holds_of, idle-is, none-some)
 
 -- a caller that begins a call keeps the state sound
 begun-sound :
@@ -154,14 +126,13 @@ begun-sound g s caller p t turns blocks errands' sound has idle begins rule take
               in_heap = has;
               moves = moves;
               alike = weigh-alike g s l caller name.FrameHead word e (with_errands s errands') tt has stays moves refl weigh;
-              may = begun-may g s l caller (s.errand caller) p t turns blocks old has refl idle (begins l) rule takes;
+              may = begun-may g s l caller (s.errand caller) p t turns blocks old has refl idle (begins l) takes;
               others = λ i differ. refl;
               guards = begun-guards g s l caller p (s.errand caller).retired blocks old has idle (begins l);
               actives = actives-stay g s l s.word old.kept (λ n. refl);
-              words = old.words;
               emptied = omega (arith, weigh-emptied g s l caller name.FrameHead word e (with_errands s errands') has stays moves weigh);
             })
-            old,
+            old (formed-begun g s caller p turns errands' old.formed has rule moves),
       );
     }
 
@@ -210,7 +181,7 @@ alloc-from :
 unfolding holds_of recalls_of
 alloc-from g s caller words (Small class) errands' is sound has idle rule moves =
     let e = s.errand caller in
-    let own = sound.parts.1.errands caller has in
+    let own = sound.parts.1.formed.errands caller has in
     elim (cases_Bool (is_spent e)) [
       | inl spent ↦
           stays-sound g s caller errands' sound
@@ -245,7 +216,7 @@ pub alloc-sound :
 unfolding alloc_begun
 alloc-sound g s caller words errands' sound has idle moves =
     alloc-from g s caller words (need_of words) errands' refl sound has idle
-    (alloc-errand (s.errand caller) words (sound.parts.1.errands caller has).rule idle) moves
+    (alloc-errand (s.errand caller) words (sound.parts.1.formed.errands caller has).rule idle) moves
 
 -- an owned block is one of the heap's
 pub owned-block :
@@ -263,7 +234,7 @@ pub errand-block :
     (g : Geometry) (s : State) (caller place : ℕ) (n : Need) → IsSoundWithoutCounts g s → caller < g.callers → IsOwned s caller place n
     → IsHeapBlock (s.errand caller).geometry place n
 errand-block g s caller place n sound has owned =
-    subst (λ h. IsHeapBlock h place n) (sym (sound.parts.1.errands caller has).geometry) (owned-block g s caller place n sound owned)
+    subst (λ h. IsHeapBlock h place n) (sym (sound.parts.1.formed.errands caller has).geometry) (owned-block g s caller place n sound owned)
 
 -- a free that begins keeps the state sound
 pub free-sound :
@@ -273,7 +244,7 @@ pub free-sound :
 unfolding free_begun holds_of recalls_of
 free-sound g s caller place (Small class) errands' sound has idle owned moves =
     let block = owned-block g s caller place (Small class) sound owned in
-    let own = sound.parts.1.errands caller has in
+    let own = sound.parts.1.formed.errands caller has in
     let stands : block_place (frame_of place) class (index_of class place) ≡ place =
     block_place-split class place
     (block.1.0, block.1.1, omega (arith, block.1.2, sound.checked.frames.1), block.1.3, block.1.4) in
@@ -289,7 +260,7 @@ free-sound g s caller place (Small class) errands' sound has idle owned moves =
     (free-errand (s.errand caller) place (Small class) (errand-block g s caller place (Small class) sound has owned) own.rule idle)
     refl moves
 free-sound g s caller place (Large units) errands' sound has idle owned moves =
-    let own = sound.parts.1.errands caller has in
+    let own = sound.parts.1.formed.errands caller has in
     let freed : Freed = record { place = place; need = Large units; overwritten = false } in
     no-turn-sound g s caller _ (freed ∷ []) errands' sound has idle
     (λ l. record {
@@ -308,7 +279,7 @@ pub write-sound :
     → Moves s.errand caller (write_begun (s.errand caller) place i v) errands' → IsSoundWithoutCounts g (with_errands s errands')
 unfolding write_begun holds_of recalls_of
 write-sound g s caller place n i v errands' sound has idle owned below word moves =
-    let own = sound.parts.1.errands caller has in
+    let own = sound.parts.1.formed.errands caller has in
     bare-sound g s caller _ errands' sound has idle (grind (arith)) (λ l. All-cons (IsSo g s l caller) _ [] (n, owned, below) (All-nil (IsSo g s l caller)))
     (write-errand (s.errand caller) place n i v (errand-block g s caller place n sound has owned) below word own.rule idle) refl moves
 
@@ -318,7 +289,7 @@ pub read-sound :
     → Moves s.errand caller (read_begun (s.errand caller) place i) errands' → IsSoundWithoutCounts g (with_errands s errands')
 unfolding read_begun holds_of recalls_of
 read-sound g s caller place n i errands' sound has idle owned below moves =
-    let own = sound.parts.1.errands caller has in
+    let own = sound.parts.1.formed.errands caller has in
     bare-sound g s caller _ errands' sound has idle (grind (arith)) (λ l. All-cons (IsSo g s l caller) _ [] (n, owned, below) (All-nil (IsSo g s l caller)))
     (read-errand (s.errand caller) place n i (errand-block g s caller place n sound has owned) below own.rule idle) refl moves
 
@@ -328,7 +299,7 @@ pub put-sound :
     → Moves s.errand caller (put_begun (s.errand caller) place n k) errands' → IsSoundWithoutCounts g (with_errands s errands')
 unfolding put_begun holds_of recalls_of
 put-sound g s caller place n k errands' sound has idle owned shelf moves =
-    let own = sound.parts.1.errands caller has in
+    let own = sound.parts.1.formed.errands caller has in
     bare-sound g s caller _ errands' sound has idle (grind (arith)) (λ l. All-cons (IsSo g s l caller) _ [] owned (All-nil (IsSo g s l caller)))
     (put-errand (s.errand caller) place n k (errand-block g s caller place n sound has owned) shelf own.rule idle) refl moves
 
@@ -337,6 +308,6 @@ pub take-sound :
     → k < SHELVES → Moves s.errand caller (take_begun (s.errand caller) k) errands' → IsSoundWithoutCounts g (with_errands s errands')
 unfolding take_begun holds_of recalls_of
 take-sound g s caller k errands' sound has idle shelf moves =
-    let own = sound.parts.1.errands caller has in
+    let own = sound.parts.1.formed.errands caller has in
     bare-sound g s caller _ errands' sound has idle (grind (arith)) (λ l. All-nil (IsSo g s l caller))
     (take-errand (s.errand caller) k shelf own.rule idle) refl moves

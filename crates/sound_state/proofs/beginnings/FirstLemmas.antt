@@ -6,13 +6,12 @@ use Rattle.std.proofs.lemmas.Bool.{cond_both, cond-true, and_from, cases_lt}
 use Rattle.std.proofs.lemmas.List.Elements.{All-nil}
 use Rattle.std.proofs.lemmas.Option.{none-some}
 use Rattle.sound_state.proofs.Common.{Geometry, CLASSES, IsChecked, Held, active_of, anchor_of, head_of, info_of, WordName, descriptor_count, info_in, occurs, Frames}
-use Rattle.sound_state.proofs.Common.{Partials, Stacked, next_in, Event, block_at, pool_of, spare_of, ErrandFields, State, IsFramed, errand_frames, fills_frame}
-use Rattle.sound_state.proofs.Common.{IsGuarded, IsGuard, IsHazard, held_by, waiting, holds_of, IsKept, IsPartlyUsed, IsWithout, IsKeptAs, word_keeps, errand_has}
-use Rattle.sound_state.proofs.Common.{full_keeps, Lists, IsListed, IsSo, IsOwned, recalls_of, IsSoundWith, IsOwnErrand, word_stock, errand_stock, full_stock, sum_below}
-use Rattle.sound_state.proofs.Common.{words_sum, callers_sum, AreChained, IsChained, anchor_for, info_for, superblock_of, is_bound, away_of, errand_away}
-use Rattle.sound_state.proofs.Common.{errand_reserves, waiting_of, errand_keeps, IsTied, IsLive, IsTurned, emptied_out, gives_small, refuses_small, unit_place}
-use Rattle.sound_state.proofs.Common.{info_within, exists, IsOpening, Guards, IsRemembered, IsStocked, turn_open, turn_unframed, turn_unlisted, errand_pops, cleared_of}
-use Rattle.sound_state.proofs.Common.{errand_discards, turn_unanswered}
+use Rattle.sound_state.proofs.Common.{Partials, Stacked, next_in, Event, block_at, pool_of, spare_of, ErrandFields, State, IsFramed, errand_frames, fills_frame, IsGuarded}
+use Rattle.sound_state.proofs.Common.{held_by, waiting, holds_of, IsKept, IsPartlyUsed, IsWithout, IsKeptAs, word_keeps, errand_has, full_keeps, Lists, IsListed}
+use Rattle.sound_state.proofs.Common.{recalls_of, IsSoundWith, IsOwnErrand, word_stock, errand_stock, full_stock, sum_below, words_sum, callers_sum, AreChained, IsChained}
+use Rattle.sound_state.proofs.Common.{anchor_for, info_for, superblock_of, is_bound, away_of, errand_away, errand_reserves, waiting_of, errand_keeps, IsTied, IsLive}
+use Rattle.sound_state.proofs.Common.{IsTurned, emptied_out, gives_small, refuses_small, unit_place, info_within, exists, IsOpening, IsRemembered, IsStocked, turn_open}
+use Rattle.sound_state.proofs.Common.{turn_unframed, turn_unlisted, errand_pops, cleared_of, errand_discards, turn_unanswered}
 use Rattle.packed_words.specs.declared.anchor.AnchorState.TheVariants as phase
 use Rattle.packed_words.specs.declared.widths.TheConstants.{TOP_BITS, HEAD_TAG_BITS}
 use Rattle.packed_words.specs.Fields.{bits_at}
@@ -161,7 +160,9 @@ small-head top below =
 top-small : (n count : ℕ) → n ≤ count → top_from n count ≤ count
 top-small n count h = grind (arith)
 
-frame-head : (g : Geometry) (n : ℕ) (first : WordName → ℕ) (s : State) → IsBegun g n first s → head_of (s.word name.FrameHead) ≡ record { top = top_from n g.frames; tag = 0 }
+frame-head :
+    (g : Geometry) (n : ℕ) (first : WordName → ℕ) (s : State) → IsBegun g n first s
+    → head_of (s.word name.FrameHead) ≡ record { top = top_from n g.frames; tag = 0 }
 frame-head g n first s b =
     ap head_of (first-word g first s name.FrameHead b.opening refl ∙ b.rule.frame_head)
     ∙ small-head (top_from n g.frames) (omega (arith, b.checked.frames.1, top-small n g.frames b.rule.frames))
@@ -219,7 +220,9 @@ unfolding holds_of
 first-kept g n first s b once held =
     let o = b.opening in
     let active_word : (heap class : ℕ) → heap < g.heaps → class < CLASSES → s.word (name.Active heap class) ≡ first (name.Active heap class) =
-    λ heap class has_heap has_class. first-word g first s (name.Active heap class) o (and_from (nat_lt heap g.heaps) (nat_lt class CLASSES) (lt-ltb heap g.heaps has_heap) (lt-ltb class CLASSES has_class)) in
+    λ heap class has_heap has_class.
+    first-word g first s (name.Active heap class) o
+    (and_from (nat_lt heap g.heaps) (nat_lt class CLASSES) (lt-ltb heap g.heaps has_heap) (lt-ltb class CLASSES has_class)) in
     let slot_word : (heap class : ℕ) → s.word (name.Slot heap class) ≡ 0 =
     λ heap class. zero-word g first s (name.Slot heap class) o (b.rule.slots heap class) in
     record {
@@ -239,7 +242,9 @@ first-kept g n first s b once held =
       listed = λ class has. All-nil (λ d. IsPartlyUsed s d class);
       available = λ k d has. inl (first-state g n first s (slice_index_or (indexes n (descriptor_count g - n)) k d) b);
       retired = at-opening g first s (λ e. All (IsWithout s) e.retired) o (λ caller. All-nil (IsWithout s));
-      errand = at-opening g first s (λ e. All (λ k. IsKeptAs s k.status k.desc k.class) (holds_of e.point).kept) o (λ caller. All-nil (λ k. IsKeptAs s k.status k.desc k.class));
+      errand =
+          at-opening g first s (λ e. All (λ k. IsKeptAs s k.status k.desc k.class) (holds_of e.point).kept) o
+          (λ caller. All-nil (λ k. IsKeptAs s k.status k.desc k.class));
     }
 
 -- all superblocks have their blocks in order before the first step, where those of the first n descriptors have
@@ -275,35 +280,11 @@ first-framed g n first s b once = record {
 
 first-remembered : (g : Geometry) (n : ℕ) (first : WordName → ℕ) (s : State) → IsBegun g n first s → IsRemembered g s (first_lists g n)
 unfolding recalls_of
-first-remembered g n first s b = record {
-  so = λ caller has.
-      at-opening g first s (λ e. All (IsSo g s (first_lists g n) caller) (recalls_of e.point)) b.opening
-      (λ other. All-nil (IsSo g s (first_lists g n) caller)) caller has;
-}
-
--- an idle caller of the first state guards nothing
-unguarded : (g : Geometry) (first : WordName → ℕ) (s : State) (caller d : ℕ) → IsOpening g first s → caller < g.callers → Guards s caller d → ⊥
-unfolding holds_of
-unguarded g first s caller d o has h =
-    at-opening g first s (λ e. IsGuard (holds_of e.point).hazard → ⊥) o (λ other no. no) caller has h.guard
+first-remembered g n first s b = grind (arith, b, at-opening, recalls_of)
 
 first-guarded : (g : Geometry) (n : ℕ) (first : WordName → ℕ) (s : State) → IsBegun g n first s → IsGuarded g s
 unfolding holds_of
-first-guarded g n first s b =
-    let o = b.opening in
-    record {
-      words = λ caller has.
-          at-opening g first s (λ e. IsHazard (holds_of e.point).hazard (s.word (name.Hazard caller))) o
-          (λ other. zero-word g first s (name.Hazard caller) o (b.rule.hazards caller)) caller has;
-      pushed = λ caller other d has has_other guards is. unguarded g first s caller d o has guards;
-      passed = λ caller other d has has_other guards listed below. absurd (unguarded g first s caller d o has guards);
-      unread = λ caller i has passed below.
-          absurd (let none : length (held_by (s.errand caller).point) ≡ 0 = ap (λ e. length (held_by e.point)) (o.errand caller has) in
-          let no : ⊥ = omega (arith, none, below) in no);
-      full = λ caller has is.
-          absurd (let none : spare_of (s.errand caller).point ≡ 0 = ap (λ e. spare_of e.point) (o.errand caller has) in
-          let no : ⊥ = omega (arith, none, is) in no);
-    }
+first-guarded g n first s b = grind (arith, b, at-opening, held_by, holds_of, spare_of, zero-word)
 
 -- few descriptors are out before the first step, where the words keep one at most of each class
 pub first-stocked :
@@ -348,9 +329,18 @@ first-turned g n first s b =
       anchor_tags = λ d has. omega (arith, first-tag g n first s d b);
       frame_tag = omega (arith, head, opened-weighs g first s turn_unframed o (λ caller. refl));
       emptied =
-          omega (arith, opened-weighs g first s cleared_of o (λ caller. refl), sum-none (descriptor_count g) (emptied_out g s (first_lists g n)) (λ d has. none-emptied g n first s d b));
+          omega (
+            arith,
+            opened-weighs g first s cleared_of o (λ caller. refl),
+            sum-none (descriptor_count g) (emptied_out g s (first_lists g n)) (λ d has. none-emptied g n first s d b),
+          );
       list_tags = λ class has.
-          omega (arith, ap (λ w. (head_of w).tag) (zero-word g first s (name.ListHead class) o (b.rule.list_heads class)) ∙ zero-tag, opened-weighs g first s errand_pops o (λ caller. refl), opened-weighs g first s turn_unlisted o (λ caller. refl));
+          omega (
+            arith,
+            ap (λ w. (head_of w).tag) (zero-word g first s (name.ListHead class) o (b.rule.list_heads class)) ∙ zero-tag,
+            opened-weighs g first s errand_pops o (λ caller. refl),
+            opened-weighs g first s turn_unlisted o (λ caller. refl),
+          );
     }
 
 zero-bit : (i : ℕ) → bit_at 0 i ≡ 0
@@ -365,24 +355,7 @@ none-live-first g first s place b o live = none-some b (sym (first-live g first 
 
 first-tied : (g : Geometry) (n : ℕ) (first : WordName → ℕ) (s : State) → IsBegun g n first s → IsTied g s (first_lists g n)
 unfolding holds_of
-first-tied g n first s begun =
-    let o = begun.opening in
-    let units : s.word name.Units ≡ 0 = zero-word g first s name.Units o begun.rule.units in
-    record {
-      small = λ place class b live is. absurd (none-live-first g first s place b o live);
-      large = λ place m b live is. absurd (none-live-first g first s place b o live);
-      units = λ unit has. (λ bit. absurd (let no : ⊥ = omega (arith, bit, ap (λ w. bit_at w unit) units, zero-bit unit) in no), λ covered. absurd (none-live-first g first s (unit_place g.frames covered.1) covered.0 o covered.3));
-      no_more_units = omega (arith, units, pow_pos g.units);
-      shelved = λ k place b has live is. absurd (none-live-first g first s place b o live);
-      bare_shelf = λ k has none. zero-word g first s (name.Shelf k) o (begun.rule.shelves k) ∙ sym shelf-nothing;
-      contents = λ place i v b live is. absurd (none-live-first g first s place b o live);
-      hands = λ caller has.
-          at-opening g first s (λ e. All (λ b. IsOwned s caller b.place b.need) (holds_of e.point).hands) o
-          (λ other. All-nil (λ b. IsOwned s caller b.place b.need)) caller has;
-      frees = λ caller has.
-          at-opening g first s (λ e. All (λ b. IsOwned s caller b.place b.need) (holds_of e.point).frees) o
-          (λ other. All-nil (λ b. IsOwned s caller b.place b.need)) caller has;
-    }
+first-tied g n first s begun = grind (arith, begun, at-opening, bit_at, holds_of, none-live-first, pow_pos, shelf-nothing, unit_place, zero-bit, zero-word)
 
 -- the words of the first state are words
 first-words : (g : Geometry) (n : ℕ) (first : WordName → ℕ) (s : State) → IsBegun g n first s → (m : WordName) → s.word m < 2 ^ 64
@@ -390,20 +363,7 @@ first-words g n first s b m = opening-word g first s m (λ w. w < 2 ^ 64) b.open
 
 -- an opening errand keeps its rule
 open-own : (g : Geometry) (caller : ℕ) → IsChecked g → caller < g.callers → IsOwnErrand g caller (open_errand caller g)
-open-own g caller checked has = record {
-  number = refl;
-  geometry = refl;
-  rule = record {
-    geometry = checked;
-    caller = has;
-    point = tt;
-    listed = All-nil (λ d. d < descriptor_count g);
-    room = omega arith;
-    pushed = tt;
-    turns = omega arith;
-  };
-  lost = omega arith;
-}
+open-own g caller checked has = grind (arith, checked, has, descriptor_count)
 
 -- no event has happened in the beginning, so all that have are as any rule wants
 pub first-history :
@@ -418,8 +378,10 @@ pub first-sound :
     → AreChained g s (first_lists g n) → IsFramed g s (first_lists g n) → IsStocked g s (first_lists g n)
     → IsSoundWith g s (first_lists g n)
 first-sound g n first s b kept chained framed stocked = record {
-  words = first-words g n first s b;
-  errands = λ caller has. subst (IsOwnErrand g caller) (sym (b.opening.errand caller has)) (open-own g caller b.checked has);
+  formed = record {
+    words = first-words g n first s b;
+    errands = λ caller has. subst (IsOwnErrand g caller) (sym (b.opening.errand caller has)) (open-own g caller b.checked has);
+  };
   listed = first-listed g n first s b;
   kept = kept;
   chained = chained;

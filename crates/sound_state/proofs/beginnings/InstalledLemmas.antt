@@ -1,21 +1,21 @@
 -- The state with one superblock installed, all of whose blocks are free, is sound.
-use Rattle.std.proofs.Common.{ℕ, zero, suc, true, ◌≡◌, ◌≢◌, ◌<◌, ◌≤◌, ◌+◌, ◌^◌, Some, refl, arith, ap, sym, subst, ◌∙◌, inl, inr, ◌-◌, ◌==◌, ◌&&◌, if◌then◌else◌}
-use Rattle.std.proofs.Common.{IsSome, is_some, nat_lt, lt-ltb, ltb-true, eq-eqb, eqb-true}
+use Rattle.std.proofs.Common.{ℕ, zero, suc, true, ◌≡◌, ◌≢◌, ◌<◌, ◌≤◌, ◌+◌, ◌^◌, Some, refl, arith, ap, sym, subst, ◌∙◌, inl, inr, ◌-◌, ◌==◌, ◌&&◌, if◌then◌else◌, IsSome}
+use Rattle.std.proofs.Common.{is_some, nat_lt, lt-ltb, ltb-true, eq-eqb, eqb-true}
 use Rattle.std.proofs.lemmas.Bool.{cond_both, cond-true, cond-false, and_parts, and_from, cases_Bool}
 use Rattle.sound_state.proofs.Common.{Geometry, CLASSES, IsChecked, block_count_of, block_place, Held, active_of, active_word, anchor_of, anchor_word, info_of, link_of}
 use Rattle.sound_state.proofs.Common.{WordName, descriptor_count, info_in, occurs, prefix_name, link_in, State, fills_frame, word_keeps, IsSound, word_stock, sum_below}
-use Rattle.sound_state.proofs.Common.{words_sum, Superblock, IsChained, superblock_of, free_chain, anchor_for, info_for, info_or_zero, reserved_of, word_reserves}
-use Rattle.sound_state.proofs.Common.{live_at, is_there, index_of, CREDIT_BITS, IsAnchor, InfoFields, info_word, active-exact, anchor_word-below, anchor_of-anchor_word}
-use Rattle.sound_state.proofs.Common.{info-exact, arena_words, exists, info_within, descriptor_count_within, block_count_of-least, block_count_of-most, chain_of}
-use Rattle.sound_state.proofs.Common.{IsLegalEvent, installed, IsOpening, active_keeps, offered}
+use Rattle.sound_state.proofs.Common.{words_sum, Superblock, IsChained, superblock_of, free_chain, anchor_for, info_for, info_or_zero, reserved_of, word_reserves, live_at}
+use Rattle.sound_state.proofs.Common.{is_there, index_of, CREDIT_BITS, IsAnchor, InfoFields, info_word, active-exact, anchor_word-below, anchor_of-anchor_word, info-exact}
+use Rattle.sound_state.proofs.Common.{arena_words, exists, info_within, descriptor_count_within, block_count_of-least, block_count_of-most, chain_of, IsLegalEvent}
+use Rattle.sound_state.proofs.Common.{installed, IsOpening, active_keeps, offered}
 use Rattle.heap_geometry.proofs.PlaceLemmas.{index_of-block_place}
 use Rattle.packed_words.specs.declared.anchor.AnchorState.TheVariants as phase
 use Rattle.word_table.specs.declared.name.WordName.TheVariants as name
 use Rattle.word_table.proofs.SeatLemmas.{block_place-within}
 use Rattle.errand_steps.specs.Openings.{link_at, full_credits, full_anchor}
-use Rattle.sound_state.proofs.beginnings.FirstLemmas.{IsFirst, IsBegun, next-word, some-descriptors, info-some, info-zero, first_lists, zero-word, first-word}
-use Rattle.sound_state.proofs.beginnings.FirstLemmas.{zero-state, zero-anchor_tag, first-here, first-state, first-waiting, first-reserved, first-live, first-kept}
-use Rattle.sound_state.proofs.beginnings.FirstLemmas.{first-chained, first-fills, first-framed, first-stocked, first-history, first-sound}
+use Rattle.sound_state.proofs.beginnings.FirstLemmas.{IsFirst, IsBegun, next-word, some-descriptors, info-some, info-zero, first_lists, zero-word, first-word, zero-state}
+use Rattle.sound_state.proofs.beginnings.FirstLemmas.{zero-anchor_tag, first-here, first-state, first-waiting, first-reserved, first-live, first-kept, first-chained}
+use Rattle.sound_state.proofs.beginnings.FirstLemmas.{first-fills, first-framed, first-stocked, first-history, first-sound}
 use Rattle.sound_state.proofs.shared.HolderLemmas.{IsHolderWeight, is_holder, holders-one, keeps-holder, reserves-holder, stock-holder, zero-active}
 use Rattle.sound_state.proofs.beginnings.OpeningLists.{indexes, indexes-before, indexes-once, indexes-end, indexes-chained}
 use Rattle.sound_state.proofs.shared.SumLemmas.{sum-one}
@@ -26,11 +26,7 @@ credits-fit class has = grind (arith, block_count_of-least class has)
 
 -- the packed words of the installed superblock say what was packed
 full-fits : (class : ℕ) → class < CLASSES → IsAnchor (full_anchor class)
-full-fits class has = record {
-  avail = omega arith;
-  count = omega (arith, block_count_of-least class has, block_count_of-most class, credits-fit class has);
-  tag = omega arith;
-}
+full-fits class has = grind (arith, has, block_count_of-least, block_count_of-most, credits-fit)
 
 full-says : (class : ℕ) → class < CLASSES → anchor_of (anchor_word (full_anchor class)) ≡ full_anchor class
 full-says class has = anchor_of-anchor_word (full_anchor class) (full-fits class has)
@@ -52,12 +48,7 @@ active-word-below class has = active-exact.fits (Held 0 (full_credits class)) (o
 
 -- the links of the installed superblock are words
 link_at-below : (class word : ℕ) → link_at class word < 2 ^ 64
-link_at-below class word =
-    let index = index_of class word in
-    let test = word == block_place 0 class index && nat_lt (index + 1) (block_count_of class) in
-    cond_both test (index + 1) 0 (λ w. w < 2 ^ 64)
-    (λ e. omega (arith, block_count_of-most class, ltb-true (index + 1) (block_count_of class) (and_parts (word == block_place 0 class index) (nat_lt (index + 1) (block_count_of class)) e).1))
-    (λ e. omega arith)
+link_at-below class word = grind (arith, and_parts, block_count_of, block_count_of-most, block_place, cond_both, index_of, ltb-true, nat_lt)
 
 -- the words that the installed state begins with are words
 installed-below : (g : Geometry) (class : ℕ) (m : WordName) → IsChecked g → class < CLASSES → exists g m ≡ true → installed g class m < 2 ^ 64
@@ -123,23 +114,14 @@ is-installed g class s checked of o = record {
 
 -- what the anchor and the info word of descriptor 0 say in the installed state
 anchor-installed : (g : Geometry) (class : ℕ) (s : State) → BeginsInstalled g class s → anchor_for s 0 ≡ full_anchor class
-anchor-installed g class s h =
-    ap anchor_of (first-word g (installed g class) s (name.Anchor 0) h.opening (lt-ltb 0 (descriptor_count g) (omega (arith, some-descriptors g h.checked))))
-    ∙ full-says class h.of
+anchor-installed g class s h = grind (arith, h, anchor_of, descriptor_count, first-word, full-says, lt-ltb, some-descriptors)
 
 info-installed : (g : Geometry) (class : ℕ) (s : State) → BeginsInstalled g class s → info_for s 0 ≡ installed_info class
-info-installed g class s h =
-    ap (λ w. info_or_zero (info_of w)) (first-word g (installed g class) s (name.Info 0) h.opening (lt-ltb 0 (descriptor_count g) (omega (arith, some-descriptors g h.checked))))
-    ∙ ap info_or_zero (info-says class h.of)
+info-installed g class s h = grind (arith, h, descriptor_count, first-word, info-says, info_of, info_or_zero, lt-ltb, some-descriptors)
 
 -- the active word of the class's processor heap 0 holds descriptor 0 with all credits
 active-installed : (g : Geometry) (class : ℕ) (s : State) → BeginsInstalled g class s → active_of (s.word (name.Active 0 class)) ≡ Some (Held 0 (full_credits class))
-active-installed g class s h =
-    let has : exists g (name.Active 0 class) ≡ true =
-    and_from (nat_lt 0 g.heaps) (nat_lt class CLASSES) (lt-ltb 0 g.heaps h.checked.heaps.0) (lt-ltb class CLASSES h.of) in
-    let word : installed g class (name.Active 0 class) ≡ active_word (Held 0 (full_credits class)) =
-    cond-true (class == class) (active_word (Held 0 (full_credits class))) 0 (eq-eqb class class refl) in
-    ap active_of (first-word g (installed g class) s (name.Active 0 class) h.opening has ∙ word) ∙ active-says class h.of
+active-installed g class s h = grind (arith, h, active-says, active_of, active_word, and_from, cond-true, eq-eqb, first-word, full_credits, lt-ltb, nat_lt)
 
 -- no active word or slot but that of the class's processor heap 0 holds a superblock
 installed-empty : (g : Geometry) (class : ℕ) (m : WordName) → m ≢ name.Active 0 class → is_holder m ≡ true → installed g class m ≡ 0
@@ -209,11 +191,7 @@ link-next g class s i h has = let more : nat_lt (i + 1) (block_count_of class) �
 
 link-within :
     (g : Geometry) (class : ℕ) (s : State) (i : ℕ) → BeginsInstalled g class s → i < block_count_of class → link_in s.word 0 class i < block_count_of class
-link-within g class s i h has =
-    let link = link-installed g class s i h has in
-    subst (λ w. w < block_count_of class) (sym link)
-    (cond_both (nat_lt (i + 1) (block_count_of class)) (i + 1) 0 (λ w. w < block_count_of class)
-    (λ e. ltb-true (i + 1) (block_count_of class) e) (λ e. omega (arith, has)))
+link-within g class s i h has = grind (arith, h, has, block_count_of, cond_both, link-installed, ltb-true, nat_lt)
 
 -- the installed superblock, of descriptor 0
 abbrev installed_superblock : ℕ → State → Superblock
@@ -238,10 +216,7 @@ superblock-installed g class s h =
 
 -- the blocks of the installed superblock are all free, one behind the other
 chain-installed : (g : Geometry) (class : ℕ) (s : State) → BeginsInstalled g class s → free_chain (installed_superblock class s) ≡ indexes 0 (block_count_of class)
-chain-installed g class s h =
-    let all : block_count_of class - (full_credits class + 1) + (full_credits class + 1) ≡ block_count_of class = omega (arith, credits-fit class h.of) in
-    ap (λ k. chain_of (link_in s.word 0 class) k 0) all
-    ∙ indexes-chained (link_in s.word 0 class) 0 (block_count_of class) (block_count_of class) (omega arith) (λ i has. link-next g class s i h has)
+chain-installed g class s h = grind (arith, h, block_count_of, chain_of, credits-fit, full_credits, indexes-chained, link-next, link_in)
 
 first-installed-chained : (g : Geometry) (class : ℕ) (s : State) → BeginsInstalled g class s → IsChained (superblock_of g s 0)
 first-installed-chained g class s h =
@@ -301,6 +276,10 @@ installed-sound g class s checked of o =
             (first-framed g 1 first s h.begun (λ f has. first-installed-framed g class s f h has))
             (first-stocked g 1 first s h.begun
             (λ of_class.
-            omega (arith, installed-weighs g class s (word_stock of_class) h (stock-holder of_class), active-stock-most of_class 0 class (s.word (name.Active 0 class))))),
+            omega (
+              arith,
+              installed-weighs g class s (word_stock of_class) h (stock-holder of_class),
+              active-stock-most of_class 0 class (s.word (name.Active 0 class)),
+            ))),
       );
     }

@@ -1,5 +1,5 @@
 -- The opening state is sound.
-use Rattle.std.proofs.Common.{ℕ, true, ◌≡◌, ◌<◌, ◌^◌, refl, arith, ap, ◌-◌, is_some, ltb-true}
+use Rattle.std.proofs.Common.{ℕ, true, ◌≡◌, ◌<◌, ◌^◌, arith, ◌-◌, is_some, ltb-true}
 use Rattle.sound_state.proofs.Common.{Geometry, IsChecked, WordName, descriptor_count, occurs, State, fills_frame, word_keeps, IsSound, word_stock, words_sum, exists}
 use Rattle.sound_state.proofs.Common.{descriptor_count_within, IsLegalEvent, opening, IsOpening}
 use Rattle.word_table.specs.declared.name.WordName.TheVariants as name
@@ -19,24 +19,7 @@ opening-below g m checked has = omega arith
 
 -- at opening all frames and descriptors are on their stacks
 opening-first : (g : Geometry) → IsChecked g → IsFirst g 0 (opening g)
-opening-first g checked = record {
-  frames = omega arith;
-  descriptors = omega arith;
-  words = λ m has. opening-below g m checked has;
-  frame_head = grind (arith, checked.frames.0);
-  frame_nexts = λ f. refl;
-  desc_head = grind (arith, some-descriptors g checked);
-  desc_nexts = λ d. refl;
-  list_heads = λ class. refl;
-  slots = λ heap class. refl;
-  hazards = λ caller. refl;
-  units = refl;
-  shelves = λ k. refl;
-  active_words = λ heap class has_heap has_class. ap is_some zero-active;
-  infos = λ d has. info-zero g checked;
-  states = λ d. zero-state;
-  tags = λ d. zero-anchor_tag;
-}
+opening-first g checked = grind (arith, checked, info-zero, is_some, opening-below, some-descriptors, zero-active, zero-anchor_tag, zero-state)
 
 -- no active word or slot holds a superblock at opening
 opening-empty : (g : Geometry) (m : WordName) → is_holder m ≡ true → opening g m ≡ 0
@@ -64,7 +47,8 @@ opening-sound g s checked o =
             (first-framed g 0 (opening g) s begun
             (λ f has.
             let listed : occurs f (indexes 0 (g.frames - 0)) ≡ 1 = indexes-once 0 (g.frames - 0) f (omega arith) (omega arith) in
-            omega (arith, listed, sum-none (descriptor_count g) (fills_frame g s (first_lists g 0) f) (λ d lt. first-fills g 0 (opening g) s f d begun (omega arith) lt))))
+            let none = sum-none (descriptor_count g) (fills_frame g s (first_lists g 0) f) (λ d lt. first-fills g 0 (opening g) s f d begun (omega arith) lt) in
+            omega (arith, listed, none)))
             (first-stocked g 0 (opening g) s begun (λ class. omega (arith, opening-weighs g s (word_stock class) o (stock-holder class)))),
       );
     }

@@ -1,21 +1,17 @@
 -- A bare frame weighs something: it is in a caller's hand, or a block of it is reserved.
-use Rattle.std.proofs.Common.{ℕ, Bool, true, Option, Some, None, ◌≡◌, ◌<◌, ◌≤◌, ◌+◌, [], refl, sym, ◌∙◌, ap, subst, arith, inl, inr, ◌==◌, ◌&&◌, if◌then◌else◌, All}
-use Rattle.std.proofs.Common.{ne_eqb}
-use Rattle.std.proofs.lemmas.Bool.{cases_eq, cond-false}
+use Rattle.std.proofs.Common.{ℕ, Bool, true, Option, Some, None, ◌≡◌, ◌<◌, ◌≤◌, ◌+◌, [], refl, sym, ◌∙◌, ap, subst, arith, ◌==◌, ◌&&◌, if◌then◌else◌, All}
 use Rattle.std.proofs.lemmas.List.Elements.{All-head}
-use Rattle.sound_state.proofs.Common.{Geometry, Need, Small, block_count_of, block_place, frame_of, frame_of-block_place, ActiveWord, Null, Held, active_of, WordName}
-use Rattle.sound_state.proofs.Common.{Site, descriptor_count, occurs, new_credits, BlockPoint, Share, block_at, pool_of, place-found, Point, FitsPoint, State}
-use Rattle.sound_state.proofs.Common.{fills_frame, errand_frames, waiting, holds_before_pop, holds_of, Lists, IsSo, IsOwned, IsLocated, recalls_of, bound_here}
-use Rattle.sound_state.proofs.Common.{IsSoundWith, sum_below, words_sum, callers_sum, Superblock, IsChained, superblock_of, free_chain, live_at, is_there, info_for}
-use Rattle.sound_state.proofs.Common.{is_bound, waiting_of, reserved_of, word_reserves, reserved_among, errand_reserves, kept_among, errand_keeps, FitsBlock, keep}
-use Rattle.sound_state.proofs.Common.{reserve, block_handed, block_holds, block_recalls, offered}
-use Rattle.word_table.specs.declared.name.WordName.TheVariants as name
+use Rattle.sound_state.proofs.Common.{Geometry, Need, Small, block_count_of, block_place, frame_of, frame_of-block_place, WordName, Site, descriptor_count, occurs}
+use Rattle.sound_state.proofs.Common.{BlockPoint, Share, block_at, pool_of, place-found, Point, FitsPoint, State, fills_frame, errand_frames, waiting, holds_before_pop}
+use Rattle.sound_state.proofs.Common.{holds_of, Lists, IsSo, IsOwned, IsLocated, recalls_of, bound_here, IsSoundWith, sum_below, words_sum, callers_sum, Superblock}
+use Rattle.sound_state.proofs.Common.{IsChained, superblock_of, free_chain, live_at, is_there, info_for, is_bound, waiting_of, reserved_of, word_reserves, reserved_among}
+use Rattle.sound_state.proofs.Common.{errand_reserves, kept_among, errand_keeps, FitsBlock, keep, reserve, block_handed, block_holds, block_recalls}
 use Rattle.superblock_parts.specs.declared.point.BlockPoint.TheVariants as block
 use Rattle.superblock_parts.proofs.ChainLemmas.{chain_of-length}
 use Rattle.pool_model.specs.Pool.{Block}
 use Rattle.pool_model.specs.Legal.{IsBare}
 use Rattle.errand_steps.specs.declared.point.Point.TheVariants as point
-use Rattle.sound_state.proofs.counts.BareWeights.{popping, popping_block, popping_fills, errand_weighs, held_fills, word_weighs, frame_weighs}
+use Rattle.sound_state.proofs.counts.BareWeights.{popping, popping_block, popping_fills, errand_weighs, word_weighs, frame_weighs}
 use Rattle.sound_state.proofs.shared.PointLemmas.{fits-at}
 use Rattle.sound_state.proofs.shared.WeightSums.{words-some, callers-least}
 use Rattle.sound_state.proofs.shared.SumLemmas.{sum-same, sum-ones, sum-occurs, some-term, term-sum}
@@ -67,22 +63,10 @@ bare-reserved g s l f d sound bare has filled =
     (λ i lt. subst (λ k. live_at s (block_place k (info_for s d).class i) ≡ 0) (sym is.2) (dead s f (info_for s d).class i bare lt))
 
 -- an active word that offers blocks of a superblock weighs in the frame that this fills
-held-weighs :
-    (g : Geometry) (s : State) (l : Lists) (f d : ℕ) (o : Option ActiveWord) → 0 < offered d o → 0 < fills_frame g s l f d
-    → 0 < held_fills g s l f o
-held-weighs g s l f d None some filled = absurd (omega (arith, some))
-held-weighs g s l f d (Some Null) some filled = absurd (omega (arith, some))
-held-weighs g s l f d (Some (Held e credits)) some filled =
-    elim (cases_eq e d) [
-      | inl same ↦ subst (λ k. 0 < fills_frame g s l f k) (sym same) filled
-      | inr other ↦ absurd (omega (arith, some, cond-false {A = ℕ} (e == d) (credits + 1) 0 (ne_eqb e d other)))
-    ]
-
 word-offers-weighs :
     (g : Geometry) (s : State) (l : Lists) (f d : ℕ) (m : WordName) (word : ℕ) → 0 < word_reserves d m word → 0 < fills_frame g s l f d
     → 0 < word_weighs g s l f m word
-word-offers-weighs g s l f d (name.Active heap class) word some filled = held-weighs g s l f d (active_of word) some filled
-word-offers-weighs g s l f d m word some filled = absurd (omega (arith, some))
+word-offers-weighs g s l f d m word some filled = grind (arith, some, filled)
 
 words-offer-weighs :
     (g : Geometry) (s : State) (l : Lists) (f d : ℕ) → 0 < words_sum g (word_reserves d) s.word → 0 < fills_frame g s l f d
@@ -132,33 +116,24 @@ record Beside (g : Geometry) (s : State) (l : Lists) (caller f d : ℕ) : Type 0
   filled : 0 < fills_frame g s l f d
   lies : (info_for s d).frame ≡ f
 
-block-pops :
-    (g : Geometry) (s : State) (l : Lists) (caller f d : ℕ) (p : BlockPoint) → Beside g s l caller f d → FitsBlock g caller p
-    → All (IsSo g s l caller) (block_recalls p) → All (λ x. IsOwned s caller x.place x.need) (block_holds p).hands
-    → kept_among waiting d (block_holds p).kept ≡ 0 → 0 < reserved_among d (block_holds p).credits → 0 < popping_fills g s l f (popping_block p)
-block-pops g s l caller f d (block.LoadInfo seat e share) b fits so hands none some = before-pop g s l f d e seat.class share b.filled some
-block-pops g s l caller f d (block.LoadAnchor at share) b fits so hands none some = before-pop g s l f d at.desc at.seat.class share b.filled some
-block-pops g s l caller f d (block.LoadLink at share a) b fits so hands none some = before-pop g s l f d at.desc at.seat.class share b.filled some
-block-pops g s l caller f d (block.PopBlock at share a prefix) b fits so hands none some =
-    before-pop g s l f d at.desc at.seat.class share b.filled some
-block-pops g s l caller f d (block.InstallCredits at i more) b fits so hands none some =
-    absurd (after-pop g s l caller f d i more at b.bare b.lies fits.0.index so hands some)
-block-pops g s l caller f d (block.LoadReturn at i more) b fits so hands none some =
-    absurd (after-pop g s l caller f d i more at b.bare b.lies fits.0.index so hands some)
-block-pops g s l caller f d (block.ReturnCredits at i more a) b fits so hands none some =
-    absurd (after-pop g s l caller f d i more at b.bare b.lies fits.0.index so hands some)
-block-pops g s l caller f d (block.InstallSuperblock at) b fits so hands none some =
-    absurd (installs-waits d at.desc (new_credits at.seat.class + 1) at.seat.class some none)
-block-pops g s l caller f d p b fits so hands none some = absurd (omega (arith, some))
+-- a caller beside a bare frame that the superblock of d fills
+module _ (g : Geometry) (s : State) (l : Lists) (caller f d : ℕ) (b : Beside g s l caller f d) where
+  block-pops :
+      (p : BlockPoint) → FitsBlock g caller p → All (IsSo g s l caller) (block_recalls p) → All (λ x. IsOwned s caller x.place x.need) (block_holds p).hands
+      → kept_among waiting d (block_holds p).kept ≡ 0 → 0 < reserved_among d (block_holds p).credits → 0 < popping_fills g s l f (popping_block p)
+  block-pops (block.InstallCredits at i more) fits so hands none some = absurd (after-pop g s l caller f d i more at b.bare b.lies fits.0.index so hands some)
+  block-pops (block.LoadReturn at i more) fits so hands none some = absurd (after-pop g s l caller f d i more at b.bare b.lies fits.0.index so hands some)
+  block-pops (block.ReturnCredits at i more a) fits so hands none some =
+      absurd (after-pop g s l caller f d i more at b.bare b.lies fits.0.index so hands some)
+  block-pops p fits so hands none some = grind (arith, some, none, b.filled, before-pop, installs-waits)
 
--- a caller at any point that has reserved a block of a bare frame's superblock is about to pop it
-point-pops :
-    (g : Geometry) (s : State) (l : Lists) (caller f d : ℕ) (p : Point) → Beside g s l caller f d → FitsPoint g caller p
-    → All (IsSo g s l caller) (recalls_of p) → All (λ x. IsOwned s caller x.place x.need) (holds_of p).hands
-    → kept_among waiting d (holds_of p).kept ≡ 0 → 0 < reserved_among d (holds_of p).credits → 0 < popping_fills g s l f (popping p)
-unfolding holds_of recalls_of
-point-pops g s l caller f d (point.Block p o) b fits so hands none some = block-pops g s l caller f d p b fits.point so hands none some
-point-pops g s l caller f d p b fits so hands none some = absurd (grind (arith, some))
+  -- a caller at any point that has reserved a block of a bare frame's superblock is about to pop it
+  point-pops :
+      (p : Point) → FitsPoint g caller p → All (IsSo g s l caller) (recalls_of p) → All (λ x. IsOwned s caller x.place x.need) (holds_of p).hands
+      → kept_among waiting d (holds_of p).kept ≡ 0 → 0 < reserved_among d (holds_of p).credits → 0 < popping_fills g s l f (popping p)
+  unfolding holds_of recalls_of
+  point-pops (point.Block p o) fits so hands none some = block-pops p fits.point so hands none some
+  point-pops p fits so hands none some = absurd (grind (arith, some))
 
 -- callers that have reserved blocks of a superblock in a bare frame weigh something
 callers-pop :
@@ -171,7 +146,7 @@ callers-pop g s l f d sound bare filled some =
     let none : errand_keeps waiting d (s.errand i) ≡ 0 =
     omega (arith, is.1, term-sum g.callers (λ caller. errand_keeps waiting d (s.errand caller)) i has) in
     let pops : 0 < popping_fills g s l f (popping (s.errand i).point) =
-    point-pops g s l i f d (s.errand i).point (record { bare = bare; filled = filled; lies = is.2 })
+    point-pops g s l i f d (record { bare = bare; filled = filled; lies = is.2 }) (s.errand i).point
     (fits-at g s l i (s.errand i).point sound has refl) (sound.remembered.so i has) (sound.tied.hands i has) none here in
     omega (arith, pops, term-sum g.callers (λ caller. errand_weighs g s l f (s.errand caller)) i has)
 
@@ -179,12 +154,7 @@ callers-pop g s l f d sound bare filled some =
 filled-weighs :
     (g : Geometry) (s : State) (l : Lists) (f d : ℕ) → IsSoundWith g s l → IsBare (pool_of s.history) f → d < descriptor_count g
     → 0 < fills_frame g s l f d → 1 ≤ frame_weighs g s l f
-filled-weighs g s l f d sound bare has filled =
-    let some : 1 ≤ reserved_of g s d = bare-reserved g s l f d sound bare has filled in
-    elim (cases_eq (words_sum g (word_reserves d) s.word) 0) [
-      | inl none ↦ omega (arith, callers-pop g s l f d sound bare filled (omega (arith, some, none)))
-      | inr offers ↦ omega (arith, words-offer-weighs g s l f d (omega (arith, offers)) filled)
-    ]
+filled-weighs g s l f d sound bare has filled = grind (arith, sound, bare, has, filled, bare-reserved, callers-pop, words-offer-weighs)
 
 -- a frame weighs at least what callers have of it in their hands
 in-hand-weighs :
@@ -196,12 +166,4 @@ in-hand-weighs g s l f = callers-least g (errand_frames f) (errand_weighs g s l 
 pub bare-weighs :
     (g : Geometry) (s : State) (l : Lists) (f : ℕ) → IsSoundWith g s l → l.frames ≡ [] → f < g.frames → IsBare (pool_of s.history) f
     → 1 ≤ frame_weighs g s l f
-bare-weighs g s l f sound empty has bare =
-    let once = sound.framed.once f has in
-    let unlisted : occurs f l.frames ≡ 0 = ap (occurs f) empty in
-    elim (cases_eq (callers_sum g (errand_frames f) s.errand) 0) [
-      | inl none ↦
-          let (d, has_d, filled) = some-term (descriptor_count g) (fills_frame g s l f) (omega (arith, once, unlisted, none)) in
-          filled-weighs g s l f d sound bare has_d filled
-      | inr some ↦ omega (arith, some, in-hand-weighs g s l f)
-    ]
+bare-weighs g s l f sound empty has bare = grind (arith, sound, empty, has, bare, some-term, filled-weighs, in-hand-weighs)

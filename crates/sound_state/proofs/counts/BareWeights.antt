@@ -1,9 +1,8 @@
 -- What a frame weighs: the callers that have it in their hands or are about to pop a block of it, and the active words that offer blocks of it.
 use Rattle.std.proofs.Common.{ℕ, Bool, Option, Some, None, ◌≡◌, ◌<◌, ◌≤◌, ◌+◌, ◌*◌, [], length, refl, ap, arith, ◌==◌, ◌&&◌, ◌-◌, if◌then◌else◌, eq-eqb}
-use Rattle.std.proofs.lemmas.Bool.{cond-true}
 use Rattle.sound_state.proofs.Common.{Geometry, CLASSES, ActiveWord, Null, Held, active_of, WordName, word_count, Exists, word_name, occurs, BlockPoint, Point}
-use Rattle.sound_state.proofs.Common.{ErrandFields, State, fills_frame, errand_frames, holds_of, Lists, sum_below, words_sum, callers_sum, info_for, is_bound}
-use Rattle.sound_state.proofs.Common.{waiting_of, word_name-Exists}
+use Rattle.sound_state.proofs.Common.{ErrandFields, State, fills_frame, errand_frames, holds_of, Lists, sum_below, words_sum, callers_sum, info_for, is_bound, waiting_of}
+use Rattle.sound_state.proofs.Common.{word_name-Exists}
 use Rattle.word_table.specs.declared.name.WordName.TheVariants as name
 use Rattle.superblock_parts.specs.declared.point.BlockPoint.TheVariants as block
 use Rattle.errand_steps.specs.declared.point.Point.TheVariants as point
@@ -80,13 +79,7 @@ word-weighs-once g s l n m word = nothing-fills n
 
 -- each active word is one of some class
 any-class : (g : Geometry) (m : WordName) → Exists g m → any_active m ≤ sum_below CLASSES (λ class. active_one class m)
-any-class g (name.Active heap class) exists =
-    omega (
-      arith,
-      term-sum CLASSES (λ c. active_one c (name.Active heap class)) class exists.1,
-      cond-true {A = ℕ} (class == class) 1 0 (eq-eqb class class refl),
-    )
-any-class g m exists = omega arith
+any-class g m exists = grind (arith, exists, term-sum, eq-eqb)
 
 all-actives : (g : Geometry) → sum_below (word_count g) (λ k. any_active (word_name g k)) ≤ g.heaps * CLASSES
 all-actives g =

@@ -1,10 +1,9 @@
 -- How often descriptors are near a class: in its active words and slots, and at the callers.
-use Rattle.std.proofs.Common.{ℕ, true, false, ◌≡◌, ◌<◌, ◌≤◌, ◌+◌, ◌*◌, List, [], ◌∷◌, length, refl, ap, arith, inl, inr, ◌==◌, ◌-◌, if◌then◌else◌, eq-eqb, ne_eqb}
-use Rattle.std.proofs.lemmas.Bool.{cases_eq}
+use Rattle.std.proofs.Common.{ℕ, ◌≡◌, ◌<◌, ◌≤◌, ◌+◌, ◌*◌, List, [], ◌∷◌, length, refl, ap, arith, ◌==◌, ◌-◌, if◌then◌else◌, eq-eqb, ne_eqb}
 use Rattle.sound_state.proofs.Common.{Geometry, active_of, WordName, descriptor_count, word_count, word_name, Point, ErrandFields, State, Kept, Holding, holds_of}
 use Rattle.sound_state.proofs.Common.{sum_below, words_sum, callers_sum, active_keeps}
 use Rattle.word_table.specs.declared.name.WordName.TheVariants as name
-use Rattle.sound_state.specs.Holdings.{Reserved}
+use Rattle.errand_steps.specs.tables.Holding.{Reserved}
 use Rattle.sound_state.proofs.shared.HeapNames.{active_one, slot_one, actives-most, slots-most}
 use Rattle.sound_state.proofs.shared.StockLemmas.{active-one, slot-once}
 use Rattle.sound_state.proofs.shared.KeptCounts.{named_among, named-most}
@@ -33,15 +32,7 @@ near_of g s class d = words_sum g (class_keeps class d) s.word + callers_sum g (
 -- a word holds at most one descriptor, and one that is not of the class none for it
 of-class-once :
     (n class c : ℕ) (f : ℕ → ℕ) → sum_below n f ≤ 1 → sum_below n (λ d. if c == class then f d else 0) ≤ (if c == class then 1 else 0)
-of-class-once n class c f once =
-    elim (cases_eq c class) [
-      | inl e ↦
-          let same : (c == class) ≡ true = eq-eqb c class e in
-          rw same once
-      | inr ne ↦
-          let differ : (c == class) ≡ false = ne_eqb c class ne in
-          rw differ (omega (arith, sum-none n (λ d. 0) (λ d lt. refl)))
-    ]
+of-class-once n class c f once = grind (arith, once, eq-eqb, ne_eqb, sum-none)
 
 word-nears-once : (n class : ℕ) (w : WordName) (word : ℕ) → sum_below n (λ d. class_keeps class d w word) ≤ active_one class w + slot_one class w
 word-nears-once n class (name.Active heap c) word =

@@ -1,16 +1,14 @@
 -- A look finds few part-used frames: each is a superblock's that is near the class.
-use Rattle.std.proofs.Common.{ℕ, zero, suc, Option, Some, None, ◌≡◌, ◌<◌, ◌≤◌, ◌+◌, List, [], ◌∷◌, refl, sym, subst, ◌∙◌, ap, arith, inl, inr, ◌⊎◌, ◌==◌, if◌then◌else◌}
-use Rattle.std.proofs.Common.{IsTrue, eq-eqb, ne_eqb}
+use Rattle.std.proofs.Common.{ℕ, ◌≡◌, ◌<◌, ◌≤◌, ◌+◌, List, [], ◌∷◌, sym, subst, ◌∙◌, ap, arith, inl, inr, ◌==◌, IsTrue, eq-eqb, ne_eqb}
 use Rattle.std.proofs.lemmas.Bool.{cases_eq, cond-true, cond-false}
-use Rattle.sound_state.proofs.Common.{Geometry, CLASSES, block_count_of, block_place, ActiveWord, Null, Held, active_of, WordName, descriptor_count, Exists, occurs}
-use Rattle.sound_state.proofs.Common.{block_at, pool_of, ErrandFields, State, waiting, holds_of, word_keeps, full_keeps, errand_has, IsPartlyUsed, Lists, IsSoundWith}
-use Rattle.sound_state.proofs.Common.{sum_below, words_sum, callers_sum, Superblock, superblock_of, is_there, anchor_for, info_for, word_reserves, reserved_among}
-use Rattle.sound_state.proofs.Common.{errand_reserves, reserved_of, errand_keeps, errand_away, waiting_of, is_bound, chain_of, active_keeps, held_back, offered}
+use Rattle.sound_state.proofs.Common.{Geometry, CLASSES, block_count_of, block_place, WordName, descriptor_count, Exists, occurs, block_at, pool_of, ErrandFields, State}
+use Rattle.sound_state.proofs.Common.{waiting, holds_of, word_keeps, full_keeps, errand_has, IsPartlyUsed, Lists, IsSoundWith, sum_below, words_sum, callers_sum}
+use Rattle.sound_state.proofs.Common.{Superblock, superblock_of, is_there, anchor_for, info_for, word_reserves, reserved_among, errand_reserves, reserved_of, errand_keeps}
+use Rattle.sound_state.proofs.Common.{errand_away, waiting_of, is_bound, chain_of, held_back}
 use Rattle.packed_words.specs.declared.anchor.AnchorState.{AnchorState as Phase}
 use Rattle.packed_words.specs.declared.anchor.AnchorState.TheVariants as phase
-use Rattle.word_table.specs.declared.name.WordName.TheVariants as name
 use Rattle.pool_model.specs.Legal.{IsPartUsed, IsWorn}
-use Rattle.sound_state.specs.Holdings.{Reserved}
+use Rattle.errand_steps.specs.tables.Holding.{Reserved}
 use Rattle.sound_state.proofs.counts.FrameCounts.{frames-most}
 use Rattle.sound_state.proofs.counts.NearCounts.{class_keeps, credited_among, errand_nears, near_of, near-most}
 use Rattle.sound_state.proofs.shared.HasLemmas.{bound-away}
@@ -20,36 +18,10 @@ use Rattle.sound_state.proofs.shared.WeightSums.{words-least, words-some, caller
 use Rattle.sound_state.proofs.shared.SumLemmas.{sum-none, sum-plus, sum-least}
 
 -- an active word or slot that holds a superblock is one of its class
-active-held : (d : ℕ) (o : Option ActiveWord) → (active_keeps d o ≡ 0) ⊎ ((credits : ℕ) × (o ≡ Some (Held d credits)))
-active-held d None = inl refl
-active-held d (Some Null) = inl refl
-active-held d (Some (Held e credits)) =
-    elim (cases_eq e d) [
-      | inl same ↦ inr (credits, ap (λ x. Some (Held x credits)) same)
-      | inr differ ↦ inl (cond-false {A = ℕ} (e == d) 1 0 (ne_eqb e d differ))
-    ]
-
 word-near :
     (g : Geometry) (s : State) (l : Lists) (class d : ℕ) → IsSoundWith g s l → (info_for s d).class ≡ class → (n : WordName) → Exists g n
     → word_keeps d n (s.word n) ≤ class_keeps class d n (s.word n)
-word-near g s l class d sound is (name.Active heap c) exists =
-    let word = s.word (name.Active heap c) in
-    elim (active-held d (active_of word)) [
-      | inl none ↦ omega (arith, none)
-      | inr held ↦
-          let same : c ≡ class = sym (sound.kept.active heap c d held.0 exists.0 exists.1 held.1).1.class ∙ is in
-          omega (arith, cond-true {A = ℕ} (c == class) (active_keeps d (active_of word)) 0 (eq-eqb c class same))
-    ]
-word-near g s l class d sound is (name.Slot heap c) exists =
-    let word = s.word (name.Slot heap c) in
-    let keeps : ℕ = if word == d + 1 then 1 else 0 in
-    elim (cases_eq word (d + 1)) [
-      | inl held ↦
-          let same : c ≡ class = sym (sound.kept.slot heap c d exists.0 exists.1 held).1.class ∙ is in
-          omega (arith, cond-true {A = ℕ} (c == class) keeps 0 (eq-eqb c class same))
-      | inr differ ↦ omega (arith, cond-false {A = ℕ} (word == d + 1) 1 0 (ne_eqb word (d + 1) differ))
-    ]
-word-near g s l class d sound is n exists = omega arith
+word-near g s l class d sound is n exists = grind (arith, sound, is, exists, eq-eqb, ne_eqb)
 
 words-near :
     (g : Geometry) (s : State) (l : Lists) (class d : ℕ) → IsSoundWith g s l → (info_for s d).class ≡ class
@@ -57,12 +29,8 @@ words-near :
 words-near g s l class d sound is = words-least g (word_keeps d) (class_keeps class d) s.word (word-near g s l class d sound is)
 
 -- a word that offers blocks of d holds it
-offered-held : (d : ℕ) (o : Option ActiveWord) → 1 ≤ offered d o → 1 ≤ active_keeps d o
-offered-held d o some = grind (arith, some)
-
 word-offers-kept : (d : ℕ) (n : WordName) (word : ℕ) → 0 < word_reserves d n word → 1 ≤ word_keeps d n word
-word-offers-kept d (name.Active heap c) word some = offered-held d (active_of word) (omega (arith, some))
-word-offers-kept d n word some = absurd (omega (arith, some))
+word-offers-kept d n word some = grind (arith, some)
 
 words-offer-kept : (g : Geometry) (d : ℕ) (words : WordName → ℕ) → 0 < words_sum g (word_reserves d) words → 1 ≤ words_sum g (word_keeps d) words
 words-offer-kept g d words some = words-some g (word_reserves d) (word_keeps d) words (λ n. word-offers-kept d n (words n)) some
@@ -119,13 +87,11 @@ unlisted g s l class d sound bare is =
 
 -- a FULL superblock has no free block that nobody has reserved
 full-bare : (p : Phase) (count : ℕ) → (p ≡ phase.Full → count ≡ 0) → 1 ≤ count → full_keeps p ≡ 0
-full-bare phase.Full count bare some = absurd (omega (arith, bare refl, some))
-full-bare p count bare some = refl
+full-bare p count bare some = grind (arith, bare, some)
 
 -- a chain that has an index is not empty; only the superblock of a caller that installs it holds a block back
 some-chain : (next : ℕ → ℕ) (k a i : ℕ) → 0 < occurs i (chain_of next k a) → 1 ≤ k
-some-chain next zero a i some = absurd (omega (arith, some))
-some-chain next (suc k) a i some = omega arith
+some-chain next k a i some = grind (arith, some)
 
 some-held : (b : Superblock) (i : ℕ) → held_back b i ≤ b.waiting
 some-held b i = grind (arith)

@@ -1,20 +1,16 @@
 -- Which steps tell a look or a refusal; each of these has its number where what it stands on has it.
-use Rattle.std.proofs.Common.{ℕ, Bool, true, false, Option, Some, None, ◌≡◌, ◌<◌, [], refl, sym, arith, ap, subst, ◌∙◌, ◌==◌, if◌then◌else◌, IsTrue, eqb-true}
+use Rattle.std.proofs.Common.{ℕ, Bool, true, false, Option, Some, None, ◌≡◌, ◌<◌, [], refl, arith, ap, subst, ◌∙◌, ◌==◌, if◌then◌else◌, IsTrue, eqb-true}
 use Rattle.std.proofs.lemmas.Option.{none-some}
-use Rattle.sound_state.proofs.Common.{Geometry, CLASSES, Need, Small, need_of, HeadFields, head_of, SeatFields, BlockPoint, Pile, Frames, Partials, StackPoint}
-use Rattle.sound_state.proofs.Common.{head_name, next_in, LargePoint, Event, pool_of, Continuation, Point, event_of, FitsPoint, asked, plan_point_of, State, found_at}
-use Rattle.sound_state.proofs.Common.{Holding, holds_of, Lists, IsSoundWith, TooLarge, IsHead, head_word, head_of-head_word, first_wanted, WantFields, Pool}
-use Rattle.sound_state.proofs.Common.{FitsInStack, IsRunFor, confirms, stack_holds, continuation_holds}
-use Rattle.heap_geometry.specs.declared.need.Need.TheVariants.{Large}
-use Rattle.word_table.specs.declared.name.WordName.TheVariants as name
-use Rattle.stack_parts.specs.declared.point.StackPoint.TheVariants as stack
+use Rattle.sound_state.proofs.Common.{Geometry, CLASSES, Need, HeadFields, head_of, SeatFields, BlockPoint, Pile, StackPoint, head_name, LargePoint, Event, pool_of}
+use Rattle.sound_state.proofs.Common.{Continuation, Point, event_of, FitsPoint, asked, plan_point_of, State, found_at, Holding, holds_of, Lists, IsSoundWith, IsHead}
+use Rattle.sound_state.proofs.Common.{head_word, head_of-head_word, Pool, FitsInStack, confirms, stack_holds, continuation_holds}
 use Rattle.stack_parts.specs.Points.{IsBare}
-use Rattle.large_parts.specs.declared.point.LargePoint.TheVariants as large
 use Rattle.pool_model.specs.Legal.{IsCounted, IsCountedFor, IsCrowded, IsWorn}
-use Rattle.errand_steps.specs.declared.continuation.Continuation.TheVariants as continuation
 use Rattle.errand_steps.specs.declared.point.Point.TheVariants as point
-use Rattle.errand_steps.specs.Events.{won_event, block_event, stack_event, empty_event, large_event, run_event}
-use Rattle.errand_steps.specs.Continuations.{GoesLarge}
+use Rattle.errand_steps.specs.Events.{won_event}
+use Rattle.errand_steps.specs.tables.Blocks.{block_event}
+use Rattle.errand_steps.specs.tables.Stacks.{stack_event, empty_event}
+use Rattle.errand_steps.specs.tables.LargeBlocks.{large_event, GoesLarge}
 use Rattle.sound_state.specs.Sound.{TellsCounted}
 use Rattle.sound_state.proofs.shared.PointLemmas.{fits-at}
 use Rattle.sound_state.proofs.shared.StackedLemmas.{stacked-none}
@@ -43,61 +39,27 @@ block-tells : (g : Geometry) (pool : Pool) (caller words : ℕ) (p : BlockPoint)
 block-tells g pool caller words p = grind (arith)
 
 -- a refusal at a large block is of a large need, and needs no count
-large-refuses : (g : Geometry) (pool : Pool) (units : ℕ) (o : Continuation) → IsRunFor units o → IsCountedFor g pool (need_of (asked o))
-large-refuses g pool units (continuation.Alloc words) goes = subst (IsCountedFor g pool) (sym goes) tt
-large-refuses g pool units o goes = absurd goes
-
-run-tells :
-    (g : Geometry) (pool : Pool) (caller : ℕ) (w : WantFields) (o : Continuation) (first : Option ℕ) → IsRunFor w.units o
-    → IsCounted g pool (run_event caller (asked o) w first)
-run-tells g pool caller w o None goes = large-refuses g pool w.units o goes
-run-tells g pool caller w o (Some unit) goes = tt
-
 large-tells : (g : Geometry) (pool : Pool) (caller : ℕ) (p : LargePoint) (o : Continuation) → GoesLarge p o → HasCount g pool (large_event caller (asked o) p)
-large-tells g pool caller (large.TakeRun w bits) o goes = run-tells g pool caller w o (first_wanted w bits) goes
-large-tells g pool caller p o goes = tt
-
--- a caller that confirms that no frame is left holds neither a frame nor a reserved block; that no superblock is listed, nothing
-no-frame : (seat : SeatFields) (o : Continuation) → (continuation_holds seat o).frames ≡ []
-no-frame seat o = grind (arith)
-
-no-credit : (seat : SeatFields) (o : Continuation) → (continuation_holds seat o).credits ≡ []
-no-credit seat o = grind (arith)
-
-no-desc : (seat : SeatFields) (o : Continuation) → IsTrue (confirms Partials o) → (continuation_holds seat o).kept ≡ []
-no-desc seat o goes = grind (arith, goes)
+large-tells g pool caller p o goes = grind (arith, goes)
 
 -- crowded is enough for a refusal of any need
 refuses : (g : Geometry) (pool : Pool) (need : Need) → IsCrowded g pool → IsCountedFor g pool need
-refuses g pool (Small class) crowded = crowded
-refuses g pool (Large units) crowded = tt
-refuses g pool TooLarge crowded = tt
+refuses g pool need crowded = grind (arith, crowded)
 
 -- what a confirmation that a stack is empty tells has its number
 confirms-tells :
     (g : Geometry) (s : State) (l : Lists) (caller : ℕ) (seat : SeatFields) (pile : Pile) (h : HeadFields) (o : Continuation) → IsSoundWith g s l
     → IsBare g caller seat h → IsTrue (confirms pile o) → LooksWorn g s l (continuation_holds seat o) → RefusesCrowded g s l (continuation_holds seat o)
     → (s.word (head_name seat pile) == head_word h) ≡ true → IsCounted g (pool_of s.history) (empty_event caller (asked o) pile seat.class)
-confirms-tells g s l caller seat Frames h o sound bare goes worn crowded won =
-    let empty : l.frames ≡ [] =
-    stacked-none (next_in s.word Frames) (head_of (s.word name.FrameHead)).top l.frames sound.listed.frames
-    (found-top (s.word name.FrameHead) h bare.head bare.top won) in
-    refuses g (pool_of s.history) (need_of (asked o)) (crowded empty (no-frame seat o) (no-credit seat o))
-confirms-tells g s l caller seat Partials h o sound bare goes worn crowded won =
-    let word = s.word (name.ListHead seat.class) in
-    let empty : l.partials seat.class ≡ [] =
-    stacked-none (next_in s.word Partials) (head_of word).top (l.partials seat.class) (sound.listed.partials seat.class bare.seat.class)
-    (found-top word h bare.head bare.top won) in
-    worn seat.class bare.seat.class empty (no-desc seat o goes) (no-credit seat o)
+confirms-tells g s l caller seat pile h o sound bare goes worn crowded won =
+    grind (arith, sound, bare, goes, worn, crowded, won, stacked-none, found-top, refuses)
 
 stack-tells :
     (g : Geometry) (s : State) (l : Lists) (caller : ℕ) (p : StackPoint) (o : Continuation) → IsSoundWith g s l → FitsInStack g caller p o
     → LooksWorn g s l (stack_holds p o) → RefusesCrowded g s l (stack_holds p o) → (found_from s (point.Stack p o)).won ≡ true
     → HasCount g (pool_of s.history) (stack_event caller (asked o) p)
 unfolding plan_point_of
-stack-tells g s l caller (stack.ConfirmEmpty seat pile h) o sound fits worn crowded won =
-    confirms-tells g s l caller seat pile h o sound fits.point fits.goes worn crowded won
-stack-tells g s l caller p o sound fits worn crowded won = tt
+stack-tells g s l caller p o sound fits worn crowded won = grind (arith, sound, fits, worn, crowded, won, confirms-tells)
 
 -- what a step at any point tells that isn't lost has its number
 point-tells :
@@ -105,10 +67,7 @@ point-tells :
     → LooksWorn g s l (holds_of p) → RefusesCrowded g s l (holds_of p) → (found_from s p).won ≡ true
     → HasCount g (pool_of s.history) (won_event caller p)
 unfolding holds_of
-point-tells g s l caller (point.Block p o) sound fits worn crowded won = block-tells g (pool_of s.history) caller (asked o) p
-point-tells g s l caller (point.Stack p o) sound fits worn crowded won = stack-tells g s l caller p o sound fits worn crowded won
-point-tells g s l caller (point.Large p o) sound fits worn crowded won = large-tells g (pool_of s.history) caller p o fits.goes
-point-tells g s l caller p sound fits worn crowded won = tt
+point-tells g s l caller p sound fits worn crowded won = grind (arith, sound, fits, worn, crowded, won, block-tells, stack-tells, large-tells)
 
 -- a step that is lost tells nothing, and so has its number where a won one has it
 won-counts :

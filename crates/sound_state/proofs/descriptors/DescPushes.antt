@@ -1,14 +1,12 @@
 -- A won push of a retired descriptor onto the available ones keeps the state sound.
-use Rattle.std.proofs.Common.{ℕ, Bool, true, false, None, Some, ◌≡◌, ◌<◌, ◌≤◌, ◌+◌, ◌^◌, List, [], ◌∷◌, zero, suc, length, refl, arith, ap, sym, subst, inl, inr, ◌∙◌}
-use Rattle.std.proofs.Common.{◌==◌, not, All, Any, Contains, IsTrue, IfSome, if◌then◌else◌, eq-eqb, ne_eqb}
+use Rattle.std.proofs.Common.{ℕ, Bool, true, false, None, Some, ◌≡◌, ◌<◌, ◌≤◌, ◌+◌, ◌^◌, List, [], ◌∷◌, zero, suc, length, refl, arith, ap, sym, subst, inl, inr, ◌∙◌, ◌==◌}
+use Rattle.std.proofs.Common.{All, Contains, IsTrue, IfSome, if◌then◌else◌, eq-eqb, ne_eqb}
 use Rattle.std.proofs.lemmas.Bool.{cases_eq, cond-true, cond-false}
 use Rattle.std.proofs.lemmas.List.Elements.{All-nil, All-cons, All-head, All-tail}
-use Rattle.sound_state.proofs.Common.{Geometry, Found, name_of, after_action, descriptor_count, SeatFields, Writes, occurs, Partials, Stacked, next_in}
-use Rattle.sound_state.proofs.Common.{Next, At, End, Unlist, Continuation, Point, Block, Desc, ErrandFields, settle_of, course_of, raised}
-use Rattle.sound_state.proofs.Common.{counts_lost, counts_cleared, event_of, spare_of, pushed_by, next_of, plan_point_of, State, Moves, found_at, with_event, name_at}
-use Rattle.sound_state.proofs.Common.{IsGuard, IsHazard, passed_by, held_by, Kept, holds_of, IsWithout, IsKeptAs, Lists, IsSo, IsOwned, recalls_of, IsSoundWith}
-use Rattle.sound_state.proofs.Common.{turn_stage_of, in_turn, is_unneeded, waits_in, one_if, pops_left, IsErrand, plan_of, after_turn, begins_turn, is_spent}
-use Rattle.sound_state.proofs.Common.{point_after, one_more, counts_won, resumed, settle_errand, nothing, lacks_frame, lacks_partial, lacks_answer}
+use Rattle.sound_state.proofs.Common.{Geometry, Found, name_of, after_action, descriptor_count, SeatFields, Writes, occurs, Partials, Stacked, next_in, Next, At, End}
+use Rattle.sound_state.proofs.Common.{Unlist, Continuation, Point, Block, Desc, ErrandFields, settle_of, course_of, raised, counts_lost, counts_cleared, event_of, spare_of}
+use Rattle.sound_state.proofs.Common.{pushed_by, next_of, plan_point_of, State, Moves, found_at, with_event, passed_by, held_by, holds_of, IsWithout, Lists, IsSo}
+use Rattle.sound_state.proofs.Common.{recalls_of, IsSoundWith, waits_in, IsErrand, plan_of, after_turn, begins_turn, point_after, counts_won, resumed, nothing}
 use Rattle.word_table.specs.declared.name.WordName.TheVariants as name
 use Rattle.superblock_parts.specs.declared.point.BlockPoint.TheVariants as block
 use Rattle.hazard_parts.specs.Retired.{without}
@@ -20,13 +18,14 @@ use Rattle.sound_state.proofs.shared.RecallFrame.{Reads}
 use Rattle.sound_state.proofs.shared.ShownLemmas.{IsListedPart, sound-but_one, sound-shown, with_available, MayGoOn}
 use Rattle.sound_state.proofs.descriptors.DescRecalls.{recalls-pushed}
 use Rattle.sound_state.proofs.descriptors.DescWeighs.{ListWeighs, restocks-by}
-use Rattle.sound_state.proofs.hazards.HazardLemmas.{plain-guards}
 use Rattle.sound_state.proofs.shared.PointLemmas.{exists-at, fits-at, hazard-at, recalled-at}
+use Rattle.sound_state.proofs.quiet.QuietExchanges.{either-sound}
 use Rattle.sound_state.proofs.quiet.QuietDescs.{push_desc_lost-sound}
-use Rattle.sound_state.proofs.shared.StepLemmas.{raised-least, raised-below, found_from}
-use Rattle.sound_state.proofs.shared.WordFacts.{name-below}
+use Rattle.sound_state.proofs.shared.StepLemmas.{raised-least, found_from}
 use Rattle.sound_state.proofs.shared.KeepsSound.{KeepsSound, KeepsSoundWhere, silent-sound}
 use Rattle.sound_state.proofs.shared.TieLemmas.{Excepts}
+use Rattle.sound_state.proofs.shared.NothingLemmas.{nothing-stands, resumes-counts, TurnResumes, nothing-guards, HoldsNothing}
+use Rattle.sound_state.proofs.shared.TurnEffects.{own-counts}
 
 -- the point at which a call goes on after a retirement, and the turns that it has begun then
 abbrev pub resumed_point : ErrandFields → SeatFields → Continuation → Point
@@ -63,47 +62,28 @@ pub record IsBarePoint (q : Point) : Type 0 where
   pub unread : length (held_by q) ≡ 0
   pub spare : spare_of q ≡ 0
 
--- the turn at the second point goes on from the one at the first, with so many turns begun
-pub record TurnResumes (p q : Point) (turns turns' : ℕ) : Type 0 where
-  pub under_way : one_if (in_turn q) + turns ≤ one_if (in_turn p) + turns'
-  pub lost :
-      turns' + one_if (is_unneeded (turn_stage_of q)) + one_if (lacks_answer (turn_stage_of p))
-      ≤ turns + one_if (is_unneeded (turn_stage_of p)) + one_if (lacks_answer (turn_stage_of q))
-  pub unanswered : one_if (lacks_answer (turn_stage_of q)) + turns ≤ one_if (lacks_answer (turn_stage_of p)) + turns'
-  pub unframed :
-      one_if (lacks_frame (turn_stage_of q)) + turns ≤ one_if (lacks_frame (turn_stage_of p)) + turns'
-  pub pops :
-      pops_left q + one_if (lacks_partial (turn_stage_of q)) + turns
-      ≤ pops_left p + one_if (lacks_partial (turn_stage_of p)) + turns'
+-- so a caller holds nothing there
+bare-nothing : (q : Point) → IsBarePoint q → HoldsNothing q
+bare-nothing q h = record {
+  holds = h.holds;
+  waits = h.waits;
+  pushed = h.pushed;
+  passed = h.passed;
+  unread = λ k below. let bad : ⊥ = omega (arith, below, h.unread) in absurd bad;
+}
 
 -- what follows a turn's end: the next turn, or the end of the call where none is left
 abbrev turn_next : Bool → SeatFields → ℕ → Next
 turn_next b seat words = if b then End reply.Spent else At (Block (block.LoadActive seat) (continuation.Alloc words))
 
-turn-bare : (b : Bool) (seat : SeatFields) (words : ℕ) → IsBarePoint (point_after (turn_next b seat words))
-unfolding holds_of recalls_of
-turn-bare true seat words = grind (arith)
-turn-bare false seat words = grind (arith)
-
 resumed-bare : (e : ErrandFields) (seat : SeatFields) (o : Continuation) → IsTrue (resumes o) → IsBarePoint (resumed_point e seat o)
 unfolding holds_of recalls_of
-resumed-bare e seat (continuation.Turn words) is = turn-bare (is_spent e) seat words
 resumed-bare e seat o is = grind (arith, is)
-
-one_more-below : (n : ℕ) → n + 1 < 2 ^ 64 → one_more n ≡ n + 1
-one_more-below n below = grind (arith, below)
-
-turn-resumes :
-    (b : Bool) (seat : SeatFields) (d top words turns : ℕ) → turns + 1 < 2 ^ 64
-    → TurnResumes (Desc (desc.PushDesc seat d top) (continuation.Turn words)) (point_after (turn_next b seat words)) turns (raised (not b) turns)
-turn-resumes true seat d top words turns below = grind (arith)
-turn-resumes false seat d top words turns below = rw (one_more-below turns below) (grind (arith))
 
 resumed-turns :
     (e : ErrandFields) (seat : SeatFields) (d top : ℕ) (o : Continuation) → IsTrue (resumes o) → e.turns + 1 < 2 ^ 64
     → TurnResumes (Desc (desc.PushDesc seat d top) o) (resumed_point e seat o) e.turns (resumed_turns e seat o)
-resumed-turns e seat d top (continuation.Turn words) is below = turn-resumes (is_spent e) seat d top words e.turns below
-resumed-turns e seat d top o is below = grind (arith, is)
+resumed-turns e seat d top o is below = grind (arith, is, below)
 
 -- a list without one that it contains has it once less
 pub occurs-without : (d k : ℕ) (xs : List ℕ) → Contains xs d → occurs k xs ≡ (if d == k then 1 else 0) + occurs k (without d xs)
@@ -137,15 +117,7 @@ pub push-weighs :
     (l : Lists) (seat : SeatFields) (d top : ℕ) (o : Continuation) (e : ErrandFields) (x : Found) → e.point ≡ Desc (desc.PushDesc seat d top) o
     → Contains e.retired d → IsBarePoint (resumed_point e seat o) → ListWeighs l (d ∷ l.available) e (pushed_errand e x seat d o)
 unfolding holds_of
-push-weighs l seat d top o e x stands listed bare = record {
-  reserves = λ k. rw (stands, bare.holds) refl;
-  waits = λ k. rw (stands, bare.holds) refl;
-  ways = λ k off. rw (stands, bare.holds) refl;
-  away = λ k. rw (stands, bare.holds) (omega (arith, occurs-without d k e.retired listed));
-  places = λ k. rw (stands, bare.holds) (omega (arith, occurs-without d k e.retired listed));
-  frames = λ f. rw (stands, bare.holds) refl;
-  stock = λ class. rw (stands, bare.holds, bare.waits class) refl;
-}
+push-weighs l seat d top o e x stands listed bare = grind (arith, stands, listed, bare, occurs-without)
 
 -- a caller's turns are few enough that one more fits a word
 own-turns-below : (g : Geometry) (e : ErrandFields) → e.geometry ≡ g → IsErrand e → e.turns + 1 < 2 ^ 64
@@ -154,36 +126,25 @@ own-turns-below g e same rule = omega (arith, rule.turns, rule.geometry.turn_lim
 -- a caller may go on from the won push of a retired descriptor
 push-may :
     (g : Geometry) (s : State) (l : Lists) (caller : ℕ) (seat : SeatFields) (d : ℕ) (o : Continuation) (x : Found) → IsSoundWith g s l
-    → caller < g.callers → x.value < 2 ^ 64 → settle_of (s.errand caller) x ≡ pushed_errand (s.errand caller) x seat d o
+    → caller < g.callers
     → counts_cleared (s.errand caller).point x ≡ false → IsBarePoint (resumed_point (s.errand caller) seat o)
     → TurnResumes (s.errand caller).point (resumed_point (s.errand caller) seat o) (s.errand caller).turns (resumed_turns (s.errand caller) seat o)
     → ((place : ℕ) → Excepts (s.errand caller) place → ⊥) → MayGoOn g s l caller (s.errand caller) (pushed_errand (s.errand caller) x seat d o)
-push-may g s l caller seat d o x old has word after still bare turn excepts =
+push-may g s l caller seat d o x old has still bare turn excepts =
     let e = s.errand caller in
-    let own = old.errands caller has in
+    let own = old.formed.errands caller has in
     let more : e.lost ≤ raised (counts_lost e.point x) e.lost = raised-least (counts_lost e.point x) e.lost own.lost in
-    let holds = sym bare.holds in
     record {
-      rule = record {
-        number = own.number;
-        geometry = own.geometry;
-        rule = subst IsErrand after (settle_errand e x own.rule word);
-        lost = raised-below (counts_lost e.point x) e.lost own.lost;
-      };
-      kept =
-          subst (λ h. All (λ k. IsKeptAs s k.status k.desc k.class) h.kept) holds
-          (All-nil (λ (k : Kept). IsKeptAs s k.status k.desc k.class));
-      retired = All-without (IsWithout s) d e.retired (old.kept.retired caller has);
-      so = subst (All (IsSo g s l caller)) (sym bare.recalls) (All-nil (IsSo g s l caller));
-      full = λ spare. let bad : ⊥ = omega (arith, spare, bare.spare) in absurd bad;
-      hands = subst (λ h. All (λ x. IsOwned s caller x.place x.need) h.hands) holds (All-nil (λ x. IsOwned s caller x.place x.need));
-      frees = subst (λ h. All (λ x. IsOwned s caller x.place x.need) h.frees) holds (All-nil (λ x. IsOwned s caller x.place x.need));
+      stands =
+          nothing-stands g s l caller (pushed_errand e x seat d o) (bare-nothing _ bare) (All-without (IsWithout s) d e.retired (old.kept.retired caller has))
+          (λ spare. let bad : ⊥ = omega (arith, spare, bare.spare) in absurd bad)
+          (subst (All (IsSo g s l caller)) (sym bare.recalls) (All-nil (IsSo g s l caller)));
       excepts = λ place is. absurd (excepts place is);
-      own_turns = omega (arith, old.turned.own_turns caller has, turn.under_way);
-      own_lost = omega (arith, old.turned.own_lost caller has, turn.lost, more);
-      own_answers = omega (arith, old.turned.own_answers caller has, turn.unanswered);
-      frame_turns = turn.unframed;
-      list_turns = omega (arith, turn.pops, ap (λ b. raised b e.cleared) still);
+      counts = record {
+        own = resumes-counts caller s.history e (pushed_errand e x seat d o) (own-counts g s l caller old.turned has) more turn;
+        frame_turns = turn.unframed;
+        list_turns = omega (arith, turn.pops, ap (λ b. raised b e.cleared) still);
+      };
     }
 
 -- a caller that pushes a descriptor excepts no block
@@ -191,17 +152,7 @@ push-excepts :
     (seat : SeatFields) (d top : ℕ) (o : Continuation) (e : ErrandFields) → e.point ≡ Desc (desc.PushDesc seat d top) o → (place : ℕ)
     → Excepts e place → ⊥
 unfolding holds_of
-push-excepts seat d top o e stands place x =
-    let none : holds_of e.point ≡ nothing = ap holds_of stands in
-    elim x [
-      | inl a ↦
-          let bad : Any (λ b. b.place ≡ place) nothing.hands = subst (λ h. Any (λ b. b.place ≡ place) h.hands) none a in
-          let no_place : ⊥ = omega (arith, bad.2) in no_place
-      | inr a ↦
-          let bad : Any (λ b. (b.place ≡ place) × IsTrue b.overwritten) nothing.frees =
-          subst (λ h. Any (λ b. (b.place ≡ place) × IsTrue b.overwritten) h.frees) none a in
-          let no_place : ⊥ = omega (arith, bad.2) in no_place
-    ]
+push-excepts seat d top o e stands place x = grind (arith, stands, x)
 
 -- the won push of a retired descriptor keeps the state sound: it is available, and the call goes on or ends
 pub push_desc_won-sound :
@@ -213,7 +164,7 @@ push_desc_won-sound seat d top o g s caller s' sound has stands won step =
     let old = sound.parts.1 in
     let x = found_at s caller in
     let is_won : (s.word name.DescHead == top) ≡ true = eq-eqb (s.word name.DescHead) top won in
-    let own = old.errands caller has in
+    let own = old.formed.errands caller has in
     let fits = fits-at g s l caller p old has stands in
     let next : next_of p (found_from s p) ≡ Unlist seat d o = rw is_won refl in
     let after : settle_of (s.errand caller) x ≡ pushed_errand (s.errand caller) x seat d o =
@@ -238,28 +189,22 @@ push_desc_won-sound seat d top o g s caller s' sound has stands won step =
     subst (λ r. TurnResumes r (resumed_point (s.errand caller) seat o) (s.errand caller).turns (resumed_turns (s.errand caller) seat o)) (sym stands)
     (resumed-turns (s.errand caller) seat d top o fits.goes small) in
     let cleared : counts_cleared (s.errand caller).point x ≡ false = subst (λ r. counts_cleared r x ≡ false) (sym stands) refl in
-    let may = push-may g s l caller seat d o x old has (old.words (name_at s caller)) after cleared bare turn (push-excepts seat d top o (s.errand caller) stands) in
+    let may = push-may g s l caller seat d o x old has cleared bare turn (push-excepts seat d top o (s.errand caller) stands) in
     let clear : s.word (name.Hazard caller) ≡ 0 = hazard-at g s l caller p old has stands in
-    let guards =
-    plain-guards g s caller e.point e.retired (s.word (name.Hazard caller))
-    (subst (λ h. IsHazard h.hazard (s.word (name.Hazard caller))) (sym bare.holds) clear)
-    (λ k named guard. absurd (subst (λ h. IsGuard h.hazard) bare.holds guard)) bare.pushed bare.passed bare.unread in
+    let guards = nothing-guards g s caller e.point e.retired (s.word (name.Hazard caller)) (bare-nothing _ bare) clear in
     let stack : Stacked (next_in s.word Partials) (d + 1) (d ∷ l.available) =
     (refl, subst (λ t. Stacked (next_in s.word Partials) t l.available) (won ∙ sym link) old.listed.available) in
     let restocks =
     restocks-by g s l caller e s' (d ∷ l.available) (d + 1) old has (exists-at g s caller p sound has stands) writes
-    (subst (λ f. Moves s.errand caller f s'.errand) after step.errand) past (name-below g d sound.checked exists)
+    (subst (λ f. Moves s.errand caller f s'.errand) after step.errand) past
     (ap (λ b. raised b (s.errand caller).cleared) cleared) may guards stack
     (All-cons (λ k. k < descriptor_count g) d l.available exists old.listed.available_exist)
     (All-cons (IsWithout s) d l.available (All-at (IsWithout s) d (s.errand caller).retired (old.kept.retired caller has) listed) old.kept.available)
     (push-weighs l seat d top o (s.errand caller) x stands listed bare) (recalls-pushed g s l caller d old has exists listed pushes)
     (subst (All (Reads (IsListedPart l (d ∷ l.available)))) (sym bare.recalls) (All-nil (Reads (IsListedPart l (d ∷ l.available))))) in
-    silent-sound g s s' (with_available l (d ∷ l.available)) sound past (sound-shown g s l caller e s' (d ∷ l.available) restocks (sound-but_one g s l caller old))
+    silent-sound g s caller s' (with_available l (d ∷ l.available)) sound has step past
+    (sound-shown g s l caller e s' (d ∷ l.available) restocks (sound-but_one g s l caller old))
 
 -- a push of a retired descriptor, won or lost, keeps the state sound
 pub push_desc-sound : (seat : SeatFields) (d top : ℕ) (o : Continuation) → KeepsSound (Desc (desc.PushDesc seat d top) o)
-push_desc-sound seat d top o g s caller s' sound has stands step =
-    elim (cases_eq (s.word name.DescHead) top) [
-      | inl won ↦ push_desc_won-sound seat d top o g s caller s' sound has stands won step
-      | inr lost ↦ push_desc_lost-sound seat d top o g s caller s' sound has stands lost step
-    ]
+push_desc-sound seat d top o = either-sound _ name.DescHead top (push_desc_won-sound seat d top o) (push_desc_lost-sound seat d top o)

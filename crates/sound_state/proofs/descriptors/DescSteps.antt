@@ -1,11 +1,10 @@
 -- The won exchanges of the stack of available descriptors keep the state sound.
-use Rattle.std.proofs.Common.{ℕ, true, false, None, ◌≡◌, ◌<◌, ◌+◌, ◌^◌, List, [], ◌∷◌, refl, arith, ap, sym, subst, inl, inr, ◌∙◌, ◌==◌, All, if◌then◌else◌, eq-eqb}
+use Rattle.std.proofs.Common.{ℕ, true, false, None, ◌≡◌, ◌<◌, ◌+◌, List, [], ◌∷◌, refl, arith, ap, sym, subst, inl, inr, ◌∙◌, ◌==◌, All, eq-eqb}
 use Rattle.std.proofs.lemmas.Bool.{cases_eq, cond-true}
-use Rattle.std.proofs.lemmas.List.Elements.{All-nil, All-cons, All-head, All-tail, All-from_recursion}
-use Rattle.sound_state.proofs.Common.{Geometry, Found, name_of, after_action, descriptor_count, SeatFields, Writes, occurs, Partials, Stacked, next_in}
-use Rattle.sound_state.proofs.Common.{Continuation, Desc, ErrandFields, counts_cleared, raised, event_of, next_of, plan_point_of, State, Moves}
-use Rattle.sound_state.proofs.Common.{found_at, with_event, name_at, IsGuard, Kept, holds_of, on_its_way, waiting, IsWithout, IsKeptAs, Lists, IsSo, IsOwned, looked}
-use Rattle.sound_state.proofs.Common.{recalls_of, kept_among, keep}
+use Rattle.std.proofs.lemmas.List.Elements.{All-head, All-tail, All-from_recursion}
+use Rattle.sound_state.proofs.Common.{Geometry, Found, name_of, after_action, descriptor_count, SeatFields, Writes, occurs, Partials, Stacked, next_in, Continuation, Desc}
+use Rattle.sound_state.proofs.Common.{ErrandFields, counts_cleared, raised, event_of, next_of, plan_point_of, State, Moves, found_at, with_event, IsGuard, holds_of}
+use Rattle.sound_state.proofs.Common.{IsWithout, Lists, IsSo, looked, recalls_of}
 use Rattle.word_table.specs.declared.name.WordName.TheVariants as name
 use Rattle.hazard_parts.specs.declared.point.DescPoint.TheVariants as desc
 use Rattle.sound_state.proofs.shared.HasLemmas.{ways-one}
@@ -13,9 +12,9 @@ use Rattle.sound_state.proofs.shared.ShownLemmas.{sound-but_one, sound-shown, wi
 use Rattle.sound_state.proofs.descriptors.DescRecalls.{recalls-popped}
 use Rattle.sound_state.proofs.descriptors.DescWeighs.{ListWeighs, restocks-by}
 use Rattle.sound_state.proofs.hazards.HazardLemmas.{plain-guards, leads-at}
-use Rattle.sound_state.proofs.shared.PointLemmas.{exists-at, hazard-at, kept_places, recalled-at}
+use Rattle.sound_state.proofs.shared.PointLemmas.{exists-at, hazard-at, recalled-at}
 use Rattle.sound_state.proofs.quiet.QuietDescs.{pop_desc_lost-sound}
-use Rattle.sound_state.proofs.shared.StepLemmas.{PointStands, TurnGoes, at_point, may-after, found_from}
+use Rattle.sound_state.proofs.shared.StepLemmas.{PointStands, at_point, may-step, found_from}
 use Rattle.sound_state.proofs.shared.KeepsSound.{KeepsSound, KeepsSoundWhere, silent-sound}
 
 -- a stack whose top names a descriptor begins with it
@@ -26,48 +25,19 @@ first-of next d (x ∷ xs) stack =
     let same : x ≡ d = omega (arith, stack.0) in
     (xs, ap (λ k. k ∷ xs) same, subst (λ k. Stacked next (next k) xs) same stack.1)
 
-waits-none : (d k c : ℕ) → kept_among waiting d (keep k c on_its_way) ≡ 0
-waits-none d k c = grind (arith)
-
-ways-places : (d k c : ℕ) → kept_places d (keep k c on_its_way) ≡ (if k == d then 1 else 0)
-ways-places d k c = grind (arith)
-
 pop-weighs :
     (l : Lists) (seat : SeatFields) (d next : ℕ) (o : Continuation) (ys : List ℕ) (e : ErrandFields) (x : Found)
     → e.point ≡ Desc (desc.PopDesc seat d next) o → l.available ≡ d ∷ ys
     → ListWeighs l ys e (at_point e x (Desc (desc.ClearAfterPop seat d) o))
 unfolding holds_of
-pop-weighs l seat d next o ys e x stands is = record {
-  reserves = λ k. rw stands refl;
-  waits = λ k. rw stands (waits-none k d seat.class);
-  ways = λ k off.
-      let none : occurs k (d ∷ ys) ≡ 0 = subst (λ zs. occurs k zs ≡ 0) is off in
-      rw stands (omega (arith, none, ways-one k d seat.class));
-  away = λ k. rw (stands, is) (omega (arith, ways-one k d seat.class));
-  places = λ k. rw (stands, is) (omega (arith, ways-places k d seat.class));
-  frames = λ f. rw stands refl;
-  stock = λ class. rw stands (omega arith);
-}
-
-pub pop-turns : (seat : SeatFields) (d next : ℕ) (o : Continuation) → TurnGoes (Desc (desc.PopDesc seat d next) o) (Desc (desc.ClearAfterPop seat d) o)
-pop-turns seat d next o = grind (arith)
+pop-weighs l seat d next o ys e x stands is = grind (arith, stands, is, ways-one)
 
 pop_desc-stands :
     (g : Geometry) (s : State) (l : Lists) (caller : ℕ) (seat : SeatFields) (d next : ℕ) (o : Continuation) → IsWithout s d
     → All (IsSo g s l caller) (looked seat.class ∷ [])
     → PointStands g s l caller (Desc (desc.PopDesc seat d next) o) (Desc (desc.ClearAfterPop seat d) o)
 unfolding holds_of recalls_of
-pop_desc-stands g s l caller seat d next o without so = record {
-  kept =
-      All-cons (λ k. IsKeptAs s k.status k.desc k.class) (record { desc = d; class = seat.class; status = on_its_way }) [] without
-      (All-nil (λ (k : Kept). IsKeptAs s k.status k.desc k.class));
-  so = so;
-  spare = refl;
-  hands = All-nil (λ x. IsOwned s caller x.place x.need);
-  frees = All-nil (λ x. IsOwned s caller x.place x.need);
-  excepts = λ place x. x;
-  turn = pop-turns seat d next o;
-}
+pop_desc-stands g s l caller seat d next o without so = grind (arith, without, so)
 
 -- the won pop of the first available descriptor keeps the state sound: the caller keeps it on its way
 pub pop_desc_won-sound :
@@ -107,12 +77,14 @@ pop_desc_won-sound seat d next o g s caller s' sound has at won step =
     (λ k named guard. inl (record { word = named; guard = subst (λ r. IsGuard (holds_of r).hazard) (sym at) tt })) refl refl refl in
     let restocks =
     restocks-by g s l caller e s' ys next old has (exists-at g s caller p sound has at) writes (subst (λ f. Moves s.errand caller f s'.errand) after step.errand) past
-    (subst (λ w. w < 2 ^ 64) link (old.words (name.Next d))) (ap (λ b. raised b (s.errand caller).cleared) cleared)
-    (may-after g s l caller (found_at s caller) q old has (old.words (name_at s caller)) after cleared stands)
+    (ap (λ b. raised b (s.errand caller).cleared) cleared)
+    (may-step g s l caller (found_at s caller) q old has cleared stands)
     guards (subst (λ top. Stacked (next_in s.word Partials) top ys) link first.2) (All-tail (λ k. k < descriptor_count g) d ys exist)
-    (All-tail (IsWithout s) d ys without) (pop-weighs l seat d next o ys (s.errand caller) (found_at s caller) at is) (λ i has_i. recalls-popped l d ys is (s.errand i).point)
+    (All-tail (IsWithout s) d ys without) (pop-weighs l seat d next o ys (s.errand caller) (found_at s caller) at is)
+    (λ i has_i. recalls-popped l d ys is (s.errand i).point)
     (recalls-popped l d ys is q) in
-    silent-sound g s s' (with_available l ys) sound past (sound-shown g s l caller e s' ys restocks (sound-but_one g s l caller old))
+    silent-sound g s caller s' (with_available l ys) sound has step past
+    (sound-shown g s l caller e s' ys restocks (sound-but_one g s l caller old))
 
 -- a pop of an available descriptor, won or lost, keeps the state sound
 pub pop_desc-sound : (seat : SeatFields) (d next : ℕ) (o : Continuation) → KeepsSound (Desc (desc.PopDesc seat d next) o)

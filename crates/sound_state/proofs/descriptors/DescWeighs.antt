@@ -1,11 +1,10 @@
 -- What a step at the head of the available descriptors weighs.
-use Rattle.std.proofs.Common.{ℕ, ◌≡◌, ◌<◌, ◌+◌, ◌^◌, List, refl, arith, ap, sym, subst, inl, inr, All}
-use Rattle.sound_state.proofs.Common.{Geometry, anchor_of, WordName, descriptor_count, Exists, Writes, cases_name, occurs, Partials, Stacked, next_in, ErrandFields}
-use Rattle.sound_state.proofs.Common.{State, Moves, errand_frames, waiting, on_its_way, IsWithout, word_keeps, errand_has, full_keeps, Lists, IsSoundWith, word_stock}
-use Rattle.sound_state.proofs.Common.{errand_stock, word_reserves, errand_reserves, errand_keeps, errand_away, away_of}
+use Rattle.std.proofs.Common.{ℕ, ◌≡◌, ◌<◌, ◌+◌, List, refl, arith, ap, sym, subst, All}
+use Rattle.sound_state.proofs.Common.{Geometry, anchor_of, WordName, descriptor_count, Exists, Writes, occurs, Partials, Stacked, next_in, ErrandFields, State, Moves}
+use Rattle.sound_state.proofs.Common.{errand_frames, waiting, on_its_way, IsWithout, word_keeps, errand_has, full_keeps, Lists, IsSoundWith, word_stock, errand_stock}
+use Rattle.sound_state.proofs.Common.{word_reserves, errand_reserves, errand_keeps, errand_away, away_of}
 use Rattle.word_table.specs.declared.name.WordName.TheVariants as name
 use Rattle.sound_state.proofs.shared.BackedRecalls.{AllRead}
-use Rattle.sound_state.proofs.shared.StepLemmas.{words-below}
 use Rattle.sound_state.proofs.shared.ShownLemmas.{IsListedPart, IsShown, ShowsSame, with_available, MayGoOn, MayGuard}
 use Rattle.sound_state.proofs.shared.TurnEffects.{emptied-kept}
 use Rattle.sound_state.proofs.shared.WeighLemmas.{full-same}
@@ -31,11 +30,7 @@ IsNoDescHead n = Unit {0}
 others-stay :
     (words : WordName → ℕ) (new : ℕ) (words' : WordName → ℕ) → Writes words name.DescHead new words' → (n : WordName) → IsNoDescHead n
     → words' n ≡ words n
-others-stay words new words' w n apart =
-    elim (cases_name n name.DescHead) [
-      | inl is ↦ let bad : ⊥ = subst IsNoDescHead is apart in absurd bad
-      | inr differ ↦ w.elsewhere n differ
-    ]
+others-stay words new words' w n apart = grind (arith, w, apart)
 
 shown-apart : (n : WordName) → IsShown n → IsNoDescHead n
 shown-apart n shown = grind (arith)
@@ -44,13 +39,13 @@ shown-apart n shown = grind (arith)
 pub restocks-by :
     (g : Geometry) (s : State) (l : Lists) (caller : ℕ) (e : ErrandFields) (s' : State) (ys : List ℕ) (new : ℕ) → IsSoundWith g s l
     → caller < g.callers → Exists g name.DescHead → Writes s.word name.DescHead new s'.word → Moves s.errand caller e s'.errand
-    → s'.history ≡ s.history → new < 2 ^ 64 → e.cleared ≡ (s.errand caller).cleared
+    → s'.history ≡ s.history → e.cleared ≡ (s.errand caller).cleared
     → MayGoOn g s l caller (s.errand caller) e
     → MayGuard g s caller e.point e.retired (s.word (name.Hazard caller)) → Stacked (next_in s.word Partials) new ys
     → All (λ d. d < descriptor_count g) ys → All (IsWithout s) ys → ListWeighs l ys (s.errand caller) e
     → ((i : ℕ) → i < g.callers → AllRead (IsListedPart l ys) (s.errand i).point) → AllRead (IsListedPart l ys) e.point
     → ShowsSame g s l caller e s' ys
-restocks-by g s l caller e s' ys new old has exists w m past small still may guards stack exist without weigh recalls here =
+restocks-by g s l caller e s' ys new old has exists w m past still may guards stack exist without weigh recalls here =
     let stay = others-stay s.word new s'.word w in
     let words = λ (weight : WordName → ℕ → ℕ). words-written g weight s.word name.DescHead new s'.word exists w in
     let callers = λ (weight : ErrandFields → ℕ). callers-moved g weight s.errand caller e s'.errand has m in
@@ -65,7 +60,6 @@ restocks-by g s l caller e s' ys new old has exists w m past small still may gua
       guards = subst (MayGuard g s caller e.point e.retired) (sym (stay (name.Hazard caller) tt)) guards;
       actives =
           actives-same g s l s'.word old.kept (λ heap class. stay (name.Active heap class) tt) (λ heap class. stay (name.Slot heap class) tt);
-      words = words-below s.word name.DescHead new s'.word w old.words small;
       word = λ n shown. stay n (shown-apart n shown);
       history = past;
       stacked = subst (λ top. Stacked (next_in s.word Partials) top ys) (sym w.here) stack;

@@ -1,8 +1,8 @@
 -- A lost install: what it changes, and that everything else stays.
 use Rattle.std.proofs.Common.{ℕ, ◌≡◌, ◌<◌, ◌≤◌, ◌+◌, [], ◌⊎◌, IsTrue}
-use Rattle.sound_state.proofs.Common.{Geometry, WordName, Site, IsSiteOf, ErrandFields, Point, State, Moves, holds_of, Lists}
-use Rattle.sound_state.proofs.Common.{IsLocated, recalls_of, IsOwnErrand, turn_stage_of, anchor_for, is_bound, pops_left, new_anchor, making}
-use Rattle.sound_state.specs.TurnStages.{not_needed}
+use Rattle.sound_state.proofs.Common.{Geometry, WordName, Site, IsSiteOf, ErrandFields, Point, State, Moves, holds_of, Lists, IsLocated, recalls_of, turn_stage_of}
+use Rattle.sound_state.proofs.Common.{anchor_for, is_bound, pops_left, new_anchor, making}
+use Rattle.errand_steps.specs.tables.TurnStage.{not_needed}
 use Rattle.sound_state.proofs.shared.MakingWeights.{installing_holds}
 use Rattle.sound_state.proofs.shared.TurnEffects.{StandsFramed, IsQuiet}
 
@@ -22,7 +22,6 @@ pub record Discards (g : Geometry) (s : State) (l : Lists) (caller : ℕ) (at : 
   pub anchor : anchor_for s at.desc ≡ new_anchor at.seat.class
   pub words : (n : WordName) → s'.word n ≡ s.word n
   pub history : s'.history ≡ s.history
-  pub rule : IsOwnErrand g caller e
   pub retired : e.retired ≡ (s.errand caller).retired
   pub turns : e.turns ≡ (s.errand caller).turns
   pub lost : (e.lost ≡ (s.errand caller).lost + 1) ⊎ (e.turns ≤ e.lost)

@@ -29,8 +29,7 @@ module _ {g : Geometry} {s : State} {l : Lists} {caller : ℕ} {at : Site} {e : 
   discarded-holds = record { in_heap = h.in_heap; moves = h.moves; retired = h.retired; before = h.holds_before; after = h.holds_after }
 
   -- the descriptor of a lost install is on its way, and doesn't wait any more
-  pub discarded-ways :
-      (d : ℕ) → callers_sum g (errand_keeps on_its_way d) s'.errand ≡ callers_sum g (errand_keeps on_its_way d) s.errand + is_it at d
+  pub discarded-ways : (d : ℕ) → callers_sum g (errand_keeps on_its_way d) s'.errand ≡ callers_sum g (errand_keeps on_its_way d) s.errand + is_it at d
   discarded-ways d = omega (arith, ways-go discarded-holds d, installing-others on_its_way at d refl, making-ways at d)
 
   pub discarded-away : (d : ℕ) → away_of g s' l d ≡ away_of g s l d + is_it at d
@@ -74,8 +73,7 @@ module _ {g : Geometry} {s : State} {l : Lists} {caller : ℕ} {at : Site} {e : 
 
   all-reserved :
       IsSoundWith g s l
-      → (sum_below (superblock_of g s at.desc).size (superblock_of g s at.desc).live ≡ 0)
-      × (reserved_of g s at.desc ≡ errand_reserves at.desc (s.errand caller))
+      → (sum_below (superblock_of g s at.desc).size (superblock_of g s at.desc).live ≡ 0) × (reserved_of g s at.desc ≡ errand_reserves at.desc (s.errand caller))
   unfolding callers_sum
   all-reserved is =
       let b = superblock_of g s at.desc in

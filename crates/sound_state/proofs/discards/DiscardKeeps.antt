@@ -1,23 +1,23 @@
 -- A lost install keeps the lists, the descriptors, the stock, the frames, the chains, the guards and the bounds of tags and turns.
-use Rattle.std.proofs.Common.{ℕ, ◌≡◌, ◌≢◌, ◌<◌, ◌^◌, [], refl, arith, ap, sym, subst, inl, inr, ◌∙◌, All, IsTrue}
+use Rattle.std.proofs.Common.{ℕ, ◌≡◌, ◌≢◌, [], refl, arith, ap, sym, subst, inl, inr, ◌∙◌, All, IsTrue}
 use Rattle.std.proofs.Math.Path.{fun_ext}
-use Rattle.std.proofs.lemmas.List.Elements.{All-nil, All-cons}
-use Rattle.sound_state.proofs.Common.{Geometry, descriptor_count, WordName, Site, ErrandFields, State, IsFramed, fills_frame, IsGuarded, Kept, on_its_way}
-use Rattle.sound_state.proofs.Common.{IsKept, IsWithout, IsKeptAs, full_keeps, word_keeps, Lists, IsListed, IsSoundWith, full_stock, word_stock, sum_below}
-use Rattle.sound_state.proofs.Common.{AreChained, superblock_of, is_bound, away_of, waiting_of, IsTurned, emptied_out, IsStocked, turn_unlisted}
+use Rattle.sound_state.proofs.Common.{Geometry, Site, ErrandFields, State, IsFramed, fills_frame, IsGuarded, on_its_way, IsKept, IsWithout, full_keeps, word_keeps, Lists}
+use Rattle.sound_state.proofs.Common.{IsListed, IsSoundWith, word_stock, AreChained, superblock_of, is_bound, away_of, waiting_of, IsTurned, emptied_out, IsStocked}
+use Rattle.sound_state.proofs.Common.{turn_unlisted, pool_of}
 use Rattle.word_table.specs.declared.name.WordName.TheVariants as name
-use Rattle.sound_state.specs.TurnStages.{not_needed}
+use Rattle.errand_steps.specs.tables.TurnStage.{not_needed}
 use Rattle.sound_state.proofs.discards.DiscardEffects.{Discards}
-use Rattle.sound_state.proofs.discards.DiscardFacts.{discarded-holds, discarded-still, discarded-descs, discarded-away, discarded-waits, discarded-bound}
-use Rattle.sound_state.proofs.discards.DiscardFacts.{discarded-unbound, discarded-was, discarded-reserved, discarded-waited}
+use Rattle.sound_state.proofs.discards.DiscardFacts.{discarded-holds, discarded-still, discarded-descs, discarded-away, discarded-waits, discarded-bound, discarded-unbound}
+use Rattle.sound_state.proofs.discards.DiscardFacts.{discarded-was, discarded-reserved, discarded-waited}
 use Rattle.sound_state.proofs.shared.FrameLemmas.{waiting-fills}
 use Rattle.sound_state.proofs.shared.SuperblockEffects.{of-each, infos-stay, live-stays, superblock-stays, same-chained}
 use Rattle.sound_state.proofs.shared.GuardEffects.{guarded-clear}
-use Rattle.sound_state.proofs.shared.SumLemmas.{sum-same, words-same}
+use Rattle.sound_state.proofs.shared.SumLemmas.{words-same}
 use Rattle.sound_state.proofs.shared.TurnEffects.{emptied-kept, head-tag, no-event, stage-weighs, turned-after, framed-weighs}
 use Rattle.sound_state.proofs.shared.HoldingEffects.{places-go, stock-goes, framed-after}
 use Rattle.sound_state.proofs.shared.MakingWeights.{it-elsewhere, making-places, making-stock}
-use Rattle.sound_state.proofs.shared.SuperblocksStay.{actives-same, descs-kept}
+use Rattle.sound_state.proofs.shared.SuperblocksStay.{actives-same, descs-kept, AreKept, keeps-one}
+use Rattle.sound_state.proofs.shared.WeighLemmas.{full-same}
 
 module _ {g : Geometry} {s : State} {l : Lists} {caller : ℕ} {at : Site} {e : ErrandFields} {s' : State} (h : Discards g s l caller at e s') where
   words-all : s'.word ≡ s.word
@@ -25,9 +25,6 @@ module _ {g : Geometry} {s : State} {l : Lists} {caller : ℕ} {at : Site} {e : 
 
   pub discarded-listed : IsSoundWith g s l → IsListed g s'.word l
   discarded-listed old = subst (λ w. IsListed g w l) (sym words-all) old.listed
-
-  pub discarded-words : IsSoundWith g s l → (n : WordName) → s'.word n < 2 ^ 64
-  discarded-words old n = subst (λ w. w < 2 ^ 64) (sym (h.words n)) (old.words n)
 
   pub discarded-kept : IsSoundWith g s l → IsKept g s' l
   discarded-kept old =
@@ -49,22 +46,17 @@ module _ {g : Geometry} {s : State} {l : Lists} {caller : ℕ} {at : Site} {e : 
         available = old.kept.available;
         retired = subst (All (IsWithout s)) (sym h.retired) (old.kept.retired caller h.in_heap);
         own =
-            subst (λ x. All (λ (k : Kept). IsKeptAs s k.status k.desc k.class) x.kept) (sym h.holds_after)
-            (All-cons (λ (k : Kept). IsKeptAs s k.status k.desc k.class) (record { desc = at.desc; class = at.seat.class; status = on_its_way }) []
-            (inl (ap (λ x. x.state) h.anchor)) (All-nil (λ (k : Kept). IsKeptAs s k.status k.desc k.class)));
+            subst (λ x. AreKept s x.kept) (sym h.holds_after) (keeps-one s at.desc at.seat.class on_its_way (inl (ap (λ x. x.state) h.anchor)));
       })
       old.kept
 
   pub discarded-stocked : IsSoundWith g s l → IsStocked g s' l
   discarded-stocked old = record {
     most = λ class has.
-        let same = discarded-descs h in
-        let filled : sum_below (descriptor_count g) (full_stock s' class) ≡ sum_below (descriptor_count g) (full_stock s class) =
-        sum-same (descriptor_count g) (full_stock s class) (full_stock s' class) (λ d lt. rw (same.info d, same.anchor d) refl) in
         omega (
           arith,
           old.stocked.most class has,
-          filled,
+          full-same g s s' class (λ d. h.words (name.Anchor d)) (λ d. h.words (name.Info d)),
           stock-goes (discarded-holds h) class (h.stands_before.waits class) (h.stands_after.quiet.waits class),
           words-same g (word_stock class) s.word s'.word h.words,
           making-stock at class,
@@ -98,7 +90,7 @@ module _ {g : Geometry} {s : State} {l : Lists} {caller : ℕ} {at : Site} {e : 
             let anchor = (discarded-descs h).anchor d in
             same-chained (superblock_of g s d) (superblock_of g s' d) (old.chained.chained d has was)
             (superblock-stays still g d anchor (discarded-reserved h d differ) (discarded-others-wait d differ))
-            (λ i lt. ap (λ f. f i) (live-stays still g h.history d));
+            (λ i lt. ap (λ f. f i) (live-stays still g (ap pool_of h.history) d));
       }
 
   pub discarded-guarded : IsSoundWith g s l → IsGuarded g s'
@@ -130,25 +122,27 @@ module _ {g : Geometry} {s : State} {l : Lists} {caller : ℕ} {at : Site} {e : 
         in_heap = h.in_heap;
         moves = h.moves;
         events = events;
-        own_turns = omega (arith, turned.own_turns caller h.in_heap, events.gives, before.under_way, after.under_way, h.turns);
-        own_lost =
-            elim h.lost [
-              | inl more ↦
-                  omega (
-                    arith,
-                    turned.own_lost caller h.in_heap,
-                    events.gives,
-                    events.refuses caller,
-                    before.unanswered,
-                    after.discards,
-                    after.unanswered,
-                    h.turns,
-                    more,
-                  )
-              | inr turns_most ↦ omega (arith, after.discards, after.unanswered, turns_most)
-            ];
-        own_answers =
-            omega (arith, turned.own_answers caller h.in_heap, events.gives, events.refuses caller, before.unanswered, after.unanswered, h.turns);
+        counts = record {
+          turns = omega (arith, turned.own_turns caller h.in_heap, events.gives, before.under_way, after.under_way, h.turns);
+          lost =
+              elim h.lost [
+                | inl more ↦
+                    omega (
+                      arith,
+                      turned.own_lost caller h.in_heap,
+                      events.gives,
+                      events.refuses caller,
+                      before.unanswered,
+                      after.discards,
+                      after.unanswered,
+                      h.turns,
+                      more,
+                    )
+                | inr turns_most ↦ omega (arith, after.discards, after.unanswered, turns_most)
+              ];
+          answers =
+              omega (arith, turned.own_answers caller h.in_heap, events.gives, events.refuses caller, before.unanswered, after.unanswered, h.turns);
+        };
         anchor_tags = λ d has. omega (arith, ap (λ x. x.tag) (same.anchor d));
         frame_turns = omega (arith, head-tag (h.words name.FrameHead), after.unframed, h.turns);
         emptied = omega (arith, emptied_same, h.cleared);

@@ -2,14 +2,14 @@
 use Rattle.std.proofs.Common.{ℕ, true, false, ◌≡◌, ◌≢◌, ◌<◌, ◌≤◌, ◌+◌, ◌^◌, refl, arith, ap, sym, subst, inl, inr, ◌⊎◌, ◌==◌, ne_eqb}
 use Rattle.std.proofs.lemmas.Bool.{cases_eq, cases_lt, cond-false}
 use Rattle.sound_state.proofs.Common.{Geometry, active_word, Null, Held, Found, Site, active_name, Writes, new_credits, Frames, Continuation, Point, Block, Stack}
-use Rattle.sound_state.proofs.Common.{ErrandFields, counts_lost, raised, event_of, next_of, asked, plan_point_of, State, Step, holds_of, Lists}
-use Rattle.sound_state.proofs.Common.{recalls_of, IsSoundWithoutCounts, IsSoundWith, IsOwnErrand}
+use Rattle.sound_state.proofs.Common.{ErrandFields, counts_lost, raised, event_of, next_of, asked, plan_point_of, State, Step, holds_of, Lists, counts_cleared, recalls_of}
+use Rattle.sound_state.proofs.Common.{IsSoundWithoutCounts, IsSoundWith, IsOwnErrand}
 use Rattle.superblock_parts.specs.declared.point.BlockPoint.TheVariants as block
 use Rattle.stack_parts.specs.declared.point.StackPoint.TheVariants as stack
 use Rattle.errand_steps.specs.declared.continuation.Continuation.TheVariants as continuation
 use Rattle.sound_state.proofs.discards.DiscardEffects.{Discards, StandsDiscarding}
-use Rattle.sound_state.proofs.discards.DiscardKeeps.{discarded-words, discarded-listed, discarded-kept, discarded-stocked, discarded-framed, discarded-chained}
-use Rattle.sound_state.proofs.discards.DiscardKeeps.{discarded-guarded, discarded-turned}
+use Rattle.sound_state.proofs.discards.DiscardKeeps.{discarded-listed, discarded-kept, discarded-stocked, discarded-framed, discarded-chained, discarded-guarded}
+use Rattle.sound_state.proofs.discards.DiscardKeeps.{discarded-turned}
 use Rattle.sound_state.proofs.discards.DiscardRecalls.{discarded-remembered}
 use Rattle.sound_state.proofs.discards.DiscardTies.{discarded-tied}
 use Rattle.sound_state.proofs.installs.InstallSteps.{about-to-install, install-stands, install_superblock-won}
@@ -18,7 +18,6 @@ use Rattle.sound_state.proofs.shared.StepLemmas.{at_point, words-stay}
 use Rattle.sound_state.proofs.shared.TurnEffects.{StandsFramed}
 use Rattle.sound_state.proofs.shared.WonEffects.{StepEffects, step-effects}
 use Rattle.sound_state.proofs.shared.KeepsSound.{KeepsSound, KeepsSoundWhere, silent-sound}
-use Rattle.sound_state.proofs.shared.CallerLemmas.{each-caller}
 
 -- the point to which a lost install leads
 abbrev pub discarded_point : Site → Continuation → Point
@@ -50,8 +49,8 @@ install-discards g s l caller s' at o sound is has here other step =
     let x : Found = lost_with (s.word n) in
     let about = about-to-install g s l caller at o is has here in
     let is_lost : (s.word n == active_word Null) ≡ false = ne_eqb (s.word n) (active_word Null) other in
-    let effects : StepEffects g s caller p x q s' =
-    step-effects g s l caller s' p x q is has here (ap (λ b. record { value = s.word n; won = b }) is_lost) (inl refl) step in
+    let effects : StepEffects s caller p x q s' =
+    step-effects s caller s' p x q here (ap (λ b. record { value = s.word n; won = b }) is_lost) (inl refl) step in
     let new = active_word (Held at.desc (new_credits at.seat.class)) in
     let writes : Writes s.word n (s.word n) s'.word =
     subst (λ v. Writes s.word n v s'.word) (cond-false {A = ℕ} (s.word n == active_word Null) new (s.word n) is_lost) effects.writes in
@@ -65,13 +64,12 @@ install-discards g s l caller s' at o sound is has here other step =
       anchor = about.anchor;
       words = words-stay s.word n (s.word n) s'.word writes refl;
       history = effects.history;
-      rule = effects.rule;
       retired = refl;
       turns = refl;
       lost =
-          lost-rises g caller (s.errand caller) (raised (counts_lost (s.errand caller).point x) (s.errand caller).lost) (is.errands caller has)
+          lost-rises g caller (s.errand caller) (raised (counts_lost (s.errand caller).point x) (s.errand caller).lost) (is.formed.errands caller has)
           (ap (λ b. raised b (s.errand caller).lost) lost);
-      cleared = effects.cleared;
+      cleared = ap (λ r. raised (counts_cleared r x) (s.errand caller).cleared) here;
       holds_before = ap holds_of here;
       holds_after = refl;
       recalls_after = refl;
@@ -85,12 +83,10 @@ pub install_superblock-lost :
 install_superblock-lost at o g s caller s' sound has here other step =
     let l = sound.parts.0 in
     let is = sound.parts.1 in
-    let e = at_point (s.errand caller) (lost_with (s.word (active_name at.seat))) (discarded_point at o) in
     let h = install-discards g s l caller s' at o sound is has here other step in
-    silent-sound g s s' l sound h.history
-    (record {
-      words = discarded-words h is;
-      errands = each-caller g (IsOwnErrand g) s.errand caller e s'.errand h.moves h.rule is.errands;
+    silent-sound g s caller s' l sound has step h.history
+    (λ formed. record {
+      formed = formed;
       listed = discarded-listed h is;
       kept = discarded-kept h is;
       chained = discarded-chained h is;

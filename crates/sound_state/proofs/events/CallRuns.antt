@@ -2,8 +2,8 @@
 use Rattle.std.proofs.Common.{ℕ, ◌≡◌, ◌<◌, List, [], ◌∷◌, inl, inr, refl, sym, ◌∙◌, subst, true≢false}
 use Rattle.std.proofs.lemmas.Bool.{cases_eq, cases_Bool}
 use Rattle.std.proofs.lemmas.List.Elements.{All-head, All-tail}
-use Rattle.sound_state.proofs.Common.{Geometry, Event, own, Reply, State, Step, found_at, IsSound, Done, IsIdle, IsBusy, Call, answer_of, is_idle, BeginsCall, Move}
-use Rattle.sound_state.proofs.Common.{begins, steps, Moved, Reaches}
+use Rattle.sound_state.proofs.Common.{Geometry, Event, own, Reply, State, Step, found_at, IsSound, Done, IsIdle, IsBusy, Call, answer_of, is_idle, BeginsCall, Move, begins}
+use Rattle.sound_state.proofs.Common.{steps, Moved, Reaches}
 use Rattle.sound_state.specs.Calls.{IsInCall, HasEndedCall}
 use Rattle.sound_state.specs.Moves.{IsNoBegin, BeginsNothing}
 use Rattle.sound_state.proofs.ReachLemmas.{moved-sound, reached-sound}

@@ -1,8 +1,8 @@
 -- One move of any caller, seen by a caller that is in a call.
 use Rattle.std.proofs.Common.{ℕ, ◌≡◌, ◌≢◌, ◌<◌, List, [], ◌++◌, Some, inl, inr, refl, sym, ap, ◌∙◌, subst, append-nil, true≢false}
 use Rattle.std.proofs.lemmas.Bool.{cases_eq}
-use Rattle.sound_state.proofs.Common.{Geometry, Event, own, Reply, ErrandFields, settle_of, event_of, State, Step, found_at, name_at, with_event, IsSound, caller_of}
-use Rattle.sound_state.proofs.Common.{Done, IsIdle, IsBusy, Call, alloc, free, write, read, put, begun_by, answer_of, event_at, BeginsCall, Move, begins, steps, Moved}
+use Rattle.sound_state.proofs.Common.{Geometry, Event, own, Reply, ErrandFields, settle_of, event_of, State, Step, found_at, name_at, with_event, IsSound, caller_of, Done}
+use Rattle.sound_state.proofs.Common.{IsIdle, IsBusy, Call, alloc, free, write, read, put, begun_by, answer_of, event_at, BeginsCall, Move, begins, steps, Moved}
 use Rattle.errand_steps.specs.Calls.{take}
 use Rattle.errand_steps.proofs.EventLemmas.{event_own}
 use Rattle.call_events.specs.Ends.{HasEnded}
@@ -37,7 +37,7 @@ pub begins-in_call :
 begins-in_call g s caller call s' sound has b busy =
     let here : s'.errand caller ≡ begun_by (s.errand caller) call = ap (λ (t : State). t.errand caller) b.after ∙ b.moves.here in
     let way = call-begins (s.errand caller) call b.idle (about-block g s caller call sound has b.may) (subst IsBusy here busy) in
-    let mine = (sound.parts.1.errands caller has).number in
+    let mine = (sound.parts.1.formed.errands caller has).number in
     record {
       added = [];
       events = ap (λ (t : State). own caller t.history) b.after ∙ sym (append-nil (own caller s.history));
@@ -59,11 +59,11 @@ pub step-in_call :
 step-in_call g s caller call before s' sound has now step busy =
     let e = s.errand caller in
     let x = found_at s caller in
-    let own_errand = sound.parts.1.errands caller has in
+    let own_errand = sound.parts.1.formed.errands caller has in
     let mine : e.caller ≡ caller = own_errand.number in
     let here : s'.errand caller ≡ settle_of e x = step.errand.here in
     let way = subst (λ (i : ℕ). IsUnderWay i call e.point now.added) (sym mine) now.under_way in
-    let goes = step-goes_on e x call now.added own_errand.rule (sound.parts.1.words (name_at s caller)) refl way (subst IsBusy here busy) in
+    let goes = step-goes_on e x call now.added own_errand.rule (sound.parts.1.formed.words (name_at s caller)) refl way (subst IsBusy here busy) in
     record {
       added = with_event now.added (event_at s caller);
       events = own-events s caller s' before now.added step now.events;
@@ -78,10 +78,10 @@ pub step-ends_call :
 step-ends_call g s caller call before s' r sound has now step is =
     let e = s.errand caller in
     let x = found_at s caller in
-    let own_errand = sound.parts.1.errands caller has in
+    let own_errand = sound.parts.1.formed.errands caller has in
     let mine : e.caller ≡ caller = own_errand.number in
     let way = subst (λ (i : ℕ). IsUnderWay i call e.point now.added) (sym mine) now.under_way in
-    let ends = step-ends e x call now.added r own_errand.rule (sound.parts.1.words (name_at s caller)) refl way is in
+    let ends = step-ends e x call now.added r own_errand.rule (sound.parts.1.formed.words (name_at s caller)) refl way is in
     record {
       added = with_event now.added (event_at s caller);
       events = own-events s caller s' before now.added step now.events;

@@ -1,27 +1,22 @@
 -- What follows each point: what a scan has noted, what is pushed, and who stores to a hazard word.
 use Rattle.std.proofs.Common.{ℕ, Bool, true, false, Option, Some, None, ◌≡◌, ◌<◌, ◌+◌, List, refl, arith, ap, sym, subst, inl, inr, ◌∙◌, length, length-set}
-use Rattle.std.proofs.Common.{get_or-set_other, ◌⊎◌, slice_index, slice_set, nat_lt, true≢false, ltb-false}
+use Rattle.std.proofs.Common.{get_or-set_other, ◌⊎◌, slice_index, slice_set, nat_lt, ltb-false}
 use Rattle.std.proofs.lemmas.Bool.{cases_eq, cond_both}
 use Rattle.std.proofs.lemmas.Option.{none-some}
 use Rattle.std.proofs.lemmas.Grind.{get_or-set_at}
-use Rattle.sound_state.proofs.Common.{Geometry, IsChecked, descriptor_count, Found, name_of, after_action, SeatFields, BlockPoint, Pile, Frames, Partials, StackPoint}
-use Rattle.sound_state.proofs.Common.{head_name, next_name, DescPoint, PartialPoint, LargePoint, Continuation, Next, At, End, Retire, Pick, Unlist, Point, FitsPoint}
-use Rattle.sound_state.proofs.Common.{pushed_by, next_of, plan_point_of, passed_by, held_by, Action, Store, Onward, FitsBlock, settle_block_of, plan_block_of}
-use Rattle.sound_state.proofs.Common.{StackExit, settle_stack_of, plan_stack_of, settle_desc_of, plan_desc_of, after_hazard, named_in, PartialExit, settle_partial_of}
-use Rattle.sound_state.proofs.Common.{plan_partial_of, LargeExit, settle_large_of, plan_large_of, Turn, enter_block, enter_stack, enter_desc, enter_partial}
-use Rattle.sound_state.proofs.Common.{enter_large}
+use Rattle.sound_state.proofs.Common.{Geometry, IsChecked, descriptor_count, Found, name_of, after_action, SeatFields, BlockPoint, StackPoint, DescPoint, PartialPoint}
+use Rattle.sound_state.proofs.Common.{LargePoint, Continuation, Next, At, Pick, Point, FitsPoint, pushed_by, next_of, plan_point_of, passed_by, held_by, Action, Store}
+use Rattle.sound_state.proofs.Common.{Onward, settle_block_of, StackExit, settle_stack_of, settle_desc_of, plan_desc_of, after_hazard, named_in, PartialExit}
+use Rattle.sound_state.proofs.Common.{settle_partial_of, LargeExit, settle_large_of, enter_block, enter_stack, enter_desc, enter_partial, enter_large}
 use Rattle.word_table.specs.declared.name.WordName.TheVariants as name
 use Rattle.word_table.specs.declared.onward.Onward.TheVariants.{Stays, Leaves}
 use Rattle.superblock_parts.specs.declared.exit.BlockExit.{BlockExit}
-use Rattle.superblock_parts.specs.declared.point.BlockPoint.TheVariants as block
 use Rattle.hazard_parts.specs.declared.exit.DescExit.TheVariants.{Scanned}
 use Rattle.hazard_parts.specs.declared.point.DescPoint.TheVariants as desc
 use Rattle.hazard_parts.specs.Points.{FitsDesc}
 use Rattle.hazard_parts.proofs.PickLemmas.{named-here}
 use Rattle.errand_steps.specs.declared.point.Point.TheVariants as point
-use Rattle.errand_steps.specs.Fits.{pushed_by_desc}
-use Rattle.sound_state.specs.Guards.{passed_by_desc, held_by_desc}
-use Rattle.sound_state.proofs.hazards.HazardLemmas.{hazard_caller}
+use Rattle.errand_steps.specs.tables.Descs.{passed_by_desc, held_by_desc}
 use Rattle.sound_state.proofs.shared.GuardEffects.{scans}
 
 -- what is pushed where a caller goes on, but for what a scan picks
@@ -29,30 +24,10 @@ abbrev pub next_pushed : Next → Option ℕ
 next_pushed (At p) = pushed_by p
 next_pushed n = None
 
-pushed-block : (n : Onward BlockPoint BlockExit) (o : Continuation) → next_pushed (enter_block n o) ≡ None
-pushed-block n o = grind (arith)
-
-pushed-stack : (n : Onward StackPoint StackExit) (o : Continuation) → next_pushed (enter_stack n o) ≡ None
-pushed-stack n o = grind (arith)
-
-pushed-partial : (n : Onward PartialPoint PartialExit) (o : Continuation) → next_pushed (enter_partial n o) ≡ None
-pushed-partial n o = grind (arith)
-
-pushed-large : (n : Onward LargePoint LargeExit) (o : Continuation) → next_pushed (enter_large n o) ≡ None
-pushed-large n o = grind (arith)
-
-pushed-desc : (p : DescPoint) (x : Found) (o : Continuation) (d : ℕ) → next_pushed (enter_desc (settle_desc_of p x) o) ≡ Some d → pushed_by_desc p ≡ Some d
-pushed-desc p x o d is = grind (arith, is)
-
 -- what is pushed where a step leads, but for what a scan picks, was pushed before
 pub pushed-next : (p : Point) (x : Found) (d : ℕ) → next_pushed (next_of p x) ≡ Some d → pushed_by p ≡ Some d
 unfolding next_of
-pushed-next point.Idle x d is = is
-pushed-next (point.Block p o) x d is = absurd (none-some d (sym (pushed-block (settle_block_of p x) o) ∙ is))
-pushed-next (point.Stack p o) x d is = absurd (none-some d (sym (pushed-stack (settle_stack_of p x) o) ∙ is))
-pushed-next (point.Desc p o) x d is = pushed-desc p x o d is
-pushed-next (point.Partial p o) x d is = absurd (none-some d (sym (pushed-partial (settle_partial_of p x) o) ∙ is))
-pushed-next (point.Large p o) x d is = absurd (none-some d (sym (pushed-large (settle_large_of p x) o) ∙ is))
+pushed-next p x d is = grind (arith, is, none-some)
 
 -- whether a scan goes on, or is over, in what follows a step
 abbrev scans_on : Next → Bool
@@ -82,12 +57,7 @@ NextNotes k d (Pick s held o) = (k < length held) × (slice_index held k ≡ d +
 NextNotes k d n = Unit {0}
 
 unread-notes : (k d : ℕ) (n : Next) → scans_on n ≡ false → NextNotes k d n
-unread-notes k d (At p) none = λ below. let bad : ⊥ = omega (arith, below, ltb-false 0 (passed_by p) none) in absurd bad
-unread-notes k d (Pick s held o) none = absurd (true≢false none)
-unread-notes k d (End r) none = tt
-unread-notes k d (Turn s need) none = tt
-unread-notes k d (Retire s e o) none = tt
-unread-notes k d (Unlist s e o) none = tt
+unread-notes k d n none = grind (arith, none)
 
 -- the noted words say d + 1 for k with the one that is read, where they did or that one does
 word-notes :
@@ -99,35 +69,32 @@ word-notes held i k d v room noted scans_on below =
       | inr differ ↦ get_or-set_other held i k v 0 differ ∙ noted (omega (arith, below, differ))
     ]
 
--- what follows the read of a hazard word has noted d + 1 for k, where the notes and the word that is read say so
-read-notes :
-    (g : Geometry) (caller k d : ℕ) (s : SeatFields) (held : List ℕ) (i : ℕ) (o : Continuation) (v : ℕ) → IsChecked g → k < g.callers → d < descriptor_count g
-    → FitsDesc g caller (desc.ReadHazard s held i) → (k < i → slice_index held k ≡ d + 1) → (k ≡ i → v ≡ d + 1)
-    → NextNotes k d (enter_desc (after_hazard s held i v) o)
-read-notes g caller k d s held i o v checked has exists fits noted scans_on =
-    let room : i < length held = omega (arith, checked.callers.1, fits.0.words, fits.1) in
-    let all = ap (λ (h : Geometry). h.callers) fits.0.seat.geometry in
-    let new = named_in s.geometry v in
-    let named = named-here s.geometry v d (subst (λ (h : Geometry). d < descriptor_count h) (sym fits.0.seat.geometry) exists) in
-    let notes = word-notes held i k d new room noted (λ same. named (scans_on same)) in
-    let now = slice_set held i new in
-    cond_both (nat_lt (i + 1) s.geometry.callers) (Stays (desc.ReadHazard s now (i + 1))) (Leaves (Scanned s now))
-    (λ n. NextNotes k d (enter_desc n o)) (λ more below. notes below)
-    (λ last. (
-      omega (arith, has, checked.callers.1, fits.0.words, length-set held i new),
-      notes (omega (arith, has, all, ltb-false (i + 1) s.geometry.callers last)),
-    ))
+-- a step at the hazard words, for the hazard word of k
+module _ (g : Geometry) (caller k d : ℕ) (o : Continuation) (checked : IsChecked g) (has : k < g.callers) (exists : d < descriptor_count g) where
+  -- what follows the read of a hazard word has noted d + 1 for k, where the notes and the word that is read say so
+  read-notes :
+      (s : SeatFields) (held : List ℕ) (i v : ℕ) → FitsDesc g caller (desc.ReadHazard s held i) → (k < i → slice_index held k ≡ d + 1) → (k ≡ i → v ≡ d + 1)
+      → NextNotes k d (enter_desc (after_hazard s held i v) o)
+  read-notes s held i v fits noted scans_on =
+      let room : i < length held = omega (arith, checked.callers.1, fits.0.words, fits.1) in
+      let all = ap (λ (h : Geometry). h.callers) fits.0.seat.geometry in
+      let new = named_in s.geometry v in
+      let named = named-here s.geometry v d (subst (λ (h : Geometry). d < descriptor_count h) (sym fits.0.seat.geometry) exists) in
+      let notes = word-notes held i k d new room noted (λ same. named (scans_on same)) in
+      let now = slice_set held i new in
+      cond_both (nat_lt (i + 1) s.geometry.callers) (Stays (desc.ReadHazard s now (i + 1))) (Leaves (Scanned s now))
+      (λ n. NextNotes k d (enter_desc n o)) (λ more below. notes below)
+      (λ last. (
+        omega (arith, has, checked.callers.1, fits.0.words, length-set held i new),
+        notes (omega (arith, has, all, ltb-false (i + 1) s.geometry.callers last)),
+      ))
 
--- what follows a step at the descriptors or the hazard words has noted d + 1 for k
-desc-notes :
-    (g : Geometry) (caller k d : ℕ) (p : DescPoint) (o : Continuation) (x : Found) → IsChecked g → k < g.callers → d < descriptor_count g
-    → FitsPoint g caller (point.Desc p o)
-    → (k < passed_by_desc p → slice_index (held_by_desc p) k ≡ d + 1) → (name_of (plan_desc_of p) ≡ name.Hazard k → x.value ≡ d + 1)
-    → NextNotes k d (enter_desc (settle_desc_of p x) o)
-desc-notes g caller k d (desc.ReadHazard s held i) o x checked has exists fits noted scans_on =
-    read-notes g caller k d s held i o x.value checked has exists fits.point noted (λ same. scans_on (ap name.Hazard (sym same)))
-desc-notes g caller k d p o x checked has exists fits noted scans_on =
-    unread-notes k d (enter_desc (settle_desc_of p x) o) (reads-desc p x o refl)
+  -- what follows a step at the descriptors or the hazard words has noted d + 1 for k
+  desc-notes :
+      (p : DescPoint) (x : Found) → FitsPoint g caller (point.Desc p o) → (k < passed_by_desc p → slice_index (held_by_desc p) k ≡ d + 1)
+      → (name_of (plan_desc_of p) ≡ name.Hazard k → x.value ≡ d + 1) → NextNotes k d (enter_desc (settle_desc_of p x) o)
+  desc-notes (desc.ReadHazard s held i) x fits noted scans_on = read-notes s held i x.value fits.point noted (λ same. scans_on (ap name.Hazard (sym same)))
+  desc-notes p x fits noted scans_on = unread-notes k d (enter_desc (settle_desc_of p x) o) (reads-desc p x o refl)
 
 -- what follows a step at each point has noted the hazard word of k, if it had, or reads it now
 pub notes-next :
@@ -138,7 +105,7 @@ unfolding next_of plan_point_of
 notes-next g caller k d point.Idle x checked has exists fits noted scans_on = noted
 notes-next g caller k d (point.Block p o) x checked has exists fits noted scans_on = unread-notes k d _ (reads-block (settle_block_of p x) o)
 notes-next g caller k d (point.Stack p o) x checked has exists fits noted scans_on = unread-notes k d _ (reads-stack (settle_stack_of p x) o)
-notes-next g caller k d (point.Desc p o) x checked has exists fits noted scans_on = desc-notes g caller k d p o x checked has exists fits noted scans_on
+notes-next g caller k d (point.Desc p o) x checked has exists fits noted scans_on = desc-notes g caller k d o checked has exists p x fits noted scans_on
 notes-next g caller k d (point.Partial p o) x checked has exists fits noted scans_on = unread-notes k d _ (reads-partial (settle_partial_of p x) o)
 notes-next g caller k d (point.Large p o) x checked has exists fits noted scans_on = unread-notes k d _ (reads-large (settle_large_of p x) o)
 
@@ -146,51 +113,8 @@ notes-next g caller k d (point.Large p o) x checked has exists fits noted scans_
 abbrev pub MayStore : ℕ → ℕ → Action → ℕ → Type 0
 MayStore caller k a w = (after_action a w ≡ w) ⊎ ((caller ≡ k) × (new : ℕ) × (a ≡ Store (name.Hazard k) new))
 
--- a store to the hazard word of the seat's caller is one to the caller's own
-own-store :
-    (caller k i new w : ℕ) → i ≡ caller → name.Hazard i ≡ name.Hazard k → MayStore caller k (Store (name.Hazard i) new) w
-own-store caller k i new w own is =
-    let same : i ≡ k = ap hazard_caller is in
-    inr (sym own ∙ same, new, ap (λ j. Store (name.Hazard j) new) same)
-
-store-block :
-    (g : Geometry) (caller k w : ℕ) (p : BlockPoint) → FitsBlock g caller p → name_of (plan_block_of p) ≡ name.Hazard k → MayStore caller k (plan_block_of p) w
-store-block g caller k w (block.StoreGuard at i a) fits is = own-store caller k at.seat.caller (at.desc + 1) w fits.block.site.seat.number is
-store-block g caller k w p fits is = absurd (cc)
-
-store-desc :
-    (g : Geometry) (caller k w : ℕ) (p : DescPoint) → FitsDesc g caller p → name_of (plan_desc_of p) ≡ name.Hazard k → MayStore caller k (plan_desc_of p) w
-store-desc g caller k w (desc.StoreHazard s d) fits is = own-store caller k s.caller (d + 1) w fits.seat.number is
-store-desc g caller k w (desc.ClearAfterPop s d) fits is = own-store caller k s.caller 0 w fits.seat.number is
-store-desc g caller k w (desc.ClearHazard s) fits is = own-store caller k s.caller 0 w fits.number is
-store-desc g caller k w (desc.ReadHazard s held i) fits is = inl refl
-store-desc g caller k w p fits is = absurd (cc)
-
--- no step at a stack, a partial superblock, a large block or a shelf acts on a hazard word
-head-not-hazard : (s : SeatFields) (pile : Pile) (k : ℕ) → head_name s pile ≡ name.Hazard k → ⊥
-head-not-hazard s Frames k is = cc
-head-not-hazard s Partials k is = cc
-
-next-not-hazard : (pile : Pile) (i k : ℕ) → next_name pile i ≡ name.Hazard k → ⊥
-next-not-hazard Frames i k is = cc
-next-not-hazard Partials i k is = cc
-
-stack-not-hazard : (p : StackPoint) (k : ℕ) → name_of (plan_stack_of p) ≡ name.Hazard k → ⊥
-stack-not-hazard p k is = grind (arith, head-not-hazard, next-not-hazard, is)
-
-not-partial : (p : PartialPoint) (k : ℕ) → name_of (plan_partial_of p) ≡ name.Hazard k → ⊥
-not-partial p k is = grind (arith, is)
-
-large-not-hazard : (p : LargePoint) (k : ℕ) → name_of (plan_large_of p) ≡ name.Hazard k → ⊥
-large-not-hazard p k is = grind (arith, is)
-
 -- a step at each point that acts on a hazard word reads it, or stores to its caller's own
 pub may-store :
     (g : Geometry) (caller k w : ℕ) (p : Point) → FitsPoint g caller p → name_of (plan_point_of p) ≡ name.Hazard k → MayStore caller k (plan_point_of p) w
 unfolding plan_point_of
-may-store g caller k w point.Idle fits is = absurd (cc)
-may-store g caller k w (point.Block p o) fits is = store-block g caller k w p fits.point is
-may-store g caller k w (point.Stack p o) fits is = absurd (stack-not-hazard p k is)
-may-store g caller k w (point.Desc p o) fits is = store-desc g caller k w p fits.point is
-may-store g caller k w (point.Partial p o) fits is = absurd (not-partial p k is)
-may-store g caller k w (point.Large p o) fits is = absurd (large-not-hazard p k is)
+may-store g caller k w p fits is = grind (arith, fits, is)

@@ -1,13 +1,8 @@
 -- Moves of any callers in which a caller doesn't store to its own hazard word keep what it guards.
-use Rattle.std.proofs.Common.{ℕ, true, None, Some, ◌≡◌, ◌≢◌, ◌<◌, List, [], ◌∷◌, refl, arith, ap, sym, subst, ◌∙◌}
-use Rattle.std.proofs.lemmas.Bool.{cond_both}
+use Rattle.std.proofs.Common.{ℕ, None, Some, ◌≡◌, ◌≢◌, ◌<◌, List, [], ◌∷◌, arith, sym, subst, ◌∙◌}
 use Rattle.std.proofs.lemmas.Option.{none-some}
-use Rattle.sound_state.proofs.Common.{Geometry, Need, Small, need_of, Point, ErrandFields, pushed_by, State, passed_by, IsListed, IsSoundWithoutCounts, TooLarge}
-use Rattle.sound_state.proofs.Common.{IsIdle, begins_alloc, alloc_begun, free_begun, write_begun, read_begun, put_begun, take_begun, Call, alloc, free, write, read}
-use Rattle.sound_state.proofs.Common.{put, begun_by, is_spent, is_idle, Guards, BeginsCall, Move, begins, steps, Moved, with_errands}
-use Rattle.heap_geometry.specs.declared.need.Need.TheVariants.{Large}
-use Rattle.errand_steps.specs.Begins.{free_point}
-use Rattle.errand_steps.specs.Calls.{take}
+use Rattle.sound_state.proofs.Common.{Geometry, ErrandFields, pushed_by, State, passed_by, IsSoundWithoutCounts, IsIdle, alloc_begun, free_begun, write_begun, read_begun}
+use Rattle.sound_state.proofs.Common.{put_begun, take_begun, Call, begun_by, Guards, BeginsCall, Move, begins, steps, Moved, with_errands}
 use Rattle.sound_state.specs.Guarding.{IsAvailable, IsGuardedBy, LeavesHazard, ReachesUnstored}
 use Rattle.sound_state.proofs.ReachLemmas.{move-sound}
 use Rattle.sound_state.proofs.guards.AvailSteps.{available-stepped}
@@ -21,36 +16,10 @@ record ScansNothing (e e' : ErrandFields) : Type 0 where
   pub pushed : pushed_by e'.point ≡ None
   pub passed : passed_by e'.point ≡ 0
 
--- a caller that is in no call pushes nothing and scans nothing
-idle-pushed : (p : Point) → is_idle p ≡ true → pushed_by p ≡ None
-idle-pushed p idle = grind (arith, idle)
-
-idle-passed : (p : Point) → is_idle p ≡ true → passed_by p ≡ 0
-idle-passed p idle = grind (arith, idle)
-
-idle-fresh : (e : ErrandFields) → IsIdle e → ScansNothing e e
-idle-fresh e idle = record { retired = refl; pushed = idle-pushed e.point idle; passed = idle-passed e.point idle }
-
 -- a caller that begins a call has the same list, pushes nothing and scans nothing
-alloc-fresh : (e : ErrandFields) (words : ℕ) (n : Need) → IsIdle e → ScansNothing e (begins_alloc e words n)
-alloc-fresh e words (Small class) idle =
-    cond_both (is_spent e) e _ (ScansNothing e) (λ spent. idle-fresh e idle) (λ has. record { retired = refl; pushed = refl; passed = refl })
-alloc-fresh e words (Large units) idle = record { retired = refl; pushed = refl; passed = refl }
-alloc-fresh e words TooLarge idle = idle-fresh e idle
-
-free-fresh : (e : ErrandFields) (place : ℕ) (n : Need) → IsIdle e → ScansNothing e (record e { point = free_point e place n })
-free-fresh e place (Small class) idle = record { retired = refl; pushed = refl; passed = refl }
-free-fresh e place (Large units) idle = record { retired = refl; pushed = refl; passed = refl }
-free-fresh e place TooLarge idle = idle-fresh e idle
-
 begun-fresh : (e : ErrandFields) (call : Call) → IsIdle e → ScansNothing e (begun_by e call)
 unfolding alloc_begun free_begun write_begun read_begun put_begun take_begun
-begun-fresh e (alloc words) idle = alloc-fresh e words (need_of words) idle
-begun-fresh e (free place need) idle = free-fresh e place need idle
-begun-fresh e (write place need i value) idle = record { retired = refl; pushed = refl; passed = refl }
-begun-fresh e (read place need i) idle = record { retired = refl; pushed = refl; passed = refl }
-begun-fresh e (put place need shelf) idle = record { retired = refl; pushed = refl; passed = refl }
-begun-fresh e (take shelf) idle = record { retired = refl; pushed = refl; passed = refl }
+begun-fresh e call idle = grind (arith)
 
 -- a call that begins keeps what a caller guards
 guarded-begun :
@@ -105,11 +74,7 @@ guards-reached g caller d s moves s' sound has guards reached =
 available-moved :
     (g : Geometry) (s : State) (d : ℕ) (move : Move) (s' : State) → IsSoundWithoutCounts g s
     → ((other : ℕ) → other < g.callers → pushed_by (s.errand other).point ≢ Some d) → Moved g s move s' → IsAvailable g s' d → IsAvailable g s d
-available-moved g s d (begins other call) s' sound unpushed moved there =
-    let same : s'.word ≡ s.word = ap (λ (t : State). t.word) moved.1.after in
-    record { lists = there.lists; listed = subst (λ w. IsListed g w there.lists) same there.listed; here = there.here }
-available-moved g s d (steps other) s' sound unpushed moved there =
-    available-stepped g s other d s' sound moved.0 moved.1 (unpushed other moved.0) there
+available-moved g s d move s' sound unpushed moved there = grind (arith, sound, unpushed, moved, there, available-stepped)
 
 -- a guarded descriptor isn't made available again while its guard's caller doesn't store to its hazard word
 pub unavailable-reached :

@@ -1,11 +1,9 @@
 -- What a caller has noted and pushes after its step, whatever its retired list says.
 use Rattle.std.proofs.Common.{ℕ, Option, Some, None, ◌≡◌, ◌<◌, ◌+◌, List, refl, arith, sym, ◌∙◌, length, ◌≢◌, Contains, slice_index}
-use Rattle.std.proofs.lemmas.Bool.{cond_both}
 use Rattle.std.proofs.lemmas.List.{get_or_default}
 use Rattle.std.proofs.lemmas.Option.{none-some}
-use Rattle.sound_state.proofs.Common.{Found, SeatFields, Continuation, Next, At, End, Retire, Pick, Unlist, Point, ErrandFields, settle_of, course_of, pushed_by}
-use Rattle.sound_state.proofs.Common.{next_of, passed_by, held_by, first_unheld, Turn, after_list, after_turn, picked, turned, is_full, no_words, point_after, resumed}
-use Rattle.hazard_parts.specs.declared.point.DescPoint.TheVariants as desc
+use Rattle.sound_state.proofs.Common.{Found, SeatFields, Continuation, Next, At, End, Retire, Pick, Unlist, Point, ErrandFields, settle_of, course_of, pushed_by, next_of}
+use Rattle.sound_state.proofs.Common.{passed_by, held_by, first_unheld, Turn, after_list, after_turn, picked, turned, point_after, resumed}
 use Rattle.hazard_parts.proofs.PickLemmas.{some-listed, some-free}
 use Rattle.errand_steps.specs.declared.point.Point.TheVariants as point
 use Rattle.errand_steps.specs.Errands.{list_after}
@@ -28,9 +26,7 @@ turned-blank : (e : ErrandFields) (s : SeatFields) (need : ℕ) → IsBlank (poi
 turned-blank e s need = record { pushed = grind (arith); passed = grind (arith) }
 
 retired-blank : (e : ErrandFields) (s : SeatFields) (d : ℕ) (o : Continuation) → IsBlank (point_after (after_turn e (after_list e (Retire s d o))))
-retired-blank e s d o =
-    cond_both (is_full e) (At (point.Desc (desc.ReadHazard s no_words 0) o)) (resumed s o)
-    (λ n. IsBlank (point_after (after_turn e n))) (λ full. record { pushed = refl; passed = refl }) (λ room. resumed-blank e s o)
+retired-blank e s d o = grind (arith, resumed-blank)
 
 -- a descriptor that a scan picks isn't one that the noted words name
 picked-free :
@@ -50,8 +46,7 @@ module _ (k d : ℕ) (e : ErrandFields) (x : Found) where
 
   pick-notes :
       (s : SeatFields) (o : Continuation) (r : Option ℕ) → HasNoted k d e → NotedAt e.retired (point_after (after_turn e (picked e s o r)))
-  pick-notes s o None noted = noted
-  pick-notes s o (Some f) noted = λ listed below. let bad : ⊥ = omega (arith, below) in absurd bad
+  pick-notes s o r noted = grind (arith, noted)
 
   list-notes :
       (n : Next) → HasNoted k d e → (Contains e.retired d → NextNotes k d n)
@@ -72,8 +67,7 @@ module _ (k d : ℕ) (e : ErrandFields) (x : Found) where
       (s : SeatFields) (held : List ℕ) (o : Continuation) (r : Option ℕ) → first_unheld held e.retired ≡ r
       → (Contains e.retired d → (k < length held) × (slice_index held k ≡ d + 1)) → pushed_by e.point ≢ Some d
       → pushed_by (point_after (after_turn e (picked e s o r))) ≢ Some d
-  pick-pushes s held o None pick notes free = free
-  pick-pushes s held o (Some f) pick notes free = λ is. picked-free k d held e.retired notes (pick ∙ is)
+  pick-pushes s held o r pick notes free = grind (arith, pick, notes, free, picked-free)
 
   blank-pushes : (p : Point) → IsBlank p → pushed_by p ≢ Some d
   blank-pushes p blank is = none-some d (sym blank.pushed ∙ is)
@@ -81,12 +75,7 @@ module _ (k d : ℕ) (e : ErrandFields) (x : Found) where
   list-pushes :
       (n : Next) → pushed_by e.point ≢ Some d → next_pushed n ≢ Some d → (Contains e.retired d → NextNotes k d n)
       → pushed_by (point_after (after_turn e (after_list e n))) ≢ Some d
-  list-pushes (At p) free none notes = none
-  list-pushes (End r) free none notes = none
-  list-pushes (Turn s need) free none notes = blank-pushes _ (turned-blank e s need)
-  list-pushes (Retire s f o) free none notes = blank-pushes _ (retired-blank e s f o)
-  list-pushes (Pick s held o) free none notes = pick-pushes s held o (first_unheld held e.retired) refl notes free
-  list-pushes (Unlist s f o) free none notes = blank-pushes _ (resumed-blank e s o)
+  list-pushes n free none notes = grind (arith, free, none, notes, blank-pushes, turned-blank, retired-blank, pick-pushes, resumed-blank)
 
   pub settled-pushes :
       pushed_by e.point ≢ Some d → (Contains e.retired d → NextNotes k d (next_of e.point x)) → pushed_by (settle_of e x).point ≢ Some d

@@ -1,15 +1,16 @@
 -- A step that stores its caller's hazard word, or reads one, and after which the caller holds what else it held.
-use Rattle.std.proofs.Common.{ℕ, false, Option, Some, None, ◌≡◌, ◌<◌, ◌+◌, ◌^◌, List, length, refl, arith, ap, sym, subst, inl, inr, ◌⊎◌, ◌∙◌, All, Any, IsTrue}
+use Rattle.std.proofs.Common.{ℕ, false, Option, Some, None, ◌≡◌, ◌<◌, ◌+◌, List, length, arith, ap, sym, subst, inl, inr, ◌⊎◌, ◌∙◌, All, Any, IsTrue}
 use Rattle.std.proofs.lemmas.Option.{none-some}
-use Rattle.sound_state.proofs.Common.{Geometry, Found, WordName, name_of, after_action, Writes, At, End, Pick, Continuation, Point, Idle, Desc, Reply, SeatFields}
-use Rattle.sound_state.proofs.Common.{occurs, ErrandFields, counts_cleared, settle_of, course_of, event_of, spare_of, pushed_by, next_of, plan_point_of, State, Step}
-use Rattle.sound_state.proofs.Common.{found_at, IsHazard, IsGuard, passed_by, held_by, holds_of, waiting, on_its_way, IsKeptAs, word_keeps, Lists, IsSo, IsOwned}
-use Rattle.sound_state.proofs.Common.{recalls_of, IsSoundWithoutCounts, IsSoundWith, waits_in, word_stock, stock_among, word_reserves, reserved_among, kept_among}
-use Rattle.sound_state.proofs.Common.{first_unheld, Guards, IsPlain}
+use Rattle.sound_state.proofs.Common.{FitsPoint, found_by, name_at, point_after, Next, Store, Geometry, Found, WordName, name_of, after_action, Writes, At, Pick}
+use Rattle.sound_state.proofs.Common.{Continuation, Point, Desc, SeatFields, ErrandFields, counts_cleared, settle_of, course_of, event_of, spare_of, pushed_by, next_of}
+use Rattle.sound_state.proofs.Common.{plan_point_of, State, Step, found_at, IsHazard, IsGuard, passed_by, held_by, holds_of, IsKeptAs, word_keeps, Lists, IsSo, IsOwned}
+use Rattle.sound_state.proofs.Common.{recalls_of, IsSoundWithoutCounts, IsSoundWith, waits_in, word_stock, stock_among, word_reserves, first_unheld, Guards, IsPlain}
 use Rattle.word_table.specs.declared.name.WordName.TheVariants as name
 use Rattle.hazard_parts.specs.declared.point.DescPoint.TheVariants as desc
 use Rattle.sound_state.proofs.shared.ShownLemmas.{GuardsAnew, MayGuard}
-use Rattle.sound_state.proofs.shared.StepLemmas.{PointStands, TurnGoes, at_point, settle-at, settle-end, step-most, found_from, actives-stay, words-stay}
+use Rattle.sound_state.proofs.shared.StepLemmas.{PointStands, TurnGoes, at_point, settle-at, step-most, found_from, actives-stay, words-stay, settle-next, LeadsOrEnds}
+use Rattle.sound_state.proofs.shared.PointLemmas.{fits-now, so-at}
+use Rattle.sound_state.proofs.shared.KeepsSound.{KeepsSound}
 use Rattle.sound_state.proofs.shared.WeighLemmas.{WeighMost}
 use Rattle.sound_state.proofs.shared.SuperblocksStay.{actives-same, ActivesKept}
 
@@ -47,16 +48,7 @@ but-weighs :
     (n : WordName) (before after : ℕ) (e : ErrandFields) (x : Found) (q : Point) → HoldsBut e.point q → (IsPlain n → after ≡ before)
     → ((d : ℕ) → word_reserves d n after ≡ word_reserves d n before) → ((d : ℕ) → word_keeps d n after ≡ word_keeps d n before)
     → ((class : ℕ) → word_stock class n after ≡ word_stock class n before) → WeighMost n before after e (at_point e x q)
-but-weighs n before after e x q h plain reserves keeps stock = record {
-  plain = plain;
-  reserves = λ d. omega (arith, reserves d, ap (reserved_among d) h.credits);
-  waits = λ d. ap (kept_among waiting d) h.kept;
-  ways = λ d. ap (kept_among on_its_way d) h.kept;
-  away = λ d. ap (λ ks. occurs d e.retired + kept_among on_its_way d ks) h.kept;
-  places = λ d. rw (keeps d, h.kept) refl;
-  frames = λ f. ap (occurs f) h.frames;
-  stock = λ class. omega (arith, stock class, h.stock class);
-}
+but-weighs n before after e x q h plain reserves keeps stock = grind (arith, h, plain, reserves, keeps, stock)
 
 -- what a step from p to q needs that stores or reads hazard words, where this is the caller's hazard word after it
 pub record GoesHazard (g : Geometry) (s : State) (l : Lists) (caller : ℕ) (p q : Point) (word : ℕ) : Type 0 where
@@ -70,19 +62,7 @@ pub record GoesHazard (g : Geometry) (s : State) (l : Lists) (caller : ℕ) (p q
 pub leads-at :
     (s : State) (caller : ℕ) (p q : Point) → (s.errand caller).point ≡ p → next_of p (found_from s p) ≡ At q
     → settle_of (s.errand caller) (found_at s caller) ≡ at_point (s.errand caller) (found_at s caller) q
-leads-at s caller p q stands next =
-    let is : next_of (s.errand caller).point (found_from s (s.errand caller).point) ≡ At q =
-    subst (λ r. next_of r (found_from s r) ≡ At q) (sym stands) next in
-    settle-at (s.errand caller) (found_at s caller) q is
-
--- a step at the point ends the call
-pub ends-at :
-    (s : State) (caller : ℕ) (p : Point) (r : Reply) → (s.errand caller).point ≡ p → next_of p (found_from s p) ≡ End r
-    → settle_of (s.errand caller) (found_at s caller) ≡ at_point (s.errand caller) (found_at s caller) Idle
-ends-at s caller p r stands next =
-    let is : next_of (s.errand caller).point (found_from s (s.errand caller).point) ≡ End r =
-    subst (λ q. next_of q (found_from s q) ≡ End r) (sym stands) next in
-    settle-end (s.errand caller) (found_at s caller) r is
+leads-at s caller p q stands next = grind (arith, stands, next, settle-at)
 
 -- the point at which a scan ends: the push of what it picked, or the same point where it picked nothing
 abbrev pub picked_point : Point → SeatFields → Continuation → Option ℕ → Point
@@ -93,18 +73,13 @@ settle-picked :
     (e : ErrandFields) (x : Found) (seat : SeatFields) (held : List ℕ) (o : Continuation) (r : Option ℕ) → next_of e.point x ≡ Pick seat held o
     → first_unheld held e.retired ≡ r → settle_of e x ≡ at_point e x (picked_point e.point seat o r)
 unfolding settle_of course_of
-settle-picked e x seat held o None is pick = rw (is, pick) refl
-settle-picked e x seat held o (Some d) is pick = rw (is, pick) refl
+settle-picked e x seat held o r is pick = grind (arith, is, pick)
 
 pub picks-at :
     (s : State) (caller : ℕ) (p : Point) (seat : SeatFields) (held : List ℕ) (o : Continuation) (r : Option ℕ) → (s.errand caller).point ≡ p
     → next_of p (found_from s p) ≡ Pick seat held o → first_unheld held (s.errand caller).retired ≡ r
     → settle_of (s.errand caller) (found_at s caller) ≡ at_point (s.errand caller) (found_at s caller) (picked_point p seat o r)
-picks-at s caller p seat held o r stands next pick =
-    let is : next_of (s.errand caller).point (found_from s (s.errand caller).point) ≡ Pick seat held o =
-    subst (λ q. next_of q (found_from s q) ≡ Pick seat held o) (sym stands) next in
-    subst (λ q. settle_of (s.errand caller) (found_at s caller) ≡ at_point (s.errand caller) (found_at s caller) (picked_point q seat o r)) stands
-    (settle-picked (s.errand caller) (found_at s caller) seat held o r is pick)
+picks-at s caller p seat held o r stands next pick = grind (arith, stands, next, pick, settle-picked)
 
 -- a step that leaves its word, after which its caller holds what else it held, keeps the state sound
 pub read-hazard :
@@ -129,7 +104,6 @@ read-hazard g s caller s' p q sound has at after word goes step =
       weigh =
           but-weighs n (s.word n) _ (s.errand caller) (found_at s caller) q to.holds (λ plain. same) (λ d. ap (word_reserves d n) same)
           (λ d. ap (word_keeps d n) same) (λ class. ap (word_stock class n) same);
-      below = subst (λ v. v < 2 ^ 64) (sym same) (old.words n);
     })
     (λ l old. actives-stay g s l s'.word old.kept stay)
     (λ l old.
@@ -149,62 +123,61 @@ hazard_caller n = 0
 pub hazard-actives :
     (g : Geometry) (s : State) (l : Lists) (i new : ℕ) (words' : WordName → ℕ) → IsSoundWith g s l
     → Writes s.word (name.Hazard i) new words' → ActivesKept g s words'
-hazard-actives g s l i new words' old w =
-    actives-same g s l words' old.kept (λ heap class. w.elsewhere (name.Active heap class) (λ same. cc))
-    (λ heap class. w.elsewhere (name.Slot heap class) (λ same. cc))
+hazard-actives g s l i new words' old w = grind (arith, old, w, actives-same)
 
 -- a store to a hazard word, and an errand that holds what else it held, weigh what they did
 hazard-weighs :
     (n : WordName) (i before after : ℕ) (e : ErrandFields) (x : Found) (q : Point) → n ≡ name.Hazard i → HoldsBut e.point q
     → WeighMost n before after e (at_point e x q)
-hazard-weighs n i before after e x q is h =
-    let here : WeighMost (name.Hazard i) before after e (at_point e x q) =
-    but-weighs (name.Hazard i) before after e x q h (λ plain. absurd plain) (λ d. refl) (λ d. refl) (λ class. refl) in
-    subst (λ m. WeighMost m before after e (at_point e x q)) (sym is) here
-
--- a step that stores its caller's hazard word keeps the state sound
-pub store-hazard :
-    (g : Geometry) (s : State) (caller : ℕ) (s' : State) (p q : Point) (new : ℕ) → IsSoundWithoutCounts g s → caller < g.callers → (s.errand caller).point ≡ p
-    → settle_of (s.errand caller) (found_at s caller) ≡ at_point (s.errand caller) (found_at s caller) q
-    → name_of (plan_point_of p) ≡ name.Hazard caller → after_action (plan_point_of p) (s.word (name_of (plan_point_of p))) ≡ new
-    → new < 2 ^ 64 → ((l : Lists) → IsSoundWith g s l → GoesHazard g s l caller p q new) → Step s caller s' → IsSoundWithoutCounts g s'
-store-hazard g s caller s' p q new sound has at after is stores below goes step =
-    let n = name_of (plan_point_of (s.errand caller).point) in
-    let v = after_action (plan_point_of (s.errand caller).point) (s.word n) in
-    let named : n ≡ name.Hazard caller = subst (λ r. name_of (plan_point_of r) ≡ name.Hazard caller) (sym at) is in
-    let stored : v ≡ new = subst (λ r. after_action (plan_point_of r) (s.word (name_of (plan_point_of r))) ≡ new) (sym at) stores in
-    let w : Writes s.word n v s'.word = step.word in
-    let writes : Writes s.word (name.Hazard caller) v s'.word = subst (λ m. Writes s.word m v s'.word) named w in
-    let went = λ (l : Lists) (old : IsSoundWith g s l). subst (λ r. GoesHazard g s l caller r q new) (sym at) (goes l old) in
-    step-most g s caller s' q sound has
-    (λ l old.
-    let to : GoesHazard g s l caller (s.errand caller).point q new = went l old in
-    record {
-      after = after;
-      event = to.event;
-      cleared = to.cleared;
-      stands = but-stands g s l caller q old has to.holds to.so;
-      weigh = hazard-weighs n caller (s.word n) v (s.errand caller) (found_at s caller) q named to.holds;
-      below = subst (λ v. v < 2 ^ 64) (sym stored) below;
-    })
-    (λ l old. hazard-actives g s l caller v s'.word old writes)
-    (λ l old.
-    let to : GoesHazard g s l caller (s.errand caller).point q new = went l old in
-    record {
-      others = λ i differ. writes.elsewhere (name.Hazard i) (λ same. differ (ap hazard_caller same));
-      guards = subst (MayGuard g s caller q (s.errand caller).retired) (sym (writes.here ∙ stored)) to.guards;
-    })
-    step
+hazard-weighs n i before after e x q is h = grind (arith, is, h, but-weighs)
 
 -- a caller may guard at a point at which nothing is pushed and nothing scanned
 pub plain-guards :
     (g : Geometry) (s : State) (caller : ℕ) (q : Point) (retired : List ℕ) (word : ℕ) → IsHazard (holds_of q).hazard word
     → ((d : ℕ) → word ≡ d + 1 → IsGuard (holds_of q).hazard → Guards s caller d ⊎ GuardsAnew g s q d) → pushed_by q ≡ None
     → passed_by q ≡ 0 → length (held_by q) ≡ 0 → MayGuard g s caller q retired word
-plain-guards g s caller q retired word hazard guard pushed passed unread = record {
-  hazard = hazard;
-  guard = guard;
-  pushed = λ i d has guards is. absurd (none-some d (sym pushed ∙ is));
-  passed = λ i d has guards listed below. let bad : ⊥ = omega (arith, below, passed) in absurd bad;
-  unread = λ i from below. let bad : ⊥ = omega (arith, below, unread) in absurd bad;
-}
+plain-guards g s caller q retired word hazard guard pushed passed unread = grind (arith, hazard, guard, pushed, passed, unread, none-some)
+
+-- the point stores this into the hazard word of the caller i, and leads on or ends the call, which holds there what else it held
+pub record StoresOwn (p : Point) (n : Next) (i new : ℕ) : Type 0 where
+  pub plain : LeadsOrEnds n
+  pub plan : plan_point_of p ≡ Store (name.Hazard i) new
+  pub next : (w : ℕ) → next_of p (found_by (plan_point_of p) w) ≡ n
+  pub event : (caller w : ℕ) → event_of caller p (found_by (plan_point_of p) w) ≡ None
+  pub cleared : (w : ℕ) → counts_cleared p (found_by (plan_point_of p) w) ≡ false
+  pub holds : HoldsBut p (point_after n)
+  pub recalls : recalls_of (point_after n) ≡ recalls_of p
+  pub hazard : IsHazard (holds_of (point_after n)).hazard new
+  pub pushed : pushed_by (point_after n) ≡ None
+  pub passed : passed_by (point_after n) ≡ 0
+  pub unread : length (held_by (point_after n)) ≡ 0
+
+-- a step that stores its caller's own hazard word, and guards then only what it may guard anew, keeps the state sound
+pub store-own :
+    (p : Point) (n : Next) (i new : ℕ) → StoresOwn p n i new
+    → ((g : Geometry) (caller : ℕ) → FitsPoint g caller p → i ≡ caller)
+    → ((g : Geometry) (s : State) (l : Lists) (caller : ℕ) → IsSoundWith g s l → caller < g.callers → (s.errand caller).point ≡ p
+    → (d : ℕ) → new ≡ d + 1 → IsGuard (holds_of (point_after n)).hazard → GuardsAnew g s (point_after n) d) → KeepsSound p
+store-own p n i new given fits anew g s caller s' sound has stands step =
+    let e = s.errand caller in
+    let q = point_after n in
+    let own : i ≡ caller = fits g caller (fits-now g s caller p sound has stands) in
+    let h : StoresOwn e.point n i new = subst (λ r. StoresOwn r n i new) (sym stands) given in
+    let w : Writes s.word (name.Hazard caller) new s'.word =
+    subst (λ j. Writes s.word (name.Hazard j) new s'.word) own
+    (subst (λ a. Writes s.word (name_of a) (after_action a (s.word (name_of a))) s'.word) h.plan step.word) in
+    step-most g s caller s' q sound has
+    (λ l old. record {
+      after = settle-next e (found_at s caller) n h.plain (h.next _);
+      event = h.event caller _;
+      cleared = h.cleared _;
+      stands = but-stands g s l caller q old has h.holds (subst (All (IsSo g s l caller)) (sym given.recalls) (so-at g s l caller p old has stands));
+      weigh = hazard-weighs (name_at s caller) caller _ _ e (found_at s caller) q (ap name_of h.plan ∙ ap name.Hazard own) h.holds;
+    })
+    (λ l old. hazard-actives g s l caller new s'.word old w)
+    (λ l old. record {
+      others = λ j differ. w.elsewhere (name.Hazard j) (λ same. differ (ap hazard_caller same));
+      guards = subst (MayGuard g s caller q e.retired) (sym w.here)
+          (plain-guards g s caller q e.retired new h.hazard (λ d is guard. inr (anew g s l caller old has stands d is guard)) h.pushed h.passed h.unread);
+    })
+    step

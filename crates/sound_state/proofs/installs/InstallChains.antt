@@ -11,9 +11,8 @@ use Rattle.sound_state.proofs.shared.SuperblockEffects.{same-chain-chained}
 
 -- a superblock whose first block is live instead of held back keeps its blocks in order
 first-given :
-    (b b' : Superblock) → IsChained b → b'.anchor ≡ b.anchor → free_chain b' ≡ free_chain b → b'.next ≡ b.next → b'.size ≡ b.size
-    → b'.waiting ≡ 0 → b.waiting ≡ 1 → b.live 0 ≡ 0 → b'.live 0 ≡ 1
-    → ((j : ℕ) → j < b.size → j ≢ 0 → b'.live j ≡ b.live j) → IsChained b'
+    (b b' : Superblock) → IsChained b → b'.anchor ≡ b.anchor → free_chain b' ≡ free_chain b → b'.next ≡ b.next → b'.size ≡ b.size → b'.waiting ≡ 0
+    → b.waiting ≡ 1 → b.live 0 ≡ 0 → b'.live 0 ≡ 1 → ((j : ℕ) → j < b.size → j ≢ 0 → b'.live j ≡ b.live j) → IsChained b'
 first-given b b' old anchor chain next size waits waited was now others =
     same-chain-chained b b' old (ap (λ x. x.avail) anchor) chain next size (omega (arith, old.some, ap (λ x. x.count) anchor, size))
     (λ j has.

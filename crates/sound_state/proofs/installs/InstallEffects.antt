@@ -1,8 +1,8 @@
 -- A won install: what it changes, and that everything else stays.
-use Rattle.std.proofs.Common.{ℕ, false, ◌≡◌, ◌<◌, ◌^◌, [], ◌∷◌, ◌++◌, IsTrue}
-use Rattle.sound_state.proofs.Common.{Geometry, need_of, block_place, Null, Held, active_word, WordName, Site, IsSiteOf, active_name, Exists, Writes, new_credits}
-use Rattle.sound_state.proofs.Common.{ErrandFields, State, Moves, Holding, holds_of, Lists, IsLocated, bound_here, recalls_of, anchor_for, is_bound}
-use Rattle.sound_state.proofs.Common.{IsActiveWord, new_anchor, nothing, block_handed}
+use Rattle.std.proofs.Common.{ℕ, false, ◌≡◌, ◌<◌, [], ◌∷◌, ◌++◌, IsTrue}
+use Rattle.sound_state.proofs.Common.{Geometry, need_of, block_place, Null, Held, active_word, Site, IsSiteOf, active_name, Exists, Writes, new_credits, ErrandFields}
+use Rattle.sound_state.proofs.Common.{State, Moves, Holding, holds_of, Lists, IsLocated, bound_here, recalls_of, anchor_for, is_bound, IsActiveWord, new_anchor, nothing}
+use Rattle.sound_state.proofs.Common.{block_handed}
 use Rattle.heap_geometry.specs.declared.need.Need.TheVariants as need
 use Rattle.pool_model.specs.declared.event.Event.TheVariants.{Alloc}
 use Rattle.sound_state.proofs.shared.MakingWeights.{installing_holds}
@@ -34,9 +34,8 @@ pub record Installs (g : Geometry) (s : State) (l : Lists) (caller : ℕ) (at : 
   pub before : s.word (active_name at.seat) ≡ active_word Null
   pub fits : IsActiveWord (Held at.desc (new_credits at.seat.class))
   pub writes : Writes s.word (active_name at.seat) (installed_word at) s'.word
-  pub below : (n : WordName) → s'.word n < 2 ^ 64
   pub history : s'.history ≡ s.history ++ Alloc caller words (first_place at) ∷ []
-  pub own : KeepsCounts g caller (s.errand caller) e
+  pub own : KeepsCounts (s.errand caller) e
   pub holds_before : holds_of (s.errand caller).point ≡ installing_holds at
   pub holds_after : holds_of e.point ≡ installed_holds at
   pub recalls_after : recalls_of e.point ≡ bound_here at

@@ -1,8 +1,8 @@
 -- What a won install leaves, and how it changes the pool and what waits.
 use Rattle.std.proofs.Common.{ℕ, Some, None, ◌≡◌, ◌≢◌, ◌<◌, ◌+◌, refl, arith, ap, sym, subst, ◌∙◌}
-use Rattle.sound_state.proofs.Common.{Geometry, block_count_of, Null, Held, active_word, anchor_of, Site, active_name, occurs, new_credits, block_at, pool_of}
-use Rattle.sound_state.proofs.Common.{ErrandFields, State, on_its_way, Lists, IsSoundWith, callers_sum, IsChained, anchor_for, info_for, superblock_of, free_chain}
-use Rattle.sound_state.proofs.Common.{is_bound, away_of, waiting_of, reserved_of, word_reserves, reserved_among, errand_keeps, IsActiveWord, fresh_block}
+use Rattle.sound_state.proofs.Common.{Geometry, block_count_of, Null, Held, active_word, anchor_of, Site, active_name, occurs, new_credits, block_at, pool_of, ErrandFields}
+use Rattle.sound_state.proofs.Common.{State, on_its_way, Lists, IsSoundWith, callers_sum, IsChained, anchor_for, info_for, superblock_of, free_chain, is_bound, away_of}
+use Rattle.sound_state.proofs.Common.{waiting_of, reserved_of, word_reserves, reserved_among, errand_keeps, IsActiveWord, fresh_block}
 use Rattle.word_table.specs.declared.name.WordName.TheVariants as name
 use Rattle.sound_state.proofs.installs.InstallEffects.{Installs, installed_word, first_place, installed_holds}
 use Rattle.sound_state.proofs.shared.OverlapLemmas.{there-none}

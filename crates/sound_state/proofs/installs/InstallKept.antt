@@ -1,27 +1,26 @@
 -- A won install leaves each descriptor in one place, as many out for each class, and each frame in one place.
-use Rattle.std.proofs.Common.{ℕ, ◌≡◌, ◌≢◌, ◌<◌, ◌+◌, [], refl, arith, ap, sym, subst, inl, inr, ◌∙◌, ◌==◌, All, IsTrue, if◌then◌else◌, eq-eqb, ne_eqb}
-use Rattle.std.proofs.lemmas.Bool.{cases_eq, cond-true}
-use Rattle.std.proofs.lemmas.List.Elements.{All-nil, All-head}
+use Rattle.std.proofs.Common.{ℕ, ◌≡◌, ◌<◌, ◌+◌, refl, arith, ap, sym, subst, inl, ◌∙◌, ◌==◌, if◌then◌else◌}
 use Rattle.sound_state.proofs.Common.{Geometry, Null, Held, active_word, descriptor_count, Site, active_name, occurs, new_credits, ErrandFields, State, IsFramed}
-use Rattle.sound_state.proofs.Common.{errand_frames, fills_frame, Kept, waiting, IsKept, IsKeptAs, errand_has, full_keeps, word_keeps, Lists, IsSoundWith, stock_among}
-use Rattle.sound_state.proofs.Common.{errand_stock, full_stock, word_stock, sum_below, info_for, is_bound, waiting_of, IsActiveWord, heap_of, IsActive, places_of}
-use Rattle.sound_state.proofs.Common.{IsStocked, stock_of}
-use Rattle.sound_state.proofs.shared.FrameLemmas.{bound-fills, waiting-fills}
+use Rattle.sound_state.proofs.Common.{fills_frame, waiting, IsKept, full_keeps, word_keeps, Lists, IsSoundWith, stock_among, word_stock, waiting_of, IsActiveWord, heap_of}
+use Rattle.sound_state.proofs.Common.{IsActive, places_of, IsStocked}
+use Rattle.word_table.specs.declared.name.WordName.TheVariants as name
+use Rattle.sound_state.proofs.shared.FrameLemmas.{waiting-fills}
 use Rattle.sound_state.proofs.shared.KeptLemmas.{places-kept}
 use Rattle.sound_state.proofs.shared.CreditLemmas.{actives-written}
-use Rattle.sound_state.proofs.installs.InstallEffects.{Installs, installed_holds, installed_word}
-use Rattle.sound_state.proofs.installs.InstallFacts.{installed-info, installed-anchor, installed-bound, installed-others, installed-one, installed-back}
+use Rattle.sound_state.proofs.installs.InstallEffects.{Installs, installed_word, installed_holds}
+use Rattle.sound_state.proofs.installs.InstallFacts.{installed-info, installed-anchor, installed-bound, installed-others, installed-one, installed-back, installed-holds}
 use Rattle.sound_state.proofs.shared.MakingWeights.{installing_holds}
 use Rattle.sound_state.proofs.shared.PointLemmas.{kept_places}
-use Rattle.sound_state.proofs.shared.SumLemmas.{callers-moved, sum-change, sum-same, words-written}
+use Rattle.sound_state.proofs.shared.SumLemmas.{words-written}
 use Rattle.sound_state.proofs.shared.WordFacts.{null-said, null-none, held-said, held-not-zero, held-desc}
-use Rattle.sound_state.proofs.shared.SuperblocksStay.{ActivesKept, SameDescs, descs-go}
+use Rattle.sound_state.proofs.shared.SuperblocksStay.{ActivesKept, SameDescs, descs-go, AreKept, keeps-none, kept-first}
+use Rattle.sound_state.proofs.shared.HoldingEffects.{framed-but, places-go, stock-goes}
+use Rattle.sound_state.proofs.shared.WeighLemmas.{full-same}
 
 -- the descriptor of an installed superblock goes from the caller to the active word
 places-weigh :
     (d : ℕ) (at : Site) → IsActiveWord (Held at.desc (new_credits at.seat.class))
-    → word_keeps d (active_name at.seat) (installed_word at)
-    ≡ word_keeps d (active_name at.seat) (active_word Null) + kept_places d (installing_holds at).kept
+    → word_keeps d (active_name at.seat) (installed_word at) ≡ word_keeps d (active_name at.seat) (active_word Null) + kept_places d (installing_holds at).kept
 places-weigh d at fits =
     let null = null-said in
     let held = held-said at.desc (new_credits at.seat.class) fits in
@@ -39,15 +38,6 @@ installed-stock-weighs class at =
 installing-frames : (f : ℕ) (at : Site) → ◌≡◌ {A = ℕ} (occurs f (installing_holds at).frames) (if at.frame == f then 1 else 0)
 installing-frames f stands = grind (arith)
 
-fills-frame :
-    (g : Geometry) (s : State) (l : Lists) (d f frame : ℕ) → IsTrue (is_bound g s l d) → waiting_of g s d ≡ 0 → (info_for s d).frame ≡ frame
-    → fills_frame g s l f d ≡ (if frame == f then 1 else 0)
-fills-frame g s l d f frame bound none lies =
-    elim (cases_eq frame f) [
-      | inl same ↦ bound-fills g s l d f bound none (lies ∙ same) ∙ sym (cond-true {A = ℕ} (frame == f) 1 0 (eq-eqb frame f same))
-      | inr differ ↦ rw (lies, ne_eqb frame f differ) (grind (arith))
-    ]
-
 module _
     {g : Geometry} {s : State} {l : Lists} {caller : ℕ} {at : Site} {words : ℕ} {e : ErrandFields} {s' : State}
     (h : Installs g s l caller at words e s') where
@@ -59,15 +49,9 @@ module _
 
   installed-places : (d : ℕ) → places_of g s' l d ≡ places_of g s l d
   installed-places d =
-      let now : errand_has d e ≡ occurs d (s.errand caller).retired + kept_places d (installed_holds at).kept =
-      omega (arith, ap (occurs d) h.own.retired, ap (λ x. kept_places d x.kept) h.holds_after) in
-      let old : errand_has d (s.errand caller) ≡ occurs d (s.errand caller).retired + kept_places d (installing_holds at).kept =
-      omega (arith, ap (λ x. kept_places d x.kept) h.holds_before) in
       omega (
         arith,
-        now,
-        old,
-        callers-moved g (errand_has d) s.errand caller e s'.errand h.in_heap h.moves,
+        places-go (installed-holds h) d,
         words-written g (word_keeps d) s.word (active_name at.seat) (installed_word at) s'.word h.exists h.writes,
         ap (word_keeps d (active_name at.seat)) h.before,
         places-weigh d at h.fits,
@@ -79,8 +63,7 @@ module _
   installed-actives kept =
       let held = held-said at.desc (new_credits at.seat.class) h.fits in
       let active : IsActive s at.desc at.seat.class =
-      All-head (λ k. IsKeptAs s k.status k.desc k.class) (record { desc = at.desc; class = at.seat.class; status = waiting }) []
-      (subst (λ x. All (λ k. IsKeptAs s k.status k.desc k.class) x.kept) h.holds_before (kept.errand caller h.in_heap)) in
+      kept-first s at.desc at.seat.class waiting (subst (λ x. AreKept s x.kept) h.holds_before (kept.errand caller h.in_heap)) in
       actives-written g s l (heap_of at.seat) at.seat.class (installed_word at) s'.word kept h.writes (rw held refl)
       (λ d credits says.
       let same : at.desc ≡ d = held-desc at.desc (new_credits at.seat.class) d credits (sym held ∙ says) in
@@ -89,64 +72,37 @@ module _
   -- each descriptor stands in one place after a won install, in the state that belongs there
   pub installed-kept : IsSoundWith g s l → IsKept g s' l
   installed-kept sound =
-      places-kept g s l caller e s'
+      places-kept g s l caller (installing_holds at) (installed_holds at) e s'
       (record {
-        in_heap = h.in_heap;
-        moves = h.moves;
+        holds = installed-holds h;
         places = installed-places;
         actives = installed-actives sound.kept;
         goes = λ d. inl (descs-go (installed-descs) d);
-        retired = h.own.retired;
-        own =
-            subst (λ x. All (λ (k : Kept). IsKeptAs s' k.status k.desc k.class) x.kept) (sym h.holds_after)
-            (All-nil (λ (k : Kept). IsKeptAs s' k.status k.desc k.class));
+        own = keeps-none s';
       }) sound.kept
 
   -- as much is out for each class as before
-  installed-stock : (class : ℕ) → stock_of g s' l class ≡ stock_of g s l class
-  installed-stock class =
-      let now : errand_stock class e ≡ 0 =
-      omega (arith, ap (λ x. stock_among class x.kept) h.holds_after, h.stands_after.quiet.waits class) in
-      let old : errand_stock class (s.errand caller) ≡ stock_among class (installing_holds at).kept =
-      omega (arith, ap (λ x. stock_among class x.kept) h.holds_before, h.stands_before.waits class) in
-      let filled : sum_below (descriptor_count g) (full_stock s' class) ≡ sum_below (descriptor_count g) (full_stock s class) =
-      sum-same (descriptor_count g) (full_stock s class) (full_stock s' class)
-      (λ d has. rw (installed-info h d, installed-anchor h d) refl) in
-      omega (
-        arith,
-        now,
-        old,
-        filled,
-        callers-moved g (errand_stock class) s.errand caller e s'.errand h.in_heap h.moves,
-        words-written g (word_stock class) s.word (active_name at.seat) (installed_word at) s'.word h.exists h.writes,
-        ap (word_stock class (active_name at.seat)) h.before,
-        installed-stock-weighs class at,
-      )
-
   pub installed-stocked : IsSoundWith g s l → IsStocked g s' l
   installed-stocked sound = record {
-    most = λ class has. omega (arith, sound.stocked.most class has, installed-stock class);
+    most = λ class has.
+        omega (
+          arith,
+          sound.stocked.most class has,
+          full-same g s s' class (λ d. h.writes.elsewhere (name.Anchor d) (λ same. cc)) (λ d. h.writes.elsewhere (name.Info d) (λ same. cc)),
+          stock-goes (installed-holds h) class (h.stands_before.waits class) (h.stands_after.quiet.waits class),
+          words-written g (word_stock class) s.word (active_name at.seat) (installed_word at) s'.word h.exists h.writes,
+          ap (word_stock class (active_name at.seat)) h.before,
+          installed-stock-weighs class at,
+        );
   }
 
   pub installed-framed : IsSoundWith g s l → IsFramed g s' l
-  installed-framed old = record {
-    once = λ f has.
-        let moved = callers-moved g (errand_frames f) s.errand caller e s'.errand h.in_heap h.moves in
-        let now : errand_frames f e ≡ 0 = ap (λ x. occurs f x.frames) h.holds_after in
-        let was : errand_frames f (s.errand caller) ≡ (if at.frame == f then 1 else 0) = ap (λ x. occurs f x.frames) h.holds_before ∙ installing-frames f at in
-        let elsewhere : (d : ℕ) → d < descriptor_count g → d ≢ at.desc → fills_frame g s' l f d ≡ fills_frame g s l f d =
-        λ d lt differ.
-        rw (
-          installed-bound h d,
-          installed-others h d differ,
-          installed-info h d,
-        ) refl in
-        let changed = sum-change (descriptor_count g) (fills_frame g s l f) (fills_frame g s' l f) at.desc h.site.desc elsewhere in
-        let waited : waiting_of g s at.desc ≡ 1 = (installed-back h old).2 in
-        let empty : fills_frame g s l f at.desc ≡ 0 = waiting-fills g s l at.desc f waited in
-        let filled : fills_frame g s' l f at.desc ≡ (if at.frame == f then 1 else 0) =
-        fills-frame g s' l at.desc f at.frame (subst IsTrue (sym (installed-bound h at.desc)) h.bound)
-        (omega (arith, installed-one h, waited))
-        (ap (λ x. x.frame) (installed-info h at.desc) ∙ h.located.frame) in
-        omega (arith, changed, empty, filled, moved, now, was, old.framed.once f has);
-  }
+  installed-framed old =
+      let waited : waiting_of g s at.desc ≡ 1 = (installed-back h old).2 in
+      let none : waiting_of g s' at.desc ≡ 0 = omega (arith, installed-one h, waited) in
+      framed-but (installed-holds h) l at.desc h.site.desc (λ f d differ. rw (installed-bound h d, installed-others h d differ, installed-info h d) refl)
+      (λ f.
+      let filled : fills_frame g s' l f at.desc ≡ (if at.frame == f then 1 else 0) =
+      rw (installed-bound h at.desc, h.bound, none, installed-info h at.desc, h.located.frame) refl in
+      omega (arith, waiting-fills g s l at.desc f waited, filled, installing-frames f at))
+      old.framed

@@ -1,8 +1,8 @@
 -- The step of a won install, and what it changes.
-use Rattle.std.proofs.Common.{ℕ, false, ◌≡◌, ◌<◌, ◌^◌, refl, arith, ap, sym, subst, ◌∙◌, inl, IsTrue}
-use Rattle.sound_state.proofs.Common.{Geometry, active_word, anchor_of, Null, Held, Site, active_name, IsSiteOf, new_credits, Continuation, Point, Block, event_of}
-use Rattle.sound_state.proofs.Common.{next_of, asked, plan_point_of, State, Step, holds_of, Lists, recalls_of, IsLocated, IsSoundWithoutCounts, IsSoundWith}
-use Rattle.sound_state.proofs.Common.{IsOwnErrand, anchor_for, is_bound, IsActiveWord, CREDIT_BITS, active-exact, anchor_of-anchor_word, new_anchor}
+use Rattle.std.proofs.Common.{ℕ, false, ◌≡◌, ◌<◌, refl, arith, ap, sym, subst, ◌∙◌, inl, IsTrue}
+use Rattle.sound_state.proofs.Common.{Geometry, active_word, anchor_of, Null, Held, Site, active_name, IsSiteOf, new_credits, Continuation, Point, Block, event_of, next_of}
+use Rattle.sound_state.proofs.Common.{asked, plan_point_of, State, Step, holds_of, Lists, recalls_of, IsLocated, IsSoundWithoutCounts, IsSoundWith, anchor_for, is_bound}
+use Rattle.sound_state.proofs.Common.{IsActiveWord, anchor_of-anchor_word, new_anchor}
 use Rattle.superblock_parts.specs.declared.point.BlockPoint.TheVariants as block
 use Rattle.sound_state.proofs.installs.InstallChains.{installed-chained}
 use Rattle.sound_state.proofs.installs.InstallEffects.{Installs, installed_word}
@@ -11,18 +11,13 @@ use Rattle.sound_state.proofs.installs.InstallRecalls.{installed-remembered}
 use Rattle.sound_state.proofs.installs.InstallTies.{installed-tied, installed-legal}
 use Rattle.sound_state.proofs.installs.InstallTurns.{installed-turned, installed-guarded, installed-listed}
 use Rattle.sound_state.proofs.shared.PointLemmas.{fits-at, the-alloc, small-asked, recalled-at}
-use Rattle.sound_state.proofs.shared.StepLemmas.{at_point}
+use Rattle.sound_state.proofs.shared.StepLemmas.{at_point, keeps-counts}
 use Rattle.sound_state.proofs.shared.CreditLemmas.{won_with}
 use Rattle.sound_state.proofs.shared.TurnEffects.{StandsIn, StandsFramed}
-use Rattle.sound_state.proofs.shared.WaitsAlone.{new_anchor-fits}
 use Rattle.sound_state.proofs.shared.WonEffects.{WonEffects, won-effects}
 use Rattle.sound_state.proofs.shared.WordFacts.{held-fits, seat-active}
-use Rattle.sound_state.proofs.shared.KeepsSound.{KeepsSoundWhere}
-use Rattle.sound_state.proofs.shared.CallerLemmas.{each-caller}
-
--- the credits of a new superblock fit an active word
-credits-few : (class : ℕ) → new_credits class < 2 ^ CREDIT_BITS
-credits-few class = grind (arith)
+use Rattle.sound_state.proofs.shared.KeepsSound.{KeepsSoundWhere, stepped-sound}
+use Rattle.sound_state.proofs.shared.WrittenWords.{credits-few, new_anchor-fits}
 
 pub install-stands : (at : Site) (o : Continuation) → StandsFramed (Block (block.InstallSuperblock at) o)
 install-stands at o = grind (arith)
@@ -66,9 +61,8 @@ install-installs g s l caller s' at o sound is has here word step =
     let about = about-to-install g s l caller at o is has here in
     let fits : IsActiveWord (Held at.desc (new_credits at.seat.class)) =
     held-fits g at.desc (new_credits at.seat.class) sound.checked fit.point.desc (credits-few at.seat.class) in
-    let won : WonEffects g s caller p n (active_word Null) (installed_word at) q s' =
-    won-effects g s l caller s' p n (active_word Null) (installed_word at) q is has here word refl (inl refl)
-    (active-exact.fits (Held at.desc (new_credits at.seat.class)) fits) step in
+    let won : WonEffects s caller p n (active_word Null) (installed_word at) q s' =
+    won-effects s caller s' p n (active_word Null) (installed_word at) q here word refl (inl refl) step in
     record {
       in_heap = has;
       moves = won.step.moves;
@@ -81,9 +75,8 @@ install-installs g s l caller s' at o sound is has here word step =
       before = word;
       fits = fits;
       writes = won.writes;
-      below = won.below;
       history = won.step.history;
-      own = record { rule = won.step.rule; retired = refl; turns = refl; lost = won.step.lost; cleared = won.step.cleared };
+      own = keeps-counts (s.errand caller) p (won_with (active_word Null)) q here refl refl;
       holds_before = ap holds_of here;
       holds_after = refl;
       recalls_after = refl;
@@ -97,25 +90,17 @@ pub install_superblock-won :
 install_superblock-won at o g s caller s' sound has here word step =
     let l = sound.parts.0 in
     let is = sound.parts.1 in
-    let e = at_point (s.errand caller) (won_with (active_word Null)) (Block (block.StorePrefix at 0) o) in
     let h = install-installs g s l caller s' at o sound is has here word step in
-    record {
-      checked = sound.checked;
-      legal = installed-legal h sound is;
-      parts = (
-        l,
-        record {
-          words = h.below;
-          errands = each-caller g (IsOwnErrand g) s.errand caller e s'.errand h.moves h.own.rule is.errands;
-          listed = installed-listed h is;
-          kept = installed-kept h is;
-          chained = installed-chained h is;
-          framed = installed-framed h is;
-          remembered = installed-remembered h sound is;
-          guarded = installed-guarded h is;
-          stocked = installed-stocked h is;
-          turned = installed-turned h sound is;
-          tied = installed-tied h sound is;
-        },
-      );
-    }
+    stepped-sound g s caller s' l sound has step (installed-legal h sound is)
+    (λ formed. record {
+      formed = formed;
+      listed = installed-listed h is;
+      kept = installed-kept h is;
+      chained = installed-chained h is;
+      framed = installed-framed h is;
+      remembered = installed-remembered h sound is;
+      guarded = installed-guarded h is;
+      stocked = installed-stocked h is;
+      turned = installed-turned h sound is;
+      tied = installed-tied h sound is;
+    })

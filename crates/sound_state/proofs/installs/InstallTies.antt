@@ -1,12 +1,12 @@
 -- After a won install the words still show the pool of the events, and the events are legal.
-use Rattle.std.proofs.Common.{ℕ, ap, ◌∙◌}
-use Rattle.sound_state.proofs.Common.{Geometry, Need, Site, IsLegalWithoutCounts, ErrandFields, State, Holding, Lists, IsOwned, IsSoundWithoutCounts, IsSoundWith}
-use Rattle.sound_state.proofs.Common.{IsTied}
+use Rattle.std.proofs.Common.{ℕ, ap, ◌∙◌, refl}
+use Rattle.sound_state.proofs.Common.{Geometry, Need, Site, IsLegalWithoutCounts, ErrandFields, State, Holding, Lists, IsOwned, IsSoundWithoutCounts, IsSoundWith, IsTied}
 use Rattle.word_table.specs.declared.name.WordName.TheVariants as name
 use Rattle.sound_state.proofs.installs.InstallEffects.{Installs, first_place}
-use Rattle.sound_state.proofs.installs.InstallFacts.{installed-info, installed-bound, installed-some, installed-none, installed-here, installed-there}
+use Rattle.sound_state.proofs.installs.InstallFacts.{installed-info, installed-bound, installed-some, installed-none, installed-here, installed-there, installed-holds}
 use Rattle.sound_state.proofs.shared.GivenBlocks.{Gives, given-legal, given-tied}
 use Rattle.sound_state.proofs.shared.TieLemmas as ties
+use Rattle.sound_state.proofs.shared.HoldingEffects.{bare-before}
 
 module _
     {g : Geometry} {s : State} {l : Lists} {caller : ℕ} {at : Site} {words : ℕ} {e : ErrandFields} {s' : State}
@@ -32,7 +32,7 @@ module _
     };
     info = installed-info h;
     bounds = installed-bound h;
-    bare = record { hands = ap (λ (o : Holding). o.hands) h.holds_before; frees = ap (λ (o : Holding). o.frees) h.holds_before };
+    bare = bare-before (installed-holds h) refl refl;
     hands = ap (λ (o : Holding). o.hands) h.holds_after;
     frees = ap (λ (o : Holding). o.frees) h.holds_after;
   }

@@ -6,7 +6,7 @@ use Rattle.sound_state.proofs.installs.InstallEffects.{Installs, first_place}
 use Rattle.sound_state.proofs.installs.InstallFacts.{installed-anchor, installed-away}
 use Rattle.sound_state.proofs.shared.GuardEffects.{guarded-clear}
 use Rattle.sound_state.proofs.shared.ListEffects.{IsListWord, listed-kept}
-use Rattle.sound_state.proofs.shared.TurnEffects.{alloc-event, emptied-kept, head-tag, turned-after, small-served, stands-weighs, framed-weighs}
+use Rattle.sound_state.proofs.shared.TurnEffects.{alloc-event, emptied-kept, head-tag, turned-after, small-served, stands-weighs, framed-weighs, counts-kept}
 
 module _
     {g : Geometry} {s : State} {l : Lists} {caller : ℕ} {at : Site} {words : ℕ} {e : ErrandFields} {s' : State}
@@ -32,11 +32,7 @@ module _
         in_heap = h.in_heap;
         moves = h.moves;
         events = events;
-        own_turns = omega (arith, turned.own_turns caller h.in_heap, events.gives, before.under_way, after.under_way, h.own.turns);
-        own_lost =
-            omega (arith, turned.own_lost caller h.in_heap, events.gives, events.refuses caller, before.unanswered, after.discards, after.unanswered, h.own.turns, h.own.lost);
-        own_answers =
-            omega (arith, turned.own_answers caller h.in_heap, events.gives, events.refuses caller, before.unanswered, after.unanswered, h.own.turns);
+        counts = counts-kept turned h.in_heap events h.own before after refl (omega arith);
         anchor_tags = λ d has. omega (arith, ap (λ x. x.tag) (installed-anchor h d));
         frame_turns = omega (arith, head-tag (h.writes.elsewhere name.FrameHead (λ same. cc)), before.unframed, after.unframed, h.own.turns);
         emptied = omega (arith, emptied_same, h.own.cleared);

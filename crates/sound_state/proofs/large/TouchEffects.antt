@@ -1,24 +1,23 @@
 -- A step at a large block, a usable word or a shelf: no superblock, list or descriptor changes, and what is said of them stays.
-use Rattle.std.proofs.Common.{List, ℕ, Some, ◌≡◌, ◌≢◌, ◌<◌, ◌+◌, ◌^◌, [], refl, arith, ap, sym, subst, ◌∙◌, All, IsTrue, IsSome, count_by}
+use Rattle.std.proofs.Common.{List, ℕ, Some, ◌≡◌, ◌≢◌, ◌<◌, ◌+◌, [], refl, arith, ap, sym, subst, ◌∙◌, All, IsTrue, IsSome, count_by}
 use Rattle.std.proofs.lemmas.List.Elements.{All-nil}
-use Rattle.sound_state.proofs.Common.{Geometry, Need, block_count_of, block_place, AnchorFields, anchor_of, info_of, link_of, WordName, descriptor_count, word_count, Event, is_there}
-use Rattle.sound_state.proofs.Common.{SeatFields, info_in, word_name, occurs, prefix_name, Pile, Frames, Partials, head_name, next_name, own, block_at, pool_of}
-use Rattle.sound_state.proofs.Common.{ErrandFields, Point, State, Moves, IsFramed, errand_frames, fills_frame, IsGuarded}
-use Rattle.sound_state.proofs.Common.{Status, reserving, waiting, partly_used, on_its_way, holds_of, IsKept, IsWithout, IsKeptAs, word_keeps, errand_has, full_keeps}
-use Rattle.sound_state.proofs.Common.{Lists, IsListed, IsLocated, IsSo, IsOwned, recalls_of, IsSoundWith, IsOwnErrand, turn_stage_of, word_stock, errand_stock}
-use Rattle.sound_state.proofs.Common.{full_stock, stock_among, IsTied, sum_below, words_sum, callers_sum, AreChained, IsChained, info_or_zero, live_at}
-use Rattle.sound_state.proofs.Common.{anchor_for, info_for, superblock_of, free_chain, reserved_of, word_reserves, errand_reserves, reserved_among, waiting_of, away_of}
-use Rattle.sound_state.proofs.Common.{errand_away, is_bound, errand_keeps, kept_among, IsTurned, gives_small, refuses_small, pops_left, chain_of, Caller, clear}
-use Rattle.sound_state.proofs.Common.{places_of, IsRemembered, out_of_turn, stock_of, is_small_alloc, is_small_free}
+use Rattle.sound_state.proofs.Common.{Geometry, Need, block_count_of, block_place, AnchorFields, anchor_of, info_of, link_of, WordName, descriptor_count, word_count, Event}
+use Rattle.sound_state.proofs.Common.{is_there, SeatFields, info_in, word_name, occurs, prefix_name, Pile, Frames, Partials, head_name, next_name, own, block_at, pool_of}
+use Rattle.sound_state.proofs.Common.{ErrandFields, Point, State, Moves, IsFramed, errand_frames, fills_frame, IsGuarded, IsFormed, Status, reserving, waiting, partly_used}
+use Rattle.sound_state.proofs.Common.{on_its_way, holds_of, IsKept, IsWithout, IsKeptAs, word_keeps, errand_has, full_keeps, Lists, IsListed, IsLocated, IsSo, IsOwned}
+use Rattle.sound_state.proofs.Common.{recalls_of, IsSoundWith, turn_stage_of, word_stock, errand_stock, full_stock, stock_among, IsTied, sum_below, words_sum, callers_sum}
+use Rattle.sound_state.proofs.Common.{AreChained, IsChained, info_or_zero, live_at, anchor_for, info_for, superblock_of, free_chain, reserved_of, word_reserves}
+use Rattle.sound_state.proofs.Common.{errand_reserves, reserved_among, waiting_of, away_of, errand_away, is_bound, errand_keeps, kept_among, IsTurned, gives_small}
+use Rattle.sound_state.proofs.Common.{refuses_small, pops_left, chain_of, Caller, clear, places_of, IsRemembered, out_of_turn, stock_of, is_small_alloc, is_small_free}
 use Rattle.word_table.specs.declared.name.WordName.TheVariants as name
 use Rattle.superblock_parts.proofs.ChainLemmas.{chain_of-same}
 use Rattle.pool_model.specs.Pool.{Block}
 use Rattle.sound_state.proofs.shared.BackedRecalls.{AllRead, remembered-stays}
-use Rattle.sound_state.proofs.shared.CallerLemmas.{each-other, KeepsCounts}
+use Rattle.sound_state.proofs.shared.CallerLemmas.{KeepsCounts}
 use Rattle.sound_state.proofs.shared.GuardEffects.{guarded-clear}
 use Rattle.sound_state.proofs.shared.ListEffects.{IsListWord, listed-kept}
 use Rattle.sound_state.proofs.shared.SumLemmas.{callers-moved, sum-same}
-use Rattle.sound_state.proofs.shared.TurnEffects.{emptied-kept, head-tag, no-turn-weighs, turned-after, IsQuiet}
+use Rattle.sound_state.proofs.shared.TurnEffects.{emptied-kept, head-tag, no-turn-weighs, turned-after, IsQuiet, counts-kept, EventEffects}
 use Rattle.sound_state.proofs.shared.RecallFrame.{ChainStays, IsSaidWord, Part, PartStays, bindings, places, chains, stacks, link_words, availables, events, single}
 use Rattle.sound_state.proofs.shared.RecallFrame.{constant, lies-same, stack-same}
 use Rattle.sound_state.proofs.shared.SuperblocksStay.{SameDescs, actives-same, descs-kept}
@@ -66,13 +65,12 @@ pub record Touches (g : Geometry) (s : State) (l : Lists) (caller : ℕ) (e : Er
   pub in_heap : caller < g.callers
   pub moves : Moves s.errand caller e s'.errand
   pub word : (n : WordName) → IsAwayWord n → s'.word n ≡ s.word n
-  pub below : (n : WordName) → s'.word n < 2 ^ 64
   pub prefixes :
       (d i : ℕ) → d < descriptor_count g → IsTrue (is_bound g s l d) → i < block_count_of (info_for s d).class
       → s'.word (prefix_name (info_for s d).frame (info_for s d).class i) ≡ s.word (prefix_name (info_for s d).frame (info_for s d).class i)
   pub stays : (i : ℕ) → i < g.callers → i ≢ caller → AllRead (Stays s s'.word) (s.errand i).point
   pub leaves : LeavesOthers g s l caller s'.history
-  pub own : KeepsCounts g caller (s.errand caller) e
+  pub own : KeepsCounts (s.errand caller) e
   pub before : IsAsidePoint (s.errand caller).point
   pub after : IsAsidePoint e.point
   pub recalls : recalls_of e.point ≡ []
@@ -187,7 +185,8 @@ module _ {g : Geometry} {s : State} {l : Lists} {caller : ℕ} {e : ErrandFields
       let full : sum_below (descriptor_count g) (full_stock s' class) ≡ sum_below (descriptor_count g) (full_stock s class) =
       sum-same (descriptor_count g) (full_stock s class) (full_stock s' class)
       (λ d lt. rw (touched-anchor d, touched-info d) refl) in
-      let held : stock_among class (holds_of e.point).kept ≡ stock_among class (holds_of (s.errand caller).point).kept = ap (stock_among class) (h.after.kept ∙ sym h.before.kept) in
+      let held : stock_among class (holds_of e.point).kept ≡ stock_among class (holds_of (s.errand caller).point).kept =
+      ap (stock_among class) (h.after.kept ∙ sym h.before.kept) in
       let same = touched-callers (errand_stock class) (omega (arith, held, h.after.quiet.waits class, h.before.quiet.waits class)) in
       omega (arith, same, full, touched-words (word_stock class) (λ p w. refl) (λ w. refl) (λ k w. refl))
 
@@ -307,7 +306,7 @@ module _ {g : Geometry} {s : State} {l : Lists} {caller : ℕ} {e : ErrandFields
 
   remembered-touched : IsSoundWith g s l → IsRemembered g s' l
   remembered-touched old =
-      remembered-stays g s l caller e s' l h.moves old.errands (λ i has other. old.remembered.so i has)
+      remembered-stays g s l caller e s' l h.moves old.formed.errands (λ i has other. old.remembered.so i has)
       (subst (All (IsSo g s' l caller)) (sym h.recalls) (All-nil (IsSo g s' l caller)))
       (λ i has other k d lt. touched-part old.chained i other _ (h.stays i has other k d lt))
 
@@ -322,21 +321,19 @@ module _ {g : Geometry} {s : State} {l : Lists} {caller : ℕ} {e : ErrandFields
       let before = no-turn-weighs (s.errand caller) h.before.stage in
       let after = no-turn-weighs e h.after.stage in
       let emptied_same = emptied-kept g s l s' l (λ d. rw (touched-away d, touched-anchor d) refl) in
+      let events : EventEffects g caller s.history s'.history 0 0 = record {
+        elsewhere = λ i differ. h.leaves.gives i;
+        gives = omega (arith, h.leaves.gives caller);
+        refuses = h.leaves.refuses;
+        allocs = omega (arith, h.leaves.allocs);
+        frees = omega (arith, h.leaves.freed);
+      } in
       turned-after g s l caller e s' l 0 0
       (record {
         in_heap = h.in_heap;
         moves = h.moves;
-        events = record {
-          elsewhere = λ i differ. h.leaves.gives i;
-          gives = omega (arith, h.leaves.gives caller);
-          refuses = h.leaves.refuses;
-          allocs = omega (arith, h.leaves.allocs);
-          frees = omega (arith, h.leaves.freed);
-        };
-        own_turns = omega (arith, turned.own_turns caller h.in_heap, h.leaves.gives caller, after.under_way, h.own.turns);
-        own_lost =
-            omega (arith, turned.own_lost caller h.in_heap, h.leaves.gives caller, h.leaves.refuses caller, before.unanswered, after.discards, h.own.turns, h.own.lost);
-        own_answers = omega (arith, turned.own_answers caller h.in_heap, h.leaves.gives caller, h.leaves.refuses caller, after.unanswered, h.own.turns);
+        events = events;
+        counts = counts-kept turned h.in_heap events h.own before after refl (omega arith);
         anchor_tags = λ d has. omega (arith, ap (λ a. a.tag) (touched-anchor d));
         frame_turns = omega (arith, head-tag (h.word name.FrameHead tt), after.unframed, h.own.turns);
         emptied = omega (arith, emptied_same, h.own.cleared);
@@ -346,10 +343,9 @@ module _ {g : Geometry} {s : State} {l : Lists} {caller : ℕ} {e : ErrandFields
       turned
 
   -- the state is sound after a touch, where the words show the pool
-  pub sound-touched : IsSoundWith g s l → IsTied g s' l → IsSoundWith g s' l
-  sound-touched old tied = record {
-    words = h.below;
-    errands = each-other g (IsOwnErrand g) s.errand caller e s'.errand h.moves h.own.rule (λ i has differ. old.errands i has);
+  pub sound-touched : IsSoundWith g s l → IsTied g s' l → IsFormed g s' → IsSoundWith g s' l
+  sound-touched old tied formed = record {
+    formed = formed;
     listed = listed-touched old.listed;
     kept = kept-touched old.kept;
     chained = chained-touched old.chained;

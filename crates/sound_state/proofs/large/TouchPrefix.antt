@@ -1,12 +1,11 @@
 -- The prefix word of a run that is handed out.
-use Rattle.std.proofs.Common.{ℕ, None, Some, ◌≡◌, ◌≢◌, ◌<◌, ◌≤◌, ◌+◌, ◌*◌, ◌^◌, [], refl, arith, ap, sym, subst, inl, inr, ◌∙◌, Any, IsTrue, slice_index_or, pow_pos}
+use Rattle.std.proofs.Common.{ℕ, None, Some, ◌≡◌, ◌≢◌, ◌<◌, ◌≤◌, ◌+◌, ◌*◌, ◌^◌, [], refl, arith, ap, sym, subst, inl, inr, ◌∙◌, slice_index_or, pow_pos}
 use Rattle.std.specs.Int.{bit_at}
 use Rattle.std.proofs.lemmas.Bool.{cases_eq}
 use Rattle.std.proofs.lemmas.List.Elements.{All-head}
-use Rattle.sound_state.proofs.Common.{Geometry, block_count_of, block_place, WordName, Writes, block_at, pool_of, place-found, sound-of}
-use Rattle.sound_state.proofs.Common.{Continuation, Point, Idle, Large, ErrandFields, event_of, next_of, plan_point_of, State, holds_of, Lists, IsOwned}
-use Rattle.sound_state.proofs.Common.{IsSoundWithoutCounts, IsSoundWith, IsLive, IsTied, usable_words, unit_place, block-within, prefix_word, RunFields, IsWellFormed}
-use Rattle.sound_state.proofs.Common.{every-found}
+use Rattle.sound_state.proofs.Common.{Geometry, block_count_of, block_place, WordName, Writes, block_at, pool_of, place-found, sound-of, Continuation, Point, Idle, Large}
+use Rattle.sound_state.proofs.Common.{ErrandFields, event_of, next_of, plan_point_of, State, holds_of, Lists, IsOwned, IsSoundWithoutCounts, IsSoundWith, IsLive, IsTied}
+use Rattle.sound_state.proofs.Common.{usable_words, unit_place, block-within, prefix_word, RunFields, IsWellFormed, every-found}
 use Rattle.heap_geometry.specs.declared.need.Need.TheVariants as need
 use Rattle.packed_words.specs.declared.prefix.Prefix.TheVariants as prefix
 use Rattle.word_table.specs.declared.name.WordName.TheVariants as name
@@ -14,16 +13,14 @@ use Rattle.large_parts.specs.declared.point.LargePoint.TheVariants as large
 use Rattle.large_parts.specs.Points.{IsRunAt}
 use Rattle.pool_model.specs.Pool.{Block}
 use Rattle.errand_steps.specs.declared.reply.Reply.TheVariants as reply
-use Rattle.sound_state.specs.Holdings.{run_handed}
 use Rattle.sound_state.proofs.shared.ListFacts.{any-one, written-within}
 use Rattle.sound_state.proofs.shared.OverlapLemmas.{live-apart}
 use Rattle.sound_state.proofs.shared.PointLemmas.{fits-at, hands-at}
-use Rattle.sound_state.proofs.large.TouchEffects.{IsAwayWord, Touches, sound-touched}
+use Rattle.sound_state.proofs.large.TouchEffects.{Touches, sound-touched}
 use Rattle.sound_state.proofs.large.TouchPrefixes.{KeepsPrefixes, prefixes-stay, info-frame}
-use Rattle.sound_state.proofs.large.TouchShelves.{idle-aside, idle-bare-handed, idle-recalls}
-use Rattle.sound_state.proofs.large.TouchSteps.{TouchesAt, leaves-same, touched-step}
+use Rattle.sound_state.proofs.large.TouchSteps.{TouchesAt, idle-aside, idle-bare-handed, idle-recalls, large-aside, leaves-same, touched-step}
 use Rattle.sound_state.proofs.shared.TieLemmas.{IsBareHanded, bare-owns, one-live, ties-but, Excepts}
-use Rattle.sound_state.proofs.large.TouchTies.{large-aside, touched-desc}
+use Rattle.sound_state.proofs.large.TouchTies.{touched-desc}
 use Rattle.sound_state.proofs.shared.KeepsSound.{KeepsSound, silent-sound}
 
 -- the place of the word of the arena that this is
@@ -57,12 +54,7 @@ words-apart g s sound p q i j a b at_p at_q ne of_a of_b same =
 pub behind-keeps :
     (g : Geometry) (s : State) (l : Lists) (caller first new : ℕ) (words : WordName → ℕ) → IsSoundWith g s l
     → Writes s.word (name.Arena (unit_place g.frames first)) new words → KeepsPrefixes g s l caller words
-behind-keeps g s l caller first new words old w = record {
-  away = λ n away. w.elsewhere n (λ same. let bad : ⊥ = subst IsAwayWord same away in bad);
-  bound = λ d i has bound lt.
-      w.elsewhere _ (λ same. frame-before g.frames _ _ i first (info-frame g s l d old has) lt (ap arena_place same));
-  making = λ i f c k has other within hand none lt. w.elsewhere _ (λ same. frame-before g.frames f c k first within lt (ap arena_place same));
-}
+behind-keeps g s l caller first new words old w = grind (arith, old, w, frame-before, info-frame)
 
 run-prefix-word : (units : ℕ) → prefix_word (prefix.Large units) ≡ 2 * units + 1
 unfolding prefix_word
@@ -70,17 +62,11 @@ run-prefix-word units = omega arith
 
 prefix-touches :
     (g : Geometry) (s : State) (l : Lists) (caller place : ℕ) (run : RunFields) (o : Continuation) → IsSoundWith g s l → IsRunAt g place run
-    → TouchesAt g s l caller (Large (large.StoreRunPrefix place run) o) Idle (name.Arena place) (prefix_word (prefix.Large run.units)) s.history
+    → TouchesAt g s l caller (Large (large.StoreRunPrefix place run) o) Idle (name.Arena place) (prefix_word (prefix.Large run.units)) None
 unfolding plan_point_of next_of event_of
 prefix-touches g s l caller place run o old fit = record {
-  leads = inr (reply.Given place (need.Large run.units), refl, refl);
-  here = refl;
-  written = refl;
-  below = omega (arith, run-prefix-word run.units, fit.run.within);
+  does = record { leads = inr (reply.Given place (need.Large run.units), refl, refl); here = refl; written = refl; lost = refl; cleared = refl; told = refl };
   touched = λ away. away;
-  lost = refl;
-  cleared = refl;
-  told = refl;
   leaves = leaves-same g s l caller;
   before = large-aside _ _;
   after = idle-aside;
@@ -98,12 +84,7 @@ prefix-touches g s l caller place run o old fit = record {
 -- a caller that stores the prefix word of a run excepts that run alone
 excepts-run : (e : ErrandFields) (place : ℕ) (run : RunFields) (o : Continuation) (p : ℕ) → e.point ≡ Large (large.StoreRunPrefix place run) o → Excepts e p → place ≡ p
 unfolding holds_of
-excepts-run e place run o p stands (inl x) =
-    let one : Any (λ b. b.place ≡ p) (run_handed place run.units) = subst (λ q. Any (λ b. b.place ≡ p) (holds_of q).hands) stands x in
-    any-one (λ b. b.place ≡ p) _ one
-excepts-run e place run o p stands (inr x) =
-    let none : Any (λ b. (b.place ≡ p) × IsTrue b.overwritten) [] = subst (λ q. Any (λ b. (b.place ≡ p) × IsTrue b.overwritten) (holds_of q).frees) stands x in
-    omega (arith, none.2)
+excepts-run e place run o p stands h1 = grind (arith, stands, h1, any-one)
 
 -- after the store of a run's prefix word that word says the run, and the words show the pool
 prefix-tied :
@@ -171,7 +152,7 @@ store_run_prefix-sound place run o g s caller s' sound has stands step =
     let owned : IsOwned s caller place (need.Large run.units) =
     All-head (λ x. IsOwned s caller x.place x.need) (record { place = place; need = need.Large run.units }) [] (hands-at g s l caller p old has stands) in
     let t =
-    touched-step g s l caller s' p Idle (name.Arena place) (prefix_word (prefix.Large run.units)) s.history old has stands
+    touched-step g s l caller s' p Idle (name.Arena place) (prefix_word (prefix.Large run.units)) None old has stands
     (prefix-touches g s l caller place run o old fit.point) step in
-    silent-sound g s s' l sound t.history
+    silent-sound g s caller s' l sound has step t.history
     (sound-touched t.touches old (prefix-tied g s l caller place run o s' _ t.touches sound old stands owned t.word t.history idle-bare-handed))

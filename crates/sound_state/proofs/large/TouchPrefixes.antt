@@ -8,12 +8,12 @@ use Rattle.sound_state.proofs.Common.{FitsBlock, block_recalls}
 use Rattle.word_table.specs.declared.name.WordName.TheVariants as name
 use Rattle.superblock_parts.specs.declared.point.BlockPoint.TheVariants as block
 use Rattle.errand_steps.specs.declared.point.Point.TheVariants as point
-use Rattle.sound_state.specs.Holdings as holding
+use Rattle.errand_steps.specs.tables.Blocks as holding
 use Rattle.sound_state.proofs.shared.BackedRecalls.{AllRead}
 use Rattle.sound_state.proofs.shared.MakingWeights.{making-waits}
 use Rattle.sound_state.proofs.shared.PointLemmas.{fits-at, so-at}
-use Rattle.sound_state.proofs.shared.RecallFrame.{Part, Reads, link_words, single}
-use Rattle.sound_state.proofs.shared.RecallTables.{IsElsewhere, IsLink, reads-point}
+use Rattle.sound_state.proofs.shared.RecallFrame.{Part, Reads}
+use Rattle.sound_state.proofs.shared.RecallTables.{IsElsewhere, reads-point}
 use Rattle.sound_state.proofs.large.TouchEffects.{IsAwayWord, Stays}
 use Rattle.sound_state.proofs.shared.WordFacts.{frame-of-within}
 
@@ -33,62 +33,47 @@ at-hand :
     (g : Geometry) (s : State) (l : Lists) (caller : ℕ) (words : WordName → ℕ) → KeepsPrefixes g s l caller words → (at : Site) → at.desc < descriptor_count g
     → IsTrue (is_bound g s l at.desc) × IsLocated s at.desc at.frame at.seat.class → (i : ℕ) → i < block_count_of at.seat.class
     → words (prefix_name at.frame at.seat.class i) ≡ s.word (prefix_name at.frame at.seat.class i)
-at-hand g s l caller words h at has here i within =
-    let P : ℕ → ℕ → Type 0 = λ f c. words (prefix_name f c i) ≡ s.word (prefix_name f c i) in
-    subst (λ f. P f at.seat.class) here.1.frame
-    (subst (λ c. P (info_for s at.desc).frame c) here.1.class
-    (h.bound at.desc i has here.0 (subst (λ c. i < block_count_of c) (sym here.1.class) within)))
+at-hand g s l caller words h at has here i within = grind (arith, h, has, here, within)
 
 frame-in-hand : (f : ℕ) → 0 < occurs f (f ∷ [])
 frame-in-hand f = grind (arith)
 
--- the prefix words of a frame in which another caller makes a superblock stay
-at-making :
-    (g : Geometry) (s : State) (l : Lists) (caller : ℕ) (words : WordName → ℕ) → KeepsPrefixes g s l caller words → (i : ℕ) → i < g.callers → i ≢ caller
-    → (p : Point) → (s.errand i).point ≡ p → (at : Site) → holds_of p ≡ holding.making at → at.frame < g.frames → (k : ℕ)
-    → k < block_count_of at.seat.class → words (prefix_name at.frame at.seat.class k) ≡ s.word (prefix_name at.frame at.seat.class k)
-at-making g s l caller words h i has other p stands at making within k lt =
-    let holds : holds_of (s.errand i).point ≡ holding.making at = ap holds_of stands ∙ making in
-    h.making i at.frame at.seat.class k has other within (subst (λ x. 0 < occurs at.frame x.frames) (sym holds) (frame-in-hand at.frame))
-    (λ d. subst (λ x. kept_among waiting d x.kept ≡ 0) (sym holds) (making-waits d at)) lt
+-- words that keep the prefix words of superblocks, bound or in the making
+module _ (g : Geometry) (s : State) (l : Lists) (caller : ℕ) (words : WordName → ℕ) (h : KeepsPrefixes g s l caller words) where
+  -- the prefix words of a frame in which another caller makes a superblock stay
+  at-making :
+      (i : ℕ) → i < g.callers → i ≢ caller → (p : Point) → (s.errand i).point ≡ p → (at : Site) → holds_of p ≡ holding.making at → at.frame < g.frames → (k : ℕ)
+      → k < block_count_of at.seat.class → words (prefix_name at.frame at.seat.class k) ≡ s.word (prefix_name at.frame at.seat.class k)
+  at-making i has other p stands at making within k lt =
+      let holds : holds_of (s.errand i).point ≡ holding.making at = ap holds_of stands ∙ making in
+      h.making i at.frame at.seat.class k has other within (subst (λ x. 0 < occurs at.frame x.frames) (sym holds) (frame-in-hand at.frame))
+      (λ d. subst (λ x. kept_among waiting d x.kept ≡ 0) (sym holds) (making-waits d at)) lt
 
-block-stays :
-    (g : Geometry) (s : State) (l : Lists) (caller : ℕ) (words : WordName → ℕ) → KeepsPrefixes g s l caller words → IsSoundWith g s l → (i : ℕ)
-    → i < g.callers → i ≢ caller → (p : BlockPoint) (o : Continuation) → (s.errand i).point ≡ point.Block p o → FitsBlock g i p
-    → AllByRecursion (IsSo g s l i) (block_recalls p) → AllByRecursion (Reads (Stays s words)) (block_recalls p)
-unfolding holds_of
-block-stays g s l caller words h old i has other (block.InstallSuperblock at) o stands fit so = (λ said. h.away (name.Anchor at.desc) tt, (tt, tt))
-block-stays g s l caller words h old i has other (block.PushBlock at k a stored heap) o stands fit so =
-    (λ said. at-hand g s l caller words h at fit.block.site.desc so.1.0 k fit.block.index, (tt, tt))
-block-stays g s l caller words h old i has other (block.LinkBlock at n) o stands fit so =
-    (λ k lt. at-making g s l caller words h i has other _ stands at refl fit.site.frame k (omega (arith, lt, fit.index)), tt)
-block-stays g s l caller words h old i has other (block.StoreInfo at) o stands fit so =
-    (λ k lt. at-making g s l caller words h i has other _ stands at refl fit.frame k lt, tt)
-block-stays g s l caller words h old i has other (block.StoreAnchor at) o stands fit so =
-    (λ said. h.away (name.Info at.desc) tt, (λ k lt. at-making g s l caller words h i has other _ stands at refl fit.frame k lt, tt))
-block-stays g s l caller words h old i has other p o stands fit so = grind (arith)
+  block-stays :
+      IsSoundWith g s l → (i : ℕ) → i < g.callers → i ≢ caller → (p : BlockPoint) (o : Continuation) → (s.errand i).point ≡ point.Block p o → FitsBlock g i p
+      → AllByRecursion (IsSo g s l i) (block_recalls p) → AllByRecursion (Reads (Stays s words)) (block_recalls p)
+  unfolding holds_of
+  block-stays old i has other (block.PushBlock at k a stored heap) o stands fit so =
+      (λ said. at-hand g s l caller words h at fit.block.site.desc so.1.0 k fit.block.index, (tt, tt))
+  block-stays old i has other (block.LinkBlock at n) o stands fit so =
+      (λ k lt. at-making i has other _ stands at refl fit.site.frame k (omega (arith, lt, fit.index)), tt)
+  block-stays old i has other (block.StoreInfo at) o stands fit so = (λ k lt. at-making i has other _ stands at refl fit.frame k lt, tt)
+  block-stays old i has other (block.StoreAnchor at) o stands fit so =
+      (λ said. h.away (name.Info at.desc) tt, (λ k lt. at-making i has other _ stands at refl fit.frame k lt, tt))
+  block-stays old i has other p o stands fit so = grind (arith, h.away)
 
--- outside of superblocks, only next words are read word by word
-link-away : (n : WordName) → IsLink n → IsAwayWord n
-link-away n link = grind (arith)
+  -- outside of superblocks, only next words are read word by word
+  elsewhere-stays : (q : Part) → IsElsewhere q → Stays s words q
+  elsewhere-stays q is = grind (arith, h, is)
 
-elsewhere-stays :
-    (g : Geometry) (s : State) (l : Lists) (caller : ℕ) (words : WordName → ℕ) → KeepsPrefixes g s l caller words → (q : Part) → IsElsewhere q
-    → Stays s words q
-elsewhere-stays g s l caller words h (link_words f c blocks) is = absurd is
-elsewhere-stays g s l caller words h (single n) is = λ said. h.away n (link-away n is)
-elsewhere-stays g s l caller words h q is = tt
-
--- all that the others read word by word stays
-pub prefixes-stay :
-    (g : Geometry) (s : State) (l : Lists) (caller : ℕ) (words : WordName → ℕ) → KeepsPrefixes g s l caller words → IsSoundWith g s l → (i : ℕ)
-    → i < g.callers → i ≢ caller → AllRead (Stays s words) (s.errand i).point
-unfolding recalls_of
-prefixes-stay g s l caller words h old i has other =
-    reads-point (Stays s words) (elsewhere-stays g s l caller words h) (s.errand i).point
-    (λ b o is.
-    block-stays g s l caller words h old i has other b o is (fits-at g s l i (point.Block b o) old has is).point
-    (recursion_from_All (IsSo g s l i) (block_recalls b) (so-at g s l i (point.Block b o) old has is)))
+  -- all that the others read word by word stays
+  pub prefixes-stay : IsSoundWith g s l → (i : ℕ) → i < g.callers → i ≢ caller → AllRead (Stays s words) (s.errand i).point
+  unfolding recalls_of
+  prefixes-stay old i has other =
+      reads-point (Stays s words) (elsewhere-stays) (s.errand i).point
+      (λ b o is.
+      block-stays old i has other b o is (fits-at g s l i (point.Block b o) old has is).point
+      (recursion_from_All (IsSo g s l i) (block_recalls b) (so-at g s l i (point.Block b o) old has is)))
 
 pub info-frame : (g : Geometry) (s : State) (l : Lists) (d : ℕ) → IsSoundWith g s l → d < descriptor_count g → (info_for s d).frame < g.frames
 info-frame g s l d old has = frame-of-within g (info_of (s.word (name.Info d))) (old.chained.infos d has)

@@ -1,10 +1,9 @@
 -- Won exchanges of a shelf's word keep the state sound.
-use Rattle.std.proofs.Common.{ℕ, true, None, Some, ◌≡◌, ◌≢◌, ◌<◌, ◌+◌, [], ◌∷◌, ◌++◌, refl, arith, ap, sym, subst, inl, inr, ◌∙◌, ◌==◌, slice_index_or, eq-eqb}
+use Rattle.std.proofs.Common.{ℕ, None, Some, ◌≡◌, ◌≢◌, ◌<◌, ◌+◌, [], ◌∷◌, ◌++◌, refl, arith, ap, sym, subst, inl, inr, ◌∙◌, slice_index_or}
 use Rattle.std.proofs.lemmas.Bool.{cases_eq}
 use Rattle.sound_state.proofs.Common.{Geometry, Need, WordName, Writes, Event, block_at, pool_of, sound-of, Continuation, Point, Idle, Large, ErrandFields, event_of}
-use Rattle.sound_state.proofs.Common.{next_of, plan_point_of, State, holds_of, Lists, recalls_of, IsSoundWithoutCounts, IsSoundWith, is_there, IsLive, IsTied, SHELVES}
-use Rattle.sound_state.proofs.Common.{IsShelfWord, shelf_word, shelf-exact, Put, Take, TakeNone, Caller, IsAllowed, IsEmptyShelf, Pool, handed_to, pool_after}
-use Rattle.sound_state.proofs.Common.{pool_of-push}
+use Rattle.sound_state.proofs.Common.{next_of, plan_point_of, State, holds_of, Lists, recalls_of, IsSoundWith, is_there, IsLive, IsTied, SHELVES, shelf_word, Put, Take}
+use Rattle.sound_state.proofs.Common.{TakeNone, Caller, IsAllowed, IsEmptyShelf, Pool, handed_to, pool_after, pool_of-push}
 use Rattle.packed_words.specs.declared.shelf.ShelfWord.TheVariants as shelf
 use Rattle.word_table.specs.declared.name.WordName.TheVariants as name
 use Rattle.large_parts.specs.declared.point.LargePoint.TheVariants as large
@@ -15,13 +14,12 @@ use Rattle.pool_model.proofs.PoolLemmas.{block_at-changed_other, block_at-change
 use Rattle.pool_model.proofs.WellFormedLemmas.{separate-found}
 use Rattle.errand_steps.specs.declared.reply.Reply.TheVariants as reply
 use Rattle.sound_state.proofs.shared.PointLemmas.{fits-at, recalled-at}
-use Rattle.sound_state.proofs.large.TouchEffects.{IsAsidePoint, Touches}
-use Rattle.sound_state.proofs.large.TouchSteps.{TouchesAt, leaves-event, stays-still, touched-step}
-use Rattle.sound_state.proofs.large.TouchTies.{SamePlaces, large-aside, tied-touched, touched-sound}
+use Rattle.sound_state.proofs.large.TouchEffects.{Touches}
+use Rattle.sound_state.proofs.large.TouchSteps.{idle-aside, idle-bare-handed, idle-recalls, side-touches, won-does}
+use Rattle.sound_state.proofs.large.TouchTies.{SamePlaces, tied-touched, touching}
 use Rattle.sound_state.proofs.shared.ShelfFacts.{shelved-block, empty-shelf}
 use Rattle.sound_state.proofs.shared.StepLemmas.{words-stay}
 use Rattle.sound_state.proofs.shared.TieLemmas.{IsBareHanded, one-live}
-use Rattle.sound_state.proofs.shared.WordFacts.{shelf-nothing}
 use Rattle.sound_state.proofs.shared.KeepsSound.{KeepsSoundWhere}
 
 -- a live block changes, and its place and its need stay, and so do all blocks elsewhere
@@ -36,20 +34,7 @@ pub changed-is : (s s' : State) (at : ℕ) (a b : Block) → Changes s s' at a b
 changed-is s s' at a b h p x here live = one-live s' at p b x h.now here live
 
 pub changes-places : (s s' : State) (at : ℕ) (a b : Block) → Changes s s' at a b → SamePlaces s s'
-changes-places s s' at a b h = record {
-  was = λ p x live.
-      elim (cases_eq p at) [
-        | inl here ↦
-            (a, subst (λ q. IsLive s q a) (sym here) h.was, ap (λ (y : Block). y.need) (sym (changed-is s s' at a b h p x here live)) ∙ h.need)
-        | inr ne ↦ (x, sym (h.elsewhere p ne) ∙ live, refl)
-      ];
-  still = λ p x live.
-      elim (cases_eq p at) [
-        | inl here ↦
-            (b, subst (λ q. IsLive s' q b) (sym here) h.now, h.need ∙ ap (λ (y : Block). y.need) (one-live s at p a x h.was here live))
-        | inr ne ↦ (x, h.elsewhere p ne ∙ live, refl)
-      ];
-}
+changes-places s s' at a b h = grind (arith, h, changed-is, one-live)
 
 -- a change of a block leaves each place live or not
 pub changed-there :
@@ -130,65 +115,11 @@ handed-tied g s l caller k place word to s' e h old w bare_before bare_after b c
       | inr ne ↦ old.tied.contents p i v x (sym (c.elsewhere p ne) ∙ live) written
     ])
 
--- the put of a block on a shelf keeps the state sound, and its caller hands out and frees nothing
-put-bare : (k place : ℕ) (n : Need) (o : Continuation) → IsBareHanded (Large (large.PutBlock k place n) o)
-unfolding holds_of
-put-bare k place n o = grind (arith)
-
-pub idle-aside : IsAsidePoint Idle
-unfolding holds_of
-idle-aside = grind (arith)
-
-pub idle-bare-handed : IsBareHanded Idle
-unfolding holds_of
-idle-bare-handed = grind (arith)
-
-pub idle-recalls : recalls_of Idle ≡ []
-unfolding recalls_of
-idle-recalls = refl
-
-put-touches :
-    (g : Geometry) (s : State) (l : Lists) (caller k place : ℕ) (n : Need) (o : Continuation) → IsSoundWith g s l → k < SHELVES
-    → IsShelfWord (shelf.Block place n) → s.word (name.Shelf k) ≡ shelf_word shelf.Nothing → (b : Block) → IsLive s place b
-    → IsAllowed g s.history (Put caller place k)
-    → TouchesAt g s l caller (Large (large.PutBlock k place n) o) Idle (name.Shelf k) (shelf_word (shelf.Block place n)) (s.history ++ Put caller place k ∷ [])
-unfolding plan_point_of next_of event_of
-put-touches g s l caller k place n o old has fit word b live allowed =
-    let won : (s.word (name.Shelf k) == shelf_word shelf.Nothing) ≡ true = eq-eqb (s.word (name.Shelf k)) (shelf_word shelf.Nothing) word in
-    record {
-      leads = inr (reply.Put, rw won refl, refl);
-      here = refl;
-      written = rw won refl;
-      below = shelf-exact.fits (shelf.Block place n) fit;
-      touched = λ away. away;
-      lost = refl;
-      cleared = refl;
-      told = rw won refl;
-      leaves =
-          leaves-event g s l caller (Put caller place k)
-          (record { number = refl; gives = λ i. refl; refuses = λ i. refl; allocs = refl; freed = refl }) allowed
-          (λ d i has_d bound lt. changed-there place _ (handed_to (Shelf k)) (pool_of s.history) b (λ x. refl) live);
-      before = large-aside _ _;
-      after = idle-aside;
-      recalls = idle-recalls;
-      prefixes = λ words' w d i has_d bound lt. w.elsewhere _ (λ same. cc);
-      stays = λ words' w i has_i differ. stays-still s (name.Shelf k) _ words' w (λ p same. cc) (λ away. away) (s.errand i).point;
-    }
-
-put-tied :
-    (g : Geometry) (s : State) (l : Lists) (caller k place : ℕ) (n : Need) (s' : State) (e : ErrandFields) → Touches g s l caller e s' → IsSoundWith g s l → k < SHELVES
-    → Writes s.word (name.Shelf k) (shelf_word (shelf.Block place n)) s'.word → IsBareHanded (s.errand caller).point → IsBareHanded e.point
-    → IsEmptyShelf (pool_of s.history) k → (b : Block) → b.owner ≡ Caller caller → b.need ≡ n → Changes s s' place b (handed_to (Shelf k) b)
-    → IsTied g s' l
-put-tied g s l caller k place n s' e h old has w bare_before bare_after empty b owned of c =
-    handed-tied g s l caller k place (shelf_word (shelf.Block place n)) (Shelf k) s' e h old w bare_before bare_after b c
-    (λ j on. let bad : Caller caller ≡ Shelf j = sym owned ∙ on in absurd (cc)) (λ p x ne was on. empty p x was on)
-    (λ j is. let same : j ≡ k = cc in (same, ap (λ m. shelf_word (shelf.Block place m)) (sym of))) (λ differ. absurd (differ refl))
-
+-- the put of a block on a shelf keeps the state sound
 pub put_block-sound :
     (k place : ℕ) (n : Need) (o : Continuation)
     → KeepsSoundWhere (Large (large.PutBlock k place n) o) (λ s. s.word (name.Shelf k) ≡ shelf_word shelf.Nothing)
-unfolding recalls_of
+unfolding plan_point_of next_of event_of holds_of recalls_of
 put_block-sound k place n o g s caller s' sound has stands word step =
     let l = sound.parts.0 in
     let old = sound.parts.1 in
@@ -198,61 +129,23 @@ put_block-sound k place n o g s caller s' sound has stands word step =
     let b : Block = owned.block.0 in
     let empty : IsEmptyShelf (pool_of s.history) k = empty-shelf g s l k old fit.point.shelf word in
     let allowed : IsAllowed g s.history (Put caller place k) = ((b, owned.block.1, owned.block.2), fit.point.shelf, empty) in
-    let t =
-    touched-step g s l caller s' p Idle (name.Shelf k) (shelf_word (shelf.Block place n)) (s.history ++ Put caller place k ∷ []) old has stands
-    (put-touches g s l caller k place n o old fit.point.shelf fit.point.block word b owned.block.1 allowed) step in
-    let c : Changes s s' place b (handed_to (Shelf k) b) =
-    changes-from s s' (Put caller place k) place (handed_to (Shelf k)) b t.history refl (λ x. refl) (λ x. refl) owned.block.1 in
-    touched-sound g s l caller _ _ _ (Put caller place k) s' sound old (has, allowed) t
-    (put-tied g s l caller k place n s' _ t.touches old fit.point.shelf t.word (subst IsBareHanded (sym stands) (put-bare k place n o)) idle-bare-handed empty b
-    owned.block.2 owned.block.3 c)
+    touching g s caller s' p Idle (name.Shelf k) (shelf_word (shelf.Block place n)) (Put caller place k) sound has stands (has, allowed)
+    (side-touches g s l caller _ o _ _ _ _ (won-does s caller p _ _ _ _ _ refl word (inr (reply.Put, refl, refl)) refl refl refl) tt idle-aside idle-recalls
+    (record { number = refl; gives = λ i. refl; refuses = λ i. refl; allocs = refl; freed = refl }) allowed
+    (λ d i has_d bound lt. changed-there place _ (handed_to (Shelf k)) (pool_of s.history) b (λ x. refl) owned.block.1))
+    (λ t.
+    handed-tied g s l caller k place (shelf_word (shelf.Block place n)) (Shelf k) s' _ t.touches old t.word
+    (subst IsBareHanded (sym stands) (record { hands = refl; frees = refl })) idle-bare-handed b
+    (changes-from s s' (Put caller place k) place (handed_to (Shelf k)) b t.history refl (λ x. refl) (λ x. refl) owned.block.1)
+    (λ j on. let bad : Caller caller ≡ Shelf j = sym owned.block.2 ∙ on in absurd (cc)) (λ p x ne was on. empty p x was on)
+    (λ j is. let same : j ≡ k = cc in (same, ap (λ m. shelf_word (shelf.Block place m)) (sym owned.block.3))) (λ differ. absurd (differ refl)))
+    step
 
--- the take of a block from a shelf keeps the state sound, and its caller hands out and frees nothing
-take_block-bare : (k place : ℕ) (n : Need) (o : Continuation) → IsBareHanded (Large (large.TakeBlock k place n) o)
-unfolding holds_of
-take_block-bare k place n o = grind (arith)
-
-take-touches :
-    (g : Geometry) (s : State) (l : Lists) (caller k place : ℕ) (n : Need) (o : Continuation) → IsSoundWith g s l → k < SHELVES
-    → s.word (name.Shelf k) ≡ shelf_word (shelf.Block place n) → (b : Block) → IsLive s place b → IsAllowed g s.history (Take caller k place)
-    → TouchesAt g s l caller (Large (large.TakeBlock k place n) o) Idle (name.Shelf k) (shelf_word shelf.Nothing) (s.history ++ Take caller k place ∷ [])
-unfolding plan_point_of next_of event_of
-take-touches g s l caller k place n o old has word b live allowed =
-    let won : (s.word (name.Shelf k) == shelf_word (shelf.Block place n)) ≡ true = eq-eqb (s.word (name.Shelf k)) (shelf_word (shelf.Block place n)) word in
-    record {
-      leads = inr (reply.Got place n, rw won refl, refl);
-      here = refl;
-      written = rw won refl;
-      below = omega (arith, shelf-nothing);
-      touched = λ away. away;
-      lost = rw won refl;
-      cleared = refl;
-      told = rw won refl;
-      leaves =
-          leaves-event g s l caller (Take caller k place)
-          (record { number = refl; gives = λ i. refl; refuses = λ i. refl; allocs = refl; freed = refl }) allowed
-          (λ d i has_d bound lt. changed-there place _ (handed_to (Caller caller)) (pool_of s.history) b (λ x. refl) live);
-      before = large-aside _ _;
-      after = idle-aside;
-      recalls = idle-recalls;
-      prefixes = λ words' w d i has_d bound lt. w.elsewhere _ (λ same. cc);
-      stays = λ words' w i has_i differ. stays-still s (name.Shelf k) _ words' w (λ p same. cc) (λ away. away) (s.errand i).point;
-    }
-
-take-tied :
-    (g : Geometry) (s : State) (l : Lists) (caller k place : ℕ) (s' : State) (e : ErrandFields) → Touches g s l caller e s' → IsSoundWithoutCounts g s
-    → IsSoundWith g s l → Writes s.word (name.Shelf k) (shelf_word shelf.Nothing) s'.word → IsBareHanded (s.errand caller).point
-    → IsBareHanded e.point → (b : Block) → b.owner ≡ Shelf k → Changes s s' place b (handed_to (Caller caller) b) → IsTied g s' l
-take-tied g s l caller k place s' e h sound old w bare_before bare_after b owned c =
-    handed-tied g s l caller k place (shelf_word shelf.Nothing) (Caller caller) s' e h old w bare_before bare_after b c
-    (λ j on. let same : Shelf k ≡ Shelf j = sym owned ∙ on in cc)
-    (λ p x ne was on.
-    (separate-found g (pool_of s.history) (sound-of g s.history sound.legal) p place x b was c.was ne).shelves k on owned)
-    (λ j is. absurd (cc)) (λ differ. refl)
-
+-- the take of a block from a shelf keeps the state sound
 pub take_block-sound :
     (k place : ℕ) (n : Need) (o : Continuation)
     → KeepsSoundWhere (Large (large.TakeBlock k place n) o) (λ s. s.word (name.Shelf k) ≡ shelf_word (shelf.Block place n))
+unfolding plan_point_of next_of event_of holds_of
 take_block-sound k place n o g s caller s' sound has stands word step =
     let l = sound.parts.0 in
     let old = sound.parts.1 in
@@ -261,45 +154,18 @@ take_block-sound k place n o g s caller s' sound has stands word step =
     let there = shelved-block g s l k place n sound old fit.point.shelf fit.point.block word in
     let b : Block = there.0 in
     let allowed : IsAllowed g s.history (Take caller k place) = ((b, there.1, there.2), fit.point.shelf) in
-    let t =
-    touched-step g s l caller s' p Idle (name.Shelf k) (shelf_word shelf.Nothing) (s.history ++ Take caller k place ∷ []) old has stands
-    (take-touches g s l caller k place n o old fit.point.shelf word b there.1 allowed) step in
-    let c : Changes s s' place b (handed_to (Caller caller) b) =
-    changes-from s s' (Take caller k place) place (handed_to (Caller caller)) b t.history refl (λ x. refl) (λ x. refl) there.1 in
-    touched-sound g s l caller _ _ _ (Take caller k place) s' sound old (has, allowed) t
-    (take-tied g s l caller k place s' _ t.touches sound old t.word (subst IsBareHanded (sym stands) (take_block-bare k place n o)) idle-bare-handed b there.2 c)
-
--- a look that finds a shelf still empty hands out and frees nothing, and keeps the state sound
-none-bare : (k : ℕ) (o : Continuation) → IsBareHanded (Large (large.ConfirmNothing k) o)
-unfolding holds_of
-none-bare k o = grind (arith)
-
-none-touches :
-    (g : Geometry) (s : State) (l : Lists) (caller k : ℕ) (o : Continuation) → IsSoundWith g s l → k < SHELVES
-    → s.word (name.Shelf k) ≡ shelf_word shelf.Nothing → IsAllowed g s.history (TakeNone caller k)
-    → TouchesAt g s l caller (Large (large.ConfirmNothing k) o) Idle (name.Shelf k) (shelf_word shelf.Nothing) (s.history ++ TakeNone caller k ∷ [])
-unfolding plan_point_of next_of event_of
-none-touches g s l caller k o old has word allowed =
-    let won : (s.word (name.Shelf k) == shelf_word shelf.Nothing) ≡ true = eq-eqb (s.word (name.Shelf k)) (shelf_word shelf.Nothing) word in
-    record {
-      leads = inr (reply.Empty, rw won refl, refl);
-      here = refl;
-      written = rw won refl;
-      below = omega (arith, shelf-nothing);
-      touched = λ away. away;
-      lost = rw won refl;
-      cleared = refl;
-      told = rw won refl;
-      leaves =
-          leaves-event g s l caller (TakeNone caller k)
-          (record { number = refl; gives = λ i. refl; refuses = λ i. refl; allocs = refl; freed = refl }) allowed
-          (λ d i has_d bound lt. refl);
-      before = large-aside _ _;
-      after = idle-aside;
-      recalls = idle-recalls;
-      prefixes = λ words' w d i has_d bound lt. w.elsewhere _ (λ same. cc);
-      stays = λ words' w i has_i differ. stays-still s (name.Shelf k) _ words' w (λ p same. cc) (λ away. away) (s.errand i).point;
-    }
+    touching g s caller s' p Idle (name.Shelf k) (shelf_word shelf.Nothing) (Take caller k place) sound has stands (has, allowed)
+    (side-touches g s l caller _ o _ _ _ _ (won-does s caller p _ _ _ _ _ refl word (inr (reply.Got place n, refl, refl)) refl refl refl) tt idle-aside idle-recalls
+    (record { number = refl; gives = λ i. refl; refuses = λ i. refl; allocs = refl; freed = refl }) allowed
+    (λ d i has_d bound lt. changed-there place _ (handed_to (Caller caller)) (pool_of s.history) b (λ x. refl) there.1))
+    (λ t.
+    let c = changes-from s s' (Take caller k place) place (handed_to (Caller caller)) b t.history refl (λ x. refl) (λ x. refl) there.1 in
+    handed-tied g s l caller k place (shelf_word shelf.Nothing) (Caller caller) s' _ t.touches old t.word
+    (subst IsBareHanded (sym stands) (record { hands = refl; frees = refl })) idle-bare-handed b c
+    (λ j on. let same : Shelf k ≡ Shelf j = sym there.2 ∙ on in cc)
+    (λ p x ne was on. (separate-found g (pool_of s.history) (sound-of g s.history sound.legal) p place x b was c.was ne).shelves k on there.2)
+    (λ j is. absurd (cc)) (λ differ. refl))
+    step
 
 -- words and blocks that all stay are tied as they were
 pub same-tied :
@@ -314,18 +180,21 @@ same-tied g s l caller s' e h old words bare_before bare_after pool =
     (λ j has_j none. words (name.Shelf j) ∙ old.tied.bare_shelf j has_j (λ p x live on. none p x (pool p ∙ live) on))
     (λ p i v x live written. words (name.Arena (p + 1 + i)) ∙ old.tied.contents p i v x (sym (pool p) ∙ live) written)
 
+-- a look that finds a shelf still empty keeps the state sound
 pub confirm_nothing-sound :
     (k : ℕ) (o : Continuation) → KeepsSoundWhere (Large (large.ConfirmNothing k) o) (λ s. s.word (name.Shelf k) ≡ shelf_word shelf.Nothing)
+unfolding plan_point_of next_of event_of holds_of
 confirm_nothing-sound k o g s caller s' sound has stands word step =
     let l = sound.parts.0 in
     let old = sound.parts.1 in
     let p : Point = Large (large.ConfirmNothing k) o in
-    let fit = fits-at g s l caller p old has stands in
-    let shelf_there : k < SHELVES = fit.point in
+    let shelf_there : k < SHELVES = (fits-at g s l caller p old has stands).point in
     let allowed : IsAllowed g s.history (TakeNone caller k) = (shelf_there, empty-shelf g s l k old shelf_there word) in
-    let t =
-    touched-step g s l caller s' p Idle (name.Shelf k) (shelf_word shelf.Nothing) (s.history ++ TakeNone caller k ∷ []) old has stands
-    (none-touches g s l caller k o old shelf_there word allowed) step in
-    touched-sound g s l caller _ _ _ (TakeNone caller k) s' sound old (has, allowed) t
-    (same-tied g s l caller s' _ t.touches old (words-stay s.word (name.Shelf k) _ s'.word t.word (sym word)) (subst IsBareHanded (sym stands) (none-bare k o))
-    idle-bare-handed (λ q. ap (block_at q) (ap pool_of t.history ∙ pool_of-push s.history (TakeNone caller k))))
+    touching g s caller s' p Idle (name.Shelf k) (shelf_word shelf.Nothing) (TakeNone caller k) sound has stands (has, allowed)
+    (side-touches g s l caller _ o _ _ _ _ (won-does s caller p _ _ _ _ _ refl word (inr (reply.Empty, refl, refl)) refl refl refl) tt idle-aside idle-recalls
+    (record { number = refl; gives = λ i. refl; refuses = λ i. refl; allocs = refl; freed = refl }) allowed (λ d i has_d bound lt. refl))
+    (λ t.
+    same-tied g s l caller s' _ t.touches old (words-stay s.word (name.Shelf k) _ s'.word t.word (sym word))
+    (subst IsBareHanded (sym stands) (record { hands = refl; frees = refl })) idle-bare-handed
+    (λ q. ap (block_at q) (ap pool_of t.history ∙ pool_of-push s.history (TakeNone caller k))))
+    step

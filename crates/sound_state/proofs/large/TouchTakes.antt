@@ -1,16 +1,15 @@
 -- A run that is taken, or refused.
-use Rattle.std.proofs.Common.{ℕ, Bool, true, false, Option, None, Some, ◌≡◌, ◌≢◌, ◌<◌, ◌≤◌, ◌+◌, ◌^◌, [], ◌∷◌, ◌++◌, refl, arith, ap, sym, subst, inl, inr, ◌∙◌, ◌==◌}
-use Rattle.std.proofs.Common.{◌&&◌, nat_le, All, Any, slice_index_or, pow_mono, le-leb, eq-eqb, pow_pos}
+use Rattle.std.proofs.Common.{ℕ, Bool, false, Option, None, Some, ◌≡◌, ◌≢◌, ◌<◌, ◌≤◌, ◌+◌, ◌^◌, [], refl, arith, ap, sym, subst, inl, inr, ◌∙◌, ◌==◌, ◌&&◌, nat_le, All}
+use Rattle.std.proofs.Common.{Any, slice_index_or, pow_mono, pow_pos}
 use Rattle.std.specs.Int.{bit_at}
-use Rattle.std.proofs.lemmas.Bool.{cases_eq, cases_lt, lt-leb}
+use Rattle.std.proofs.lemmas.Bool.{cases_eq, cases_lt}
 use Rattle.std.proofs.lemmas.Nat.{or_lt}
 use Rattle.std.proofs.lemmas.Nat.Bits.{bit_at-lt}
 use Rattle.std.proofs.lemmas.List.Elements.{All-nil, All-cons}
-use Rattle.sound_state.proofs.Common.{Geometry, Need, need_of, Writes, block_at, pool_of, place-found, sound-of, Continuation, Point, Idle, Large, ErrandFields}
+use Rattle.sound_state.proofs.Common.{Cas, Geometry, Need, need_of, Writes, block_at, pool_of, place-found, sound-of, Continuation, Point, Idle, Large, ErrandFields}
 use Rattle.sound_state.proofs.Common.{event_of, next_of, asked, plan_point_of, State, Step, holds_of, Lists, IsOwned, recalls_of, IsSoundWithoutCounts, IsSoundWith}
-use Rattle.sound_state.proofs.Common.{is_there, IsLive, IsTied, SMALL_MOST, usable_words, unit_place, block-within, first_wanted, WantFields, RunFields, Refuse}
-use Rattle.sound_state.proofs.Common.{IsAllowed, IsFree, fresh_block, IsPlaceFor, IsWellFormed, pool_of-push, every-found, block_at-past, class_span, IsRunFor}
-use Rattle.sound_state.proofs.Common.{IsCovered}
+use Rattle.sound_state.proofs.Common.{is_there, IsLive, IsTied, SMALL_MOST, usable_words, unit_place, block-within, first_wanted, WantFields, RunFields, Refuse, IsAllowed}
+use Rattle.sound_state.proofs.Common.{IsFree, fresh_block, IsPlaceFor, IsWellFormed, pool_of-push, every-found, block_at-past, class_span, IsRunFor, IsCovered}
 use Rattle.heap_geometry.specs.declared.need.Need.TheVariants as need
 use Rattle.heap_geometry.specs.Need.{IsNeed}
 use Rattle.heap_geometry.specs.Place.{IsApart, run_span}
@@ -18,25 +17,26 @@ use Rattle.word_table.specs.declared.name.WordName.TheVariants as name
 use Rattle.large_parts.specs.declared.point.LargePoint.TheVariants as large
 use Rattle.large_parts.specs.Units.{IsInRun, IsFirstRun, IsLowestRun, run_bits, with_run}
 use Rattle.large_parts.specs.Units as units
+use Rattle.large_parts.specs.Points.{units_taken}
 use Rattle.large_parts.proofs.LowestLemmas.{first_run-exact}
-use Rattle.large_parts.proofs.UnitLemmas.{run_bits-mask, with_run-inside, with_run-outside, with_run-below}
+use Rattle.large_parts.proofs.UnitLemmas.{run_bits-mask, with_run-inside, with_run-outside}
 use Rattle.pool_model.specs.declared.event.Event.TheVariants.{Alloc}
 use Rattle.pool_model.specs.Legal.{IsClear, IsRefusable}
 use Rattle.pool_model.specs.Pool.{Block, span_of}
 use Rattle.pool_model.proofs.OwnerLemmas.{free-elsewhere}
 use Rattle.pool_model.proofs.PoolLemmas.{block_at-here}
 use Rattle.errand_steps.specs.declared.reply.Reply.TheVariants as reply
-use Rattle.sound_state.specs.Holdings.{run_handed}
+use Rattle.errand_steps.specs.tables.Holding.{run_handed}
 use Rattle.sound_state.proofs.shared.PointLemmas.{fits-at}
 use Rattle.sound_state.proofs.large.TouchEffects.{Touches}
 use Rattle.sound_state.proofs.large.TouchFrees.{cases_run}
 use Rattle.sound_state.proofs.large.TouchPrefix.{frame-before}
 use Rattle.sound_state.proofs.large.TouchPrefixes.{info-frame}
-use Rattle.sound_state.proofs.large.TouchShelves.{idle-aside, idle-bare-handed, idle-recalls, same-tied}
-use Rattle.sound_state.proofs.large.TouchSteps.{TouchesAt, leaves-event, stays-still, touched-step}
+use Rattle.sound_state.proofs.large.TouchShelves.{same-tied}
+use Rattle.sound_state.proofs.large.TouchSteps.{idle-aside, idle-bare-handed, idle-recalls, large-aside, side-touches, won-does}
 use Rattle.sound_state.proofs.shared.StepLemmas.{words-stay}
 use Rattle.sound_state.proofs.shared.TieLemmas.{IsBareHanded, excepts-none, none-written, one-live, ties-but, Excepts}
-use Rattle.sound_state.proofs.large.TouchTies.{large-aside, touched-desc, touched-sound}
+use Rattle.sound_state.proofs.large.TouchTies.{touched-desc, touching}
 use Rattle.sound_state.proofs.shared.KeepsSound.{KeepsSoundWhere}
 
 -- an allocation of units asks for words that so many units serve
@@ -46,11 +46,7 @@ run-asked n o h = grind (arith, h)
 -- words that units serve aren't small
 pub large-served : (words n : ℕ) → need_of words ≡ need.Large n → nat_le words SMALL_MOST ≡ false
 unfolding need_of
-large-served words n is =
-    elim (cases_lt SMALL_MOST words) [
-      | inl above ↦ lt-leb words SMALL_MOST above
-      | inr most ↦ let e = rw (le-leb words SMALL_MOST most) at is in cc
-    ]
+large-served words n is = grind (arith, is)
 
 and-false : (b c : Bool) → c ≡ false → (b && c) ≡ false
 and-false b c is = grind (arith, is)
@@ -113,41 +109,11 @@ clear-run g s l first n sound old within some free q b live =
     let formed : IsWellFormed g b = every-found (IsWellFormed g) q (pool_of s.history) b (sound-of g s.history sound.legal).each live in
     clear-need g s l first n old within some free q b live b.need refl formed.need formed.place
 
-take_run-bare : (w : WantFields) (bits : ℕ) (o : Continuation) → IsBareHanded (Large (large.TakeRun w bits) o)
-unfolding holds_of
-take_run-bare w bits o = grind (arith)
-
--- the step of a refusal, where no run of free units is wide enough, and what it leaves
-refuse-touches :
-    (g : Geometry) (s : State) (l : Lists) (caller : ℕ) (w : WantFields) (bits : ℕ) (o : Continuation) → IsSoundWith g s l → s.word name.Units ≡ bits
-    → first_wanted w bits ≡ None → nat_le (asked o) SMALL_MOST ≡ false → IsAllowed g s.history (Refuse caller (asked o))
-    → TouchesAt g s l caller (Large (large.TakeRun w bits) o) Idle name.Units bits (s.history ++ Refuse caller (asked o) ∷ [])
-unfolding plan_point_of next_of event_of
-refuse-touches g s l caller w bits o old word none above allowed =
-    let won : (s.word name.Units == bits) ≡ true = eq-eqb (s.word name.Units) bits word in
-    record {
-      leads = inr (reply.Refused, rw (won, none) refl, refl);
-      here = refl;
-      written = rw (won, none) refl;
-      below = subst (λ v. v < 2 ^ 64) word (old.words name.Units);
-      touched = λ away. away;
-      lost = rw won refl;
-      cleared = refl;
-      told = rw (won, none) refl;
-      leaves =
-          leaves-event g s l caller (Refuse caller (asked o))
-          (record { number = refl; gives = λ i. refl; refuses = λ i. and-false (caller == i) (nat_le (asked o) SMALL_MOST) above; allocs = refl; freed = refl })
-          allowed (λ d i has bound lt. refl);
-      before = large-aside _ _;
-      after = idle-aside;
-      recalls = idle-recalls;
-      prefixes = λ words' x d i has bound lt. x.elsewhere _ (λ same. cc);
-      stays = λ words' x i has differ. stays-still s name.Units _ words' x (λ p same. cc) (λ away. away) (s.errand i).point;
-    }
-
+-- a refusal, where no run of free units is wide enough, keeps the state sound
 refused-sound :
     (g : Geometry) (s : State) (caller : ℕ) (s' : State) (w : WantFields) (bits : ℕ) (o : Continuation) → IsSoundWithoutCounts g s → caller < g.callers
     → (s.errand caller).point ≡ Large (large.TakeRun w bits) o → s.word name.Units ≡ bits → first_wanted w bits ≡ None → Step s caller s' → IsSoundWithoutCounts g s'
+unfolding plan_point_of next_of event_of holds_of
 refused-sound g s caller s' w bits o sound has stands word none step =
     let l = sound.parts.0 in
     let old = sound.parts.1 in
@@ -162,52 +128,26 @@ refused-sound g s caller s' w bits o sound has stands word none step =
     (λ i inside.
     subst (λ v. bit_at v i ≡ 0) word (clear-bits g s l free.unit w.units i old free.clear inside (omega (arith, free.in_heap, inside.below)))) in
     let allowed : IsAllowed g s.history (Refuse caller (asked o)) = subst (IsRefusable g s.history caller) (sym served) refusable in
-    let t =
-    touched-step g s l caller s' p Idle name.Units bits (s.history ++ Refuse caller (asked o) ∷ []) old has stands
-    (refuse-touches g s l caller w bits o old word none (large-served (asked o) w.units served) allowed) step in
-    touched-sound g s l caller _ _ _ (Refuse caller (asked o)) s' sound old (has, allowed) t
-    (same-tied g s l caller s' _ t.touches old (words-stay s.word name.Units _ s'.word t.word (sym word)) (subst IsBareHanded (sym stands) (take_run-bare w bits o))
-    idle-bare-handed (λ q. ap (block_at q) (ap pool_of t.history ∙ pool_of-push s.history (Refuse caller (asked o)))))
+    touching g s caller s' p Idle name.Units bits (Refuse caller (asked o)) sound has stands (has, allowed)
+    (side-touches g s l caller _ o _ _ _ _
+    (won-does s caller p _ _ bits _ _ (ap (λ f. Cas name.Units bits (units_taken bits w.units f)) none) word
+    (inr (reply.Refused, rw none refl, refl)) refl refl (rw none refl)) tt idle-aside idle-recalls
+    (record {
+      number = refl;
+      gives = λ i. refl;
+      refuses = λ i. and-false (caller == i) (nat_le (asked o) SMALL_MOST) (large-served (asked o) w.units served);
+      allocs = refl;
+      freed = refl;
+    }) allowed (λ d i has bound lt. refl))
+    (λ t.
+    same-tied g s l caller s' _ t.touches old (words-stay s.word name.Units _ s'.word t.word (sym word))
+    (subst IsBareHanded (sym stands) (record { hands = refl; frees = refl })) idle-bare-handed
+    (λ q. ap (block_at q) (ap pool_of t.history ∙ pool_of-push s.history (Refuse caller (asked o)))))
+    step
 
 -- the run that is found: the wanted units from the first on
 abbrev run_at : ℕ → WantFields → RunFields
 run_at first w = record { first = first; units = w.units }
-
-given-touches :
-    (g : Geometry) (s : State) (l : Lists) (caller : ℕ) (w : WantFields) (bits : ℕ) (o : Continuation) (first : ℕ) → IsSoundWith g s l
-    → s.word name.Units ≡ bits → first_wanted w bits ≡ Some first → w.geometry ≡ g → with_run bits first w.units < 2 ^ 64
-    → nat_le (asked o) SMALL_MOST ≡ false → IsAllowed g s.history (Alloc caller (asked o) (unit_place w.geometry.frames first))
-    → TouchesAt g s l caller (Large (large.TakeRun w bits) o)
-    (Large (large.StoreRunPrefix (unit_place w.geometry.frames first) (run_at first w)) o) name.Units (with_run bits first w.units)
-    (s.history ++ Alloc caller (asked o) (unit_place w.geometry.frames first) ∷ [])
-unfolding plan_point_of next_of event_of recalls_of
-given-touches g s l caller w bits o first old word some heap below above allowed =
-    let won : (s.word name.Units == bits) ≡ true = eq-eqb (s.word name.Units) bits word in
-    let place : ℕ = unit_place w.geometry.frames first in
-    record {
-      leads = inl (rw (won, some) refl);
-      here = refl;
-      written = rw (won, some) refl;
-      below = below;
-      touched = λ away. away;
-      lost = rw won refl;
-      cleared = refl;
-      told = rw (won, some) refl;
-      leaves =
-          leaves-event g s l caller (Alloc caller (asked o) place)
-          (record { number = refl; gives = λ i. and-false (caller == i) (nat_le (asked o) SMALL_MOST) above; refuses = λ i. refl; allocs = above; freed = refl })
-          allowed
-          (λ d i has bound lt.
-          ap is_there
-          (block_at-past _ (fresh_block caller (asked o) place) (pool_of s.history)
-          (λ same.
-          frame-before g.frames _ _ i first (info-frame g s l d old has) lt (sym same ∙ ap (λ (h : Geometry). unit_place h.frames first) heap))));
-      before = large-aside _ _;
-      after = large-aside _ _;
-      recalls = refl;
-      prefixes = λ words' x d i has bound lt. x.elsewhere _ (λ same. cc);
-      stays = λ words' x i has differ. stays-still s name.Units _ words' x (λ p same. cc) (λ away. away) (s.errand i).point;
-    }
 
 -- a live block comes to the place by the step, and all other places are as they were
 pub record Comes (s s' : State) (at : ℕ) (a : Block) : Type 0 where
@@ -218,97 +158,87 @@ pub record Comes (s s' : State) (at : ℕ) (a : Block) : Type 0 where
 run-excepted : (place n : ℕ) → Any (λ b. b.place ≡ place) (run_handed place n)
 run-excepted place n = (0, record { place = place; need = need.Large n }, omega arith, refl, refl)
 
--- the taken units are covered by the given run, and the others as they were
-given-units :
-    (g : Geometry) (s s' : State) (l : Lists) (first n unit : ℕ) (a : Block) → IsSoundWith g s l
-    → Writes s.word name.Units (with_run (s.word name.Units) first n) s'.word → a.need ≡ need.Large n
-    → Comes s s' (unit_place g.frames first) a → unit < g.units
-    → (bit_at (s'.word name.Units) unit ≡ 1 → IsCovered g s' unit) × (IsCovered g s' unit → bit_at (s'.word name.Units) unit ≡ 1)
-given-units g s s' l first n unit a old w of c has =
-    let bits = s.word name.Units in
-    let t = old.tied.units unit has in
-    elim (cases_run first n unit) [
-      | inl inside ↦ (
-        λ bit. (a, first, n, c.now, of, inside.from, inside.below),
-        λ k. ap (λ x. bit_at x unit) w.here ∙ with_run-inside bits first n unit inside,
-      )
-      | inr outside ↦ (
-        λ bit.
-            let k = t.0 (sym (with_run-outside bits first n unit outside) ∙ ap (λ x. bit_at x unit) (sym w.here) ∙ bit) in
-            (k.0, k.1, k.2, c.elsewhere (unit_place g.frames k.1) (c.unlive (unit_place g.frames k.1) k.0 k.3) ∙ k.3, k.4, k.5, k.6),
-        λ k.
-            let ne : unit_place g.frames k.1 ≢ unit_place g.frames first =
-            λ same.
-            let firsts : k.1 ≡ first = omega (arith, same) in
-            let blocks : a ≡ k.0 = one-live s' (unit_place g.frames first) (unit_place g.frames k.1) a k.0 c.now same k.3 in
-            let needs : need.Large n ≡ need.Large k.2 = sym of ∙ ap (λ (x : Block). x.need) blocks ∙ k.4 in
-            let as_many : n ≡ k.2 = cc in
-            outside (record { from = omega (arith, firsts, k.5); below = omega (arith, firsts, as_many, k.6) }) in
-            ap (λ x. bit_at x unit) w.here ∙ with_run-outside bits first n unit outside
-            ∙ t.1 (k.0, k.1, k.2, sym (c.elsewhere (unit_place g.frames k.1) ne) ∙ k.3, k.4, k.5, k.6),
-      )
-    ]
+-- the states before and after a run is given
+module _ (g : Geometry) (s s' : State) (l : Lists) (first n : ℕ) (w : Writes s.word name.Units (with_run (s.word name.Units) first n) s'.word) where
+  -- the taken units are covered by the given run, and the others as they were
+  given-units :
+      (unit : ℕ) (a : Block) → IsSoundWith g s l → a.need ≡ need.Large n → Comes s s' (unit_place g.frames first) a → unit < g.units
+      → (bit_at (s'.word name.Units) unit ≡ 1 → IsCovered g s' unit) × (IsCovered g s' unit → bit_at (s'.word name.Units) unit ≡ 1)
+  given-units unit a old of c has =
+      let bits = s.word name.Units in
+      let t = old.tied.units unit has in
+      elim (cases_run first n unit) [
+        | inl inside ↦ (
+          λ bit. (a, first, n, c.now, of, inside.from, inside.below),
+          λ k. ap (λ x. bit_at x unit) w.here ∙ with_run-inside bits first n unit inside,
+        )
+        | inr outside ↦ (
+          λ bit.
+              let k = t.0 (sym (with_run-outside bits first n unit outside) ∙ ap (λ x. bit_at x unit) (sym w.here) ∙ bit) in
+              (k.0, k.1, k.2, c.elsewhere (unit_place g.frames k.1) (c.unlive (unit_place g.frames k.1) k.0 k.3) ∙ k.3, k.4, k.5, k.6),
+          λ k.
+              let ne : unit_place g.frames k.1 ≢ unit_place g.frames first =
+              λ same.
+              let firsts : k.1 ≡ first = omega (arith, same) in
+              let blocks : a ≡ k.0 = one-live s' (unit_place g.frames first) (unit_place g.frames k.1) a k.0 c.now same k.3 in
+              let needs : need.Large n ≡ need.Large k.2 = sym of ∙ ap (λ (x : Block). x.need) blocks ∙ k.4 in
+              let as_many : n ≡ k.2 = cc in
+              outside (record { from = omega (arith, firsts, k.5); below = omega (arith, firsts, as_many, k.6) }) in
+              ap (λ x. bit_at x unit) w.here ∙ with_run-outside bits first n unit outside
+              ∙ t.1 (k.0, k.1, k.2, sym (c.elsewhere (unit_place g.frames k.1) ne) ∙ k.3, k.4, k.5, k.6),
+        )
+      ]
 
-run-given-tied :
-    (g : Geometry) (s : State) (l : Lists) (caller words first n : ℕ) (s' : State) (e : ErrandFields) → Touches g s l caller e s' → IsSoundWith g s l
-    → IsBareHanded (s.errand caller).point → (holds_of e.point).hands ≡ run_handed (unit_place g.frames first) n → (holds_of e.point).frees ≡ []
-    → Writes s.word name.Units (with_run (s.word name.Units) first n) s'.word → need_of words ≡ need.Large n → first + n ≤ g.units
-    → Comes s s' (unit_place g.frames first) (fresh_block caller words (unit_place g.frames first)) → IsTied g s' l
-run-given-tied g s l caller words first n s' e h old bare hands frees w served within c =
-    let tied = old.tied in
-    let stands : ℕ = unit_place g.frames first in
-    let a : Block = fresh_block caller words stands in
-    let is_fresh = λ (p : ℕ) (b : Block) (here : p ≡ stands) (live : IsLive s' p b).
-    one-live s' stands p a b c.now here live in
-    let mine : IsOwned s' caller stands (need.Large n) = record { block = (a, c.now, refl, served) } in
-    ties-but g s l l caller (λ p. p ≡ stands) e s'
-    (record {
-      moves = h.moves;
-      either = λ p. cases_eq p stands;
-      there = c.elsewhere;
-      before = λ p b here live. absurd (c.unlive p b live here);
-      after = λ p b here live. ap (λ (x : Block). x.owner) (sym (is_fresh p b here live));
-      arena = λ p ne. w.elsewhere (name.Arena p) (λ same. cc);
-      shelf = λ k. w.elsewhere (name.Shelf k) (λ same. cc);
-      small = λ p class b here live is.
-          let bad : need.Large n ≡ need.Small class = sym served ∙ ap (λ (x : Block). x.need) (is_fresh p b here live) ∙ is in absurd (cc);
-      large = λ p m b here live is.
-          let excepts : Excepts e stands = inl (subst (Any (λ x. x.place ≡ stands)) (sym hands) (run-excepted stands n)) in
-          inl
-          (record {
-            caller = (caller, h.in_heap, subst (λ q. Excepts (s'.errand caller) q) (sym here) (subst (λ f. Excepts f stands) (sym h.moves.here) excepts));
-          });
-      bound = λ p class b d ne live is its. touched-desc h p class d its;
-      units = λ unit has. let u = given-units g s s' l first n unit a old w served c has in (u.0, u.1);
-      no_more_units =
-          let most : 2 ^ (first + n) ≤ 2 ^ g.units = pow_mono within in
-          let run : run_bits first n < 2 ^ g.units = omega (arith, run_bits-mask first n, pow_pos first, most) in
-          subst (λ x. x < 2 ^ g.units) (sym w.here) (or_lt g.units (s.word name.Units) (run_bits first n) tied.no_more_units run);
-      contents = λ p i v b live written.
-          let differs : p ≢ stands =
-          λ here.
-          none-written (usable_words (need_of words)) i v
-          (ap (λ (x : Block). slice_index_or x.contents i None) (is_fresh p b here live) ∙ written) in
-          w.elsewhere (name.Arena (p + 1 + i)) (λ same. cc) ∙ tied.contents p i v b (sym (c.elsewhere p differs) ∙ live) written;
-      excepts = λ p ne excepts. absurd (excepts-none (s.errand caller) p bare excepts);
-      hands =
-          subst (All (λ x. IsOwned s' caller x.place x.need)) (sym hands)
-          (All-cons (λ x. IsOwned s' caller x.place x.need) (record { place = stands; need = need.Large n }) [] mine
-          (All-nil (λ x. IsOwned s' caller x.place x.need)));
-      frees = subst (All (λ x. IsOwned s' caller x.place x.need)) (sym frees) (All-nil (λ x. IsOwned s' caller x.place x.need));
-    }) tied
-
-run-held : (place : ℕ) (run : RunFields) (o : Continuation) → (holds_of (Large (large.StoreRunPrefix place run) o)).hands ≡ run_handed place run.units
-unfolding holds_of
-run-held place run o = refl
-
-run-frees : (place : ℕ) (run : RunFields) (o : Continuation) → (holds_of (Large (large.StoreRunPrefix place run) o)).frees ≡ []
-unfolding holds_of
-run-frees place run o = refl
+  run-given-tied :
+      (caller words : ℕ) (e : ErrandFields) → Touches g s l caller e s' → IsSoundWith g s l → IsBareHanded (s.errand caller).point
+      → (holds_of e.point).hands ≡ run_handed (unit_place g.frames first) n → (holds_of e.point).frees ≡ [] → need_of words ≡ need.Large n → first + n ≤ g.units
+      → Comes s s' (unit_place g.frames first) (fresh_block caller words (unit_place g.frames first)) → IsTied g s' l
+  run-given-tied caller words e h old bare hands frees served within c =
+      let tied = old.tied in
+      let stands : ℕ = unit_place g.frames first in
+      let a : Block = fresh_block caller words stands in
+      let is_fresh = λ (p : ℕ) (b : Block) (here : p ≡ stands) (live : IsLive s' p b).
+      one-live s' stands p a b c.now here live in
+      let mine : IsOwned s' caller stands (need.Large n) = record { block = (a, c.now, refl, served) } in
+      ties-but g s l l caller (λ p. p ≡ stands) e s' (record {
+        moves = h.moves;
+        either = λ p. cases_eq p stands;
+        there = c.elsewhere;
+        before = λ p b here live. absurd (c.unlive p b live here);
+        after = λ p b here live. ap (λ (x : Block). x.owner) (sym (is_fresh p b here live));
+        arena = λ p ne. w.elsewhere (name.Arena p) (λ same. cc);
+        shelf = λ k. w.elsewhere (name.Shelf k) (λ same. cc);
+        small = λ p class b here live is.
+            let bad : need.Large n ≡ need.Small class = sym served ∙ ap (λ (x : Block). x.need) (is_fresh p b here live) ∙ is in absurd (cc);
+        large = λ p m b here live is.
+            let excepts : Excepts e stands = inl (subst (Any (λ x. x.place ≡ stands)) (sym hands) (run-excepted stands n)) in
+            inl (record {
+              caller = (caller, h.in_heap, subst (λ q. Excepts (s'.errand caller) q) (sym here) (subst (λ f. Excepts f stands) (sym h.moves.here) excepts));
+            });
+        bound = λ p class b d ne live is its. touched-desc h p class d its;
+        units = λ unit has. let u = given-units unit a old served c has in (u.0, u.1);
+        no_more_units =
+            let most : 2 ^ (first + n) ≤ 2 ^ g.units = pow_mono within in
+            let run : run_bits first n < 2 ^ g.units = omega (arith, run_bits-mask first n, pow_pos first, most) in
+            subst (λ x. x < 2 ^ g.units) (sym w.here) (or_lt g.units (s.word name.Units) (run_bits first n) tied.no_more_units run);
+        contents = λ p i v b live written.
+            let differs : p ≢ stands =
+            λ here.
+            none-written (usable_words (need_of words)) i v (ap (λ (x : Block). slice_index_or x.contents i None) (is_fresh p b here live) ∙ written) in
+            w.elsewhere (name.Arena (p + 1 + i)) (λ same. cc) ∙ tied.contents p i v b (sym (c.elsewhere p differs) ∙ live) written;
+        excepts = λ p ne excepts. absurd (excepts-none (s.errand caller) p bare excepts);
+        hands =
+            subst (All (λ x. IsOwned s' caller x.place x.need)) (sym hands)
+            (All-cons (λ x. IsOwned s' caller x.place x.need) (record { place = stands; need = need.Large n }) [] mine
+            (All-nil (λ x. IsOwned s' caller x.place x.need)));
+        frees = subst (All (λ x. IsOwned s' caller x.place x.need)) (sym frees) (All-nil (λ x. IsOwned s' caller x.place x.need));
+      }) tied
 
 given-sound :
     (g : Geometry) (s : State) (caller : ℕ) (s' : State) (w : WantFields) (bits : ℕ) (o : Continuation) (first : ℕ) → IsSoundWithoutCounts g s → caller < g.callers
-    → (s.errand caller).point ≡ Large (large.TakeRun w bits) o → s.word name.Units ≡ bits → first_wanted w bits ≡ Some first → Step s caller s' → IsSoundWithoutCounts g s'
+    → (s.errand caller).point ≡ Large (large.TakeRun w bits) o → s.word name.Units ≡ bits → first_wanted w bits ≡ Some first → Step s caller s'
+    → IsSoundWithoutCounts g s'
+unfolding plan_point_of next_of event_of holds_of recalls_of
 given-sound g s caller s' w bits o first sound has stands word some step =
     let l = sound.parts.0 in
     let old = sound.parts.1 in
@@ -333,23 +263,27 @@ given-sound g s caller s' w bits o first sound has stands word some step =
     } in
     let free_words : IsFree g (pool_of s.history) (need_of words) place = subst (λ m. IsFree g (pool_of s.history) m place) (sym served) free in
     let allowed : IsAllowed g s.history (Alloc caller words place) = free_words in
-    let below : with_run bits first n < 2 ^ 64 =
-    with_run-below bits first n (omega (arith, within, sound.checked.units.1)) (subst (λ v. v < 2 ^ 64) word (old.words name.Units)) in
     let q : Point = Large (large.StoreRunPrefix place (run_at first w)) o in
-    let t =
-    touched-step g s l caller s' p q name.Units (with_run bits first n) (s.history ++ Alloc caller words place ∷ []) old has stands
-    (given-touches g s l caller w bits o first old word some fit.point.geometry below (large-served words n served) allowed) step in
+    let small : nat_le words SMALL_MOST ≡ false = large-served words n served in
+    touching g s caller s' p q name.Units (with_run bits first n) (Alloc caller words place) sound has stands (has, allowed)
+    (side-touches g s l caller _ o q _ _ _ (won-does s caller p _ _ bits _ _ (ap (λ f. Cas name.Units bits (units_taken bits n f)) some) word
+    (inl (rw some refl)) refl refl (rw some refl)) tt (large-aside _ _) refl
+    (record { number = refl; gives = λ i. and-false (caller == i) (nat_le words SMALL_MOST) small; refuses = λ i. refl; allocs = small; freed = refl }) allowed
+    (λ d i has bound lt.
+    ap is_there
+    (block_at-past _ (fresh_block caller words place) (pool_of s.history)
+    (λ same. frame-before g.frames _ _ i first (info-frame g s l d old has) lt (sym same ∙ here)))))
+    (λ t.
     let pool = ap pool_of t.history ∙ pool_of-push s.history (Alloc caller words place) in
     let came : Comes s s' place (fresh_block caller words place) = record {
       unlive = λ x b live same. free-elsewhere g (pool_of s.history) caller words place x b free_words live (sym same);
       now = ap (block_at place) pool ∙ block_at-here place (fresh_block caller words place) (pool_of s.history) refl;
       elsewhere = λ x ne. ap (block_at x) pool ∙ block_at-past x (fresh_block caller words place) (pool_of s.history) (λ same. ne (sym same));
     } in
-    touched-sound g s l caller _ _ _ (Alloc caller words place) s' sound old (has, allowed) t
-    (run-given-tied g s l caller words first n s' _ t.touches old (subst IsBareHanded (sym stands) (take_run-bare w bits o))
-    (run-held place (run_at first w) o ∙ ap (λ x. run_handed x n) here) (run-frees place (run_at first w) o)
-    (subst (λ v. Writes s.word name.Units (with_run v first n) s'.word) (sym word) t.word) served within
+    run-given-tied g s s' l first n (subst (λ v. Writes s.word name.Units (with_run v first n) s'.word) (sym word) t.word) caller words _ t.touches old
+    (subst IsBareHanded (sym stands) (record { hands = refl; frees = refl })) (ap (λ x. run_handed x n) here) refl served within
     (subst (λ x. Comes s s' x (fresh_block caller words x)) here came))
+    step
 
 take-found :
     (g : Geometry) (s : State) (caller : ℕ) (s' : State) (w : WantFields) (bits : ℕ) (o : Continuation) (found : Option ℕ) → IsSoundWithoutCounts g s → caller < g.callers

@@ -1,38 +1,35 @@
 -- After a step at a usable word or a shelf the words still show the pool of the events.
-use Rattle.std.proofs.Common.{ℕ, Some, ◌≡◌, ◌<◌, ◌+◌, ◌*◌, ◌^◌, [], ◌∷◌, ◌++◌, arith, ap, sym, subst, ◌∙◌, ◌⊎◌, All, IsTrue, slice_index_or, None}
+use Rattle.std.proofs.Common.{ℕ, Some, ◌≡◌, ◌<◌, ◌+◌, ◌*◌, ◌^◌, ap, sym, subst, ◌∙◌, ◌⊎◌, All, IsTrue, slice_index_or, None}
 use Rattle.std.specs.Int.{bit_at}
-use Rattle.sound_state.proofs.Common.{Geometry, frame_of, WordName, Event, IsLegalWithoutCounts, LargePoint, Continuation, Point, Large, ErrandFields, State, holds_of}
-use Rattle.sound_state.proofs.Common.{Lists, IsOwned, IsSoundWithoutCounts, IsSoundWith, IsTied, IsLive, SHELVES, unit_place, shelf_word, IsLegalEventWithoutCounts}
-use Rattle.sound_state.proofs.Common.{EachAfter-push, IsBlockOfDesc, IsExcepted}
+use Rattle.sound_state.proofs.Common.{Geometry, frame_of, WordName, Event, IsLegalWithoutCounts, Point, ErrandFields, State, holds_of, Step, Lists, IsOwned}
+use Rattle.sound_state.proofs.Common.{IsSoundWithoutCounts, IsSoundWith, IsTied, IsLive, SHELVES, unit_place, shelf_word, IsLegalEventWithoutCounts, EachAfter-push}
+use Rattle.sound_state.proofs.Common.{IsBlockOfDesc, IsExcepted}
 use Rattle.packed_words.specs.declared.shelf.ShelfWord.TheVariants as shelf
 use Rattle.word_table.specs.declared.name.WordName.TheVariants as name
 use Rattle.pool_model.specs.declared.owner.Owner.TheVariants.{Shelf}
 use Rattle.pool_model.specs.Pool.{Block}
 use Rattle.sound_state.proofs.shared.CallerLemmas.{each-other}
 use Rattle.sound_state.proofs.shared.TieLemmas.{bare-owns, excepted-stays, excepts-none, tie-stays, IsBareHanded, IsSaidAt}
-use Rattle.sound_state.proofs.large.TouchEffects.{IsAsidePoint, Touches, sound-touched, touched-bound, located-touched, owned-touched}
-use Rattle.sound_state.proofs.large.TouchSteps.{Touched}
+use Rattle.sound_state.proofs.shared.KeepsSound.{stepped-sound}
+use Rattle.sound_state.proofs.large.TouchEffects.{Touches, sound-touched, touched-bound, located-touched, owned-touched}
+use Rattle.sound_state.proofs.large.TouchSteps.{Touched, TouchesAt, touched-step}
 
 -- two states that have live blocks at the same places, which serve the same needs
 pub record SamePlaces (s s' : State) : Type 0 where
   pub was : (p : ℕ) (b' : Block) → IsLive s' p b' → (b : Block) × IsLive s p b × (b'.need ≡ b.need)
   pub still : (p : ℕ) (b : Block) → IsLive s p b → (b' : Block) × IsLive s' p b' × (b'.need ≡ b.need)
 
--- a step that tells a legal event keeps the state sound where the words show the pool after it
-pub touched-sound :
-    (g : Geometry) (s : State) (l : Lists) (caller : ℕ) (q : Point) (n : WordName) (new : ℕ) (event : Event) (s' : State) → IsSoundWithoutCounts g s
-    → IsSoundWith g s l → IsLegalEventWithoutCounts g s.history event → Touched g s l caller q n new (s.history ++ event ∷ []) s' → IsTied g s' l
-    → IsSoundWithoutCounts g s'
-touched-sound g s l caller q n new event s' sound old legal t tied = record {
-  checked = sound.checked;
-  legal = subst (IsLegalWithoutCounts g) (sym t.history) (EachAfter-push (IsLegalEventWithoutCounts g) s.history event sound.legal legal);
-  parts = (l, sound-touched t.touches old tied);
-}
-
--- a caller at a point of large blocks reserves, keeps, guards and pushes nothing
-pub large-aside : (p : LargePoint) (o : Continuation) → IsAsidePoint (Large p o)
-unfolding holds_of
-large-aside p o = grind (arith)
+-- a step that touches a word and tells an event that is allowed keeps the state sound where the words show the pool after it
+pub touching :
+    (g : Geometry) (s : State) (caller : ℕ) (s' : State) (p q : Point) (n : WordName) (new : ℕ) (event : Event) (sound : IsSoundWithoutCounts g s)
+    → caller < g.callers → (s.errand caller).point ≡ p → IsLegalEventWithoutCounts g s.history event
+    → TouchesAt g s sound.parts.0 caller p q n new (Some event)
+    → (Touched g s sound.parts.0 caller q n new (Some event) s' → IsTied g s' sound.parts.0) → Step s caller s' → IsSoundWithoutCounts g s'
+touching g s caller s' p q n new event sound has stands legal touches tied step =
+    let t = touched-step g s sound.parts.0 caller s' p q n new (Some event) sound.parts.1 has stands touches step in
+    stepped-sound g s caller s' sound.parts.0 sound has step
+    (subst (IsLegalWithoutCounts g) (sym t.history) (EachAfter-push (IsLegalEventWithoutCounts g) s.history event sound.legal legal))
+    (sound-touched t.touches sound.parts.1 (tied t))
 
 module _ {g : Geometry} {s : State} {l : Lists} {caller : ℕ} {e : ErrandFields} {s' : State} (h : Touches g s l caller e s') where
   -- the superblock of a small block is the same after a touch

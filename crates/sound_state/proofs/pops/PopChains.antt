@@ -1,29 +1,25 @@
 -- A won pop: the frames stay where they are, and the superblocks keep their blocks in order.
 use Rattle.std.proofs.Common.{ℕ, ◌≡◌, ◌≢◌, ◌<◌, ◌≤◌, ◌+◌, ◌-◌, ◌∷◌, refl, arith, ap, sym, subst, ◌∙◌, IsTrue}
-use Rattle.sound_state.proofs.Common.{Geometry, AnchorFields, Site, occurs, Share, Credit, LastCredit, Grant, ErrandFields, State, IsFramed, holds_before_pop, Lists}
-use Rattle.sound_state.proofs.Common.{IsSoundWithoutCounts, IsSoundWith, Superblock, AreChained, IsChained, superblock_of, anchor_for, reserved_of, free_chain}
-use Rattle.sound_state.proofs.Common.{is_there, taken_off, more_of, chain_of, chain_of-first, occurs-here, occurs-more}
+use Rattle.sound_state.proofs.Common.{Geometry, AnchorFields, Site, occurs, Share, ErrandFields, State, IsFramed, holds_before_pop, Lists, IsSoundWithoutCounts}
+use Rattle.sound_state.proofs.Common.{IsSoundWith, Superblock, AreChained, IsChained, superblock_of, anchor_for, reserved_of, free_chain, is_there, taken_off, more_of}
+use Rattle.sound_state.proofs.Common.{chain_of-first, occurs-here, occurs-more}
 use Rattle.sound_state.proofs.pops.PopEffects.{Pops, popped_holds}
 use Rattle.sound_state.proofs.pops.PopFacts.{popped-holds, popped-write, popped-anchor, popped-waits, popped-bound, popped-reserved, popped-credits, popped-first}
 use Rattle.sound_state.proofs.pops.PopFacts.{popped-here, popped-there}
 use Rattle.sound_state.proofs.shared.HoldingEffects.{framed-after}
-use Rattle.sound_state.proofs.shared.SuperblockEffects.{LieStill, BlockEffects, anchor-still, info-stays, next-stays, size-stays, superblock-stays, live-after}
-use Rattle.sound_state.proofs.shared.SuperblockEffects.{rest-live, chained-after, held-same, first-used}
+use Rattle.sound_state.proofs.shared.SuperblockEffects.{LieStill, BlockEffects, anchor-still, info-stays, next-stays, size-stays, superblock-stays, live-after, rest-live}
+use Rattle.sound_state.proofs.shared.SuperblockEffects.{chained-after, held-same, first-used}
 
 -- a caller that pops has no frame in its hand, before and after
 popping-no-frames : (f d class : ℕ) (share : Share) → occurs f (holds_before_pop d class share).frames ≡ 0
-popping-no-frames f d class Credit = grind (arith)
-popping-no-frames f d class LastCredit = grind (arith)
-popping-no-frames f d class (Grant more) = grind (arith)
+popping-no-frames f d class share = grind (arith)
 
 has-frames : (f : ℕ) (at : Site) (i more : ℕ) → occurs f (popped_holds at i more).frames ≡ 0
 has-frames f at i more = grind (arith)
 
 -- a pop takes no more off the count than it is
 taken-most : (share : Share) (a : AnchorFields) → taken_off share a ≤ a.count
-taken-most Credit a = grind (arith)
-taken-most LastCredit a = grind (arith)
-taken-most (Grant more) a = grind (arith)
+taken-most share a = grind (arith)
 
 -- a superblock that loses the first block of its chain, which becomes live, keeps its blocks in order
 pub first-goes :
@@ -86,16 +82,9 @@ module _
       let next = (superblock_of g s at.desc).next in
       let k = (anchor_for s at.desc).count + reserved_of g s at.desc in
       let first : (anchor_for s at.desc).avail ≡ a.avail = ap (λ x. x.avail) h.before in
-      let less : k - 1 ≡ (anchor_for s' at.desc).count + reserved_of g s' at.desc =
-      omega (arith, popped-count, popped-credits h) in
+      let less : k - 1 ≡ (anchor_for s' at.desc).count + reserved_of g s' at.desc = omega (arith, popped-count, popped-credits h) in
       let goes : next a.avail ≡ (anchor_for s' at.desc).avail = h.next ∙ sym (ap (λ x. x.avail) h.after) in
-      let rest : chain_of next (k - 1) (next a.avail) ≡ free_chain (superblock_of g s' at.desc) =
-      ap (λ n. chain_of next n (next a.avail)) less
-      ∙ ap (chain_of next ((anchor_for s' at.desc).count + reserved_of g s' at.desc)) goes
-      ∙ ap (λ f. chain_of f ((anchor_for s' at.desc).count + reserved_of g s' at.desc) (anchor_for s' at.desc).avail)
-      (sym (next-stays popped-lie g at.desc)) in
-      ap (chain_of next k) first
-      ∙ chain_of-first next k a.avail (omega (arith, popped-first h)) ∙ ap (λ xs. a.avail ∷ xs) rest
+      rw (next-stays popped-lie g at.desc, first, chain_of-first next k a.avail (omega (arith, popped-first h)), less, goes) refl
 
   popped-here-chained : IsSoundWith g s l → IsChained (superblock_of g s' at.desc)
   popped-here-chained old =

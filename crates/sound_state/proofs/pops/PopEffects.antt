@@ -1,8 +1,8 @@
 -- A won pop: what it changes, and that everything else stays.
-use Rattle.std.proofs.Common.{ℕ, true, false, ◌≡◌, ◌≢◌, ◌<◌, ◌+◌, ◌-◌, ◌^◌, [], ◌∷◌, ◌++◌, IsTrue, if◌then◌else◌, nat_lt}
-use Rattle.sound_state.proofs.Common.{Geometry, need_of, block_place, AnchorFields, WordName, Site, IsSiteOf, Share, ErrandFields, State, Moves, Holding}
-use Rattle.sound_state.proofs.Common.{holds_before_pop, holds_of, Lists, IsLocated, bound_here, recalls_of, anchor_for, is_bound, superblock_of, taken_off}
-use Rattle.sound_state.proofs.Common.{popped_state, more_of, nothing, holds_after_pop, block_handed}
+use Rattle.std.proofs.Common.{ℕ, true, false, ◌≡◌, ◌≢◌, ◌<◌, ◌+◌, ◌-◌, [], ◌∷◌, ◌++◌, IsTrue, if◌then◌else◌, nat_lt}
+use Rattle.sound_state.proofs.Common.{Geometry, need_of, block_place, AnchorFields, WordName, Site, IsSiteOf, Share, ErrandFields, State, Moves, Holding, holds_before_pop}
+use Rattle.sound_state.proofs.Common.{holds_of, Lists, IsLocated, bound_here, recalls_of, anchor_for, is_bound, superblock_of, taken_off, popped_state, more_of, nothing}
+use Rattle.sound_state.proofs.Common.{holds_after_pop, block_handed}
 use Rattle.heap_geometry.specs.declared.need.Need.TheVariants as need
 use Rattle.word_table.specs.declared.name.WordName.TheVariants as name
 use Rattle.word_table.specs.Sites.{IsAnchorOf}
@@ -41,9 +41,8 @@ pub record Pops (g : Geometry) (s : State) (l : Lists) (caller : ℕ) (at : Site
   pub after : anchor_for s' at.desc ≡ popped_anchor share a link
   pub next : (superblock_of g s at.desc).next a.avail ≡ link
   pub elsewhere : (n : WordName) → n ≢ name.Anchor at.desc → s'.word n ≡ s.word n
-  pub below : (n : WordName) → s'.word n < 2 ^ 64
   pub history : s'.history ≡ s.history ++ Alloc caller words (popped_place at a) ∷ []
-  pub own : KeepsCounts g caller (s.errand caller) e
+  pub own : KeepsCounts (s.errand caller) e
   pub holds_before : holds_of (s.errand caller).point ≡ holds_before_pop at.desc at.seat.class share
   pub holds_after : holds_of e.point ≡ popped_holds at a.avail (more_of share a)
   pub recalls_after : recalls_of e.point ≡ bound_here at

@@ -1,12 +1,9 @@
 -- What a won pop leaves, and how it changes the pool and what is reserved.
 use Rattle.std.proofs.Common.{ℕ, false, Some, None, ◌≡◌, ◌≢◌, ◌<◌, ◌≤◌, ◌+◌, ◌-◌, refl, arith, ap, sym, subst, ◌∙◌, ◌==◌}
-use Rattle.std.proofs.lemmas.Bool.{cond_both}
-use Rattle.sound_state.proofs.Common.{Geometry, block_place, AnchorFields, is_empty, WordName, Site, occurs, Share, Credit, LastCredit, Grant, block_at, pool_of}
-use Rattle.sound_state.proofs.Common.{ErrandFields, State, waiting, on_its_way, holds_before_pop, Status, reserving, Lists, IsSoundWithoutCounts, IsSoundWith}
-use Rattle.sound_state.proofs.Common.{words_sum, callers_sum, anchor_for, info_for, superblock_of, free_chain, is_bound, away_of, waiting_of, reserved_of}
-use Rattle.sound_state.proofs.Common.{word_reserves, errand_reserves, reserved_among, errand_keeps, kept_among, taken_off, popped_state, more_of, chain_of}
-use Rattle.sound_state.proofs.Common.{chain_of-first, occurs-here, fresh_block, same_status}
-use Rattle.packed_words.specs.declared.anchor.AnchorState.TheVariants as phase
+use Rattle.sound_state.proofs.Common.{Geometry, block_place, AnchorFields, is_empty, WordName, Site, occurs, Share, block_at, pool_of, ErrandFields, State, waiting}
+use Rattle.sound_state.proofs.Common.{on_its_way, holds_before_pop, Status, reserving, Lists, IsSoundWithoutCounts, IsSoundWith, words_sum, callers_sum, anchor_for}
+use Rattle.sound_state.proofs.Common.{info_for, superblock_of, free_chain, is_bound, away_of, waiting_of, reserved_of, word_reserves, errand_reserves, reserved_among}
+use Rattle.sound_state.proofs.Common.{errand_keeps, kept_among, taken_off, popped_state, more_of, chain_of, chain_of-first, occurs-here, fresh_block, same_status}
 use Rattle.word_table.specs.declared.name.WordName.TheVariants as name
 use Rattle.sound_state.proofs.shared.HasLemmas.{bound-stands}
 use Rattle.sound_state.proofs.shared.OverlapLemmas.{free-unlive}
@@ -16,16 +13,12 @@ use Rattle.sound_state.proofs.shared.HoldingEffects.{HoldingEffects, waits-go, w
 use Rattle.sound_state.proofs.shared.SuperblockEffects.{AnchorEffects, info-stays, anchor-still, anchors-stay, field-stays, weights-stay, given-here, given-there}
 
 stands-popped : (share : Share) (a : AnchorFields) → is_empty a.state ≡ false → is_empty (popped_state share a) ≡ false
-stands-popped Credit a is = is
-stands-popped (Grant more) a is = is
-stands-popped LastCredit a is = cond_both (a.count == 0) phase.Full a.state (λ p. is_empty p ≡ false) (λ e. refl) (λ e. is)
+stands-popped share a is = grind (arith, is)
 
 -- a caller that pops keeps nothing but what it reserves, before and after
 had-kept :
     (status : Status) (d x class : ℕ) (share : Share) → same_status reserving status ≡ false → kept_among status d (holds_before_pop x class share).kept ≡ 0
-had-kept status d x class Credit other = refl
-had-kept status d x class LastCredit other = grind (arith, other)
-had-kept status d x class (Grant more) other = grind (arith, other)
+had-kept status d x class share other = grind (arith, other)
 
 popped-keeps-reserving :
     (status : Status) (d : ℕ) (at : Site) (i more : ℕ) → same_status reserving status ≡ false → kept_among status d (popped_holds at i more).kept ≡ 0
@@ -33,9 +26,7 @@ popped-keeps-reserving status d at i more other = grind (arith, other)
 
 -- what a pop pays with is reserved of its superblock alone, and is what it takes off the count and one
 popping-reserved : (d x class : ℕ) (share : Share) → d ≢ x → reserved_among d (holds_before_pop x class share).credits ≡ 0
-popping-reserved d x class Credit ne = grind (arith, ne)
-popping-reserved d x class LastCredit ne = grind (arith, ne)
-popping-reserved d x class (Grant more) ne = grind (arith, ne)
+popping-reserved d x class share ne = grind (arith, ne)
 
 popped-reserves-here : (d : ℕ) (at : Site) (i more : ℕ) → d ≢ at.desc → reserved_among d (popped_holds at i more).credits ≡ 0
 popped-reserves-here d at i more ne = grind (arith, ne)
@@ -43,14 +34,10 @@ popped-reserves-here d at i more ne = grind (arith, ne)
 takes-off : (class : ℕ) (at : Site) (i : ℕ) (share : Share) (a : AnchorFields)
     → reserved_among at.desc (popped_holds at i (more_of share a)).credits + 1
     ≡ reserved_among at.desc (holds_before_pop at.desc class share).credits + taken_off share a
-takes-off class at i Credit a = grind (arith)
-takes-off class at i LastCredit a = grind (arith)
-takes-off class at i (Grant more) a = grind (arith)
+takes-off class at i share a = grind (arith)
 
 pub pays-one : (x class : ℕ) (share : Share) → 1 ≤ reserved_among x (holds_before_pop x class share).credits
-pays-one x class Credit = grind (arith)
-pays-one x class LastCredit = grind (arith)
-pays-one x class (Grant more) = grind (arith)
+pays-one x class share = grind (arith)
 
 -- the first index of a chain is on it
 first-occurs : (next : ℕ → ℕ) (k i : ℕ) → 0 < k → 0 < occurs i (chain_of next k i)

@@ -2,8 +2,8 @@
 use Rattle.std.proofs.Common.{ℕ, ◌≡◌, ◌≢◌, ◌<◌, ◌≤◌, ◌+◌, arith, ap, sym, subst, inl, inr, ◌∙◌, IsTrue, All}
 use Rattle.std.proofs.lemmas.Bool.{cases_eq}
 use Rattle.std.proofs.lemmas.Option.{none-some}
-use Rattle.sound_state.proofs.Common.{Geometry, Need, AnchorFields, Site, Share, own, block_at, pool_of, ErrandFields, State, Lists, IsSo, IsOwned}
-use Rattle.sound_state.proofs.Common.{IsSoundWithoutCounts, IsSoundWith, callers_sum, anchor_for, reserved_of, reserved_among, errand_reserves, IsRemembered}
+use Rattle.sound_state.proofs.Common.{Geometry, Need, AnchorFields, Site, Share, own, block_at, pool_of, ErrandFields, State, Lists, IsSo, IsOwned, IsSoundWithoutCounts}
+use Rattle.sound_state.proofs.Common.{IsSoundWith, callers_sum, anchor_for, reserved_of, reserved_among, errand_reserves, IsRemembered}
 use Rattle.pool_model.specs.declared.event.Event.TheVariants.{Alloc}
 use Rattle.sound_state.proofs.shared.EventFacts.{told-own}
 use Rattle.sound_state.proofs.shared.RecallEffects.{IsSteadyWord, AreSteady, Leaves, IsLeft, chain-steady, here-so, remembered-left}

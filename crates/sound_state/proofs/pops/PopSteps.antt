@@ -1,15 +1,14 @@
 -- The step of a won pop, and what it changes.
-use Rattle.std.proofs.Common.{ℕ, Bool, true, false, ◌≡◌, ◌<◌, ◌+◌, ◌^◌, ◌/◌, refl, arith, ap, sym, subst, inl, inr, ◌∙◌, if◌then◌else◌, nat_lt, pow_pos, mod-eq_of_lt}
+use Rattle.std.proofs.Common.{ℕ, Bool, true, false, ◌≡◌, ◌<◌, ◌+◌, ◌^◌, refl, arith, ap, sym, subst, inl, inr, ◌∙◌, if◌then◌else◌, nat_lt, mod-eq_of_lt}
 use Rattle.std.proofs.lemmas.Bool.{cases_eq}
-use Rattle.std.proofs.lemmas.Nat.{mod_below}
 use Rattle.sound_state.proofs.Common.{Geometry, AnchorFields, anchor_of, anchor_word, link_of, Site, BlockPoint, Share, Continuation, Point, Block, event_of, next_of}
-use Rattle.sound_state.proofs.Common.{asked, plan_point_of, State, Step, holds_of, Lists, bound_here, recalls_of, IsSoundWithoutCounts, IsSoundWith, IsOwnErrand}
-use Rattle.sound_state.proofs.Common.{anchor_for, IsAnchor, AVAIL_BITS, TAG_BITS, anchor_of-anchor_word, more_of, Cas, nothing, block_handed}
+use Rattle.sound_state.proofs.Common.{asked, plan_point_of, State, Step, holds_of, Lists, bound_here, recalls_of, IsSoundWithoutCounts, IsSoundWith, anchor_for, IsAnchor}
+use Rattle.sound_state.proofs.Common.{TAG_BITS, anchor_of-anchor_word, more_of, Cas, nothing, block_handed}
 use Rattle.word_table.specs.declared.name.WordName.TheVariants as name
 use Rattle.superblock_parts.specs.Anchors.{popped}
 use Rattle.superblock_parts.specs.Points as points
 use Rattle.superblock_parts.specs.declared.point.BlockPoint.TheVariants as block
-use Rattle.sound_state.specs.Holdings as hold
+use Rattle.errand_steps.specs.tables.Blocks as hold
 use Rattle.sound_state.proofs.shared.PointLemmas.{fits-at, the-alloc, small-asked, recalled-at}
 use Rattle.sound_state.proofs.pops.PopEffects.{Pops, popped_anchor}
 use Rattle.sound_state.proofs.pops.PopChains.{popped-chained, popped-framed}
@@ -18,13 +17,13 @@ use Rattle.sound_state.proofs.pops.PopRecalls.{popped-remembered}
 use Rattle.sound_state.proofs.pops.PopTies.{popped-legal, popped-tied}
 use Rattle.sound_state.proofs.pops.PopTurns.{popped-guarded, popped-listed, popped-turned}
 use Rattle.sound_state.proofs.quiet.QuietExchanges.{pop_block-lost}
-use Rattle.sound_state.proofs.shared.StepLemmas.{at_point}
+use Rattle.sound_state.proofs.shared.StepLemmas.{at_point, keeps-counts}
 use Rattle.sound_state.proofs.shared.TagLemmas.{anchor-tags-below}
 use Rattle.sound_state.proofs.shared.CreditLemmas.{won_with}
 use Rattle.sound_state.proofs.shared.TurnEffects.{StandsIn}
 use Rattle.sound_state.proofs.shared.WonEffects.{AnchorWon, anchor-won}
-use Rattle.sound_state.proofs.shared.KeepsSound.{KeepsSound, KeepsSoundWhere}
-use Rattle.sound_state.proofs.shared.CallerLemmas.{each-caller}
+use Rattle.sound_state.proofs.shared.KeepsSound.{KeepsSound, KeepsSoundWhere, stepped-sound}
+use Rattle.sound_state.proofs.shared.WrittenWords.{popped-fits}
 
 -- the point to which a won pop leads, by whether more blocks are reserved
 abbrev popped_point : Bool → Site → ℕ → ℕ → BlockPoint
@@ -55,17 +54,6 @@ pop_block-stands at share a prefix o = grind (arith)
 popped-uncut : (share : Share) (a : AnchorFields) (link : ℕ) → a.tag + 1 < 2 ^ TAG_BITS → popped share a link ≡ popped_anchor share a link
 popped-uncut share a link room = ap (λ t. record (popped_anchor share a link) { tag = t }) (mod-eq_of_lt {n = a.tag + 1} {m = 2 ^ TAG_BITS} room)
 
-link_of-below : (prefix : ℕ) → link_of prefix < 2 ^ AVAIL_BITS
-link_of-below prefix = mod_below (prefix / 2 ^ 0) (2 ^ AVAIL_BITS) (pow_pos AVAIL_BITS)
-
-popped-fits :
-    (share : Share) (a : AnchorFields) (prefix : ℕ) → IsAnchor a → a.tag + 1 < 2 ^ TAG_BITS → IsAnchor (popped_anchor share a (link_of prefix))
-popped-fits share a prefix fits room = record {
-  avail = link_of-below prefix;
-  count = omega (arith, fits.count);
-  tag = room;
-}
-
 -- what the step of a won pop changes
 pub pop-pops :
     (g : Geometry) (s : State) (l : Lists) (caller : ℕ) (s' : State) (at : Site) (share : Share) (a : AnchorFields) (prefix : ℕ) (o : Continuation)
@@ -83,10 +71,11 @@ pop-pops g s l caller s' at share a prefix o sound is has here word step =
     let room : a.tag + 1 < 2 ^ TAG_BITS =
     subst (λ x. x.tag + 1 < 2 ^ TAG_BITS) before (anchor-tags-below g s sound at.desc fit.point.site.desc) in
     let uncut : popped share a (link_of prefix) ≡ popped_anchor share a (link_of prefix) = popped-uncut share a (link_of prefix) room in
-    let fits_new : IsAnchor (popped_anchor share a (link_of prefix)) = popped-fits share a prefix fit.point.anchor.fits room in
+    let fits_new : IsAnchor (popped_anchor share a (link_of prefix)) =
+    subst IsAnchor uncut (popped-fits share a prefix fit.point.anchor.fits) in
     let new : AnchorFields = popped_anchor share a (link_of prefix) in
-    let won : AnchorWon g s caller p at.desc a new q s' =
-    anchor-won g s l caller s' p at.desc a new q is has here word fit.point.anchor.fits fits_new
+    let won : AnchorWon s caller p at.desc a new q s' =
+    anchor-won s caller s' p at.desc a new q here word fit.point.anchor.fits fits_new
     (ap (λ x. Cas (name.Anchor at.desc) (anchor_word a) (anchor_word x)) uncut)
     (inl refl) step in
     record {
@@ -101,9 +90,8 @@ pop-pops g s l caller s' at share a prefix o sound is has here word step =
       after = won.after;
       next = so_link (sym (ap (λ x. x.tag) before));
       elsewhere = won.elsewhere;
-      below = won.below;
       history = won.step.history;
-      own = record { rule = won.step.rule; retired = refl; turns = refl; lost = won.step.lost; cleared = won.step.cleared };
+      own = keeps-counts (s.errand caller) p (won_with (anchor_word a)) q here refl refl;
       holds_before = ap holds_of here;
       holds_after = popped-point-holds (nat_lt 0 (more_of share a)) at a.avail (more_of share a) o;
       recalls_after = popped-point-recalls (nat_lt 0 (more_of share a)) at a.avail (more_of share a) o;
@@ -118,28 +106,20 @@ pub pop_block-won :
 pop_block-won at share a prefix o g s caller s' sound has here word step =
     let l = sound.parts.0 in
     let is = sound.parts.1 in
-    let e = at_point (s.errand caller) (won_with (anchor_word a)) (Block (points.after_pop at a.avail (more_of share a)) o) in
     let h = pop-pops g s l caller s' at share a prefix o sound is has here word step in
-    record {
-      checked = sound.checked;
-      legal = popped-legal h sound is;
-      parts = (
-        l,
-        record {
-          words = h.below;
-          errands = each-caller g (IsOwnErrand g) s.errand caller e s'.errand h.moves h.own.rule is.errands;
-          listed = popped-listed h is;
-          kept = popped-kept h is;
-          chained = popped-chained h sound is;
-          framed = popped-framed h is;
-          remembered = popped-remembered h sound is;
-          guarded = popped-guarded h is;
-          stocked = popped-stocked h is;
-          turned = popped-turned h sound is;
-          tied = popped-tied h sound is;
-        },
-      );
-    }
+    stepped-sound g s caller s' l sound has step (popped-legal h sound is)
+    (λ formed. record {
+      formed = formed;
+      listed = popped-listed h is;
+      kept = popped-kept h is;
+      chained = popped-chained h sound is;
+      framed = popped-framed h is;
+      remembered = popped-remembered h sound is;
+      guarded = popped-guarded h is;
+      stocked = popped-stocked h is;
+      turned = popped-turned h sound is;
+      tied = popped-tied h sound is;
+    })
 
 -- a pop keeps the state sound, won or lost
 pub pop_block-sound :

@@ -1,23 +1,20 @@
 -- After a won pop the words still show the pool of the events, and the events are legal.
-use Rattle.std.proofs.Common.{ℕ, ◌≡◌, [], refl, ap, inl, inr, ◌∙◌, nat_lt}
+use Rattle.std.proofs.Common.{ℕ, ◌≡◌, [], refl, ap, inl, inr, ◌∙◌, nat_lt, arith}
 use Rattle.std.proofs.lemmas.Bool.{cases_Bool}
-use Rattle.sound_state.proofs.Common.{Geometry, AnchorFields, Site, Share, Credit, LastCredit, Grant, IsLegalWithoutCounts, ErrandFields, State, Holding}
-use Rattle.sound_state.proofs.Common.{holds_before_pop, Lists, IsSoundWithoutCounts, IsSoundWith, IsTied, more_of, block_handed}
-use Rattle.word_table.specs.declared.name.WordName.TheVariants as name
+use Rattle.sound_state.proofs.Common.{Geometry, AnchorFields, Site, Share, IsLegalWithoutCounts, ErrandFields, State, Holding, holds_before_pop, Lists}
+use Rattle.sound_state.proofs.Common.{IsSoundWithoutCounts, IsSoundWith, IsTied, more_of, block_handed}
 use Rattle.sound_state.proofs.pops.PopEffects.{Pops, popped_holds}
-use Rattle.sound_state.proofs.pops.PopFacts.{popped-info, popped-bound, popped-none, popped-here, popped-there}
+use Rattle.sound_state.proofs.pops.PopFacts.{popped-info, popped-bound, popped-none, popped-here, popped-there, popped-holds, popped-write}
 use Rattle.sound_state.proofs.shared.GivenBlocks.{Gives, given-legal, given-tied}
+use Rattle.sound_state.proofs.shared.SuperblockEffects.{anchor-ties}
+use Rattle.sound_state.proofs.shared.HoldingEffects.{bare-before}
 
 -- a caller that pops hands out and frees nothing before it, and hands out the popped block after it
 hands-before : (d class : ℕ) (share : Share) → (holds_before_pop d class share).hands ≡ []
-hands-before d class Credit = refl
-hands-before d class LastCredit = refl
-hands-before d class (Grant more) = refl
+hands-before d class share = grind (arith)
 
 frees-before : (d class : ℕ) (share : Share) → (holds_before_pop d class share).frees ≡ []
-frees-before d class Credit = refl
-frees-before d class LastCredit = refl
-frees-before d class (Grant more) = refl
+frees-before d class share = grind (arith)
 
 popped-hands : (at : Site) (i more : ℕ) → (popped_holds at i more).hands ≡ block_handed at i
 popped-hands at i more = elim (cases_Bool (nat_lt 0 more)) [ inl some ↦ rw some refl | inr none ↦ rw none refl ]
@@ -42,17 +39,10 @@ module _
     none = popped-none h sound is;
     here = popped-here h;
     there = popped-there h;
-    tie_words = record {
-      arena = λ place. h.elsewhere (name.Arena place) (λ same. cc);
-      units = h.elsewhere name.Units (λ same. cc);
-      shelf = λ k. h.elsewhere (name.Shelf k) (λ same. cc);
-    };
+    tie_words = anchor-ties (popped-write h);
     info = popped-info h;
     bounds = popped-bound h;
-    bare = record {
-      hands = ap (λ (o : Holding). o.hands) h.holds_before ∙ hands-before at.desc at.seat.class share;
-      frees = ap (λ (o : Holding). o.frees) h.holds_before ∙ frees-before at.desc at.seat.class share;
-    };
+    bare = bare-before (popped-holds h) (hands-before at.desc at.seat.class share) (frees-before at.desc at.seat.class share);
     hands = ap (λ (o : Holding). o.hands) h.holds_after ∙ popped-hands at a.avail (more_of share a);
     frees = ap (λ (o : Holding). o.frees) h.holds_after ∙ popped-frees at a.avail (more_of share a);
   }

@@ -1,20 +1,18 @@
 -- A won pop keeps the lists, the guards, and the bounds of tags and turns.
 use Rattle.std.proofs.Common.{ℕ, true, false, ◌≡◌, ◌≤◌, ◌+◌, refl, arith, ap, sym, subst, inl, inr, ◌∙◌}
 use Rattle.std.proofs.lemmas.Bool.{cases_eq}
-use Rattle.sound_state.proofs.Common.{Geometry, AnchorFields, Site, Share, Credit, LastCredit, Grant, ErrandFields, State, IsGuarded, holds_before_pop, holds_of, Lists}
-use Rattle.sound_state.proofs.Common.{IsListed, IsSoundWithoutCounts, IsSoundWith, anchor_for, IsTurned, more_of, clear}
+use Rattle.sound_state.proofs.Common.{Geometry, AnchorFields, Site, Share, ErrandFields, State, IsGuarded, holds_before_pop, holds_of, Lists, IsListed}
+use Rattle.sound_state.proofs.Common.{IsSoundWithoutCounts, IsSoundWith, anchor_for, IsTurned, more_of, clear}
 use Rattle.word_table.specs.declared.name.WordName.TheVariants as name
 use Rattle.sound_state.proofs.pops.PopEffects.{Pops, popped_holds, popped_place}
 use Rattle.sound_state.proofs.pops.PopFacts.{popped-anchor, popped-empty, popped-away}
 use Rattle.sound_state.proofs.shared.GuardEffects.{guarded-clear}
 use Rattle.sound_state.proofs.shared.ListEffects.{IsListWord, listed-kept}
-use Rattle.sound_state.proofs.shared.TurnEffects.{alloc-event, emptied-kept, head-tag, turned-after, small-served, stands-weighs}
+use Rattle.sound_state.proofs.shared.TurnEffects.{alloc-event, emptied-kept, head-tag, turned-after, small-served, stands-weighs, counts-kept}
 
 -- the hazard word of a caller that pops is to be 0 before and after
 before-clear : (d class : ℕ) (share : Share) → (holds_before_pop d class share).hazard ≡ clear
-before-clear d class Credit = refl
-before-clear d class LastCredit = refl
-before-clear d class (Grant more) = refl
+before-clear d class share = grind (arith)
 
 after-clear : (at : Site) (i more : ℕ) → (popped_holds at i more).hazard ≡ clear
 after-clear at i more = grind (arith)
@@ -58,11 +56,7 @@ module _
         in_heap = h.in_heap;
         moves = h.moves;
         events = events;
-        own_turns = omega (arith, turned.own_turns caller h.in_heap, events.gives, before.under_way, after.under_way, h.own.turns);
-        own_lost =
-            omega (arith, turned.own_lost caller h.in_heap, events.gives, events.refuses caller, before.unanswered, after.discards, after.unanswered, h.own.turns, h.own.lost);
-        own_answers =
-            omega (arith, turned.own_answers caller h.in_heap, events.gives, events.refuses caller, before.unanswered, after.unanswered, h.own.turns);
+        counts = counts-kept turned h.in_heap events h.own before after refl (omega arith);
         anchor_tags = λ d has. popped-tags d;
         frame_turns = omega (arith, head-tag (h.elsewhere name.FrameHead (λ same. cc)), before.unframed, after.unframed, h.own.turns);
         emptied = omega (arith, emptied_same, h.own.cleared);

@@ -1,35 +1,28 @@
 -- A won push: each frame stays in one place, and the superblocks keep their blocks in order.
-use Rattle.std.proofs.Common.{ℕ, Bool, true, false, ◌≡◌, ◌≢◌, ◌<◌, ◌+◌, ◌-◌, ◌∷◌, refl, arith, ap, sym, subst, inl, inr, ◌∙◌, ◌==◌, not, if◌then◌else◌, IsTrue}
+use Rattle.std.proofs.Common.{ℕ, Bool, false, ◌≡◌, ◌≢◌, ◌<◌, ◌+◌, ◌-◌, ◌∷◌, refl, arith, ap, sym, subst, inl, inr, ◌∙◌, ◌==◌, not, if◌then◌else◌, IsTrue}
 use Rattle.std.proofs.lemmas.Bool.{cases_eq}
-use Rattle.sound_state.proofs.Common.{Geometry, block_count_of, block_place, AnchorFields, descriptor_count, Site, occurs, ErrandFields, State, IsFramed, fills_frame}
-use Rattle.sound_state.proofs.Common.{Lists, IsSoundWithoutCounts, IsSoundWith, Superblock, AreChained, IsChained, superblock_of, anchor_for, reserved_of, free_chain}
-use Rattle.sound_state.proofs.Common.{live_at, is_there, chain_of, chain_of-first}
+use Rattle.sound_state.proofs.Common.{Geometry, block_count_of, block_place, AnchorFields, Site, occurs, ErrandFields, State, IsFramed, fills_frame, Lists}
+use Rattle.sound_state.proofs.Common.{IsSoundWithoutCounts, IsSoundWith, Superblock, AreChained, IsChained, superblock_of, anchor_for, reserved_of, free_chain, live_at}
+use Rattle.sound_state.proofs.Common.{is_there, chain_of-first}
 use Rattle.sound_state.proofs.pushes.PushEffects.{Outcome, stays, unfills, empties, IsOutcome, Pushes, pushed_anchor, pushed_holds}
 use Rattle.sound_state.proofs.pushes.PushFacts.{pushed-holds, pushed-write, pushed-info, pushed-anchor, pushed-waits, pushed-bound, pushed-bound-here, was-bound}
 use Rattle.sound_state.proofs.pushes.PushFacts.{pushed-reserved, pushed-gone, pushed-there, pushed-live, pushed-bare, makes_empty}
-use Rattle.sound_state.proofs.shared.HoldingEffects.{holdings-go}
+use Rattle.sound_state.proofs.shared.HoldingEffects.{framed-but}
 use Rattle.sound_state.proofs.shared.ListFacts.{occurs-past}
 use Rattle.sound_state.proofs.shared.SuperblockEffects.{LieStill, BlockEffects, anchor-still, info-stays, next-stays, size-stays, superblock-stays, located-live}
 use Rattle.sound_state.proofs.shared.SuperblockEffects.{live-after, rest-live, chained-after, held-same, first-used}
-use Rattle.sound_state.proofs.shared.SumLemmas.{sum-change}
 
 -- the chain of a push's superblock gains the freed block in front, where the superblock isn't made EMPTY
 count-after : (out : Outcome) (i : ℕ) (a : AnchorFields) → makes_empty out ≡ false → (pushed_anchor out i a).count ≡ a.count + 1
-count-after stays i a stands = refl
-count-after unfills i a stands = refl
-count-after empties i a stands = let bad : true ≡ false = stands in cc
+count-after out i a stands = grind (arith, stands)
 
 avail-after : (out : Outcome) (i : ℕ) (a : AnchorFields) → (pushed_anchor out i a).avail ≡ i
-avail-after stays i a = refl
-avail-after unfills i a = refl
-avail-after empties i a = refl
+avail-after out i a = grind (arith)
 
 count-room :
     (out : Outcome) (class : ℕ) (stored : Bool) (a : AnchorFields) → IsOutcome out class stored a → makes_empty out ≡ false
     → a.count + 1 < block_count_of class
-count-room stays class stored a is stands = is.0
-count-room unfills class stored a is stands = is.0
-count-room empties class stored a is stands = let bad : true ≡ false = stands in cc
+count-room out class stored a is stands = grind (arith, is, stands)
 
 -- a superblock whose chain gains in front a block that was live keeps its blocks in order
 pub first-comes :
@@ -61,8 +54,7 @@ first-comes b b' i old chain has avail link count waits next size was now others
 
 -- a condition whose negation holds is false
 bound-stays : (b : Bool) → IsTrue (not b) → b ≡ false
-bound-stays true is = let bad : false ≡ true = is in cc
-bound-stays false is = refl
+bound-stays b is = grind (arith, is)
 
 module _
     {g : Geometry} {s : State} {l : Lists} {caller : ℕ} {at : Site} {i : ℕ} {stored : Bool} {a : AnchorFields} {out : Outcome} {e : ErrandFields}
@@ -94,12 +86,7 @@ module _
       let avail : (anchor_for s' at.desc).avail ≡ i = ap (λ x. x.avail) h.after ∙ avail-after out i a in
       let less : (k + 1) - 1 ≡ k = omega arith in
       let goes : next i ≡ (anchor_for s at.desc).avail = h.next ∙ sym (ap (λ x. x.avail) h.before) in
-      ap (λ f. chain_of f ((anchor_for s' at.desc).count + reserved_of g s' at.desc) (anchor_for s' at.desc).avail) (next-stays pushed-lie g at.desc)
-      ∙ ap (λ n. chain_of next n (anchor_for s' at.desc).avail) count
-      ∙ ap (chain_of next (k + 1)) avail
-      ∙ chain_of-first next (k + 1) i (omega arith)
-      ∙ ap (λ n. i ∷ chain_of next n (next i)) less
-      ∙ ap (λ j. i ∷ chain_of next k j) goes
+      rw (next-stays pushed-lie g at.desc, count, avail, chain_of-first next (k + 1) i (omega arith), less, goes) refl
 
   pushed-here-chained : IsSoundWithoutCounts g s → IsSoundWith g s l → makes_empty out ≡ false → IsChained (superblock_of g s' at.desc)
   pushed-here-chained sound old stands =
@@ -130,35 +117,23 @@ module _
       let bound = pushed-bound-here h in
       rw (bound, stands, h.bound, pushed-waits h at.desc, info-stays pushed-lie at.desc) refl
 
--- the frame of a superblock that a push makes EMPTY goes to its caller's hand
-frame-goes :
-    (g : Geometry) (s : State) (l : Lists) (caller : ℕ) (at : Site) (i : ℕ) (stored : Bool) (a : AnchorFields) (out : Outcome) (e : ErrandFields)
-    (s' : State) → Pushes g s l caller at i stored a out e s' → IsSoundWith g s l → (f : ℕ)
-    → occurs f (pushed_holds out at stored).frames + fills_frame g s' l f at.desc ≡ fills_frame g s l f at.desc
-frame-goes g s l caller at i stored a stays e s' h old f = omega (arith, fills-still h f refl)
-frame-goes g s l caller at i stored a unfills e s' h old f = omega (arith, fills-still h f refl)
-frame-goes g s l caller at i stored a empties e s' h old f =
-    let bare = pushed-bare g s l caller at i stored a e s' h old in
-    let now : fills_frame g s' l f at.desc ≡ 0 = rw (pushed-bound-here h) refl in
-    let was : fills_frame g s l f at.desc ≡ (if at.frame == f then 1 else 0) = rw (h.bound, bare.waiting, h.located.frame) refl in
-    omega (arith, now, was)
+module _
+    {g : Geometry} {s : State} {l : Lists} {caller : ℕ} {at : Site} {i : ℕ} {stored : Bool} {a : AnchorFields} {e : ErrandFields} {s' : State} where
+  -- the frame of a superblock that a push makes EMPTY goes to its caller's hand
+  frame-goes :
+      (out : Outcome) → Pushes g s l caller at i stored a out e s' → IsSoundWith g s l → (f : ℕ)
+      → occurs f (pushed_holds out at stored).frames + fills_frame g s' l f at.desc ≡ fills_frame g s l f at.desc
+  frame-goes stays h old f = omega (arith, fills-still h f refl)
+  frame-goes unfills h old f = omega (arith, fills-still h f refl)
+  frame-goes empties h old f =
+      let now : fills_frame g s' l f at.desc ≡ 0 = rw (pushed-bound-here h) refl in
+      let was : fills_frame g s l f at.desc ≡ (if at.frame == f then 1 else 0) = rw (h.bound, (pushed-bare h old).waiting, h.located.frame) refl in
+      omega (arith, now, was)
 
 module _
     {g : Geometry} {s : State} {l : Lists} {caller : ℕ} {at : Site} {i : ℕ} {stored : Bool} {a : AnchorFields} {out : Outcome} {e : ErrandFields}
     {s' : State} (h : Pushes g s l caller at i stored a out e s') where
   pub pushed-framed : IsSoundWith g s l → IsFramed g s' l
-  pushed-framed old = record {
-    once = λ f has.
-        let changed =
-        sum-change (descriptor_count g) (fills_frame g s l f) (fills_frame g s' l f) at.desc h.site.desc
-        (λ d lt ne.
-        let waits = pushed-waits h d in
-        rw (pushed-bound h d ne, waits, pushed-info h d) refl) in
-        omega (
-          arith,
-          holdings-go (pushed-holds h) (λ x. occurs f x.frames),
-          changed,
-          frame-goes g s l caller at i stored a out e s' h old f,
-          old.framed.once f has,
-        );
-  }
+  pushed-framed old =
+      framed-but (pushed-holds h) l at.desc h.site.desc (λ f d ne. rw (pushed-bound h d ne, pushed-waits h d, pushed-info h d) refl)
+      (λ f. omega (arith, frame-goes out h old f)) old.framed

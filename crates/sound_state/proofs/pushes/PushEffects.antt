@@ -1,15 +1,15 @@
 -- A won push: what it changes, and that everything else stays.
-use Rattle.std.proofs.Common.{ℕ, Bool, true, ◌≡◌, ◌≢◌, ◌<◌, ◌≤◌, ◌+◌, ◌^◌, List, [], ◌∷◌, ◌++◌, ◌⊎◌, IsTrue, if◌then◌else◌}
-use Rattle.sound_state.proofs.Common.{Geometry, block_count_of, block_place, AnchorFields, WordName, Site, IsSiteOf, ErrandFields, Point, State}
-use Rattle.sound_state.proofs.Common.{Moves, Holding, partly_used, holds_of, Lists, Recall, IsLocated, IsOwned, emptied, recalls_of}
-use Rattle.sound_state.proofs.Common.{turn_stage_of, anchor_for, is_bound, superblock_of, pops_left, HazardState, nothing, keep, clear, guarded, if_stored}
-use Rattle.sound_state.proofs.Common.{out_of_turn}
+use Rattle.std.proofs.Common.{ℕ, Bool, true, ◌≡◌, ◌≢◌, ◌<◌, ◌≤◌, ◌+◌, List, [], ◌∷◌, ◌++◌, ◌⊎◌, IsTrue, if◌then◌else◌}
+use Rattle.sound_state.proofs.Common.{Geometry, block_count_of, block_place, AnchorFields, WordName, Site, IsSiteOf, ErrandFields, Point, State, Moves, Holding}
+use Rattle.sound_state.proofs.Common.{partly_used, holds_of, Lists, Recall, IsLocated, IsOwned, emptied, recalls_of, turn_stage_of, anchor_for, is_bound, superblock_of}
+use Rattle.sound_state.proofs.Common.{pops_left, HazardState, nothing, keep, clear, guarded, if_stored, out_of_turn}
 use Rattle.heap_geometry.specs.declared.need.Need.TheVariants as need
 use Rattle.packed_words.specs.declared.anchor.AnchorState.TheVariants as phase
 use Rattle.word_table.specs.declared.name.WordName.TheVariants as name
 use Rattle.word_table.specs.Sites.{IsAnchorOf}
 use Rattle.pool_model.specs.declared.event.Event.TheVariants.{Free}
-use Rattle.sound_state.specs.Holdings.{owned, pushing}
+use Rattle.errand_steps.specs.tables.Holding.{owned}
+use Rattle.errand_steps.specs.tables.Blocks.{pushing}
 use Rattle.sound_state.proofs.shared.TurnEffects.{IsQuiet}
 use Rattle.sound_state.proofs.shared.CallerLemmas.{KeepsCounts}
 
@@ -72,9 +72,8 @@ pub record Pushes (g : Geometry) (s : State) (l : Lists) (caller : ℕ) (at : Si
   pub after : anchor_for s' at.desc ≡ pushed_anchor out i a
   pub next : (superblock_of g s at.desc).next i ≡ a.avail
   pub elsewhere : (n : WordName) → n ≢ name.Anchor at.desc → s'.word n ≡ s.word n
-  pub below : (n : WordName) → s'.word n < 2 ^ 64
   pub history : s'.history ≡ s.history ++ Free caller (pushed_place at i) ∷ []
-  pub own : KeepsCounts g caller (s.errand caller) e
+  pub own : KeepsCounts (s.errand caller) e
   pub holds_before : holds_of (s.errand caller).point ≡ pushing at i (if_stored stored at.desc)
   pub holds_after : holds_of e.point ≡ pushed_holds out at stored
   pub recalls_after : recalls_of e.point ≡ pushed_recalls out at

@@ -1,13 +1,13 @@
 -- What a won push leaves, and how it changes the pool.
 use Rattle.std.proofs.Common.{ℕ, Bool, true, false, None, ◌≡◌, ◌≢◌, ◌<◌, ◌≤◌, refl, arith, ap, sym, subst, ◌∙◌, ◌==◌, ◌&&◌, not, IsTrue}
 use Rattle.sound_state.proofs.Common.{Geometry, block_count_of, AnchorFields, is_empty, WordName, Site, block_at, pool_of, sound-of, ErrandFields, State, waiting}
-use Rattle.sound_state.proofs.Common.{on_its_way, Status, partly_used, Lists, IsSoundWithoutCounts, IsSoundWith, sum_below, words_sum, callers_sum, Superblock}
-use Rattle.sound_state.proofs.Common.{anchor_for, info_for, superblock_of, is_bound, is_there, away_of, waiting_of, reserved_of, word_reserves, reserved_among}
-use Rattle.sound_state.proofs.Common.{errand_keeps, kept_among, pool_of-push, sound-differ, if_stored, same_status}
+use Rattle.sound_state.proofs.Common.{on_its_way, Status, partly_used, Lists, IsSoundWithoutCounts, IsSoundWith, sum_below, words_sum, callers_sum, Superblock, anchor_for}
+use Rattle.sound_state.proofs.Common.{info_for, superblock_of, is_bound, is_there, away_of, waiting_of, reserved_of, word_reserves, reserved_among, errand_keeps}
+use Rattle.sound_state.proofs.Common.{kept_among, pool_of-push, sound-differ, if_stored, same_status}
 use Rattle.word_table.specs.declared.name.WordName.TheVariants as name
 use Rattle.pool_model.specs.declared.event.Event.TheVariants.{Free}
 use Rattle.pool_model.proofs.PoolLemmas.{block_at-without_other, block_at-without_same}
-use Rattle.sound_state.specs.Holdings.{pushing}
+use Rattle.errand_steps.specs.tables.Blocks.{pushing}
 use Rattle.sound_state.proofs.pushes.PushEffects.{Outcome, stays, unfills, empties, Pushes, pushed_anchor, pushed_holds, pushed_place}
 use Rattle.sound_state.proofs.shared.HasLemmas.{bound-stands}
 use Rattle.sound_state.proofs.shared.SumLemmas.{term-sum, two-terms}
@@ -19,14 +19,10 @@ use Rattle.sound_state.proofs.shared.TallyLemmas.{tally}
 pushed-keeps-partly :
     (status : Status) (d : ℕ) (out : Outcome) (at : Site) (stored : Bool) → same_status partly_used status ≡ false
     → kept_among status d (pushed_holds out at stored).kept ≡ 0
-pushed-keeps-partly status d stays at stored other = refl
-pushed-keeps-partly status d unfills at stored other = grind (arith, other)
-pushed-keeps-partly status d empties at stored other = refl
+pushed-keeps-partly status d out at stored other = grind (arith, other)
 
 pushed-reserves-none : (d : ℕ) (out : Outcome) (at : Site) (stored : Bool) → reserved_among d (pushed_holds out at stored).credits ≡ 0
-pushed-reserves-none d stays at stored = refl
-pushed-reserves-none d unfills at stored = refl
-pushed-reserves-none d empties at stored = refl
+pushed-reserves-none d out at stored = grind (arith)
 
 -- whether a push with this outcome makes its superblock EMPTY
 abbrev pub makes_empty : Outcome → Bool
@@ -35,9 +31,7 @@ makes_empty unfills = false
 makes_empty empties = true
 
 state-after : (out : Outcome) (i : ℕ) (a : AnchorFields) → is_empty a.state ≡ false → is_empty (pushed_anchor out i a).state ≡ makes_empty out
-state-after stays i a stood = stood
-state-after unfills i a stood = refl
-state-after empties i a stood = refl
+state-after out i a stood = grind (arith, stood)
 
 -- a descriptor that is bound isn't away
 bound-out : (b : Bool) (c : Bool) → IsTrue (b && not c) → b ≡ true
@@ -111,34 +105,30 @@ module _
   -- the freed block is gone after the push, and all other places are as they were
   pub pushed-gone : IsSoundWithoutCounts g s → block_at (pushed_place at i) (pool_of s'.history) ≡ None
   pushed-gone sound =
-      ap (λ past. block_at (pushed_place at i) (pool_of past)) h.history
-      ∙ ap (block_at (pushed_place at i)) (pool_of-push s.history (Free caller (pushed_place at i)))
-      ∙ block_at-without_same (pushed_place at i) (pool_of s.history)
-      (sound-differ g (pool_of s.history) (sound-of g s.history (sound.legal)))
+      rw (h.history, pool_of-push s.history (Free caller (pushed_place at i)))
+      (block_at-without_same (pushed_place at i) (pool_of s.history) (sound-differ g (pool_of s.history) (sound-of g s.history sound.legal)))
 
   pub pushed-there : (p : ℕ) → p ≢ pushed_place at i → block_at p (pool_of s'.history) ≡ block_at p (pool_of s.history)
   pushed-there p ne =
-      ap (λ past. block_at p (pool_of past)) h.history
-      ∙ ap (block_at p) (pool_of-push s.history (Free caller (pushed_place at i)))
-      ∙ block_at-without_other (pushed_place at i) p (pool_of s.history) ne
+      rw (h.history, pool_of-push s.history (Free caller (pushed_place at i))) (block_at-without_other (pushed_place at i) p (pool_of s.history) ne)
 
   -- a block that its caller pushes is live before, as one that it owns
   pub pushed-live : (superblock_of g s at.desc).live i ≡ 1
   pushed-live = located-live g s at.desc at.frame at.seat.class h.located i ∙ ap is_there h.owned.block.1
 
-pub pushed-bare :
-    (g : Geometry) (s : State) (l : Lists) (caller : ℕ) (at : Site) (i : ℕ) (stored : Bool) (a : AnchorFields) (e : ErrandFields) (s' : State)
-    → Pushes g s l caller at i stored a empties e s' → IsSoundWith g s l → IsFreeBut (superblock_of g s at.desc) i
-pushed-bare g s l caller at i stored a e s' h old =
-    let b = superblock_of g s at.desc in
-    let all = tally b (old.chained.chained at.desc h.site.desc h.bound) in
-    let live = pushed-live h in
-    let count : b.anchor.count ≡ a.count = ap (λ x. x.count) h.before in
-    let size : b.size ≡ block_count_of at.seat.class = ap block_count_of h.located.class in
-    let has : i < b.size = omega (arith, h.index, size) in
-    let mine : b.live i ≤ sum_below b.size b.live = term-sum b.size b.live i has in
-    record {
-      reserved = omega (arith, all, live, count, size, mine, h.goes.0);
-      waiting = omega (arith, all, live, count, size, mine, h.goes.0);
-      others = λ j lt ne. omega (arith, all, live, count, size, h.goes.0, two-terms b.size b.live i j has lt (λ same. ne (sym same)));
-    }
+module _
+    {g : Geometry} {s : State} {l : Lists} {caller : ℕ} {at : Site} {i : ℕ} {stored : Bool} {a : AnchorFields} {e : ErrandFields} {s' : State} where
+  pub pushed-bare : Pushes g s l caller at i stored a empties e s' → IsSoundWith g s l → IsFreeBut (superblock_of g s at.desc) i
+  pushed-bare h old =
+      let b = superblock_of g s at.desc in
+      let all = tally b (old.chained.chained at.desc h.site.desc h.bound) in
+      let live = pushed-live h in
+      let count : b.anchor.count ≡ a.count = ap (λ x. x.count) h.before in
+      let size : b.size ≡ block_count_of at.seat.class = ap block_count_of h.located.class in
+      let has : i < b.size = omega (arith, h.index, size) in
+      let mine : b.live i ≤ sum_below b.size b.live = term-sum b.size b.live i has in
+      record {
+        reserved = omega (arith, all, live, count, size, mine, h.goes.0);
+        waiting = omega (arith, all, live, count, size, mine, h.goes.0);
+        others = λ j lt ne. omega (arith, all, live, count, size, h.goes.0, two-terms b.size b.live i j has lt (λ same. ne (sym same)));
+      }

@@ -1,10 +1,10 @@
 -- A won push keeps what the callers remember.
 use Rattle.std.proofs.Common.{ℕ, Bool, true, false, ◌≡◌, ◌≢◌, ◌<◌, ◌≤◌, [], ◌∷◌, arith, ap, sym, subst, inl, inr, ◌∙◌, not, IsTrue, All}
-use Rattle.std.proofs.lemmas.Bool.{cases_eq, cases_Bool}
+use Rattle.std.proofs.lemmas.Bool.{cases_eq, cases_Bool, false≢true}
 use Rattle.std.proofs.lemmas.List.Elements.{All-nil, All-cons}
-use Rattle.sound_state.proofs.Common.{Geometry, block_count_of, block_place, AnchorFields, Site, occurs, is_empty, own, ErrandFields, State, on_its_way, holds_of}
-use Rattle.sound_state.proofs.Common.{Lists, IsLocated, IsSo, IsSoundWith, sum_below, callers_sum, anchor_for, superblock_of, free_chain, reserved_among}
-use Rattle.sound_state.proofs.Common.{errand_reserves, errand_away, is_bound, away_of, errand_keeps, live_at, is_there, occurs-more, IsEmptied, IsRemembered}
+use Rattle.sound_state.proofs.Common.{Geometry, block_count_of, block_place, AnchorFields, Site, occurs, is_empty, own, ErrandFields, State, on_its_way, holds_of, Lists}
+use Rattle.sound_state.proofs.Common.{IsLocated, IsSo, IsSoundWith, sum_below, callers_sum, anchor_for, superblock_of, free_chain, reserved_among, errand_reserves}
+use Rattle.sound_state.proofs.Common.{errand_away, is_bound, away_of, errand_keeps, live_at, is_there, occurs-more, IsEmptied, IsRemembered}
 use Rattle.heap_geometry.specs.declared.need.Need.TheVariants as need
 use Rattle.pool_model.specs.declared.event.Event.TheVariants.{Free}
 use Rattle.sound_state.proofs.shared.EventFacts.{told-own}
@@ -21,57 +21,55 @@ use Rattle.sound_state.proofs.pushes.PushTurns.{pushed-tag}
 use Rattle.sound_state.proofs.shared.SumLemmas.{sum-least, term-sum}
 use Rattle.sound_state.proofs.shared.WaitsAlone.{waits-alone}
 
--- no other caller has a block of a superblock reserved that a push makes EMPTY, nor owns one
-none-reserved :
-    (g : Geometry) (s : State) (l : Lists) (caller : ℕ) (at : Site) (i : ℕ) (stored : Bool) (a : AnchorFields) (out : Outcome) (e : ErrandFields)
-    (s' : State) → Pushes g s l caller at i stored a out e s' → IsSoundWith g s l → (j : ℕ) → j < g.callers → makes_empty out ≡ true
-    → reserved_among at.desc (holds_of (s.errand j).point).credits ≡ 0
-unfolding callers_sum
-none-reserved g s l caller at i stored a stays e s' h old j has is = let bad : false ≡ true = is in absurd (cc)
-none-reserved g s l caller at i stored a unfills e s' h old j has is = let bad : false ≡ true = is in absurd (cc)
-none-reserved g s l caller at i stored a empties e s' h old j has is =
-    let bare = (pushed-bare g s l caller at i stored a e s' h old).reserved in
-    let most : errand_reserves at.desc (s.errand j) ≤ callers_sum g (errand_reserves at.desc) s.errand =
-    term-sum g.callers (λ k. errand_reserves at.desc (s.errand k)) j has in
-    omega (arith, bare, most)
+module _
+    {g : Geometry} {s : State} {l : Lists} {caller : ℕ} {at : Site} {i : ℕ} {stored : Bool} {a : AnchorFields} {e : ErrandFields} {s' : State} where
+  -- no other caller has a block of a superblock reserved that a push makes EMPTY, nor owns one
+  none-reserved :
+      (out : Outcome) → Pushes g s l caller at i stored a out e s' → IsSoundWith g s l → (j : ℕ) → j < g.callers → makes_empty out ≡ true
+      → reserved_among at.desc (holds_of (s.errand j).point).credits ≡ 0
+  unfolding callers_sum
+  none-reserved stays h old j has is = absurd (false≢true is)
+  none-reserved unfills h old j has is = absurd (false≢true is)
+  none-reserved empties h old j has is =
+      let bare = (pushed-bare h old).reserved in
+      let most : errand_reserves at.desc (s.errand j) ≤ callers_sum g (errand_reserves at.desc) s.errand =
+      term-sum g.callers (λ k. errand_reserves at.desc (s.errand k)) j has in
+      omega (arith, bare, most)
 
-none-owned :
-    (g : Geometry) (s : State) (l : Lists) (caller : ℕ) (at : Site) (i : ℕ) (stored : Bool) (a : AnchorFields) (out : Outcome) (e : ErrandFields)
-    (s' : State) → Pushes g s l caller at i stored a out e s' → IsSoundWith g s l → (j : ℕ) → j ≢ caller → makes_empty out ≡ true
-    → OwnsNone g s l j at.desc
-none-owned g s l caller at i stored a stays e s' h old j ne is site k fits owned so same = let bad : false ≡ true = is in cc
-none-owned g s l caller at i stored a unfills e s' h old j ne is site k fits owned so same = let bad : false ≡ true = is in cc
-none-owned g s l caller at i stored a empties e s' h old j ne is site k fits owned so same =
-    let its : IsLocated s at.desc site.frame site.seat.class = subst (λ x. IsLocated s x site.frame site.seat.class) same so.1 in
-    let frames : site.frame ≡ at.frame = sym its.frame ∙ h.located.frame in
-    let classes : site.seat.class ≡ at.seat.class = sym its.class ∙ h.located.class in
-    let here : block_place site.frame site.seat.class k ≡ pushed_place at k =
-    ap (λ f. block_place f site.seat.class k) frames ∙ ap (λ c. block_place at.frame c k) classes in
-    let apart : k ≢ i =
-    λ one. owned-elsewhere h j (block_place site.frame site.seat.class k) (need.Small site.seat.class) ne owned
-    (here ∙ ap (pushed_place at) one) in
-    let there : (superblock_of g s at.desc).live k ≡ 1 =
-    was-place h k ∙ ap (live_at s) (sym here) ∙ ap is_there owned.block.1 in
-    let none = (pushed-bare g s l caller at i stored a e s' h old).others k (subst (λ c. k < block_count_of c) (sym its.class) fits.index) apart in
-    let bad : ⊥ = omega (arith, there, none) in bad
+  none-owned :
+      (out : Outcome) → Pushes g s l caller at i stored a out e s' → IsSoundWith g s l → (j : ℕ) → j ≢ caller → makes_empty out ≡ true
+      → OwnsNone g s l j at.desc
+  none-owned stays h old j ne is site k fits owned so same = false≢true is
+  none-owned unfills h old j ne is site k fits owned so same = false≢true is
+  none-owned empties h old j ne is site k fits owned so same =
+      let its : IsLocated s at.desc site.frame site.seat.class = subst (λ x. IsLocated s x site.frame site.seat.class) same so.1 in
+      let frames : site.frame ≡ at.frame = sym its.frame ∙ h.located.frame in
+      let classes : site.seat.class ≡ at.seat.class = sym its.class ∙ h.located.class in
+      let here : block_place site.frame site.seat.class k ≡ pushed_place at k =
+      ap (λ f. block_place f site.seat.class k) frames ∙ ap (λ c. block_place at.frame c k) classes in
+      let apart : k ≢ i =
+      λ one. owned-elsewhere h j (block_place site.frame site.seat.class k) (need.Small site.seat.class) ne owned
+      (here ∙ ap (pushed_place at) one) in
+      let there : (superblock_of g s at.desc).live k ≡ 1 =
+      was-place h k ∙ ap (live_at s) (sym here) ∙ ap is_there owned.block.1 in
+      let none = (pushed-bare h old).others k (subst (λ c. k < block_count_of c) (sym its.class) fits.index) apart in
+      let bad : ⊥ = omega (arith, there, none) in bad
 
--- what the caller remembers after its push is so: the superblock that it made EMPTY is
-own-recalls :
-    (g : Geometry) (s : State) (l : Lists) (caller : ℕ) (at : Site) (i : ℕ) (stored : Bool) (a : AnchorFields) (out : Outcome) (e : ErrandFields)
-    (s' : State) → Pushes g s l caller at i stored a out e s' → All (IsSo g s' l caller) (pushed_recalls out at)
-unfolding callers_sum
-own-recalls g s l caller at i stored a stays e s' h = All-nil (IsSo g s' l caller)
-own-recalls g s l caller at i stored a unfills e s' h = All-nil (IsSo g s' l caller)
-own-recalls g s l caller at i stored a empties e s' h =
-    let none : away_of g s l at.desc ≡ 0 = bound-away g s l at.desc h.bound in
-    let least : callers_sum g (errand_keeps on_its_way at.desc) s.errand ≤ callers_sum g (errand_away at.desc) s.errand =
-    sum-least g.callers (λ k. errand_keeps on_its_way at.desc (s.errand k)) (λ k. errand_away at.desc (s.errand k)) (λ k lt. omega arith) in
-    let is : IsEmptied g s' l at.desc = record {
-      state = ap (λ x. x.state) h.after;
-      unavailable = omega (arith, none);
-      standing = omega (arith, pushed-ways h at.desc, none, least);
-    } in
-    All-cons (IsSo g s' l caller) _ [] is (All-nil (IsSo g s' l caller))
+  -- what the caller remembers after its push is so: the superblock that it made EMPTY is
+  own-recalls : (out : Outcome) → Pushes g s l caller at i stored a out e s' → All (IsSo g s' l caller) (pushed_recalls out at)
+  unfolding callers_sum
+  own-recalls stays h = All-nil (IsSo g s' l caller)
+  own-recalls unfills h = All-nil (IsSo g s' l caller)
+  own-recalls empties h =
+      let none : away_of g s l at.desc ≡ 0 = bound-away g s l at.desc h.bound in
+      let least : callers_sum g (errand_keeps on_its_way at.desc) s.errand ≤ callers_sum g (errand_away at.desc) s.errand =
+      sum-least g.callers (λ k. errand_keeps on_its_way at.desc (s.errand k)) (λ k. errand_away at.desc (s.errand k)) (λ k lt. omega arith) in
+      let is : IsEmptied g s' l at.desc = record {
+        state = ap (λ x. x.state) h.after;
+        unavailable = omega (arith, none);
+        standing = omega (arith, pushed-ways h at.desc, none, least);
+      } in
+      All-cons (IsSo g s' l caller) _ [] is (All-nil (IsSo g s' l caller))
 
 -- a push that was won, seen by the callers that remember
 module _
@@ -146,10 +144,10 @@ module _
   pub pushed-remembered : IsSoundWith g s l → IsRemembered g s' l
   pushed-remembered old =
       remembered-left g s l caller e s' h.moves
-      (subst (All (IsSo g s' l caller)) (sym h.recalls_after) (own-recalls g s l caller at i stored a out e s' h))
+      (subst (All (IsSo g s' l caller)) (sym h.recalls_after) (own-recalls out h))
       (λ j has ne. pushed-leaves j ne)
       (λ j has ne k d lt.
       pushed-left _ (spared-point at.desc (s.errand j).point (pushed-installed old j has) k d lt)
       (λ is.
-      unbound-recalls g s l j at.desc (none-owned g s l caller at i stored a out e s' h old j ne is) old has
-      (none-reserved g s l caller at i stored a out e s' h old j has is) k d lt)) old
+      unbound-recalls g s l j at.desc (none-owned out h old j ne is) old has
+      (none-reserved out h old j has is) k d lt)) old

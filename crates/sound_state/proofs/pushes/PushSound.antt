@@ -2,7 +2,7 @@
 use Rattle.std.proofs.Common.{ℕ, Bool, ◌≡◌, inl, inr}
 use Rattle.std.proofs.lemmas.Bool.{cases_eq}
 use Rattle.sound_state.proofs.Common.{Geometry, AnchorFields, anchor_word, Site, Continuation, Block, ErrandFields, State, Lists, IsSoundWithoutCounts, IsSoundWith}
-use Rattle.sound_state.proofs.Common.{IsOwnErrand}
+use Rattle.sound_state.proofs.Common.{IsFormed}
 use Rattle.word_table.specs.declared.name.WordName.TheVariants as name
 use Rattle.superblock_parts.specs.declared.point.BlockPoint.TheVariants as block
 use Rattle.sound_state.proofs.pushes.PushChains.{pushed-chained, pushed-framed}
@@ -13,17 +13,15 @@ use Rattle.sound_state.proofs.pushes.PushSteps.{push-pushes}
 use Rattle.sound_state.proofs.pushes.PushTies.{pushed-tied, pushed-legal}
 use Rattle.sound_state.proofs.pushes.PushTurns.{pushed-listed, pushed-guarded, pushed-turned}
 use Rattle.sound_state.proofs.quiet.QuietExchanges.{push_block-lost}
-use Rattle.sound_state.proofs.shared.KeepsSound.{KeepsSound, KeepsSoundWhere}
-use Rattle.sound_state.proofs.shared.CallerLemmas.{each-caller}
+use Rattle.sound_state.proofs.shared.KeepsSound.{KeepsSound, KeepsSoundWhere, stepped-sound}
 
 module _
     {g : Geometry} {s : State} {l : Lists} {caller : ℕ} {at : Site} {i : ℕ} {stored : Bool} {a : AnchorFields} {out : Outcome} {e : ErrandFields}
     {s' : State} (h : Pushes g s l caller at i stored a out e s') where
   -- the state after a won push is sound
-  pub pushed-with : IsSoundWithoutCounts g s → IsSoundWith g s l → IsSoundWith g s' l
-  pushed-with sound old = record {
-    words = h.below;
-    errands = each-caller g (λ j e. IsOwnErrand g j e) s.errand caller e s'.errand h.moves h.own.rule old.errands;
+  pub pushed-with : IsSoundWithoutCounts g s → IsSoundWith g s l → IsFormed g s' → IsSoundWith g s' l
+  pushed-with sound old formed = record {
+    formed = formed;
     listed = pushed-listed h old;
     kept = pushed-kept h old;
     chained = pushed-chained h sound old;
@@ -42,11 +40,7 @@ push_won-sound at i a stored heap o g s caller s' sound has here word step =
     let l : Lists = sound.parts.0 in
     let old : IsSoundWith g s l = sound.parts.1 in
     let push = push-pushes g s l caller s' at i a stored heap o old has here word step in
-    record {
-      checked = sound.checked;
-      legal = pushed-legal push.2 sound;
-      parts = (l, pushed-with push.2 sound old);
-    }
+    stepped-sound g s caller s' l sound has step (pushed-legal push.2 sound) (pushed-with push.2 sound old)
 
 -- a push keeps the state sound, won or not
 pub push_block-sound :

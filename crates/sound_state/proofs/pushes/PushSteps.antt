@@ -3,10 +3,10 @@ use Rattle.std.proofs.Common.{ℕ, Bool, true, false, ◌≡◌, ◌≢◌, ◌<
 use Rattle.std.proofs.Common.{ne_eqb, mod-eq_of_lt}
 use Rattle.std.proofs.lemmas.Bool.{cases_eq}
 use Rattle.std.proofs.lemmas.List.Elements.{All-head}
-use Rattle.sound_state.proofs.Common.{Geometry, block_count_of, AnchorFields, anchor_of, anchor_word, link_of, is_empty, Site, link_in, Frames, Continuation, Point}
-use Rattle.sound_state.proofs.Common.{Idle, Block, Stack, Desc, Partial, ErrandFields, event_of, next_of, plan_point_of, State, Step, holds_of, Lists, IsOwned}
-use Rattle.sound_state.proofs.Common.{recalls_of, IsSoundWith, IsChained, anchor_for, away_of, info_for, superblock_of, IsAnchor, AVAIL_BITS, COUNT_BITS}
-use Rattle.sound_state.proofs.Common.{anchor_of-anchor_word, block_count_of-most, is_last, Cas}
+use Rattle.sound_state.proofs.Common.{Geometry, block_count_of, AnchorFields, anchor_of, anchor_word, link_of, is_empty, Site, link_in, Frames, Continuation, Point, Idle}
+use Rattle.sound_state.proofs.Common.{Block, Stack, Desc, Partial, ErrandFields, event_of, next_of, plan_point_of, State, Step, holds_of, Lists, IsOwned, recalls_of}
+use Rattle.sound_state.proofs.Common.{IsSoundWith, IsChained, anchor_for, away_of, info_for, superblock_of, IsAnchor, AVAIL_BITS, COUNT_BITS, anchor_of-anchor_word}
+use Rattle.sound_state.proofs.Common.{block_count_of-most, is_last, Cas}
 use Rattle.heap_geometry.specs.declared.need.Need.TheVariants as need
 use Rattle.packed_words.specs.declared.anchor.AnchorState.{AnchorState as Phase}
 use Rattle.packed_words.specs.declared.anchor.AnchorState.TheVariants as phase
@@ -25,9 +25,10 @@ use Rattle.sound_state.proofs.shared.HasLemmas.{bound-stands}
 use Rattle.sound_state.proofs.shared.PointLemmas.{fits-at, frees-at, the-free, recalled-at}
 use Rattle.sound_state.proofs.pushes.PushEffects.{Outcome, stays, unfills, empties, IsOutcome, Pushes, FreeStands, pushed_anchor, pushed_holds, pushed_recalls}
 use Rattle.sound_state.proofs.pushes.PushEffects.{pushed_place}
-use Rattle.sound_state.proofs.shared.StepLemmas.{at_point}
+use Rattle.sound_state.proofs.shared.StepLemmas.{at_point, keeps-counts}
 use Rattle.sound_state.proofs.shared.CreditLemmas.{won_with}
 use Rattle.sound_state.proofs.shared.WonEffects.{LeadsTo, AnchorWon, anchor-won}
+use Rattle.sound_state.proofs.shared.WrittenWords.{pushed-fits}
 
 -- the point to which a won push leads
 abbrev ended : Bool → Site → Point
@@ -116,14 +117,6 @@ push-stands :
     (at : Site) (i : ℕ) (a : AnchorFields) (stored : Bool) (heap : ℕ) (o : Continuation) → FreeStands (Block (block.PushBlock at i a stored heap) o)
 push-stands at i a stored heap o = grind (arith)
 
--- the anchor after a push fits its word
-pushed-fits :
-    (out : Outcome) (class i : ℕ) (stored : Bool) (a : AnchorFields) → IsAnchor a → i < 2 ^ AVAIL_BITS → IsOutcome out class stored a
-    → IsAnchor (pushed_anchor out i a)
-pushed-fits stays class i stored a fits avail is = record { avail = avail; count = omega (arith, is.0, avail-room class); tag = fits.tag }
-pushed-fits unfills class i stored a fits avail is = record { avail = avail; count = omega (arith, is.0, avail-room class); tag = fits.tag }
-pushed-fits empties class i stored a fits avail is = record { avail = avail; count = fits.count; tag = fits.tag }
-
 -- the link that a small word says is the word
 small-link : (w : ℕ) → w < 2 ^ AVAIL_BITS → link_of w ≡ w
 small-link w lt = omega (arith, lt)
@@ -156,9 +149,10 @@ push-pushes g s l caller s' at i a stored heap o is has here word step =
     let out : Outcome = to.0 in
     let q : Point = pushed_point out at stored heap in
     let free : o ≡ continuation.Free = the-free o fit.goes in
-    let fits_new : IsAnchor (pushed_anchor out i a) = pushed-fits out at.seat.class i stored a fit.point.anchor.fits avail to.1.is in
-    let won : AnchorWon g s caller p at.desc a (pushed_anchor out i a) q s' =
-    anchor-won g s l caller s' p at.desc a (pushed_anchor out i a) q is has here word fit.point.anchor.fits fits_new
+    let fits_new : IsAnchor (pushed_anchor out i a) =
+    subst IsAnchor to.1.anchor (pushed-fits at.seat.class i a fit.point.anchor.fits) in
+    let won : AnchorWon s caller p at.desc a (pushed_anchor out i a) q s' =
+    anchor-won s caller s' p at.desc a (pushed_anchor out i a) q here word fit.point.anchor.fits fits_new
     (ap (λ x. Cas (name.Anchor at.desc) (anchor_word a) (anchor_word x)) to.1.anchor)
     (subst (λ r. LeadsTo (leave_block (points.after_push at a stored heap) r) q) (sym free) to.1.next) step in (
       out,
@@ -182,9 +176,8 @@ push-pushes g s l caller s' at i a stored heap o is has here word step =
             ∙ ap (λ c. link_in s.word at.frame c i) so_bound.1.class ∙ ap link_of so_link.1
             ∙ small-link a.avail fit.point.anchor.fits.avail;
         elsewhere = won.elsewhere;
-        below = won.below;
         history = won.step.history;
-        own = record { rule = won.step.rule; retired = refl; turns = refl; lost = won.step.lost; cleared = won.step.cleared };
+        own = keeps-counts (s.errand caller) p (won_with (anchor_word a)) q here refl refl;
         holds_before = ap holds_of here;
         holds_after = pushed-point-holds out at stored heap;
         recalls_after = pushed-point-recalls out at stored heap;

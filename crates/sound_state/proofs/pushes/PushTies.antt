@@ -1,53 +1,49 @@
 -- After a won push the words still show the pool of the events, and the events are legal.
-use Rattle.std.proofs.Common.{ℕ, Bool, true, ◌≡◌, ◌≢◌, ◌<◌, [], refl, arith, ap, sym, subst, inl, inr, ◌∙◌, Any, IsTrue}
+use Rattle.std.proofs.Common.{ℕ, Bool, true, ◌≡◌, ◌≢◌, ◌<◌, [], arith, ap, sym, subst, inl, inr, ◌∙◌, Any, IsTrue}
 use Rattle.std.proofs.lemmas.Bool.{cases_eq}
 use Rattle.sound_state.proofs.Common.{Geometry, Need, Small, block_count_of, frame_of, AnchorFields, Site, IsLegalWithoutCounts, ErrandFields, State, Holding, Lists}
 use Rattle.sound_state.proofs.Common.{IsLocated, IsOwned, IsSoundWithoutCounts, IsSoundWith, superblock_of, is_bound, is_there, live_at, IsTied, IsLive, Caller}
 use Rattle.sound_state.proofs.Common.{IsLegalEventWithoutCounts, EachAfter-push, Freed}
-use Rattle.word_table.specs.declared.name.WordName.TheVariants as name
 use Rattle.pool_model.specs.declared.event.Event.TheVariants.{Free as Frees}
 use Rattle.pool_model.specs.Pool.{Block}
 use Rattle.sound_state.proofs.pushes.PushChains.{was-place}
 use Rattle.sound_state.proofs.pushes.PushEffects.{Outcome, stays, unfills, empties, Pushes, pushed_holds, pushed_place}
-use Rattle.sound_state.proofs.pushes.PushFacts.{pushed-info, pushed-bound, pushed-bound-here, pushed-gone, pushed-there, pushed-bare}
+use Rattle.sound_state.proofs.pushes.PushFacts.{pushed-info, pushed-bound, pushed-bound-here, pushed-gone, pushed-there, pushed-bare, pushed-holds, pushed-write}
 use Rattle.sound_state.proofs.shared.ListFacts.{any-none, any-one}
-use Rattle.sound_state.proofs.shared.TieLemmas.{bare-owns, located-stays, not-live, one-live, owned-stays, small-but, small-lies, Excepts}
+use Rattle.sound_state.proofs.shared.TieLemmas.{bare-owns, not-live, one-live, owned-stays, small-but, small-lies, Excepts, block-stays}
+use Rattle.sound_state.proofs.shared.SuperblockEffects.{anchor-ties}
+use Rattle.sound_state.proofs.shared.HoldingEffects.{bare-after}
 
--- no other block of a superblock that a push makes EMPTY is live
-pub no-other-live :
-    (g : Geometry) (s : State) (l : Lists) (caller : ℕ) (at : Site) (i : ℕ) (stored : Bool) (a : AnchorFields) (e : ErrandFields) (s' : State)
-    → Pushes g s l caller at i stored a empties e s' → IsSoundWithoutCounts g s → IsSoundWith g s l → (place class : ℕ) (b : Block) → IsLive s place b
-    → b.need ≡ Small class → IsLocated s at.desc (frame_of place) class → place ≢ pushed_place at i → ⊥
-no-other-live g s l caller at i stored a e s' h sound old place class b live of located differ =
-    let lies =
-    small-lies g s place class at.frame at.seat.class b sound live of (sym located.frame ∙ h.located.frame) (sym located.class ∙ h.located.class) in
-    let apart : lies.0 ≢ i = λ is. differ (lies.2 ∙ ap (pushed_place at) is) in
-    let within : lies.0 < (superblock_of g s at.desc).size = subst (λ c. lies.0 < block_count_of c) (sym h.located.class) lies.1 in
-    let there : (superblock_of g s at.desc).live lies.0 ≡ 1 =
-    was-place h lies.0 ∙ ap (live_at s) (sym lies.2) ∙ ap is_there live in
-    let none = (pushed-bare g s l caller at i stored a e s' h old).others lies.0 within apart in
-    let bad : ⊥ = omega (arith, there, none) in bad
+module _
+    {g : Geometry} {s : State} {l : Lists} {caller : ℕ} {at : Site} {i : ℕ} {stored : Bool} {a : AnchorFields} {e : ErrandFields} {s' : State} where
+  -- no other block of a superblock that a push makes EMPTY is live
+  no-other-live :
+      Pushes g s l caller at i stored a empties e s' → IsSoundWithoutCounts g s → IsSoundWith g s l → (place class : ℕ) (b : Block) → IsLive s place b
+      → b.need ≡ Small class → IsLocated s at.desc (frame_of place) class → place ≢ pushed_place at i → ⊥
+  no-other-live h sound old place class b live of located differ =
+      let lies =
+      small-lies g s place class at.frame at.seat.class b sound live of (sym located.frame ∙ h.located.frame) (sym located.class ∙ h.located.class) in
+      let apart : lies.0 ≢ i = λ is. differ (lies.2 ∙ ap (pushed_place at) is) in
+      let within : lies.0 < (superblock_of g s at.desc).size = subst (λ c. lies.0 < block_count_of c) (sym h.located.class) lies.1 in
+      let there : (superblock_of g s at.desc).live lies.0 ≡ 1 =
+      was-place h lies.0 ∙ ap (live_at s) (sym lies.2) ∙ ap is_there live in
+      let none = (pushed-bare h old).others lies.0 within apart in
+      let bad : ⊥ = omega (arith, there, none) in bad
 
--- the superblock of a live block is bound after a push
-its-bound :
-    (g : Geometry) (s : State) (l : Lists) (caller : ℕ) (at : Site) (i : ℕ) (stored : Bool) (a : AnchorFields) (out : Outcome) (e : ErrandFields)
-    (s' : State) → Pushes g s l caller at i stored a out e s' → IsSoundWithoutCounts g s → IsSoundWith g s l → (place class : ℕ) (b : Block) → IsLive s place b
-    → b.need ≡ Small class → IsLocated s at.desc (frame_of place) class → place ≢ pushed_place at i → IsTrue (is_bound g s' l at.desc)
-its-bound g s l caller at i stored a stays e s' h sound old place class b live of located ne = pushed-bound-here h
-its-bound g s l caller at i stored a unfills e s' h sound old place class b live of located ne = pushed-bound-here h
-its-bound g s l caller at i stored a empties e s' h sound old place class b live of located ne =
-    absurd (no-other-live g s l caller at i stored a e s' h sound old place class b live of located ne)
+  -- the superblock of a live block is bound after a push
+  its-bound :
+      (out : Outcome) → Pushes g s l caller at i stored a out e s' → IsSoundWithoutCounts g s → IsSoundWith g s l → (place class : ℕ) (b : Block)
+      → IsLive s place b → b.need ≡ Small class → IsLocated s at.desc (frame_of place) class → place ≢ pushed_place at i → IsTrue (is_bound g s' l at.desc)
+  its-bound stays h sound old place class b live of located ne = pushed-bound-here h
+  its-bound unfills h sound old place class b live of located ne = pushed-bound-here h
+  its-bound empties h sound old place class b live of located ne = absurd (no-other-live h sound old place class b live of located ne)
 
 -- a caller hands out and frees nothing after its push
 pushed-hands : (out : Outcome) (at : Site) (stored : Bool) → (pushed_holds out at stored).hands ≡ []
-pushed-hands stays at stored = refl
-pushed-hands unfills at stored = refl
-pushed-hands empties at stored = refl
+pushed-hands out at stored = grind (arith)
 
 pushed-frees : (out : Outcome) (at : Site) (stored : Bool) → (pushed_holds out at stored).frees ≡ []
-pushed-frees stays at stored = refl
-pushed-frees unfills at stored = refl
-pushed-frees empties at stored = refl
+pushed-frees out at stored = grind (arith)
 
 module _
     {g : Geometry} {s : State} {l : Lists} {caller : ℕ} {at : Site} {i : ℕ} {stored : Bool} {a : AnchorFields} {out : Outcome} {e : ErrandFields}
@@ -94,20 +90,11 @@ module _
   pushed-tied sound old =
       let gone = λ (place : ℕ) (b : Block) (same : place ≡ pushed_place at i) (live : IsLive s' place b).
       not-live s' (pushed_place at i) place b (pushed-gone h sound) same live in
-      let owns =
-      bare-owns s' caller e.point
-      (record {
-        hands = ap (λ (o : Holding). o.hands) h.holds_after ∙ pushed-hands out at stored;
-        frees = ap (λ (o : Holding). o.frees) h.holds_after ∙ pushed-frees out at stored;
-      }) in
+      let owns = bare-owns s' caller e.point (bare-after (pushed-holds h) (pushed-hands out at stored) (pushed-frees out at stored)) in
       small-but g s l l caller at.seat.class (λ place. place ≡ pushed_place at i) e s'
       (record {
         moves = h.moves;
-        words = record {
-          arena = λ place. h.elsewhere (name.Arena place) (λ same. cc);
-          units = h.elsewhere name.Units (λ same. cc);
-          shelf = λ k. h.elsewhere (name.Shelf k) (λ same. cc);
-        };
+        words = anchor-ties (pushed-write h);
         either = λ place. cases_eq place (pushed_place at i);
         there = pushed-there h;
         before = λ place b same live.
@@ -115,18 +102,15 @@ module _
         after = λ place b same live. absurd (gone place b same live);
         fresh = λ place k v b same live of. gone place b same live;
         small = λ place c b same live of. absurd (gone place b same live);
-        bound = λ place c b d ne live of its. record {
-          exists = its.exists;
-          bound =
-              elim (cases_eq d at.desc) [
-                | inl same ↦
-                    subst (λ k. IsTrue (is_bound g s' l k)) (sym same)
-                    (its-bound g s l caller at i stored a out e s' h sound old place c b live of
-                    (subst (λ k. IsLocated s k (frame_of place) c) same its.located) ne)
-                | inr differ ↦ subst IsTrue (sym (pushed-bound h d differ)) its.bound
-              ];
-          located = located-stays s s' d (frame_of place) c (pushed-info h d) its.located;
-        };
+        bound = λ place c b d ne live of its.
+            block-stays g s l s' l place c d (pushed-info h d)
+            (λ was.
+            elim (cases_eq d at.desc) [
+              | inl same ↦
+                  subst (λ k. IsTrue (is_bound g s' l k)) (sym same)
+                  (its-bound out h sound old place c b live of (subst (λ k. IsLocated s k (frame_of place) c) same its.located) ne)
+              | inr differ ↦ subst IsTrue (sym (pushed-bound h d differ)) was
+            ]) its;
         excepts = λ place ne x. inl (pushed-excepts place ne x);
         hands = owns.0;
         frees = owns.1;

@@ -1,41 +1,29 @@
 -- A won push keeps the lists, the guards, and the bounds of tags and turns.
-use Rattle.std.proofs.Common.{ℕ, Bool, true, false, ◌≡◌, ◌<◌, ◌≤◌, ◌+◌, refl, arith, ap, sym, subst, inl, inr, ◌∙◌, ◌&&◌, ◌==◌}
+use Rattle.std.proofs.Common.{ℕ, Bool, ◌≡◌, ◌<◌, ◌≤◌, ◌+◌, refl, arith, ap, sym, subst, inl, inr, ◌∙◌, ◌&&◌, ◌==◌}
 use Rattle.std.proofs.lemmas.Bool.{cases_eq}
 use Rattle.sound_state.proofs.Common.{Geometry, frame_of, frame_of-block_place, AnchorFields, is_empty, Site, descriptor_count, ErrandFields, State, IsGuarded, IsGuard}
 use Rattle.sound_state.proofs.Common.{IsHazard, holds_of, Lists, IsListed, IsSoundWith, sum_below, anchor_for, away_of, IsTurned, emptied_out, if_stored}
 use Rattle.word_table.specs.declared.name.WordName.TheVariants as name
-use Rattle.sound_state.proofs.pushes.PushEffects.{Outcome, stays, unfills, empties, IsOutcome, Pushes, pushed_anchor, pushed_holds, pushed_place}
+use Rattle.sound_state.proofs.pushes.PushEffects.{Outcome, IsOutcome, Pushes, pushed_anchor, pushed_holds, pushed_place}
 use Rattle.sound_state.proofs.pushes.PushFacts.{pushed-anchor, pushed-away}
 use Rattle.sound_state.proofs.shared.GuardEffects.{guarded-after}
 use Rattle.sound_state.proofs.shared.ListEffects.{IsListWord, listed-kept}
 use Rattle.sound_state.proofs.shared.SumLemmas.{sum-change}
-use Rattle.sound_state.proofs.shared.TurnEffects.{small-free-event, head-tag, no-turn-weighs, one_if-most, turned-after}
+use Rattle.sound_state.proofs.shared.TurnEffects.{small-free-event, head-tag, no-turn-weighs, one_if-most, turned-after, counts-kept}
 
 -- the caller's hazard word is as it was after its push, and guards what it did
 hazard-goes :
     (out : Outcome) (at : Site) (stored : Bool) (a : AnchorFields) (w : ℕ) → IsOutcome out at.seat.class stored a
     → IsHazard (if_stored stored at.desc) w → IsHazard (pushed_holds out at stored).hazard w
-hazard-goes stays at true a w is word = tt
-hazard-goes stays at false a w is word = word
-hazard-goes unfills at true a w is word = tt
-hazard-goes unfills at false a w is word = word
-hazard-goes empties at true a w is word = word
-hazard-goes empties at false a w is word = let bad : false ≡ true = is.1 in cc
+hazard-goes out at stored a w is word = grind (arith, is, word)
 
 guard-goes :
     (out : Outcome) (at : Site) (stored : Bool) (a : AnchorFields) → IsOutcome out at.seat.class stored a
     → IsGuard (pushed_holds out at stored).hazard → IsGuard (if_stored stored at.desc)
-guard-goes stays at true a is guard = tt
-guard-goes stays at false a is guard = guard
-guard-goes unfills at true a is guard = tt
-guard-goes unfills at false a is guard = guard
-guard-goes empties at true a is guard = tt
-guard-goes empties at false a is guard = let bad : false ≡ true = is.1 in cc
+guard-goes out at stored a is guard = grind (arith, is, guard)
 
 same-tag : (out : Outcome) (i : ℕ) (a : AnchorFields) → (pushed_anchor out i a).tag ≡ a.tag
-same-tag stays i a = refl
-same-tag unfills i a = refl
-same-tag empties i a = refl
+same-tag out i a = grind (arith)
 
 module _
     {g : Geometry} {s : State} {l : Lists} {caller : ℕ} {at : Site} {i : ℕ} {stored : Bool} {a : AnchorFields} {out : Outcome} {e : ErrandFields}
@@ -93,10 +81,7 @@ module _
         in_heap = h.in_heap;
         moves = h.moves;
         events = events;
-        own_turns = omega (arith, turned.own_turns caller h.in_heap, events.gives, after.under_way, h.own.turns);
-        own_lost =
-            omega (arith, turned.own_lost caller h.in_heap, events.gives, events.refuses caller, before.unanswered, after.discards, h.own.turns, h.own.lost);
-        own_answers = omega (arith, turned.own_answers caller h.in_heap, events.gives, events.refuses caller, after.unanswered, h.own.turns);
+        counts = counts-kept turned h.in_heap events h.own before after refl (omega arith);
         anchor_tags = λ d has. omega (arith, pushed-tag d);
         frame_turns = omega (arith, head-tag (h.elsewhere name.FrameHead (λ same. cc)), after.unframed, h.own.turns);
         emptied = omega (arith, pushed-emptied, h.own.cleared);

@@ -1,16 +1,13 @@
 -- A credit is taken, and reserved blocks are offered.
-use Rattle.std.proofs.Common.{ℕ, zero, suc, false, Some, ◌≡◌, ◌≢◌, ◌<◌, ◌+◌, ◌-◌, [], refl, arith, ap, sym, subst, inl, inr, ◌∙◌, eq-eqb, ne_eqb, ◌==◌, All, IsTrue}
-use Rattle.std.proofs.Common.{if◌then◌else◌}
-use Rattle.std.proofs.lemmas.Bool.{cond-true, cond-false, cases_eq}
+use Rattle.std.proofs.Common.{ℕ, zero, suc, false, Some, ◌≡◌, ◌≢◌, ◌<◌, ◌+◌, ◌-◌, [], refl, arith, ap, sym, subst, ◌∙◌, eq-eqb, ne_eqb, ◌==◌, All, IsTrue, if◌then◌else◌}
+use Rattle.std.proofs.lemmas.Bool.{cond-true, cond-false}
 use Rattle.std.proofs.lemmas.List.Elements.{All-nil, All-cons, All-head}
-use Rattle.sound_state.proofs.Common.{Geometry, IsChecked, Null, Held, active_word, active_of, Site, descriptor_count, SeatFields, active_name, Exists, Credit}
-use Rattle.sound_state.proofs.Common.{LastCredit, Continuation, Point, Block, At, event_of, next_of, plan_point_of, State, Step, Kept, holds_of, reserving, IsKeptAs}
-use Rattle.sound_state.proofs.Common.{word_keeps, Lists, IsSo, recalls_of, IsSoundWithoutCounts, IsSoundWith, is_bound, IsActiveWord, active-exact, Cas, heap_of}
-use Rattle.sound_state.proofs.Common.{IsActive}
+use Rattle.sound_state.proofs.Common.{Geometry, IsChecked, Null, Held, active_word, active_of, Site, descriptor_count, SeatFields, active_name, Exists, Credit, LastCredit}
+use Rattle.sound_state.proofs.Common.{Continuation, Point, Block, At, event_of, next_of, plan_point_of, State, Step, Kept, holds_of, reserving, IsKeptAs, word_keeps, Lists}
+use Rattle.sound_state.proofs.Common.{IsSo, recalls_of, IsSoundWithoutCounts, IsSoundWith, is_bound, IsActiveWord, Cas, heap_of, IsActive}
 use Rattle.superblock_parts.specs.declared.point.BlockPoint.TheVariants as block
 use Rattle.sound_state.proofs.shared.PointLemmas.{alike-goes, fits-at, fits-now, so-at}
-use Rattle.sound_state.proofs.quiet.QuietExchanges.{lost-at}
-use Rattle.sound_state.proofs.quiet.QuietSteps.{leads-on}
+use Rattle.sound_state.proofs.quiet.QuietExchanges.{either-sound, lost-onward}
 use Rattle.sound_state.proofs.shared.CreditLemmas.{actives-written, active-bound, word-keeps-away, won-at}
 use Rattle.sound_state.proofs.shared.WordFacts.{held-fits, held-said, held-not-zero, null-none, null-said, seat-active, held-desc}
 use Rattle.sound_state.proofs.shared.KeepsSound.{KeepsSound, KeepsSoundWhere}
@@ -52,7 +49,6 @@ take_credit-last seat d o g s caller s' sound has stands is step =
       next = refl;
       event = refl;
       cleared = refl;
-      below = active-exact.fits Null tt;
       weighs = record {
         still = λ plain. absurd plain;
         reserves = λ e. rw (null, held) (grind (arith));
@@ -98,7 +94,6 @@ take_credit-more g s caller s' seat d credits o sound has stands is some_left st
       next = ap (λ b. At (Block (block.LoadInfo seat d (if b then LastCredit else Credit)) o)) none;
       event = refl;
       cleared = refl;
-      below = active-exact.fits (Held d left) fit_less;
       weighs = record {
         still = λ plain. absurd plain;
         reserves = λ e. rw (less, held) (grind (arith, one));
@@ -132,13 +127,8 @@ take_credit-won seat d (suc left) o =
 
 pub take_credit-sound : (seat : SeatFields) (d credits : ℕ) (o : Continuation) → KeepsSound (Block (block.TakeCredit seat d credits) o)
 unfolding plan_point_of next_of event_of holds_of recalls_of
-take_credit-sound seat d credits o g s caller s' sound has stands step =
-    elim (cases_eq (s.word (active_name seat)) (active_word (Held d credits))) [
-      | inl is ↦ take_credit-won seat d credits o g s caller s' sound has stands is step
-      | inr other ↦
-          lost-at g s caller s' (Block (block.TakeCredit seat d credits) o) (active_name seat) _ _ sound has stands refl refl
-          (leads-on g s caller _ _ 0 has stands (grind (arith))) other step
-    ]
+take_credit-sound seat d credits o =
+    either-sound _ _ _ (take_credit-won seat d credits o) (lost-onward _ _ _ _ 0 refl (λ w. refl) (λ w. grind (arith)))
 
 -- the won offer of reserved blocks keeps the state sound: they and the descriptor go into the word
 install_credits-won :
@@ -160,7 +150,6 @@ install_credits-won site i more o g s caller s' sound has stands is step =
       next = refl;
       event = refl;
       cleared = refl;
-      below = active-exact.fits (Held d (more - 1)) word;
       weighs = record {
         still = λ plain. absurd plain;
         reserves = λ e. rw (null, held) (grind (arith, some_more));
@@ -184,10 +173,5 @@ install_credits-won site i more o g s caller s' sound has stands is step =
 
 pub install_credits-sound : (site : Site) (i more : ℕ) (o : Continuation) → KeepsSound (Block (block.InstallCredits site i more) o)
 unfolding plan_point_of next_of event_of holds_of recalls_of
-install_credits-sound site i more o g s caller s' sound has stands step =
-    elim (cases_eq (s.word (active_name site.seat)) (active_word Null)) [
-      | inl is ↦ install_credits-won site i more o g s caller s' sound has stands is step
-      | inr other ↦
-          lost-at g s caller s' (Block (block.InstallCredits site i more) o) (active_name site.seat) _ _ sound has stands refl refl
-          (leads-on g s caller _ _ 0 has stands (grind (arith))) other step
-    ]
+install_credits-sound site i more o =
+    either-sound _ _ _ (install_credits-won site i more o) (lost-onward _ _ _ _ 0 refl (λ w. refl) (λ w. grind (arith)))

@@ -1,30 +1,21 @@
 -- Steps at the available descriptors that keep the state sound.
-use Rattle.std.proofs.Common.{ℕ, Option, Some, None, ◌≡◌, ◌≢◌, ◌<◌, ◌+◌, [], refl, arith, sym, All, ne_eqb}
+use Rattle.std.proofs.Common.{ℕ, Option, Some, None, ◌≡◌, ◌≢◌, ◌<◌, ◌+◌, [], refl, arith, All, ne_eqb}
 use Rattle.std.proofs.lemmas.List.Elements.{All-cons, All-from_recursion}
-use Rattle.sound_state.proofs.Common.{Geometry, SeatFields, DescPoint, Continuation, At, Desc, event_of, next_of, plan_point_of, State, holds_of, Lists, recalls_of}
-use Rattle.sound_state.proofs.Common.{IsSo, IsSoundWith, waits_in, desc_named, after_head, after_next}
+use Rattle.sound_state.proofs.Common.{Geometry, SeatFields, DescPoint, Continuation, At, Desc, event_of, next_of, plan_point_of, State, holds_of, Lists, recalls_of, IsSo}
+use Rattle.sound_state.proofs.Common.{IsSoundWith, waits_in, after_next}
 use Rattle.word_table.specs.declared.name.WordName.TheVariants as name
 use Rattle.hazard_parts.specs.declared.point.DescPoint.TheVariants as desc
-use Rattle.hazard_parts.specs.Points.{link_in, after_top}
-use Rattle.sound_state.proofs.quiet.QuietExchanges.{lost-at, lost-steady}
-use Rattle.sound_state.proofs.quiet.QuietSteps.{StepsSteadily, LeadsOn, LeadsQuietly, leads-on, quiet-at, steady-at}
+use Rattle.hazard_parts.specs.Points.{link_in}
+use Rattle.sound_state.proofs.quiet.QuietExchanges.{lost-onward, lost-steady}
+use Rattle.sound_state.proofs.quiet.QuietSteps.{StepsSteadily, LeadsQuietly, leads-on, onward, quietly, steady-at}
 use Rattle.sound_state.proofs.shared.PointLemmas.{HoldsBlocks, blocks-go, none-kept-as, so-at, weigh-stays, recalled-at}
 use Rattle.sound_state.proofs.shared.WordFacts.{link-some}
 use Rattle.sound_state.proofs.shared.KeepsSound.{KeepsSound, KeepsSoundWhere}
 
--- what the head of the available descriptors leads to
-head-leads :
-    (s : SeatFields) (o : Continuation) (d : Option ℕ) → LeadsOn (Desc (desc.LoadDescHead s) o) (At (Desc (after_head s d) o)) 0
-unfolding holds_of recalls_of
-head-leads s o None = grind (arith)
-head-leads s o (Some d) = grind (arith)
-
 -- the load of the head of the available descriptors for a pop keeps the state sound
 pub load_desc_head-sound : (seat : SeatFields) (o : Continuation) → KeepsSound (Desc (desc.LoadDescHead seat) o)
-unfolding plan_point_of next_of event_of
-load_desc_head-sound seat o g s caller s' sound has stands step =
-    quiet-at g s caller s' (Desc (desc.LoadDescHead seat) o) sound has stands (record { event = refl; cleared = refl; word = refl })
-    (leads-on g s caller _ _ 0 has stands (head-leads seat o (desc_named seat.geometry (s.word name.DescHead)))) step
+unfolding plan_point_of next_of event_of holds_of recalls_of
+load_desc_head-sound seat o = onward _ 0 (grind (arith)) (λ w. grind (arith))
 
 -- what the name of the descriptor below leads to
 next-leads :
@@ -44,9 +35,7 @@ next-leads g s caller seat d o (Some next) has stands is = record {
 -- the load of the name of the descriptor below keeps the state sound
 pub load_next_desc-sound : (seat : SeatFields) (d : ℕ) (o : Continuation) → KeepsSound (Desc (desc.LoadNextDesc seat d) o)
 unfolding plan_point_of next_of event_of
-load_next_desc-sound seat d o g s caller s' sound has stands step =
-    quiet-at g s caller s' (Desc (desc.LoadNextDesc seat d) o) sound has stands (record { event = refl; cleared = refl; word = refl })
-    (next-leads g s caller seat d o (link_in seat.geometry (s.word (name.Next d))) has stands refl) step
+load_next_desc-sound seat d o = quietly _ (grind (arith)) (λ g s caller has stands. next-leads g s caller seat d o _ has stands refl)
 
 -- a caller whose descriptor isn't on top any more reads the head again, its hazard word as a lost pop leaves it
 reads-again :
@@ -56,12 +45,8 @@ reads-again :
     → ((l : Lists) → IsSoundWith g s l → All (IsSo g s l caller) (recalls_of (Desc (desc.LoadDescHead seat) o)))
     → StepsSteadily g s caller (Desc p o) (At (Desc (desc.LoadDescHead seat) o))
 unfolding holds_of recalls_of
-reads-again g s caller p seat o has stands blocks credits kept frames waits so = record {
-  plain = tt;
-  weighs = λ w. weigh-stays _ w (Desc p o) (Desc (desc.LoadDescHead seat) o) (sym credits) (sym kept) (sym frames) waits;
-  goes = λ l old.
-      blocks-go g s l caller (Desc p o) (Desc (desc.LoadDescHead seat) o) old has stands blocks tt (λ d word guard. absurd guard) (none-kept-as s) (so l old);
-}
+reads-again g s caller p seat o has stands blocks credits kept frames waits so =
+    grind (arith, has, stands, blocks, credits, kept, frames, waits, so, weigh-stays, blocks-go, none-kept-as)
 
 -- a pop that finds another descriptor on top keeps the state sound: the hazard word still names the one that was
 pub pop_desc_lost-sound :
@@ -75,28 +60,16 @@ pop_desc_lost-sound seat d next o g s caller s' sound has stands lost step =
     let (so_next, rest) = recalled-at g s l caller (Desc p o) old has stands in
     All-from_recursion (IsSo g s l caller) (recalls_of (Desc (desc.LoadDescHead seat) o)) rest)) lost step
 
--- what the head leads to that is loaded for a push
-head-to-push-leads :
-    (s : SeatFields) (d : ℕ) (o : Continuation) (top : Option ℕ)
-    → LeadsOn (Desc (desc.LoadHeadToPush s d) o) (At (Desc (after_top s d top) o)) 0
-unfolding holds_of recalls_of
-head-to-push-leads s d o None = grind (arith)
-head-to-push-leads s d o (Some top) = grind (arith)
-
 -- the load of the head of the available descriptors for a push keeps the state sound
 pub load_head_to_push-sound : (seat : SeatFields) (d : ℕ) (o : Continuation) → KeepsSound (Desc (desc.LoadHeadToPush seat d) o)
-unfolding plan_point_of next_of event_of
-load_head_to_push-sound seat d o g s caller s' sound has stands step =
-    quiet-at g s caller s' (Desc (desc.LoadHeadToPush seat d) o) sound has stands (record { event = refl; cleared = refl; word = refl })
-    (leads-on g s caller _ _ 0 has stands (head-to-push-leads seat d o (link_in seat.geometry (s.word name.DescHead)))) step
+unfolding plan_point_of next_of event_of holds_of recalls_of
+load_head_to_push-sound seat d o = onward _ 0 (grind (arith)) (λ w. grind (arith))
 
 -- a push of a descriptor that is lost, since the head isn't what it was, keeps the state sound
 pub push_desc_lost-sound :
     (seat : SeatFields) (d top : ℕ) (o : Continuation) → KeepsSoundWhere (Desc (desc.PushDesc seat d top) o) (λ s. s.word name.DescHead ≢ top)
 unfolding plan_point_of next_of event_of holds_of recalls_of
-push_desc_lost-sound seat d top o g s caller s' sound has stands lost step =
-    lost-at g s caller s' (Desc (desc.PushDesc seat d top) o) name.DescHead _ _ sound has stands refl refl
-    (leads-on g s caller _ _ 1 has stands (grind (arith))) lost step
+push_desc_lost-sound seat d top o = lost-onward _ _ _ _ 1 refl (λ w. refl) (λ w. grind (arith))
 
 -- the load of the head again that finds another descriptor on top than the hazard word names keeps the state sound
 pub reload_desc_head_other-sound :

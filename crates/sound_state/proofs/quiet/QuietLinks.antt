@@ -1,15 +1,14 @@
 -- Steps that store what is to lie below an index that is about to be pushed.
-use Rattle.std.proofs.Common.{ℕ, Some, ◌≡◌, ◌≢◌, ◌<◌, ◌≤◌, ◌^◌, refl, arith, ap, sym, subst, inl, inr, ◌∙◌, ◌==◌, IfSome, Contains, eq-eqb}
-use Rattle.std.proofs.lemmas.Bool.{cases_eq, cond-true}
+use Rattle.std.proofs.Common.{ℕ, Some, ◌≡◌, ◌≢◌, ◌<◌, ◌≤◌, refl, arith, sym, subst, inl, inr, ◌∙◌, eq-eqb}
+use Rattle.std.proofs.lemmas.Bool.{cases_eq}
 use Rattle.std.proofs.lemmas.List.Elements.{All-cons}
-use Rattle.sound_state.proofs.Common.{Geometry, CLASSES, HeadFields, WordName, name_of, after_action, descriptor_count, Writes, SeatFields, cases_name, occurs, Pile}
-use Rattle.sound_state.proofs.Common.{Frames, Partials, next_name, Continuation, Point, Stack, Desc, pushed_by, ErrandFields, event_of, next_of, plan_point_of, State}
-use Rattle.sound_state.proofs.Common.{Step, errand_frames, partly_used, holds_of, errand_has, Lists, IsSo, recalls_of, IsSoundWith, callers_sum, kept_among}
-use Rattle.sound_state.proofs.Common.{descriptor_count_within, pile_limit, IsErrand, IsPlain, resumed_recalls}
+use Rattle.sound_state.proofs.Common.{Geometry, CLASSES, HeadFields, WordName, name_of, after_action, descriptor_count, Writes, SeatFields, occurs, Pile, Frames, Partials}
+use Rattle.sound_state.proofs.Common.{next_name, Continuation, Point, Stack, Desc, pushed_by, ErrandFields, event_of, next_of, plan_point_of, State, Step, errand_frames}
+use Rattle.sound_state.proofs.Common.{holds_of, errand_has, Lists, IsSo, recalls_of, IsSoundWith, callers_sum, pile_limit, IsErrand, IsPlain, resumed_recalls}
 use Rattle.word_table.specs.declared.name.WordName.TheVariants as name
 use Rattle.stack_parts.specs.declared.point.StackPoint.TheVariants as stack
 use Rattle.hazard_parts.specs.declared.point.DescPoint.TheVariants as desc
-use Rattle.sound_state.specs.Holdings.{pushed_too}
+use Rattle.errand_steps.specs.tables.Stacks.{pushed_too}
 use Rattle.sound_state.proofs.shared.ListFacts.{contains-occurs}
 use Rattle.sound_state.proofs.stores.StoreFields.{IsLone, between, LoneKept}
 use Rattle.sound_state.proofs.shared.RecallTables.{IsLink, next-is_link}
@@ -69,28 +68,15 @@ frame-alone g s l caller f old has exists mine =
 pushed-has :
     (e : ErrandFields) (p : Point) (seat : SeatFields) (pile : Pile) (i : ℕ) (o : Continuation) → e.point ≡ p → holds_of p ≡ pushed_too pile i seat o
     → 1 ≤ link_weight (next_name pile i) e
-pushed-has e p seat Frames i o stands holds =
-    subst (λ h. 1 ≤ occurs i h.frames) (sym (ap holds_of stands ∙ holds)) (omega (arith, cond-true {A = ℕ} (i == i) 1 0 (eq-eqb i i refl)))
-pushed-has e p seat Partials i o stands holds =
-    has-at e p partly_used i stands (subst (λ h. 1 ≤ kept_among partly_used i h.kept) (sym holds) (grind (arith, eq-eqb i i refl)))
+pushed-has e p seat pile i o stands holds = grind (arith, stands, holds, eq-eqb, has-at)
 
 pub retired-has : (e : ErrandFields) (p : Point) (d : ℕ) → IsErrand e → e.point ≡ p → pushed_by p ≡ Some d → 1 ≤ errand_has d e
-retired-has e p d rule stands pushes =
-    let has : Contains e.retired d = subst (λ o. IfSome o (λ d. Contains e.retired d)) (ap pushed_by stands ∙ pushes) rule.pushed in
-    omega (arith, contains-occurs e.retired d has)
+retired-has e p d rule stands pushes = grind (arith, rule, stands, pushes, contains-occurs)
 
 -- a caller that hasn't the index doesn't remember what its link word says
 unsaid : (e : ErrandFields) (p : Point) (n : WordName) → IsErrand e → e.point ≡ p → link_weight n e ≡ 0 → IsLinkUnread n p
 unfolding holds_of
-unsaid e (Stack (stack.PushTop seat pile i h) o) n rule stands none =
-    λ is.
-    let none_here : link_weight (next_name pile i) e ≡ 0 = subst (λ m. link_weight m e ≡ 0) (sym is) none in
-    omega (arith, none_here, pushed-has e (Stack (stack.PushTop seat pile i h) o) seat pile i o stands refl)
-unsaid e (Desc (desc.PushDesc seat d top) o) n rule stands none =
-    λ is.
-    let none_here : link_weight (name.Next d) e ≡ 0 = subst (λ m. link_weight m e ≡ 0) (sym is) none in
-    omega (arith, none_here, retired-has e (Desc (desc.PushDesc seat d top) o) d rule stands refl)
-unsaid e p n rule stands none = tt
+unsaid e p n rule stands none = grind (arith, rule, stands, none, pushed-has, retired-has)
 
 -- an index that is on a list is another one than the unlisted index of a link word
 off-frames : (l : Lists) (f : ℕ) (n : WordName) → 0 < occurs f l.frames → IsUnlisted l n → name.FrameNext f ≢ n
@@ -115,26 +101,20 @@ InRange g n w = ⊥
 written-most :
     (g : Geometry) (words : WordName → ℕ) (n : WordName) (new : ℕ) (words' : WordName → ℕ) → Writes words n new words' → InRange g n new
     → (m : WordName) → InRange g m (words m) → InRange g m (words' m)
-written-most g words n new words' w range m old =
-    elim (cases_name m n) [
-      | inl is ↦ subst (λ k. InRange g k (words' k)) (sym is) (subst (InRange g n) (sym w.here) range)
-      | inr differ ↦ subst (InRange g m) (sym (w.elsewhere m differ)) old
-    ]
+written-most g words n new words' w range m old = grind (arith, w, range, old)
 
 -- a link word is one that its caller stores alone, no word of the arena and no info word
 link-alone : (n : WordName) → IsLink n → IsLone n × (IsOfArena n → ⊥) × (IsOfDesc n → ⊥)
-link-alone (name.Next d) link = (tt, λ no. no, λ no. no)
-link-alone (name.FrameNext f) link = (tt, λ no. no, λ no. no)
-link-alone n link = absurd link
+link-alone n link = grind (arith, link)
 
 -- the store of a link word by a caller that alone may store it, and doesn't remember it, keeps what is read
 links-kept :
     (g : Geometry) (s : State) (l : Lists) (caller : ℕ) (n : WordName) (new : ℕ) (words' : WordName → ℕ) → IsSoundWith g s l
-    → IsAlone g s l caller n → IsLinkUnread n (s.errand caller).point → IsLink n → InRange g n new → new < 2 ^ 64 → Writes s.word n new words'
+    → IsAlone g s l caller n → IsLinkUnread n (s.errand caller).point → IsLink n → InRange g n new → Writes s.word n new words'
     → LoneKept g s l words'
-links-kept g s l caller n new words' old alone silent link range below w =
+links-kept g s l caller n new words' old alone silent link range w =
     let kind = link-alone n link in
-    lone-kept g s l n new words' old kind.0 below w
+    lone-kept g s l n new words' old kind.0 w
     (record {
       nexts = λ d has. written-most g s.word n new words' w range (name.Next d) (old.listed.nexts d has);
       frame_nexts = λ f has. written-most g s.word n new words' w range (name.FrameNext f) (old.listed.frame_nexts f has);
@@ -149,7 +129,7 @@ links-kept g s l caller n new words' old alone silent link range below w =
       link =
           elim (cases_eq i caller) [
             | inl is ↦ subst (λ j. IsLinkUnread n (s.errand j).point) (sym is) silent
-            | inr other ↦ unsaid (s.errand i) p n (old.errands i has).rule refl (alone.others i has other)
+            | inr other ↦ unsaid (s.errand i) p n (old.formed.errands i has).rule refl (alone.others i has other)
           ];
       block = block-unread n p kind.1;
       place = place-unread s words' n p (place-stays s n new words' w kind.2) (λ at o stands is. kind.2 (subst IsOfDesc is tt));
@@ -159,10 +139,7 @@ links-kept g s l caller n new words' old alone silent link range below w =
 pub written-at :
     (s : State) (caller : ℕ) (s' : State) (p : Point) → (s.errand caller).point ≡ p → Step s caller s'
     → Writes s.word (name_of (plan_point_of p)) (after_action (plan_point_of p) (s.word (name_of (plan_point_of p)))) s'.word
-written-at s caller s' p stands step =
-    subst
-    (λ r. Writes s.word (name_of (plan_point_of r)) (after_action (plan_point_of r) (s.word (name_of (plan_point_of r)))) s'.word)
-    stands step.word
+written-at s caller s' p stands step = grind (arith, stands, step)
 
 -- the store of what is to lie below a retired descriptor that becomes available keeps the state sound
 pub store_next_desc-sound : (seat : SeatFields) (d top : ℕ) (o : Continuation) → KeepsSound (Desc (desc.StoreNextDesc seat d top) o)
@@ -179,9 +156,8 @@ store_next_desc-sound seat d top o g s caller s' sound has stands step =
       kept = λ l old.
           let fit = (fits-at g s l caller p old has stands).point in
           links-kept g s l caller (name.Next d) top s'.word old
-          (desc-alone g s l caller d old has fit.desc.desc (retired-has (s.errand caller) p d (old.errands caller has).rule stands refl))
-          (subst (IsLinkUnread (name.Next d)) (sym stands) tt) tt fit.link
-          (omega (arith, fit.link, descriptor_count_within g sound.checked)) w;
+          (desc-alone g s l caller d old has fit.desc.desc (retired-has (s.errand caller) p d (old.formed.errands caller has).rule stands refl))
+          (subst (IsLinkUnread (name.Next d)) (sym stands) tt) tt fit.link w;
       so = λ l old.
           All-cons (IsSo g (between s s'.word) l caller) _ (resumed_recalls seat o) (tt, w.here)
           (so-at g (between s s'.word) l caller p old has stands);
@@ -196,12 +172,10 @@ below-alone g s l caller Frames i old has exists mine = frame-alone g s l caller
 below-alone g s l caller Partials i old has exists mine = desc-alone g s l caller i old has exists mine
 
 next-plain : (pile : Pile) (i : ℕ) → IsPlain (next_name pile i)
-next-plain Frames i = tt
-next-plain Partials i = tt
+next-plain pile i = grind (arith)
 
 next-range : (g : Geometry) (pile : Pile) (i w : ℕ) → w ≤ pile_limit g pile → InRange g (next_name pile i) w
-next-range g Frames i w most = most
-next-range g Partials i w most = most
+next-range g pile i w most = grind (arith, most)
 
 -- the store of what is to lie below a frame or a partial superblock that is pushed keeps the state sound
 pub store_below-sound :
@@ -222,7 +196,7 @@ store_below-sound seat pile i h o g s caller s' sound has stands step =
           let fit = (fits-at g s l caller p old has stands).point in
           let (exists, rest) = recalled-at g s l caller p old has stands in
           links-kept g s l caller n h.top s'.word old (below-alone g s l caller pile i old has fit.0.index (pushed-has (s.errand caller) p seat pile i o stands refl))
-          (subst (IsLinkUnread n) (sym stands) tt) (next-is_link pile i) (next-range g pile i h.top exists) (omega (arith, fit.1.top)) w;
+          (subst (IsLinkUnread n) (sym stands) tt) (next-is_link pile i) (next-range g pile i h.top exists) w;
       so = λ l old.
           let t = between s s'.word in
           All-cons (IsSo g t l caller) _ (recalls_of p)

@@ -1,27 +1,26 @@
 -- Steps at a partial superblock that keep the state sound.
-use Rattle.std.proofs.Common.{ℕ, Bool, true, false, Option, Some, None, ◌≡◌, ◌≢◌, ◌<◌, ◌≤◌, ◌+◌, ◌^◌, ◌-◌, [], ◌∷◌, refl, arith, ap, sym, subst, inl, inr, ◌∙◌, ◌==◌}
-use Rattle.std.proofs.Common.{All, IsTrue, true≢false, ne_eqb, eq-eqb}
-use Rattle.std.proofs.lemmas.Bool.{cond_both, cases_Bool, cases_eq}
+use Rattle.std.proofs.Common.{ℕ, Bool, false, Option, Some, None, ◌≡◌, ◌≢◌, ◌<◌, ◌≤◌, ◌+◌, ◌-◌, [], ◌∷◌, refl, arith, ap, sym, subst, inl, inr, ◌∙◌, All, IsTrue, ne_eqb}
+use Rattle.std.proofs.Common.{eq-eqb}
+use Rattle.std.proofs.lemmas.Bool.{cases_Bool, cases_eq}
 use Rattle.std.proofs.lemmas.Bool.Decides.{nat_tests}
 use Rattle.std.proofs.lemmas.List.Elements.{All-nil, All-cons, All-tail}
-use Rattle.sound_state.proofs.Common.{Geometry, descriptor_count, Writes, SeatFields, info_in, IsChecked, CLASSES, AnchorFields, anchor_word, info_of, Site, WordName}
-use Rattle.sound_state.proofs.Common.{PartialPoint, is_empty, Partials, Next, At, Continuation, ErrandFields, Partial, Stack, Desc, event_of, next_of, plan_point_of}
-use Rattle.sound_state.proofs.Common.{State, Kept, holds_of, partly_used, IsKeptAs, IsPartlyUsed, Lists, recalls_of, IsSo, IsLocated, IsSoundWith, errand_keeps}
-use Rattle.sound_state.proofs.Common.{kept_among, anchor_for, info_for, waits_in, descriptor_count_within, heap_of, desc_named, anchor_in, slot_name, InfoFields}
-use Rattle.sound_state.proofs.Common.{Onward, PartialExit, slot_of, Clear, point_after, enter_partial, continuation_holds, IsEmptied}
+use Rattle.sound_state.proofs.Common.{Geometry, descriptor_count, Writes, SeatFields, info_in, CLASSES, AnchorFields, anchor_word, info_of, Site, WordName, PartialPoint}
+use Rattle.sound_state.proofs.Common.{is_empty, Partials, Next, At, Continuation, ErrandFields, Partial, Stack, Desc, event_of, next_of, plan_point_of, State, Kept}
+use Rattle.sound_state.proofs.Common.{holds_of, partly_used, IsKeptAs, IsPartlyUsed, Lists, recalls_of, IsSo, IsLocated, IsSoundWith, errand_keeps, anchor_for, info_for}
+use Rattle.sound_state.proofs.Common.{waits_in, heap_of, anchor_in, slot_name, InfoFields, slot_of, Clear, point_after, continuation_holds, IsEmptied}
 use Rattle.word_table.specs.declared.name.WordName.TheVariants as name
-use Rattle.word_table.specs.declared.onward.Onward.TheVariants.{Stays, Leaves}
+use Rattle.word_table.specs.declared.onward.Onward.TheVariants.{Leaves}
 use Rattle.partial_parts.specs.declared.exit.PartialExit.TheVariants as exit
 use Rattle.partial_parts.specs.declared.point.PartialPoint.TheVariants as partial
-use Rattle.partial_parts.specs.Points.{after_slot, after_kept, after_taken_info, after_live, after_owner, after_put}
+use Rattle.partial_parts.specs.Points.{after_taken_info, after_live, after_put}
 use Rattle.stack_parts.specs.declared.point.StackPoint.TheVariants as stack
 use Rattle.hazard_parts.specs.declared.point.DescPoint.TheVariants as desc
 use Rattle.errand_steps.specs.Continuations.{fills}
-use Rattle.errand_steps.specs.declared.continuation.Continuation.TheVariants.{Alloc, Finish, GiveBlock, Free, ClearSecond, Retire}
+use Rattle.errand_steps.specs.declared.continuation.Continuation.TheVariants.{Alloc, Finish, Free, ClearSecond, Retire}
 use Rattle.errand_steps.specs.Nexts.{leave_partial}
-use Rattle.sound_state.proofs.quiet.QuietExchanges.{lost-at, lost-steady}
+use Rattle.sound_state.proofs.quiet.QuietExchanges.{lost-onward, lost-steady}
 use Rattle.sound_state.proofs.quiet.QuietPops.{anchor-said, info-said}
-use Rattle.sound_state.proofs.quiet.QuietSteps.{StepsSteadily, LeadsOn, LeadsQuietly, leads-on, quiet-at, steady-at}
+use Rattle.sound_state.proofs.quiet.QuietSteps.{StepsSteadily, LeadsQuietly, leads-on, onward, quiet-at, quietly, steady-at}
 use Rattle.sound_state.proofs.shared.CreditLemmas.{won-at}
 use Rattle.sound_state.proofs.shared.PointLemmas.{HoldsAlike, HoldsBlocks, WeighFrom, alike-goes, blocks-go, fits-at, fits-now, kept-at, so-at, weigh-stays, step-from}
 use Rattle.sound_state.proofs.shared.PointLemmas.{slot-written, slot-emptied, keeps-too, none-kept-as, exists-at, keeps-alone}
@@ -30,33 +29,10 @@ use Rattle.sound_state.proofs.shared.StepLemmas.{LeadsOrEnds}
 use Rattle.sound_state.proofs.shared.KeepsSound.{KeepsSound, KeepsSoundWhere}
 use Rattle.sound_state.proofs.shared.SuperblocksStay.{ActivesKept}
 
--- what a slot that is loaded leads to
-kept-leads :
-    (s : SeatFields) (need : ℕ) (d : Option ℕ)
-    → LeadsOn (Partial (partial.LoadSlot s) (Alloc need)) (At (Partial (after_kept s d) (Alloc need))) 0
-unfolding holds_of recalls_of
-kept-leads s need None = grind (arith)
-kept-leads s need (Some d) = grind (arith)
-
-empty-slot-leads :
-    (s : SeatFields) (need : ℕ) → LeadsOn (Partial (partial.LoadSlot s) (Alloc need)) (leave_partial (exit.SlotEmpty s) (Alloc need)) 0
-unfolding holds_of recalls_of
-empty-slot-leads s need = grind (arith)
-
-slot-leads :
-    (s : SeatFields) (need word : ℕ)
-    → LeadsOn (Partial (partial.LoadSlot s) (Alloc need)) (enter_partial (after_slot s word) (Alloc need)) 0
-slot-leads s need word =
-    cond_both {A = Onward PartialPoint PartialExit} (word == 0) (Leaves (exit.SlotEmpty s)) (Stays (after_kept s (desc_named s.geometry word)))
-    (λ p. LeadsOn (Partial (partial.LoadSlot s) (Alloc need)) (enter_partial p (Alloc need)) 0) (λ is. empty-slot-leads s need)
-    (λ is. kept-leads s need (desc_named s.geometry word))
-
 -- the load of a slot keeps the state sound
 pub load_slot-sound : (seat : SeatFields) (need : ℕ) → KeepsSound (Partial (partial.LoadSlot seat) (Alloc need))
-unfolding plan_point_of next_of event_of
-load_slot-sound seat need g s caller s' sound has stands step =
-    quiet-at g s caller s' (Partial (partial.LoadSlot seat) (Alloc need)) sound has stands (record { event = refl; cleared = refl; word = refl })
-    (leads-on g s caller _ _ 0 has stands (slot-leads seat need (s.word (slot_name seat)))) step
+unfolding plan_point_of next_of event_of holds_of recalls_of
+load_slot-sound seat need = onward _ 0 (grind (arith)) (λ w. grind (arith))
 
 -- the take of what stands in a slot keeps the state sound: the caller has it then, or the take is lost
 pub take_slot-sound : (seat : SeatFields) (d need : ℕ) → KeepsSound (Partial (partial.TakeSlot seat d) (Alloc need))
@@ -73,7 +49,6 @@ take_slot-sound seat d need g s caller s' sound has stands step =
             next = refl;
             event = refl;
             cleared = refl;
-            below = omega arith;
             weighs = grind (arith);
             goes = λ l old.
                 alike-goes g s l caller p q old has stands (grind (arith))
@@ -82,9 +57,7 @@ take_slot-sound seat d need g s caller s' sound has stands step =
             actives = λ l old words' w. slot-emptied g s l (heap_of seat) seat.class 0 words' old w refl;
           })
           there step
-      | inr lost ↦
-          lost-at g s caller s' (Partial (partial.TakeSlot seat d) (Alloc need)) (slot_name seat) _ _ sound has stands refl refl
-          (leads-on g s caller _ _ 0 has stands (grind (arith))) lost step
+      | inr lost ↦ lost-onward _ _ _ _ 0 refl (λ w. refl) (λ w. grind (arith)) g s caller s' sound has stands lost step
     ]
 
 -- what the word of a taken descriptor leads to
@@ -108,9 +81,7 @@ taken_info-leads g s caller seat d need (Some info) has stands is = record {
 -- the load of a taken descriptor's info word keeps the state sound
 pub load_taken_info-sound : (seat : SeatFields) (d need : ℕ) → KeepsSound (Partial (partial.LoadTakenInfo seat d) (Alloc need))
 unfolding plan_point_of next_of event_of
-load_taken_info-sound seat d need g s caller s' sound has stands step =
-    quiet-at g s caller s' (Partial (partial.LoadTakenInfo seat d) (Alloc need)) sound has stands (record { event = refl; cleared = refl; word = refl })
-    (taken_info-leads g s caller seat d need (info_in seat.geometry (s.word (name.Info d))) has stands refl) step
+load_taken_info-sound seat d need = quietly _ (grind (arith)) (λ g s caller has stands. taken_info-leads g s caller seat d need _ has stands refl)
 
 -- what the anchor of a taken superblock leads to that isn't EMPTY
 live-leads :
@@ -144,24 +115,12 @@ pub grant_lost-sound :
     (site : Site) (a : AnchorFields) (need : ℕ)
     → KeepsSoundWhere (Partial (partial.Grant site a) (Alloc need)) (λ s. s.word (name.Anchor site.desc) ≢ anchor_word a)
 unfolding plan_point_of next_of event_of holds_of recalls_of
-grant_lost-sound site a need g s caller s' sound has stands lost step =
-    lost-at g s caller s' (Partial (partial.Grant site a) (Alloc need)) (name.Anchor site.desc) _ _ sound has stands refl refl
-    (leads-on g s caller _ _ 1 has stands (grind (arith))) lost step
-
--- what the word of a descriptor leads to whose superblock became partial
-partial-owner-leads :
-    (s : SeatFields) (d : ℕ) (stored : Bool) (i : Option InfoFields)
-    → LeadsOn (Partial (partial.LoadOwner s d) (Finish stored)) (At (Partial (after_owner s d i) (Finish stored))) 0
-unfolding holds_of recalls_of
-partial-owner-leads s d stored None = grind (arith)
-partial-owner-leads s d stored (Some info) = grind (arith)
+grant_lost-sound site a need = lost-onward _ _ _ _ 1 refl (λ w. refl) (λ w. grind (arith))
 
 -- the load of the info word of a superblock that became partial keeps the state sound
 pub load_partial_owner-sound : (seat : SeatFields) (d : ℕ) (stored : Bool) → KeepsSound (Partial (partial.LoadOwner seat d) (Finish stored))
-unfolding plan_point_of next_of event_of
-load_partial_owner-sound seat d stored g s caller s' sound has stands step =
-    quiet-at g s caller s' (Partial (partial.LoadOwner seat d) (Finish stored)) sound has stands (record { event = refl; cleared = refl; word = refl })
-    (leads-on g s caller _ _ 0 has stands (partial-owner-leads seat d stored (info_in seat.geometry (s.word (name.Info d))))) step
+unfolding plan_point_of next_of event_of holds_of recalls_of
+load_partial_owner-sound seat d stored = onward _ 0 (grind (arith)) (λ w. grind (arith))
 
 -- the look at the first superblock from the list keeps the state sound, where that isn't EMPTY
 pub load_first_listed-sound :
@@ -179,15 +138,7 @@ elsewhere-goes :
     → ((class : ℕ) → waits_in class (Desc (desc.ClearHazard seat) Clear) ≡ waits_in class (Partial p Free))
     → StepsSteadily g s caller (Partial p Free) (At (Desc (desc.ClearHazard seat) Clear))
 unfolding holds_of recalls_of
-elsewhere-goes g s caller p seat d has stands same blocks waits = record {
-  plain = tt;
-  weighs = λ w.
-      weigh-stays _ w (Partial p Free) (Desc (desc.ClearHazard seat) Clear) (ap (λ x. x.credits) (sym same)) (ap (λ x. x.kept) (sym same))
-      (ap (λ x. x.frames) (sym same)) waits;
-  goes = λ l old.
-      blocks-go g s l caller (Partial p Free) (Desc (desc.ClearHazard seat) Clear) old has stands blocks tt (λ d word guard. rw same tt) (none-kept-as s)
-      (All-nil (IsSo g s l caller));
-}
+elsewhere-goes g s caller p seat d has stands same blocks waits = grind (arith, has, stands, same, blocks, waits, weigh-stays, blocks-go, none-kept-as)
 
 -- the look whether the superblock that became EMPTY stands in the slot keeps the state sound
 pub load_held_slot-sound : (seat : SeatFields) (d heap : ℕ) → KeepsSound (Partial (partial.LoadHeldSlot seat d heap) Free)
@@ -220,7 +171,6 @@ remove_from_slot-sound seat d heap g s caller s' sound has stands step =
             next = refl;
             event = refl;
             cleared = refl;
-            below = omega arith;
             weighs = grind (arith);
             goes = λ l old.
                 alike-goes g s l caller p q old has stands (grind (arith))
@@ -248,13 +198,6 @@ put-actives g s l caller seat d heap o words' old has stands w =
     slot-written g s l heap seat.class (d + 1) words' old w (omega (arith, fits.desc))
     (λ e is. let same : d ≡ e = omega (arith, is) in subst (λ k. (k < descriptor_count g) × IsPartlyUsed s k seat.class) same (fits.desc, mine))
 
--- the word of a slot that names the descriptor fits
-put-below :
-    (g : Geometry) (s : State) (l : Lists) (caller : ℕ) (seat : SeatFields) (d heap : ℕ) (o : Continuation) → IsChecked g → IsSoundWith g s l
-    → caller < g.callers → (s.errand caller).point ≡ Partial (partial.PutSlot seat d heap) o → d + 1 < 2 ^ 64
-put-below g s l caller seat d heap o checked old has stands =
-    omega (arith, (fits-at g s l caller (Partial (partial.PutSlot seat d heap) o) old has stands).point.desc, descriptor_count_within g checked)
-
 -- what a superblock leads to that is put into an empty slot: nothing is kept any more
 record FillsSlot (seat : SeatFields) (d heap : ℕ) (o : Continuation) (n : Next) : Type 0 where
   plain : LeadsOrEnds n
@@ -267,10 +210,7 @@ record FillsSlot (seat : SeatFields) (d heap : ℕ) (o : Continuation) (n : Next
 filled-leads :
     (seat : SeatFields) (d heap : ℕ) (o : Continuation) → IsTrue (fills o) → FillsSlot seat d heap o (leave_partial (exit.SlotFilled seat) o)
 unfolding holds_of recalls_of
-filled-leads seat d heap (GiveBlock need e frame i) is = grind (arith)
-filled-leads seat d heap (Finish true) is = grind (arith)
-filled-leads seat d heap (Finish false) is = grind (arith)
-filled-leads seat d heap o is = absurd (true≢false (sym is))
+filled-leads seat d heap o is = grind (arith, is)
 
 -- a put into a slot that was empty keeps the state sound
 put_slot_filled-sound :
@@ -289,7 +229,6 @@ put_slot_filled-sound seat d heap o g s caller s' sound has stands bare step =
           alike-goes g s l caller p _ old has stands fills.alike (subst (All (λ k. IsKeptAs s k.status k.desc k.class)) (sym fills.kept) (none-kept-as s))
           (subst (All (IsSo g s l caller)) (sym fills.recalls) (so-at g s l caller p old has stands));
       weigh = rw bare fills.weighs;
-      below = put-below g s l caller seat d heap o sound.checked old has stands;
       actives = λ words' w. put-actives g s l caller seat d heap o words' old has stands w;
     })
     step
@@ -322,7 +261,6 @@ put_slot_displaced-sound seat d heap other o g s caller s' sound has stands ther
           alike-goes g s l caller p _ old has stands (grind (arith, fits.goes))
           (keeps-too s other seat.class (continuation_holds seat o).kept kept.1 rest) (so-at g s l caller p old has stands);
       weigh = rw there (grind (arith));
-      below = put-below g s l caller seat d heap o sound.checked old has stands;
       actives = λ words' w. put-actives g s l caller seat d heap o words' old has stands w;
     })
     step
@@ -341,24 +279,14 @@ listed-weighs :
     → WeighFrom (name.Anchor d) w w (Partial (partial.LoadListedAnchor seat d) (ClearSecond first))
     (Stack (stack.LoadTopToPush seat Partials first) (Retire d))
 unfolding holds_of
-listed-weighs w seat d first = record {
-  still = λ plain. refl;
-  reserves = λ e. refl;
-  waits = λ e. grind (arith);
-  ways = λ e. grind (arith);
-  places = λ e. omega arith;
-  frames = λ f. refl;
-  stock = λ class. omega arith;
-}
+listed-weighs w seat d first = grind (arith)
 
 -- the caller keeps the descriptor at hand
 keeps-listed :
     (e : ErrandFields) (seat : SeatFields) (d first : ℕ) → e.point ≡ Partial (partial.LoadListedAnchor seat d) (ClearSecond first)
     → 1 ≤ errand_keeps partly_used d e
 unfolding holds_of
-keeps-listed e seat d first stands =
-    subst (λ p. 1 ≤ kept_among partly_used d (holds_of p).kept) (sym stands)
-    (rw (eq-eqb d d refl) (omega arith))
+keeps-listed e seat d first stands = grind (arith, stands, eq-eqb)
 
 -- the look at the second superblock from the list keeps the state sound, whether that is EMPTY or not
 pub load_second-sound : (seat : SeatFields) (d first : ℕ) → KeepsSound (Partial (partial.LoadListedAnchor seat d) (ClearSecond first))

@@ -2,36 +2,25 @@
 use Rattle.std.proofs.Common.{ℕ, Bool, true, false, Option, Some, None, ◌≡◌, ◌<◌, ◌+◌, ◌*◌, ◌^◌, [], refl, arith, sym, subst, nat_lt, IsTrue}
 use Rattle.std.proofs.lemmas.Bool.{cond_both}
 use Rattle.std.proofs.lemmas.List.Elements.{All-nil, All-cons}
-use Rattle.sound_state.proofs.Common.{Geometry, block_place, frame_of, frame_of-block_place, AnchorFields, Site, descriptor_count, SeatFields, info_in, Continuation}
-use Rattle.sound_state.proofs.Common.{Point, Block, At, event_of, next_of, plan_point_of, State, IsHazard, IsGuard, holds_of, Lists, IsSo, IsLocated, IsOwned}
-use Rattle.sound_state.proofs.Common.{recalls_of, IsSoundWith, is_bound, Prefix, InfoFields, prefix_word, prefix_of, reads, prefix-exact, anchor_in, is_last}
-use Rattle.sound_state.proofs.Common.{after_push_anchor, if_stored, Freed}
+use Rattle.sound_state.proofs.Common.{Geometry, block_place, frame_of, frame_of-block_place, AnchorFields, Site, descriptor_count, SeatFields, Continuation, Point, Block}
+use Rattle.sound_state.proofs.Common.{At, event_of, next_of, plan_point_of, State, IsHazard, IsGuard, holds_of, Lists, IsSo, IsLocated, IsOwned, recalls_of, IsSoundWith}
+use Rattle.sound_state.proofs.Common.{is_bound, Prefix, prefix_word, prefix_of, reads, prefix-exact, is_last, after_push_anchor, if_stored, Freed}
 use Rattle.heap_geometry.specs.declared.need.Need.TheVariants as need
 use Rattle.packed_words.specs.declared.prefix.Prefix.TheVariants.{Small, Large}
 use Rattle.packed_words.specs.Fields.{Reads}
 use Rattle.packed_words.specs.Prefix.{IsPrefix}
 use Rattle.word_table.specs.declared.name.WordName.TheVariants as name
 use Rattle.superblock_parts.specs.declared.point.BlockPoint.TheVariants as block
-use Rattle.superblock_parts.specs.Points.{after_prefix, after_owner}
-use Rattle.sound_state.proofs.quiet.QuietSteps.{StepsSteadily, LeadsOn, leads-on, quiet-at, quiet-steady, steady-at}
+use Rattle.superblock_parts.specs.Points.{after_prefix}
+use Rattle.sound_state.proofs.quiet.QuietSteps.{StepsSteadily, leads-on, onward, quiet-steady, steadily}
 use Rattle.sound_state.proofs.shared.OwnerLemmas.{begins-owned, prefix-ties, begins-free}
 use Rattle.sound_state.proofs.shared.PointLemmas.{blocks-go, fits-at, hazard-at, so-at, weigh-stays}
 use Rattle.sound_state.proofs.shared.KeepsSound.{KeepsSound}
 
--- what the word of a guarded descriptor leads to
-guarded-owner-leads :
-    (site : Site) (i : ℕ) (a : AnchorFields) (o : Continuation) (said : Option InfoFields)
-    → LeadsOn (Block (block.LoadOwner site i a) o) (At (Block (after_owner site i a said) o)) 0
-unfolding holds_of recalls_of
-guarded-owner-leads site i a o None = grind (arith)
-guarded-owner-leads site i a o (Some info) = grind (arith)
-
 -- the load of the owner of a guarded descriptor keeps the state sound
 pub load_guarded_owner-sound : (site : Site) (i : ℕ) (a : AnchorFields) (o : Continuation) → KeepsSound (Block (block.LoadOwner site i a) o)
-unfolding plan_point_of next_of event_of
-load_guarded_owner-sound site i a o g s caller s' sound has stands step =
-    quiet-at g s caller s' (Block (block.LoadOwner site i a) o) sound has stands (record { event = refl; cleared = refl; word = refl })
-    (leads-on g s caller _ _ 0 has stands (guarded-owner-leads site i a o (info_in site.seat.geometry (s.word (name.Info site.desc))))) step
+unfolding plan_point_of next_of event_of holds_of recalls_of
+load_guarded_owner-sound site i a o = onward _ 0 (grind (arith)) (λ w. grind (arith))
 
 -- a small prefix word is twice its descriptor
 small-prefix-word : (word d : ℕ) → word < 2 ^ 64 → prefix_of word ≡ Some (Small d) → word ≡ 2 * d
@@ -50,7 +39,7 @@ prefix-names g s l caller seat frame i o d old has stands is =
     let place : ℕ = block_place frame seat.class i in
     let fit = (fits-at g s l caller (Block (block.LoadPrefix seat frame i) o) old has stands).point in
     let (e, of, says) = prefix-ties g s l caller seat frame i o old has stands in
-    let same : e ≡ d = omega (arith, says, small-prefix-word (s.word (name.Arena place)) d (old.words (name.Arena place)) is) in
+    let same : e ≡ d = omega (arith, says, small-prefix-word (s.word (name.Arena place)) d (old.formed.words (name.Arena place)) is) in
     let located : IsLocated s d (frame_of place) seat.class = subst (λ e. IsLocated s e (frame_of place) seat.class) same of.located in (
       subst (λ e. IsTrue (is_bound g s l e)) same of.bound,
       subst (λ f. IsLocated s d f seat.class) (frame_of-block_place frame seat.class i fit.2) located,
@@ -109,9 +98,7 @@ prefix-said g s caller seat frame i o (Some (Small d)) has stands is =
 -- the load of a freed block's prefix word keeps the state sound
 pub load_prefix-sound : (seat : SeatFields) (frame i : ℕ) (o : Continuation) → KeepsSound (Block (block.LoadPrefix seat frame i) o)
 unfolding plan_point_of next_of event_of
-load_prefix-sound seat frame i o g s caller s' sound has stands step =
-    steady-at g s caller s' (Block (block.LoadPrefix seat frame i) o) sound has stands (record { event = refl; cleared = refl; word = refl })
-    (prefix-said g s caller seat frame i o (prefix_of (s.word (name.Arena (block_place frame seat.class i)))) has stands refl) step
+load_prefix-sound seat frame i o = steadily _ (grind (arith)) (λ g s caller has stands. prefix-said g s caller seat frame i o _ has stands refl)
 
 -- a hazard word that names a descriptor was stored, and so guards
 stored-guards : (stored : Bool) (e d word : ℕ) → IsHazard (if_stored stored e) word → word ≡ d + 1 → IsGuard (if_stored stored e)
@@ -151,6 +138,4 @@ push_anchor-said g s caller site i stored o (Some a) has stands =
 -- the load of an anchor for a push keeps the state sound
 pub load_push_anchor-sound : (site : Site) (i : ℕ) (stored : Bool) (o : Continuation) → KeepsSound (Block (block.LoadPushAnchor site i stored) o)
 unfolding plan_point_of next_of event_of
-load_push_anchor-sound site i stored o g s caller s' sound has stands step =
-    steady-at g s caller s' (Block (block.LoadPushAnchor site i stored) o) sound has stands (record { event = refl; cleared = refl; word = refl })
-    (push_anchor-said g s caller site i stored o (anchor_in site.seat.class (s.word (name.Anchor site.desc))) has stands) step
+load_push_anchor-sound site i stored o = steadily _ (grind (arith)) (λ g s caller. push_anchor-said g s caller site i stored o _)

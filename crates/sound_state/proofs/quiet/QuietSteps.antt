@@ -1,11 +1,12 @@
 -- Steps that leave their word, from a point that is known: they keep the state sound.
-use Rattle.std.proofs.Common.{ℕ, false, None, ◌≡◌, ◌<◌, ◌^◌, refl, sym, subst, All, drop}
+use Rattle.std.proofs.Common.{ℕ, false, None, ◌≡◌, ◌<◌, refl, sym, subst, All, drop}
 use Rattle.std.proofs.lemmas.List.Elements.{All-nil, All-drop}
-use Rattle.sound_state.proofs.Common.{Geometry, name_of, after_action, Next, End, Point, Idle, Reply, counts_cleared, event_of, next_of, plan_point_of, State, Step}
-use Rattle.sound_state.proofs.Common.{Lists, IsSo, recalls_of, IsSoundWithoutCounts, IsSoundWith, point_after}
+use Rattle.sound_state.proofs.Common.{Geometry, name_of, after_action, Next, End, Point, Idle, Reply, counts_cleared, event_of, found_by, next_of, plan_point_of, State}
+use Rattle.sound_state.proofs.Common.{Step, Lists, IsSo, recalls_of, IsSoundWithoutCounts, IsSoundWith, point_after}
 use Rattle.sound_state.proofs.quiet.QuietLemmas.{HoldsSame, same-point-goes, same-stays}
 use Rattle.sound_state.proofs.shared.PointLemmas.{WeighFrom, so-at, stays-actives, step-from}
 use Rattle.sound_state.proofs.shared.StepLemmas.{LeadsOrEnds, PointGoes, found_from}
+use Rattle.sound_state.proofs.shared.KeepsSound.{KeepsSound}
 
 -- the step tells nothing, clears nothing, and leaves its word
 pub record IsSilent (s : State) (caller : ℕ) (p : Point) : Type 0 where
@@ -32,7 +33,6 @@ steady-at g s caller s' p sound has stands silent h step =
       cleared = silent.cleared;
       goes = h.goes l old;
       weigh = subst (λ v. WeighFrom n (s.word n) v p (point_after (next_of p (found_from s p)))) (sym silent.word) (h.weighs (s.word n));
-      below = subst (λ v. v < 2 ^ 64) (sym silent.word) (old.words n);
       actives = λ words' w. stays-actives g s l n _ words' old w silent.word;
     })
     step
@@ -84,3 +84,30 @@ leads-on g s caller p n forgotten has stands h = record {
 pub ends-quietly : (g : Geometry) (s : State) (caller : ℕ) (p : Point) (r : Reply) → HoldsSame p Idle → LeadsQuietly g s caller p (End r)
 unfolding recalls_of
 ends-quietly g s caller p r holds = record { plain = tt; holds = holds; so = λ l old. All-nil (IsSo g s l caller) }
+
+-- whatever it finds in its word, a step from the point tells nothing, clears nothing, and leaves the word
+pub record IsMute (p : Point) : Type 0 where
+  pub event : (caller w : ℕ) → event_of caller p (found_by (plan_point_of p) w) ≡ None
+  pub cleared : (w : ℕ) → counts_cleared p (found_by (plan_point_of p) w) ≡ false
+  pub word : (w : ℕ) → after_action (plan_point_of p) w ≡ w
+
+mute-silent : (s : State) (caller : ℕ) (p : Point) → IsMute p → IsSilent s caller p
+mute-silent s caller p mute = record { event = mute.event caller _; cleared = mute.cleared _; word = mute.word _ }
+
+-- a step from a mute point that leads steadily on, or quietly, keeps the state sound
+pub steadily :
+    (p : Point) → IsMute p
+    → ((g : Geometry) (s : State) (caller : ℕ) → caller < g.callers → (s.errand caller).point ≡ p → StepsSteadily g s caller p (next_of p (found_from s p)))
+    → KeepsSound p
+steadily p mute leads g s caller s' sound has stands step =
+    steady-at g s caller s' p sound has stands (mute-silent s caller p mute) (leads g s caller has stands) step
+
+pub quietly :
+    (p : Point) → IsMute p
+    → ((g : Geometry) (s : State) (caller : ℕ) → caller < g.callers → (s.errand caller).point ≡ p → LeadsQuietly g s caller p (next_of p (found_from s p)))
+    → KeepsSound p
+quietly p mute leads = steadily p mute (λ g s caller has stands. quiet-steady g s caller p _ has stands (leads g s caller has stands))
+
+-- a step from a mute point that leads on, whatever it finds, keeps the state sound
+pub onward : (p : Point) (forgotten : ℕ) → IsMute p → ((w : ℕ) → LeadsOn p (next_of p (found_by (plan_point_of p) w)) forgotten) → KeepsSound p
+onward p forgotten mute leads = quietly p mute (λ g s caller has stands. leads-on g s caller p _ forgotten has stands (leads _))

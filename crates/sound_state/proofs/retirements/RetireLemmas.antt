@@ -1,29 +1,27 @@
 -- A step that retires the descriptor of an EMPTY superblock, and leaves its word or clears a hazard word, keeps the state sound.
-use Rattle.std.proofs.Common.{ℕ, Bool, true, false, None, ◌≡◌, ◌≢◌, ◌<◌, ◌≤◌, ◌+◌, ◌^◌, List, [], ◌∷◌, ◌++◌, length, refl, arith, ap, sym, subst, inl, inr, ◌∙◌}
-use Rattle.std.proofs.Common.{length-append, ne_eqb, eq-eqb, ◌==◌, ◌&&◌, ◌⊎◌, not, All, leb-true}
+use Rattle.std.proofs.Common.{ℕ, Bool, true, false, None, ◌≡◌, ◌≢◌, ◌<◌, ◌≤◌, ◌+◌, List, [], ◌∷◌, ◌++◌, length, refl, arith, ap, sym, subst, inl, inr, ◌∙◌, length-append}
+use Rattle.std.proofs.Common.{ne_eqb, eq-eqb, ◌==◌, ◌&&◌, ◌⊎◌, not, All, leb-true}
 use Rattle.std.proofs.lemmas.Bool.{cases_eq, cases_Bool, cond-true, cond-false}
 use Rattle.std.proofs.lemmas.List.Elements.{All-append, All-cons, All-nil}
 use Rattle.sound_state.proofs.Common.{Geometry, AnchorFields, anchor_of, is_empty, Found, WordName, descriptor_count, name_of, after_action, SeatFields, Exists, Writes}
-use Rattle.sound_state.proofs.Common.{cases_name, occurs, Event, At, End, Retire, Continuation, Point, Reply, Idle, Desc, ErrandFields, settle_of}
-use Rattle.sound_state.proofs.Common.{course_of, raised, counts_lost, counts_cleared, event_of, spare_of, next_of, plan_point_of, State, Step, Moves, action_at}
-use Rattle.sound_state.proofs.Common.{name_at, word_at, found_at, with_event, IsHazard, Status, holds_of, waiting, reserving, on_its_way, partly_used, word_keeps}
-use Rattle.sound_state.proofs.Common.{IsWithout, Lists, IsSo, recalls_of, IsSoundWithoutCounts, IsSoundWith, turn_stage_of, in_turn, is_unneeded, waits_in, word_stock}
-use Rattle.sound_state.proofs.Common.{sum_below, anchor_for, errand_keeps, errand_away, away_of, is_bound, word_reserves, emptied_out, one_if, pops_left, plan_of}
-use Rattle.sound_state.proofs.Common.{counts_won, is_full, no_words, resumed, event_at, plan-exists, HazardState, clear, nothing, keep, IsPlain, resumed_recalls}
-use Rattle.sound_state.proofs.Common.{lacks_frame, lacks_partial, lacks_answer}
+use Rattle.sound_state.proofs.Common.{occurs, Event, At, End, Retire, Continuation, Point, Reply, Idle, ErrandFields, settle_of, course_of, raised, counts_lost}
+use Rattle.sound_state.proofs.Common.{counts_cleared, event_of, spare_of, next_of, plan_point_of, State, Step, Moves, action_at, name_at, word_at, found_at, with_event}
+use Rattle.sound_state.proofs.Common.{IsHazard, Status, holds_of, on_its_way, partly_used, word_keeps, IsWithout, Lists, IsSo, recalls_of, IsSoundWithoutCounts}
+use Rattle.sound_state.proofs.Common.{IsSoundWith, turn_stage_of, in_turn, is_unneeded, waits_in, word_stock, sum_below, anchor_for, errand_keeps, errand_away, away_of}
+use Rattle.sound_state.proofs.Common.{is_bound, word_reserves, emptied_out, one_if, pops_left, plan_of, counts_won, is_full, scan_begins, resumed, event_at, plan-exists}
+use Rattle.sound_state.proofs.Common.{HazardState, clear, nothing, keep, IsPlain, resumed_recalls, lacks_frame, lacks_partial, lacks_answer}
 use Rattle.packed_words.specs.declared.anchor.AnchorState.TheVariants as phase
 use Rattle.word_table.specs.declared.name.WordName.TheVariants as name
-use Rattle.hazard_parts.specs.declared.point.DescPoint.TheVariants as desc
 use Rattle.sound_state.proofs.shared.AlikeLemmas.{sound-alike}
 use Rattle.sound_state.proofs.hazards.HazardLemmas.{hazard_caller, hazard-actives}
 use Rattle.sound_state.proofs.shared.ListFacts.{occurs-push}
 use Rattle.sound_state.proofs.shared.ShownLemmas.{MayGoOn}
 use Rattle.sound_state.proofs.shared.StepLemmas.{HoldsException, raised-least, raised-by, found_from, actives-stay, words-stay}
 use Rattle.sound_state.proofs.shared.HasLemmas.{kept-one, kept-itself, keeps-near}
-use Rattle.sound_state.proofs.shared.NothingLemmas.{HoldsNothing, scan-nothing, keeps-excepts, nothing-guards, settled-own, CountsGo, nothing-may}
+use Rattle.sound_state.proofs.shared.NothingLemmas.{HoldsNothing, scan-nothing, keeps-excepts, nothing-guards, nothing-may}
 use Rattle.sound_state.proofs.shared.SumLemmas.{sum-change, callers-moved}
 use Rattle.sound_state.proofs.shared.TagLemmas.{cleared-below}
-use Rattle.sound_state.proofs.shared.TurnEffects.{one_if-most}
+use Rattle.sound_state.proofs.shared.TurnEffects.{one_if-most, CountsGo}
 use Rattle.sound_state.proofs.shared.WeighLemmas.{WeighClose, weigh-close}
 use Rattle.sound_state.proofs.shared.SuperblocksStay.{ActivesKept}
 use Rattle.sound_state.proofs.shared.KeepsSound.{silent-sound}
@@ -90,7 +88,7 @@ retired_at e x d q =
 -- a retirement that fills the list begins a scan
 pub settle-full :
     (e : ErrandFields) (x : Found) (s : SeatFields) (d : ℕ) (o : Continuation) → next_of e.point x ≡ Retire s d o → is_full e ≡ true
-    → settle_of e x ≡ retired_at e x d (Desc (desc.ReadHazard s no_words 0) o)
+    → settle_of e x ≡ retired_at e x d (scan_begins s o)
 unfolding settle_of course_of
 settle-full e x s d o is full = rw (is, full) refl
 
@@ -132,11 +130,7 @@ occurs-other k d xs differ = omega (arith, occurs-push k d xs, cond-false {A = �
 
 lets-away :
     (d class : ℕ) (h : HazardState) (x : Found) (q : Point) (e : ErrandFields) → Lets e.point q d class partly_used h → GoesAway d e (retired_at e x d q)
-lets-away d class h x q e lets = record {
-  here = rw (lets.before, lets.bare.holds) (omega (arith, occurs-pushed d e.retired, kept-one on_its_way partly_used d d class));
-  elsewhere = λ k differ.
-      rw (lets.before, lets.bare.holds) (omega (arith, occurs-other k d e.retired differ, kept-one on_its_way partly_used k d class));
-}
+lets-away d class h x q e lets = grind (arith, lets, kept-one, occurs-other, occurs-pushed, on_its_way, partly_used)
 
 lets-weigh :
     (n : WordName) (before after d class : ℕ) (h : HazardState) (x : Found) (q : Point) (e : ErrandFields) → Lets e.point q d class partly_used h
@@ -144,18 +138,7 @@ lets-weigh :
     → ((k : ℕ) → word_keeps k n after ≡ word_keeps k n before) → ((c : ℕ) → word_stock c n after ≡ word_stock c n before)
     → WeighClose n before after e (retired_at e x d q)
 lets-weigh n before after d class h x q e lets plain reserves keeps stock =
-    let one = λ (as_kept : Status) (k : ℕ). kept-one as_kept partly_used k d class in
-    record {
-      plain = plain;
-      reserves = λ k. rw (lets.before, lets.bare.holds) (omega (arith, reserves k));
-      waits = λ k. rw (lets.before, lets.bare.holds) (sym (one waiting k));
-      ways = λ k. rw (lets.before, lets.bare.holds) (sym (one on_its_way k));
-      places = λ k.
-          rw (lets.before, lets.bare.holds)
-          (omega (arith, keeps k, occurs-push k d e.retired, one reserving k, one waiting k, one on_its_way k, one partly_used k));
-      frames = λ f. rw (lets.before, lets.bare.holds) refl;
-      stock = λ c. rw (lets.before, lets.bare.holds, lets.bare.waits c, lets.waits c) (omega (arith, stock c));
-    }
+    grind (arith, lets, plain, reserves, keeps, stock, kept-one, occurs-push, on_its_way, partly_used)
 
 -- a step after which its caller stands at q and has one more descriptor retired
 pub record RetiresTo (g : Geometry) (s : State) (caller : ℕ) (d class : ℕ) (h : HazardState) (q : Point) : Type 0 where
@@ -175,7 +158,6 @@ record WordsLeft (g : Geometry) (s : State) (caller : ℕ) (e : ErrandFields) (w
   pub others : (i : ℕ) → i ≢ caller → words' (name.Hazard i) ≡ s.word (name.Hazard i)
   pub own : words' (name.Hazard caller) ≡ 0
   pub actives : ActivesKept g s words'
-  pub below : (n : WordName) → words' n < 2 ^ 64
 
 -- a full list of retired descriptors with one more entry has one more than the heap has callers
 full-length : (e : ErrandFields) (d : ℕ) → is_full e ≡ true → length e.retired ≤ e.geometry.callers → length (e.retired ++ d ∷ []) ≡ e.geometry.callers + 1
@@ -185,15 +167,15 @@ full-length e d full room =
 -- a caller that retires a descriptor may go on, with these events
 pub retired-may :
     (g : Geometry) (s : State) (past : List Event) (l : Lists) (caller : ℕ) (x : Found) (d class : ℕ) (status : Status) (h : HazardState) (q : Point)
-    → IsSoundWith g s l → caller < g.callers → x.value < 2 ^ 64 → settle_of (s.errand caller) x ≡ retired_at (s.errand caller) x d q
+    → IsSoundWith g s l → caller < g.callers
     → Lets (s.errand caller).point q d class status h → (spare_of q ≡ 1 → is_full (s.errand caller) ≡ true) → IsWithout s d
     → All (IsSo g (record s { history = past }) l caller) (recalls_of q)
-    → CountsGo g (record s { history = past }) caller (s.errand caller) (retired_at (s.errand caller) x d q)
+    → CountsGo caller past (s.errand caller) (retired_at (s.errand caller) x d q)
     → MayGoOn g (record s { history = past }) l caller (s.errand caller) (retired_at (s.errand caller) x d q)
-retired-may g s past l caller x d class status h q old has word after lets full without so counts =
+retired-may g s past l caller x d class status h q old has lets full without so counts =
     let e = s.errand caller in
-    let own = old.errands caller has in
-    nothing-may g (record s { history = past }) l caller e (retired_at e x d q) lets.bare (settled-own g caller e x (retired_at e x d q) own word after)
+    let own = old.formed.errands caller has in
+    nothing-may g (record s { history = past }) l caller e (retired_at e x d q) lets.bare
     (All-append (IsWithout s) e.retired (d ∷ []) (old.kept.retired caller has) (All-cons (IsWithout s) d [] without (All-nil (IsWithout s))))
     (λ spare.
     let room : length e.retired ≤ e.geometry.callers = omega (arith, own.rule.room, lets.spare) in
@@ -214,7 +196,7 @@ retire-sound g s caller s' d class h q sound has to left step =
     let words = left l old in
     let x = found_at s caller in
     let e = retired_at (s.errand caller) x d q in
-    let own = old.errands caller has in
+    let own = old.formed.errands caller has in
     let exists : Exists g (name_at s caller) =
     subst (λ o. Exists o (name_at s caller)) own.geometry
     (plan-exists (s.errand caller).geometry (s.errand caller).caller (s.errand caller).point own.rule.geometry own.rule.caller own.rule.point) in
@@ -227,7 +209,7 @@ retire-sound g s caller s' d class h q sound has to left step =
     let near = keeps-near g s l caller d old has to.exists keeps in
     let cleared = raised-by (counts_cleared (s.errand caller).point x) (s.errand caller).cleared
     (cleared-below g s (record { checked = sound.checked; legal = sound.legal; parts = (l, old) }) caller has) in
-    silent-sound g s s' l sound past
+    silent-sound g s caller s' l sound has step past
     (sound-alike g s l caller e s'
     (record {
       in_heap = has;
@@ -236,26 +218,27 @@ retire-sound g s caller s' d class h q sound has to left step =
           weigh-close g s l caller (name_at s caller) _ e s' exists has step.word moves past
           (away-bound g s l caller d e s' has moves away anchors to.empty) words.weigh;
       may =
-          retired-may g s s.history l caller x d class partly_used h q old has (old.words (name_at s caller)) to.after to.lets to.full
+          retired-may g s s.history l caller x d class partly_used h q old has to.lets to.full
           (inr to.empty) (subst (All (IsSo g s l caller)) (sym to.recalls) (All-nil (IsSo g s l caller)))
           (record {
-            own_turns = omega (arith, old.turned.own_turns caller has, to.turn.under_way);
-            own_lost =
-                omega (
-                  arith,
-                  old.turned.own_lost caller has,
-                  to.turn.discards,
-                  to.turn.unanswered,
-                  raised-least (counts_lost (s.errand caller).point x) (s.errand caller).lost own.lost,
-                );
-            own_answers = omega (arith, old.turned.own_answers caller has, to.turn.unanswered);
+            own = record {
+              turns = omega (arith, old.turned.own_turns caller has, to.turn.under_way);
+              lost =
+                  omega (
+                    arith,
+                    old.turned.own_lost caller has,
+                    to.turn.discards,
+                    to.turn.unanswered,
+                    raised-least (counts_lost (s.errand caller).point x) (s.errand caller).lost own.lost,
+                  );
+              answers = omega (arith, old.turned.own_answers caller has, to.turn.unanswered);
+            };
             frame_turns = omega (arith, to.turn.unframed);
             list_turns = omega (arith, to.turn.pops, cleared);
           });
       others = words.others;
       guards = nothing-guards g s caller q e.retired (s'.word (name.Hazard caller)) to.lets.bare words.own;
       actives = words.actives;
-      words = words.below;
       emptied =
           let one = away-emptied g s l caller d e s' has moves away anchors to.empty to.exists near in
           omega (arith, one, cleared, one_if-most (counts_cleared (s.errand caller).point x));
@@ -278,7 +261,6 @@ retire-reads g s caller s' d class q sound has to same step =
       others = λ i differ. words (name.Hazard i);
       own = words (name.Hazard caller) ∙ subst (λ held. IsHazard held.hazard (s.word (name.Hazard caller))) to.lets.before (old.guarded.words caller has);
       actives = actives-stay g s l s'.word old.kept words;
-      below = λ m. subst (λ v. v < 2 ^ 64) (sym (words m)) (old.words m);
     })
     step
 
@@ -307,11 +289,6 @@ retire-clears g s caller s' d class h q sound has to named bare step =
       others = λ i differ. w.elsewhere (name.Hazard i) (λ same. differ (ap hazard_caller same));
       own = w.here ∙ bare;
       actives = hazard-actives g s l caller v s'.word old w;
-      below = λ m.
-          elim (cases_name m (name.Hazard caller)) [
-            | inl is ↦ subst (λ u. u < 2 ^ 64) (sym (ap s'.word is ∙ w.here ∙ bare)) (omega arith)
-            | inr differ ↦ subst (λ u. u < 2 ^ 64) (sym (w.elsewhere m differ)) (old.words m)
-          ];
     })
     step
 
@@ -341,7 +318,7 @@ pub record Retires (g : Geometry) (s : State) (caller : ℕ) (p : Point) (seat :
   pub unrefused : resumed_recalls seat o ≡ []
   pub unspared : spare_of q ≡ 0
   pub turn : TurnRetires p q (found_from s p)
-  pub scans : TurnRetires p (Desc (desc.ReadHazard seat no_words 0) o) (found_from s p)
+  pub scans : TurnRetires p (scan_begins seat o) (found_from s p)
 
 -- a retirement leads to a scan, or resumes the call
 retires-to :
@@ -352,7 +329,7 @@ retires-to g s caller seat d h o q P r leads =
     let e = s.errand caller in
     elim (cases_Bool (is_full e)) [
       | inl full ↦
-          leads (Desc (desc.ReadHazard seat no_words 0) o)
+          leads (scan_begins seat o)
           (record {
             after = settle-full e (found_at s caller) seat d o r.next full;
             event = r.event;

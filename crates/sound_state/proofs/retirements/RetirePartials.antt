@@ -18,13 +18,7 @@ use Rattle.sound_state.proofs.shared.KeepsSound.{KeepsSound, KeepsSoundWhere}
 -- an allocation that looks for a partial superblock again holds nothing
 look-nothing : (seat : SeatFields) (need : ℕ) → HoldsNothing (Partial (partial.LoadSlot seat) (Alloc need))
 unfolding holds_of
-look-nothing seat need = record {
-  holds = refl;
-  waits = λ class. refl;
-  pushed = refl;
-  passed = refl;
-  unread = λ i lt. let bad : ⊥ = omega (arith, lt) in absurd bad;
-}
+look-nothing seat need = grind (arith)
 
 -- the load of a taken superblock's anchor keeps the state sound, where it is EMPTY
 pub load_grant_anchor_empty-sound :

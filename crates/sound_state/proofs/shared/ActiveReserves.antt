@@ -1,81 +1,29 @@
 -- An ACTIVE superblock has a block reserved.
-use Rattle.std.proofs.Common.{ℕ, Option, Some, None, ◌≡◌, ◌≢◌, ◌<◌, ◌≤◌, ◌+◌, List, [], ◌∷◌, refl, arith, ap, sym, subst, inl, inr, ◌∙◌, ne_eqb, ◌==◌, ◌&&◌, All}
-use Rattle.std.proofs.Common.{IsTrue, if◌then◌else◌}
+use Rattle.std.proofs.Common.{ℕ, ◌≡◌, ◌≢◌, ◌<◌, ◌≤◌, ◌+◌, List, [], ◌∷◌, refl, arith, ap, subst, inl, inr, ne_eqb, ◌==◌, ◌&&◌, All, IsTrue, if◌then◌else◌}
 use Rattle.std.proofs.lemmas.Bool.{cases_eq, cond-false}
 use Rattle.std.proofs.lemmas.List.Elements.{All-head, All-tail}
-use Rattle.sound_state.proofs.Common.{Geometry, CLASSES, active_of, Null, Held, ActiveWord, descriptor_count, word_count, Exists, word_name, WordName, Site, occurs}
-use Rattle.sound_state.proofs.Common.{BlockPoint, Credit, LastCredit, Grant, Share, StackPoint, DescPoint, PartialPoint, LargePoint, FitsPoint, State, Continuation}
-use Rattle.sound_state.proofs.Common.{Point, Holding, Kept, Status, reserving, waiting, partly_used, on_its_way, holds_before_pop, holds_of, IsKept, IsPartlyUsed}
-use Rattle.sound_state.proofs.Common.{IsKeptAs, errand_has, full_keeps, word_keeps, Lists, IsSoundWith, sum_below, words_sum, callers_sum, anchor_for, is_bound}
-use Rattle.sound_state.proofs.Common.{away_of, errand_away, errand_reserves, word_reserves, reserved_of, reserved_among, kept_among, word_name-Exists, FitsBlock}
-use Rattle.sound_state.proofs.Common.{holds_after_pop, block_holds, stack_holds, desc_holds, partial_holds, active_keeps, offered, same_status}
+use Rattle.sound_state.proofs.Common.{Geometry, CLASSES, descriptor_count, word_count, Exists, word_name, WordName, occurs, FitsPoint, State, Point, Holding, Kept, Status}
+use Rattle.sound_state.proofs.Common.{reserving, waiting, partly_used, on_its_way, holds_of, IsKept, IsPartlyUsed, IsKeptAs, errand_has, full_keeps, word_keeps, Lists}
+use Rattle.sound_state.proofs.Common.{IsSoundWith, sum_below, words_sum, callers_sum, anchor_for, is_bound, away_of, errand_away, errand_reserves, word_reserves}
+use Rattle.sound_state.proofs.Common.{reserved_of, reserved_among, kept_among, word_name-Exists, same_status}
 use Rattle.packed_words.specs.declared.anchor.AnchorState.TheVariants as phase
-use Rattle.word_table.specs.declared.name.WordName.TheVariants as name
-use Rattle.superblock_parts.specs.declared.point.BlockPoint.TheVariants as block
-use Rattle.errand_steps.specs.declared.point.Point.TheVariants as point
-use Rattle.sound_state.specs.Holdings.{large_holds}
 use Rattle.sound_state.proofs.shared.HasLemmas.{bound-away}
 use Rattle.sound_state.proofs.shared.PointLemmas.{fits-at}
 use Rattle.sound_state.proofs.shared.SumLemmas.{sum-none, term-sum}
 
--- a caller in a superblock of which it has no block reserved keeps it neither reserving nor waiting
-before-keeps :
-    (d x class : ℕ) (share : Share) → reserved_among d (holds_before_pop x class share).credits ≡ 0
-    → kept_among reserving d (holds_before_pop x class share).kept + kept_among waiting d (holds_before_pop x class share).kept ≡ 0
-before-keeps d x class Credit none = grind (arith, none)
-before-keeps d x class LastCredit none = grind (arith, none)
-before-keeps d x class (Grant more) none = grind (arith, none)
-
-after-keeps :
-    (d : ℕ) (at : Site) (k more : ℕ) → 1 ≤ more → reserved_among d (holds_after_pop at k more).credits ≡ 0
-    → kept_among reserving d (holds_after_pop at k more).kept + kept_among waiting d (holds_after_pop at k more).kept ≡ 0
-after-keeps d at k more some none = grind (arith, some, none)
-
+-- the descriptor is kept neither reserving nor waiting
 abbrev KeepsNone : ℕ → Holding → Type 0
 KeepsNone d h = kept_among reserving d h.kept + kept_among waiting d h.kept ≡ 0
-
-block-keeps :
-    (g : Geometry) (caller d : ℕ) (p : BlockPoint) → FitsBlock g caller p → reserved_among d (block_holds p).credits ≡ 0 → KeepsNone d (block_holds p)
-block-keeps g caller d (block.LoadInfo s x share) fits none = before-keeps d x s.class share none
-block-keeps g caller d (block.LoadAnchor at share) fits none = before-keeps d at.desc at.seat.class share none
-block-keeps g caller d (block.LoadLink at share a) fits none = before-keeps d at.desc at.seat.class share none
-block-keeps g caller d (block.PopBlock at share a prefix) fits none = before-keeps d at.desc at.seat.class share none
-block-keeps g caller d (block.InstallCredits at k more) fits none = after-keeps d at k more fits.1.0 none
-block-keeps g caller d (block.InstallSuperblock at) fits none = grind (arith, none)
-block-keeps g caller d (block.LoadReturn at k more) fits none = after-keeps d at k more fits.1.0 none
-block-keeps g caller d (block.ReturnCredits at k more a) fits none = after-keeps d at k more fits.1.0 none
-block-keeps g caller d p fits none = grind (arith)
-
-stack-keeps : (d : ℕ) (p : StackPoint) (o : Continuation) → KeepsNone d (stack_holds p o)
-stack-keeps d p o = grind (arith)
-
-desc-keeps : (d : ℕ) (p : DescPoint) (o : Continuation) → KeepsNone d (desc_holds p o)
-desc-keeps d p o = grind (arith)
-
-partial-keeps : (d : ℕ) (p : PartialPoint) (o : Continuation) → KeepsNone d (partial_holds p o)
-partial-keeps d p o = grind (arith)
-
-large-keeps : (d : ℕ) (p : LargePoint) → KeepsNone d (large_holds p)
-large-keeps d p = grind (arith)
 
 -- a caller at any point that has no block of a superblock reserved keeps it neither reserving nor waiting
 point-keeps :
     (g : Geometry) (caller d : ℕ) (p : Point) → FitsPoint g caller p → reserved_among d (holds_of p).credits ≡ 0 → KeepsNone d (holds_of p)
 unfolding holds_of
-point-keeps g caller d point.Idle fits none = refl
-point-keeps g caller d (point.Block p o) fits none = block-keeps g caller d p fits.point none
-point-keeps g caller d (point.Stack p o) fits none = stack-keeps d p o
-point-keeps g caller d (point.Desc p o) fits none = desc-keeps d p o
-point-keeps g caller d (point.Partial p o) fits none = partial-keeps d p o
-point-keeps g caller d (point.Large p o) fits none = large-keeps d p
+point-keeps g caller d p fits none = grind (arith, fits, none)
 
 -- an ACTIVE superblock isn't partly used, so none is kept so
 not-partly : (s : State) (d c : ℕ) → (anchor_for s d).state ≡ phase.Active → IsPartlyUsed s d c → ⊥
-not-partly s d c active is =
-    elim is.state [
-      | inl some ↦ let bad : phase.Active ≡ phase.Partial = sym active ∙ some.0 in cc
-      | inr empty ↦ let bad : phase.Active ≡ phase.Empty = sym active ∙ empty in cc
-    ]
+not-partly s d c active is = grind (arith, active, is)
 
 one-partly :
     (s : State) (d x class : ℕ) (status : Status) → (anchor_for s d).state ≡ phase.Active → IsKeptAs s status x class
@@ -108,19 +56,10 @@ occurs-none P d (x ∷ xs) bad all =
     omega (arith, cond-false {A = ℕ} (x == d) 1 0 (ne_eqb x d differ), occurs-none P d xs bad (All-tail P x xs all))
 
 -- no active word or slot holds an ACTIVE superblock of which nothing is reserved
-none-offered : (d : ℕ) (o : Option ActiveWord) → offered d o ≡ 0 → active_keeps d o ≡ 0
-none-offered d None none = refl
-none-offered d (Some Null) none = refl
-none-offered d (Some (Held x credits)) none = grind (arith, none)
-
 word-keeps-none :
     (g : Geometry) (s : State) (l : Lists) (d : ℕ) (n : WordName) → IsKept g s l → Exists g n → (anchor_for s d).state ≡ phase.Active
     → word_reserves d n (s.word n) ≡ 0 → word_keeps d n (s.word n) ≡ 0
-word-keeps-none g s l d (name.Active heap class) kept has active none = none-offered d (active_of (s.word (name.Active heap class))) none
-word-keeps-none g s l d (name.Slot heap class) kept has active none =
-    cond-false {A = ℕ} (s.word (name.Slot heap class) == d + 1) 1 0
-    (ne_eqb (s.word (name.Slot heap class)) (d + 1) (λ is. not-partly s d class active (kept.slot heap class d has.0 has.1 is).1))
-word-keeps-none g s l d n kept has active none = refl
+word-keeps-none g s l d n kept has active none = grind (arith, kept, has, active, none, ne_eqb, not-partly)
 
 -- an ACTIVE superblock has a block reserved
 pub active-reserves :

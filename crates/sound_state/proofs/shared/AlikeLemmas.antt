@@ -1,10 +1,9 @@
 -- A step that changes no superblock, no list and no event: a caller goes on, at most active words and slots change, and at most an EMPTY superblock's descriptor is retired.
-use Rattle.std.proofs.Common.{ℕ, ◌≡◌, ◌≢◌, ◌<◌, ◌≤◌, ◌+◌, ◌^◌, arith, sym, subst}
-use Rattle.sound_state.proofs.Common.{Geometry, WordName, descriptor_count, Partials, Stacked, next_in, ErrandFields, State, Moves, errand_frames, on_its_way, Lists}
-use Rattle.sound_state.proofs.Common.{IsSoundWith, sum_below, callers_sum, reserved_of, waiting_of, is_bound, errand_keeps, emptied_out, places_of, IsPlain, IsStocked}
+use Rattle.std.proofs.Common.{ℕ, ◌≡◌, ◌≢◌, ◌<◌, ◌≤◌, ◌+◌, arith}
+use Rattle.sound_state.proofs.Common.{Geometry, WordName, descriptor_count, ErrandFields, State, Moves, errand_frames, on_its_way, Lists, IsSoundWith, sum_below}
+use Rattle.sound_state.proofs.Common.{callers_sum, reserved_of, waiting_of, is_bound, errand_keeps, emptied_out, places_of, IsPlain, IsStocked, IsFormed}
 use Rattle.word_table.specs.declared.name.WordName.TheVariants as name
-use Rattle.sound_state.proofs.shared.RecallFrame.{Part}
-use Rattle.sound_state.proofs.shared.ShownLemmas.{IsShown, IsListedPart, ShowsSame, sound-but_one, sound-shown, MayGoOn, MayGuard, IsSoundBut}
+use Rattle.sound_state.proofs.shared.ShownLemmas.{ShowsSame, sound-but_one, sound-shown, MayGoOn, MayGuard, IsSoundBut}
 use Rattle.sound_state.proofs.shared.SuperblocksStay.{ActivesKept}
 
 -- the state s' shows the same superblocks, lists and events as s
@@ -28,57 +27,24 @@ pub record GoesAlike (g : Geometry) (s : State) (l : Lists) (caller : ℕ) (e : 
   pub others : (i : ℕ) → i ≢ caller → s'.word (name.Hazard i) ≡ s.word (name.Hazard i)
   pub guards : MayGuard g s caller e.point e.retired (s'.word (name.Hazard caller))
   pub actives : ActivesKept g s s'.word
-  pub words : (n : WordName) → s'.word n < 2 ^ 64
   pub emptied :
       sum_below (descriptor_count g) (emptied_out g s' l) + e.cleared
       ≤ sum_below (descriptor_count g) (emptied_out g s l) + (s.errand caller).cleared
 
--- a word that is shown is plain: no active word, no slot and no hazard word
-plain-shown : (n : WordName) → IsShown n → IsPlain n
-plain-shown n shown = grind (arith)
-
--- what was available is
-listed-alike : (l : Lists) (p : Part) → IsListedPart l l.available p
-listed-alike l p = grind (arith)
-
+-- a state after that shows the same, and what was available is
 shows-alike :
     (g : Geometry) (s : State) (l : Lists) (caller : ℕ) (e : ErrandFields) (s' : State) → GoesAlike g s l caller e s' → IsSoundBut g s l caller
     → ShowsSame g s l caller e s' l.available
-shows-alike g s l caller e s' go sound =
-    let h = go.alike in
-    record {
-      in_heap = go.in_heap;
-      moves = go.moves;
-      may = go.may;
-      others = go.others;
-      guards = go.guards;
-      actives = go.actives;
-      words = go.words;
-      word = λ n shown. h.word n (plain-shown n shown);
-      history = h.history;
-      stacked = subst (λ w. Stacked (next_in s.word Partials) w l.available) (sym (h.word name.DescHead tt)) sound.listed.available;
-      exist = sound.listed.available_exist;
-      without = sound.kept.available;
-      reserved = h.reserved;
-      waits = h.waits;
-      ways = λ d off. h.ways d;
-      bound = h.bound;
-      places = h.places;
-      frames = h.frames;
-      stock = h.stock;
-      emptied = go.emptied;
-      stays = λ i has k d lt. listed-alike l _;
-      stays_here = λ k d lt. listed-alike l _;
-    }
+shows-alike g s l caller e s' go sound = grind (arith, go, sound)
 
 -- a caller that goes on alike makes sound a state that is so but for what it remembers and how often it was answered
 pub sound-but :
     (g : Geometry) (s : State) (l : Lists) (caller : ℕ) (e : ErrandFields) (s' : State) → GoesAlike g s l caller e s' → IsSoundBut g s l caller
-    → IsSoundWith g s' l
-sound-but g s l caller e s' go sound = sound-shown g s l caller e s' l.available (shows-alike g s l caller e s' go sound) sound
+    → IsFormed g s' → IsSoundWith g s' l
+sound-but g s l caller e s' go sound formed = sound-shown g s l caller e s' l.available (shows-alike g s l caller e s' go sound) sound formed
 
 -- a step after which a state shows the same keeps it sound
 pub sound-alike :
     (g : Geometry) (s : State) (l : Lists) (caller : ℕ) (e : ErrandFields) (s' : State) → GoesAlike g s l caller e s' → IsSoundWith g s l
-    → IsSoundWith g s' l
+    → IsFormed g s' → IsSoundWith g s' l
 sound-alike g s l caller e s' go sound = sound-but g s l caller e s' go (sound-but_one g s l caller sound)

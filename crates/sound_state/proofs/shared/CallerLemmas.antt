@@ -1,11 +1,10 @@
 -- What holds of each caller after one of them has gone on.
 use Rattle.std.proofs.Common.{ℕ, ◌≡◌, ◌≢◌, ◌<◌, sym, subst, inl, inr}
 use Rattle.std.proofs.lemmas.Bool.{cases_eq}
-use Rattle.sound_state.proofs.Common.{Geometry, ErrandFields, Moves, IsOwnErrand}
+use Rattle.sound_state.proofs.Common.{Geometry, ErrandFields, Moves}
 
 -- an errand of the caller has the retired list and the counts that the one before it had
-pub record KeepsCounts (g : Geometry) (caller : ℕ) (a b : ErrandFields) : Type 0 where
-  pub rule : IsOwnErrand g caller b
+pub record KeepsCounts (a b : ErrandFields) : Type 0 where
   pub retired : b.retired ≡ a.retired
   pub turns : b.turns ≡ a.turns
   pub lost : b.lost ≡ a.lost

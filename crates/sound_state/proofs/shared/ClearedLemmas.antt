@@ -1,5 +1,5 @@
 -- Cleared counts are at most the turns.
-use Rattle.std.proofs.Common.{ℕ, ◌<◌, ◌≤◌, ◌*◌, ◌^◌, arith, ap}
+use Rattle.std.proofs.Common.{ℕ, ◌<◌, ◌≤◌, ◌*◌, ◌^◌, arith}
 use Rattle.sound_state.proofs.Common.{Geometry, State, Lists, IsSoundWith, IsSoundWithoutCounts, callers_sum, TAG_BITS, cleared_of, turns_of}
 use Rattle.sound_state.proofs.shared.SumLemmas.{sum-most, term-sum}
 use Rattle.sound_state.proofs.shared.TagLemmas.{small-freed, given-most, turns-most}
@@ -18,12 +18,7 @@ cleared-one g s caller has = term-sum g.callers (λ i. cleared_of (s.errand i)) 
 -- all turns are at most the callers times the turn limit
 turns-limited : (g : Geometry) (s : State) → IsSoundWithoutCounts g s → callers_sum g turns_of s.errand ≤ g.callers * g.turn_limit
 unfolding callers_sum
-turns-limited g s sound =
-    sum-most g.callers (λ caller. turns_of (s.errand caller)) g.turn_limit
-    (λ caller has.
-    let own = sound.parts.1.errands caller has in
-    let limit = ap (λ (o : Geometry). o.turn_limit) own.geometry in
-    omega (arith, own.rule.turns, limit))
+turns-limited g s sound = grind (arith, sound, sum-most)
 
 pub cleared-each : (g : Geometry) (s : State) (caller : ℕ) → IsSoundWithoutCounts g s → caller < g.callers → (s.errand caller).cleared ≤ g.callers * g.turn_limit
 cleared-each g s caller sound has =

@@ -1,10 +1,10 @@
 -- Exchanges that are won and lead on, and what the active words hold after a write of one.
-use Rattle.std.proofs.Common.{ℕ, true, false, Some, None, ◌≡◌, ◌<◌, ◌≤◌, ◌^◌, refl, arith, ap, sym, subst, inl, inr, ◌∙◌, eq-eqb, ◌==◌, IsTrue, IsSome}
+use Rattle.std.proofs.Common.{ℕ, true, false, Some, None, ◌≡◌, ◌<◌, ◌≤◌, refl, arith, ap, sym, subst, inl, inr, ◌∙◌, eq-eqb, ◌==◌, IsTrue, IsSome}
 use Rattle.std.proofs.lemmas.Bool.{cond-true}
 use Rattle.sound_state.proofs.Common.{Geometry, Held, active_of, Found, WordName, name_of, after_action, descriptor_count, Exists, word_name, word_count, Writes}
-use Rattle.sound_state.proofs.Common.{cases_name, Point, At, ErrandFields, counts_cleared, event_of, next_of, plan_point_of, State, Step, IsKept, word_keeps}
-use Rattle.sound_state.proofs.Common.{errand_has, Lists, IsSoundWithoutCounts, IsSoundWith, sum_below, words_sum, callers_sum, is_bound, away_of, errand_away, Cas}
-use Rattle.sound_state.proofs.Common.{found_by, word_index, word_index-within, word_name-word_index, IsActive}
+use Rattle.sound_state.proofs.Common.{cases_name, Point, At, counts_cleared, event_of, next_of, plan_point_of, State, Step, IsKept, word_keeps, Lists, IsSoundWithoutCounts}
+use Rattle.sound_state.proofs.Common.{IsSoundWith, sum_below, words_sum, callers_sum, is_bound, away_of, Cas, found_by, word_index, word_index-within, word_name-word_index}
+use Rattle.sound_state.proofs.Common.{IsActive}
 use Rattle.word_table.specs.declared.name.WordName.TheVariants as name
 use Rattle.sound_state.proofs.shared.PointLemmas.{WeighFrom, step-from}
 use Rattle.sound_state.proofs.shared.StepLemmas.{PointGoes, found_from}
@@ -20,23 +20,12 @@ word-sum g weight words n exists =
     subst (λ m. weight m (words m) ≤ sum_below (word_count g) (λ k. weight (word_name g k) (words (word_name g k)))) (word_name-word_index g n exists)
     (term-sum (word_count g) (λ k. weight (word_name g k) (words (word_name g k))) (word_index g n) (word_index-within g n exists))
 
--- an errand has what it has away
-away-has : (d : ℕ) (e : ErrandFields) → errand_away d e ≤ errand_has d e
-away-has d e = omega arith
-
 -- a descriptor that stands in an active word or a slot isn't away
 pub word-keeps-away :
     (g : Geometry) (s : State) (l : Lists) (d : ℕ) (n : WordName) → IsKept g s l → d < descriptor_count g → Exists g n
     → word_keeps d n (s.word n) ≡ 1 → away_of g s l d ≡ 0
 unfolding callers_sum
-word-keeps-away g s l d n kept has exists keeps =
-    omega (
-      arith,
-      kept.once d has,
-      keeps,
-      word-sum g (word_keeps d) s.word n exists,
-      sum-least g.callers (λ i. errand_away d (s.errand i)) (λ i. errand_has d (s.errand i)) (λ i lt. away-has d (s.errand i)),
-    )
+word-keeps-away g s l d n kept has exists keeps = grind (arith, kept, has, exists, keeps, word-sum, sum-least)
 
 -- an active superblock that isn't away is bound
 pub active-bound :
@@ -87,7 +76,6 @@ pub record WinsTo (g : Geometry) (s : State) (caller : ℕ) (p q : Point) (n : W
   pub next : next_of p (won_with (s.word n)) ≡ At q
   pub event : event_of caller p (won_with (s.word n)) ≡ None
   pub cleared : counts_cleared p (won_with (s.word n)) ≡ false
-  pub below : new < 2 ^ 64
   pub weighs : WeighFrom n expected new p q
   pub goes : (l : Lists) → IsSoundWith g s l → PointGoes g s l caller p q
   pub actives : (l : Lists) → IsSoundWith g s l → (words' : WordName → ℕ) → Writes s.word n new words' → ActivesKept g s words'
@@ -108,7 +96,6 @@ won-at g s caller s' p q n expected new sound has stands h is step =
       cleared = ap (counts_cleared p) found ∙ h.cleared;
       goes = h.goes l old;
       weigh = rw (h.plan, after, is) h.weighs;
-      below = rw (h.plan, after) h.below;
       actives = λ words' w.
           h.actives l old words'
           (subst (λ v. Writes s.word n v words') after

@@ -1,5 +1,5 @@
 -- Counts of events, and a caller's own events, after one event more.
-use Rattle.std.proofs.Common.{ℕ, Bool, false, cond, ◌≡◌, ◌≢◌, ◌+◌, List, [], ◌∷◌, ◌++◌, arith, ◌∙◌, append-nil, refl, ap, eq-eqb, append_assoc, count_by, ne_eqb}
+use Rattle.std.proofs.Common.{ℕ, Bool, false, cond, ◌≡◌, ◌≢◌, ◌+◌, List, [], ◌∷◌, ◌++◌, arith, ◌∙◌, append-nil, eq-eqb, append_assoc, count_by, ne_eqb}
 use Rattle.std.proofs.lemmas.Bool.{cond-false}
 use Rattle.std.proofs.lemmas.List.Sums.{sum_by_push}
 use Rattle.sound_state.proofs.Common.{need_of, Small, own, Event, own-append, caller_of, EndsWith, Looked, Refuse, EndsRefused}
@@ -21,11 +21,4 @@ told-own i history event other =
 pub refused-ends :
     (caller : ℕ) (history : List Event) (words class : ℕ) → need_of words ≡ Small class → EndsWith (own caller history) (Looked caller class)
     → EndsRefused (own caller (history ++ Refuse caller words ∷ [])) caller class
-refused-ends caller history words class served ends =
-    let last : own caller (history ++ Refuse caller words ∷ []) ≡ own caller history ++ Refuse caller words ∷ [] =
-    own-append caller history (Refuse caller words ∷ []) ∙ rw (eq-eqb caller caller refl) refl in (
-      ends.0,
-      words,
-      served,
-      last ∙ ap (λ xs. xs ++ Refuse caller words ∷ []) ends.1 ∙ append_assoc ends.0 (Looked caller class ∷ []) (Refuse caller words ∷ []),
-    )
+refused-ends caller history words class served ends = grind (arith, served, ends, append_assoc, eq-eqb, own-append)

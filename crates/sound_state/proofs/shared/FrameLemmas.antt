@@ -1,12 +1,10 @@
 -- No two superblocks lie in one frame, whether they wait to be installed or not.
-use Rattle.std.proofs.Common.{ℕ, Option, Some, None, ◌≡◌, ◌≢◌, ◌<◌, ◌≤◌, refl, arith, ap, sym, subst, inl, inr, ◌∙◌, ◌==◌, ◌&&◌, if◌then◌else◌, All, IsTrue, ◌⊎◌}
-use Rattle.std.proofs.Common.{eq-eqb, ne_eqb}
-use Rattle.std.proofs.lemmas.Bool.{cases_eq, cond-true, cond-false, and_from}
-use Rattle.std.specs.List.{AllByRecursion}
+use Rattle.std.proofs.Common.{ℕ, Option, Some, None, ◌≡◌, ◌≢◌, ◌<◌, ◌≤◌, refl, arith, ap, sym, subst, inl, inr, ◌∙◌, ◌==◌, if◌then◌else◌, All, IsTrue, ◌⊎◌, eq-eqb, ne_eqb}
+use Rattle.std.proofs.lemmas.Bool.{cases_eq, cond-true}
 use Rattle.std.proofs.lemmas.List.Elements.{recursion_from_All}
 use Rattle.std.proofs.lemmas.Option.{none-some}
 use Rattle.sound_state.proofs.Common.{Geometry, descriptor_count, Site, occurs, BlockPoint, Point, State, errand_frames, fills_frame, waiting, holds_of, Lists, IsSo}
-use Rattle.sound_state.proofs.Common.{IsLocated, recalls_of, IsSoundWith, callers_sum, kept_among, errand_keeps, waiting_of, is_bound, info_for, block_recalls}
+use Rattle.sound_state.proofs.Common.{IsLocated, recalls_of, IsSoundWith, callers_sum, kept_among, errand_keeps, waiting_of, is_bound, info_for}
 use Rattle.superblock_parts.specs.declared.point.BlockPoint.TheVariants as block
 use Rattle.errand_steps.specs.declared.point.Point.TheVariants as point
 use Rattle.sound_state.proofs.shared.SumLemmas.{some-term, term-sum, two-terms}
@@ -43,26 +41,17 @@ frames-held f p = grind (arith)
 site-is : (d : ℕ) (o : Option Site) → 1 ≤ is_desc d o → (at : Site) × (o ≡ Some at) × (at.desc ≡ d)
 site-is d None has = absurd (omega (arith, has))
 site-is d (Some at) has =
-    elim (cases_eq at.desc d) [
-      | inl same ↦ (at, refl, same)
-      | inr differ ↦
-          let none : is_desc d (Some at) ≡ 0 = cond-false {A = ℕ} (at.desc == d) 1 0 (ne_eqb at.desc d differ) in
-          absurd (omega (arith, has, none))
-    ]
+    elim (cases_eq at.desc d) [ inl same ↦ (at, refl, same) | inr differ ↦ absurd (let bad : ⊥ = grind (arith, has, ne_eqb at.desc d differ) in bad) ]
 
 -- a caller that is about to install a superblock remembers where it lies
-located-block :
-    (g : Geometry) (s : State) (l : Lists) (caller : ℕ) (p : BlockPoint) (at : Site) → AllByRecursion (IsSo g s l caller) (block_recalls p)
-    → installing_block p ≡ Some at → IsLocated s at.desc at.frame at.seat.class
-located-block g s l caller (block.InstallSuperblock site) at so is =
-    let same : site ≡ at = grind (arith, is) in subst (λ x. IsLocated s x.desc x.frame x.seat.class) same so.1.0.1
-located-block g s l caller p at so is = absurd (grind (arith, is))
-
 located-site :
     (g : Geometry) (s : State) (l : Lists) (caller : ℕ) (p : Point) (at : Site) → All (IsSo g s l caller) (recalls_of p)
     → installing p ≡ Some at → IsLocated s at.desc at.frame at.seat.class
 unfolding recalls_of
-located-site g s l caller (point.Block p o) at so is = located-block g s l caller p at (recursion_from_All (IsSo g s l caller) (block_recalls p) so) is
+located-site g s l caller (point.Block (block.InstallSuperblock site) o) at so is =
+    let same : site ≡ at = grind (arith, is) in
+    let each = recursion_from_All (IsSo g s l caller) (recalls_of (point.Block (block.InstallSuperblock site) o)) so in
+    subst (λ x. IsLocated s x.desc x.frame x.seat.class) same each.1.0.1
 located-site g s l caller p at so is = absurd (none-some at is)
 
 waiting-framed :
@@ -84,10 +73,7 @@ one-desc d e o differ has = grind (arith, differ, has)
 pub bound-fills :
     (g : Geometry) (s : State) (l : Lists) (d f : ℕ) → IsTrue (is_bound g s l d) → waiting_of g s d ≡ 0 → (info_for s d).frame ≡ f
     → fills_frame g s l f d ≡ 1
-bound-fills g s l d f bound none lies =
-    cond-true {A = ℕ} (is_bound g s l d && (waiting_of g s d == 0) && ((info_for s d).frame == f)) 1 0
-    (and_from (is_bound g s l d && (waiting_of g s d == 0)) ((info_for s d).frame == f)
-    (and_from (is_bound g s l d) (waiting_of g s d == 0) bound (eq-eqb (waiting_of g s d) 0 none)) (eq-eqb (info_for s d).frame f lies))
+bound-fills g s l d f bound none lies = rw (bound, none, lies, eq-eqb f f refl) refl
 
 -- some caller is about to install the superblock of d
 abbrev WaitsToInstall : Geometry → State → ℕ → Type 0
@@ -152,9 +138,8 @@ bound-apart g s l d e f old has_d has_e has_f bound_d bound_e lies_d lies_e diff
 
 -- bound superblocks in one frame are one
 pub one-in-frame :
-    (g : Geometry) (s : State) (l : Lists) (f d k : ℕ) → IsSoundWith g s l → f < g.frames → d < descriptor_count g
-    → k < descriptor_count g → IsTrue (is_bound g s l d) → IsTrue (is_bound g s l k) → (info_for s d).frame ≡ f
-    → (info_for s k).frame ≡ f → d ≡ k
+    (g : Geometry) (s : State) (l : Lists) (f d k : ℕ) → IsSoundWith g s l → f < g.frames → d < descriptor_count g → k < descriptor_count g
+    → IsTrue (is_bound g s l d) → IsTrue (is_bound g s l k) → (info_for s d).frame ≡ f → (info_for s k).frame ≡ f → d ≡ k
 one-in-frame g s l f d k is has has_d has_k bound_d bound_k at_d at_k =
     elim (cases_eq d k) [
       | inl same ↦ same
@@ -164,8 +149,7 @@ one-in-frame g s l f d k is has has_d has_k bound_d bound_k at_d at_k =
 -- the frame of a bound superblock is in the hand of the caller with which it waits, or filled
 pub held-or-filled :
     (g : Geometry) (s : State) (l : Lists) (f d : ℕ) → IsSoundWith g s l → IsTrue (is_bound g s l d) → (info_for s d).frame ≡ f
-    → ((i : ℕ) × (i < g.callers) × (0 < errand_keeps waiting d (s.errand i)) × (0 < errand_frames f (s.errand i)))
-    ⊎ (fills_frame g s l f d ≡ 1)
+    → ((i : ℕ) × (i < g.callers) × (0 < errand_keeps waiting d (s.errand i)) × (0 < errand_frames f (s.errand i))) ⊎ (fills_frame g s l f d ≡ 1)
 held-or-filled g s l f d is bound stands =
     elim (cases_eq (waiting_of g s d) 0) [
       | inl none ↦ inr (bound-fills g s l d f bound none stands)

@@ -4,8 +4,8 @@ use Rattle.std.proofs.lemmas.Bool.{cases_eq}
 use Rattle.std.proofs.lemmas.List.Elements.{All-nil, All-cons}
 use Rattle.sound_state.proofs.Common.{Geometry, Need, Small, block_count_of, need_of, block_place, frame_of, frame_of-block_place, Site, IsSiteOf, IsLegalWithoutCounts}
 use Rattle.sound_state.proofs.Common.{block_at, pool_of, place-found, sound-of, ErrandFields, State, Moves, holds_of, Lists, IsLocated, IsOwned, IsSoundWithoutCounts}
-use Rattle.sound_state.proofs.Common.{IsSoundWith, info_for, is_bound, IsTied, IsLive, TooLarge, usable_words, IsLegalEventWithoutCounts, IsFree, fresh_block}
-use Rattle.sound_state.proofs.Common.{IsPlaceFor, IsWellFormed, EachAfter-push, every-found, large-frame, Handed, block_handed, IsBlockOfDesc, IsExcepted}
+use Rattle.sound_state.proofs.Common.{IsSoundWith, info_for, is_bound, IsTied, IsLive, TooLarge, usable_words, IsLegalEventWithoutCounts, IsFree, fresh_block, IsPlaceFor}
+use Rattle.sound_state.proofs.Common.{IsWellFormed, EachAfter-push, every-found, large-frame, Handed, block_handed, IsBlockOfDesc, IsExcepted}
 use Rattle.heap_geometry.specs.declared.need.Need.TheVariants.{Large}
 use Rattle.word_table.specs.declared.name.WordName.TheVariants as name
 use Rattle.pool_model.specs.declared.event.Event.TheVariants.{Alloc}
@@ -13,7 +13,7 @@ use Rattle.pool_model.specs.Legal.{HoldsOnly}
 use Rattle.pool_model.specs.Pool.{Block}
 use Rattle.pool_model.proofs.FreeLemmas.{clear-block}
 use Rattle.sound_state.proofs.shared.FrameLemmas.{one-in-frame}
-use Rattle.sound_state.proofs.shared.TieLemmas.{TieWords, IsSmallOf, IsBareHanded, excepts-none, located-stays, none-written, not-live, one-live, small-but}
+use Rattle.sound_state.proofs.shared.TieLemmas.{TieWords, IsSmallOf, IsBareHanded, excepts-none, located-stays, none-written, not-live, one-live, small-but, block-stays}
 
 -- the place of the block of an index
 abbrev pub place_in : Site → ℕ → ℕ
@@ -88,9 +88,7 @@ module _
   is-fresh place b same live = one-live s' (place_in at i) place (fresh_block caller words (place_in at i)) b h.here same live
 
   fresh-small : (place : ℕ) (b : Block) → place ≡ place_in at i → IsLive s' place b → IsSmallOf caller at.seat.class b
-  fresh-small place b same live =
-      let is = sym (is-fresh place b same live) in
-      record { owner = ap (λ (x : Block). x.owner) is; need = ap (λ (x : Block). x.need) is ∙ h.small }
+  fresh-small place b same live = grind (arith, same, live, is-fresh)
 
   -- the given block is one of its superblock, and excepted
   fresh-tied :
@@ -136,11 +134,7 @@ module _
             none-written (usable_words (need_of words)) k v
             (ap (λ (x : Block). slice_index_or x.contents k None) (is-fresh place b same live) ∙ of);
         small = fresh-tied;
-        bound = λ place c b d ne live of its. record {
-          exists = its.exists;
-          bound = subst IsTrue (sym (h.bounds d)) its.bound;
-          located = located-stays s s' d (frame_of place) c (h.info d) its.located;
-        };
+        bound = λ place c b d ne live of. block-stays g s l s' l place c d (h.info d) (subst IsTrue (sym (h.bounds d)));
         excepts = λ place ne excepts. absurd (excepts-none (s.errand caller) place h.bare excepts);
         hands =
             subst (All (λ x. IsOwned s' caller x.place x.need)) (sym h.hands)

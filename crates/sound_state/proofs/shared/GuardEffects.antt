@@ -1,13 +1,12 @@
 -- An effect after which its caller guards nothing new, pushes nothing and scans nothing keeps the guards.
-use Rattle.std.proofs.Common.{ℕ, Some, None, ◌≡◌, ◌<◌, ◌≤◌, ◌+◌, length, arith, sym, subst, ◌∙◌, Bool, true, false, slice_index, Contains, IfSome}
+use Rattle.std.proofs.Common.{ℕ, None, ◌≡◌, ◌<◌, ◌≤◌, length, arith, sym, subst, ◌∙◌, Bool, true, false, Contains, IfSome, inl}
 use Rattle.std.proofs.lemmas.Option.{none-some}
 use Rattle.sound_state.proofs.Common.{Geometry, descriptor_count, occurs, DescPoint, ErrandFields, spare_of, pushed_by, State, Moves, IsGuarded, IsGuard, IsHazard}
-use Rattle.sound_state.proofs.Common.{passed_by, held_by, holds_of, errand_has, Lists, IsSoundWith, callers_sum, errand_away, Guards, clear}
+use Rattle.sound_state.proofs.Common.{passed_by, held_by, holds_of, errand_has, Lists, IsSoundWith, callers_sum, errand_away, clear}
 use Rattle.word_table.specs.declared.name.WordName.TheVariants as name
 use Rattle.hazard_parts.specs.declared.point.DescPoint.TheVariants as desc
-use Rattle.sound_state.proofs.shared.CallerLemmas.{each-other}
 use Rattle.sound_state.proofs.shared.ListFacts.{contains-occurs}
-use Rattle.sound_state.proofs.shared.ShownLemmas.{IsUnretired}
+use Rattle.sound_state.proofs.shared.ShownLemmas.{IsUnretired, guarded-goes}
 use Rattle.sound_state.proofs.shared.SumLemmas.{term-sum}
 use Rattle.sound_state.proofs.shared.TurnEffects.{IsQuiet}
 
@@ -23,40 +22,19 @@ pub record GuardEffects (g : Geometry) (s : State) (caller : ℕ) (e : ErrandFie
   pub unread : length (held_by e.point) ≡ 0
   pub spare : spare_of e.point ≡ 0
 
--- whoever guards a descriptor after such an effect did before
-guards-after :
-    (g : Geometry) (s : State) (caller : ℕ) (e : ErrandFields) (s' : State) → GuardEffects g s caller e s' → (i d : ℕ) → i < g.callers
-    → Guards s' i d → Guards s i d
-guards-after g s caller e s' h i d has guards = record {
-  word = sym (h.words i) ∙ guards.word;
-  guard =
-      each-other g (λ i e. IsGuard (holds_of e.point).hazard → IsGuard (holds_of (s.errand i).point).hazard) s.errand caller e s'.errand h.moves
-      h.guard (λ i has differ guard. guard) i has guards.guard;
-}
-
 -- an effect after which its caller guards, pushes and scans nothing new keeps the guards
 pub guarded-after :
     (g : Geometry) (s : State) (caller : ℕ) (e : ErrandFields) (s' : State) → GuardEffects g s caller e s' → IsGuarded g s → IsGuarded g s'
-guarded-after g s caller e s' h guarded = record {
-  words = λ i has.
-      subst (λ w. IsHazard (holds_of (s'.errand i).point).hazard w) (sym (h.words i))
-      (each-other g (λ i e. IsHazard (holds_of e.point).hazard (s.word (name.Hazard i))) s.errand caller e s'.errand h.moves
-      (h.hazard (s.word (name.Hazard caller)) (guarded.words caller h.in_heap)) (λ i has differ. guarded.words i has) i has);
-  pushed = λ i other d has has_other guards is.
-      guarded.pushed i other d has has_other (guards-after g s caller e s' h i d has guards)
-      (each-other g (λ j e. pushed_by e.point ≡ Some d → pushed_by (s.errand j).point ≡ Some d) s.errand caller e s'.errand h.moves
-      (λ is. absurd (none-some d (sym h.pushed ∙ is))) (λ j has differ is. is) other has_other is);
-  passed = λ i other d has has_other guards.
-      each-other g (λ j e. Contains e.retired d → i < passed_by e.point → slice_index (held_by e.point) i ≡ d + 1) s.errand caller e s'.errand h.moves
-      (λ listed below. let bad : ⊥ = omega (arith, below, h.passed) in absurd bad)
-      (λ j has_j differ. guarded.passed i j d has has_j (guards-after g s caller e s' h i d has guards)) other has_other;
-  unread = λ i k.
-      each-other g (λ j e. passed_by e.point ≤ k → k < length (held_by e.point) → slice_index (held_by e.point) k ≡ 0) s.errand caller e s'.errand h.moves
-      (λ passed below. let bad : ⊥ = omega (arith, below, h.unread) in absurd bad) (λ j has_j differ. guarded.unread j k has_j) i;
-  full =
-      each-other g (λ i e. spare_of e.point ≡ 1 → length e.retired ≡ g.callers + 1) s.errand caller e s'.errand h.moves
-      (λ is. let bad : ⊥ = omega (arith, is, h.spare) in absurd bad) (λ i has differ. guarded.full i has);
-}
+guarded-after g s caller e s' h guarded =
+    guarded-goes g s caller e s' h.moves (λ i differ. h.words i)
+    (record {
+      hazard = subst (IsHazard (holds_of e.point).hazard) (sym (h.words caller)) (h.hazard (s.word (name.Hazard caller)) (guarded.words caller h.in_heap));
+      guard = λ d is guard. inl (record { word = sym (h.words caller) ∙ is; guard = h.guard guard });
+      pushed = λ i d has guards is. absurd (none-some d (sym h.pushed ∙ is));
+      passed = λ i d has guards listed below. let bad : ⊥ = omega (arith, below, h.passed) in absurd bad;
+      unread = λ k from below. let bad : ⊥ = omega (arith, below, h.unread) in absurd bad;
+    })
+    (λ is. let bad : ⊥ = omega (arith, is, h.spare) in absurd bad) guarded
 
 -- an effect of a caller that guards nothing before it and after it keeps the guards
 pub guarded-clear :
@@ -86,7 +64,7 @@ unretired g s l d old none =
     let bad : ⊥ = omega (arith, contains-occurs (s.errand other).retired d in_list, none other has) in bad in
     record {
       pushed = λ other has is.
-          listed other has (subst (λ o. IfSome o (λ k. Contains (s.errand other).retired k)) is (old.errands other has).rule.pushed);
+          listed other has (subst (λ o. IfSome o (λ k. Contains (s.errand other).retired k)) is (old.formed.errands other has).rule.pushed);
       listed = listed;
     }
 

@@ -1,8 +1,8 @@
 -- What a caller keeps at its point, and that no other caller has it.
 use Rattle.std.proofs.Common.{ℕ, ◌≡◌, ◌≢◌, ◌<◌, ◌≤◌, ◌+◌, refl, arith, sym, subst, inl, inr, Bool, false, ◌==◌, if◌then◌else◌, IsTrue, ◌&&◌, not, eq-eqb}
 use Rattle.std.proofs.lemmas.Bool.{cases_eq}
-use Rattle.sound_state.proofs.Common.{Geometry, descriptor_count, Point, ErrandFields, State, Status, reserving, waiting, partly_used, on_its_way, holds_of, errand_has}
-use Rattle.sound_state.proofs.Common.{Lists, IsSoundWith, sum_below, callers_sum, errand_keeps, errand_away, away_of, kept_among, is_bound, keep, same_status}
+use Rattle.sound_state.proofs.Common.{Geometry, descriptor_count, Point, ErrandFields, State, Status, partly_used, on_its_way, holds_of, errand_has, Lists, IsSoundWith}
+use Rattle.sound_state.proofs.Common.{sum_below, callers_sum, errand_keeps, errand_away, away_of, kept_among, is_bound, keep, same_status}
 use Rattle.sound_state.proofs.shared.SumLemmas.{sum-plus, sum-least, term-sum, two-terms}
 
 -- a descriptor that is kept in one state isn't kept in another
@@ -22,10 +22,7 @@ keeps-at e p status d stands some = subst (λ q. 1 ≤ kept_among status d (hold
 
 -- a caller has what it keeps
 keeps-has : (e : ErrandFields) (status : Status) (d : ℕ) → 1 ≤ errand_keeps status d e → 1 ≤ errand_has d e
-keeps-has e reserving d some = omega (arith, some)
-keeps-has e waiting d some = omega (arith, some)
-keeps-has e partly_used d some = omega (arith, some)
-keeps-has e on_its_way d some = omega (arith, some)
+keeps-has e status d some = grind (arith, some)
 
 -- a caller has what is kept at its point
 pub has-at :

@@ -1,6 +1,6 @@
 -- How many words of a class there are: one active word and one slot for each heap.
-use Rattle.std.proofs.Common.{ℕ, ◌≡◌, ◌<◌, ◌≤◌, refl, sym, ◌∙◌, ap, arith, inl, inr, ◌⊎◌, ◌==◌, if◌then◌else◌, eq-eqb, ne_eqb}
-use Rattle.std.proofs.lemmas.Bool.{cases_eq, cond-true, cond-false}
+use Rattle.std.proofs.Common.{ℕ, ◌≡◌, ◌<◌, ◌≤◌, sym, ◌∙◌, ap, arith, inl, inr, ◌⊎◌, ◌==◌, if◌then◌else◌, eq-eqb, ne_eqb}
+use Rattle.std.proofs.lemmas.Bool.{cond-true}
 use Rattle.sound_state.proofs.Common.{Geometry, WordName, word_count, Exists, word_name, sum_below, word_index, word_name-Exists, word_index-word_name}
 use Rattle.word_table.specs.declared.name.WordName.TheVariants as name
 use Rattle.sound_state.proofs.shared.SumLemmas.{sum-most, sum-least, sum-swap, sum-once, term-sum}
@@ -47,20 +47,14 @@ heap-names-most g at one named =
 named-here :
     (g : Geometry) (class c heap : ℕ) (at : ℕ → ℕ → WordName) (one : WordName → ℕ) → heap < g.heaps → one (at heap c) ≡ (if c == class then 1 else 0)
     → IsHeapName g (λ h. at h class) one (at heap c)
-named-here g class c heap at one has is =
-    elim (cases_eq c class) [
-      | inl e ↦ inr (is ∙ cond-true {A = ℕ} (c == class) 1 0 (eq-eqb c class e), heap, has, ap (at heap) e)
-      | inr ne ↦ inl (is ∙ cond-false {A = ℕ} (c == class) 1 0 (ne_eqb c class ne))
-    ]
+named-here g class c heap at one has is = grind (arith, has, is, eq-eqb, ne_eqb)
 
 -- the active words and the slots of a class are one for each heap
 active-named : (g : Geometry) (class : ℕ) (n : WordName) → Exists g n → IsHeapName g (λ heap. name.Active heap class) (active_one class) n
-active-named g class (name.Active heap c) exists = named-here g class c heap name.Active (active_one class) exists.0 refl
-active-named g class n exists = inl refl
+active-named g class n exists = grind (arith, exists, named-here)
 
 slot-named : (g : Geometry) (class : ℕ) (n : WordName) → Exists g n → IsHeapName g (λ heap. name.Slot heap class) (slot_one class) n
-slot-named g class (name.Slot heap c) exists = named-here g class c heap name.Slot (slot_one class) exists.0 refl
-slot-named g class n exists = inl refl
+slot-named g class n exists = grind (arith, exists, named-here)
 
 pub actives-most : (g : Geometry) (class : ℕ) → sum_below (word_count g) (λ k. active_one class (word_name g k)) ≤ g.heaps
 actives-most g class = heap-names-most g (λ heap. name.Active heap class) (active_one class) (active-named g class)

@@ -1,6 +1,5 @@
 -- Weights that only the words which hold a superblock have.
-use Rattle.std.proofs.Common.{ℕ, Bool, true, false, ◌≡◌, ◌≢◌, Some, refl, arith, ap, ◌∙◌, inl, inr}
-use Rattle.std.proofs.lemmas.Bool.{cases_Bool}
+use Rattle.std.proofs.Common.{ℕ, Bool, true, false, ◌≡◌, ◌≢◌, Some, refl, arith}
 use Rattle.sound_state.proofs.Common.{Geometry, Null, active_of, WordName, Exists, word_keeps, word_stock, words_sum, word_reserves}
 use Rattle.word_table.specs.declared.name.WordName.TheVariants as name
 use Rattle.sound_state.proofs.shared.SumLemmas.{words-none, words-one}
@@ -20,11 +19,7 @@ pub record IsHolderWeight (weight : WordName → ℕ → ℕ) : Type 0 where
 holder-none :
     (weight : WordName → ℕ → ℕ) (words : WordName → ℕ) (m : WordName) → IsHolderWeight weight
     → (is_holder m ≡ true → words m ≡ 0) → weight m (words m) ≡ 0
-holder-none weight words m h none =
-    elim (cases_Bool (is_holder m)) [
-      | inl holds ↦ ap (weight m) (none holds) ∙ h.zero m
-      | inr other ↦ h.elsewhere m (words m) other
-    ]
+holder-none weight words m h none = grind (arith, h, none)
 
 -- words that hold no superblock weigh nothing
 pub holders-none :
@@ -45,16 +40,10 @@ zero-active = refl
 
 -- the weights of what keeps a descriptor, of what reserves its blocks and of what is out for a class are those of holders
 pub keeps-holder : (d : ℕ) → IsHolderWeight (word_keeps d)
-keeps-holder d = record {
-  zero = λ m. grind (arith, zero-active);
-  elsewhere = λ m w other. grind (arith);
-}
+keeps-holder d = grind (arith, zero-active)
 
 pub reserves-holder : (d : ℕ) → IsHolderWeight (word_reserves d)
-reserves-holder d = record {
-  zero = λ m. grind (arith, zero-active);
-  elsewhere = λ m w other. grind (arith);
-}
+reserves-holder d = grind (arith, zero-active)
 
 pub stock-holder : (class : ℕ) → IsHolderWeight (word_stock class)
 stock-holder class = record { zero = λ m. grind (arith); elsewhere = λ m w other. grind (arith) }

@@ -1,10 +1,11 @@
 -- What an effect changes of what the callers hold, where one caller goes on that holds something else after it.
-use Rattle.std.proofs.Common.{ℕ, ◌≡◌, ◌<◌, ◌+◌, arith, ap}
-use Rattle.sound_state.proofs.Common.{Geometry, descriptor_count, occurs, ErrandFields, State, Moves, IsFramed, fills_frame, Holding, waiting, on_its_way, holds_of}
-use Rattle.sound_state.proofs.Common.{Lists, callers_sum, away_of, waiting_of, errand_reserves, reserved_among, errand_keeps, errand_away, kept_among, errand_has}
-use Rattle.sound_state.proofs.Common.{stock_among, waits_in, errand_stock}
-use Rattle.sound_state.proofs.shared.SumLemmas.{sum-same, callers-moved}
+use Rattle.std.proofs.Common.{ℕ, ◌≡◌, ◌<◌, ◌+◌, arith, ap, [], ◌∙◌, ◌≢◌}
+use Rattle.sound_state.proofs.Common.{Geometry, descriptor_count, occurs, ErrandFields, State, Moves, IsFramed, fills_frame, Holding, waiting, on_its_way, holds_of, Lists}
+use Rattle.sound_state.proofs.Common.{callers_sum, away_of, waiting_of, errand_reserves, reserved_among, errand_keeps, errand_away, kept_among, errand_has, stock_among}
+use Rattle.sound_state.proofs.Common.{waits_in, errand_stock}
+use Rattle.sound_state.proofs.shared.SumLemmas.{sum-same, callers-moved, sum-change}
 use Rattle.sound_state.proofs.shared.PointLemmas.{kept_places}
+use Rattle.sound_state.proofs.shared.TieLemmas.{IsBareHanded}
 
 -- a caller goes on, and holds `now` where it held `was`; what it has retired stays
 pub record HoldingEffects (g : Geometry) (s : State) (caller : ℕ) (was now : Holding) (e : ErrandFields) (s' : State) : Type 0 where
@@ -15,6 +16,13 @@ pub record HoldingEffects (g : Geometry) (s : State) (caller : ℕ) (was now : H
   pub after : holds_of e.point ≡ now
 
 module _ {g : Geometry} {s : State} {caller : ℕ} {was now : Holding} {e : ErrandFields} {s' : State} (h : HoldingEffects g s caller was now e s') where
+  -- a caller that held or holds no block that it hands out or frees is bare-handed there
+  pub bare-before : was.hands ≡ [] → was.frees ≡ [] → IsBareHanded (s.errand caller).point
+  bare-before hands frees = record { hands = ap (λ (o : Holding). o.hands) h.before ∙ hands; frees = ap (λ (o : Holding). o.frees) h.before ∙ frees }
+
+  pub bare-after : now.hands ≡ [] → now.frees ≡ [] → IsBareHanded e.point
+  bare-after hands frees = record { hands = ap (λ (o : Holding). o.hands) h.after ∙ hands; frees = ap (λ (o : Holding). o.frees) h.after ∙ frees }
+
   -- what is summed over all holdings changes by what the caller's two holdings weigh
   pub holdings-go :
       (weight : Holding → ℕ)
@@ -94,4 +102,14 @@ module _ {g : Geometry} {s : State} {caller : ℕ} {was now : Holding} {e : Erra
           hand f,
           old.once f has,
         );
+  }
+
+  -- each frame stays in one place where one superblock alone fills other frames than before, which the caller's hand gives or gets
+  pub framed-but :
+      (l : Lists) (x : ℕ) → x < descriptor_count g → ((f d : ℕ) → d ≢ x → fills_frame g s' l f d ≡ fills_frame g s l f d)
+      → ((f : ℕ) → occurs f now.frames + fills_frame g s' l f x ≡ occurs f was.frames + fills_frame g s l f x) → IsFramed g s l → IsFramed g s' l
+  framed-but l x exists others here old = record {
+    once = λ f has.
+        let changed = sum-change (descriptor_count g) (fills_frame g s l f) (fills_frame g s' l f) x exists (λ d lt ne. others f d ne) in
+        omega (arith, changed, holdings-go (λ x. occurs f x.frames), here f, old.once f has);
   }

@@ -1,6 +1,7 @@
 -- What is shown of each step: it keeps the state sound.
 use Rattle.std.proofs.Common.{ℕ, ◌≡◌, ◌<◌, sym, subst}
-use Rattle.sound_state.proofs.Common.{Geometry, IsLegalWithoutCounts, IsSoundWith, IsSoundWithoutCounts, Lists, Point, State, Step}
+use Rattle.sound_state.proofs.Common.{Geometry, IsFormed, IsLegalWithoutCounts, IsSoundWith, IsSoundWithoutCounts, Lists, Point, State, Step}
+use Rattle.sound_state.proofs.shared.FormedLemmas.{formed-after}
 
 -- a step from the point keeps every sound state so that is like this
 abbrev pub KeepsSoundWhere : Point → (State → Type 0) → Type 0
@@ -14,11 +15,23 @@ KeepsSound p =
     (g : Geometry) (s : State) (caller : ℕ) (s' : State) → IsSoundWithoutCounts g s → caller < g.callers → (s.errand caller).point ≡ p
     → Step s caller s' → IsSoundWithoutCounts g s'
 
--- a state is sound after one with the same events, where its words and errands go with some lists
-pub silent-sound :
-    (g : Geometry) (s s' : State) (l : Lists) → IsSoundWithoutCounts g s → s'.history ≡ s.history → IsSoundWith g s' l → IsSoundWithoutCounts g s'
-silent-sound g s s' l sound past with = record {
+-- the state after a step is sound with the lists, where it is so if only it is formed
+abbrev pub SoundIfFormed : Geometry → State → Lists → Type 0
+SoundIfFormed g s l = IsFormed g s → IsSoundWith g s l
+
+-- a state is sound after a step that leaves a legal history
+pub stepped-sound :
+    (g : Geometry) (s : State) (caller : ℕ) (s' : State) (l : Lists) → IsSoundWithoutCounts g s → caller < g.callers → Step s caller s'
+    → IsLegalWithoutCounts g s'.history → SoundIfFormed g s' l → IsSoundWithoutCounts g s'
+stepped-sound g s caller s' l sound has step legal with = record {
   checked = sound.checked;
-  legal = subst (IsLegalWithoutCounts g) (sym past) sound.legal;
-  parts = (l, with);
+  legal = legal;
+  parts = (l, with (formed-after g s caller s' sound.parts.1.formed has step));
 }
+
+-- so it is after one that adds no event
+pub silent-sound :
+    (g : Geometry) (s : State) (caller : ℕ) (s' : State) (l : Lists) → IsSoundWithoutCounts g s → caller < g.callers → Step s caller s'
+    → s'.history ≡ s.history → SoundIfFormed g s' l → IsSoundWithoutCounts g s'
+silent-sound g s caller s' l sound has step past with =
+    stepped-sound g s caller s' l sound has step (subst (IsLegalWithoutCounts g) (sym past) sound.legal) with

@@ -1,9 +1,9 @@
 -- A frame of which a superblock is in the making: no superblock lies there, and no block is live.
-use Rattle.std.proofs.Common.{ℕ, ◌≡◌, ◌≢◌, ◌<◌, ◌≤◌, arith, ap, sym, subst, inl, inr, ◌∙◌, IsTrue}
+use Rattle.std.proofs.Common.{ℕ, ◌≡◌, ◌≢◌, ◌<◌, ◌≤◌, arith, ap, subst, inl, inr, ◌∙◌, IsTrue}
 use Rattle.std.proofs.lemmas.Bool.{cases_eq}
-use Rattle.sound_state.proofs.Common.{frame_of, Geometry, Small, Need, descriptor_count, Site, occurs, place-found, pool_of, State, Point, errand_frames, fills_frame}
-use Rattle.sound_state.proofs.Common.{waiting, holds_of, Lists, IsSoundWith, IsSoundWithoutCounts, callers_sum, info_for, is_bound, errand_keeps, kept_among, IsLive}
-use Rattle.sound_state.proofs.Common.{TooLarge, large-frame, IsPlaceFor, making}
+use Rattle.sound_state.proofs.Common.{frame_of, Geometry, Small, Need, descriptor_count, Site, place-found, pool_of, State, Point, errand_frames, fills_frame, waiting}
+use Rattle.sound_state.proofs.Common.{holds_of, Lists, IsSoundWith, IsSoundWithoutCounts, callers_sum, info_for, is_bound, errand_keeps, IsLive, TooLarge, large-frame}
+use Rattle.sound_state.proofs.Common.{IsPlaceFor, making}
 use Rattle.heap_geometry.specs.declared.need.Need.TheVariants.{Large}
 use Rattle.pool_model.specs.Pool.{Block}
 use Rattle.sound_state.proofs.shared.FrameLemmas.{held-or-filled}
@@ -16,16 +16,8 @@ pub record IsMaking (s : State) (caller f : ℕ) : Type 0 where
   pub hand : 0 < errand_frames f (s.errand caller)
   pub waits : (d : ℕ) → errand_keeps waiting d (s.errand caller) ≡ 0
 
-making-frame : (at : Site) → 0 < occurs at.frame (making at).frames
-making-frame at = grind (arith)
-
 pub is-making : (s : State) (caller : ℕ) (p : Point) (at : Site) → (s.errand caller).point ≡ p → holds_of p ≡ making at → IsMaking s caller at.frame
-is-making s caller p at stands holds =
-    let held : holds_of (s.errand caller).point ≡ making at = ap holds_of stands ∙ holds in
-    record {
-      hand = subst (λ h. 0 < occurs at.frame h.frames) (sym held) (making-frame at);
-      waits = λ d. ap (λ h. kept_among waiting d h.kept) held ∙ making-waits d at;
-    }
+is-making s caller p at stands holds = grind (arith, stands, holds, making-waits)
 
 -- no superblock lies in a frame of which a superblock is in the making
 pub making-unbound :

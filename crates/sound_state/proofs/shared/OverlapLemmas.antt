@@ -1,8 +1,8 @@
 -- Live blocks and free blocks are apart.
-use Rattle.std.proofs.Common.{ℕ, ◌≡◌, ◌≢◌, ◌<◌, Option, Some, None, refl, sym, ◌∙◌, ap, subst, arith, IsTrue}
+use Rattle.std.proofs.Common.{ℕ, ◌≡◌, ◌≢◌, ◌<◌, Option, None, sym, ◌∙◌, ap, subst, arith, IsTrue}
 use Rattle.sound_state.proofs.Common.{Geometry, Need, Small, block_count_of, block_place, frame_of, frame_of-block_place, descriptor_count, occurs, block_at, pool_of}
-use Rattle.sound_state.proofs.Common.{place-found, sound-of, State, Lists, IsSoundWith, IsSoundWithoutCounts, IsChained, info_for, is_bound, is_there, live_at}
-use Rattle.sound_state.proofs.Common.{superblock_of, free_chain, IsLive, IsPlaceFor, IsWellFormed, every-found, IsBlockOfDesc}
+use Rattle.sound_state.proofs.Common.{place-found, sound-of, State, Lists, IsSoundWith, IsSoundWithoutCounts, info_for, is_bound, is_there, superblock_of, free_chain}
+use Rattle.sound_state.proofs.Common.{IsLive, IsPlaceFor, IsWellFormed, every-found, IsBlockOfDesc}
 use Rattle.heap_geometry.specs.Place.{IsApart}
 use Rattle.pool_model.specs.Pool.{Block, span_of}
 use Rattle.pool_model.proofs.WellFormedLemmas.{separate-found}
@@ -15,29 +15,20 @@ live-apart g s sound p q a b at_p at_q ne =
 
 -- a place where no block is counted has none
 pub there-none : (o : Option Block) → is_there o ≡ 0 → o ≡ None
-there-none None h = refl
-there-none (Some b) h = absurd (omega (arith, h))
+there-none o h = grind (arith, h)
 
 -- a free block of a superblock isn't live
 pub free-unlive : (g : Geometry) (s : State) → IsSoundWithoutCounts g s → (l : Lists) → IsSoundWith g s l
     → (d i : ℕ) → d < descriptor_count g → IsTrue (is_bound g s l d)
     → 0 < occurs i (free_chain (superblock_of g s d))
     → block_at (block_place (info_for s d).frame (info_for s d).class i) (pool_of s.history) ≡ None
-free-unlive g s sound l is d i has bound free =
-    let chained : IsChained (superblock_of g s d) = is.chained.chained d has bound in
-    let once = chained.once i (chained.within i free) in
-    there-none (block_at (block_place (info_for s d).frame (info_for s d).class i) (pool_of s.history)) (omega arith)
+free-unlive g s sound l is d i has bound free = grind (arith, sound, is, has, bound, free, there-none)
 
 -- a live block isn't free in its superblock
 live-taken-at : (g : Geometry) (s : State) (l : Lists) → IsSoundWith g s l → (place i d : ℕ) (b : Block) → IsLive s place b
     → d < descriptor_count g → IsTrue (is_bound g s l d) → i < block_count_of (info_for s d).class
     → place ≡ block_place (info_for s d).frame (info_for s d).class i → IsTaken g s l place
-live-taken-at g s l is place i d b live has bound within here =
-    let chained : IsChained (superblock_of g s d) = is.chained.chained d has bound in
-    let once = chained.once i within in
-    let there : live_at s (block_place (info_for s d).frame (info_for s d).class i) ≡ 1 =
-    ap (λ p. live_at s p) (sym here) ∙ ap is_there live in
-    record { desc = d; exists = has; bound = bound; index = i; in_frame = within; here = here; taken = omega arith }
+live-taken-at g s l is place i d b live has bound within here = grind (arith, is, live, has, bound, within, here)
 
 pub live-taken : (g : Geometry) (s : State) → IsSoundWithoutCounts g s → (l : Lists) → IsSoundWith g s l
     → (place class : ℕ) (b : Block) → IsLive s place b → b.need ≡ Small class → IsTaken g s l place

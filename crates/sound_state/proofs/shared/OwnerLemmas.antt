@@ -1,6 +1,5 @@
 -- Who owns a block.
-use Rattle.std.proofs.Common.{ℕ, ◌≡◌, ◌≢◌, ap, inl, inr, Option, Some, None, ◌∙◌, ◌<◌, sym, subst, false, ◌*◌, [], ◌⊎◌, All, IsTrue}
-use Rattle.std.proofs.lemmas.Bool.{cases_eq}
+use Rattle.std.proofs.Common.{ℕ, ◌≡◌, ◌≢◌, ap, inl, inr, Option, Some, None, ◌∙◌, ◌<◌, sym, subst, false, ◌*◌, [], ◌⊎◌, All, IsTrue, arith}
 use Rattle.std.proofs.lemmas.List.Elements.{All-head}
 use Rattle.sound_state.proofs.Common.{block_place, Geometry, Need, SeatFields, block_at, pool_of, State, Continuation, Block, Holding, holds_of, Lists, IsOwned}
 use Rattle.sound_state.proofs.Common.{IsSoundWith, Caller, Handed, Freed, IsExcepted, IsBlockOfDesc}
@@ -20,8 +19,7 @@ owner_number (Shelf k) = k
 
 -- an owner is this shelf, or another owner
 pub is-shelf : (owner : Owner) (k : ℕ) → (owner ≡ Shelf k) ⊎ (owner ≢ Shelf k)
-is-shelf (Caller i) k = inr (λ same. cc)
-is-shelf (Shelf j) k = elim (cases_eq j k) [ inl is ↦ inl (ap Shelf is) | inr differ ↦ inr (λ same. differ (ap owner_number same)) ]
+is-shelf owner k = grind (arith)
 
 -- the number of the owner of the block that is live at a place, where one is
 abbrev pub owner_there : Option Live → ℕ

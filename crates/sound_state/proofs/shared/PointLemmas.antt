@@ -1,11 +1,11 @@
 -- Steps from a point that is known: what a sound state says of the caller there, and what its word and errand weigh.
-use Rattle.std.proofs.Common.{ℕ, false, None, ◌≡◌, ◌<◌, ◌≤◌, ◌+◌, ◌^◌, List, [], ◌∷◌, refl, arith, ap, sym, subst, inl, inr, ◌∙◌, ◌≢◌, length-set, get_or-set_other}
-use Rattle.std.proofs.Common.{All, Any, Contains, IsSome, IsTrue, length, slice_index, slice_set}
-use Rattle.std.proofs.lemmas.List.Elements.{All-nil, All-cons, All-tail, All-contains, recursion_from_All}
-use Rattle.sound_state.proofs.Common.{need_of, Geometry, active_of, SeatFields, Found, WordName, name_of, after_action, descriptor_count, Exists, Writes, cases_name}
-use Rattle.sound_state.proofs.Common.{Site, occurs, Continuation, Next, Desc, Point, ErrandFields, counts_cleared, event_of, FitsPoint, spare_of, pushed_by, next_of}
-use Rattle.sound_state.proofs.Common.{asked, plan_point_of, State, Step, action_at, name_at, word_at, found_at, IsHazard, IsGuard, passed_by, held_by, Kept, holds_of}
-use Rattle.sound_state.proofs.Common.{on_its_way, waiting, reserving, partly_used, IsKeptAs, IsPartlyUsed, errand_has, word_keeps, Lists, IsSo, IsOwned, recalls_of}
+use Rattle.std.proofs.Common.{ℕ, false, None, ◌≡◌, ◌<◌, ◌≤◌, ◌+◌, List, [], ◌∷◌, arith, ap, sym, subst, inl, inr, ◌∙◌, ◌≢◌, length-set, get_or-set_other, All, Any}
+use Rattle.std.proofs.Common.{Contains, IsSome, IsTrue, length, slice_index, slice_set}
+use Rattle.std.proofs.lemmas.List.Elements.{All-nil, All-cons, recursion_from_All}
+use Rattle.sound_state.proofs.Common.{need_of, Geometry, active_of, SeatFields, Found, WordName, name_of, after_action, descriptor_count, Exists, Writes, cases_name, Site}
+use Rattle.sound_state.proofs.Common.{occurs, Continuation, Next, Desc, Point, ErrandFields, counts_cleared, event_of, FitsPoint, spare_of, pushed_by, next_of, asked}
+use Rattle.sound_state.proofs.Common.{plan_point_of, State, Step, action_at, name_at, word_at, found_at, IsHazard, IsGuard, passed_by, held_by, Kept, holds_of, on_its_way}
+use Rattle.sound_state.proofs.Common.{waiting, reserving, partly_used, IsKeptAs, IsPartlyUsed, errand_has, word_keeps, Lists, IsSo, IsOwned, recalls_of}
 use Rattle.sound_state.proofs.Common.{IsSoundWithoutCounts, IsSoundWith, waits_in, word_stock, stock_among, sum_below, callers_sum, errand_keeps, word_reserves}
 use Rattle.sound_state.proofs.Common.{reserved_among, kept_among, point_after, FitsContinuation, is_alloc, plan-exists}
 use Rattle.heap_geometry.specs.declared.need.Need.TheVariants as need
@@ -25,7 +25,7 @@ use Rattle.sound_state.proofs.shared.SuperblocksStay.{ActivesKept}
 pub fits-at :
     (g : Geometry) (s : State) (l : Lists) (caller : ℕ) (p : Point) → IsSoundWith g s l → caller < g.callers → (s.errand caller).point ≡ p
     → FitsPoint g caller p
-fits-at g s l caller p old has stands = subst (FitsPoint g caller) stands (fits-own g caller (s.errand caller) (old.errands caller has))
+fits-at g s l caller p old has stands = subst (FitsPoint g caller) stands (fits-own g caller (s.errand caller) (old.formed.errands caller has))
 
 pub fits-now :
     (g : Geometry) (s : State) (caller : ℕ) (p : Point) → IsSoundWithoutCounts g s → caller < g.callers → (s.errand caller).point ≡ p → FitsPoint g caller p
@@ -35,10 +35,7 @@ fits-now g s caller p sound has stands = fits-at g s sound.parts.0 caller p soun
 pub retired-exists :
     (g : Geometry) (s : State) (l : Lists) (caller d : ℕ) → IsSoundWith g s l → caller < g.callers → Contains (s.errand caller).retired d
     → d < descriptor_count g
-retired-exists g s l caller d old has listed =
-    let own = old.errands caller has in
-    All-contains (λ e. e < descriptor_count g) (s.errand caller).retired d
-    (subst (λ (h : Geometry). All (λ e. e < descriptor_count h) (s.errand caller).retired) own.geometry own.rule.listed) listed
+retired-exists g s l caller d old has listed = grind (arith, old, has, listed)
 
 pub kept-at :
     (g : Geometry) (s : State) (l : Lists) (caller : ℕ) (p : Point) → IsSoundWith g s l → caller < g.callers → (s.errand caller).point ≡ p
@@ -77,10 +74,6 @@ the-alloc o is = grind (arith, is)
 
 pub the-free : (o : Continuation) → IsTrue (is_free o) → o ≡ continuation.Free
 the-free o is = grind (arith, is)
-
--- all of a list but its first element have the property that all of it have
-pub All-rest : {X : Type 0} (P : X → Type 0) (x : X) (xs : List X) → All P (x ∷ xs) → All P xs
-All-rest P x xs h = All-tail P x xs h
 
 -- the word of a caller's point is one of the heap's
 pub exists-at :
@@ -138,19 +131,7 @@ pub alike-goes :
     (g : Geometry) (s : State) (l : Lists) (caller : ℕ) (p q : Point) → IsSoundWith g s l → caller < g.callers → (s.errand caller).point ≡ p
     → HoldsAlike p q → All (λ k. IsKeptAs s k.status k.desc k.class) (holds_of q).kept → All (IsSo g s l caller) (recalls_of q)
     → PointGoes g s l caller p q
-alike-goes g s l caller p q old has stands h kept so =
-    blocks-go g s l caller p q old has stands
-    (record {
-      hands = h.hands;
-      frees = h.frees;
-      pushed = h.pushed;
-      passed = h.passed;
-      unread = h.unread;
-      spare = h.spare;
-      turn = h.turn;
-    })
-    (subst (λ x. IsHazard x (s.word (name.Hazard caller))) (sym h.hazard) (hazard-at g s l caller p old has stands))
-    (λ d word guard. subst IsGuard h.hazard guard) kept so
+alike-goes g s l caller p q old has stands h kept so = grind (arith, old, has, stands, h, kept, so, blocks-go, hazard-at)
 
 -- in how many places kept descriptors are d
 abbrev pub kept_places : ℕ → List Kept → ℕ
@@ -175,29 +156,12 @@ pub record WeighFrom (n : WordName) (before after : ℕ) (p q : Point) : Type 0 
 pub weigh-stays :
     (n : WordName) (w : ℕ) (p q : Point) → (holds_of q).credits ≡ (holds_of p).credits → (holds_of q).kept ≡ (holds_of p).kept
     → (holds_of q).frames ≡ (holds_of p).frames → ((class : ℕ) → waits_in class q ≡ waits_in class p) → WeighFrom n w w p q
-weigh-stays n w p q credits kept frames waits = record {
-  still = λ plain. refl;
-  reserves = λ d. ap (λ x. word_reserves d n w + reserved_among d x) credits;
-  waits = λ d. ap (kept_among waiting d) kept;
-  ways = λ d. ap (kept_among on_its_way d) kept;
-  places = λ d. ap (λ ks. word_keeps d n w + kept_places d ks) kept;
-  frames = λ f. ap (occurs f) frames;
-  stock = λ class. rw (kept, waits class) refl;
-}
+weigh-stays n w p q credits kept frames waits = grind (arith, credits, kept, frames, waits)
 
 pub from-weighs :
     (n : WordName) (before after : ℕ) (e : ErrandFields) (x : Found) (q : Point) → WeighFrom n before after e.point q
     → WeighAlike n before after e (at_point e x q)
-from-weighs n before after e x q h = record {
-  still = h.still;
-  reserves = h.reserves;
-  waits = h.waits;
-  ways = h.ways;
-  away = λ d. omega (arith, h.ways d);
-  places = λ d. omega (arith, h.places d);
-  frames = h.frames;
-  stock = h.stock;
-}
+from-weighs n before after e x q h = grind (arith, h)
 
 -- a step from p that leads there, and what the active words and the slots hold after it
 pub record StepsFrom (g : Geometry) (s : State) (l : Lists) (caller : ℕ) (p : Point) (n : Next) : Type 0 where
@@ -208,7 +172,6 @@ pub record StepsFrom (g : Geometry) (s : State) (l : Lists) (caller : ℕ) (p : 
   pub weigh :
       WeighFrom (name_of (plan_point_of p)) (s.word (name_of (plan_point_of p)))
       (after_action (plan_point_of p) (s.word (name_of (plan_point_of p)))) p (point_after n)
-  pub below : after_action (plan_point_of p) (s.word (name_of (plan_point_of p))) < 2 ^ 64
   pub actives :
       (words' : WordName → ℕ)
       → Writes s.word (name_of (plan_point_of p)) (after_action (plan_point_of p) (s.word (name_of (plan_point_of p)))) words'
@@ -234,7 +197,6 @@ step-from g s caller s' p n plain sound has at h step =
       cleared = m.cleared;
       stands = goes-stands g s l caller e.point q m.goes;
       weigh = alike-most (name_at s caller) _ _ e (at_point e (found_at s caller) q) (weighs l old);
-      below = m.below;
     })
     (λ l old. let m : StepsFrom g s l caller e.point n = moved l old in m.actives s'.word step.word)
     (λ l old.
@@ -324,9 +286,7 @@ small-asked g caller at o alloc fit = subst (FitsContinuation g caller at.seat) 
 pub unread-at :
     (g : Geometry) (s : State) (l : Lists) (caller : ℕ) (p : Point) → IsSoundWith g s l → caller < g.callers → (s.errand caller).point ≡ p
     → (k : ℕ) → passed_by p ≤ k → k < length (held_by p) → slice_index (held_by p) k ≡ 0
-unread-at g s l caller p old has stands =
-    subst (λ q. (k : ℕ) → passed_by q ≤ k → k < length (held_by q) → slice_index (held_by q) k ≡ 0) stands
-    (λ k from below. old.guarded.unread caller k has from below)
+unread-at g s l caller p old has stands = grind (arith, old, has, stands)
 
 -- the hazard words that a scan hasn't passed are noted as 0 also when it has noted the next one
 pub noted-unread :

@@ -1,17 +1,17 @@
 -- What an effect on superblocks leaves of the parts that other callers' recalls read.
 use Rattle.std.proofs.Common.{ℕ, true, ◌≡◌, ◌≢◌, ◌<◌, [], refl, arith, ap, sym, subst, ◌∙◌, IsTrue, All}
-use Rattle.std.proofs.Math.Path.{fun_ext}
 use Rattle.std.proofs.lemmas.List.Elements.{All-nil, All-cons}
-use Rattle.sound_state.proofs.Common.{Geometry, Need, info_of, link_of, WordName, Site, SeatFields, link_in, occurs, prefix_name, Pile, Frames, Partials, head_name}
-use Rattle.sound_state.proofs.Common.{next_name, is_empty, own, ErrandFields, State, Moves, on_its_way, Lists, IsLocated, IsSo, IsOwned, bound_here, recalls_of}
-use Rattle.sound_state.proofs.Common.{callers_sum, IsSoundWith, info_or_zero, anchor_for, info_for, superblock_of, free_chain, reserved_of, is_bound, errand_keeps}
-use Rattle.sound_state.proofs.Common.{IsEmptied, IsRemembered}
+use Rattle.sound_state.proofs.Common.{Geometry, Need, WordName, Site, SeatFields, occurs, prefix_name, Pile, head_name, next_name, is_empty, own, ErrandFields, State}
+use Rattle.sound_state.proofs.Common.{Moves, on_its_way, Lists, IsLocated, IsSo, IsOwned, bound_here, recalls_of, callers_sum, IsSoundWith, anchor_for, info_for}
+use Rattle.sound_state.proofs.Common.{superblock_of, free_chain, reserved_of, is_bound, errand_keeps, IsEmptied, IsRemembered}
 use Rattle.packed_words.specs.declared.anchor.AnchorState.{AnchorState as Phase}
 use Rattle.packed_words.specs.declared.anchor.AnchorState.TheVariants as phase
 use Rattle.word_table.specs.declared.name.WordName.TheVariants as name
 use Rattle.sound_state.proofs.shared.BackedRecalls.{AllRead, remembered-stays}
-use Rattle.sound_state.proofs.shared.RecallFrame.{ChainStays, IsHere, IsSaidWord, Part, PartStays, bindings, places, chains, stacks, link_words, availables, events}
-use Rattle.sound_state.proofs.shared.RecallFrame.{single, constant, lies-same, stack-same}
+use Rattle.sound_state.proofs.shared.RecallFrame.{ChainStays, IsHere, IsSaidWord, Part, PartStays, bindings, places, chains, stacks, link_words, availables, events, single}
+use Rattle.sound_state.proofs.shared.RecallFrame.{constant, lies-same, stack-same}
+use Rattle.sound_state.proofs.shared.SuperblockEffects.{IsLayWord, LieStill, info-stays, next-stays}
+use Rattle.sound_state.proofs.shared.TieLemmas.{located-stays}
 
 -- a word of a stack, an info word or a next word, or one of the arena
 abbrev pub IsSteadyWord : WordName → Type 0
@@ -24,12 +24,13 @@ IsSteadyWord name.FrameHead = Unit {0}
 IsSteadyWord n = ⊥
 
 steady-head : (seat : SeatFields) (p : Pile) → IsSteadyWord (head_name seat p)
-steady-head seat Frames = tt
-steady-head seat Partials = tt
+steady-head seat p = grind (arith)
 
 steady-next : (p : Pile) (k : ℕ) → IsSteadyWord (next_name p k)
-steady-next Frames k = tt
-steady-next Partials k = tt
+steady-next p k = grind (arith)
+
+lay-steady : (n : WordName) → IsLayWord n → IsSteadyWord n
+lay-steady n is = grind (arith, is)
 
 -- all words of stacks, of where superblocks lie and of the arena are what they were
 abbrev pub AreSteady : State → State → Type 0
@@ -54,27 +55,18 @@ IsLeft g s l s' p = Unit {0}
 
 -- an anchor state that is EMPTY is that state
 pub empty-is : (p : Phase) → is_empty p ≡ true → p ≡ phase.Empty
-empty-is phase.Active is = grind (arith, is)
-empty-is phase.Full is = grind (arith, is)
-empty-is phase.Partial is = grind (arith, is)
-empty-is phase.Empty is = refl
+empty-is p is = grind (arith, is)
 
 -- two states in which superblocks lie alike, with the same links
 module _ (g : Geometry) (s : State) (l : Lists) (s' : State) (steady : AreSteady s s') where
-  info-steady : (d : ℕ) → info_for s' d ≡ info_for s d
-  info-steady d = ap (λ w. info_or_zero (info_of w)) (steady (name.Info d) tt)
+  steady-lie : LieStill s s'
+  steady-lie = record { words = λ n is. steady n (lay-steady n is) }
 
-  located-steady : (d f c : ℕ) → IsLocated s d f c → IsLocated s' d f c
-  located-steady d f c k = record {
-    frame = ap (λ x. x.frame) (info-steady d) ∙ k.frame;
-    class = ap (λ x. x.class) (info-steady d) ∙ k.class;
-  }
+  info-steady : (d : ℕ) → info_for s' d ≡ info_for s d
+  info-steady = info-stays steady-lie
 
   pub links-steady : (d : ℕ) → (superblock_of g s' d).next ≡ (superblock_of g s d).next
-  links-steady d =
-      fun_ext
-      (λ k. ap link_of (steady (prefix_name (info_for s' d).frame (info_for s' d).class k) tt)
-      ∙ ap (λ x. link_in s.word x.frame x.class k) (info-steady d))
+  links-steady = next-stays steady-lie g
 
   -- a chain that gains at most, under the same tag
   pub chain-gains :
@@ -97,7 +89,7 @@ module _ (g : Geometry) (s : State) (l : Lists) (s' : State) (steady : AreSteady
       (caller : ℕ) (at : Site) → IsTrue (is_bound g s' l at.desc) → IsLocated s at.desc at.frame at.seat.class
       → All (IsSo g s' l caller) (bound_here at)
   here-so caller at bound lies =
-      All-cons (IsSo g s' l caller) _ [] (bound, located-steady at.desc at.frame at.seat.class lies)
+      All-cons (IsSo g s' l caller) _ [] (bound, located-stays s s' at.desc at.frame at.seat.class (info-steady at.desc) lies)
       (All-nil (IsSo g s' l caller))
 
 -- each part that is left so stays
@@ -126,5 +118,5 @@ pub remembered-left :
     → All (IsSo g s' l caller) (recalls_of e.point) → ((i : ℕ) → i < g.callers → i ≢ caller → Leaves g s l s' i)
     → ((i : ℕ) → i < g.callers → i ≢ caller → AllRead (IsLeft g s l s') (s.errand i).point) → IsSoundWith g s l → IsRemembered g s' l
 remembered-left g s l caller e s' moves mine leaves left old =
-    remembered-stays g s l caller e s' l moves old.errands (λ i has ne. old.remembered.so i has) mine
+    remembered-stays g s l caller e s' l moves old.formed.errands (λ i has ne. old.remembered.so i has) mine
     (λ i has ne k d lt. left-part g s l s' i (leaves i has ne) _ (left i has ne k d lt))

@@ -1,10 +1,11 @@
 -- What a recall reads, and that it stays so where that stays.
 use Rattle.std.proofs.Common.{ℕ, ◌≡◌, ◌<◌, ◌≤◌, ◌∙◌, ◌-◌, ap, arith, sym, subst, IsTrue}
 use Rattle.word_table.specs.declared.name.WordName.TheVariants as name
-use Rattle.sound_state.specs.Recalls.{IsPopped, IsTopStill, tops, nexts, tops_exist, in_use, owns, owns_all}
+use Rattle.sound_state.specs.Recalls.{IsPopped, IsTopStill}
+use Rattle.errand_steps.specs.tables.Recall.{tops, nexts, tops_exist, in_use, owns, owns_all}
 use Rattle.sound_state.proofs.Common.{Looked, EndsWith, EndsRefused, IsEmptied, list_of, made, refused, CLASSES, Geometry, Lists, Need, Pile, Recall, SeatFields, Site}
-use Rattle.sound_state.proofs.Common.{State, WordName, IsLocated, IsOwned, IsSo, bound_at, bound_for, emptied, located, anchor_for, descriptor_count, free_chain}
-use Rattle.sound_state.proofs.Common.{head_name, head_of, info_for, is_bound, links, looked, next_name, noted, occurs, own, pops, prefix_name, says, superblock_of}
+use Rattle.sound_state.proofs.Common.{State, WordName, IsLocated, IsOwned, IsSo, bound_at, bound_for, emptied, located, anchor_for, descriptor_count, free_chain, head_name}
+use Rattle.sound_state.proofs.Common.{head_of, info_for, is_bound, links, looked, next_name, noted, occurs, own, pops, prefix_name, says, superblock_of}
 
 -- a part of a state that a recall reads
 pub data Part : Type 0 where
@@ -134,11 +135,7 @@ chain-same g s s' d same = record {
 pub stack-same :
     (s : State) (l : Lists) (s' : State) (l' : Lists) (seat : SeatFields) (p : Pile) → s'.word (head_name seat p) ≡ s.word (head_name seat p)
     → list_of l' seat p ≡ list_of l seat p → ((k : ℕ) → s'.word (next_name p k) ≡ s.word (next_name p k)) → StackStays s l s' l' seat p
-stack-same s l s' l' seat p head list next = record {
-  tag = omega (arith, ap (λ w. (head_of w).tag) head);
-  list = λ same k. subst (λ xs. 0 < occurs k xs) (sym list);
-  next = λ same k on. next k;
-}
+stack-same s l s' l' seat p head list next = grind (arith, head, list, next)
 
 -- a tag that was read, and is the word's after a step, was the word's before it
 same-tag : (t x y : ℕ) → t ≤ x → x ≤ y → t ≡ y → (x ≡ y) × (t ≡ x)

@@ -2,24 +2,20 @@
 use Rattle.std.proofs.Common.{ℕ, ◌≡◌, ◌≢◌, ◌<◌, ◌+◌, List, [], ◌∷◌, refl, arith, ap, subst, IsTrue, All}
 use Rattle.std.specs.List.{AllByRecursion}
 use Rattle.std.proofs.lemmas.List.Elements.{All-head, All-from_recursion, recursion_from_All}
-use Rattle.sound_state.proofs.Common.{Geometry, Small, block_place, Site, SeatFields, new_credits, BlockPoint, Share, Credit, LastCredit, Grant, Pile, Frames, Partials}
-use Rattle.sound_state.proofs.Common.{StackPoint, next_name, DescPoint, PartialPoint, LargePoint, Continuation, Point, FitsPoint, State, holds_before_pop, WordName}
-use Rattle.sound_state.proofs.Common.{holds_of, Lists, Recall, IsSo, IsOwned, recalls_of, IsSoundWith, is_bound, reserved_among, errand_reserves, FitsBlock}
-use Rattle.sound_state.proofs.Common.{seat_of_stack, seat_of_partial, FitsContinuation, clears, goes_desc, Handed, Freed, reserve, block_holds, continuation_holds}
-use Rattle.sound_state.proofs.Common.{stack_holds, partial_holds, block_recalls, continuation_recalls, stack_recalls, resumed_recalls, desc_recalls, partial_recalls}
-use Rattle.sound_state.proofs.Common.{large_recalls}
+use Rattle.sound_state.proofs.Common.{Geometry, Small, block_place, Site, SeatFields, BlockPoint, Share, Credit, LastCredit, Grant, Pile, StackPoint, next_name, DescPoint}
+use Rattle.sound_state.proofs.Common.{PartialPoint, LargePoint, Continuation, Point, FitsPoint, State, holds_before_pop, WordName, holds_of, Lists, IsSo, IsOwned}
+use Rattle.sound_state.proofs.Common.{recalls_of, IsSoundWith, is_bound, reserved_among, errand_reserves, FitsBlock, seat_of_stack, seat_of_partial, FitsContinuation}
+use Rattle.sound_state.proofs.Common.{goes_desc, Handed, Freed, reserve, block_holds, continuation_holds, stack_holds, partial_holds, block_recalls, continuation_recalls}
+use Rattle.sound_state.proofs.Common.{stack_recalls, desc_recalls, partial_recalls, large_recalls}
 use Rattle.word_table.specs.declared.name.WordName.TheVariants as name
 use Rattle.superblock_parts.specs.Points.{IsBlockOf}
 use Rattle.superblock_parts.specs.declared.point.BlockPoint.TheVariants as block
-use Rattle.stack_parts.specs.declared.point.StackPoint.TheVariants as stack
-use Rattle.hazard_parts.specs.declared.point.DescPoint.TheVariants as desc
-use Rattle.partial_parts.specs.declared.point.PartialPoint.TheVariants as partial
 use Rattle.errand_steps.specs.declared.continuation.Continuation.TheVariants as continuation
 use Rattle.errand_steps.specs.declared.point.Point.TheVariants as point
 use Rattle.errand_steps.specs.Points.{site_of}
-use Rattle.sound_state.proofs.shared.BackedRecalls.{AllRead, for-each}
+use Rattle.sound_state.proofs.shared.BackedRecalls.{AllRead}
 use Rattle.sound_state.proofs.shared.PointLemmas.{fits-at}
-use Rattle.sound_state.proofs.shared.RecallFrame.{LiesAt, Part, Reads, bindings, chains, link_words, part_of, single}
+use Rattle.sound_state.proofs.shared.RecallFrame.{LiesAt, Part, Reads, bindings, chains, link_words, single}
 use Rattle.sound_state.proofs.shared.SuperblockEffects.{anchor_number}
 
 -- a descriptor that is bound is another one than one that isn't
@@ -38,8 +34,7 @@ IsLink (name.FrameNext f) = Unit {0}
 IsLink n = ⊥
 
 pub next-is_link : (pile : Pile) (i : ℕ) → IsLink (next_name pile i)
-next-is_link Frames i = tt
-next-is_link Partials i = tt
+next-is_link pile i = grind (arith)
 
 -- the part is read outside of superblocks: no free blocks, no links in the making, and of words only next words
 abbrev pub IsElsewhere : Part → Type 0
@@ -48,38 +43,12 @@ IsElsewhere (link_words f c blocks) = ⊥
 IsElsewhere (single n) = IsLink n
 IsElsewhere p = Unit {0}
 
-elsewhere-continuation : (seat : SeatFields) (o : Continuation) → AllByRecursion (Reads IsElsewhere) (continuation_recalls seat o)
-elsewhere-continuation seat o = grind (arith)
-
-elsewhere-stack : (p : StackPoint) (o : Continuation) → AllByRecursion (Reads IsElsewhere) (stack_recalls p o)
-elsewhere-stack p o = grind (arith, next-is_link, elsewhere-continuation)
-
-elsewhere-resumed : (seat : SeatFields) (o : Continuation) → AllByRecursion (Reads IsElsewhere) (resumed_recalls seat o)
-elsewhere-resumed seat o = grind (arith)
-
-elsewhere-desc : (p : DescPoint) (o : Continuation) → AllByRecursion (Reads IsElsewhere) (desc_recalls p o)
-elsewhere-desc p o = grind (arith, elsewhere-continuation, elsewhere-resumed)
-
-elsewhere-partial : (p : PartialPoint) (o : Continuation) → AllByRecursion (Reads IsElsewhere) (partial_recalls p o)
-elsewhere-partial p o = grind (arith, elsewhere-continuation)
-
-elsewhere-large : (p : LargePoint) → AllByRecursion (Reads IsElsewhere) (large_recalls p)
-elsewhere-large p = grind (arith)
-
 -- what holds of all such parts, and of what is read in superblocks, holds of all that is read
 module _ (P : Part → Type 0) (goes : (q : Part) → IsElsewhere q → P q) where
-  reads-all : (rs : List Recall) → AllByRecursion (Reads IsElsewhere) rs → All (Reads P) rs
-  reads-all = for-each (Reads IsElsewhere) (Reads P) (λ r. goes (part_of r))
-
   pub reads-point :
       (p : Point) → ((b : BlockPoint) (o : Continuation) → p ≡ point.Block b o → AllByRecursion (Reads P) (block_recalls b)) → AllRead P p
   unfolding recalls_of
-  reads-point point.Idle blocks = reads-all [] tt
-  reads-point (point.Block b o) blocks = All-from_recursion (Reads P) (block_recalls b) (blocks b o refl)
-  reads-point (point.Stack p o) blocks = reads-all (stack_recalls p o) (elsewhere-stack p o)
-  reads-point (point.Desc p o) blocks = reads-all (desc_recalls p o) (elsewhere-desc p o)
-  reads-point (point.Partial p o) blocks = reads-all (partial_recalls p o) (elsewhere-partial p o)
-  reads-point (point.Large p o) blocks = reads-all (large_recalls p) (elsewhere-large p)
+  reads-point p blocks = grind (arith, blocks)
 
 -- the part is not the anchor of d
 abbrev pub IsSpared : ℕ → Part → Type 0
@@ -87,8 +56,7 @@ IsSpared d (single n) = n ≢ name.Anchor d
 IsSpared d p = Unit {0}
 
 spared-elsewhere : (d : ℕ) (q : Part) → IsElsewhere q → IsSpared d q
-spared-elsewhere d (single n) is = λ same. subst IsLink same is
-spared-elsewhere d q is = tt
+spared-elsewhere d q is = grind (arith, is)
 
 spared-block :
     (d : ℕ) (p : BlockPoint) (o : Continuation) → InstallsNone (point.Block p o) d → AllByRecursion (Reads (IsSpared d)) (block_recalls p)
@@ -140,15 +108,6 @@ module _ (g : Geometry) (s : State) (l : Lists) (i d : ℕ) (off : OwnsNone g s 
   apart-block :
       (p : BlockPoint) → reserved_among d (block_holds p).credits ≡ 0 → FitsBlock g i p → OwnHands s i (block_holds p).hands
       → OwnFrees s i (block_holds p).frees → AllByRecursion (IsSo g s l i) (block_recalls p) → AllByRecursion (Reads (IsUnbound d)) (block_recalls p)
-  apart-block (block.LoadInfo seat e share) none fit hands frees so = (pop-apart d e seat.class share none, tt)
-  apart-block (block.LoadAnchor at share) none fit hands frees so = (pop-apart d at.desc at.seat.class share none, tt)
-  apart-block (block.LoadLink at share a) none fit hands frees so =
-      (pop-apart d at.desc at.seat.class share none, (pop-apart d at.desc at.seat.class share none, tt))
-  apart-block (block.PopBlock at share a prefix) none fit hands frees so = (
-    pop-apart d at.desc at.seat.class share none,
-    (pop-apart d at.desc at.seat.class share none, (pop-apart d at.desc at.seat.class share none, tt)),
-  )
-  apart-block (block.InstallSuperblock at) none fit hands frees so = (tt, (wait-apart d at.desc (new_credits at.seat.class) none, tt))
   apart-block (block.StorePrefix at k) none fit hands frees so = (off at k fit (its-handed _ hands) so.0, tt)
   apart-block (block.InstallCredits at k more) none fit hands frees so = (off at k fit.0 (its-handed _ hands) so.0, tt)
   apart-block (block.LoadReturn at k more) none fit hands frees so = (off at k fit.0 (its-handed _ hands) so.0, tt)
@@ -158,7 +117,7 @@ module _ (g : Geometry) (s : State) (l : Lists) (i d : ℕ) (off : OwnsNone g s 
   apart-block (block.LoadOwner at k a) none fit hands frees so = (off at k fit.block (its-freed _ frees) so.0, tt)
   apart-block (block.StoreLink at k a stored heap) none fit hands frees so = (off at k fit.block (its-freed _ frees) so.0, tt)
   apart-block (block.PushBlock at k a stored heap) none fit hands frees so = (tt, (off at k fit.block (its-freed _ frees) so.1.0, tt))
-  apart-block p none fit hands frees so = grind (arith)
+  apart-block p none fit hands frees so = grind (arith, none, pop-apart, wait-apart)
 
   -- what is remembered behind a part isn't that d is bound
   apart-continuation :
@@ -172,34 +131,17 @@ module _ (g : Geometry) (s : State) (l : Lists) (i d : ℕ) (off : OwnsNone g s 
   apart-stack :
       (p : StackPoint) (o : Continuation) → FitsContinuation g i (seat_of_stack p) o → OwnHands s i (stack_holds p o).hands
       → AllByRecursion (IsSo g s l i) (stack_recalls p o) → AllByRecursion (Reads (IsUnbound d)) (stack_recalls p o)
-  apart-stack (stack.LoadTop seat pile) o fit hands so = apart-continuation seat o fit hands so
-  apart-stack (stack.LoadBelow seat pile h) o fit hands so = (tt, apart-continuation seat o fit hands so.1)
-  apart-stack (stack.PopTop seat pile h below) o fit hands so = (tt, (tt, apart-continuation seat o fit hands so.1.1))
-  apart-stack (stack.ConfirmEmpty seat pile h) o fit hands so = apart-continuation seat o fit hands so
-  apart-stack (stack.LoadTopToPush seat Frames k) o fit hands so = apart-continuation seat o fit hands so
-  apart-stack (stack.LoadTopToPush seat Partials k) o fit hands so = apart-continuation seat o fit hands so
-  apart-stack (stack.StoreBelow seat Frames k h) o fit hands so = (tt, apart-continuation seat o fit hands so.1)
-  apart-stack (stack.StoreBelow seat Partials k h) o fit hands so = (tt, apart-continuation seat o fit hands so.1)
-  apart-stack (stack.PushTop seat Frames k h) o fit hands so = (tt, (tt, apart-continuation seat o fit hands so.1.1))
-  apart-stack (stack.PushTop seat Partials k h) o fit hands so = (tt, (tt, apart-continuation seat o fit hands so.1.1))
+  apart-stack p o fit hands so = grind (arith, fit, hands, so, apart-continuation)
 
   -- what is remembered at the descriptors or the hazard words isn't that d is bound; no block is handed out behind a clear
-  apart-cleared : (seat : SeatFields) (o : Continuation) → IsTrue (clears o) → AllByRecursion (Reads (IsUnbound d)) (continuation_recalls seat o)
-  apart-cleared seat o goes = grind (arith, goes)
-
-  apart-resumed : (seat : SeatFields) (o : Continuation) → AllByRecursion (Reads (IsUnbound d)) (resumed_recalls seat o)
-  apart-resumed seat o = grind (arith)
-
   apart-desc : (p : DescPoint) (o : Continuation) → IsTrue (goes_desc p o) → AllByRecursion (Reads (IsUnbound d)) (desc_recalls p o)
-  apart-desc (desc.ClearHazard seat) o goes = apart-cleared seat o goes
-  apart-desc p o goes = grind (arith, apart-resumed)
+  apart-desc p o goes = grind (arith, goes)
 
   -- what is remembered at a partial superblock isn't that d is bound
   apart-partial :
       (p : PartialPoint) (o : Continuation) → FitsContinuation g i (seat_of_partial p) o → OwnHands s i (partial_holds p o).hands
       → AllByRecursion (IsSo g s l i) (partial_recalls p o) → AllByRecursion (Reads (IsUnbound d)) (partial_recalls p o)
-  apart-partial (partial.PutSlot seat e heap) o fit hands so = apart-continuation seat o fit hands so
-  apart-partial p o fit hands so = grind (arith)
+  apart-partial p o fit hands so = grind (arith, fit, hands, so, apart-continuation)
 
   apart-large : (p : LargePoint) → AllByRecursion (Reads (IsUnbound d)) (large_recalls p)
   apart-large p = grind (arith)

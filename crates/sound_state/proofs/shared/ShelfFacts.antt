@@ -1,12 +1,9 @@
 -- What lies on a shelf is what its word says.
-use Rattle.std.proofs.Common.{ℕ, Some, ◌≡◌, ◌≢◌, ◌<◌, ◌+◌, [], ◌∷◌, arith, sym, subst, inl, inr, ◌∙◌, ◌⊎◌, pow_pos}
-use Rattle.sound_state.proofs.Common.{block-within, IsChecked, Geometry, Need, sound-of, block_at, pool_of, State, Lists, IsSoundWithoutCounts, IsSoundWith, IsLive}
-use Rattle.sound_state.proofs.Common.{SHELVES, shelf-exact, IsShelfWord, shelf_word, every-each, every-found, sound-differ, found-itself, IsEmptyShelf, Pool}
-use Rattle.sound_state.proofs.Common.{IsWellFormed, IsPlaceFor}
+use Rattle.std.proofs.Common.{ℕ, Some, ◌≡◌, ◌≢◌, ◌<◌, [], ◌∷◌, arith, sym, subst, inl, inr, ◌∙◌, ◌⊎◌}
+use Rattle.sound_state.proofs.Common.{IsChecked, Geometry, Need, sound-of, block_at, pool_of, State, Lists, IsSoundWithoutCounts, IsSoundWith, IsLive, SHELVES, shelf-exact}
+use Rattle.sound_state.proofs.Common.{IsShelfWord, shelf_word, every-each, every-found, sound-differ, found-itself, IsEmptyShelf, Pool, IsWellFormed, IsPlaceFor}
 use Rattle.heap_geometry.specs.Need.{IsNeed}
-use Rattle.heap_geometry.specs.declared.need.Need.TheVariants as need
 use Rattle.packed_words.specs.declared.shelf.ShelfWord.TheVariants as shelf
-use Rattle.packed_words.specs.declared.shelf.TheConstants.{MAX_ARENA_WORDS}
 use Rattle.word_table.specs.declared.name.WordName.TheVariants as name
 use Rattle.pool_model.proofs.PoolLemmas.{Every}
 use Rattle.pool_model.specs.Pool.{Block}
@@ -18,16 +15,9 @@ pub shelf-some : (place : ℕ) (n : Need) → shelf_word (shelf.Block place n) �
 unfolding shelf_word
 shelf-some place n same = omega (arith, same)
 
--- a small block lies in the arena
-small-place : (g : Geometry) (class place : ℕ) → IsChecked g → IsPlaceFor g (need.Small class) place → place < MAX_ARENA_WORDS
-small-place g class place checked at =
-    omega (arith, at.2, at.4, block-within class at.1 at.3, pow_pos (class + 1), checked.frames.1, checked.units.1)
-
 -- a live block's place and need fit a shelf's word
 pub shelf-fits : (g : Geometry) (n : Need) (place : ℕ) → IsChecked g → IsNeed n → IsPlaceFor g n place → IsShelfWord (shelf.Block place n)
-shelf-fits g (need.Small class) place checked is at = (small-place g class place checked at, is)
-shelf-fits g (need.Large units) place checked is at = (omega (arith, at.1, at.2, is.0, checked.frames.1, checked.units.1), is)
-shelf-fits g need.TooLarge place checked is at = absurd at
+shelf-fits g n place checked is at = grind (arith, checked, is, at)
 
 -- some block of a pool lies on the shelf, or none does
 pub owned-or-none :

@@ -1,42 +1,35 @@
 -- A step after which a state shows the same superblocks and events, and the same lists but for the available descriptors, is sound if it was.
-use Rattle.std.proofs.Common.{ℕ, Some, ◌≡◌, ◌≢◌, ◌<◌, ◌≤◌, ◌+◌, ◌^◌, List, length, refl, arith, ap, sym, subst, inl, inr, ◌∙◌, ◌⊎◌, slice_index, All, Contains}
-use Rattle.std.proofs.Common.{count_by}
+use Rattle.std.proofs.Common.{ℕ, Some, ◌≡◌, ◌≢◌, ◌<◌, ◌≤◌, ◌+◌, List, length, refl, arith, ap, sym, subst, inl, inr, ◌∙◌, ◌⊎◌, slice_index, All, Contains}
 use Rattle.std.proofs.lemmas.Bool.{cases_eq}
 use Rattle.sound_state.proofs.Common.{Geometry, WordName, descriptor_count, Pile, Frames, Partials, head_name, next_name, Stacked, next_in, SeatFields, occurs, own}
 use Rattle.sound_state.proofs.Common.{pool_of, Point, ErrandFields, spare_of, pushed_by, State, Moves, IsFramed, errand_frames, IsGuarded, IsGuard, IsHazard, passed_by}
-use Rattle.sound_state.proofs.Common.{held_by, on_its_way, holds_of, IsKept, IsWithout, IsKeptAs, Lists, IsListed, IsSo, IsOwned, recalls_of, IsSoundWith, IsOwnErrand}
-use Rattle.sound_state.proofs.Common.{sum_below, callers_sum, AreChained, reserved_of, waiting_of, is_bound, errand_keeps, IsTied, IsTurned, gives_small, refuses_small}
-use Rattle.sound_state.proofs.Common.{emptied_out, Guards, places_of, IsRemembered, list_of, IsStocked, turn_open, turn_unframed, turn_unlisted, turn_unanswered}
-use Rattle.sound_state.proofs.Common.{errand_discards, errand_pops}
+use Rattle.sound_state.proofs.Common.{held_by, on_its_way, holds_of, IsKept, IsWithout, IsKeptAs, Lists, IsListed, IsSo, IsOwned, recalls_of, IsSoundWith, IsFormed}
+use Rattle.sound_state.proofs.Common.{sum_below, callers_sum, AreChained, reserved_of, waiting_of, is_bound, errand_keeps, IsTied, IsTurned, emptied_out, Guards, places_of}
+use Rattle.sound_state.proofs.Common.{IsRemembered, list_of, IsStocked}
 use Rattle.word_table.specs.declared.name.WordName.TheVariants as name
-use Rattle.sound_state.proofs.shared.BackedRecalls.{AllRead, OthersRemember, fits-own, recalls-stay, remembered-stays}
+use Rattle.sound_state.proofs.shared.BackedRecalls.{AllRead, OthersRemember, fits-next, recalls-stay, remembered-stays}
 use Rattle.sound_state.proofs.shared.CallerLemmas.{each-caller}
 use Rattle.sound_state.proofs.shared.ListEffects.{IsListWord, listed-anew}
-use Rattle.sound_state.proofs.shared.TurnEffects.{IsTurnedBut, head-tag, no-event, turned-but, turned-from}
+use Rattle.sound_state.proofs.shared.TurnEffects.{CountsGo, IsTurnedBut, OwnCounts, head-tag, no-event, turned-but, turned-from}
 use Rattle.sound_state.proofs.shared.RecallFrame.{IsSaidWord, Part, stacks, availables, events, single, stack-same}
 use Rattle.sound_state.proofs.shared.TieLemmas.{Excepts, IsSaidAt}
 use Rattle.sound_state.proofs.shared.SuperblocksStay.{ActivesKept, IsSuperblockWord, RestStays, ShowsSuperblocks, chained-shows, descs-kept, descs-show, framed-shows}
 use Rattle.sound_state.proofs.shared.SuperblocksStay.{shows-part, tied-shows}
 
+-- a caller may stand with this errand: what it keeps, has retired, remembers, hands out and frees is so
+pub record MayStand (g : Geometry) (s : State) (l : Lists) (caller : ℕ) (e : ErrandFields) : Type 0 where
+  pub kept : All (λ k. IsKeptAs s k.status k.desc k.class) (holds_of e.point).kept
+  pub retired : All (IsWithout s) e.retired
+  pub so : All (IsSo g s l caller) (recalls_of e.point)
+  pub full : spare_of e.point ≡ 1 → length e.retired ≡ g.callers + 1
+  pub hands : All (λ x. IsOwned s caller x.place x.need) (holds_of e.point).hands
+  pub frees : All (λ x. IsOwned s caller x.place x.need) (holds_of e.point).frees
+
 -- a caller may go on from one errand to another in a state
 pub record MayGoOn (g : Geometry) (s : State) (l : Lists) (caller : ℕ) (a b : ErrandFields) : Type 0 where
-  pub rule : IsOwnErrand g caller b
-  pub kept : All (λ k. IsKeptAs s k.status k.desc k.class) (holds_of b.point).kept
-  pub retired : All (IsWithout s) b.retired
-  pub so : All (IsSo g s l caller) (recalls_of b.point)
-  pub full : spare_of b.point ≡ 1 → length b.retired ≡ g.callers + 1
-  pub hands : All (λ x. IsOwned s caller x.place x.need) (holds_of b.point).hands
-  pub frees : All (λ x. IsOwned s caller x.place x.need) (holds_of b.point).frees
+  pub stands : MayStand g s l caller b
   pub excepts : (place : ℕ) → Excepts a place → Excepts b place ⊎ IsSaidAt g s l place
-  pub own_turns : count_by (gives_small caller) s.history + turn_open b ≤ b.turns
-  pub own_lost :
-      b.turns + errand_discards b
-      ≤ count_by (gives_small caller) s.history + count_by (refuses_small caller) s.history + b.lost + turn_unanswered b
-  pub own_answers :
-      count_by (gives_small caller) s.history + count_by (refuses_small caller) s.history + turn_unanswered b ≤ b.turns
-  pub frame_turns : turn_unframed b + a.turns ≤ turn_unframed a + b.turns
-  pub list_turns :
-      errand_pops b + turn_unlisted b + a.turns + a.cleared ≤ errand_pops a + turn_unlisted a + b.turns + b.cleared
+  pub counts : CountsGo caller s.history a b
 
 -- the descriptor is free to be guarded anew: it is retired nowhere, and nobody pushes it
 pub record IsUnretired (g : Geometry) (s : State) (d : ℕ) : Type 0 where
@@ -57,6 +50,65 @@ pub record MayGuard (g : Geometry) (s : State) (caller : ℕ) (q : Point) (retir
   pub passed :
       (i d : ℕ) → i < g.callers → Guards s i d → Contains retired d → i < passed_by q → slice_index (held_by q) i ≡ d + 1
   pub unread : (i : ℕ) → passed_by q ≤ i → i < length (held_by q) → slice_index (held_by q) i ≡ 0
+
+-- guards stay in order where a caller goes on and may guard what it does then, and the others' hazard words stay
+pub guarded-goes :
+    (g : Geometry) (s : State) (caller : ℕ) (e : ErrandFields) (s' : State) → Moves s.errand caller e s'.errand
+    → ((i : ℕ) → i ≢ caller → s'.word (name.Hazard i) ≡ s.word (name.Hazard i))
+    → MayGuard g s caller e.point e.retired (s'.word (name.Hazard caller)) → (spare_of e.point ≡ 1 → length e.retired ≡ g.callers + 1) → IsGuarded g s
+    → IsGuarded g s'
+guarded-goes g s caller e s' moves others mine full guarded =
+    let was : (i d : ℕ) → Guards s' i d → Guards s i d ⊎ ((i ≡ caller) × GuardsAnew g s e.point d) =
+    λ i d guards.
+    elim (cases_eq i caller) [
+      | inl same ↦
+          let here : Guards s' caller d = subst (λ j. Guards s' j d) same guards in
+          elim (mine.guard d here.word (subst (λ f. IsGuard (holds_of f.point).hazard) moves.here here.guard)) [
+            | inl old ↦ inl (subst (λ j. Guards s j d) (sym same) old)
+            | inr anew ↦ inr (same, anew)
+          ]
+      | inr differ ↦
+          inl (record {
+            word = sym (others i differ) ∙ guards.word;
+            guard = subst (λ f. IsGuard (holds_of f.point).hazard) (moves.elsewhere i differ) guards.guard;
+          })
+    ] in
+    record {
+      words = λ i has.
+          elim (cases_eq i caller) [
+            | inl same ↦
+                let here : IsHazard (holds_of (s'.errand caller).point).hazard (s'.word (name.Hazard caller)) =
+                subst (λ f. IsHazard (holds_of f.point).hazard (s'.word (name.Hazard caller))) (sym moves.here) mine.hazard in
+                subst (λ j. IsHazard (holds_of (s'.errand j).point).hazard (s'.word (name.Hazard j))) (sym same) here
+            | inr differ ↦
+                subst (λ w. IsHazard (holds_of (s'.errand i).point).hazard w) (sym (others i differ))
+                (subst (λ f. IsHazard (holds_of f.point).hazard (s.word (name.Hazard i))) (sym (moves.elsewhere i differ)) (guarded.words i has))
+          ];
+      pushed = λ i other d has has_other guards.
+          elim (was i d guards) [
+            | inl old ↦
+                each-caller g (λ j f. pushed_by f.point ≡ Some d → ⊥) s.errand caller e s'.errand moves (mine.pushed i d has old)
+                (λ j has_j. guarded.pushed i j d has has_j old) other has_other
+            | inr anew ↦
+                each-caller g (λ j f. pushed_by f.point ≡ Some d → ⊥) s.errand caller e s'.errand moves anew.1.pushed anew.1.unretired.pushed other
+                has_other
+          ];
+      passed = λ i other d has has_other guards.
+          elim (was i d guards) [
+            | inl old ↦
+                each-caller g (λ j f. Contains f.retired d → i < passed_by f.point → slice_index (held_by f.point) i ≡ d + 1) s.errand caller e s'.errand
+                moves (mine.passed i d has old) (λ j has_j. guarded.passed i j d has has_j old) other has_other
+            | inr anew ↦
+                each-caller g (λ j f. Contains f.retired d → i < passed_by f.point → slice_index (held_by f.point) i ≡ d + 1) s.errand caller e s'.errand
+                moves (λ listed below. let bad : ⊥ = omega (arith, below, anew.1.passed) in absurd bad)
+                (λ j has_j listed below. absurd (anew.1.unretired.listed j has_j listed)) other has_other
+          ];
+      unread = λ i k has passed below.
+          each-caller g (λ j e. passed_by e.point ≤ k → k < length (held_by e.point) → slice_index (held_by e.point) k ≡ 0) s.errand caller e s'.errand
+          moves (mine.unread k) (λ j has_j passed below. guarded.unread j k has_j passed below) i has passed below;
+      full =
+          each-caller g (λ i e. spare_of e.point ≡ 1 → length e.retired ≡ g.callers + 1) s.errand caller e s'.errand moves full guarded.full;
+    }
 
 -- the word is no active word, no slot, no hazard word, and not the head of the available descriptors
 abbrev pub IsShown : WordName → Type 0
@@ -100,7 +152,6 @@ pub record ShowsSame (g : Geometry) (s : State) (l : Lists) (caller : ℕ) (e : 
   pub others : (i : ℕ) → i ≢ caller → s'.word (name.Hazard i) ≡ s.word (name.Hazard i)
   pub guards : MayGuard g s caller e.point e.retired (s'.word (name.Hazard caller))
   pub actives : ActivesKept g s s'.word
-  pub words : (n : WordName) → s'.word n < 2 ^ 64
   pub word : (n : WordName) → IsShown n → s'.word n ≡ s.word n
   pub history : s'.history ≡ s.history
   pub stacked : Stacked (next_in s.word Partials) (s'.word name.DescHead) ys
@@ -122,8 +173,7 @@ pub record ShowsSame (g : Geometry) (s : State) (l : Lists) (caller : ℕ) (e : 
 
 -- the state is sound, but for what one caller remembers and how often it was answered
 pub record IsSoundBut (g : Geometry) (s : State) (l : Lists) (caller : ℕ) : Type 0 where
-  pub words : (n : WordName) → s.word n < 2 ^ 64
-  pub errands : (i : ℕ) → i < g.callers → IsOwnErrand g i (s.errand i)
+  pub formed : IsFormed g s
   pub listed : IsListed g s.word l
   pub kept : IsKept g s l
   pub chained : AreChained g s l
@@ -136,29 +186,11 @@ pub record IsSoundBut (g : Geometry) (s : State) (l : Lists) (caller : ℕ) : Ty
 
 -- a sound state is sound but for any one caller
 pub sound-but_one : (g : Geometry) (s : State) (l : Lists) (caller : ℕ) → IsSoundWith g s l → IsSoundBut g s l caller
-sound-but_one g s l caller sound = record {
-  words = sound.words;
-  errands = sound.errands;
-  listed = sound.listed;
-  kept = sound.kept;
-  chained = sound.chained;
-  framed = sound.framed;
-  remembered = λ i has differ. sound.remembered.so i has;
-  guarded = sound.guarded;
-  stocked = sound.stocked;
-  turned = turned-but g s l caller sound.turned;
-  tied = sound.tied;
-}
+sound-but_one g s l caller sound = grind (arith, sound, turned-but)
 
 module _ (g : Geometry) (s : State) (l : Lists) (caller : ℕ) (e : ErrandFields) (s' : State) (ys : List ℕ) (go : ShowsSame g s l caller e s' ys) where
   its-superblocks : ShowsSuperblocks g s l s' (with_available l ys)
-  its-superblocks = record {
-    word = λ n is. go.word n (superblock-shown n is);
-    pool = ap pool_of go.history;
-    reserved = go.reserved;
-    waits = go.waits;
-    bound = go.bound;
-  }
+  its-superblocks = grind (arith, pool_of, superblock-shown)
 
   head-shown : (seat : SeatFields) (p : Pile)
       → s'.word (head_name seat p) ≡ s.word (head_name seat p)
@@ -199,73 +231,17 @@ module _ (g : Geometry) (s : State) (l : Lists) (caller : ℕ) (e : ErrandFields
         actives = go.actives;
         listed = kept.listed;
         available = go.without;
-        retired = go.may.retired;
-        own = go.may.kept;
+        retired = go.may.stands.retired;
+        own = go.may.stands.kept;
       })
       kept
 
-  remembered-shown : IsSoundBut g s l caller → IsRemembered g s' (with_available l ys)
-  remembered-shown old =
-      remembered-stays g s l caller e s' (with_available l ys) go.moves old.errands old.remembered
-      (recalls-stay g s l caller s' (with_available l ys) e.point (fits-own g caller e go.may.rule) go.may.so
+  remembered-shown : IsSoundBut g s l caller → IsFormed g s' → IsRemembered g s' (with_available l ys)
+  remembered-shown old formed =
+      remembered-stays g s l caller e s' (with_available l ys) go.moves old.formed.errands old.remembered
+      (recalls-stay g s l caller s' (with_available l ys) e.point (fits-next g s caller e s' formed go.in_heap go.moves) go.may.stands.so
       (λ k d lt. shows-part its-superblocks caller _ (shown-part caller _ (go.stays_here k d lt))))
       (λ i has ne k d lt. shows-part its-superblocks i _ (shown-part i _ (go.stays i has k d lt)))
-
-  -- whoever guards a descriptor afterwards did before; or it is the caller that went on, and guards it anew
-  guards-shown : (i d : ℕ)
-      → Guards s' i d → Guards s i d ⊎ ((i ≡ caller) × GuardsAnew g s e.point d)
-  guards-shown i d guards =
-      elim (cases_eq i caller) [
-        | inl same ↦
-            let here : Guards s' caller d = subst (λ j. Guards s' j d) same guards in
-            elim (go.guards.guard d here.word (subst (λ f. IsGuard (holds_of f.point).hazard) go.moves.here here.guard)) [
-              | inl old ↦ inl (subst (λ j. Guards s j d) (sym same) old)
-              | inr anew ↦ inr (same, anew)
-            ]
-        | inr differ ↦
-            inl (record {
-              word = sym (go.others i differ) ∙ guards.word;
-              guard = subst (λ f. IsGuard (holds_of f.point).hazard) (go.moves.elsewhere i differ) guards.guard;
-            })
-      ]
-
-  guarded-shown : IsGuarded g s → IsGuarded g s'
-  guarded-shown guarded = record {
-    words = λ i has.
-        elim (cases_eq i caller) [
-          | inl same ↦
-              let here : IsHazard (holds_of (s'.errand caller).point).hazard (s'.word (name.Hazard caller)) =
-              subst (λ f. IsHazard (holds_of f.point).hazard (s'.word (name.Hazard caller))) (sym go.moves.here) go.guards.hazard in
-              subst (λ j. IsHazard (holds_of (s'.errand j).point).hazard (s'.word (name.Hazard j))) (sym same) here
-          | inr differ ↦
-              subst (λ w. IsHazard (holds_of (s'.errand i).point).hazard w) (sym (go.others i differ))
-              (subst (λ f. IsHazard (holds_of f.point).hazard (s.word (name.Hazard i))) (sym (go.moves.elsewhere i differ)) (guarded.words i has))
-        ];
-    pushed = λ i other d has has_other guards.
-        elim (guards-shown i d guards) [
-          | inl old ↦
-              each-caller g (λ j f. pushed_by f.point ≡ Some d → ⊥) s.errand caller e s'.errand go.moves (go.guards.pushed i d has old)
-              (λ j has_j. guarded.pushed i j d has has_j old) other has_other
-          | inr anew ↦
-              each-caller g (λ j f. pushed_by f.point ≡ Some d → ⊥) s.errand caller e s'.errand go.moves anew.1.pushed anew.1.unretired.pushed other
-              has_other
-        ];
-    passed = λ i other d has has_other guards.
-        elim (guards-shown i d guards) [
-          | inl old ↦
-              each-caller g (λ j f. Contains f.retired d → i < passed_by f.point → slice_index (held_by f.point) i ≡ d + 1) s.errand caller e s'.errand
-              go.moves (go.guards.passed i d has old) (λ j has_j. guarded.passed i j d has has_j old) other has_other
-          | inr anew ↦
-              each-caller g (λ j f. Contains f.retired d → i < passed_by f.point → slice_index (held_by f.point) i ≡ d + 1) s.errand caller e s'.errand
-              go.moves (λ listed below. let bad : ⊥ = omega (arith, below, anew.1.passed) in absurd bad)
-              (λ j has_j listed below. absurd (anew.1.unretired.listed j has_j listed)) other has_other
-        ];
-    unread = λ i k has passed below.
-        each-caller g (λ j e. passed_by e.point ≤ k → k < length (held_by e.point) → slice_index (held_by e.point) k ≡ 0) s.errand caller e s'.errand
-        go.moves (go.guards.unread k) (λ j has_j passed below. guarded.unread j k has_j passed below) i has passed below;
-    full =
-        each-caller g (λ i e. spare_of e.point ≡ 1 → length e.retired ≡ g.callers + 1) s.errand caller e s'.errand go.moves go.may.full guarded.full;
-  }
 
   turned-shown : IsTurnedBut g s l caller → IsTurned g s' (with_available l ys)
   turned-shown turned =
@@ -275,30 +251,27 @@ module _ (g : Geometry) (s : State) (l : Lists) (caller : ℕ) (e : ErrandFields
         in_heap = go.in_heap;
         moves = go.moves;
         events = events;
-        own_turns = omega (arith, go.may.own_turns, events.gives);
-        own_lost = omega (arith, go.may.own_lost, events.gives, events.refuses caller);
-        own_answers = omega (arith, go.may.own_answers, events.gives, events.refuses caller);
+        counts = subst (λ past. OwnCounts caller past e) (sym go.history) go.may.counts.own;
         anchor_tags = λ d has. omega (arith, ap (λ a. a.tag) ((descs-show its-superblocks).anchor d));
-        frame_turns = omega (arith, head-tag (go.word name.FrameHead tt), go.may.frame_turns);
+        frame_turns = omega (arith, head-tag (go.word name.FrameHead tt), go.may.counts.frame_turns);
         emptied = omega (arith, go.emptied);
-        list_turns = λ class has. omega (arith, head-tag (go.word (name.ListHead class) tt), go.may.list_turns);
+        list_turns = λ class has. omega (arith, head-tag (go.word (name.ListHead class) tt), go.may.counts.list_turns);
       })
       turned
 
   -- a step makes sound a state that is so but for what its caller remembers and how often it was answered
-  pub sound-shown : IsSoundBut g s l caller → IsSoundWith g s' (with_available l ys)
-  sound-shown sound = record {
-    words = go.words;
-    errands = each-caller g (IsOwnErrand g) s.errand caller e s'.errand go.moves go.may.rule sound.errands;
+  pub sound-shown : IsSoundBut g s l caller → IsFormed g s' → IsSoundWith g s' (with_available l ys)
+  sound-shown sound formed = record {
+    formed = formed;
     listed = listed-shown sound.listed;
     kept = kept-shown sound.kept;
     chained = chained-shows its-superblocks sound.chained;
     framed = framed-shows its-superblocks (λ f. omega (arith, go.frames f)) sound.framed;
-    remembered = remembered-shown sound;
-    guarded = guarded-shown sound.guarded;
+    remembered = remembered-shown sound formed;
+    guarded = guarded-goes g s caller e s' go.moves go.others go.guards go.may.stands.full sound.guarded;
     stocked = go.stock sound.stocked;
     turned = turned-shown sound.turned;
     tied =
-        tied-shows its-superblocks caller e go.moves (go.word name.Units tt) (λ k. go.word (name.Shelf k) tt) go.may.excepts go.may.hands go.may.frees
+        tied-shows its-superblocks caller e go.moves (go.word name.Units tt) (λ k. go.word (name.Shelf k) tt) go.may.excepts go.may.stands.hands go.may.stands.frees
         sound.tied;
   }

@@ -2,8 +2,7 @@
 use Rattle.std.proofs.Common.{ℕ, ◌≡◌, List, [], ◌∷◌, refl, ◌∙◌, sym, ap, subst, arith, ◌+◌, ◌<◌, ◌≤◌, ◌==◌, All, eq-eqb}
 use Rattle.std.proofs.lemmas.Bool.{cond-true}
 use Rattle.std.proofs.lemmas.List.Elements.{All-head}
-use Rattle.sound_state.proofs.Common.{Geometry, CLASSES, head_of, SeatFields, occurs, head_name, Stacked, next_in, Frames, Partials, Pile, State, Lists, IsListed}
-use Rattle.sound_state.proofs.Common.{pile_limit, list_of}
+use Rattle.sound_state.proofs.Common.{Geometry, CLASSES, head_of, SeatFields, occurs, head_name, Stacked, next_in, Pile, State, Lists, IsListed, pile_limit, list_of}
 
 -- a stack is one list only
 pub stacked-same : (next : ℕ → ℕ) (top : ℕ) (xs ys : List ℕ) → Stacked next top xs → Stacked next top ys → xs ≡ ys
@@ -40,12 +39,10 @@ top-exists next top limit (x ∷ xs) stack exist = omega (arith, stack.0, All-he
 pub pile-exists :
     (g : Geometry) (s : State) (l : Lists) (seat : SeatFields) (pile : Pile) → IsListed g s.word l → seat.class < CLASSES
     → All (λ i. i < pile_limit g pile) (list_of l seat pile)
-pile-exists g s l seat Frames listed has = listed.frames_exist
-pile-exists g s l seat Partials listed has = listed.partials_exist seat.class has
+pile-exists g s l seat pile listed has = grind (arith, listed, has)
 
 -- the stack of a pile is the list of the sound state
 pub pile-stacked :
     (g : Geometry) (s : State) (l : Lists) (seat : SeatFields) (pile : Pile) → IsListed g s.word l → seat.class < CLASSES
     → Stacked (next_in s.word pile) (head_of (s.word (head_name seat pile))).top (list_of l seat pile)
-pile-stacked g s l seat Frames listed has = listed.frames
-pile-stacked g s l seat Partials listed has = listed.partials seat.class has
+pile-stacked g s l seat pile listed has = grind (arith, listed, has)

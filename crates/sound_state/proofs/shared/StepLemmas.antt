@@ -1,18 +1,18 @@
 -- A step that leads from one point to another, and changes nothing that is shown, keeps the state sound.
-use Rattle.std.proofs.Common.{ℕ, Bool, false, None, ◌≡◌, ◌≢◌, ◌<◌, ◌≤◌, ◌+◌, ◌^◌, List, length, refl, arith, ap, sym, subst, inl, inr, ◌∙◌, ◌⊎◌, All, Any, IsSome}
-use Rattle.std.proofs.Common.{IsTrue}
-use Rattle.sound_state.proofs.Common.{Geometry, Found, WordName, active_of, name_of, after_action, descriptor_count, Exists, Writes, cases_name}
-use Rattle.sound_state.proofs.Common.{Next, At, End, Point, Idle, Reply, ErrandFields, settle_of, course_of, raised, counts_lost, counts_cleared, spare_of, pushed_by}
-use Rattle.sound_state.proofs.Common.{next_of, plan_point_of, State, Step, Moves, action_at, name_at, word_at, found_at, with_event, IsGuarded, IsGuard, IsHazard}
-use Rattle.sound_state.proofs.Common.{passed_by, held_by, Holding, holds_of, IsKept, IsKeptAs, Lists, IsSo, IsOwned, recalls_of, IsSoundWithoutCounts, IsSoundWith}
-use Rattle.sound_state.proofs.Common.{turn_stage_of, in_turn, is_unneeded, one_if, pops_left, found_by, IsErrand, point_after, plan_of, counts_won, event_at}
-use Rattle.sound_state.proofs.Common.{settle_errand, plan-exists, lacks_frame, lacks_partial, lacks_answer}
+use Rattle.std.proofs.Common.{ℕ, Bool, false, None, ◌≡◌, ◌≢◌, ◌<◌, ◌≤◌, ◌+◌, ◌^◌, List, length, refl, arith, ap, sym, subst, inl, ◌∙◌, ◌⊎◌, All, Any, IsSome, IsTrue}
+use Rattle.sound_state.proofs.Common.{Geometry, Found, WordName, active_of, name_of, after_action, descriptor_count, Exists, Writes, cases_name, Next, At, End, Point, Idle}
+use Rattle.sound_state.proofs.Common.{Reply, ErrandFields, settle_of, course_of, raised, counts_lost, counts_cleared, spare_of, pushed_by, next_of, plan_point_of, State}
+use Rattle.sound_state.proofs.Common.{Step, Moves, action_at, name_at, word_at, found_at, with_event, IsGuarded, IsGuard, IsHazard, passed_by, held_by, Holding, holds_of}
+use Rattle.sound_state.proofs.Common.{IsKept, IsKeptAs, Lists, IsSo, IsOwned, recalls_of, IsSoundWithoutCounts, IsSoundWith, turn_stage_of, in_turn, is_unneeded, one_if}
+use Rattle.sound_state.proofs.Common.{pops_left, found_by, point_after, plan_of, counts_won, event_at, plan-exists, lacks_frame, lacks_partial, lacks_answer, Event}
 use Rattle.word_table.specs.declared.name.WordName.TheVariants as name
 use Rattle.sound_state.proofs.shared.AlikeLemmas.{sound-alike}
-use Rattle.sound_state.proofs.shared.ShownLemmas.{MayGoOn, MayGuard}
+use Rattle.sound_state.proofs.shared.ShownLemmas.{IsSoundBut, MayGoOn, MayGuard, sound-but_one}
 use Rattle.sound_state.proofs.shared.WeighLemmas.{WeighMost, weigh-alike, weigh-emptied}
 use Rattle.sound_state.proofs.shared.SuperblocksStay.{ActivesKept}
 use Rattle.sound_state.proofs.shared.KeepsSound.{silent-sound}
+use Rattle.sound_state.proofs.shared.CallerLemmas.{KeepsCounts}
+use Rattle.sound_state.proofs.shared.TurnEffects.{CountsGo, OwnCounts, own-counts}
 
 -- a holding excepts the block at the place: it hands that out, or frees it and may have overwritten its prefix word
 abbrev pub HoldsException : Holding → ℕ → Type 0
@@ -53,15 +53,7 @@ pub record PointStands (g : Geometry) (s : State) (l : Lists) (caller : ℕ) (p 
   pub turn : TurnGoes p q
 
 pub goes-stands : (g : Geometry) (s : State) (l : Lists) (caller : ℕ) (p q : Point) → PointGoes g s l caller p q → PointStands g s l caller p q
-goes-stands g s l caller p q h = record {
-  kept = h.kept;
-  so = h.so;
-  spare = h.spare;
-  hands = h.hands;
-  frees = h.frees;
-  excepts = h.excepts;
-  turn = h.turn;
-}
+goes-stands g s l caller p q h = grind (arith, h)
 
 -- a caller that goes on with the same hazard word, and scans nothing, may guard what it guarded
 pub goes-guards :
@@ -78,9 +70,6 @@ goes-guards g s l caller q retired word guarded has same h = record {
 -- a count that may be raised never falls
 pub raised-least : (b : Bool) (n : ℕ) → n < 2 ^ 64 → n ≤ raised b n
 raised-least b n most = grind (arith)
-
-pub raised-below : (b : Bool) (n : ℕ) → n < 2 ^ 64 → raised b n < 2 ^ 64
-raised-below b n most = grind (arith)
 
 -- the errand of a caller that a step leads to the point
 abbrev pub at_point : ErrandFields → Found → Point → ErrandFields
@@ -113,38 +102,42 @@ settle-next e x (At q) plain is = settle-at e x q is
 settle-next e x (End r) plain is = settle-end e x r is
 settle-next e x n plain is = absurd plain
 
--- a caller may go on to a point at which it may stand
+-- a caller's counts go on with its turn
+pub goes-counts :
+    (caller : ℕ) (past : List Event) (e : ErrandFields) (x : Found) (q : Point) → OwnCounts caller past e → e.lost < 2 ^ 64
+    → counts_cleared e.point x ≡ false → TurnGoes e.point q → CountsGo caller past e (at_point e x q)
+goes-counts caller past e x q counts few still turn = grind (arith, counts, few, still, turn, counts_lost, raised-least)
+
+-- a caller may go on to a point at which it may stand, where what it was given, was refused and lost accounts for its turns
 pub may-after :
-    (g : Geometry) (s : State) (l : Lists) (caller : ℕ) (x : Found) (q : Point) → IsSoundWith g s l → caller < g.callers → x.value < 2 ^ 64
-    → settle_of (s.errand caller) x ≡ at_point (s.errand caller) x q → counts_cleared (s.errand caller).point x ≡ false
-    → PointStands g s l caller (s.errand caller).point q
+    (g : Geometry) (s : State) (l : Lists) (caller : ℕ) (x : Found) (q : Point) → IsSoundBut g s l caller → caller < g.callers
+    → OwnCounts caller s.history (s.errand caller) → counts_cleared (s.errand caller).point x ≡ false
+    → PointStands g s l caller (s.errand caller).point q → MayGoOn g s l caller (s.errand caller) (at_point (s.errand caller) x q)
+may-after g s l caller x q but has counts still goes = record {
+  stands = record {
+    kept = goes.kept;
+    retired = but.kept.retired caller has;
+    so = goes.so;
+    full = λ spare. but.guarded.full caller has (sym goes.spare ∙ spare);
+    hands = goes.hands;
+    frees = goes.frees;
+  };
+  excepts = λ place x. inl (goes.excepts place x);
+  counts = goes-counts caller s.history (s.errand caller) x q counts (but.formed.errands caller has).lost still goes.turn;
+}
+
+-- so a caller of a sound state may
+pub may-step :
+    (g : Geometry) (s : State) (l : Lists) (caller : ℕ) (x : Found) (q : Point) → IsSoundWith g s l → caller < g.callers
+    → counts_cleared (s.errand caller).point x ≡ false → PointStands g s l caller (s.errand caller).point q
     → MayGoOn g s l caller (s.errand caller) (at_point (s.errand caller) x q)
-may-after g s l caller x q sound has word after still goes =
-    let e = s.errand caller in
-    let old = sound.errands caller has in
-    let turned = sound.turned.own_turns caller has in
-    let more : e.lost ≤ raised (counts_lost e.point x) e.lost = raised-least (counts_lost e.point x) e.lost old.lost in
-    let same : raised (counts_cleared e.point x) e.cleared ≡ e.cleared = ap (λ b. raised b e.cleared) still in
-    record {
-      rule = record {
-        number = old.number;
-        geometry = old.geometry;
-        rule = subst IsErrand after (settle_errand e x old.rule word);
-        lost = raised-below (counts_lost e.point x) e.lost old.lost;
-      };
-      kept = goes.kept;
-      retired = sound.kept.retired caller has;
-      so = goes.so;
-      full = λ spare. sound.guarded.full caller has (sym goes.spare ∙ spare);
-      hands = goes.hands;
-      frees = goes.frees;
-      excepts = λ place x. inl (goes.excepts place x);
-      own_turns = omega (arith, turned, goes.turn.under_way);
-      own_lost = omega (arith, sound.turned.own_lost caller has, goes.turn.discards, goes.turn.unanswered, more);
-      own_answers = omega (arith, sound.turned.own_answers caller has, goes.turn.unanswered);
-      frame_turns = omega (arith, goes.turn.unframed);
-      list_turns = omega (arith, goes.turn.pops, same);
-    }
+may-step g s l caller x q sound has = may-after g s l caller x q (sound-but_one g s l caller sound) has (own-counts g s l caller sound.turned has)
+
+-- a caller that goes on to a point, and loses and clears nothing, keeps its counts
+pub keeps-counts :
+    (e : ErrandFields) (p : Point) (x : Found) (q : Point) → e.point ≡ p → counts_lost p x ≡ false → counts_cleared p x ≡ false
+    → KeepsCounts e (at_point e x q)
+keeps-counts e p x q here lost cleared = grind (arith, here, lost, cleared, counts_cleared, counts_lost)
 
 -- what the action of a point finds in a state
 abbrev pub found_from : State → Point → Found
@@ -154,11 +147,7 @@ found_from s p = found_by (plan_point_of p) (s.word (name_of (plan_point_of p)))
 pub words-stay :
     (words : WordName → ℕ) (n : WordName) (new : ℕ) (words' : WordName → ℕ) → Writes words n new words' → new ≡ words n
     → (m : WordName) → words' m ≡ words m
-words-stay words n new words' w same m =
-    elim (cases_name m n) [
-      | inl is ↦ subst (λ x. words' x ≡ words x) (sym is) (w.here ∙ same)
-      | inr differ ↦ w.elsewhere m differ
-    ]
+words-stay words n new words' w same m = grind (arith, w, same, cases_name)
 
 -- active words and slots hold what they held where all words stay
 pub actives-stay :
@@ -174,16 +163,6 @@ actives-stay g s l words' kept same = record {
   slot = λ heap class d has_heap has_class is. kept.slot heap class d has_heap has_class (sym (same (name.Slot heap class)) ∙ is);
 }
 
--- each word is a word after a write of one
-pub words-below :
-    (words : WordName → ℕ) (n : WordName) (new : ℕ) (words' : WordName → ℕ) → Writes words n new words'
-    → ((m : WordName) → words m < 2 ^ 64) → new < 2 ^ 64 → (m : WordName) → words' m < 2 ^ 64
-words-below words n new words' w old below m =
-    elim (cases_name m n) [
-      | inl is ↦ subst (λ x. words' x < 2 ^ 64) (sym is) (subst (λ v. v < 2 ^ 64) (sym w.here) below)
-      | inr differ ↦ subst (λ v. v < 2 ^ 64) (sym (w.elsewhere m differ)) (old m)
-    ]
-
 -- a step after which its caller stands at the point; the caller's hazard word may change
 pub record StepsMost (g : Geometry) (s : State) (l : Lists) (caller : ℕ) (q : Point) : Type 0 where
   pub after : settle_of (s.errand caller) (found_at s caller) ≡ at_point (s.errand caller) (found_at s caller) q
@@ -193,7 +172,6 @@ pub record StepsMost (g : Geometry) (s : State) (l : Lists) (caller : ℕ) (q : 
   pub weigh :
       WeighMost (name_at s caller) (word_at s caller) (after_action (action_at s caller) (word_at s caller)) (s.errand caller)
       (at_point (s.errand caller) (found_at s caller) q)
-  pub below : after_action (action_at s caller) (word_at s caller) < 2 ^ 64
 
 -- the hazard words after a step: the others' stay, and with its own its caller may stand at the point
 pub record HazardsAfter (g : Geometry) (s : State) (caller : ℕ) (q : Point) (words' : WordName → ℕ) : Type 0 where
@@ -211,24 +189,23 @@ step-most g s caller s' q sound has steps actives hazards step =
     let to = steps l old in
     let words = hazards l old in
     let e = at_point (s.errand caller) (found_at s caller) q in
-    let own = old.errands caller has in
+    let own = old.formed.errands caller has in
     let exists : Exists g (name_at s caller) =
     subst (λ h. Exists h (name_at s caller)) own.geometry
     (plan-exists (s.errand caller).geometry (s.errand caller).caller (s.errand caller).point own.rule.geometry own.rule.caller own.rule.point) in
     let moves : Moves s.errand caller e s'.errand =
     subst (λ f. Moves s.errand caller f s'.errand) to.after step.errand in
     let past : s'.history ≡ s.history = step.history ∙ ap (with_event s.history) to.event in
-    silent-sound g s s' l sound past
+    silent-sound g s caller s' l sound has step past
     (sound-alike g s l caller e s'
     (record {
       in_heap = has;
       moves = moves;
       alike = weigh-alike g s l caller (name_at s caller) _ e s' exists has step.word moves past to.weigh;
-      may = may-after g s l caller (found_at s caller) q old has (old.words (name_at s caller)) to.after to.cleared to.stands;
+      may = may-step g s l caller (found_at s caller) q old has to.cleared to.stands;
       others = words.others;
       guards = words.guards;
       actives = actives l old;
-      words = words-below s.word (name_at s caller) _ s'.word step.word old.words to.below;
       emptied =
           let same : raised (counts_cleared (s.errand caller).point (found_at s caller)) (s.errand caller).cleared ≡ (s.errand caller).cleared =
           ap (λ b. raised b (s.errand caller).cleared) to.cleared in

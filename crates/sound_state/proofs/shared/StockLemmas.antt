@@ -1,12 +1,11 @@
 -- Descriptors never run out.
-use Rattle.std.proofs.Common.{ℕ, Option, Some, None, ◌≡◌, ◌<◌, ◌≤◌, ◌+◌, ◌*◌, List, [], ◌∷◌, length, refl, sym, ◌∙◌, ap, subst, arith, inl, inr, ◌==◌, ◌-◌, ◌&&◌}
-use Rattle.std.proofs.Common.{if◌then◌else◌, All, eq-eqb, ne_eqb}
+use Rattle.std.proofs.Common.{ℕ, Option, Some, None, ◌≡◌, ◌<◌, ◌≤◌, ◌+◌, ◌*◌, List, [], ◌∷◌, length, refl, arith, inl, inr, ◌==◌, ◌&&◌, zero, if◌then◌else◌, All, eq-eqb}
+use Rattle.std.proofs.Common.{ne_eqb, suc, ◌-◌}
 use Rattle.std.proofs.lemmas.Bool.{cases_eq, cond-true, cond-false}
-use Rattle.sound_state.proofs.Common.{Geometry, CLASSES, ActiveWord, Null, Held, active_of, info_of, WordName, descriptor_count, word_count, SeatFields, Exists}
-use Rattle.sound_state.proofs.Common.{word_name, occurs, Partials, Stacked, next_in, Continuation, Point, FitsPoint, spare_of, ErrandFields, State, Kept, holds_of}
-use Rattle.sound_state.proofs.Common.{word_keeps, full_keeps, errand_has, Lists, word_stock, full_stock, errand_stock, stock_among, waits_in, IsSoundWith}
-use Rattle.sound_state.proofs.Common.{IsSoundWithoutCounts, sum_below, words_sum, callers_sum, anchor_for, info_for, info_or_zero, InfoFields, active_keeps, places_of}
-use Rattle.sound_state.proofs.Common.{stock_of}
+use Rattle.sound_state.proofs.Common.{Geometry, CLASSES, ActiveWord, Null, Held, active_of, info_of, WordName, descriptor_count, word_count, SeatFields, Exists, word_name}
+use Rattle.sound_state.proofs.Common.{occurs, Partials, Stacked, next_in, Continuation, Point, FitsPoint, spare_of, ErrandFields, State, Kept, holds_of, word_keeps}
+use Rattle.sound_state.proofs.Common.{full_keeps, errand_has, Lists, word_stock, full_stock, errand_stock, stock_among, waits_in, IsSoundWith, IsSoundWithoutCounts}
+use Rattle.sound_state.proofs.Common.{sum_below, words_sum, callers_sum, anchor_for, info_for, InfoFields, active_keeps, places_of, stock_of}
 use Rattle.word_table.specs.declared.name.WordName.TheVariants as name
 use Rattle.hazard_parts.specs.declared.point.DescPoint.TheVariants as desc
 use Rattle.errand_steps.specs.declared.point.Point.TheVariants as point
@@ -28,37 +27,16 @@ active-one n (Some (Held e credits)) = sum-once n e
 active-keeps-most : (n word : ℕ) → sum_below n (λ d. active_keeps d (active_of word)) ≤ some_word word
 active-keeps-most n word =
     elim (cases_eq word 0) [
-      | inl e ↦
-          omega (
-            arith,
-            cond-true {A = ℕ} (word == 0) 0 1 (eq-eqb word 0 e),
-            sum-none n (λ d. active_keeps d (active_of word)) (λ d lt. ap (λ w. active_keeps d (active_of w)) e ∙ ap (active_keeps d) zero-active),
-          )
+      | inl e ↦ omega (arith, sum-none n (λ d. active_keeps d (active_of word)) (λ d lt. rw (e, zero-active) refl))
       | inr ne ↦ omega (arith, cond-false {A = ℕ} (word == 0) 0 1 (ne_eqb word 0 ne), active-one n (active_of word))
     ]
 
 -- a slot names at most one descriptor, and none where it is 0
-slot-one : (word d : ℕ) → (if word == d + 1 then 1 else 0) ≤ (if word == 0 then 0 else (if word - 1 == d then 1 else 0))
-slot-one word d = grind (arith)
-
 slot-keeps-most : (n word : ℕ) → sum_below n (λ d. if word == d + 1 then 1 else 0) ≤ some_word word
-slot-keeps-most n word =
-    elim (cases_eq word 0) [
-      | inl e ↦
-          omega (
-            arith,
-            cond-true {A = ℕ} (word == 0) 0 1 (eq-eqb word 0 e),
-            sum-none n (λ d. if word == d + 1 then 1 else 0) (λ d lt. cond-false {A = ℕ} (word == d + 1) 1 0 (ne_eqb word (d + 1) (λ q. let no : ⊥ = omega (arith, q, e) in no))),
-          )
-      | inr ne ↦
-          omega (
-            arith,
-            cond-false {A = ℕ} (word == 0) 0 1 (ne_eqb word 0 ne),
-            sum-once n (word - 1),
-            sum-least n (λ d. if word == d + 1 then 1 else 0) (λ d. if word - 1 == d then 1 else 0)
-                (λ d lt. omega (arith, slot-one word d, cond-false {A = ℕ} (word == 0) 0 (if word - 1 == d then 1 else 0) (ne_eqb word 0 ne))),
-          )
-    ]
+slot-keeps-most n zero = omega (arith, sum-none n (λ d. if zero == d + 1 then 1 else 0) (λ d lt. grind (arith)))
+slot-keeps-most n (suc word) =
+    let some : some_word (suc word) ≡ 1 = grind (arith) in
+    omega (arith, some, sum-once n word, sum-same n (λ d. if word == d then 1 else 0) (λ d. if suc word == d + 1 then 1 else 0) (λ d lt. grind (arith)))
 
 pub slot-once : (n word : ℕ) → sum_below n (λ d. if word == d + 1 then 1 else 0) ≤ 1
 slot-once n word = grind (arith, slot-keeps-most n word)
@@ -114,12 +92,11 @@ unfolding info_of
 info-class word i is = grind (arith, is)
 
 info-class-of : (s : State) (d : ℕ) (o : Option InfoFields) → info_of (s.word (name.Info d)) ≡ o → (info_for s d).class < CLASSES
-info-class-of s d None is = subst (λ o. (info_or_zero o).class < CLASSES) (sym is) (omega arith)
-info-class-of s d (Some i) is = subst (λ o. (info_or_zero o).class < CLASSES) (sym is) (info-class (s.word (name.Info d)) i is)
+info-class-of s d o is = grind (arith, is, info-class)
 
 -- a FULL superblock is in stock for its class
 full-class : (s : State) (d : ℕ) → full_stock s (info_for s d).class d ≡ full_keeps (anchor_for s d).state
-full-class s d = cond-true {A = ℕ} ((info_for s d).class == (info_for s d).class) (full_keeps (anchor_for s d).state) 0 (eq-eqb (info_for s d).class (info_for s d).class refl)
+full-class s d = rw (eq-eqb (info_for s d).class (info_for s d).class refl) refl
 
 full-stocked : (n : ℕ) (s : State)
     → sum_below n (λ d. full_keeps (anchor_for s d).state) ≤ sum_below CLASSES (λ class. sum_below n (full_stock s class))
@@ -177,13 +154,7 @@ waits_of e = sum_below CLASSES (λ class. waits_in class e.point)
 
 caller-stocked : (g : Geometry) (caller n : ℕ) (e : ErrandFields) → FitsPoint g caller e.point
     → sum_below n (λ d. errand_has d e) + waits_of e ≤ length e.retired + sum_below CLASSES (λ class. errand_stock class e)
-caller-stocked g caller n e fits =
-    omega (
-      arith,
-      caller-has n e,
-      stock-least (holds_of e.point).kept (in-class g caller e.point fits),
-      sum-plus CLASSES (λ class. stock_among class (holds_of e.point).kept) (λ class. waits_in class e.point),
-    )
+caller-stocked g caller n e fits = grind (arith, fits, caller-has, stock-least, in-class, sum-plus)
 
 abbrev retired_of : ErrandFields → ℕ
 retired_of e = length e.retired
@@ -202,7 +173,7 @@ callers-stocked g s l n sound =
     ≤ sum_below g.callers (λ caller. retired caller + sum_below CLASSES (λ class. stock class caller)) =
     sum-least g.callers (λ caller. sum_below n (λ d. has d caller) + waits caller) (λ caller. retired caller + sum_below CLASSES (λ class. stock class caller))
     (λ caller lt.
-    let own = sound.errands caller lt in
+    let own = sound.formed.errands caller lt in
     caller-stocked (s.errand caller).geometry (s.errand caller).caller n (s.errand caller) own.rule.point) in
     omega (
       arith,
@@ -215,12 +186,7 @@ callers-stocked g s l n sound =
 -- no more are retired than all callers' lists hold
 retired-most : (g : Geometry) (s : State) (l : Lists) → IsSoundWith g s l → callers_sum g retired_of s.errand ≤ g.callers * (g.callers + 1)
 unfolding callers_sum
-retired-most g s l sound =
-    sum-most g.callers (λ caller. retired_of (s.errand caller)) (g.callers + 1)
-    (λ caller lt.
-    let own = sound.errands caller lt in
-    let same : (s.errand caller).geometry.callers ≡ g.callers = ap (λ (o : Geometry). o.callers) own.geometry in
-    omega (arith, own.rule.room, spare-most (s.errand caller).point))
+retired-most g s l sound = grind (arith, sound, sum-most, spare-most)
 
 -- a caller that waits is one of all that do
 waits-least : (g : Geometry) (s : State) (caller class : ℕ) → caller < g.callers → class < CLASSES
@@ -229,53 +195,50 @@ unfolding callers_sum
 waits-least g s caller class has is =
     omega (arith, term-sum g.callers (λ i. waits_of (s.errand i)) caller has, term-sum CLASSES (λ c. waits_in c (s.errand caller).point) class is)
 
--- all descriptors, and the callers that wait for one, are at most the stocks, the retired and the available ones
-places-all : (g : Geometry) (s : State) (l : Lists) → IsSoundWith g s l
-    → descriptor_count g + callers_sum g waits_of s.errand
-    ≤ sum_below CLASSES (stock_of g s l) + callers_sum g retired_of s.errand + length l.available
-places-all g s l sound =
-    let n = descriptor_count g in
-    let words = λ (d : ℕ). words_sum g (word_keeps d) s.word in
-    let partials = λ (d : ℕ). sum_below CLASSES (λ class. occurs d (l.partials class)) in
-    let available = λ (d : ℕ). occurs d l.available in
-    let callers = λ (d : ℕ). callers_sum g (errand_has d) s.errand in
-    let full = λ (d : ℕ). full_keeps (anchor_for s d).state in
-    let w = λ (class : ℕ). words_sum g (word_stock class) s.word in
-    let p = λ (class : ℕ). length (l.partials class) in
-    let c = λ (class : ℕ). callers_sum g (errand_stock class) s.errand in
-    let f = λ (class : ℕ). sum_below n (full_stock s class) in
-    let ones : sum_below n (λ d. 1) ≡ n = sum-ones n in
-    let once : sum_below n (places_of g s l) ≡ sum_below n (λ d. 1) = sum-same n (λ d. 1) (places_of g s l) (λ d lt. sound.kept.once d lt) in
-    omega (
-      arith,
-      ones,
-      once,
-      sum-plus n (λ d. words d + partials d + available d + callers d) full,
-      sum-plus n (λ d. words d + partials d + available d) callers,
-      sum-plus n (λ d. words d + partials d) available,
-      sum-plus n words partials,
-      sum-plus CLASSES (λ class. w class + p class + c class) f,
-      sum-plus CLASSES (λ class. w class + p class) c,
-      sum-plus CLASSES w p,
-      words-stocked g s.word,
-      lists-stocked n l.partials,
-      sum-occurs n l.available,
-      callers-stocked g s l n sound,
-      full-stocked n s,
-    )
+-- a sound state with its lists
+module _ (g : Geometry) (s : State) (l : Lists) (sound : IsSoundWith g s l) where
+  -- all descriptors, and the callers that wait for one, are at most the stocks, the retired and the available ones
+  places-all :
+      descriptor_count g + callers_sum g waits_of s.errand ≤ sum_below CLASSES (stock_of g s l) + callers_sum g retired_of s.errand + length l.available
+  places-all =
+      let n = descriptor_count g in
+      let words = λ (d : ℕ). words_sum g (word_keeps d) s.word in
+      let partials = λ (d : ℕ). sum_below CLASSES (λ class. occurs d (l.partials class)) in
+      let available = λ (d : ℕ). occurs d l.available in
+      let callers = λ (d : ℕ). callers_sum g (errand_has d) s.errand in
+      let full = λ (d : ℕ). full_keeps (anchor_for s d).state in
+      let w = λ (class : ℕ). words_sum g (word_stock class) s.word in
+      let p = λ (class : ℕ). length (l.partials class) in
+      let c = λ (class : ℕ). callers_sum g (errand_stock class) s.errand in
+      let f = λ (class : ℕ). sum_below n (full_stock s class) in
+      let ones : sum_below n (λ d. 1) ≡ n = sum-ones n in
+      let once : sum_below n (places_of g s l) ≡ sum_below n (λ d. 1) = sum-same n (λ d. 1) (places_of g s l) (λ d lt. sound.kept.once d lt) in
+      omega (
+        arith,
+        ones,
+        once,
+        sum-plus n (λ d. words d + partials d + available d + callers d) full,
+        sum-plus n (λ d. words d + partials d + available d) callers,
+        sum-plus n (λ d. words d + partials d) available,
+        sum-plus n words partials,
+        sum-plus CLASSES (λ class. w class + p class + c class) f,
+        sum-plus CLASSES (λ class. w class + p class) c,
+        sum-plus CLASSES w p,
+        words-stocked g s.word,
+        lists-stocked n l.partials,
+        sum-occurs n l.available,
+        callers-stocked g s l n sound,
+        full-stocked n s,
+      )
 
--- no more descriptors are in stock than the classes have
-all-stock-most : (g : Geometry) (s : State) (l : Lists) → IsSoundWith g s l
-    → sum_below CLASSES (stock_of g s l) ≤ CLASSES * (g.frames + g.heaps + 2 * g.callers)
-all-stock-most g s l sound =
-    sum-most CLASSES (stock_of g s l) (g.frames + g.heaps + 2 * g.callers) (λ class has. sound.stocked.most class has)
+  -- no more descriptors are in stock than the classes have
+  all-stock-most : sum_below CLASSES (stock_of g s l) ≤ CLASSES * (g.frames + g.heaps + 2 * g.callers)
+  all-stock-most = sum-most CLASSES (stock_of g s l) (g.frames + g.heaps + 2 * g.callers) (λ class has. sound.stocked.most class has)
 
--- a descriptor is available where a caller waits for one
-available-least : (g : Geometry) (s : State) (l : Lists) → IsSoundWith g s l → (caller class : ℕ) → caller < g.callers → class < CLASSES
-    → waits_in class (s.errand caller).point ≡ 1 → 1 ≤ length l.available
-unfolding descriptor_count
-available-least g s l sound caller class has is waits =
-    omega (arith, places-all g s l sound, all-stock-most g s l sound, retired-most g s l sound, waits-least g s caller class has is)
+  -- a descriptor is available where a caller waits for one
+  available-least : (caller class : ℕ) → caller < g.callers → class < CLASSES → waits_in class (s.errand caller).point ≡ 1 → 1 ≤ length l.available
+  unfolding descriptor_count
+  available-least caller class has is waits = omega (arith, places-all, all-stock-most, retired-most g s l sound, waits-least g s caller class has is)
 
 -- a stack that isn't empty has a top
 stack-top : (next : ℕ → ℕ) (top n : ℕ) (xs : List ℕ) → Stacked next top xs → All (λ d. d < n) xs → 1 ≤ length xs
@@ -294,13 +257,11 @@ waiting-has g s sound caller class has is waits =
 -- the seat of a caller at the load of the available ones' head is of a class for which it waits
 looks-seat : (g : Geometry) (caller : ℕ) (p : Point) (seat : SeatFields) (o : Continuation) → FitsPoint g caller p → p ≡ point.Desc (desc.LoadDescHead seat) o
     → (seat.class < CLASSES) × (waits_in seat.class p ≡ 1)
-looks-seat g caller p seat o fits is =
-    let there : FitsPoint g caller (point.Desc (desc.LoadDescHead seat) o) = subst (FitsPoint g caller) is fits in
-    (there.point.class, ap (waits_in seat.class) is ∙ cond-true {A = ℕ} (seat.class == seat.class) 1 0 (eq-eqb seat.class seat.class refl))
+looks-seat g caller p seat o fits is = grind (arith, fits, is, eq-eqb)
 
 pub looking-has : (g : Geometry) (s : State) → IsSoundWithoutCounts g s → (caller : ℕ) (seat : SeatFields) (o : Continuation) → caller < g.callers
     → (s.errand caller).point ≡ point.Desc (desc.LoadDescHead seat) o → (d : ℕ) × (d < descriptor_count g) × (s.word name.DescHead ≡ d + 1)
 looking-has g s sound caller seat o has is =
-    let own = sound.parts.1.errands caller has in
+    let own = sound.parts.1.formed.errands caller has in
     let seat_is = looks-seat (s.errand caller).geometry (s.errand caller).caller (s.errand caller).point seat o own.rule.point is in
     waiting-has g s sound caller seat.class has seat_is.0 seat_is.1

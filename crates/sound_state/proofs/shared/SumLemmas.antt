@@ -1,9 +1,9 @@
 -- Sums over the numbers below a bound, over the words and over the callers.
-use Rattle.std.proofs.Common.{ℕ, zero, suc, ◌≡◌, ◌≢◌, ◌<◌, ◌≤◌, ◌+◌, ◌*◌, List, [], ◌∷◌, length, refl, arith, inl, inr, subst, ap, sym, ◌∙◌, ◌==◌, if◌then◌else◌}
-use Rattle.std.proofs.Common.{eq-eqb, ne_eqb}
+use Rattle.std.proofs.Common.{ℕ, zero, suc, ◌≡◌, ◌≢◌, ◌<◌, ◌≤◌, ◌+◌, ◌*◌, List, [], ◌∷◌, length, refl, arith, inl, inr, subst, ap, sym, ◌∙◌, ◌==◌, if◌then◌else◌, eq-eqb}
+use Rattle.std.proofs.Common.{ne_eqb}
 use Rattle.std.proofs.lemmas.Bool.{cases_eq, cond-true, cond-false}
-use Rattle.sound_state.proofs.Common.{Geometry, WordName, word_count, Exists, word_name, Writes, occurs, ErrandFields, Moves, sum_below, words_sum, callers_sum}
-use Rattle.sound_state.proofs.Common.{word_index, word_index-within, word_name-word_index, word_index-word_name}
+use Rattle.sound_state.proofs.Common.{Geometry, WordName, word_count, Exists, word_name, Writes, occurs, ErrandFields, Moves, sum_below, words_sum, callers_sum, word_index}
+use Rattle.sound_state.proofs.Common.{word_index-within, word_name-word_index, word_index-word_name}
 
 -- sums of equal terms are equal
 pub sum-same : (n : ℕ) (f f' : ℕ → ℕ) → ((j : ℕ) → j < n → f' j ≡ f j) → sum_below n f' ≡ sum_below n f
@@ -71,6 +71,21 @@ pub sum-least : (n : ℕ) (f f' : ℕ → ℕ) → ((j : ℕ) → j < n → f j 
 sum-least zero f f' h = omega arith
 sum-least (suc n) f f' h = omega (arith, sum-least n f f' (λ j lt. h j (omega arith)), h n (omega arith))
 
+-- a sum of terms that are no more, and one of which is less, is less
+pub sum-less :
+    (n : ℕ) (f f' : ℕ → ℕ) (i : ℕ) → i < n → ((j : ℕ) → j < n → f' j ≤ f j) → f' i + 1 ≤ f i → sum_below n f' + 1 ≤ sum_below n f
+sum-less zero f f' i lt least less = absurd (let no : ⊥ = omega (arith, lt) in no)
+sum-less (suc n) f f' i lt least less =
+    elim (cases_eq i n) [
+      | inl last ↦
+          let rest = sum-least n f' f (λ j below. least j (omega arith)) in
+          let one : f' n + 1 ≤ f n = subst (λ k. f' k + 1 ≤ f k) last less in
+          omega (arith, rest, one)
+      | inr differ ↦
+          let rest = sum-less n f f' i (omega arith) (λ j below. least j (omega arith)) less in
+          omega (arith, rest, least n (omega arith))
+    ]
+
 -- a sum of sums of two terms is the sum of both sums
 pub sum-plus : (n : ℕ) (f f' : ℕ → ℕ) → sum_below n (λ j. f j + f' j) ≡ sum_below n f + sum_below n f'
 sum-plus zero f f' = refl
@@ -127,53 +142,45 @@ sum-occurs n [] = omega (arith, sum-none n (λ i. 0) (λ i lt. refl))
 sum-occurs n (x ∷ xs) =
     omega (arith, sum-plus n (λ i. if x == i then 1 else 0) (λ i. occurs i xs), sum-once n x, sum-occurs n xs)
 
--- a write changes the words' sum by what the word weighs
-pub words-written :
-    (g : Geometry) (weight : WordName → ℕ → ℕ) (words : WordName → ℕ) (name : WordName) (new : ℕ) (words' : WordName → ℕ)
-    → Exists g name → Writes words name new words'
-    → words_sum g weight words' + weight name (words name) ≡ words_sum g weight words + weight name new
-unfolding words_sum
-words-written g weight words name new words' exists w =
-    let stands : word_name g (word_index g name) ≡ name = word_name-word_index g name exists in
-    let changed =
-    sum-change (word_count g) (λ k. weight (word_name g k) (words (word_name g k)))
-    (λ k. weight (word_name g k) (words' (word_name g k))) (word_index g name) (word_index-within g name exists)
-    (λ k lt ne.
-    ap (weight (word_name g k))
-    (w.elsewhere (word_name g k) (λ q. ne (sym (word_index-word_name g k lt) ∙ ap (word_index g) q)))) in
-    let P : WordName → Type 0 =
-    λ m. words_sum g weight words' + weight m (words m) ≡ words_sum g weight words + weight m (words' m) in
-    let f : words_sum g weight words' + weight name (words name) ≡ words_sum g weight words + weight name (words' name) =
-    subst P stands changed in
-    omega (arith, f, ap (weight name) w.here)
+-- the sum of what words weigh
+module _ (g : Geometry) (weight : WordName → ℕ → ℕ) (words : WordName → ℕ) where
+  -- a write changes the words' sum by what the word weighs
+  pub words-written :
+      (name : WordName) (new : ℕ) (words' : WordName → ℕ) → Exists g name → Writes words name new words'
+      → words_sum g weight words' + weight name (words name) ≡ words_sum g weight words + weight name new
+  unfolding words_sum
+  words-written name new words' exists w =
+      let stands : word_name g (word_index g name) ≡ name = word_name-word_index g name exists in
+      let changed =
+      sum-change (word_count g) (λ k. weight (word_name g k) (words (word_name g k)))
+      (λ k. weight (word_name g k) (words' (word_name g k))) (word_index g name) (word_index-within g name exists)
+      (λ k lt ne.
+      ap (weight (word_name g k)) (w.elsewhere (word_name g k) (λ q. ne (sym (word_index-word_name g k lt) ∙ ap (word_index g) q)))) in
+      let P : WordName → Type 0 =
+      λ m. words_sum g weight words' + weight m (words m) ≡ words_sum g weight words + weight m (words' m) in
+      let f : words_sum g weight words' + weight name (words name) ≡ words_sum g weight words + weight name (words' name) =
+      subst P stands changed in
+      omega (arith, f, ap (weight name) w.here)
 
--- words that are all the same weigh the same
-pub words-same :
-    (g : Geometry) (weight : WordName → ℕ → ℕ) (words words' : WordName → ℕ)
-    → ((name : WordName) → words' name ≡ words name) → words_sum g weight words' ≡ words_sum g weight words
-unfolding words_sum
-words-same g weight words words' h =
-    sum-same (word_count g) (λ k. weight (word_name g k) (words (word_name g k)))
-    (λ k. weight (word_name g k) (words' (word_name g k))) (λ k lt. ap (weight (word_name g k)) (h (word_name g k)))
+  -- words that are all the same weigh the same
+  pub words-same : (words' : WordName → ℕ) → ((name : WordName) → words' name ≡ words name) → words_sum g weight words' ≡ words_sum g weight words
+  unfolding words_sum
+  words-same words' h = grind (arith, h, sum-same)
 
--- words that weigh nothing weigh nothing together
-pub words-none :
-    (g : Geometry) (weight : WordName → ℕ → ℕ) (words : WordName → ℕ)
-    → ((name : WordName) → weight name (words name) ≡ 0) → words_sum g weight words ≡ 0
-unfolding words_sum
-words-none g weight words h =
-    sum-none (word_count g) (λ k. weight (word_name g k) (words (word_name g k))) (λ k lt. h (word_name g k))
+  -- words that weigh nothing weigh nothing together
+  pub words-none : ((name : WordName) → weight name (words name) ≡ 0) → words_sum g weight words ≡ 0
+  unfolding words_sum
+  words-none h = sum-none (word_count g) (λ k. weight (word_name g k) (words (word_name g k))) (λ k lt. h (word_name g k))
 
--- words of which one alone weighs something weigh what that one does
-pub words-one :
-    (g : Geometry) (weight : WordName → ℕ → ℕ) (words : WordName → ℕ) (name : WordName) → Exists g name
-    → ((other : WordName) → other ≢ name → weight other (words other) ≡ 0) → words_sum g weight words ≡ weight name (words name)
-unfolding words_sum
-words-one g weight words name exists h =
-    let stands : word_name g (word_index g name) ≡ name = word_name-word_index g name exists in
-    sum-one (word_count g) (λ k. weight (word_name g k) (words (word_name g k))) (word_index g name) (word_index-within g name exists)
-    (λ k lt ne. h (word_name g k) (λ q. ne (sym (word_index-word_name g k lt) ∙ ap (word_index g) q)))
-    ∙ ap (λ m. weight m (words m)) stands
+  -- words of which one alone weighs something weigh what that one does
+  pub words-one :
+      (name : WordName) → Exists g name → ((other : WordName) → other ≢ name → weight other (words other) ≡ 0)
+      → words_sum g weight words ≡ weight name (words name)
+  unfolding words_sum
+  words-one name exists h =
+      let stands : word_name g (word_index g name) ≡ name = word_name-word_index g name exists in
+      sum-one (word_count g) (λ k. weight (word_name g k) (words (word_name g k))) (word_index g name) (word_index-within g name exists)
+      (λ k lt ne. h (word_name g k) (λ q. ne (sym (word_index-word_name g k lt) ∙ ap (word_index g) q))) ∙ ap (λ m. weight m (words m)) stands
 
 -- an errand that goes on changes the callers' sum by what it weighs
 pub callers-moved :

@@ -3,10 +3,10 @@ use Rattle.std.proofs.Common.{ℕ, Some, ◌≡◌, ◌≢◌, ◌<◌, ◌+◌,
 use Rattle.std.proofs.Math.Path.{fun_ext}
 use Rattle.std.proofs.lemmas.Bool.{cases_eq}
 use Rattle.sound_state.proofs.Common.{Geometry, block_count_of, block_place, frame_of, frame_of-block_place, AnchorFields, anchor_of, info_of, link_of, WordName, Site}
-use Rattle.sound_state.proofs.Common.{descriptor_count, word_count, info_in, IsSiteOf, word_name, cases_name, occurs, link_in, prefix_name, Event, block_at, pool_of}
-use Rattle.sound_state.proofs.Common.{State, Lists, IsLocated, IsSoundWith, words_sum, Superblock, AreChained, IsChained, anchor_for, info_for, info_or_zero}
-use Rattle.sound_state.proofs.Common.{superblock_of, free_chain, is_bound, is_there, live_at, reserved_of, waiting_of, index_of, occurs-here, fresh_block, pool_of-push}
-use Rattle.sound_state.proofs.Common.{block_at-past, held_back}
+use Rattle.sound_state.proofs.Common.{descriptor_count, word_count, info_in, IsSiteOf, word_name, cases_name, occurs, link_in, prefix_name, Event, block_at, pool_of, State}
+use Rattle.sound_state.proofs.Common.{Lists, IsLocated, IsSoundWith, words_sum, Superblock, AreChained, IsChained, anchor_for, info_for, info_or_zero, superblock_of}
+use Rattle.sound_state.proofs.Common.{free_chain, is_bound, is_there, live_at, reserved_of, waiting_of, index_of, occurs-here, fresh_block, pool_of-push, block_at-past}
+use Rattle.sound_state.proofs.Common.{held_back}
 use Rattle.heap_geometry.proofs.PlaceLemmas.{index_of-block_place}
 use Rattle.word_table.specs.declared.name.WordName.TheVariants as name
 use Rattle.pool_model.specs.declared.event.Event.TheVariants.{Alloc}
@@ -14,6 +14,7 @@ use Rattle.pool_model.proofs.PoolLemmas.{block_at-here}
 use Rattle.sound_state.proofs.shared.FrameLemmas.{bound-apart}
 use Rattle.sound_state.proofs.shared.ListFacts.{occurs-past}
 use Rattle.sound_state.proofs.shared.SumLemmas.{sum-same}
+use Rattle.sound_state.proofs.shared.TieLemmas.{TieWords}
 
 -- what holds of one number, and of every other, holds of each
 pub of-each : (P : ℕ → Type 0) (i : ℕ) → P i → ((j : ℕ) → j ≢ i → P j) → (j : ℕ) → P j
@@ -59,10 +60,10 @@ module _ {s s' : State} (still : LieStill s s') where
   size-stays g d = ap (λ x. block_count_of x.class) (info-stays d)
 
   -- no block of a superblock becomes live or free where there is no new event
-  pub live-stays : (g : Geometry) → s'.history ≡ s.history → (d : ℕ) → (superblock_of g s' d).live ≡ (superblock_of g s d).live
+  pub live-stays : (g : Geometry) → pool_of s'.history ≡ pool_of s.history → (d : ℕ) → (superblock_of g s' d).live ≡ (superblock_of g s d).live
   live-stays g none d =
       fun_ext
-      (λ k. ap (λ past. is_there (block_at (block_place (info_for s' d).frame (info_for s' d).class k) (pool_of past))) none
+      (λ k. ap (λ pool. is_there (block_at (block_place (info_for s' d).frame (info_for s' d).class k) pool)) none
       ∙ ap (λ x. live_at s (block_place x.frame x.class k)) (info-stays d))
 
   -- a superblock with the same anchor, of which as much is reserved and waits, is the same but for what is live
@@ -81,6 +82,21 @@ module _ {s s' : State} (still : LieStill s s') where
 abbrev pub anchor_number : WordName → ℕ
 anchor_number (name.Anchor d) = d
 anchor_number n = 0
+
+-- words that all stay but one, which weighs nothing, weigh the same
+pub words-but :
+    (g : Geometry) (weight : WordName → ℕ → ℕ) (words words' : WordName → ℕ) (n : WordName) → ((m : WordName) → m ≢ n → words' m ≡ words m)
+    → ((w : ℕ) → weight n w ≡ 0) → words_sum g weight words' ≡ words_sum g weight words
+unfolding words_sum
+words-but g weight words words' n elsewhere none =
+    let same : (m : WordName) → weight m (words' m) ≡ weight m (words m) =
+    λ m.
+    elim (cases_name m n) [
+      | inl is ↦ subst (λ k. weight k (words' k) ≡ weight k (words k)) (sym is) (none (words' n) ∙ sym (none (words n)))
+      | inr differ ↦ ap (weight m) (elsewhere m differ)
+    ] in
+    sum-same (word_count g) (λ k. weight (word_name g k) (words (word_name g k))) (λ k. weight (word_name g k) (words' (word_name g k)))
+    (λ k lt. same (word_name g k))
 
 -- no word changes but one anchor
 pub record AnchorEffects (s : State) (desc : ℕ) (s' : State) : Type 0 where
@@ -105,18 +121,15 @@ module _ {s : State} {desc : ℕ} {s' : State} (h : AnchorEffects s desc s') whe
   pub weights-stay :
       (g : Geometry) (weight : WordName → ℕ → ℕ) → ((w : ℕ) → weight (name.Anchor desc) w ≡ 0)
       → words_sum g weight s'.word ≡ words_sum g weight s.word
-  unfolding words_sum
-  weights-stay g weight none =
-      let same : (n : WordName) → weight n (s'.word n) ≡ weight n (s.word n) =
-      λ n.
-      elim (cases_name n (name.Anchor desc)) [
-        | inl is ↦
-            subst (λ m. weight m (s'.word m) ≡ weight m (s.word m)) (sym is)
-            (none (s'.word (name.Anchor desc)) ∙ sym (none (s.word (name.Anchor desc))))
-        | inr differ ↦ ap (weight n) (h.elsewhere n differ)
-      ] in
-      sum-same (word_count g) (λ k. weight (word_name g k) (s.word (word_name g k))) (λ k. weight (word_name g k) (s'.word (word_name g k)))
-      (λ k lt. same (word_name g k))
+  weights-stay g weight = words-but g weight s.word s'.word (name.Anchor desc) h.elsewhere
+
+  -- the words that speak of blocks stay after a write of an anchor
+  pub anchor-ties : TieWords s s'
+  anchor-ties = record {
+    arena = λ place. h.elsewhere (name.Arena place) (λ same. cc);
+    units = h.elsewhere name.Units (λ same. cc);
+    shelf = λ k. h.elsewhere (name.Shelf k) (λ same. cc);
+  }
 
 -- a superblock with the same chain and links, each of whose blocks is live or held back as often as before, keeps its blocks in order
 pub same-chain-chained :
@@ -137,15 +150,13 @@ pub held-same : (b b' : Superblock) → b'.waiting ≡ b.waiting → (j : ℕ) �
 held-same b b' waits j = ap (λ w. if j == 0 then w else 0) waits
 
 -- a superblock that is the same but for what is live, where no block becomes live or free, keeps its blocks in order
-pub same-chained :
-    (b b' : Superblock) → IsChained b → IsSameButLive b b' → ((j : ℕ) → j < b.size → b'.live j ≡ b.live j) → IsChained b'
+pub same-chained : (b b' : Superblock) → IsChained b → IsSameButLive b b' → ((j : ℕ) → j < b.size → b'.live j ≡ b.live j) → IsChained b'
 same-chained b b' old h live =
     same-chain-chained b b' old (ap (λ x. x.avail) h.anchor) (rw (h.next, h.anchor, h.reserved) refl) h.next h.size
     (omega (arith, old.some, ap (λ x. x.count) h.anchor, h.size)) (λ j lt. omega (arith, live j lt, held-same b b' h.waiting j))
 
 -- the live blocks of a superblock that lies in this frame with this class
-pub located-live :
-    (g : Geometry) (s : State) (d f c : ℕ) → IsLocated s d f c → (i : ℕ) → (superblock_of g s d).live i ≡ live_at s (block_place f c i)
+pub located-live : (g : Geometry) (s : State) (d f c : ℕ) → IsLocated s d f c → (i : ℕ) → (superblock_of g s d).live i ≡ live_at s (block_place f c i)
 located-live g s d f c lies i =
     ap (λ x. live_at s (block_place x (info_for s d).class i)) lies.frame ∙ ap (λ x. live_at s (block_place f x i)) lies.class
 
@@ -154,15 +165,13 @@ pub given-here :
     (caller words place : ℕ) (past past' : List Event) → past' ≡ past ++ Alloc caller words place ∷ []
     → block_at place (pool_of past') ≡ Some (fresh_block caller words place)
 given-here caller words place past past' one =
-    ap (λ past. block_at place (pool_of past)) one ∙ ap (block_at place) (pool_of-push past (Alloc caller words place))
-    ∙ block_at-here place (fresh_block caller words place) (pool_of past) refl
+    rw (one, pool_of-push past (Alloc caller words place)) (block_at-here place (fresh_block caller words place) (pool_of past) refl)
 
 pub given-there :
     (caller words place : ℕ) (past past' : List Event) → past' ≡ past ++ Alloc caller words place ∷ [] → (p : ℕ) → p ≢ place
     → block_at p (pool_of past') ≡ block_at p (pool_of past)
 given-there caller words place past past' one p differ =
-    ap (λ past. block_at p (pool_of past)) one ∙ ap (block_at p) (pool_of-push past (Alloc caller words place))
-    ∙ block_at-past p (fresh_block caller words place) (pool_of past) (λ same. differ (sym same))
+    rw (one, pool_of-push past (Alloc caller words place)) (block_at-past p (fresh_block caller words place) (pool_of past) (λ same. differ (sym same)))
 
 -- all superblocks lie where they did, and no block becomes live or free but this one of a bound superblock
 pub record BlockEffects (g : Geometry) (s : State) (l : Lists) (caller : ℕ) (at : Site) (i : ℕ) (s' : State) : Type 0 where
@@ -196,8 +205,7 @@ module _ {g : Geometry} {s : State} {l : Lists} {caller : ℕ} {at : Site} {i : 
       located-live g s' at.desc at.frame at.seat.class
       (record { frame = ap (λ x. x.frame) info ∙ h.located.frame; class = ap (λ x. x.class) info ∙ h.located.class }) j
 
-  pub rest-live :
-      (j : ℕ) → j < (superblock_of g s at.desc).size → j ≢ i → (superblock_of g s' at.desc).live j ≡ (superblock_of g s at.desc).live j
+  pub rest-live : (j : ℕ) → j < (superblock_of g s at.desc).size → j ≢ i → (superblock_of g s' at.desc).live j ≡ (superblock_of g s at.desc).live j
   rest-live j within differ =
       let below : j < block_count_of at.seat.class = subst (λ c. j < block_count_of c) h.located.class within in
       let apart : block_place at.frame at.seat.class j ≢ block_place at.frame at.seat.class i =

@@ -1,18 +1,18 @@
 -- A step that leaves the words of superblocks, what is reserved of them, and the blocks: what is said of them stays.
-use Rattle.std.proofs.Common.{ℕ, Some, ◌≡◌, ◌<◌, ◌≤◌, ◌+◌, ◌⊎◌, refl, arith, ap, sym, subst, inl, inr, ◌∙◌, All, IsTrue, IsSome}
-use Rattle.std.proofs.Math.Path.{fun_ext}
-use Rattle.sound_state.proofs.Common.{AnchorFields, AreChained, CLASSES, ErrandFields, Geometry, Held, IsChained, IsFramed, IsKept, IsKeptAs, IsOwned, IsPartlyUsed}
-use Rattle.sound_state.proofs.Common.{IsTied, IsWithout, Lists, Moves, Need, State, Status, Superblock, WordName, active_of, anchor_for, anchor_of, block_at}
-use Rattle.sound_state.proofs.Common.{block_count_of, block_place, callers_sum, descriptor_count, errand_frames, fills_frame, frame_of, holds_of, info_for, info_in}
-use Rattle.sound_state.proofs.Common.{info_of, info_or_zero, is_bound, is_there, link_in, link_of, live_at, occurs, on_its_way, own, partly_used, pool_of, prefix_name}
-use Rattle.sound_state.proofs.Common.{reserved_of, reserving, sum_below, superblock_of, waiting, waiting_of, IsActive, places_of}
+use Rattle.std.proofs.Common.{ℕ, Some, ◌≡◌, ◌<◌, ◌≤◌, ◌+◌, ◌⊎◌, refl, arith, ap, sym, subst, ◌∙◌, All, IsTrue, IsSome, List, []}
+use Rattle.sound_state.proofs.Common.{AnchorFields, AreChained, CLASSES, ErrandFields, Geometry, Held, IsFramed, IsKept, IsKeptAs, IsOwned, IsPartlyUsed, IsTied, IsWithout}
+use Rattle.sound_state.proofs.Common.{Lists, Moves, Need, State, Status, Superblock, WordName, active_of, anchor_for, anchor_of, block_at, callers_sum, descriptor_count}
+use Rattle.sound_state.proofs.Common.{errand_frames, holds_of, info_for, is_bound, occurs, own, pool_of, prefix_name, reserved_of, superblock_of, waiting, waiting_of}
+use Rattle.sound_state.proofs.Common.{IsActive, places_of, Kept, keep}
 use Rattle.packed_words.specs.declared.anchor.AnchorState.TheVariants as phase
 use Rattle.word_table.specs.declared.name.WordName.TheVariants as name
 use Rattle.sound_state.proofs.shared.CallerLemmas.{each-caller}
 use Rattle.sound_state.proofs.shared.RecallFrame.{Part, PartStays, availables, bindings, chain-same, chains, constant, events, lies-same, link_words, places, single}
 use Rattle.sound_state.proofs.shared.RecallFrame.{stacks}
 use Rattle.sound_state.proofs.shared.SumLemmas.{sum-same}
-use Rattle.sound_state.proofs.shared.TieLemmas.{Excepts, IsSaidAt, blocks-stay, located-stays, owned-stays}
+use Rattle.sound_state.proofs.shared.TieLemmas.{Excepts, IsSaidAt, blocks-stay, owned-stays, block-stays}
+use Rattle.std.proofs.lemmas.List.Elements.{All-nil, All-cons, All-head}
+use Rattle.sound_state.proofs.shared.SuperblockEffects.{IsLayWord, LieStill, info-stays}
 
 -- wherever d stands, it is after a step in the state that belongs there
 pub record StaysKept (s s' : State) (d : ℕ) : Type 0 where
@@ -26,28 +26,28 @@ pub state-goes :
     (s s' : State) (d : ℕ) → info_for s' d ≡ info_for s d → (anchor_for s' d).state ≡ (anchor_for s d).state
     → ((anchor_for s d).state ≡ phase.Partial → 1 ≤ (anchor_for s d).count → 1 ≤ (anchor_for s' d).count)
     → ((anchor_for s d).state ≡ phase.Full → (anchor_for s' d).count ≤ (anchor_for s d).count) → StaysKept s s' d
-state-goes s s' d info state some less = record {
-  partly = λ c k. record {
-    class = ap (λ x. x.class) info ∙ k.class;
-    state = elim k.state [ inl partial ↦ inl (state ∙ partial.0, some partial.0 partial.1) | inr empty ↦ inr (state ∙ empty) ];
-  };
-  active = λ c k. record { class = ap (λ x. x.class) info ∙ k.class; state = state ∙ k.state };
-  without = λ k. elim k [ inl active ↦ inl (state ∙ active) | inr empty ↦ inr (state ∙ empty) ];
-  full = λ is. (sym state ∙ is, less (sym state ∙ is));
-}
+state-goes s s' d info state some less = grind (arith, info, state, some, less)
 
 -- each stands so where its word and its anchor stay
 pub same-stays-kept : (s s' : State) (d : ℕ) → info_for s' d ≡ info_for s d → anchor_for s' d ≡ anchor_for s d → StaysKept s s' d
-same-stays-kept s s' d info anchor =
-    state-goes s s' d info (ap (λ x. x.state) anchor) (λ partial some. omega (arith, some, ap (λ x. x.count) anchor))
-    (λ full. omega (arith, ap (λ x. x.count) anchor))
+same-stays-kept s s' d info anchor = grind (arith, info, anchor, state-goes)
 
 -- what a caller keeps is in the state in which it keeps it
 pub kept-goes : (s s' : State) (status : Status) (d c : ℕ) → StaysKept s s' d → IsKeptAs s status d c → IsKeptAs s' status d c
-kept-goes s s' reserving d c h k = h.active c k
-kept-goes s s' waiting d c h k = h.active c k
-kept-goes s s' partly_used d c h k = h.partly c k
-kept-goes s s' on_its_way d c h k = h.without k
+kept-goes s s' status d c h k = grind (arith, h, k)
+
+-- kept descriptors are in the states in which they are kept
+abbrev pub AreKept : State → List Kept → Type 0
+AreKept s ks = All (λ k. IsKeptAs s k.status k.desc k.class) ks
+
+pub keeps-none : (s : State) → AreKept s []
+keeps-none s = All-nil (λ (k : Kept). IsKeptAs s k.status k.desc k.class)
+
+pub keeps-one : (s : State) (d c : ℕ) (status : Status) → IsKeptAs s status d c → AreKept s (keep d c status)
+keeps-one s d c status is = All-cons (λ k. IsKeptAs s k.status k.desc k.class) (record { desc = d; class = c; status = status }) [] is (keeps-none s)
+
+pub kept-first : (s : State) (d c : ℕ) (status : Status) → AreKept s (keep d c status) → IsKeptAs s status d c
+kept-first s d c status all = All-head (λ k. IsKeptAs s k.status k.desc k.class) (record { desc = d; class = c; status = status }) [] all
 
 -- two states whose descriptors say the same
 pub record SameDescs (s s' : State) : Type 0 where
@@ -107,7 +107,7 @@ pub record KeepsDescs (g : Geometry) (s : State) (caller : ℕ) (e : ErrandField
   pub listed : (class : ℕ) → class < CLASSES → All (λ d. IsPartlyUsed s d class) (l'.partials class)
   pub available : All (IsWithout s) l'.available
   pub retired : All (IsWithout s) e.retired
-  pub own : All (λ k. IsKeptAs s k.status k.desc k.class) (holds_of e.point).kept
+  pub own : AreKept s (holds_of e.point).kept
 
 pub descs-kept :
     (g : Geometry) (s : State) (caller : ℕ) (e : ErrandFields) (s' : State) (l l' : Lists) → KeepsDescs g s caller e s' l l' → IsKept g s l
@@ -126,7 +126,7 @@ descs-kept g s caller e s' l l' h kept = record {
       each-caller g (λ i f. All (IsWithout s') f.retired) s.errand caller e s'.errand h.moves (λ k d lt. without-same h.descs _ (h.retired k d lt))
       (λ i has k d lt. without-same h.descs _ (kept.retired i has k d lt));
   errand =
-      each-caller g (λ i f. All (λ k. IsKeptAs s' k.status k.desc k.class) (holds_of f.point).kept) s.errand caller e s'.errand h.moves
+      each-caller g (λ i f. AreKept s' (holds_of f.point).kept) s.errand caller e s'.errand h.moves
       (λ k d lt. kept_as-same h.descs _ _ _ (h.own k d lt)) (λ i has k d lt. kept_as-same h.descs _ _ _ (kept.errand i has k d lt));
 }
 
@@ -142,6 +142,9 @@ IsSuperblockWord (name.Arena place) = Unit {0}
 IsSuperblockWord (name.Anchor d) = Unit {0}
 IsSuperblockWord (name.Info d) = Unit {0}
 IsSuperblockWord n = ⊥
+
+lay-superblock : (n : WordName) → IsLayWord n → IsSuperblockWord n
+lay-superblock n is = grind (arith, is)
 
 -- the second state, with its lists, shows the same superblocks and blocks
 pub record ShowsSuperblocks (g : Geometry) (s : State) (l : Lists) (s' : State) (l' : Lists) : Type 0 where
@@ -163,23 +166,17 @@ module _ {g : Geometry} {s : State} {l : Lists} {s' : State} {l' : Lists} (h : S
   anchor-shows : (d : ℕ) → anchor_for s' d ≡ anchor_for s d
   anchor-shows d = ap anchor_of (h.word (name.Anchor d) tt)
 
+  shows-lie : LieStill s s'
+  shows-lie = record { words = λ n is. h.word n (lay-superblock n is) }
+
   info-shows : (d : ℕ) → info_for s' d ≡ info_for s d
-  info-shows d = ap (λ w. info_or_zero (info_of w)) (h.word (name.Info d) tt)
+  info-shows = info-stays shows-lie
 
   pub descs-show : SameDescs s s'
   descs-show = record { info = info-shows; anchor = anchor-shows }
 
   pub superblock-shows : (d : ℕ) → superblock_of g s' d ≡ superblock_of g s d
-  superblock-shows d =
-      let i = info-shows d in
-      let old = info_for s d in
-      let new = info_for s' d in
-      let next : link_in s'.word new.frame new.class ≡ link_in s.word old.frame old.class =
-      fun_ext (λ k. ap link_of (h.word (prefix_name new.frame new.class k) tt ∙ ap (λ x. s.word (prefix_name x.frame x.class k)) i)) in
-      let live : (λ k. live_at s' (block_place new.frame new.class k)) ≡ (λ k. live_at s (block_place old.frame old.class k)) =
-      fun_ext
-      (λ k. ap (λ pool. is_there (block_at (block_place new.frame new.class k) pool)) h.pool ∙ ap (λ x. live_at s (block_place x.frame x.class k)) i) in
-      same-superblock _ _ _ _ _ _ _ _ _ _ _ _ (anchor-shows d) (h.reserved d) (h.waits d) next live (ap (λ x. block_count_of x.class) i)
+  superblock-shows d = grind (arith, info-shows, same-superblock, anchor-shows)
 
   pub owned-shows : (i place : ℕ) (n : Need) → IsOwned s i place n → IsOwned s' i place n
   owned-shows i place n = owned-stays s s' i place n (λ b live. ap (block_at place) h.pool ∙ live)
@@ -197,20 +194,12 @@ module _ {g : Geometry} {s : State} {l : Lists} {s' : State} {l' : Lists} (h : S
   shows-part i constant rest = tt
 
   pub chained-shows : AreChained g s l → AreChained g s' l'
-  chained-shows chained = record {
-    infos = λ d has. subst (λ w. IsSome (info_in g w)) (sym (h.word (name.Info d) tt)) (chained.infos d has);
-    chained = λ d has bound. subst IsChained (sym (superblock-shows d)) (chained.chained d has (subst IsTrue (h.bound d) bound));
-  }
+  chained-shows chained = grind (arith, chained, superblock-shows)
 
   pub framed-shows :
       ((f : ℕ) → occurs f l'.frames + callers_sum g (errand_frames f) s'.errand ≡ occurs f l.frames + callers_sum g (errand_frames f) s.errand)
       → IsFramed g s l → IsFramed g s' l'
-  framed-shows frames framed = record {
-    once = λ f has.
-        let filled : sum_below (descriptor_count g) (fills_frame g s' l' f) ≡ sum_below (descriptor_count g) (fills_frame g s l f) =
-        sum-same (descriptor_count g) (fills_frame g s l f) (fills_frame g s' l' f) (λ d lt. rw (h.bound d, h.waits d, info-shows d) refl) in
-        omega (arith, filled, frames f, framed.once f has);
-  }
+  framed-shows frames framed = grind (arith, frames, framed, sum-same, info-shows)
 
   -- the words still show the pool, where those of the units and of the shelves stay
   pub tied-shows :
@@ -221,9 +210,5 @@ module _ {g : Geometry} {s : State} {l : Lists} {s' : State} {l' : Lists} (h : S
       → IsTied g s l → IsTied g s' l'
   tied-shows caller e moves units shelf excepts hands frees =
       blocks-stay g s l l' caller e s' moves (record { arena = λ place. h.word (name.Arena place) tt; units = units; shelf = shelf }) h.pool
-      (λ place c b d live is its. record {
-        exists = its.exists;
-        bound = subst IsTrue (sym (h.bound d)) its.bound;
-        located = located-stays s s' d (frame_of place) c (info-shows d) its.located;
-      })
+      (λ place c b d live is. block-stays g s l s' l' place c d (info-shows d) (subst IsTrue (sym (h.bound d))))
       excepts (λ k d lt. owned-shows caller _ _ (hands k d lt)) (λ k d lt. owned-shows caller _ _ (frees k d lt))

@@ -23,10 +23,7 @@ occurs-all n (x ∷ xs) within =
 -- a superblock of which block 0 is held back waits at one caller, and that block is neither free nor live
 pub held-back-once :
     (b : Superblock) → IsChained b → 1 ≤ b.waiting → (occurs 0 (free_chain b) ≡ 0) × (b.live 0 ≡ 0) × (b.waiting ≡ 1)
-held-back-once b chained waits =
-    let once = chained.once 0 (omega (arith, chained.avail)) in
-    let back : held_back b 0 ≡ b.waiting = refl in
-    (omega (arith, once, back, waits), omega (arith, once, back, waits), omega (arith, once, back, waits))
+held-back-once b chained waits = grind (arith, chained, waits)
 
 -- the free blocks of a superblock, its live ones and the one that is held back are all its blocks
 pub tally : (b : Superblock) → IsChained b → b.anchor.count + b.reserved + sum_below b.size b.live + b.waiting ≡ b.size

@@ -1,18 +1,17 @@
 -- The words still show the pool after a step that leaves all blocks but one of its caller.
 use Rattle.std.proofs.Common.{ℕ, zero, suc, Option, Some, None, ◌≡◌, ◌≢◌, ◌<◌, ◌+◌, ◌*◌, ◌^◌, [], ap, sym, subst, inl, inr, ◌∙◌, ◌⊎◌, ◌↔◌, All, Any, IsTrue, replicate}
-use Rattle.std.proofs.Common.{slice_index_or}
+use Rattle.std.proofs.Common.{slice_index_or, arith}
 use Rattle.std.specs.Int.{bit_at}
 use Rattle.std.proofs.lemmas.List.Elements.{All-nil}
 use Rattle.std.proofs.lemmas.Option.{none-some}
-use Rattle.sound_state.proofs.Common.{Geometry, Need, Small, block_count_of, block_place, frame_of, frame_of-block_place, block_at, pool_of, place-found, sound-of}
-use Rattle.sound_state.proofs.Common.{Point, ErrandFields, State, Moves, holds_of, Lists, IsLocated, IsOwned, IsSoundWithoutCounts, info_for, IsTied, IsLive}
-use Rattle.sound_state.proofs.Common.{unit_place, Caller, IsPlaceFor, IsWellFormed, every-found, IsBlockOfDesc, IsExcepted, IsCovered}
+use Rattle.sound_state.proofs.Common.{Geometry, Need, Small, block_count_of, block_place, frame_of, frame_of-block_place, block_at, pool_of, place-found, sound-of, Point}
+use Rattle.sound_state.proofs.Common.{ErrandFields, State, Moves, holds_of, Lists, IsLocated, IsOwned, IsSoundWithoutCounts, info_for, IsTied, IsLive, is_bound, unit_place}
+use Rattle.sound_state.proofs.Common.{Caller, IsPlaceFor, IsWellFormed, every-found, IsBlockOfDesc, IsExcepted, IsCovered}
 use Rattle.heap_geometry.specs.declared.need.Need.TheVariants.{Large}
 use Rattle.word_table.specs.declared.name.WordName.TheVariants as name
 use Rattle.pool_model.specs.declared.owner.Owner.TheVariants.{Shelf}
 use Rattle.pool_model.specs.Pool.{Block}
 use Rattle.sound_state.proofs.shared.CallerLemmas.{each-other}
-use Rattle.sound_state.proofs.shared.ListFacts.{any-none}
 
 -- the block at the place is excepted by what this caller hands out or frees
 abbrev pub Excepts : ErrandFields → ℕ → Type 0
@@ -62,9 +61,7 @@ pub record IsBareHanded (p : Point) : Type 0 where
 
 -- a bare-handed caller excepts nothing
 pub excepts-none : (e : ErrandFields) (place : ℕ) → IsBareHanded e.point → Excepts e place → ⊥
-excepts-none e place bare (inl x) = any-none (λ b. b.place ≡ place) (subst (Any (λ b. b.place ≡ place)) bare.hands x)
-excepts-none e place bare (inr x) =
-    any-none (λ b. (b.place ≡ place) × IsTrue b.overwritten) (subst (Any (λ b. (b.place ≡ place) × IsTrue b.overwritten)) bare.frees x)
+excepts-none e place bare is3 = grind (arith, bare, is3)
 
 -- a bare-handed caller owns all that it hands out and frees
 pub bare-owns :
@@ -78,8 +75,7 @@ bare-owns s caller p bare = (
 -- what is excepted stays so where the caller that steps excepts it still, or the prefix word says what it does
 pub excepted-stays :
     (g : Geometry) (s : State) (l : Lists) (caller : ℕ) (e : ErrandFields) (s' : State) → Moves s.errand caller e s'.errand → (place : ℕ)
-    → (Excepts (s.errand caller) place → Excepts e place ⊎ IsSaidAt g s l place) → IsExcepted g s place
-    → IsExcepted g s' place ⊎ IsSaidAt g s l place
+    → (Excepts (s.errand caller) place → Excepts e place ⊎ IsSaidAt g s l place) → IsExcepted g s place → IsExcepted g s' place ⊎ IsSaidAt g s l place
 excepted-stays g s l caller e s' moves place mine x =
     elim (each-other g (λ j f. Excepts (s.errand j) place → Excepts f place ⊎ IsSaidAt g s l place) s.errand caller e s'.errand moves mine
     (λ j has differ same. inl same) x.caller.0 x.caller.1 x.caller.2) [
@@ -99,10 +95,19 @@ tie-stays g s l s' place w excepted word says (inr is) = inr (word ∙ is)
 pub located-stays : (s s' : State) (d f c : ℕ) → info_for s' d ≡ info_for s d → IsLocated s d f c → IsLocated s' d f c
 located-stays s s' d f c same k = record { frame = ap (λ x. x.frame) same ∙ k.frame; class = ap (λ x. x.class) same ∙ k.class }
 
+-- a block of a descriptor is one of it still where the superblock lies where it did and is still bound
+pub block-stays :
+    (g : Geometry) (s : State) (l : Lists) (s' : State) (l' : Lists) (place c d : ℕ) → info_for s' d ≡ info_for s d
+    → (IsTrue (is_bound g s l d) → IsTrue (is_bound g s' l' d)) → IsBlockOfDesc g s l place c d → IsBlockOfDesc g s' l' place c d
+block-stays g s l s' l' place c d info bound its = record {
+  exists = its.exists;
+  bound = bound its.bound;
+  located = located-stays s s' d (frame_of place) c info its.located;
+}
+
 -- a caller that owned a block owns it where it is still live
 pub owned-stays :
-    (s s' : State) (i place : ℕ) (n : Need) → ((b : Block) → IsLive s place b → IsLive s' place b) → IsOwned s i place n
-    → IsOwned s' i place n
+    (s s' : State) (i place : ℕ) (n : Need) → ((b : Block) → IsLive s place b → IsLive s' place b) → IsOwned s i place n → IsOwned s' i place n
 owned-stays s s' i place n still k = record { block = (k.block.0, still k.block.0 k.block.1, k.block.2, k.block.3) }
 
 -- a step leaves all blocks, and their prefix words, but where it changes blocks that its caller owns before and after

@@ -1,19 +1,17 @@
 -- What an effect does to events, turns, cleared counts and tags, and that all of them stay within their bounds.
-use Rattle.std.proofs.Common.{ℕ, Bool, true, false, cond, ◌≡◌, ◌≢◌, ◌<◌, ◌≤◌, ◌+◌, ◌*◌, List, [], ◌∷◌, ◌++◌, refl, arith, ap, sym, ◌∙◌, inl, inr, None, length}
-use Rattle.std.proofs.Common.{count_by, nat_le, le-leb, eq-eqb, ne_eqb}
-use Rattle.std.proofs.lemmas.Bool.{cases_lt, lt-leb}
+use Rattle.std.proofs.Common.{ℕ, Bool, true, false, cond, ◌≡◌, ◌≢◌, ◌<◌, ◌≤◌, ◌+◌, ◌*◌, List, [], ◌∷◌, ◌++◌, refl, arith, ap, sym, ◌∙◌, None, length, count_by, nat_le}
+use Rattle.std.proofs.Common.{le-leb, eq-eqb, ne_eqb}
 use Rattle.std.proofs.lemmas.List.Sums.{sum_by_push}
-use Rattle.sound_state.proofs.Common.{need_of, Geometry, CLASSES, frame_of, Small, head_of, descriptor_count, Event, ErrandFields, spare_of, pushed_by, State, Moves}
-use Rattle.sound_state.proofs.Common.{Point, passed_by, held_by, Lists, turn_stage_of, in_turn, is_unneeded, waits_in, sum_below, callers_sum, anchor_for, IsTurned}
-use Rattle.sound_state.proofs.Common.{gives_small, refuses_small, one_if, emptied_out, pops_left, SMALL_MOST, is_turn, lacks_frame, lacks_partial, lacks_answer}
-use Rattle.sound_state.proofs.Common.{out_of_turn, is_small_alloc, is_small_free, turn_open, turn_unframed, turn_unlisted, turn_unanswered, errand_discards}
-use Rattle.sound_state.proofs.Common.{errand_pops, turns_of, cleared_of}
-use Rattle.heap_geometry.specs.declared.limits.TheConstants.{LARGE_MOST}
+use Rattle.sound_state.proofs.Common.{need_of, Geometry, CLASSES, frame_of, Small, head_of, descriptor_count, Event, ErrandFields, spare_of, pushed_by, State, Moves, Point}
+use Rattle.sound_state.proofs.Common.{passed_by, held_by, Lists, turn_stage_of, in_turn, is_unneeded, waits_in, sum_below, callers_sum, anchor_for, IsTurned, gives_small}
+use Rattle.sound_state.proofs.Common.{refuses_small, one_if, emptied_out, pops_left, SMALL_MOST, is_turn, lacks_frame, lacks_partial, lacks_answer, out_of_turn}
+use Rattle.sound_state.proofs.Common.{is_small_alloc, is_small_free, turn_open, turn_unframed, turn_unlisted, turn_unanswered, errand_discards, errand_pops, turns_of}
+use Rattle.sound_state.proofs.Common.{cleared_of}
 use Rattle.word_table.specs.declared.name.WordName.TheVariants as name
 use Rattle.pool_model.specs.declared.event.Event.TheVariants.{Alloc, Free}
-use Rattle.sound_state.specs.TurnStages.{TurnStage, frame_taken}
+use Rattle.errand_steps.specs.tables.TurnStage.{TurnStage, frame_taken}
 use Rattle.sound_state.specs.Turns.{all_turns, all_cleared, all_emptied, small_frees, pops_to_come}
-use Rattle.sound_state.proofs.shared.CallerLemmas.{each-other}
+use Rattle.sound_state.proofs.shared.CallerLemmas.{KeepsCounts, each-other}
 use Rattle.sound_state.proofs.shared.SumLemmas.{callers-moved, sum-same}
 
 -- the new events give this caller so many small blocks, and free so many
@@ -35,7 +33,7 @@ no-event g caller past past' same = record {
 }
 
 -- one new event adds to a count what it counts
-counted-one :
+pub counted-one :
     (f : Event → Bool) (event : Event) (past past' : List Event) → past' ≡ past ++ event ∷ []
     → count_by f past' ≡ count_by f past + cond (f event) 1 0
 counted-one f event past past' one = ap (count_by f) one ∙ sum_by_push (λ x. cond (f x) 1 0) past event
@@ -73,6 +71,37 @@ small-free-event g caller place past past' within one =
       frees = omega (arith, counts (is_small_free g), here);
     }
 
+-- what a caller was given, was refused and lost accounts for its turns, by these events
+pub record OwnCounts (caller : ℕ) (past : List Event) (e : ErrandFields) : Type 0 where
+  pub turns : count_by (gives_small caller) past + turn_open e ≤ e.turns
+  pub lost :
+      e.turns + errand_discards e ≤ count_by (gives_small caller) past + count_by (refuses_small caller) past + e.lost + turn_unanswered e
+  pub answers : count_by (gives_small caller) past + count_by (refuses_small caller) past + turn_unanswered e ≤ e.turns
+
+pub own-counts :
+    (g : Geometry) (s : State) (l : Lists) (caller : ℕ) → IsTurned g s l → caller < g.callers → OwnCounts caller s.history (s.errand caller)
+own-counts g s l caller turned has = record {
+  turns = turned.own_turns caller has;
+  lost = turned.own_lost caller has;
+  answers = turned.own_answers caller has;
+}
+
+-- so they do by events that give this caller nothing more and refuse it no more
+pub counts-stay :
+    (caller : ℕ) (past past' : List Event) (e : ErrandFields) → count_by (gives_small caller) past' ≡ count_by (gives_small caller) past
+    → count_by (refuses_small caller) past' ≡ count_by (refuses_small caller) past → OwnCounts caller past e → OwnCounts caller past' e
+counts-stay caller past past' e gives refuses counts = record {
+  turns = omega (arith, counts.turns, gives);
+  lost = omega (arith, counts.lost, gives, refuses);
+  answers = omega (arith, counts.answers, gives, refuses);
+}
+
+-- a caller's turns and counts go on from one errand to another as they may, by these events
+pub record CountsGo (caller : ℕ) (past : List Event) (a b : ErrandFields) : Type 0 where
+  pub own : OwnCounts caller past b
+  pub frame_turns : turn_unframed b + a.turns ≤ turn_unframed a + b.turns
+  pub list_turns : errand_pops b + turn_unlisted b + a.turns + a.cleared ≤ errand_pops a + turn_unlisted a + b.turns + b.cleared
+
 -- what a caller weighs in a turn: whether it is in one, has popped no frame in it, and discards what it made
 pub record TurnWeighs (e : ErrandFields) (turn frameless discarding : ℕ) : Type 0 where
   pub under_way : turn_open e ≡ turn
@@ -81,10 +110,35 @@ pub record TurnWeighs (e : ErrandFields) (turn frameless discarding : ℕ) : Typ
   pub unframed : turn_unframed e ≡ frameless
   pub unlisted : turn_unlisted e ≤ turn
 
+-- the counts account for the turns of a caller that keeps them, and is given a block where its turn is answered
+pub counts-kept :
+    {g : Geometry} {s : State} {l : Lists} {caller : ℕ} {e : ErrandFields} {past' : List Event} {given freed t f d u k c : ℕ} → IsTurned g s l
+    → caller < g.callers → EventEffects g caller s.history past' given freed → KeepsCounts (s.errand caller) e → TurnWeighs (s.errand caller) t f d
+    → TurnWeighs e u k c → t ≡ u + given → c ≤ d → OwnCounts caller past' e
+counts-kept {caller = caller} turned has events own before after gives discards = record {
+  turns = omega (arith, turned.own_turns caller has, events.gives, before.under_way, after.under_way, own.turns, gives);
+  lost =
+      omega (
+        arith,
+        turned.own_lost caller has,
+        events.gives,
+        events.refuses caller,
+        before.discards,
+        before.unanswered,
+        after.discards,
+        after.unanswered,
+        own.turns,
+        own.lost,
+        gives,
+        discards,
+      );
+  answers =
+      omega (arith, turned.own_answers caller has, events.gives, events.refuses caller, before.unanswered, after.unanswered, own.turns, gives);
+}
+
 -- a condition counts one or nothing
 pub one_if-most : (b : Bool) → one_if b ≤ 1
-one_if-most true = omega arith
-one_if-most false = omega arith
+one_if-most b = grind (arith)
 
 -- a stage weighs no more in what lacks a partial superblock than in its turn
 lacks_partial-most : (stage : TurnStage) → one_if (lacks_partial stage) ≤ one_if (is_turn stage)
@@ -121,12 +175,7 @@ pub record TurnEffects (g : Geometry) (s : State) (l : Lists) (caller : ℕ) (e 
   pub in_heap : caller < g.callers
   pub moves : Moves s.errand caller e s'.errand
   pub events : EventEffects g caller s.history s'.history given freed
-  pub own_turns : count_by (gives_small caller) s'.history + turn_open e ≤ e.turns
-  pub own_lost :
-      e.turns + errand_discards e
-      ≤ count_by (gives_small caller) s'.history + count_by (refuses_small caller) s'.history + e.lost + turn_unanswered e
-  pub own_answers :
-      count_by (gives_small caller) s'.history + count_by (refuses_small caller) s'.history + turn_unanswered e ≤ e.turns
+  pub counts : OwnCounts caller s'.history e
   pub anchor_tags : (d : ℕ) → d < descriptor_count g → (anchor_for s' d).tag ≤ (anchor_for s d).tag + given
   pub frame_turns :
       (head_of (s'.word name.FrameHead)).tag + turn_unframed e + (s.errand caller).turns
@@ -139,16 +188,9 @@ pub record TurnEffects (g : Geometry) (s : State) (l : Lists) (caller : ℕ) (e 
       → (head_of (s'.word (name.ListHead class))).tag + errand_pops e + turn_unlisted e + (s.errand caller).turns + (s.errand caller).cleared
       ≤ (head_of (s.word (name.ListHead class))).tag + errand_pops (s.errand caller) + turn_unlisted (s.errand caller) + e.turns + e.cleared + 2 * freed
 
--- the bounds of tags and turns hold, but for the one on how often this caller was answered
+-- the bounds of tags and turns hold, but for what accounts for this caller's turns
 pub record IsTurnedBut (g : Geometry) (s : State) (l : Lists) (caller : ℕ) : Type 0 where
-  pub own_turns : (i : ℕ) → i < g.callers → count_by (gives_small i) s.history + turn_open (s.errand i) ≤ (s.errand i).turns
-  pub own_lost :
-      (i : ℕ) → i < g.callers
-      → (s.errand i).turns + errand_discards (s.errand i)
-      ≤ count_by (gives_small i) s.history + count_by (refuses_small i) s.history + (s.errand i).lost + turn_unanswered (s.errand i)
-  pub own_answers :
-      (i : ℕ) → i < g.callers → i ≢ caller
-      → count_by (gives_small i) s.history + count_by (refuses_small i) s.history + turn_unanswered (s.errand i) ≤ (s.errand i).turns
+  pub own : (i : ℕ) → i < g.callers → i ≢ caller → OwnCounts i s.history (s.errand i)
   pub anchor_tags : (d : ℕ) → d < descriptor_count g → (anchor_for s d).tag ≤ count_by is_small_alloc s.history
   pub frame_tag : (head_of (s.word name.FrameHead)).tag + callers_sum g turn_unframed s.errand ≤ all_turns g s
   pub emptied : all_emptied g s l + all_cleared g s ≤ small_frees g s
@@ -158,9 +200,7 @@ pub record IsTurnedBut (g : Geometry) (s : State) (l : Lists) (caller : ℕ) : T
 
 pub turned-but : (g : Geometry) (s : State) (l : Lists) (caller : ℕ) → IsTurned g s l → IsTurnedBut g s l caller
 turned-but g s l caller turned = record {
-  own_turns = turned.own_turns;
-  own_lost = turned.own_lost;
-  own_answers = λ i has differ. turned.own_answers i has;
+  own = λ i has differ. own-counts g s l i turned has;
   anchor_tags = turned.anchor_tags;
   frame_tag = turned.frame_tag;
   emptied = turned.emptied;
@@ -173,19 +213,13 @@ pub turned-from :
     → TurnEffects g s l caller e s' l' given freed → IsTurnedBut g s l caller → IsTurned g s' l'
 turned-from g s l caller e s' l' given freed h turned =
     let moved = λ (weight : ErrandFields → ℕ). callers-moved g weight s.errand caller e s'.errand h.in_heap h.moves in
+    let own : (i : ℕ) → i < g.callers → OwnCounts i s'.history (s'.errand i) =
+    each-other g (λ i e. OwnCounts i s'.history e) s.errand caller e s'.errand h.moves h.counts
+    (λ i has differ. counts-stay i s.history s'.history (s.errand i) (h.events.elsewhere i differ) (h.events.refuses i) (turned.own i has differ)) in
     record {
-      own_turns =
-          each-other g (λ i e. count_by (gives_small i) s'.history + turn_open e ≤ e.turns) s.errand caller e s'.errand h.moves h.own_turns
-          (λ i has differ. omega (arith, turned.own_turns i has, h.events.elsewhere i differ));
-      own_lost =
-          each-other g
-          (λ i e. e.turns + errand_discards e
-          ≤ count_by (gives_small i) s'.history + count_by (refuses_small i) s'.history + e.lost + turn_unanswered e) s.errand caller e s'.errand h.moves
-          h.own_lost (λ i has differ. omega (arith, turned.own_lost i has, h.events.elsewhere i differ, h.events.refuses i));
-      own_answers =
-          each-other g (λ i e. count_by (gives_small i) s'.history + count_by (refuses_small i) s'.history + turn_unanswered e ≤ e.turns) s.errand caller e
-          s'.errand h.moves h.own_answers
-          (λ i has differ. omega (arith, turned.own_answers i has differ, h.events.elsewhere i differ, h.events.refuses i));
+      own_turns = λ i has. (own i has).turns;
+      own_lost = λ i has. (own i has).lost;
+      own_answers = λ i has. (own i has).answers;
       anchor_tags = λ d has. omega (arith, turned.anchor_tags d has, h.anchor_tags d has, h.events.allocs);
       frame_tag = omega (arith, turned.frame_tag, moved turn_unframed, moved turns_of, h.frame_turns);
       emptied = omega (arith, turned.emptied, moved cleared_of, h.emptied, h.events.frees);
@@ -205,15 +239,7 @@ turned-from g s l caller e s' l' given freed h turned =
 -- words that a small block serves are small
 pub small-served : (words class : ℕ) → need_of words ≡ Small class → nat_le words SMALL_MOST ≡ true
 unfolding need_of
-small-served words class is =
-    elim (cases_lt SMALL_MOST words) [
-      | inr most ↦ le-leb words SMALL_MOST most
-      | inl above ↦
-          elim (cases_lt LARGE_MOST words) [
-            | inr most ↦ let e = rw (lt-leb words SMALL_MOST above, le-leb words LARGE_MOST most) at is in cc
-            | inl more ↦ let e = rw (lt-leb words SMALL_MOST above, lt-leb words LARGE_MOST more) at is in cc
-          ]
-    ]
+small-served words class is = grind (arith, is)
 
 -- the bounds of tags and turns stay where all of them held
 pub turned-after :

@@ -1,8 +1,8 @@
 -- A descriptor on its way stands nowhere else.
 use Rattle.std.proofs.Common.{ℕ, Bool, ◌≡◌, ◌<◌, ◌≤◌, arith, sym, subst, inl, inr, ◌==◌, ◌&&◌, IsTrue}
 use Rattle.std.proofs.lemmas.Bool.{cases_eq}
-use Rattle.sound_state.proofs.Common.{Geometry, CLASSES, descriptor_count, Exists, WordName, occurs, State, Status, reserving, waiting, partly_used, on_its_way}
-use Rattle.sound_state.proofs.Common.{errand_has, word_keeps, full_keeps, Lists, IsSoundWith, callers_sum, anchor_for, is_bound, away_of, errand_away, errand_keeps}
+use Rattle.sound_state.proofs.Common.{Geometry, CLASSES, descriptor_count, Exists, WordName, occurs, State, Status, reserving, waiting, partly_used, on_its_way, errand_has}
+use Rattle.sound_state.proofs.Common.{word_keeps, full_keeps, Lists, IsSoundWith, callers_sum, anchor_for, is_bound, away_of, errand_away, errand_keeps}
 use Rattle.sound_state.proofs.shared.CreditLemmas.{word-sum}
 use Rattle.sound_state.proofs.shared.HasLemmas.{others-none}
 use Rattle.sound_state.proofs.shared.SumLemmas.{term-sum}

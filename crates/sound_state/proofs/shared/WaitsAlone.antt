@@ -2,21 +2,14 @@
 use Rattle.std.proofs.Common.{ℕ, ◌≡◌, ◌<◌, ◌+◌, ◌-◌, arith, ap, ◌∙◌}
 use Rattle.std.proofs.lemmas.List.Elements.{recursion_from_All}
 use Rattle.sound_state.proofs.Common.{block_count_of, Geometry, anchor_of, Site, new_credits, ErrandFields, State, Continuation, Point, waiting, holds_of, Lists, IsSo}
-use Rattle.sound_state.proofs.Common.{recalls_of, IsSoundWith, sum_below, callers_sum, anchor_for, info_for, superblock_of, reserved_of, reserved_among}
-use Rattle.sound_state.proofs.Common.{errand_reserves, errand_keeps, anchor_of-anchor_word, IsAnchor, block_count_of-most, new_anchor}
+use Rattle.sound_state.proofs.Common.{recalls_of, IsSoundWith, sum_below, callers_sum, anchor_for, info_for, superblock_of, reserved_of, reserved_among, errand_reserves}
+use Rattle.sound_state.proofs.Common.{errand_keeps, anchor_of-anchor_word, new_anchor}
 use Rattle.superblock_parts.specs.declared.point.BlockPoint.TheVariants as block
 use Rattle.errand_steps.specs.declared.point.Point.TheVariants as point
 use Rattle.sound_state.proofs.shared.PointLemmas.{fits-at, so-at}
 use Rattle.sound_state.proofs.shared.SumLemmas.{term-sum}
 use Rattle.sound_state.proofs.shared.TallyLemmas.{tally}
-
--- the anchor of a new superblock fits its word
-pub new_anchor-fits : (class : ℕ) → IsAnchor (new_anchor class)
-new_anchor-fits class = record {
-  avail = omega arith;
-  count = omega (arith, block_count_of-most class);
-  tag = omega arith;
-}
+use Rattle.sound_state.proofs.shared.WrittenWords.{new_anchor-fits}
 
 -- a caller that waits to install a superblock has reserved its first blocks, and holds block 0 back
 install-reserves :
@@ -35,8 +28,7 @@ install-waits e site o stands = rw stands (grind (arith))
 pub waits-alone :
     (g : Geometry) (s : State) (l : Lists) (i : ℕ) (site : Site) (o : Continuation) → IsSoundWith g s l → i < g.callers
     → (s.errand i).point ≡ point.Block (block.InstallSuperblock site) o
-    → (reserved_of g s site.desc ≡ errand_reserves site.desc (s.errand i))
-    × (sum_below (superblock_of g s site.desc).size (superblock_of g s site.desc).live ≡ 0)
+    → (reserved_of g s site.desc ≡ errand_reserves site.desc (s.errand i)) × (sum_below (superblock_of g s site.desc).size (superblock_of g s site.desc).live ≡ 0)
 unfolding callers_sum holds_of recalls_of
 waits-alone g s l i site o old has stands =
     let p : Point = point.Block (block.InstallSuperblock site) o in

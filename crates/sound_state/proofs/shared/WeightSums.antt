@@ -8,9 +8,7 @@ pub words-least :
     (g : Geometry) (a b : WordName → ℕ → ℕ) (words : WordName → ℕ) → ((m : WordName) → Exists g m → a m (words m) ≤ b m (words m))
     → words_sum g a words ≤ words_sum g b words
 unfolding words_sum
-words-least g a b words least =
-    sum-least (word_count g) (λ k. a (word_name g k) (words (word_name g k))) (λ k. b (word_name g k) (words (word_name g k)))
-    (λ k lt. least (word_name g k) (word_name-Exists g k lt))
+words-least g a b words least = grind (arith, least, sum-least, word_count, word_name, word_name-Exists)
 
 -- some word weighs something by a second weight, where each that does by the first does so, and one does
 pub words-some :

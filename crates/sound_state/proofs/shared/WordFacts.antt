@@ -1,11 +1,10 @@
 -- What single words say: active words, next words, shelves, descriptors and the names of the arena.
-use Rattle.std.proofs.Common.{ℕ, false, Some, ◌≡◌, ◌<◌, ◌+◌, ◌*◌, ◌^◌, refl, arith, ap, ne_eqb, Option, None, ◌%◌, sym, subst, ◌==◌, IsSome}
+use Rattle.std.proofs.Common.{ℕ, false, Some, ◌≡◌, ◌<◌, ◌+◌, ◌*◌, ◌^◌, refl, arith, ne_eqb, Option, ◌%◌, ◌==◌, IsSome}
 use Rattle.sound_state.proofs.Common.{IsChecked, Geometry, active_word, active_of, Null, Held, descriptor_count, SeatFields, active_name, IsSiteOf, Exists, Site}
 use Rattle.sound_state.proofs.Common.{info_or_zero, active-exact, IsActiveWord, InfoFields, shelf_word, CREDIT_BITS, descriptor_count_within, arena_words, heap_of}
 use Rattle.sound_state.proofs.Common.{info_within, IsSeatOf, info_at}
 use Rattle.packed_words.specs.Info.{IsInfo}
 use Rattle.packed_words.specs.declared.shelf.ShelfWord.TheVariants as shelf
-use Rattle.word_table.proofs.SeatLemmas.{heap_of-within}
 use Rattle.hazard_parts.specs.Points.{link_in}
 
 -- an active word has room for any descriptor and its credits, and says them
@@ -29,10 +28,7 @@ null-said = active-exact.back Null tt
 
 -- a seat's active word is one of the heap's
 pub seat-active : (g : Geometry) (caller : ℕ) (seat : SeatFields) → IsChecked g → IsSeatOf g caller seat → Exists g (active_name seat)
-seat-active g caller seat checked of =
-    let heaps : seat.geometry.heaps ≡ g.heaps = ap (λ (h : Geometry). h.heaps) of.geometry in
-    let within : heap_of seat < seat.geometry.heaps = heap_of-within seat (omega (arith, heaps, checked.heaps.0)) in
-    (omega (arith, within, heaps), of.class)
+seat-active g caller seat checked of = grind (arith, checked, of)
 
 -- an active word names one descriptor
 pub held-desc : (d credits e others : ℕ) → Some (Held d credits) ≡ Some (Held e others) → d ≡ e
@@ -49,8 +45,7 @@ shelf-nothing = refl
 
 -- a descriptor's frame is one of the heap's
 pub frame-of-within : (g : Geometry) (o : Option InfoFields) → IsSome (info_within g o) → (info_or_zero o).frame < g.frames
-frame-of-within g None some = absurd (cc)
-frame-of-within g (Some i) some = grind (arith, some)
+frame-of-within g o some = grind (arith, some)
 
 -- the arena's names are of 32 bits
 pub payload-uncut : (g : Geometry) (place i : ℕ) → IsChecked g → place + 1 + i < arena_words g → (place + 1 + i) % 2 ^ 32 ≡ place + 1 + i
@@ -62,13 +57,7 @@ name-below g d checked exists = omega (arith, descriptor_count_within g checked,
 
 -- the processor heap of a superblock at hand, and its info word, are within the heap's limits
 pub site-heap : (g : Geometry) (caller : ℕ) (at : Site) → IsChecked g → IsSiteOf g caller at → heap_of at.seat < g.heaps
-site-heap g caller at checked site =
-    let heaps : 0 < at.seat.geometry.heaps = subst (λ h. 0 < h.heaps) (sym site.seat.geometry) (omega (arith, checked.heaps.0)) in
-    subst (λ h. heap_of at.seat < h.heaps) site.seat.geometry (heap_of-within at.seat heaps)
+site-heap g caller at checked site = grind (arith, checked, site)
 
 pub site-info : (g : Geometry) (caller : ℕ) (at : Site) → IsChecked g → IsSiteOf g caller at → IsInfo (info_at at)
-site-info g caller at checked site = record {
-  frame = omega (arith, site.frame, checked.frames.1);
-  heap = omega (arith, site-heap g caller at checked site, checked.heaps.1);
-  class = site.seat.class;
-}
+site-info g caller at checked site = grind (arith, checked, site, site-heap)

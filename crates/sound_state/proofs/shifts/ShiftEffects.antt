@@ -1,8 +1,8 @@
 -- A step that moves blocks of a superblock between its count and what is reserved: what it changes, and that everything else stays.
-use Rattle.std.proofs.Common.{ℕ, Bool, false, ◌≡◌, ◌≢◌, ◌<◌, ◌≤◌, ◌+◌, ◌^◌, ◌==◌, IsTrue, if◌then◌else◌, All}
-use Rattle.sound_state.proofs.Common.{Geometry, block_count_of, AnchorFields, is_empty, WordName, Site, IsSiteOf, occurs, ErrandFields, State, Moves, waiting}
-use Rattle.sound_state.proofs.Common.{on_its_way, holds_of, IsKeptAs, full_keeps, Lists, IsLocated, bound_here, recalls_of, turn_stage_of, stock_among}
-use Rattle.sound_state.proofs.Common.{anchor_for, is_bound, reserved_among, kept_among, clear, lacks_partial}
+use Rattle.std.proofs.Common.{ℕ, Bool, false, ◌≡◌, ◌≢◌, ◌<◌, ◌≤◌, ◌+◌, ◌==◌, IsTrue, if◌then◌else◌, All}
+use Rattle.sound_state.proofs.Common.{Geometry, block_count_of, AnchorFields, is_empty, WordName, Site, IsSiteOf, occurs, ErrandFields, State, Moves, waiting, on_its_way}
+use Rattle.sound_state.proofs.Common.{holds_of, IsKeptAs, full_keeps, Lists, IsLocated, bound_here, recalls_of, turn_stage_of, stock_among, anchor_for, is_bound}
+use Rattle.sound_state.proofs.Common.{reserved_among, kept_among, clear, lacks_partial}
 use Rattle.packed_words.specs.declared.anchor.AnchorState.TheVariants as phase
 use Rattle.word_table.specs.declared.name.WordName.TheVariants as name
 use Rattle.sound_state.proofs.shared.PointLemmas.{kept_places}
@@ -24,9 +24,8 @@ pub record Shifts (g : Geometry) (s : State) (l : Lists) (caller : ℕ) (at : Si
   pub in_use : is_empty b.state ≡ false
   pub full : b.state ≡ phase.Full → b.count ≡ 0
   pub elsewhere : (n : WordName) → n ≢ name.Anchor at.desc → s'.word n ≡ s.word n
-  pub below : (n : WordName) → s'.word n < 2 ^ 64
   pub history : s'.history ≡ s.history
-  pub own : KeepsCounts g caller (s.errand caller) e
+  pub own : KeepsCounts (s.errand caller) e
   pub reserves :
       b.count + reserved_among at.desc (holds_of e.point).credits
       ≡ a.count + reserved_among at.desc (holds_of (s.errand caller).point).credits

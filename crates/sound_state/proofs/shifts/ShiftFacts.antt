@@ -2,7 +2,7 @@
 use Rattle.std.proofs.Common.{ℕ, ◌≡◌, ◌≢◌, ◌<◌, ◌+◌, refl, arith, ap, sym, subst, ◌∙◌, ◌==◌, IsTrue}
 use Rattle.sound_state.proofs.Common.{Geometry, block_count_of, AnchorFields, is_empty, WordName, Site, ErrandFields, State, IsFramed, on_its_way, holds_of, Lists}
 use Rattle.sound_state.proofs.Common.{IsSoundWith, words_sum, callers_sum, AreChained, IsChained, anchor_for, info_for, superblock_of, free_chain, is_bound, away_of}
-use Rattle.sound_state.proofs.Common.{waiting_of, reserved_of, word_reserves, errand_keeps}
+use Rattle.sound_state.proofs.Common.{waiting_of, reserved_of, word_reserves, errand_keeps, pool_of}
 use Rattle.word_table.specs.declared.name.WordName.TheVariants as name
 use Rattle.sound_state.proofs.shared.HasLemmas.{bound-stands}
 use Rattle.sound_state.proofs.shared.HoldingEffects.{HoldingEffects, waits-go, ways-go, credits-go, away-goes, framed-after}
@@ -13,10 +13,10 @@ use Rattle.sound_state.proofs.shifts.ShiftEffects.{Shifts}
 module _
     {g : Geometry} {s : State} {l : Lists} {caller : ℕ} {at : Site} {a b : AnchorFields} {e : ErrandFields} {s' : State}
     (h : Shifts g s l caller at a b e s') where
-  shifted-holds : HoldingEffects g s caller (holds_of (s.errand caller).point) (holds_of e.point) e s'
+  pub shifted-holds : HoldingEffects g s caller (holds_of (s.errand caller).point) (holds_of e.point) e s'
   shifted-holds = record { in_heap = h.in_heap; moves = h.moves; retired = h.own.retired; before = refl; after = refl }
 
-  shifted-write : AnchorEffects s at.desc s'
+  pub shifted-write : AnchorEffects s at.desc s'
   shifted-write = record { elsewhere = h.elsewhere }
 
   shifted-lie : LieStill s s'
@@ -96,7 +96,7 @@ module _
         let b' = superblock_of g s' d in
         let was : IsChained b = old.chained.chained d has (subst IsTrue (shifted-bound d) bound) in
         same-chain-chained b b' was (shifted-avail d) (shifted-chain d) (next-stays shifted-lie g d) (size-stays shifted-lie g d) (shifted-few d was.some)
-        (λ j lt. omega (arith, ap (λ f. f j) (live-stays shifted-lie g h.history d), held-same b b' (shifted-waits d) j));
+        (λ j lt. omega (arith, ap (λ f. f j) (live-stays shifted-lie g (ap pool_of h.history) d), held-same b b' (shifted-waits d) j));
   }
 
   -- all frames stay where they are at a shift

@@ -1,7 +1,7 @@
 -- A step that moves blocks between the count and what is reserved keeps what the callers remember, and so the state sound.
 use Rattle.std.proofs.Common.{ℕ, ◌≡◌, ◌≢◌, ◌<◌, arith, ap, sym, subst, IsTrue, All}
-use Rattle.sound_state.proofs.Common.{Geometry, AnchorFields, Site, own, ErrandFields, State, errand_has, Lists, IsSo, occurs}
-use Rattle.sound_state.proofs.Common.{IsSoundWithoutCounts, IsSoundWith, IsOwnErrand, IsRemembered}
+use Rattle.sound_state.proofs.Common.{Geometry, AnchorFields, Site, own, ErrandFields, State, errand_has, Lists, IsSo, occurs, IsFormed, Step, IsSoundWithoutCounts}
+use Rattle.sound_state.proofs.Common.{IsSoundWith, IsRemembered}
 use Rattle.sound_state.proofs.shared.RecallEffects.{IsSteadyWord, Leaves, IsLeft, chain-gains, here-so, remembered-left}
 use Rattle.sound_state.proofs.shared.RecallFrame.{Part, bindings, chains, single}
 use Rattle.sound_state.proofs.shared.RecallTables.{InstallsNone, IsSpared, spared-point}
@@ -10,7 +10,6 @@ use Rattle.sound_state.proofs.shifts.ShiftEffects.{Shifts}
 use Rattle.sound_state.proofs.shifts.ShiftFacts.{shifted-tag, shifted-empty, shifted-ways, shifted-bound, shifted-chain, shifted-chained, shifted-framed}
 use Rattle.sound_state.proofs.shifts.ShiftKept.{shifted-alone, shifted-kept, shifted-stocked}
 use Rattle.sound_state.proofs.shifts.ShiftTurns.{shifted-owned, shifted-listed, shifted-guarded, shifted-turned, shifted-tied}
-use Rattle.sound_state.proofs.shared.CallerLemmas.{each-caller}
 use Rattle.sound_state.proofs.shared.KeepsSound.{silent-sound}
 
 -- a shift of blocks between the count and what is reserved, seen by the callers that remember
@@ -50,10 +49,9 @@ module _
       (λ i has ne k d lt. shifted-left _ (spared-point at.desc (s.errand i).point (shifted-installed old i has ne) k d lt)) old
 
   -- the state stays sound
-  pub shifted-with : IsSoundWith g s l → IsSoundWith g s' l
-  shifted-with old = record {
-    words = h.below;
-    errands = each-caller g (IsOwnErrand g) s.errand caller e s'.errand h.moves h.own.rule old.errands;
+  shifted-with : IsSoundWith g s l → IsFormed g s' → IsSoundWith g s' l
+  shifted-with old formed = record {
+    formed = formed;
     listed = shifted-listed h old;
     kept = shifted-kept h old;
     chained = shifted-chained h old;
@@ -65,5 +63,5 @@ module _
     tied = shifted-tied h old;
   }
 
-  pub shifted-sound : IsSoundWithoutCounts g s → IsSoundWith g s l → IsSoundWithoutCounts g s'
-  shifted-sound sound old = silent-sound g s s' l sound h.history (shifted-with old)
+  pub shifted-sound : IsSoundWithoutCounts g s → IsSoundWith g s l → Step s caller s' → IsSoundWithoutCounts g s'
+  shifted-sound sound old step = silent-sound g s caller s' l sound h.in_heap step h.history (shifted-with old)

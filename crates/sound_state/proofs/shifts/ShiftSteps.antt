@@ -1,14 +1,14 @@
 -- Reserved blocks are returned, and blocks of a partial superblock are granted.
-use Rattle.std.proofs.Common.{ℕ, Bool, true, false, ◌≡◌, ◌≢◌, ◌<◌, ◌≤◌, ◌+◌, ◌^◌, List, [], refl, arith, ap, sym, subst, inl, inr, ◌∙◌, ◌==◌, IsTrue, if◌then◌else◌}
-use Rattle.std.proofs.Common.{nat_lt, All, eq-eqb, lt-ltb, mod-eq_of_lt}
+use Rattle.std.proofs.Common.{ℕ, Bool, true, false, ◌≡◌, ◌≢◌, ◌<◌, ◌≤◌, ◌+◌, ◌^◌, List, [], refl, arith, ap, sym, subst, inl, inr, ◌∙◌, ◌==◌, IsTrue, if◌then◌else◌, nat_lt}
+use Rattle.std.proofs.Common.{All, eq-eqb, lt-ltb, mod-eq_of_lt}
 use Rattle.std.proofs.lemmas.Bool.{cases_eq, cases_lt, cond-true}
 use Rattle.std.proofs.lemmas.List.Elements.{All-nil, All-cons, All-head}
 use Rattle.sound_state.proofs.Common.{Geometry, Need, block_count_of, block_place, AnchorFields, anchor_of, anchor_word, info_of, is_empty, Site, occurs, Grant}
 use Rattle.sound_state.proofs.Common.{Continuation, Point, Block, Partial, event_of, next_of, asked, plan_point_of, State, Step, Kept, reserving, waiting, partly_used}
 use Rattle.sound_state.proofs.Common.{on_its_way, holds_before_pop, holds_of, Status, IsPartlyUsed, IsKeptAs, full_keeps, Lists, IsOwned, recalls_of, IsSoundWith}
-use Rattle.sound_state.proofs.Common.{turn_stage_of, stock_among, sum_below, callers_sum, Superblock, IsChained, anchor_for, info_for, info_or_zero, superblock_of}
-use Rattle.sound_state.proofs.Common.{live_at, is_there, is_bound, away_of, reserved_among, errand_reserves, errand_keeps, kept_among, IsAnchor, COUNT_BITS}
-use Rattle.sound_state.proofs.Common.{anchor_of-anchor_word, Cas, heap_of, block_count_of-most, Handed, keep, holds_after_pop, IsActive, lacks_partial, same_status}
+use Rattle.sound_state.proofs.Common.{turn_stage_of, stock_among, sum_below, callers_sum, Superblock, IsChained, anchor_for, info_for, info_or_zero, superblock_of, live_at}
+use Rattle.sound_state.proofs.Common.{is_there, is_bound, away_of, reserved_among, errand_reserves, errand_keeps, kept_among, IsAnchor, COUNT_BITS, anchor_of-anchor_word}
+use Rattle.sound_state.proofs.Common.{Cas, heap_of, block_count_of-most, Handed, keep, holds_after_pop, IsActive, lacks_partial, same_status}
 use Rattle.heap_geometry.specs.declared.need.Need.TheVariants as need
 use Rattle.packed_words.specs.declared.anchor.AnchorState.{AnchorState as Phase}
 use Rattle.packed_words.specs.declared.anchor.AnchorState.TheVariants as phase
@@ -25,7 +25,7 @@ use Rattle.sound_state.proofs.shared.PointLemmas.{fits-at, kept-at, hands-at, th
 use Rattle.sound_state.proofs.shared.TurnEffects.{StandsIn}
 use Rattle.sound_state.proofs.shifts.ShiftEffects.{Shifts}
 use Rattle.sound_state.proofs.shifts.ShiftRecalls.{shifted-sound}
-use Rattle.sound_state.proofs.shared.StepLemmas.{at_point}
+use Rattle.sound_state.proofs.shared.StepLemmas.{at_point, keeps-counts}
 use Rattle.sound_state.proofs.shared.SumLemmas.{term-sum}
 use Rattle.sound_state.proofs.shared.CreditLemmas.{won_with}
 use Rattle.sound_state.proofs.shared.TallyLemmas.{tally}
@@ -133,8 +133,8 @@ return-shifts g s l caller s' site i more a o old has here word step =
     subst (λ x. x.count + more < block_count_of site.seat.class) was (return-fewer g s l caller site i more a o old has here) in
     let room : a.count + more < 2 ^ COUNT_BITS = omega (arith, fewer, block_count_of-most site.seat.class) in
     let new : IsAnchor b = record { avail = fits.avail; count = room; tag = fits.tag } in
-    let won : AnchorWon g s caller p site.desc a b q s' =
-    anchor-won g s l caller s' p site.desc a b q old has here word fits new
+    let won : AnchorWon s caller p site.desc a b q s' =
+    anchor-won s caller s' p site.desc a b q here word fits new
     (ap (λ x. Cas (name.Anchor site.desc) (anchor_word a) (anchor_word x)) (returned-uncut more a room)) (inl refl) step in
     let none : full_keeps a.state ≡ 0 = ap (λ x. full_keeps x.state) (sym was) ∙ ap full_keeps active.state in
     let some : 1 ≤ a.count + more = omega (arith, fit.point.1.0) in
@@ -154,9 +154,8 @@ return-shifts g s l caller s' site i more a o old has here word step =
       in_use = refl;
       full = λ is. cc;
       elsewhere = won.elsewhere;
-      below = won.below;
       history = won.step.history;
-      own = record { rule = won.step.rule; retired = refl; turns = refl; lost = won.step.lost; cleared = won.step.cleared };
+      own = keeps-counts (s.errand caller) p (won_with (anchor_word a)) q here refl refl;
       reserves =
           let mine : reserved_among site.desc (holds_of (s.errand caller).point).credits ≡ more =
           ap (λ r. reserved_among site.desc (holds_of r).credits) here ∙ return-reserves site i more in
@@ -201,7 +200,7 @@ pub return_credits_won-sound :
 return_credits_won-sound site i more a o g s caller s' sound has here word step =
     let l : Lists = sound.parts.0 in
     let old : IsSoundWith g s l = sound.parts.1 in
-    shifted-sound (return-shifts g s l caller s' site i more a o old has here word step) sound old
+    shifted-sound (return-shifts g s l caller s' site i more a o old has here word step) sound old step
 
 -- what a caller keeps after a grant, by whether more than one block is granted
 abbrev grant_keeps : ℕ → ℕ → Bool → List Kept
@@ -315,8 +314,8 @@ grant-shifts g s l caller s' site a words old has here word step =
     let chained : IsChained (superblock_of g s d) = old.chained.chained d fit.point.0.desc bound in
     let size : (superblock_of g s d).size ≡ block_count_of c = ap block_count_of lies.class in
     let new : IsAnchor b = record { avail = fits.avail; count = omega (arith, fits.count, granted-less a); tag = fits.tag } in
-    let won : AnchorWon g s caller p d a b q s' =
-    anchor-won g s l caller s' p d a b q old has here word fits new refl (inl refl) step in
+    let won : AnchorWon s caller p d a b q s' =
+    anchor-won s caller s' p d a b q here word fits new refl (inl refl) step in
     let none : full_keeps a.state ≡ 0 = ap (λ x. full_keeps x.state) (sym was) ∙ ap full_keeps some.0 in
     let info : info_for s' d ≡ info_for s d = ap (λ w. info_or_zero (info_of w)) (won.elsewhere (name.Info d) (λ same. cc)) in
     record {
@@ -333,9 +332,8 @@ grant-shifts g s l caller s' site a words old has here word step =
       in_use = grant-in_use t;
       full = granted-full a;
       elsewhere = won.elsewhere;
-      below = won.below;
       history = won.step.history;
-      own = record { rule = won.step.rule; retired = refl; turns = refl; lost = won.step.lost; cleared = won.step.cleared };
+      own = keeps-counts (s.errand caller) p (won_with (anchor_word a)) q here refl refl;
       reserves =
           let mine : reserved_among d (holds_of (s.errand caller).point).credits ≡ 0 = ap (λ r. reserved_among d (holds_of r).credits) here in
           omega (arith, mine, grant-reserves d c more, granted-together a count);
@@ -376,7 +374,7 @@ grant_won-sound site a o g s caller s' sound has here word step =
     let alloc : o ≡ continuation.Alloc (asked o) = the-alloc o (fits-at g s l caller (Partial (partial.Grant site a) o) old has here).goes in
     let stands : (s.errand caller).point ≡ Partial (partial.Grant site a) (continuation.Alloc (asked o)) =
     here ∙ ap (λ o. Partial (partial.Grant site a) o) alloc in
-    shifted-sound (grant-shifts g s l caller s' site a (asked o) old has stands word step) sound old
+    shifted-sound (grant-shifts g s l caller s' site a (asked o) old has stands word step) sound old step
 
 -- a return keeps the state sound, won or lost
 pub return_credits-sound : (site : Site) (i more : ℕ) (a : AnchorFields) (o : Continuation) → KeepsSound (Block (block.ReturnCredits site i more a) o)

@@ -1,26 +1,27 @@
 -- The lists and what a caller holds, where an index goes from a stack to its hand or back; and the step that does it.
-use Rattle.std.proofs.Common.{ℕ, false, None, ◌≡◌, ◌≢◌, ◌<◌, ◌≤◌, ◌+◌, List, ◌∷◌, length, refl, arith, ap, sym, subst, inl, inr, ◌∙◌, ◌==◌, ◌⊎◌, All, if◌then◌else◌}
-use Rattle.std.proofs.Common.{eq-eqb, ne_eqb}
+use Rattle.std.proofs.Common.{ℕ, false, None, ◌≡◌, ◌≢◌, ◌<◌, ◌≤◌, ◌+◌, List, ◌∷◌, length, refl, arith, ap, sym, subst, inl, inr, ◌∙◌, ◌==◌, ◌⊎◌, All, if◌then◌else◌, eq-eqb}
+use Rattle.std.proofs.Common.{ne_eqb}
 use Rattle.std.proofs.lemmas.Bool.{cases_eq, cond-true, cond-false}
 use Rattle.sound_state.proofs.Common.{Geometry, CLASSES, anchor_of, HeadFields, head_of, info_of, WordName, name_of, after_action, descriptor_count, SeatFields, Writes}
-use Rattle.sound_state.proofs.Common.{cases_name, occurs, Pile, Frames, Partials, head_name, Point, ErrandFields, settle_of, counts_cleared}
-use Rattle.sound_state.proofs.Common.{raised, event_of, next_of, plan_point_of, State, Step, Moves, found_at, name_at, with_event, errand_frames, Holding, Kept}
-use Rattle.sound_state.proofs.Common.{holds_of, waiting, partly_used, on_its_way, IsPartlyUsed, word_keeps, errand_has, full_keeps, Lists, IsListed}
-use Rattle.sound_state.proofs.Common.{IsSoundWithoutCounts, IsSoundWith, turn_stage_of, word_stock, errand_stock, full_stock, stock_among, waits_in, sum_below}
-use Rattle.sound_state.proofs.Common.{anchor_for, info_or_zero, word_reserves, errand_reserves, errand_keeps, errand_away, kept_among, reserved_among, one_if}
-use Rattle.sound_state.proofs.Common.{pops_left, IsHead, head_word, head_of-head_word, list_of, lacks_frame, lacks_partial, turn_unframed, turn_unlisted, errand_pops}
+use Rattle.sound_state.proofs.Common.{cases_name, occurs, Pile, Frames, Partials, head_name, Point, ErrandFields, settle_of, counts_cleared, raised, event_of, next_of}
+use Rattle.sound_state.proofs.Common.{plan_point_of, State, Step, Moves, found_at, name_at, with_event, errand_frames, Holding, Kept, holds_of, waiting, partly_used}
+use Rattle.sound_state.proofs.Common.{on_its_way, IsPartlyUsed, word_keeps, errand_has, full_keeps, Lists, IsListed, IsSoundWithoutCounts, IsSoundWith, turn_stage_of}
+use Rattle.sound_state.proofs.Common.{word_stock, errand_stock, full_stock, stock_among, waits_in, sum_below, anchor_for, info_or_zero, word_reserves, errand_reserves}
+use Rattle.sound_state.proofs.Common.{errand_keeps, errand_away, kept_among, reserved_among, one_if, pops_left, IsHead, head_word, head_of-head_word, list_of, lacks_frame}
+use Rattle.sound_state.proofs.Common.{lacks_partial, turn_unframed, turn_unlisted, errand_pops}
 use Rattle.packed_words.specs.declared.anchor.AnchorState.TheVariants as phase
-use Rattle.packed_words.proofs.HeadLemmas.{head_word-below}
 use Rattle.word_table.specs.declared.name.WordName.TheVariants as name
 use Rattle.sound_state.proofs.shared.PointLemmas.{kept_places}
-use Rattle.sound_state.proofs.shared.ShownLemmas.{MayGoOn}
+use Rattle.sound_state.proofs.shared.ShownLemmas.{MayGuard, MayStand}
 use Rattle.sound_state.proofs.shared.WonEffects.{settle-leads, LeadsTo}
-use Rattle.sound_state.proofs.stacks.StackEffects.{Restacks, MayStand, IsNoHead}
+use Rattle.sound_state.proofs.stacks.StackEffects.{Restacks, IsNoHead}
 use Rattle.sound_state.proofs.stacks.StackFacts.{restacked-sound}
-use Rattle.sound_state.proofs.shared.KeptLemmas.{words-but}
-use Rattle.sound_state.proofs.shared.StepLemmas.{PointGoes, at_point, goes-stands, may-after, words-below, found_from}
+use Rattle.sound_state.proofs.shared.SuperblockEffects.{words-but}
+use Rattle.sound_state.proofs.shared.StepLemmas.{PointGoes, at_point, goes-stands, found_from, goes-guards, may-step}
 use Rattle.sound_state.proofs.shared.SumLemmas.{sum-same, sum-change, callers-moved}
 use Rattle.sound_state.proofs.shared.KeepsSound.{silent-sound}
+use Rattle.sound_state.proofs.shared.TieLemmas.{Excepts}
+use Rattle.sound_state.proofs.shared.TurnEffects.{OwnCounts}
 
 -- the lists with another list for one stack
 abbrev pub with_list : Lists → SeatFields → Pile → List ℕ → Lists
@@ -59,19 +60,11 @@ list-available l seat Partials xs = refl
 pub more-popped :
     (l : Lists) (seat : SeatFields) (pile : Pile) (x : ℕ) (rest : List ℕ) → list_of l seat pile ≡ x ∷ rest
     → OneMore seat pile x l (with_list l seat pile rest)
-more-popped l seat pile x rest is = record {
-  available = sym (list-available l seat pile rest);
-  here = is ∙ ap (λ xs. x ∷ xs) (sym (list-here l seat pile rest));
-  others = list-elsewhere l seat pile rest;
-}
+more-popped l seat pile x rest is = grind (arith, is, list-available, list-elsewhere, list-here)
 
 pub more-pushed :
     (l : Lists) (seat : SeatFields) (pile : Pile) (x : ℕ) → OneMore seat pile x (with_list l seat pile (x ∷ list_of l seat pile)) l
-more-pushed l seat pile x = record {
-  available = list-available l seat pile (x ∷ list_of l seat pile);
-  here = list-here l seat pile (x ∷ list_of l seat pile);
-  others = λ seat2 pile2 differ. sym (list-elsewhere l seat pile (x ∷ list_of l seat pile) seat2 pile2 differ);
-}
+more-pushed l seat pile x = grind (arith, list-available, list-elsewhere, list-here, list_of)
 
 -- a holding is another one with the index in hand
 abbrev pub HoldsMore : SeatFields → Pile → ℕ → Holding → Holding → Type 0
@@ -93,14 +86,7 @@ pub record Balanced (l l' : Lists) (h h' : Holding) : Type 0 where
   pub ways : (d : ℕ) → kept_among on_its_way d h'.kept ≡ kept_among on_its_way d h.kept
 
 pub balance-back : (l l' : Lists) (h h' : Holding) → Balanced l l' h h' → Balanced l' l h' h
-balance-back l l' h h' b = record {
-  available = sym b.available;
-  frames = λ f. sym (b.frames f);
-  places = λ d. sym (b.places d);
-  stock = λ class. sym (b.stock class);
-  waits = λ d. sym (b.waits d);
-  ways = λ d. sym (b.ways d);
-}
+balance-back l l' h h' b = grind (arith, b)
 
 -- one more partly used superblock kept is in one place more, and in stock for its class once more
 pub partly-kept-more :
@@ -236,13 +222,7 @@ stock-none class seat Partials w = refl
 tag-grows :
     (words words' : WordName → ℕ) (n m : WordName) (new : HeadFields) → IsHead new → Writes words n (head_word new) words'
     → (head_of (words n)).tag ≤ new.tag → (head_of (words m)).tag ≤ (head_of (words' m)).tag
-tag-grows words words' n m new fits writes grows =
-    elim (cases_name m n) [
-      | inl is ↦
-          subst (λ k. (head_of (words k)).tag ≤ (head_of (words' k)).tag) (sym is)
-          (omega (arith, grows, ap (λ w. (head_of w).tag) writes.here, ap (λ (x : HeadFields). x.tag) (head_of-head_word new fits)))
-      | inr differ ↦ omega (arith, ap (λ w. (head_of w).tag) (writes.elsewhere m differ))
-    ]
+tag-grows words words' n m new fits writes grows = grind (arith, fits, writes, grows, cases_name, head_of, head_of-head_word)
 
 -- two stacks that have one head have one list
 list-named :
@@ -262,14 +242,7 @@ still-listed :
     → (head_of (s.word (head_name seat2 pile2))).tag ≡ (head_of (words' (head_name seat2 pile2))).tag → (i : ℕ)
     → occurs i (list_of l seat2 pile2) ≤ occurs i (list_of l' seat2 pile2)
 still-listed s l l' seat seat2 pile pile2 new words' fits writes others still same i =
-    elim (cases_name (head_name seat2 pile2) (head_name seat pile)) [
-      | inl is ↦
-          let stands : (head_of (s.word (head_name seat pile))).tag ≡ (head_of (words' (head_name seat pile))).tag =
-          subst (λ n. (head_of (s.word n)).tag ≡ (head_of (words' n)).tag) is same in
-          list-named (λ xs ys. occurs i xs ≤ occurs i ys) l l' seat seat2 pile pile2 is
-          (still (stands ∙ ap (λ w. (head_of w).tag) writes.here ∙ ap (λ (x : HeadFields). x.tag) (head_of-head_word new fits)) i)
-      | inr differ ↦ omega (arith, ap (occurs i) (others seat2 pile2 differ))
-    ]
+    grind (arith, fits, writes, others, still, same, cases_name, head_name, head_of, head_of-head_word, list-named)
 
 -- the turn pays for the tag of the frames' head, and for that of a class's
 frame-spends :
@@ -327,7 +300,11 @@ pub record Exchanges (g : Geometry) (s : State) (l : Lists) (caller : ℕ) (seat
   pub after :
       after_action (plan_point_of (s.errand caller).point) (s.word (name_of (plan_point_of (s.errand caller).point))) ≡ head_word new
   pub settles : settle_of (s.errand caller) (found_at s caller) ≡ e
-  pub may : MayStand g s l caller (s.errand caller) e
+  pub may : MayStand g s l caller e
+  pub guards : MayGuard g s caller e.point e.retired (s.word (name.Hazard caller))
+  pub excepts : (place : ℕ) → Excepts (s.errand caller) place → Excepts e place
+  pub counts : OwnCounts caller s.history e
+  pub cleared : e.cleared ≡ (s.errand caller).cleared
   pub list : NewList g s l seat pile new l'
   pub balanced : ErrandsBalanced g s l l' (s.errand caller) e
   pub frame_turns :
@@ -358,8 +335,11 @@ exchanges-restacks g s l caller s' seat pile new e l' old has h step =
       in_heap = has;
       moves = moves;
       may = h.may;
+      guards = h.guards;
+      excepts = h.excepts;
+      counts = h.counts;
+      cleared = h.cleared;
       word = plain;
-      below = words-below s.word (head_name seat pile) (head_word new) s'.word writes old.words (head_word-below new h.list.fits);
       history = step.history ∙ ap (with_event s.history) h.event;
       listed = h.list.listed s'.word writes;
       available = b.available;
@@ -406,31 +386,8 @@ exchanges-sound g s caller s' seat pile new sound has h step =
     let old = sound.parts.1 in
     let found = h l old in
     let past : s'.history ≡ s.history = step.history ∙ ap (with_event s.history) found.2.event in
-    silent-sound g s s' found.0 sound past (restacked-sound (exchanges-restacks g s l caller s' seat pile new found.1 found.0 old has found.2 step) old)
-
--- a caller that may go on, and scans nothing, may stand where it goes on
-may-stand :
-    (g : Geometry) (s : State) (l : Lists) (caller : ℕ) (a b : ErrandFields) → MayGoOn g s l caller a b → PointGoes g s l caller a.point b.point
-    → b.cleared ≡ a.cleared → MayStand g s l caller a b
-may-stand g s l caller a b m goes cleared = record {
-  rule = m.rule;
-  kept = m.kept;
-  retired = m.retired;
-  so = m.so;
-  hazard = goes.hazard;
-  guard = goes.guard;
-  pushed = λ d stands. sym goes.pushed ∙ stands;
-  passed = goes.passed;
-  unread = λ k below. let bad : ⊥ = omega (arith, below, goes.unread) in absurd bad;
-  full = m.full;
-  hands = m.hands;
-  frees = m.frees;
-  excepts = goes.excepts;
-  own_turns = m.own_turns;
-  own_lost = m.own_lost;
-  own_answers = m.own_answers;
-  cleared = cleared;
-}
+    silent-sound g s caller s' found.0 sound has step past
+    (restacked-sound (exchanges-restacks g s l caller s' seat pile new found.1 found.0 old has found.2 step) old)
 
 -- a step from a point to a point that shifts a stack's head is an exchange of that head
 shifts-exchanges :
@@ -440,16 +397,17 @@ shifts-exchanges :
 shifts-exchanges g s l caller q seat pile new l' old has h =
     let e = at_point (s.errand caller) (found_at s caller) q in
     let after : settle_of (s.errand caller) (found_at s caller) ≡ e = settle-leads (s.errand caller) (found_at s caller) q h.leads in
+    let may = may-step g s l caller (found_at s caller) q old has h.cleared (goes-stands g s l caller (s.errand caller).point q h.goes) in
     record {
       event = h.event;
       head = h.head;
       after = h.after;
       settles = after;
-      may =
-          may-stand g s l caller (s.errand caller) e
-          (may-after g s l caller (found_at s caller) q old has (old.words (name_at s caller)) after h.cleared
-          (goes-stands g s l caller (s.errand caller).point q h.goes))
-          h.goes (ap (λ b. raised b (s.errand caller).cleared) h.cleared);
+      may = may.stands;
+      guards = goes-guards g s l caller q e.retired (s.word (name.Hazard caller)) old.guarded has refl h.goes;
+      excepts = h.goes.excepts;
+      counts = may.counts.own;
+      cleared = ap (λ b. raised b (s.errand caller).cleared) h.cleared;
       list = h.list;
       balanced = record {
         available = h.balanced.available;

@@ -1,14 +1,14 @@
 -- The steps of a won pop from a stack and of a won push onto one.
-use Rattle.std.proofs.Common.{ℕ, Bool, true, false, ◌≡◌, ◌≢◌, ◌<◌, ◌≤◌, ◌+◌, ◌-◌, ◌^◌, List, [], ◌∷◌, refl, arith, ap, sym, subst, inl, inr, ◌∙◌, ◌==◌, ◌⊎◌, All}
-use Rattle.std.proofs.Common.{IsTrue, eq-eqb, ne_eqb, mod-eq_of_lt}
+use Rattle.std.proofs.Common.{ℕ, Bool, true, false, ◌≡◌, ◌≢◌, ◌<◌, ◌≤◌, ◌+◌, ◌-◌, ◌^◌, List, [], ◌∷◌, refl, arith, ap, sym, subst, inl, inr, ◌∙◌, ◌==◌, ◌⊎◌, All, IsTrue}
+use Rattle.std.proofs.Common.{eq-eqb, ne_eqb, mod-eq_of_lt}
 use Rattle.std.proofs.lemmas.Bool.{cases_eq, cond-true, cond-false}
 use Rattle.std.proofs.lemmas.List.Elements.{All-nil, All-cons, All-head, All-tail, All-from_recursion}
 use Rattle.std.proofs.Math.Path.{fun_ext}
 use Rattle.sound_state.proofs.Common.{Geometry, CLASSES, IsChecked, HeadFields, head_of, WordName, descriptor_count, SeatFields, Writes, occurs, Pile, Frames, Partials}
-use Rattle.sound_state.proofs.Common.{head_name, next_name, Stacked, next_in, At, Continuation, Point, Idle, Block, Stack, Desc, Partial, event_of, next_of}
-use Rattle.sound_state.proofs.Common.{plan_point_of, State, Step, Holding, Kept, holds_of, partly_used, IsKeptAs, IsPartlyUsed, Lists, IsListed, IsSo, recalls_of}
-use Rattle.sound_state.proofs.Common.{IsSoundWithoutCounts, IsSoundWith, waits_in, IsHead, head_word, head_of-head_word, descriptor_count_within, pile_limit, put_away}
-use Rattle.sound_state.proofs.Common.{pushes, list_of, continuation_recalls, made}
+use Rattle.sound_state.proofs.Common.{head_name, next_name, Stacked, next_in, At, Continuation, Point, Idle, Block, Stack, Desc, Partial, event_of, next_of, plan_point_of}
+use Rattle.sound_state.proofs.Common.{State, Step, Holding, Kept, holds_of, partly_used, IsKeptAs, IsPartlyUsed, Lists, IsListed, IsSo, recalls_of, IsSoundWithoutCounts}
+use Rattle.sound_state.proofs.Common.{IsSoundWith, waits_in, IsHead, head_word, head_of-head_word, descriptor_count_within, pile_limit, put_away, pushes, list_of}
+use Rattle.sound_state.proofs.Common.{continuation_recalls, made}
 use Rattle.packed_words.specs.declared.widths.TheConstants.{TOP_BITS, HEAD_TAG_BITS}
 use Rattle.word_table.specs.declared.name.WordName.TheVariants as name
 use Rattle.superblock_parts.specs.declared.point.BlockPoint.TheVariants as block
@@ -25,8 +25,8 @@ use Rattle.sound_state.proofs.quiet.QuietStacks.{pop_top_lost-sound}
 use Rattle.sound_state.proofs.shared.StackedLemmas.{pile-stacked, pile-exists}
 use Rattle.sound_state.proofs.shared.WonEffects.{LeadsTo}
 use Rattle.sound_state.proofs.stacks.StackEffects.{IsNoHead}
-use Rattle.sound_state.proofs.stacks.StackShifts.{NewList, HoldsMore, OneMore, PaysForTag, with_list, more-popped, more-pushed, more-balanced, balance-back}
-use Rattle.sound_state.proofs.stacks.StackShifts.{shifts-sound, list_class, no-head-apart, list-elsewhere}
+use Rattle.sound_state.proofs.stacks.StackShifts.{NewList, HoldsMore, OneMore, PaysForTag, with_list, more-popped, more-pushed, more-balanced, balance-back, shifts-sound}
+use Rattle.sound_state.proofs.stacks.StackShifts.{list_class, no-head-apart, list-elsewhere}
 use Rattle.sound_state.proofs.shared.StepLemmas.{TurnGoes}
 use Rattle.sound_state.proofs.shared.TagLemmas.{frame-tag-below, list-tags-below}
 use Rattle.sound_state.proofs.shared.KeepsSound.{KeepsSound, KeepsSoundWhere}
@@ -47,14 +47,7 @@ limit-room g Partials checked = omega (arith, descriptor_count_within g checked)
 partials-with :
     (P : ℕ → List ℕ → Type 0) (l : Lists) (seat : SeatFields) (xs : List ℕ) (class : ℕ) → P seat.class xs
     → (class ≢ seat.class → P class (l.partials class)) → P class ((with_list l seat Partials xs).partials class)
-partials-with P l seat xs class here others =
-    elim (cases_eq class seat.class) [
-      | inl same ↦
-          subst (P class) (sym (cond-true {A = List ℕ} (class == seat.class) xs (l.partials class) (eq-eqb class seat.class same)))
-          (subst (λ c. P c xs) (sym same) here)
-      | inr differ ↦
-          subst (P class) (sym (cond-false {A = List ℕ} (class == seat.class) xs (l.partials class) (ne_eqb class seat.class differ))) (others differ)
-    ]
+partials-with P l seat xs class here others = grind (arith, here, others, cases_eq, cond-false, cond-true, eq-eqb, ne_eqb)
 
 -- the words with another head for a stack make the lists with another list for it
 listed-with :

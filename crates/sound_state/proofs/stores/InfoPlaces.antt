@@ -1,20 +1,18 @@
 -- Who alone may store what a descriptor says: the caller that keeps it, partly used or on its way.
-use Rattle.std.proofs.Common.{ℕ, Some, ◌≡◌, ◌≢◌, ◌<◌, ◌≤◌, ◌+◌, ◌^◌, List, [], ◌∷◌, arith, ap, sym, subst, inl, inr, ◌∙◌, ◌==◌, ◌&&◌, if◌then◌else◌, IsTrue, IsSome}
-use Rattle.std.proofs.Common.{eq-eqb}
+use Rattle.std.proofs.Common.{ℕ, Some, ◌≡◌, ◌≢◌, ◌<◌, ◌≤◌, ◌+◌, List, [], ◌∷◌, arith, ap, sym, subst, inl, inr, ◌∙◌, ◌==◌, ◌&&◌, if◌then◌else◌, IsTrue, IsSome, eq-eqb}
 use Rattle.std.specs.List.{AllByRecursion}
 use Rattle.std.proofs.lemmas.Bool.{cases_eq, cond-true}
 use Rattle.std.proofs.lemmas.List.Elements.{All-from_recursion}
-use Rattle.sound_state.proofs.Common.{Geometry, Held, active_of, WordName, Site, descriptor_count, info_in, Writes, occurs, Continuation, State, Kept, Status}
-use Rattle.sound_state.proofs.Common.{reserving, waiting, partly_used, on_its_way, holds_of, word_keeps, full_keeps, Lists, IsSoundWith, anchor_for, is_bound}
-use Rattle.sound_state.proofs.Common.{kept_among, active_keeps, same_status}
+use Rattle.sound_state.proofs.Common.{Geometry, Held, active_of, WordName, Site, descriptor_count, info_in, Writes, occurs, Continuation, State, Kept, Status, reserving}
+use Rattle.sound_state.proofs.Common.{waiting, partly_used, on_its_way, holds_of, word_keeps, full_keeps, Lists, IsSoundWith, anchor_for, is_bound, kept_among}
+use Rattle.sound_state.proofs.Common.{active_keeps, same_status}
 use Rattle.word_table.specs.declared.name.WordName.TheVariants as name
 use Rattle.superblock_parts.specs.declared.point.BlockPoint.TheVariants as block
 use Rattle.errand_steps.specs.declared.point.Point.TheVariants as point
 use Rattle.sound_state.proofs.shared.ListFacts.{all-occurring}
 use Rattle.sound_state.proofs.shared.UnplacedLemmas.{IsUnplaced}
 use Rattle.sound_state.proofs.stores.StoreFields.{IsPlaceKept, IsKeptStill, PlacesKept, LoneKept}
-use Rattle.sound_state.proofs.stores.StoreReads.{links-stay, blocks-kept, place-same, all-places-kept, IsPlaceUnread, link-unread, block-unread, place-unread}
-use Rattle.sound_state.proofs.stores.StoreReads.{lone-kept}
+use Rattle.sound_state.proofs.stores.StoreReads.{links-stay, blocks-kept, place-same, all-places-kept, IsPlaceUnread, link-unread, block-unread, place-unread, lone-kept}
 
 abbrev pub info_number : WordName → ℕ
 info_number (name.Info d) = d
@@ -34,20 +32,16 @@ places-elsewhere s d new words' w e differ = place-same s words' e (infos-elsewh
 infos-some :
     (g : Geometry) (s : State) (l : Lists) (d new : ℕ) (words' : WordName → ℕ) → IsSoundWith g s l → IsSome (info_in g new)
     → Writes s.word (name.Info d) new words' → (e : ℕ) → e < descriptor_count g → IsSome (info_in g (words' (name.Info e)))
-infos-some g s l d new words' old some w e has =
-    elim (cases_eq e d) [
-      | inl is ↦ subst (λ v. IsSome (info_in g v)) (sym (ap (λ k. words' (name.Info k)) is ∙ w.here)) some
-      | inr differ ↦ subst (λ v. IsSome (info_in g v)) (sym (infos-elsewhere s d new words' w e differ)) (old.chained.infos e has)
-    ]
+infos-some g s l d new words' old some w e has = grind (arith, old, some, w, has, infos-elsewhere)
 
 -- a store into an info word keeps what is read of words that are stored alone, where what is read of the descriptor is kept
 infos-kept :
-    (g : Geometry) (s : State) (l : Lists) (d new : ℕ) (words' : WordName → ℕ) → IsSoundWith g s l → new < 2 ^ 64
+    (g : Geometry) (s : State) (l : Lists) (d new : ℕ) (words' : WordName → ℕ) → IsSoundWith g s l
     → Writes s.word (name.Info d) new words' → PlacesKept g s l words'
     → ((i : ℕ) → i < g.callers → IsPlaceUnread s words' (name.Info d) (s.errand i).point) → LoneKept g s l words'
-infos-kept g s l d new words' old below w places unread =
+infos-kept g s l d new words' old w places unread =
     let n = name.Info d in
-    lone-kept g s l n new words' old tt below w (links-stay g s l n new words' old w (λ no. no)) places
+    lone-kept g s l n new words' old tt w (links-stay g s l n new words' old w (λ no. no)) places
     (blocks-kept g s l n new words' w (λ no. no))
     (λ i has. record {
       link = link-unread n (s.errand i).point (λ no. no);
@@ -78,18 +72,18 @@ still-kept s w d (k ∷ ks) other r v p = (
 
 -- a store that leaves the frame and the class of a descriptor keeps what is read of words that are stored alone
 pub placed-kept :
-    (g : Geometry) (s : State) (l : Lists) (d new : ℕ) (words' : WordName → ℕ) → IsSoundWith g s l → new < 2 ^ 64
+    (g : Geometry) (s : State) (l : Lists) (d new : ℕ) (words' : WordName → ℕ) → IsSoundWith g s l
     → IsSome (info_in g new) → Writes s.word (name.Info d) new words' → IsPlaceKept s words' d
     → ((i : ℕ) → i < g.callers → (at : Site) (o : Continuation) → (s.errand i).point ≡ point.Block (block.StoreAnchor at) o → at.desc ≢ d)
     → LoneKept g s l words'
-placed-kept g s l d new words' old below some w here apart =
+placed-kept g s l d new words' old some w here apart =
     let place : (e : ℕ) → IsPlaceKept s words' e =
     λ e.
     elim (cases_eq e d) [
       | inl is ↦ subst (IsPlaceKept s words') (sym is) here
       | inr differ ↦ places-elsewhere s d new words' w e differ
     ] in
-    infos-kept g s l d new words' old below w (all-places-kept g s l words' (infos-some g s l d new words' old some w) place)
+    infos-kept g s l d new words' old w (all-places-kept g s l words' (infos-some g s l d new words' old some w) place)
     (λ i has.
     place-unread s words' (name.Info d) (s.errand i).point place (λ at o stands is. apart i has at o stands (ap info_number is)))
 
@@ -98,12 +92,12 @@ holds-it d e credits is = omega (arith, cond-true {A = ℕ} (e == d) 1 0 (eq-eqb
 
 -- a store of what a descriptor in no place says keeps what is read of the words that are stored alone
 pub unplaced-kept :
-    (g : Geometry) (s : State) (l : Lists) (d new : ℕ) (words' : WordName → ℕ) → IsSoundWith g s l → new < 2 ^ 64
+    (g : Geometry) (s : State) (l : Lists) (d new : ℕ) (words' : WordName → ℕ) → IsSoundWith g s l
     → IsSome (info_in g new) → Writes s.word (name.Info d) new words' → IsUnplaced g s l d
     → ((i : ℕ) → i < g.callers → IsPlaceUnread s words' (name.Info d) (s.errand i).point) → LoneKept g s l words'
-unplaced-kept g s l d new words' old below some w free read =
+unplaced-kept g s l d new words' old some w free read =
     let other : (e : ℕ) → e ≢ d → IsPlaceKept s words' e = places-elsewhere s d new words' w in
-    infos-kept g s l d new words' old below w
+    infos-kept g s l d new words' old w
     (record {
       infos = infos-some g s l d new words' old some w;
       bound = λ e bound. other e (λ is. free.bound (subst (λ k. IsTrue (is_bound g s l k)) is bound));

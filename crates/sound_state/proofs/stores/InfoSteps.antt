@@ -1,28 +1,25 @@
 -- Steps that store what a descriptor says.
-use Rattle.std.proofs.Common.{ℕ, true, Some, ◌≡◌, ◌≢◌, ◌<◌, ◌≤◌, refl, arith, ap, sym, subst, ◌∙◌, IsSome, nat_lt, lt-ltb}
+use Rattle.std.proofs.Common.{ℕ, Some, ◌≡◌, ◌≢◌, ◌<◌, ◌≤◌, refl, arith, ap, sym, subst, ◌∙◌, IsSome, lt-ltb}
 use Rattle.std.proofs.lemmas.List.Elements.{All-cons}
 use Rattle.sound_state.proofs.Common.{Geometry, IsChecked, info_of, WordName, Site, descriptor_count, info_in, IsSiteOf, Writes, Continuation, Point, Block, Partial}
 use Rattle.sound_state.proofs.Common.{event_of, next_of, plan_point_of, State, partly_used, on_its_way, holds_of, errand_has, Lists, IsSo, recalls_of, IsSoundWith}
-use Rattle.sound_state.proofs.Common.{info_or_zero, errand_keeps, kept_among, InfoFields, info_word, info-exact, info_within, info_at}
+use Rattle.sound_state.proofs.Common.{info_or_zero, errand_keeps, InfoFields, info_word, info-exact, info_within, info_at}
 use Rattle.word_table.specs.declared.name.WordName.TheVariants as name
 use Rattle.superblock_parts.specs.declared.point.BlockPoint.TheVariants as block
 use Rattle.partial_parts.specs.declared.point.PartialPoint.TheVariants as partial
 use Rattle.sound_state.proofs.shared.UnplacedLemmas.{way-unplaced, IsUnplaced}
 use Rattle.sound_state.proofs.shared.WordFacts.{site-heap, site-info}
-use Rattle.sound_state.proofs.stores.StoreFields.{between, IsPlaceKept}
+use Rattle.sound_state.proofs.stores.StoreFields.{between}
 use Rattle.sound_state.proofs.stores.StoreReads.{IsPlaceUnread}
 use Rattle.sound_state.proofs.stores.StoreSteps.{store-sound}
-use Rattle.sound_state.proofs.stores.InfoPlaces.{info_number, places-elsewhere, placed-kept, unplaced-kept}
+use Rattle.sound_state.proofs.stores.InfoPlaces.{placed-kept, unplaced-kept}
 use Rattle.sound_state.proofs.shared.PointLemmas.{fits-at, so-at, recalled-at}
 use Rattle.sound_state.proofs.quiet.QuietLinks.{written-at}
 use Rattle.sound_state.proofs.shared.HasLemmas.{kept-itself, keeps-at, has-at, only-one}
 use Rattle.sound_state.proofs.shared.KeepsSound.{KeepsSound}
 
 within-some : (g : Geometry) (i : InfoFields) → i.frame < g.frames → i.heap < g.heaps → IsSome (info_within g (Some i))
-within-some g i in_frames in_heaps =
-    let frame : nat_lt i.frame g.frames ≡ true = lt-ltb i.frame g.frames in_frames in
-    let heap : nat_lt i.heap g.heaps ≡ true = lt-ltb i.heap g.heaps in_heaps in
-    grind (arith, frame, heap)
+within-some g i in_frames in_heaps = grind (arith, in_frames, in_heaps, lt-ltb)
 
 site-some : (g : Geometry) (caller : ℕ) (at : Site) → IsChecked g → IsSiteOf g caller at → IsSome (info_in g (info_word (info_at at)))
 site-some g caller at checked site =
@@ -61,7 +58,7 @@ store_owner-sound site o g s caller s' sound has at step =
       holds = grind (arith);
       kept = λ l old.
           let (lies, none) = recalled-at g s l caller p old has at in
-          placed-kept g s l d new s'.word old (info-exact.fits (info_at site) is_info) (site-some g caller site sound.checked fit) w
+          placed-kept g s l d new s'.word old (site-some g caller site sound.checked fit) w
           (ap (λ i. (info_or_zero i).frame) back ∙ sym lies.frame, ap (λ i. (info_or_zero i).class) back ∙ sym lies.class)
           (λ i has_i other o'.
           anchor-apart g s l caller d i other o' old has has_i fit.desc (has-at (s.errand caller) p partly_used d at (kept-itself partly_used d site.seat.class))
@@ -70,32 +67,13 @@ store_owner-sound site o g s caller s' sound has at step =
     })
     step
 
--- a caller that has a partial superblock at hand keeps it, so a descriptor that is in no place isn't its own
-unkept-place :
-    (g : Geometry) (s : State) (l : Lists) (i d new : ℕ) (at : Site) (words' : WordName → ℕ) (p : Point) → i < g.callers
-    → (s.errand i).point ≡ p → 1 ≤ kept_among partly_used at.desc (holds_of p).kept → Writes s.word (name.Info d) new words'
-    → IsUnplaced g s l d → IsPlaceKept s words' at.desc
-unkept-place g s l i d new at words' p has stands some w free =
-    places-elsewhere s d new words' w at.desc
-    (λ is.
-    let mine : 1 ≤ errand_keeps partly_used d (s.errand i) =
-    subst (λ k. 1 ≤ errand_keeps partly_used k (s.errand i)) is (keeps-at (s.errand i) p partly_used at.desc stands some) in
-    let bad : ⊥ = omega (arith, mine, free.partly i has) in bad)
-
 -- nobody reads what a descriptor on its way says
 unplaced-unread :
     (g : Geometry) (s : State) (l : Lists) (i d new : ℕ) (words' : WordName → ℕ) (p : Point) → i < g.callers → (s.errand i).point ≡ p
     → Writes s.word (name.Info d) new words' → IsUnplaced g s l d
     → ((at : Site) (o : Continuation) → p ≡ Block (block.StoreAnchor at) o → at.desc ≢ d) → IsPlaceUnread s words' (name.Info d) p
 unfolding holds_of
-unplaced-unread g s l i d new words' (Block (block.StoreAnchor at) o) has stands w free anchor = λ is. anchor at o refl (ap info_number is)
-unplaced-unread g s l i d new words' (Partial (partial.StoreOwner at) o) has stands w free anchor =
-    unkept-place g s l i d new at words' (Partial (partial.StoreOwner at) o) has stands (kept-itself partly_used at.desc at.seat.class) w free
-unplaced-unread g s l i d new words' (Partial (partial.LoadGrantAnchor at) o) has stands w free anchor =
-    unkept-place g s l i d new at words' (Partial (partial.LoadGrantAnchor at) o) has stands (kept-itself partly_used at.desc at.seat.class) w free
-unplaced-unread g s l i d new words' (Partial (partial.Grant at x) o) has stands w free anchor =
-    unkept-place g s l i d new at words' (Partial (partial.Grant at x) o) has stands (kept-itself partly_used at.desc at.seat.class) w free
-unplaced-unread g s l i d new words' p has stands w free anchor = tt
+unplaced-unread g s l i d new words' p has stands w free anchor = grind (arith, has, stands, w, free, anchor, kept-itself)
 
 -- the store of what the descriptor of a new superblock says keeps the state sound
 pub store_info-sound : (site : Site) (o : Continuation) → KeepsSound (Block (block.StoreInfo site) o)
@@ -117,7 +95,7 @@ store_info-sound site o g s caller s' sound has at step =
       holds = grind (arith);
       kept = λ l old.
           let free : IsUnplaced g s l d = way-unplaced g s l caller d old has fit.desc way in
-          unplaced-kept g s l d new s'.word old (info-exact.fits (info_at site) is_info) (site-some g caller site sound.checked fit) w free
+          unplaced-kept g s l d new s'.word old (site-some g caller site sound.checked fit) w free
           (λ i has_i.
           unplaced-unread g s l i d new s'.word (s.errand i).point has_i refl w free
           (λ other o'.

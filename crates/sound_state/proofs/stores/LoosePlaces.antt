@@ -1,11 +1,11 @@
 -- Who alone may store a word of the arena: the owner of the live block whose prefix it is, or the maker of the superblock in which it lies.
-use Rattle.std.proofs.Common.{ℕ, true, Some, None, ◌≡◌, ◌≢◌, ◌<◌, ◌≤◌, ◌+◌, ◌^◌, length, refl, arith, ap, sym, subst, inl, inr, ◌∙◌, IsTrue, slice_index_or}
+use Rattle.std.proofs.Common.{ℕ, true, Some, None, ◌≡◌, ◌≢◌, ◌<◌, ◌≤◌, ◌+◌, length, refl, arith, ap, sym, subst, inl, inr, ◌∙◌, IsTrue, slice_index_or}
 use Rattle.std.proofs.lemmas.Bool.{cases_eq}
 use Rattle.std.proofs.lemmas.Option.{none-some}
-use Rattle.sound_state.proofs.Common.{Geometry, Need, Small, block_count_of, block_place, frame_of, frame_of-block_place, WordName, Site, descriptor_count, Writes}
-use Rattle.sound_state.proofs.Common.{occurs, prefix_name, block_at, pool_of, place-found, Point, FitsPoint, State, holds_of, Lists, IsOwned, IsSoundWith}
-use Rattle.sound_state.proofs.Common.{IsSoundWithoutCounts, info_for, is_bound, superblock_of, free_chain, IsLive, TooLarge, usable_words, block-within, IsPlaceFor}
-use Rattle.sound_state.proofs.Common.{IsWellFormed, large-frame, class_span, making, IsExcepted}
+use Rattle.sound_state.proofs.Common.{Geometry, Need, Small, block_count_of, block_place, frame_of, frame_of-block_place, WordName, Site, descriptor_count, Writes, occurs}
+use Rattle.sound_state.proofs.Common.{prefix_name, block_at, pool_of, place-found, Point, FitsPoint, State, holds_of, Lists, IsOwned, IsSoundWith, IsSoundWithoutCounts}
+use Rattle.sound_state.proofs.Common.{info_for, is_bound, superblock_of, free_chain, IsLive, TooLarge, usable_words, block-within, IsPlaceFor, IsWellFormed, large-frame}
+use Rattle.sound_state.proofs.Common.{class_span, making, IsExcepted}
 use Rattle.heap_geometry.specs.declared.need.Need.TheVariants.{Large}
 use Rattle.word_table.specs.declared.name.WordName.TheVariants as name
 use Rattle.superblock_parts.specs.declared.point.BlockPoint.TheVariants as block
@@ -36,13 +36,13 @@ pub record IsLoose (g : Geometry) (s : State) (l : Lists) (p : ℕ) : Type 0 whe
 
 -- a write to a place that nobody reads keeps what is read
 pub arena-kept :
-    (g : Geometry) (s : State) (l : Lists) (p new : ℕ) (words' : WordName → ℕ) → IsSoundWith g s l → IsLoose g s l p → new < 2 ^ 64
+    (g : Geometry) (s : State) (l : Lists) (p new : ℕ) (words' : WordName → ℕ) → IsSoundWith g s l → IsLoose g s l p
     → Writes s.word (name.Arena p) new words' → LoneKept g s l words'
-arena-kept g s l p new words' old loose below w =
+arena-kept g s l p new words' old loose w =
     let n = name.Arena p in
     let stay : (q : ℕ) → q ≢ p → words' (name.Arena q) ≡ s.word (name.Arena q) =
     λ q differ. w.elsewhere (name.Arena q) (λ is. differ (ap arena_word is)) in
-    lone-kept g s l n new words' old tt below w (links-stay g s l n new words' old w (λ no. no)) (places-stay g s l n new words' old w (λ no. no))
+    lone-kept g s l n new words' old tt w (links-stay g s l n new words' old w (λ no. no)) (places-stay g s l n new words' old w (λ no. no))
     (record {
       chains = λ d has bound i on. stay (block_place (info_for s d).frame (info_for s d).class i) (loose.chains d has bound i on);
       ties = λ place b live.

@@ -1,13 +1,12 @@
 -- Steps that store the prefix word or the link of a block.
-use Rattle.std.proofs.Common.{ℕ, Bool, true, false, Option, Some, None, ◌≡◌, ◌<◌, ◌≤◌, ◌+◌, ◌^◌, ◌*◌, [], ◌∷◌, refl, arith, ap, sym, subst, inl, inr, ◌∙◌, All, Any}
-use Rattle.std.proofs.Common.{IsTrue, nat_lt, if◌then◌else◌, ltb-false}
+use Rattle.std.proofs.Common.{ℕ, Bool, true, false, Option, Some, None, ◌≡◌, ◌<◌, ◌≤◌, ◌+◌, ◌*◌, [], ◌∷◌, refl, arith, ap, sym, subst, inl, inr, ◌∙◌, All, Any, IsTrue}
+use Rattle.std.proofs.Common.{nat_lt, if◌then◌else◌, ltb-false}
 use Rattle.std.proofs.lemmas.Bool.{cases_eq, cases_Bool}
 use Rattle.std.proofs.lemmas.List.Elements.{All-nil, All-cons, All-head}
-use Rattle.sound_state.proofs.Common.{Geometry, Need, block_count_of, block_place, frame_of, frame_of-block_place, AnchorFields, WordName, Found, Site}
-use Rattle.sound_state.proofs.Common.{descriptor_count, Writes, prefix_name, BlockPoint, At, End, Continuation, Point, Idle, Block, Reply}
-use Rattle.sound_state.proofs.Common.{settle_of, raised, counts_cleared, counts_lost, event_of, next_of, plan_point_of, State, Step, Moves, name_at, word_at, found_at}
-use Rattle.sound_state.proofs.Common.{with_event, holds_of, Lists, IsSo, IsOwned, IsLocated, recalls_of, bound_here, IsSoundWithoutCounts, IsSoundWith, waits_in}
-use Rattle.sound_state.proofs.Common.{is_bound, IsLive, prefix_word, descriptor_count_within, block_count_of-most, Handed, Freed, block_holds, making, AreMade}
+use Rattle.sound_state.proofs.Common.{Geometry, Need, block_count_of, block_place, frame_of, frame_of-block_place, AnchorFields, WordName, Found, Site, descriptor_count}
+use Rattle.sound_state.proofs.Common.{Writes, prefix_name, BlockPoint, At, End, Continuation, Point, Idle, Block, Reply, raised, counts_cleared, event_of, next_of}
+use Rattle.sound_state.proofs.Common.{plan_point_of, State, Step, Moves, name_at, word_at, found_at, with_event, holds_of, Lists, IsSo, IsOwned, IsLocated, recalls_of}
+use Rattle.sound_state.proofs.Common.{bound_here, IsSoundWithoutCounts, IsSoundWith, waits_in, is_bound, IsLive, prefix_word, Handed, Freed, block_holds, making, AreMade}
 use Rattle.sound_state.proofs.Common.{block_recalls, made}
 use Rattle.heap_geometry.specs.declared.need.Need.TheVariants as need
 use Rattle.packed_words.specs.declared.prefix.Prefix.TheVariants.{Small}
@@ -24,17 +23,19 @@ use Rattle.sound_state.proofs.shared.ListFacts.{any-none, any-one}
 use Rattle.sound_state.proofs.shared.MakingPlaces.{is-making}
 use Rattle.sound_state.proofs.shared.ShownLemmas.{MayGoOn}
 use Rattle.sound_state.proofs.stores.LoosePlaces.{arena-kept, IsLoose, live-loose, making-loose}
-use Rattle.sound_state.proofs.shared.NothingLemmas.{idle-nothing, nothing-guards, settled-own, nothing-may}
+use Rattle.sound_state.proofs.shared.NothingLemmas.{idle-nothing, nothing-guards, nothing-may}
 use Rattle.sound_state.proofs.shared.PointLemmas.{exists-at, fits-at, so-at, frees-at, hands-at, hazard-at, WeighFrom, weigh-stays, from-weighs, recalled-at}
 use Rattle.sound_state.proofs.stores.StoreFields.{between, sound-between}
 use Rattle.sound_state.proofs.stores.StoreReads.{lone-written, IsBlockUnread}
 use Rattle.sound_state.proofs.stores.StoreSteps.{StoresTo, store-written, step-between, store-sound}
 use Rattle.sound_state.proofs.quiet.QuietLemmas.{HoldsSame}
 use Rattle.sound_state.proofs.quiet.QuietLinks.{written-at}
-use Rattle.sound_state.proofs.shared.StepLemmas.{HoldsException, TurnGoes, at_point, settle-end, raised-least, found_from, actives-stay}
+use Rattle.sound_state.proofs.shared.StepLemmas.{HoldsException, TurnGoes, at_point, settle-end, found_from, actives-stay, goes-counts}
 use Rattle.sound_state.proofs.shared.WeighLemmas.{WeighAlike, weigh-alike, alike-most, WeighMost, weigh-emptied}
 use Rattle.sound_state.proofs.shared.KeepsSound.{KeepsSound, silent-sound}
 use Rattle.sound_state.proofs.shared.TieLemmas.{IsSaidAt}
+use Rattle.sound_state.proofs.shared.FormedLemmas.{formed-after, formed-between}
+use Rattle.sound_state.proofs.shared.TurnEffects.{own-counts}
 
 the-one : {X : Type 0} (P : X → Type 0) (x : X) → P x → Any P (x ∷ [])
 the-one P x is = (0, x, omega arith, refl, is)
@@ -51,7 +52,6 @@ store_link-sound site i a guarded heap o g s caller s' sound has stands step =
     let freed : Freed = record { place = place; need = need.Small site.seat.class; overwritten = true } in
     let w : Writes s.word (name.Arena place) a.avail s'.word = written-at s caller s' p stands step in
     let fit = (fits-at g s sound.parts.0 caller p sound.parts.1 has stands).point in
-    let below : a.avail < 2 ^ 64 = omega (arith, fit.anchor.avail, block_count_of-most site.seat.class) in
     store-sound g s caller s' p q (name.Arena place) a.avail sound has stands
     (record {
       stores = record { plan = refl; next = λ x. refl; event = λ x. refl; lost = λ x. refl; cleared = λ x. refl };
@@ -65,8 +65,7 @@ store_link-sound site i a guarded heap o g s caller s' sound has stands step =
           arena-kept g s l place a.avail s'.word old
           (live-loose g s l caller place site.seat.class sound old has owned
           (record { caller = (caller, has, subst (λ r. HoldsException (holds_of r) place) (sym stands) mine) })
-          (subst (IsBlockUnread (name.Arena place)) (sym stands) tt))
-          below w;
+          (subst (IsBlockUnread (name.Arena place)) (sym stands) tt)) w;
       so = λ l old.
           All-cons (IsSo g (between s s'.word) l caller) _ (bound_here site) (tt, w.here)
           (so-at g (between s s'.word) l caller p old has stands);
@@ -120,25 +119,17 @@ pub record IsLastStore (g : Geometry) (s : State) (caller place new : ℕ) (p : 
 
 -- a caller whose call ends may go on idle
 idle-may :
-    (g : Geometry) (s : State) (l : Lists) (caller : ℕ) (x : Found) → IsSoundWith g s l → caller < g.callers → x.value < 2 ^ 64
-    → settle_of (s.errand caller) x ≡ at_point (s.errand caller) x Idle → counts_cleared (s.errand caller).point x ≡ false
+    (g : Geometry) (s : State) (l : Lists) (caller : ℕ) (x : Found) → IsSoundWith g s l → caller < g.callers
+    → counts_cleared (s.errand caller).point x ≡ false
     → TurnGoes (s.errand caller).point Idle
     → ((q : ℕ) → HoldsException (holds_of (s.errand caller).point) q → IsSaidAt g s l q)
     → MayGoOn g s l caller (s.errand caller) (at_point (s.errand caller) x Idle)
 unfolding recalls_of
-idle-may g s l caller x sound has word after still turn said =
+idle-may g s l caller x sound has still turn said =
     let e = s.errand caller in
-    let own = sound.errands caller has in
-    nothing-may g s l caller e (at_point e x Idle) idle-nothing (settled-own g caller e x (at_point e x Idle) own word after) (sound.kept.retired caller has)
+    nothing-may g s l caller e (at_point e x Idle) idle-nothing (sound.kept.retired caller has)
     (λ spare. let bad : ⊥ = omega (arith, spare) in absurd bad) (All-nil (IsSo g s l caller)) said
-    (record {
-      own_turns = omega (arith, sound.turned.own_turns caller has, turn.under_way);
-      own_lost =
-          omega (arith, sound.turned.own_lost caller has, turn.discards, turn.unanswered, raised-least (counts_lost e.point x) e.lost own.lost);
-      own_answers = omega (arith, sound.turned.own_answers caller has, turn.unanswered);
-      frame_turns = omega (arith, turn.unframed);
-      list_turns = omega (arith, turn.pops, ap (λ b. raised b e.cleared) still);
-    })
+    (goes-counts caller s.history e x Idle (own-counts g s l caller sound.turned has) (sound.formed.errands caller has).lost still turn)
 
 idle-weighs :
     (n : WordName) (w : ℕ) (p : Point) → (holds_of p).credits ≡ [] → (holds_of p).kept ≡ [] → (holds_of p).frames ≡ []
@@ -149,8 +140,8 @@ idle-weighs n w p credits kept frames waits = weigh-stays n w p Idle (sym credit
 -- the store of the last prefix word keeps the state sound
 last-sound :
     (g : Geometry) (s : State) (caller : ℕ) (s' : State) (place new : ℕ) (p : Point) (r : Reply) → IsSoundWithoutCounts g s → caller < g.callers
-    → (s.errand caller).point ≡ p → IsLastStore g s caller place new p r s' → new < 2 ^ 64 → Step s caller s' → IsSoundWithoutCounts g s'
-last-sound g s caller s' place new p r sound has stands given below step =
+    → (s.errand caller).point ≡ p → IsLastStore g s caller place new p r s' → Step s caller s' → IsSoundWithoutCounts g s'
+last-sound g s caller s' place new p r sound has stands given step =
     let h : IsLastStore g s caller place new (s.errand caller).point r s' = subst (λ q. IsLastStore g s caller place new q r s') (sym stands) given in
     let l = sound.parts.0 in
     let old = sound.parts.1 in
@@ -161,7 +152,9 @@ last-sound g s caller s' place new p r sound has stands given below step =
     let w = store-written s caller s' (name.Arena place) new (End r) h.stores step in
     let again : Step t caller s' = step-between s caller s' (name.Arena place) new (End r) tt h.stores step in
     let same : (m : WordName) → s'.word m ≡ t.word m = lone-written s.word (name.Arena place) new s'.word tt w in
-    let whole : IsSoundWith g t l = sound-between g s l s'.word (arena-kept g s l place new s'.word old (h.loose l old) below w) old in
+    let whole : IsSoundWith g t l =
+    sound-between g s l s'.word (arena-kept g s l place new s'.word old (h.loose l old) w) old
+    (formed-between g s s' t.word old.formed (formed-after g s caller s' old.formed has step) same) in
     let still : counts_cleared (s.errand caller).point x ≡ false = h.stores.cleared (word_at t caller) in
     let after = settle-end (s.errand caller) x r (h.stores.next (word_at t caller)) in
     let moves : Moves s.errand caller e s'.errand = subst (λ f. Moves s.errand caller f s'.errand) after again.errand in
@@ -172,17 +165,16 @@ last-sound g s caller s' place new p r sound has stands given below step =
     (subst (λ v. WeighAlike n (t.word n) v (s.errand caller) e) (sym (same n))
     (from-weighs n (t.word n) (t.word n) (s.errand caller) x Idle
     (idle-weighs n (t.word n) (s.errand caller).point h.credits h.kept h.frames h.waits))) in
-    silent-sound g s s' l sound past
+    silent-sound g s caller s' l sound has step past
     (sound-alike g t l caller e s'
     (record {
       in_heap = has;
       moves = moves;
       alike = weigh-alike g t l caller n (s'.word n) e s' (exists-at g s caller (s.errand caller).point sound has refl) has wrote moves past weigh;
-      may = idle-may g t l caller x whole has (whole.words n) after still h.turn (h.said l whole);
+      may = idle-may g t l caller x whole has still h.turn (h.said l whole);
       others = λ i differ. same (name.Hazard i);
       guards = nothing-guards g t caller Idle (s.errand caller).retired (s'.word (name.Hazard caller)) idle-nothing (same (name.Hazard caller) ∙ h.hazard);
       actives = actives-stay g t l s'.word whole.kept same;
-      words = λ m. subst (λ v. v < 2 ^ 64) (sym (same m)) (whole.words m);
       emptied =
           omega (arith, weigh-emptied g t l caller n (s'.word n) e s' has wrote moves weigh, ap (λ b. raised b (s.errand caller).cleared) still);
     })
@@ -231,11 +223,7 @@ store_prefix-sound site i o g s caller s' sound has stands step =
             | inr a ↦ absurd (any-none (λ (b : Freed). (b.place ≡ q) × IsTrue b.overwritten) a)
           ];
     })
-    (omega (arith, two, fit.site.desc, descriptor_count_within g sound.checked)) step
-
--- the link of a new superblock's block fits its word
-new_link-below : (class i : ℕ) → i < block_count_of class → new_link class i < 2 ^ 64
-new_link-below class i within = grind (arith, within, block_count_of-most class)
+    step
 
 -- the links of more blocks are made with one more link stored
 links-made-more :
@@ -271,8 +259,7 @@ link_block-to g s caller s' site i o q n sound has stands step leads holds recal
           let apart : IsBlockUnread (name.Arena place) p = λ k lt. prefix_name-apart f c k i (omega (arith, lt)) in
           arena-kept g s l place (new_link c i) s'.word old
           (making-loose g s l caller f c i sound old has fit.site.frame fit.index
-          (is-making s caller p site stands refl) (subst (IsBlockUnread (name.Arena place)) (sym stands) apart))
-          (new_link-below c i fit.index) w;
+          (is-making s caller p site stands refl) (subst (IsBlockUnread (name.Arena place)) (sym stands) apart)) w;
       so = λ l old.
           let t = between s s'.word in
           let (so_far, none) = recalled-at g t l caller p old has stands in

@@ -1,12 +1,12 @@
 -- A store into a link, a word of the arena or what a descriptor says keeps the state sound where what is read of that word stays.
-use Rattle.std.proofs.Common.{ℕ, Bool, true, false, Some, None, ◌≡◌, ◌<◌, ◌≤◌, ◌+◌, ◌^◌, ◌*◌, refl, arith, ap, sym, subst, inl, inr, ◌∙◌, ◌⊎◌, ◌==◌, ◌&&◌}
-use Rattle.std.proofs.Common.{if◌then◌else◌, All, IsTrue, IsSome, slice_index_or}
-use Rattle.sound_state.proofs.Common.{Geometry, CLASSES, block_count_of, block_place, frame_of, Need, Held, active_of, head_of, info_of, link_of, WordName}
+use Rattle.std.proofs.Common.{ℕ, Bool, true, false, Some, None, ◌≡◌, ◌<◌, ◌≤◌, ◌+◌, ◌*◌, refl, arith, ap, sym, subst, inl, inr, ◌∙◌, ◌⊎◌, ◌==◌, ◌&&◌, if◌then◌else◌, All}
+use Rattle.std.proofs.Common.{IsTrue, IsSome, slice_index_or}
+use Rattle.sound_state.proofs.Common.{Geometry, CLASSES, block_count_of, block_place, frame_of, Need, Held, active_of, head_of, info_of, link_of, WordName, IsFormed}
 use Rattle.sound_state.proofs.Common.{descriptor_count, SeatFields, info_in, occurs, link_in, prefix_name, Pile, Frames, Partials, next_in, head_name, next_name, State}
 use Rattle.sound_state.proofs.Common.{IsFramed, fills_frame, IsGuarded, Status, reserving, waiting, partly_used, on_its_way, holds_of, IsKept, IsPartlyUsed, IsKeptAs}
-use Rattle.sound_state.proofs.Common.{word_keeps, errand_has, full_keeps, Lists, IsListed, IsLocated, IsOwned, IsSoundWith, word_stock, full_stock, sum_below}
-use Rattle.sound_state.proofs.Common.{words_sum, callers_sum, Superblock, AreChained, IsChained, info_or_zero, anchor_for, info_for, live_at, superblock_of, free_chain}
-use Rattle.sound_state.proofs.Common.{is_bound, waiting_of, word_reserves, errand_reserves, IsTied, IsLive, IsTurned, Guards, IsActive, list_of, IsStocked, IsExcepted}
+use Rattle.sound_state.proofs.Common.{word_keeps, errand_has, full_keeps, Lists, IsListed, IsLocated, IsOwned, IsSoundWith, word_stock, full_stock, sum_below, words_sum}
+use Rattle.sound_state.proofs.Common.{callers_sum, Superblock, AreChained, IsChained, info_or_zero, anchor_for, info_for, live_at, superblock_of, free_chain, is_bound}
+use Rattle.sound_state.proofs.Common.{waiting_of, word_reserves, errand_reserves, IsTied, IsLive, IsTurned, Guards, IsActive, list_of, IsStocked, IsExcepted}
 use Rattle.word_table.specs.declared.name.WordName.TheVariants as name
 use Rattle.superblock_parts.proofs.ChainLemmas.{chain_of-same}
 use Rattle.pool_model.specs.Pool.{Block}
@@ -92,7 +92,6 @@ pub record BlocksKept (g : Geometry) (s : State) (l : Lists) (w : WordName → �
 
 -- what is read of the words that are stored alone stays
 pub record LoneKept (g : Geometry) (s : State) (l : Lists) (w : WordName → ℕ) : Type 0 where
-  pub words : (n : WordName) → with_lone w s.word n < 2 ^ 64
   pub links : LinksKept g s l w
   pub places : PlacesKept g s l w
   pub blocks : BlocksKept g s l w
@@ -377,17 +376,17 @@ tied-between g s l w kept tied =
 
 -- the state in between is sound
 pub sound-between :
-    (g : Geometry) (s : State) (l : Lists) (w : WordName → ℕ) → LoneKept g s l w → IsSoundWith g s l → IsSoundWith g (between s w) l
-sound-between g s l w kept sound = record {
-  words = kept.words;
-  errands = sound.errands;
+    (g : Geometry) (s : State) (l : Lists) (w : WordName → ℕ) → LoneKept g s l w → IsSoundWith g s l → IsFormed g (between s w)
+    → IsSoundWith g (between s w) l
+sound-between g s l w kept sound formed = record {
+  formed = formed;
   listed = listed-between g s l w kept.links sound.listed;
   kept = kept-between g s l w kept.places sound.kept;
   chained = chained-between g s l w kept sound.chained;
   framed = framed-between g s l w kept.places sound.framed;
   remembered = record {
     so = λ i has.
-        recalls-stay g s l i (between s w) l (s.errand i).point (fits-own g i (s.errand i) (sound.errands i has)) (sound.remembered.so i has)
+        recalls-stay g s l i (between s w) l (s.errand i).point (fits-own g i (s.errand i) (formed.errands i has)) (sound.remembered.so i has)
         (λ k d lt. between-part g s l w i kept _ (kept.recalls i has k d lt));
   };
   guarded = guarded-between g s w sound.guarded;

@@ -1,12 +1,13 @@
 -- A step that stores a word which its caller stores alone is a quiet step from the state in between.
 use Rattle.std.proofs.Common.{ℕ, false, None, ◌≡◌, ◌<◌, refl, ap, sym, subst, ◌∙◌, All}
-use Rattle.sound_state.proofs.Common.{Geometry, WordName, name_of, after_action, Writes, Next, At, Point, ErrandFields, settle_of, course_of, counts_lost}
+use Rattle.sound_state.proofs.Common.{Geometry, WordName, name_of, after_action, Writes, Next, At, Point, ErrandFields, settle_of, course_of, counts_lost, IsFormed}
 use Rattle.sound_state.proofs.Common.{counts_cleared, event_of, next_of, plan_point_of, State, Step, Moves, word_at, with_event, Lists, IsSo, recalls_of}
 use Rattle.sound_state.proofs.Common.{IsSoundWithoutCounts, IsSoundWith, Store, found_by, plan_of}
 use Rattle.sound_state.proofs.quiet.QuietLemmas.{HoldsSame}
 use Rattle.sound_state.proofs.quiet.QuietSteps.{LeadsQuietly, quiet-at}
 use Rattle.sound_state.proofs.stores.StoreFields.{IsLone, between, LoneKept, sound-between}
 use Rattle.sound_state.proofs.stores.StoreReads.{lone-written}
+use Rattle.sound_state.proofs.shared.FormedLemmas.{formed-after, formed-between}
 
 -- the point stores this into the word; whatever it finds there, it tells nothing, counts nothing and leads to the same
 pub record StoresTo (caller : ℕ) (p : Point) (n : WordName) (new : ℕ) (to : Next) : Type 0 where
@@ -62,8 +63,10 @@ store-sound g s caller s' p q n new sound has stands h step =
     let old = sound.parts.1 in
     let here : StoresTo caller (s.errand caller).point n new (At q) = subst (λ r. StoresTo caller r n new (At q)) (sym stands) h.stores in
     let w = store-written s caller s' n new (At q) here step in
+    let formed : IsFormed g t =
+    formed-between g s s' t.word old.formed (formed-after g s caller s' old.formed has step) (lone-written s.word n new s'.word h.lone w) in
     quiet-at g t caller s' p
-    (record { checked = sound.checked; legal = sound.legal; parts = (l, sound-between g s l s'.word (h.kept l old) old) }) has stands
+    (record { checked = sound.checked; legal = sound.legal; parts = (l, sound-between g s l s'.word (h.kept l old) old formed) }) has stands
     (record {
       event = h.stores.event _;
       cleared = h.stores.cleared _;

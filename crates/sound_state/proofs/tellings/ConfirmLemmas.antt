@@ -1,16 +1,17 @@
 -- A step that leaves all words and tells a look or a refusal.
-use Rattle.std.proofs.Common.{ℕ, Some, ◌≡◌, ◌<◌, ◌≤◌, ◌+◌, ◌*◌, ◌^◌, [], ◌∷◌, ◌++◌, refl, arith, ap, sym, subst, ◌∙◌}
-use Rattle.sound_state.proofs.Common.{Geometry, CLASSES, anchor_of, info_of, WordName, descriptor_count, after_action, Event, IsLegalWithoutCounts, ErrandFields}
-use Rattle.sound_state.proofs.Common.{settle_of, State, Step, Moves, action_at, name_at, word_at, found_at, with_event, errand_frames, waiting, on_its_way, word_keeps}
-use Rattle.sound_state.proofs.Common.{errand_has, full_keeps, Lists, IsSoundWith, IsSoundWithoutCounts, word_stock, full_stock, errand_stock, sum_below, info_or_zero}
-use Rattle.sound_state.proofs.Common.{word_reserves, errand_reserves, errand_keeps, errand_away, away_of, emptied_out, caller_of, IsAllowed, IsLegalEventWithoutCounts}
-use Rattle.sound_state.proofs.Common.{EachAfter-push, event_at, stock_of}
+use Rattle.std.proofs.Common.{ℕ, Some, ◌≡◌, ◌<◌, ◌≤◌, ◌+◌, ◌*◌, [], ◌∷◌, ◌++◌, refl, arith, ap, sym, subst, ◌∙◌}
+use Rattle.sound_state.proofs.Common.{Geometry, CLASSES, anchor_of, info_of, WordName, descriptor_count, after_action, Event, IsLegalWithoutCounts, ErrandFields, settle_of}
+use Rattle.sound_state.proofs.Common.{State, Step, Moves, action_at, name_at, word_at, found_at, with_event, errand_frames, waiting, on_its_way, word_keeps, errand_has}
+use Rattle.sound_state.proofs.Common.{full_keeps, Lists, IsSoundWith, IsSoundWithoutCounts, word_stock, full_stock, errand_stock, sum_below, info_or_zero, word_reserves}
+use Rattle.sound_state.proofs.Common.{errand_reserves, errand_keeps, errand_away, away_of, emptied_out, caller_of, IsAllowed, IsLegalEventWithoutCounts, EachAfter-push}
+use Rattle.sound_state.proofs.Common.{event_at, stock_of, IsFormed}
 use Rattle.word_table.specs.declared.name.WordName.TheVariants as name
 use Rattle.sound_state.proofs.shared.AlikeLemmas.{Alike, sound-but}
 use Rattle.sound_state.proofs.shared.ShownLemmas.{MayGoOn, MayGuard, IsSoundBut}
 use Rattle.sound_state.proofs.shared.StepLemmas.{actives-stay, words-stay}
 use Rattle.sound_state.proofs.shared.SumLemmas.{words-same, callers-moved, sum-same}
 use Rattle.sound_state.proofs.tellings.TellLemmas.{IsTold, told_state, told-but}
+use Rattle.sound_state.proofs.shared.KeepsSound.{stepped-sound}
 
 -- the new errand weighs what the old one did; it may have retired what was on its way
 pub record WeighTold (a b : ErrandFields) : Type 0 where
@@ -73,8 +74,8 @@ told-alike g s l caller event e s' has same m past weigh room =
 tells-on :
     (g : Geometry) (s : State) (l : Lists) (caller : ℕ) (event : Event) (e : ErrandFields) (s' : State) → IsSoundWith g s l → caller < g.callers
     → ((n : WordName) → s'.word n ≡ s.word n) → Moves s.errand caller e s'.errand → s'.history ≡ s.history ++ event ∷ []
-    → TellsOn g s l caller event e → IsSoundWith g s' l
-tells-on g s l caller event e s' sound has same m past tells =
+    → TellsOn g s l caller event e → IsFormed g s' → IsSoundWith g s' l
+tells-on g s l caller event e s' sound has same m past tells formed =
     let t = told_state s event in
     let but : IsSoundBut g t l caller = told-but g s l caller event tells.told has sound in
     sound-but g t l caller e s'
@@ -86,14 +87,13 @@ tells-on g s l caller event e s' sound has same m past tells =
       others = λ i differ. same (name.Hazard i);
       guards = subst (λ w. MayGuard g t caller e.point e.retired w) (sym (same (name.Hazard caller))) tells.guards;
       actives = actives-stay g t l s'.word but.kept same;
-      words = λ n. subst (λ w. w < 2 ^ 64) (sym (same n)) (sound.words n);
       emptied =
           let out : sum_below (descriptor_count g) (emptied_out g s' l) ≡ sum_below (descriptor_count g) (emptied_out g s l) =
           sum-same (descriptor_count g) (emptied_out g s l) (emptied_out g s' l)
           (λ d lt. rw (told-away g s l caller e s' has m tells.weigh d, ap anchor_of (same (name.Anchor d))) refl) in
           omega (arith, out, tells.cleared);
     })
-    but
+    but formed
 
 -- a step that tells such an event keeps the state sound
 pub step-tells :
@@ -108,13 +108,6 @@ step-tells g s caller event e s' sound has after said stays allowed tells step =
     let past : s'.history ≡ s.history ++ event ∷ [] = step.history ∙ ap (with_event s.history) said in
     let moves : Moves s.errand caller e s'.errand = subst (λ f. Moves s.errand caller f s'.errand) after step.errand in
     let mine : caller_of event < g.callers = subst (λ i. i < g.callers) (sym to.told.number) has in
-    record {
-      checked = sound.checked;
-      legal =
-          subst (IsLegalWithoutCounts g) (sym past)
-          (EachAfter-push (IsLegalEventWithoutCounts g) s.history event sound.legal (mine, allowed));
-      parts = (
-        l,
-        tells-on g s l caller event e s' old has (words-stay s.word (name_at s caller) _ s'.word step.word stays) moves past to,
-      );
-    }
+    stepped-sound g s caller s' l sound has step
+    (subst (IsLegalWithoutCounts g) (sym past) (EachAfter-push (IsLegalEventWithoutCounts g) s.history event sound.legal (mine, allowed)))
+    (tells-on g s l caller event e s' old has (words-stay s.word (name_at s caller) _ s'.word step.word stays) moves past to)

@@ -1,14 +1,13 @@
 -- A look that finds no partial superblock, and a refusal for want of a frame, keep the state sound.
-use Rattle.sound_state.proofs.Common.{turn_stage_of, in_turn, is_unneeded, Geometry, Small, need_of, HeadFields, head_of, Found, name_of, after_action, SeatFields}
-use Rattle.sound_state.proofs.Common.{Pile, Frames, Partials, head_name, next_in, own, At, Retire, Continuation, Point, Idle, Stack, Desc, ErrandFields, settle_of}
-use Rattle.sound_state.proofs.Common.{raised, counts_lost, counts_cleared, event_of, FitsPoint, spare_of, next_of, plan_point_of, State, Step, action_at, name_at}
-use Rattle.sound_state.proofs.Common.{word_at, found_at, IsHazard, Status, holds_of, waiting, reserving, on_its_way, partly_used, IsWithout, IsKeptAs, Lists, IsSo}
-use Rattle.sound_state.proofs.Common.{IsOwned, recalls_of, looked, IsSoundWithoutCounts, IsSoundWith, errand_stock, one_if, pops_left, gives_small, refuses_small}
-use Rattle.sound_state.proofs.Common.{lacks_frame, lacks_partial, lacks_answer, SMALL_MOST, head_word, head_of-head_word, Looked, Refuse, is_full, no_words, confirms}
-use Rattle.sound_state.proofs.Common.{event_at, clear, refused, turn_unanswered}
+use Rattle.sound_state.proofs.Common.{turn_stage_of, in_turn, is_unneeded, Geometry, Small, need_of, HeadFields, head_of, Found, name_of, after_action, SeatFields, Pile}
+use Rattle.sound_state.proofs.Common.{Frames, Partials, head_name, next_in, At, Retire, Continuation, Point, Idle, Stack, Desc, ErrandFields, settle_of, raised}
+use Rattle.sound_state.proofs.Common.{counts_lost, counts_cleared, event_of, FitsPoint, spare_of, next_of, plan_point_of, State, Step, action_at, word_at, found_at}
+use Rattle.sound_state.proofs.Common.{IsHazard, holds_of, on_its_way, partly_used, IsWithout, IsKeptAs, Lists, IsSo, recalls_of, looked, IsSoundWithoutCounts, IsSoundWith}
+use Rattle.sound_state.proofs.Common.{errand_stock, one_if, pops_left, gives_small, refuses_small, lacks_frame, lacks_partial, lacks_answer, SMALL_MOST, head_word}
+use Rattle.sound_state.proofs.Common.{head_of-head_word, Looked, Refuse, is_full, scan_begins, confirms, event_at, clear, refused}
 use Rattle.sound_state.proofs.quiet.QuietStacks.{confirm_empty_lost-sound}
-use Rattle.std.proofs.Common.{ℕ, true, false, cond, Some, ◌≡◌, ◌<◌, ◌≤◌, ◌+◌, ◌^◌, List, [], ◌∷◌, ◌++◌, refl, arith, ap, sym, subst, inl, inr, ◌∙◌, eq-eqb, ne_eqb}
-use Rattle.std.proofs.Common.{◌==◌, if◌then◌else◌, All, IsTrue, count_by, nat_le}
+use Rattle.std.proofs.Common.{ℕ, true, false, cond, Some, ◌≡◌, ◌<◌, ◌≤◌, ◌+◌, List, [], ◌∷◌, ◌++◌, refl, arith, ap, sym, subst, inl, inr, ◌∙◌, eq-eqb, ne_eqb, ◌==◌}
+use Rattle.std.proofs.Common.{if◌then◌else◌, All, IsTrue, count_by, nat_le}
 use Rattle.std.proofs.lemmas.Bool.{cases_eq, cases_Bool, cond-true, cond-false}
 use Rattle.std.proofs.lemmas.Option.{none-some}
 use Rattle.std.proofs.lemmas.List.Elements.{All-cons, All-nil}
@@ -23,7 +22,7 @@ use Rattle.sound_state.proofs.shared.EventFacts.{counted-not, told-counts, refus
 use Rattle.sound_state.proofs.shared.ListFacts.{occurs-push}
 use Rattle.sound_state.proofs.shared.ShownLemmas.{MayGoOn, MayGuard, IsSoundBut}
 use Rattle.sound_state.proofs.shared.StackedLemmas.{stacked-none}
-use Rattle.sound_state.proofs.shared.TurnEffects.{small-served}
+use Rattle.sound_state.proofs.shared.TurnEffects.{small-served, OwnCounts, own-counts, counts-stay}
 use Rattle.sound_state.proofs.tellings.ConfirmLemmas.{WeighTold, StockFor, TellsOn, step-tells}
 use Rattle.sound_state.proofs.tellings.LookLemmas.{look-stock}
 use Rattle.sound_state.proofs.shared.HasLemmas.{kept-one}
@@ -34,61 +33,13 @@ use Rattle.sound_state.proofs.shared.StepLemmas.{PointStands, raised-least, Turn
 use Rattle.sound_state.proofs.tellings.TellLemmas.{IsTold, told_state, told-but, told-ends}
 use Rattle.sound_state.proofs.shared.KeepsSound.{KeepsSound, KeepsSoundWhere}
 
--- all of a state is sound that is so but for a caller, where that one remembers nothing and was answered as often as before
-but-whole :
-    (g : Geometry) (s : State) (l : Lists) (caller : ℕ) → IsSoundBut g s l caller → All (IsSo g s l caller) (recalls_of (s.errand caller).point)
-    → count_by (gives_small caller) s.history + count_by (refuses_small caller) s.history + turn_unanswered (s.errand caller)
-    ≤ (s.errand caller).turns
-    → IsSoundWith g s l
-but-whole g s l caller but own answers = record {
-  words = but.words;
-  errands = but.errands;
-  listed = but.listed;
-  kept = but.kept;
-  chained = but.chained;
-  framed = but.framed;
-  remembered = record {
-    so = λ i has.
-        elim (cases_eq i caller) [
-          | inl same ↦ subst (λ j. All (IsSo g s l j) (recalls_of (s.errand j).point)) (sym same) own
-          | inr differ ↦ but.remembered i has differ
-        ];
-  };
-  guarded = but.guarded;
-  stocked = but.stocked;
-  turned = record {
-    own_turns = but.turned.own_turns;
-    own_lost = but.turned.own_lost;
-    own_answers = λ i has.
-        elim (cases_eq i caller) [
-          | inl same ↦
-              subst
-              (λ j. count_by (gives_small j) s.history + count_by (refuses_small j) s.history + turn_unanswered (s.errand j) ≤ (s.errand j).turns)
-              (sym same) answers
-          | inr differ ↦ but.turned.own_answers i has differ
-        ];
-    anchor_tags = but.turned.anchor_tags;
-    frame_tag = but.turned.frame_tag;
-    emptied = but.turned.emptied;
-    list_tags = but.turned.list_tags;
-  };
-  tied = but.tied;
-}
-
 -- a look, and a refusal, are events that leave the pool and count no block
 looked-told : (g : Geometry) (caller class : ℕ) → IsTold g caller (Looked caller class)
 looked-told g caller class =
     record { number = refl; pool = λ pool. refl; gives = λ i. refl; refuses = λ i differ. refl; allocs = refl; frees = refl }
 
 refused-told : (g : Geometry) (caller words : ℕ) → IsTold g caller (Refuse caller words)
-refused-told g caller words = record {
-  number = refl;
-  pool = λ pool. refl;
-  gives = λ i. refl;
-  refuses = λ i differ. rw (ne_eqb caller i (λ same. differ (sym same))) refl;
-  allocs = refl;
-  frees = refl;
-}
+refused-told g caller words = grind (arith, ne_eqb)
 
 -- the point of a look, by which a caller confirms that its class's list is empty, and where it leads
 abbrev looking : SeatFields → HeadFields → ℕ → Point
@@ -98,49 +49,27 @@ abbrev waiting_one : SeatFields → ℕ → Point
 waiting_one seat words = Desc (desc.LoadDescHead seat) (continuation.Alloc words)
 
 look-turn : (seat : SeatFields) (h : HeadFields) (words : ℕ) → TurnGoes (looking seat h words) (waiting_one seat words)
-look-turn seat h words = record {
-  under_way = omega arith;
-  discards = omega arith;
-  unanswered = omega arith;
-  unframed = omega arith;
-  pops = omega arith;
-}
+look-turn seat h words = grind (arith)
 
 look-stands :
     (g : Geometry) (s : State) (l : Lists) (caller : ℕ) (seat : SeatFields) (h : HeadFields) (words : ℕ)
     → PointStands g (told_state s (Looked caller seat.class)) l caller (looking seat h words) (waiting_one seat words)
 unfolding holds_of recalls_of
-look-stands g s l caller seat h words =
-    let t = told_state s (Looked caller seat.class) in
-    record {
-      kept = All-nil (λ k. IsKeptAs t k.status k.desc k.class);
-      so =
-          All-cons (IsSo g t l caller) (looked seat.class) [] (told-ends caller s.history (Looked caller seat.class) refl) (All-nil (IsSo g t l caller));
-      spare = refl;
-      hands = All-nil (λ x. IsOwned t caller x.place x.need);
-      frees = All-nil (λ x. IsOwned t caller x.place x.need);
-      excepts = λ place x. absurd (keeps-excepts [] clear place x);
-      turn = look-turn seat h words;
-    }
+look-stands g s l caller seat h words = grind (arith, keeps-excepts, look-turn, told-ends, told_state)
 
 look-weigh :
     (e : ErrandFields) (x : Found) (seat : SeatFields) (h : HeadFields) (words : ℕ) → e.point ≡ looking seat h words
     → WeighTold e (at_point e x (waiting_one seat words))
 unfolding holds_of
-look-weigh e x seat h words stands = record {
-  reserves = λ d. rw stands refl;
-  waits = λ d. rw stands refl;
-  ways = λ d. rw stands (omega arith);
-  away = λ d. rw stands refl;
-  places = λ d. rw stands refl;
-  frames = λ f. rw stands refl;
-}
+look-weigh e x seat h words stands = grind (arith, stands)
 
 look-kept-none : (c : ℕ) (e : ErrandFields) (seat : SeatFields) (h : HeadFields) (words : ℕ) → e.point ≡ looking seat h words → errand_stock c e ≡ 0
 unfolding holds_of
 look-kept-none c e seat h words stands = rw stands refl
 
-waits-one : (c : ℕ) (e : ErrandFields) (x : Found) (seat : SeatFields) (words : ℕ) → errand_stock c (at_point e x (waiting_one seat words)) ≡ (if seat.class == c then 1 else 0)
+waits-one :
+    (c : ℕ) (e : ErrandFields) (x : Found) (seat : SeatFields) (words : ℕ)
+    → errand_stock c (at_point e x (waiting_one seat words)) ≡ (if seat.class == c then 1 else 0)
 unfolding holds_of
 waits-one c e x seat words = omega arith
 
@@ -163,22 +92,13 @@ look-guards :
     (g : Geometry) (s : State) (caller : ℕ) (seat : SeatFields) (words : ℕ) (retired : List ℕ) (word : ℕ)
     → MayGuard g s caller (waiting_one seat words) retired word
 unfolding holds_of
-look-guards g s caller seat words retired word = record {
-  hazard = tt;
-  guard = λ d is guard. absurd guard;
-  pushed = λ i d has guards is. absurd (none-some d is);
-  passed = λ i d has guards listed below. let bad : ⊥ = omega (arith, below) in absurd bad;
-  unread = λ i passed below. let bad : ⊥ = omega (arith, below) in absurd bad;
-}
+look-guards g s caller seat words retired word = grind (arith, none-some)
 
 -- a class's list is empty, where the head that a caller has read without an index is still there
 bare-list :
     (g : Geometry) (s : State) (l : Lists) (caller : ℕ) (seat : SeatFields) (h : HeadFields) → IsSoundWith g s l → IsBare g caller seat h
     → s.word (name.ListHead seat.class) ≡ head_word h → l.partials seat.class ≡ []
-bare-list g s l caller seat h old fits same =
-    stacked-none (next_in s.word Partials) (head_of (s.word (name.ListHead seat.class))).top (l.partials seat.class)
-    (old.listed.partials seat.class fits.seat.class)
-    (ap (λ w. (head_of w).top) same ∙ ap (λ x. x.top) (head_of-head_word h fits.head) ∙ fits.top)
+bare-list g s l caller seat h old fits same = grind (arith, old, fits, same, head_of, head_of-head_word, next_in, stacked-none)
 
 -- a look that finds no partial superblock keeps the state sound
 pub confirm_no_partial-sound :
@@ -207,19 +127,14 @@ confirm_no_partial-sound seat h words g s caller s' sound has stands same step =
     (λ l old.
     let t = told_state s event in
     let but : IsSoundBut g t l caller = told-but g s l caller event (looked-told g caller seat.class) has old in
-    let whole : IsSoundWith g t l =
-    but-whole g t l caller but (subst (λ r. All (IsSo g t l caller) (recalls_of r)) (sym stands) (All-nil (IsSo g t l caller)))
-    (omega (
-      arith,
-      old.turned.own_answers caller has,
-      counted-not (gives_small caller) s.history event refl,
-      counted-not (refuses_small caller) s.history event refl,
-    )) in
+    let counts : OwnCounts caller t.history e =
+    counts-stay caller s.history t.history e (counted-not (gives_small caller) s.history event refl) (counted-not (refuses_small caller) s.history event refl)
+    (own-counts g s l caller old.turned has) in
     record {
       told = looked-told g caller seat.class;
       weigh = look-weigh e x seat h words stands;
       may =
-          may-after g t l caller x q whole has (old.words (name_at s caller)) after cleared
+          may-after g t l caller x q but has counts cleared
           (subst (λ r. PointStands g t l caller r q) (sym stands) (look-stands g s l caller seat h words));
       guards = look-guards g t caller seat words e.retired (s.word (name.Hazard caller));
       cleared = ap (λ b. raised b e.cleared) cleared;
@@ -232,7 +147,7 @@ abbrev refusing : SeatFields → HeadFields → ℕ → ℕ → Point
 refusing seat h words d = Stack (stack.ConfirmEmpty seat Frames h) (continuation.TakeFrame words d)
 
 abbrev scanning : SeatFields → Point
-scanning seat = Desc (desc.ReadHazard seat no_words 0) continuation.Refuse
+scanning seat = scan_begins seat continuation.Refuse
 
 -- a turn goes on from p to q by a refusal: it is answered, and no further back
 record TurnRefused (p q : Point) : Type 0 where
@@ -258,37 +173,23 @@ refused-idle seat h words d =
 
 refused-weigh :
     (e : ErrandFields) (x : Found) (q : Point) (d class : ℕ) → Lets e.point q d class on_its_way clear → WeighTold e (retired_at e x d q)
-refused-weigh e x q d class to =
-    let one = λ (as_kept : Status) (k : ℕ). kept-one as_kept on_its_way k d class in
-    record {
-      reserves = λ k. rw (to.before, to.bare.holds) refl;
-      waits = λ k. rw (to.before, to.bare.holds) (sym (one waiting k));
-      ways = λ k. rw (to.before, to.bare.holds) (omega arith);
-      away = λ k. rw (to.before, to.bare.holds) (omega (arith, occurs-push k d e.retired, one on_its_way k));
-      places = λ k.
-          rw (to.before, to.bare.holds)
-          (omega (arith, occurs-push k d e.retired, one reserving k, one waiting k, one partly_used k, one on_its_way k));
-      frames = λ f. rw (to.before, to.bare.holds) refl;
-    }
+refused-weigh e x q d class to = grind (arith, to, kept-one, occurs-push, on_its_way, partly_used)
 
 refused-room :
     (g : Geometry) (s : State) (l : Lists) (caller : ℕ) (x : Found) (q : Point) (d class : ℕ) → IsSoundWith g s l
     → Lets (s.errand caller).point q d class on_its_way clear → StockFor g s l (s.errand caller) (retired_at (s.errand caller) x d q)
-refused-room g s l caller x q d class old to c is =
-    let less : errand_stock c (retired_at (s.errand caller) x d q) ≤ errand_stock c (s.errand caller) =
-    rw (to.before, to.bare.holds, to.bare.waits c) (omega arith) in
-    omega (arith, less, old.stocked.most c is)
+refused-room g s l caller x q d class old to c is = grind (arith, old, to, c, is, errand_stock, retired_at)
 
 refuses-one : (caller words : ℕ) → nat_le words SMALL_MOST ≡ true → cond {A = ℕ} (refuses_small caller (Refuse caller words)) 1 0 ≡ 1
 refuses-one caller words small = rw (eq-eqb caller caller refl, small) refl
 
 refused-may :
     (g : Geometry) (s : State) (l : Lists) (caller : ℕ) (x : Found) (q : Point) (words d class : ℕ) → IsSoundWith g s l → caller < g.callers
-    → x.value < 2 ^ 64 → settle_of (s.errand caller) x ≡ retired_at (s.errand caller) x d q → counts_cleared (s.errand caller).point x ≡ false
+    → counts_cleared (s.errand caller).point x ≡ false
     → nat_le words SMALL_MOST ≡ true → Lets (s.errand caller).point q d class on_its_way clear → TurnRefused (s.errand caller).point q
     → (spare_of q ≡ 1 → is_full (s.errand caller) ≡ true) → All (IsSo g (told_state s (Refuse caller words)) l caller) (recalls_of q)
     → MayGoOn g (told_state s (Refuse caller words)) l caller (s.errand caller) (retired_at (s.errand caller) x d q)
-refused-may g s l caller x q words d class old has word after still small to turn full so =
+refused-may g s l caller x q words d class old has still small to turn full so =
     let e = s.errand caller in
     let event = Refuse caller words in
     let gives = counted-not (gives_small caller) s.history event refl in
@@ -297,38 +198,40 @@ refused-may g s l caller x q words d class old has word after still small to tur
     let on_way : IsWithout s d =
     subst (λ held. All (λ k. IsKeptAs s k.status k.desc k.class) held.kept) to.before (old.kept.errand caller has) 0
     (record { desc = d; class = class; status = on_its_way }) (omega arith) in
-    retired-may g s (s.history ++ event ∷ []) l caller x d class on_its_way clear q old has word after to full on_way so
+    retired-may g s (s.history ++ event ∷ []) l caller x d class on_its_way clear q old has to full on_way so
     (record {
-      own_turns = omega (arith, old.turned.own_turns caller has, turn.under_way, gives);
-      own_lost =
-          omega (
-            arith,
-            old.turned.own_lost caller has,
-            turn.discards,
-            turn.answered,
-            gives,
-            refuses,
-            raised-least (counts_lost e.point x) e.lost (old.errands caller has).lost,
-          );
-      own_answers = omega (arith, old.turned.own_answers caller has, turn.answered, gives, refuses);
+      own = record {
+        turns = omega (arith, old.turned.own_turns caller has, turn.under_way, gives);
+        lost =
+            omega (
+              arith,
+              old.turned.own_lost caller has,
+              turn.discards,
+              turn.answered,
+              gives,
+              refuses,
+              raised-least (counts_lost e.point x) e.lost (old.formed.errands caller has).lost,
+            );
+        answers = omega (arith, old.turned.own_answers caller has, turn.answered, gives, refuses);
+      };
       frame_turns = omega (arith, turn.unframed);
       list_turns = omega (arith, turn.pops, ap (λ b. raised b e.cleared) still);
     })
 
 refused-tells :
     (g : Geometry) (s : State) (l : Lists) (caller : ℕ) (x : Found) (q : Point) (words d class : ℕ) → IsSoundWith g s l → caller < g.callers
-    → x.value < 2 ^ 64 → settle_of (s.errand caller) x ≡ retired_at (s.errand caller) x d q → counts_cleared (s.errand caller).point x ≡ false
+    → counts_cleared (s.errand caller).point x ≡ false
     → nat_le words SMALL_MOST ≡ true → Lets (s.errand caller).point q d class on_its_way clear → TurnRefused (s.errand caller).point q
     → (spare_of q ≡ 1 → is_full (s.errand caller) ≡ true) → All (IsSo g (told_state s (Refuse caller words)) l caller) (recalls_of q)
     → TellsOn g s l caller (Refuse caller words) (retired_at (s.errand caller) x d q)
-refused-tells g s l caller x q words d class old has word after still small to turn full so =
+refused-tells g s l caller x q words d class old has still small to turn full so =
     let e = s.errand caller in
     let bare : s.word (name.Hazard caller) ≡ 0 =
     subst (λ held. IsHazard held.hazard (s.word (name.Hazard caller))) to.before (old.guarded.words caller has) in
     record {
       told = refused-told g caller words;
       weigh = refused-weigh e x q d class to;
-      may = refused-may g s l caller x q words d class old has word after still small to turn full so;
+      may = refused-may g s l caller x q words d class old has still small to turn full so;
       guards = nothing-guards g (told_state s (Refuse caller words)) caller q (retired_at e x d q).retired (s.word (name.Hazard caller)) to.bare bare;
       cleared = ap (λ b. raised b e.cleared) still;
       stock = refused-room g s l caller x q d class old to;
@@ -365,7 +268,7 @@ confirm_no_frame-sound seat h words d g s caller s' sound has stands same step =
           let after = settle-full e x seat d continuation.Refuse next full in
           step-tells g s caller event (retired_at e x d (scanning seat)) s' sound has after told stays allowed
           (λ l old.
-          refused-tells g s l caller x (scanning seat) words d seat.class old has (old.words (name_at s caller)) after cleared small
+          refused-tells g s l caller x (scanning seat) words d seat.class old has cleared small
           (subst (λ r. Lets r (scanning seat) d seat.class on_its_way clear) (sym stands)
           (refused-lets seat h words d (scanning seat) (scan-nothing seat continuation.Refuse)))
           (subst (λ r. TurnRefused r (scanning seat)) (sym stands) (refused-scan seat h words d)) (λ spare. full)
@@ -377,7 +280,7 @@ confirm_no_frame-sound seat h words d g s caller s' sound has stands same step =
           let after = settle-resumed-end e x seat d continuation.Refuse next few reply.Refused refl in
           step-tells g s caller event (retired_at e x d Idle) s' sound has after told stays allowed
           (λ l old.
-          refused-tells g s l caller x Idle words d seat.class old has (old.words (name_at s caller)) after cleared small
+          refused-tells g s l caller x Idle words d seat.class old has cleared small
           (subst (λ r. Lets r Idle d seat.class on_its_way clear) (sym stands) (refused-lets seat h words d Idle idle-nothing))
           (subst (λ r. TurnRefused r Idle) (sym stands) (refused-idle seat h words d))
           (λ spare. let bad : ⊥ = omega (arith, spare) in absurd bad) (All-nil (IsSo g (told_state s event) l caller)))

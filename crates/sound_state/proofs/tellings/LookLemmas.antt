@@ -3,9 +3,9 @@ use Rattle.std.proofs.Common.{ℕ, Bool, true, false, Option, Some, None, ◌≡
 use Rattle.std.proofs.Common.{if◌then◌else◌, IsSome, eq-eqb, ne_eqb}
 use Rattle.std.proofs.lemmas.Bool.{cases_eq, cases_Bool, cond-true, cond-false}
 use Rattle.sound_state.proofs.Common.{Geometry, ActiveWord, Null, Held, active_of, info_of, is_empty, WordName, descriptor_count, word_count, Exists, word_name, Point}
-use Rattle.sound_state.proofs.Common.{State, fills_frame, waiting, holds_of, word_keeps, full_keeps, errand_has, Lists, word_stock, full_stock, errand_stock}
-use Rattle.sound_state.proofs.Common.{stock_among, waits_in, IsSoundWith, sum_below, words_sum, callers_sum, anchor_for, info_for, errand_keeps, errand_away, away_of}
-use Rattle.sound_state.proofs.Common.{waiting_of, is_bound, word_name-Exists, active_keeps, stock_of}
+use Rattle.sound_state.proofs.Common.{State, fills_frame, waiting, holds_of, word_keeps, full_keeps, errand_has, Lists, word_stock, full_stock, errand_stock, stock_among}
+use Rattle.sound_state.proofs.Common.{waits_in, IsSoundWith, sum_below, words_sum, callers_sum, anchor_for, info_for, errand_keeps, errand_away, away_of, waiting_of}
+use Rattle.sound_state.proofs.Common.{is_bound, word_name-Exists, active_keeps, stock_of}
 use Rattle.packed_words.specs.declared.anchor.AnchorState.{AnchorState as Phase}
 use Rattle.packed_words.specs.declared.anchor.AnchorState.TheVariants as phase
 use Rattle.word_table.specs.declared.name.WordName.TheVariants as name
@@ -111,9 +111,7 @@ parts-not :
     (g : Geometry) (s : State) (l : Lists) → IsSoundWith g s l → (d : ℕ) → (anchor_for s d).state ≡ phase.Empty
     → words_sum g (active_part d) s.word ≡ 0
 unfolding words_sum
-parts-not g s l sound d empty =
-    sum-none (word_count g) (λ k. active_part d (word_name g k) (s.word (word_name g k)))
-    (λ k lt. part-not g s l sound d empty (word_name g k) (word_name-Exists g k lt))
+parts-not g s l sound d empty = grind (arith, sound, empty, part-not, sum-none, word_count, word_name, word_name-Exists)
 
 -- callers have a descriptor at least as often as it is away with one of them and waits
 nowhere :

@@ -1,14 +1,15 @@
 -- An event that leaves the pool and counts no block keeps the state sound, but for what its caller remembers and how often it was answered.
-use Rattle.std.proofs.Common.{ℕ, Bool, false, ◌≡◌, ◌≢◌, ◌<◌, ◌≤◌, List, [], ◌∷◌, ◌++◌, refl, arith, sym, inl, ◌∙◌, eq-eqb, count_by}
-use Rattle.sound_state.proofs.Common.{Geometry, Moves, Event, own, pool_of, State, IsGuarded, IsKept, Lists, IsSoundWith, IsTurned, gives_small, refuses_small}
-use Rattle.sound_state.proofs.Common.{caller_of, EndsWith, Pool, pool_after, pool_of-push, own-append, is_small_alloc, is_small_free}
-use Rattle.sound_state.proofs.shared.EventFacts.{counted-not, told-own, told-counts}
+use Rattle.std.proofs.Common.{ℕ, false, ◌≡◌, ◌≢◌, ◌<◌, List, [], ◌∷◌, ◌++◌, refl, arith, sym, inl, ◌∙◌, eq-eqb}
+use Rattle.sound_state.proofs.Common.{Geometry, Moves, Event, own, pool_of, State, IsGuarded, IsKept, Lists, IsSoundWith, IsTurned, gives_small, refuses_small, caller_of}
+use Rattle.sound_state.proofs.Common.{EndsWith, Pool, pool_after, pool_of-push, own-append, is_small_alloc, is_small_free}
+use Rattle.sound_state.proofs.shared.EventFacts.{counted-not, told-own}
 use Rattle.sound_state.proofs.shared.ShownLemmas.{IsSoundBut}
-use Rattle.sound_state.proofs.shared.TurnEffects.{IsTurnedBut}
+use Rattle.sound_state.proofs.shared.TurnEffects.{IsTurnedBut, own-counts, counts-stay}
 use Rattle.sound_state.proofs.shared.BackedRecalls.{fits-own, recalls-stay}
 use Rattle.sound_state.proofs.shared.RecallFrame.{Part, stacks, availables, events, single, stack-same}
 use Rattle.sound_state.proofs.shared.SuperblocksStay.{RestStays, ShowsSuperblocks, actives-same, chained-shows, descs-kept, descs-show, framed-shows, shows-part}
 use Rattle.sound_state.proofs.shared.SuperblocksStay.{tied-shows}
+use Rattle.sound_state.proofs.shared.FormedLemmas.{formed-told}
 
 -- an event of the caller that leaves the pool; it gives no small block and frees none
 pub record IsTold (g : Geometry) (caller : ℕ) (event : Event) : Type 0 where
@@ -22,9 +23,6 @@ pub record IsTold (g : Geometry) (caller : ℕ) (event : Event) : Type 0 where
 -- the state after an event alone: its words and errands are the same
 abbrev pub told_state : State → Event → State
 told_state s event = record { word = s.word; errand = s.errand; history = s.history ++ event ∷ [] }
-
-counted-least : (P : Event → Bool) (history : List Event) (event : Event) → count_by P history ≤ count_by P (history ++ event ∷ [])
-counted-least P history event = omega (arith, told-counts P history event)
 
 pub told-ends : (caller : ℕ) (history : List Event) (event : Event) → caller_of event ≡ caller → EndsWith (own caller (history ++ event ∷ [])) event
 told-ends caller history event is =
@@ -42,13 +40,7 @@ guarded-told g s event guarded = record {
 module _ (g : Geometry) (s : State) (l : Lists) (caller : ℕ) (event : Event) (h : IsTold g caller event) where
   -- the state shows the same superblocks and blocks
   told-shows : ShowsSuperblocks g s l (told_state s event) l
-  told-shows = record {
-    word = λ n is. refl;
-    pool = pool_of-push s.history event ∙ h.pool (pool_of s.history);
-    reserved = λ d. refl;
-    waits = λ d. refl;
-    bound = λ d. refl;
-  }
+  told-shows = grind (arith, pool_of, pool_of-push)
 
   -- each part of the state stays that another caller's recalls read
   told-part : (i : ℕ) → i ≢ caller → (p : Part) → RestStays g s l (told_state s event) l i p
@@ -81,37 +73,18 @@ module _ (g : Geometry) (s : State) (l : Lists) (caller : ℕ) (event : Event) (
       kept
 
   turned-told : IsTurned g s l → IsTurnedBut g (told_state s event) l caller
-  turned-told turned =
-      let frees = counted-not (is_small_free g) s.history event h.frees in
-      let allocs = counted-not is_small_alloc s.history event h.allocs in
-      record {
-        own_turns = λ i has. omega (arith, turned.own_turns i has, counted-not (gives_small i) s.history event (h.gives i));
-        own_lost = λ i has.
-            omega (arith, turned.own_lost i has, counted-not (gives_small i) s.history event (h.gives i), counted-least (refuses_small i) s.history event);
-        own_answers = λ i has differ.
-            omega (
-              arith,
-              turned.own_answers i has,
-              counted-not (gives_small i) s.history event (h.gives i),
-              counted-not (refuses_small i) s.history event (h.refuses i differ),
-            );
-        anchor_tags = λ d has. omega (arith, turned.anchor_tags d has, allocs);
-        frame_tag = turned.frame_tag;
-        emptied = omega (arith, turned.emptied, frees);
-        list_tags = λ class has. omega (arith, turned.list_tags class has, frees);
-      }
+  turned-told turned = grind (arith, turned, counted-not, counts-stay, gives_small, is_small_alloc, is_small_free, own-counts, refuses_small)
 
   -- all but what the caller remembers, and how often it was answered, is as it was
   pub told-but : caller < g.callers → IsSoundWith g s l → IsSoundBut g (told_state s event) l caller
   told-but has sound = record {
-    words = sound.words;
-    errands = sound.errands;
+    formed = formed-told g s event sound.formed;
     listed = sound.listed;
     kept = kept-told has sound.kept;
     chained = chained-shows told-shows sound.chained;
     framed = framed-shows told-shows (λ f. refl) sound.framed;
     remembered = λ i has_i differ.
-        recalls-stay g s l i (told_state s event) l (s.errand i).point (fits-own g i (s.errand i) (sound.errands i has_i)) (sound.remembered.so i has_i)
+        recalls-stay g s l i (told_state s event) l (s.errand i).point (fits-own g i (s.errand i) (sound.formed.errands i has_i)) (sound.remembered.so i has_i)
         (λ k d lt. shows-part told-shows i _ (told-part i differ _));
     guarded = guarded-told g s event sound.guarded;
     stocked = record { most = sound.stocked.most };

@@ -11,8 +11,17 @@ pub returns-in_err-block-clause-stopped : goal.returns-in_err-block-clause-stopp
 returns-in_err-block-clause-stopped c =
     let h = c.args.heap.now in
     let p = c.args.pass.now in
-    err-as c.from_residual.result c.in_err-block.field-0.0 (HasStopped h p IsNextOfSecond) c.from_residual.ensures.1
-    (record { calls = []; p = p; made = refl; call = take SHELF; next = (0, TooLarge, 0, reply.Got 0 TooLarge, drop 1 (second_calls 0 TooLarge 0), refl); q = c.pick_up.new.pass; stops = c.in_err-block.ensures.stopped })
+    err-as c.from_residual.result c.in_err-block.field-0.0 (HasStopped h p IsNextOfSecond) c.from_residual.ensures.1 (
+      c.pick_up.new.pass,
+      record {
+        calls = [];
+        last = p;
+        made = refl;
+        call = take SHELF;
+        next = (0, TooLarge, 0, reply.Got 0 TooLarge, drop 1 (second_calls 0 TooLarge 0), refl);
+        stops = c.in_err-block.ensures.stopped;
+      },
+    )
 
 pub read-handed-requires-clause-owned : goal.read-handed-requires-clause-owned
 read-handed-requires-clause-owned c =

@@ -12,8 +12,17 @@ pub returns-in_err-block-clause-stopped : goal.returns-in_err-block-clause-stopp
 returns-in_err-block-clause-stopped c =
     let h = c.args.heap.now in
     let p = c.args.pass.now in
-    err-as c.from_residual.result c.in_err-block.field-0.0 (HasStopped h p IsNextOfFirst) c.from_residual.ensures.1
-    (record { calls = []; p = p; made = refl; call = alloc 3; next = (0, TooLarge, 0, TooLarge, 0, reply.Given 0 TooLarge, drop 1 (first_calls 0 TooLarge 0 TooLarge 0), refl); q = c.allocate.new.pass; stops = c.in_err-block.ensures.stopped })
+    err-as c.from_residual.result c.in_err-block.field-0.0 (HasStopped h p IsNextOfFirst) c.from_residual.ensures.1 (
+      c.allocate.new.pass,
+      record {
+        calls = [];
+        last = p;
+        made = refl;
+        call = alloc 3;
+        next = (0, TooLarge, 0, TooLarge, 0, reply.Given 0 TooLarge, drop 1 (first_calls 0 TooLarge 0 TooLarge 0), refl);
+        stops = c.in_err-block.ensures.stopped;
+      },
+    )
 
 pub write-requires-clause-owned : goal.write-requires-clause-owned
 write-requires-clause-owned c =

@@ -1,7 +1,9 @@
 use Rattle.std.proofs.Common.{ℕ, ◌≡◌, ◌+◌, ◌-◌, ◌^◌, ◌∙◌, add-one, ap, arith, min, refl, subst, sym}
 use Rattle.sound_state.specs.Sums.{sum_below}
 use Rattle.heap_tests.specs.declared.reuse.TheConstants.{ROUNDS}
-use Rattle.heap_tests.specs.Reuse.{MakesRounds}
+use Rattle.heap_tests.specs.declared.embedded.Stop.{Stop}
+use Rattle.heap_tests.specs.Reuse.{HasStoppedRounds, MakesRounds}
+use Rattle.heap_tests.proofs.EmbeddedCalls.{err-as}
 use Rattle.heap_tests.proofs.ReuseCalls.{round-rests}
 use Rattle.heap_tests.proofs.reuse.rounds.Goals as goal
 
@@ -37,3 +39,16 @@ pub returns-clause-sum : goal.returns-clause-sum
 returns-clause-sum c =
     let all : c.loop-word.word ≡ ROUNDS = omega (arith, c.loop-word.auto.word-end, c.loop-word-test.false) in
     c.loop-word.invariant.sum ∙ ap (λ (n : ℕ). min (sum_below n (λ k. k)) (2 ^ 64 - 1)) all
+
+pub returns-in_err-round-clause-stopped : goal.returns-in_err-round-clause-stopped
+returns-in_err-round-clause-stopped c =
+    let after = c.round.new.cache in
+    let told = c.in_err-round.field-0.0 in
+    err-as c.from_residual.result told (λ (s : Stop). HasStoppedRounds c.args.heap.now c.args.cache.now s after) c.from_residual.ensures.1
+    (record {
+      rounds = c.loop-word.word;
+      few = omega (arith, c.loop-word-test.true);
+      mid = c.loop-word.cache;
+      made = c.loop-word.invariant.made;
+      stopped = c.in_err-round.ensures.stopped;
+    })

@@ -4,14 +4,14 @@ use Rattle.heap_tests.proofs.EmbeddedEnds.{none-live}
 use Rattle.heap_tests.proofs.ReuseEnds.{worked-hits, worked-nothing, worked-turns}
 use Rattle.heap_tests.proofs.reuse.run.Goals as goal
 
-pub returns-in_ok-close-in-Ok : goal.returns-in_ok-close-in-Ok
-returns-in_ok-close-in-Ok c =
+pub returns-in_ok-close-in-Ok-clause-ran : goal.returns-in_ok-close-in-Ok-clause-ran
+returns-in_ok-close-in-Ok-clause-ran c =
     let h = c.in_ok-heap.heap in
     let first = c.in_ok-heap.cache in
     let last = c.work.new.cache in
     let sum = c.in-Ok.sum in
     let opened = c.in_ok-heap.ensures in
-    let worked = c.in-Ok.ensures in
+    let worked = c.in-Ok.ensures.worked in
     let told = c.in_ok-close-in-Ok.ensures in
     let closed = c.in_ok-close-in-Ok.field-0.closed in
     let weaker = c.histories_grow_by_events.ensures.weaker in
@@ -31,3 +31,12 @@ returns-in_ok-close-in-Ok c =
       nothing = nothing;
       live = told.counts.3 ∙ none-live closed nothing;
     }
+
+pub returns-in-Err-clause-stopped : goal.returns-in-Err-clause-stopped
+returns-in-Err-clause-stopped c = record {
+  heap = c.in_ok-heap.heap;
+  cache = c.in_ok-heap.cache;
+  opened = c.in_ok-heap.ensures;
+  last = c.work.new.cache;
+  stopped = c.in-Err.ensures.stopped;
+}

@@ -17,7 +17,7 @@ use Rattle.balloc_c.proofs.hand.Hand.TheSendSync.{the_send as hand}
 use Rattle.balloc_c.specs.contracts.held.Held.{the_row, the_type}
 
 owned : (held : Option HandFields) (alloc : Global) (at : Ptr) → Keyless (pass_owns held alloc at)
-owned (Some held) alloc at = ((λ _. tt), (lies Hand.the_row hand at held, heap.frees.frees alloc (raw (lone Hand.the_row.mir)) at))
+owned (Some held) alloc at = (lies Hand.the_row hand at held, heap.frees.frees alloc (raw (lone Hand.the_row.mir)) at)
 owned None alloc at = tt
 
 pub send : IsSend the_row

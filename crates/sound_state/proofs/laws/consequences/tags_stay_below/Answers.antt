@@ -1,5 +1,4 @@
-use Rattle.sound_state.proofs.shared.TagLemmas.{anchor-tags-below, frame-tag-below, list-tags-below, turns-below, anchor-tags-counted, frame-tag-counted}
-use Rattle.sound_state.proofs.shared.TagLemmas.{list-tags-counted}
+use Rattle.sound_state.proofs.shared.TagLemmas.{anchor-tags-below, frame-tag-below, list-tags-below, turns-below, anchor-tags-counted, frame-tag-counted, list-tags-counted}
 use Rattle.sound_state.proofs.laws.consequences.tags_stay_below.Goals as goal
 
 pub returns : goal.returns

@@ -1,6 +1,6 @@
 //! Texts of generated traces.
 
-use crate::printed::is_printed;
+use crate::texts::is_printed;
 use std::process::Abort;
 use std::test::Fail;
 use trace_text::printing::print_trace;

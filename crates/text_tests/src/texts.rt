@@ -1,6 +1,6 @@
 //! Texts that are read, refused and printed.
 
-use crate::printed::{is_printed, trace_of};
+use crate::printed::{printed, trace_of};
 use heap_geometry::geometry::Geometry;
 use std::process::Abort;
 use std::test::Fail;
@@ -8,6 +8,14 @@ use trace_text::fault::{Cause, TraceFault};
 use trace_text::limits::MAX_INPUT;
 use trace_text::reading::read_trace;
 use trace_text::trace::{Lanes, Op, OrderRun, Orders, Version};
+
+/// The trace that a text names is printed so.
+pub fn is_printed<R: Abort + AllocGlobal>(rt: &R, text: &[u8], want: &[u8]) -> Result<(), Fail> {
+    assert!(rt; text.len() <= MAX_INPUT);
+    let printed = printed(rt.alloc(), text)?;
+    assert_eq!(rt; printed.as_slice(), want);
+    Ok(())
+}
 
 /// A text is refused at this line for this cause.
 fn is_refused(rt: &HostRuntime, text: &[u8], number: u32, cause: u8) -> bool {

@@ -5,9 +5,7 @@ ghost use Rattle.trace_text.specs.Traces.{IsTrace};
 ghost use Rattle.trace_text.specs.declared.limits.TheConstants.{MAX_INPUT};
 
 use std::alloc::Global;
-use std::process::Abort;
 use std::test::Fail;
-use trace_text::limits::MAX_INPUT;
 use trace_text::printing::print_trace;
 use trace_text::reading::read_trace;
 use trace_text::trace::Trace;
@@ -21,17 +19,9 @@ pub fn trace_of(alloc: Global, text: &[u8]) -> Result<Trace, Fail>
 }
 
 /// The text of the trace that a text names.
-fn printed(alloc: Global, text: &[u8]) -> Result<Vec<u8>, Fail>
+pub fn printed(alloc: Global, text: &[u8]) -> Result<Vec<u8>, Fail>
     requires { length text.now ≤ MAX_INPUT }
 {
     let trace = trace_of(alloc, text)?;
     Ok(print_trace(alloc, &trace)?)
-}
-
-/// The trace that a text names is printed so.
-pub fn is_printed<R: Abort + AllocGlobal>(rt: &R, text: &[u8], want: &[u8]) -> Result<(), Fail> {
-    assert!(rt; text.len() <= MAX_INPUT);
-    let printed = printed(rt.alloc(), text)?;
-    assert_eq!(rt; printed.as_slice(), want);
-    Ok(())
 }

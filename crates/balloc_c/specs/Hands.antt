@@ -1,0 +1,14 @@
+-- What is so of a hand.
+use Rattle.std.specs.Arc.{arc_value}
+use Rattle.live_heap.specs.declared.heap.Heap.{Heap}
+use Rattle.balloc_c.specs.Slots.{blocks_of}
+use Rattle.balloc_c.specs.Tended.{Tends}
+use Rattle.balloc_c.specs.declared.hand.Hand.{Hand}
+
+-- the heap that the hand has a share in
+abbrev pub heap_of : Hand → Heap
+heap_of hand = (arc_value hand.heap).heap
+
+-- the cache is one in front of the heap that the hand has a share in, and its caller holds the blocks of the table
+abbrev pub IsTended : Hand → Type 0
+IsTended hand = Tends (heap_of hand) hand.cache (blocks_of hand.table.slots.items)

@@ -1,0 +1,11 @@
+pub mod Blocks
+pub mod CallStage
+pub mod Descs
+pub mod Expected
+pub mod Holding
+pub mod LargeBlocks
+pub mod Lengths
+pub mod Partials
+pub mod Recall
+pub mod Stacks
+pub mod TurnStage
