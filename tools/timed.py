@@ -45,11 +45,11 @@ def allocators():
 class Run:
     """A run of a program: the seconds of processor time, those by the clock, and what it printed."""
 
-    def __init__(self, words, library=None):
+    def __init__(self, words, library=None, text=None):
         env = dict(os.environ, LD_PRELOAD=library) if library else None
         used = resource.getrusage(resource.RUSAGE_CHILDREN)
         began = time.perf_counter()
-        self.text = subprocess.run(words, check=True, stdout=subprocess.PIPE, env=env, text=True).stdout
+        self.text = subprocess.run(words, check=True, stdin=text, stdout=subprocess.PIPE, env=env, text=True).stdout
         self.clock = time.perf_counter() - began
         now = resource.getrusage(resource.RUSAGE_CHILDREN)
         self.processor = now.ru_utime - used.ru_utime + now.ru_stime - used.ru_stime

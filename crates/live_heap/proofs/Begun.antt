@@ -19,7 +19,7 @@ use Rattle.live_heap.specs.declared.pass.Pass.{Pass}
 use Rattle.live_heap.specs.Passes.{IsOf, Owns, seen}
 use Rattle.live_heap.specs.Sights.{IsBegun, after_events}
 use Rattle.live_heap.proofs.LawsServed.{begun-lost, call-served}
-use Rattle.live_heap.proofs.Moves.{begun-geometry, is_begun-caller}
+use Rattle.live_heap.proofs.Moves.{is_begun-caller}
 
 -- a call that has begun nothing left the errand
 pub begun-idle : (e : ErrandFields) (call : Call) → IsIdle e → IsIdle (begun_by e call) → begun_by e call ≡ e

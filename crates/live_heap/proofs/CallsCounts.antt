@@ -1,29 +1,20 @@
 -- How the steps of a call are counted against its tries.
 use Rattle.std.proofs.Common.{ℕ, suc, Bool, true, false, ◌≡◌, ◌≢◌, ◌<◌, ◌≤◌, ◌+◌, ◌-◌, ◌^◌, inl, inr, List, refl, sym, ◌∙◌, subst, arith}
 use Rattle.std.proofs.lemmas.Bool.{cases_Bool, true≢false}
-use Rattle.heap_geometry.specs.declared.geometry.Geometry.{Geometry}
 use Rattle.heap_geometry.specs.declared.limits.TheConstants.{CALL_STEPS}
-use Rattle.heap_geometry.specs.declared.need.Need.{Need}
-use Rattle.heap_geometry.specs.declared.need.Need.TheVariants.{Small, Large, TooLarge}
-use Rattle.heap_geometry.specs.Geometry.{IsChecked}
-use Rattle.heap_geometry.specs.Need.{need_of}
 use Rattle.packed_words.specs.declared.widths.TheConstants.{TAG_BITS}
 use Rattle.word_table.specs.declared.action.Found.{Found as Find}
-use Rattle.word_table.proofs.SeatLemmas.{block_count_of-most}
 use Rattle.pool_model.specs.declared.event.Event.{Event}
 use Rattle.pool_model.specs.Histories.{Begins}
 use Rattle.errand_steps.specs.declared.next.Next.{Next}
-use Rattle.errand_steps.specs.declared.point.Point.{Point}
 use Rattle.errand_steps.specs.declared.reply.Progress.{Progress}
 use Rattle.errand_steps.specs.declared.reply.Progress.TheVariants.{Idle, More, Lost, Cleared, Done}
 use Rattle.errand_steps.specs.declared.reply.Reply.{Reply}
-use Rattle.errand_steps.specs.Begins.{IsBusy, IsIdle, begins_alloc, alloc_begun, free_begun, write_begun, read_begun, put_begun, take_begun}
-use Rattle.errand_steps.specs.Calls.{Call, alloc, free, write, read, put, take, begun_by}
-use Rattle.errand_steps.specs.Errands.{ErrandFields, settle_of, answer_of, counts_lost, counts_cleared, course_of, is_spent, raised, told}
-use Rattle.errand_steps.specs.Points.{is_idle}
+use Rattle.errand_steps.specs.Begins.{IsBusy}
+use Rattle.errand_steps.specs.Calls.{Call}
+use Rattle.errand_steps.specs.Errands.{ErrandFields, settle_of, answer_of, counts_lost, counts_cleared, course_of, raised, told}
 use Rattle.errand_steps.proofs.AnswerLemmas.{lost-told, cleared-told}
 use Rattle.calls_end.specs.StepsLeft.{steps_left}
-use Rattle.errand_steps.proofs.BegunErrands.{idle-is}
 use Rattle.calls_end.proofs.LeftMost.{left-most}
 use Rattle.step_machine.specs.Moments.{IsMoment}
 use Rattle.live_heap.specs.declared.heap.Heap.{Heap}
@@ -31,7 +22,6 @@ use Rattle.live_heap.specs.declared.pass.Pass.{Pass}
 use Rattle.live_heap.specs.Calls.{EndsInTime, IsCalling, IsInterrupted, IsTry, tries_of}
 use Rattle.live_heap.specs.Going.{IsGoing}
 use Rattle.live_heap.specs.Passes.{IsOf, accesses, seen}
-use Rattle.live_heap.specs.Sights.{IsBegun}
 use Rattle.live_heap.proofs.Begun.{of-laid}
 use Rattle.live_heap.proofs.Growing.{starts-on, starts-self}
 use Rattle.live_heap.proofs.LawsKept.{moment-grows}

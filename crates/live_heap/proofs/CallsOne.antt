@@ -152,17 +152,28 @@ pub load-ends : (place i : ℕ) (o : Continuation) (x : Find) → next_of (point
 unfolding next_of
 load-ends place i o x = refl
 
-pub put-won :
+put-won :
     (shelf place : ℕ) (need : Need) (o : Continuation) (x : Find) → x.won ≡ true
     → next_of (point.Large (large.PutBlock shelf place need) o) x ≡ next.End reply.Put
 unfolding next_of
 put-won shelf place need o x won = ap (λ w. leave_large (if w then large_exit.PutDone else large_exit.ShelfFull x.value) o) won
 
-pub put-lost :
+put-lost :
     (shelf place : ℕ) (need : Need) (o : Continuation) (x : Find) → x.won ≡ false
     → next_of (point.Large (large.PutBlock shelf place need) o) x ≡ next.End (reply.Full x.value)
 unfolding next_of
 put-lost shelf place need o x lost = ap (λ w. leave_large (if w then large_exit.PutDone else large_exit.ShelfFull x.value) o) lost
+
+-- a point from which each step ends the call
+abbrev pub EndsNext : Point → Type 0
+EndsNext p = (x : Find) → (r : Reply) × (next_of p x ≡ next.End r)
+
+pub put-ends : (shelf place : ℕ) (need : Need) (o : Continuation) → EndsNext (point.Large (large.PutBlock shelf place need) o)
+put-ends shelf place need o x =
+    elim (cases_Bool x.won) [
+      | inl won ↦ (reply.Put, put-won shelf place need o x won)
+      | inr lost ↦ (reply.Full x.value, put-lost shelf place need o x lost)
+    ]
 
 take-won :
     (shelf place : ℕ) (need : Need) (o : Continuation) (x : Find) → x.won ≡ true

@@ -1,5 +1,5 @@
 -- What is so of every pass, also where it has begun a call.
-use Rattle.std.proofs.Common.{ℕ, ◌≡◌, ◌<◌, ◌+◌, ◌^◌, inl, inr, List, refl, sym, ap, ◌∙◌, subst, arith}
+use Rattle.std.proofs.Common.{ℕ, ◌≡◌, ◌<◌, ◌+◌, ◌^◌, List, refl, sym, ap, ◌∙◌, subst, arith}
 use Rattle.std.proofs.lemmas.Bool.{cond_both}
 use Rattle.heap_geometry.specs.declared.geometry.Geometry.{Geometry}
 use Rattle.heap_geometry.specs.declared.need.Need.{Need}
@@ -22,10 +22,7 @@ use Rattle.errand_steps.specs.tables.TurnStage.{out_of_turn}
 use Rattle.sound_state.specs.Turns.{one_if, errand_discards, turn_unanswered}
 use Rattle.errand_steps.proofs.BegunErrands.{idle-is, alloc-errand, free-errand, write-errand, read-errand, put-errand, take-errand}
 use Rattle.step_machine.specs.Moments.{IsServed}
-use Rattle.live_heap.specs.declared.heap.Heap.{Heap}
-use Rattle.live_heap.specs.declared.pass.Pass.{Pass}
-use Rattle.live_heap.specs.Passes.{IsOf, seen}
-use Rattle.live_heap.specs.Sights.{IsBegun, after_events}
+use Rattle.live_heap.specs.Sights.{after_events}
 use Rattle.live_heap.proofs.Moves.{begun-caller, begun-geometry}
 
 -- a call that begins leaves what its caller has lost

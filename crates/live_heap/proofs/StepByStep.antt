@@ -1,21 +1,12 @@
 -- A call that is made step by step is the whole call.
 use Rattle.std.proofs.Common.{ℕ, zero, suc, ◌≡◌, ◌≢◌, inl, inr, refl, sym, ap, ◌∙◌, subst, arith}
-use Rattle.std.proofs.lemmas.Bool.{cases_Bool}
-use Rattle.heap_geometry.specs.declared.need.Need.{Need}
-use Rattle.word_table.specs.declared.action.Found.{Found as Find}
-use Rattle.large_parts.specs.declared.point.LargePoint.TheVariants as large
-use Rattle.errand_steps.specs.declared.continuation.Continuation.{Continuation}
 use Rattle.errand_steps.specs.declared.continuation.Continuation.TheVariants.{Nothing}
-use Rattle.errand_steps.specs.declared.next.Next.TheVariants as next
-use Rattle.errand_steps.specs.declared.point.Point.{Point}
-use Rattle.errand_steps.specs.declared.point.Point.TheVariants as point
 use Rattle.errand_steps.specs.declared.reply.Progress.TheVariants as progress
 use Rattle.errand_steps.specs.declared.reply.Reply.{Reply}
 use Rattle.errand_steps.specs.declared.reply.Reply.TheVariants as reply
 use Rattle.errand_steps.specs.Begins.{alloc_answer, IsIdle, put_begun, read_begun, take_begun, write_begun}
 use Rattle.errand_steps.specs.Calls.{Call, alloc, begun_by, free, write, read, put, take}
 use Rattle.errand_steps.specs.Errands.{ErrandFields}
-use Rattle.errand_steps.specs.Nexts.{next_of}
 use Rattle.step_machine.proofs.MomentAnswers.{moment-meant}
 use Rattle.errand_steps.specs.declared.reply.Begun.{Begun}
 use Rattle.errand_steps.specs.declared.reply.Begun.TheVariants as begun
@@ -35,7 +26,7 @@ use Rattle.live_heap.specs.Whole.{OwnsFor}
 use Rattle.live_heap.proofs.Begun.{heap-at}
 use Rattle.live_heap.proofs.CallsAnswers.{given-owns, got-owns, spent-at_once, spent-limit, step-moment, too_large-same}
 use Rattle.live_heap.proofs.CallsGrow.{alloc-calling, calls-go_on, other-calling, settled-of}
-use Rattle.live_heap.proofs.CallsOne.{end-answers, ends-one, full-tells, load-ends, missed-lost, put-lost, put-won, read-contents, second-stands, shelf-loads, store-ends, take-told, told-done, told-more}
+use Rattle.live_heap.proofs.CallsOne.{EndsNext, end-answers, ends-one, full-tells, load-ends, missed-lost, put-ends, read-contents, second-stands, shelf-loads, store-ends, take-told, told-done, told-more}
 
 -- a call on a block that the pass owns is under way behind its begin
 pub begun-calling :
@@ -88,17 +79,6 @@ steps-tell first call steps p q (ending.Got block) calling stepped =
 steps-tell first call steps p q (ending.Missed expected found) calling stepped = missed-differ p q expected found stepped
 steps-tell first call steps p q end calling stepped = tt
 
--- a point from which each step ends the call
-abbrev EndsNext : Point → Type 0
-EndsNext p = (x : Find) → (r : Reply) × (next_of p x ≡ next.End r)
-
-put-next : (shelf place : ℕ) (need : Need) (o : Continuation) → EndsNext (point.Large (large.PutBlock shelf place need) o)
-put-next shelf place need o x =
-    elim (cases_Bool x.won) [
-      | inl won ↦ (reply.Put, put-won shelf place need o x won)
-      | inr lost ↦ (reply.Full x.value, put-lost shelf place need o x lost)
-    ]
-
 next-done : (p q : Pass) (told : Stepped Block) → EndsNext p.errand.point → HasStepped p q told → IsDone told
 next-done p q told ends stepped =
     let s = settled-of p.errand q.errand (seen p) (seen q) (progress_of told) stepped.moment in
@@ -131,7 +111,7 @@ last-done first (read place need i) zero p q told calling last stepped =
     next-done p q told (subst EndsNext (sym (first-point first p (read place need i) calling)) (λ x. (reply.Word x.value, load-ends place i Nothing x)))
     stepped
 last-done first (put place need shelf) zero p q told calling last stepped =
-    next-done p q told (subst EndsNext (sym (first-point first p (put place need shelf) calling)) (put-next shelf place need Nothing)) stepped
+    next-done p q told (subst EndsNext (sym (first-point first p (put place need shelf) calling)) (put-ends shelf place need Nothing)) stepped
 last-done first (write place need i v) (suc steps) p q told calling last stepped = absurd (omega (arith, last))
 last-done first (read place need i) (suc steps) p q told calling last stepped = absurd (omega (arith, last))
 last-done first (put place need shelf) (suc steps) p q told calling last stepped = absurd (omega (arith, last))

@@ -2,7 +2,6 @@
 use Rattle.std.proofs.Common.{ℕ, ◌≡◌, List, IsSomeAnd, refl, sym, ap, ◌∙◌, subst}
 use Rattle.heap_geometry.specs.declared.need.Need.{Need}
 use Rattle.heap_geometry.specs.Need.{IsNeed}
-use Rattle.word_table.specs.declared.action.Found.{Found as Find}
 use Rattle.pool_model.specs.declared.event.Event.{Event}
 use Rattle.errand_steps.specs.declared.point.Point.{Point}
 use Rattle.errand_steps.specs.declared.reply.Offer.{Offer}
@@ -10,16 +9,12 @@ use Rattle.errand_steps.specs.declared.reply.Progress.{Progress}
 use Rattle.errand_steps.specs.declared.reply.Progress.TheVariants as progress
 use Rattle.errand_steps.specs.declared.reply.Reply.{Reply}
 use Rattle.errand_steps.specs.declared.reply.Reply.TheVariants as reply
-use Rattle.errand_steps.specs.Begins.{IsBusy}
-use Rattle.errand_steps.specs.Errands.{ErrandFields, settle_of, answer_of}
+use Rattle.errand_steps.specs.Errands.{ErrandFields}
 use Rattle.errand_steps.specs.Offers.{offered_at}
-use Rattle.errand_steps.specs.Steps.{found_at}
 use Rattle.errand_steps.specs.Told.{IsTellable}
 use Rattle.sound_state.specs.Answers.{IsMeant}
 use Rattle.sound_state.specs.Recalls.{IsOwned}
-use Rattle.sound_state.specs.Sound.{IsSound, IsOwnErrand}
-use Rattle.sound_state.proofs.CountedLemmas.{without-counts, steps-counted}
-use Rattle.sound_state.proofs.answers.StepAnswers.{answers-meant}
+use Rattle.sound_state.proofs.CountedLemmas.{without-counts}
 use Rattle.sound_state.proofs.beginnings.BegunLemmas.{owned-block}
 use Rattle.step_machine.specs.Moments.{IsMoment}
 use Rattle.step_machine.proofs.MomentAnswers.{moment-meant, moment-sound}

@@ -93,7 +93,8 @@ pub use Rattle.sound_state.specs.Lists.{IsListed, Lists}
 pub use Rattle.sound_state.specs.Recalls.{IsLocated, IsOwned, IsSo}
 pub use Rattle.errand_steps.specs.tables.Recall.{Recall, bound_at, bound_for, bound_here, emptied, links, located, looked, noted, pops, says, continuation_recalls, made}
 pub use Rattle.errand_steps.specs.tables.Recall.{refused, resumed_recalls}
-pub use Rattle.sound_state.specs.Recalls.{AreMade, EndsRefused, IsEmptied, IsPlain, IsRemembered}
+pub use Rattle.sound_state.specs.Recalls.{AreMade, EndsRefused, IsEmptied, IsPlain, IsRemembered, IsSaidWord}
+pub use Rattle.sound_state.specs.Recalls.{Part, part_of, bindings, places, chains, stacks, link_words, availables, events, single, constant}
 pub use Rattle.errand_steps.specs.tables.LargeBlocks.{large_recalls}
 pub use Rattle.sound_state.specs.Recalls.{list_of}
 unfoldable pub use Rattle.sound_state.specs.Recalls.{recalls_of}

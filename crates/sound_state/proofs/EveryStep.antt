@@ -32,7 +32,6 @@ use Rattle.sound_state.proofs.large.TouchPrefix.{store_run_prefix-sound}
 use Rattle.sound_state.proofs.large.TouchShelves.{put_block-sound, take_block-sound, confirm_nothing-sound}
 use Rattle.sound_state.proofs.large.TouchTakes.{take_run-sound}
 use Rattle.sound_state.proofs.large.TouchWords.{store_word-sound}
-use Rattle.sound_state.proofs.quiet.QuietExchanges.{either-sound}
 use Rattle.sound_state.proofs.quiet.QuietLarge.{load_units-sound, take_run_lost-sound, load_run_prefix-sound, load_shelf-sound, load_word-sound, put_block_lost-sound}
 use Rattle.sound_state.proofs.quiet.QuietLarge.{take_block_lost-sound, confirm_nothing_lost-sound}
 use Rattle.sound_state.proofs.anchors.AnchorSteps.{store_anchor-sound}
@@ -45,7 +44,7 @@ use Rattle.sound_state.proofs.quiet.QuietPartials as partials
 use Rattle.sound_state.proofs.retirements.RetirePartials as retired
 use Rattle.sound_state.proofs.quiet.QuietLinks.{store_below-sound, store_next_desc-sound}
 use Rattle.sound_state.proofs.quiet.QuietStacks.{clear_ends-sound, load_top-sound, load_below-sound, load_top_to_push-sound}
-use Rattle.sound_state.proofs.shared.KeepsSound.{KeepsSound, KeepsSoundWhere}
+use Rattle.sound_state.proofs.shared.KeepsSound.{KeepsSound, KeepsSoundWhere, either-sound}
 
 -- the load of an empty head keeps the state sound: an allocation or a clearing goes on, and a clearing without a superblock ends
 empty-sound :

@@ -3,6 +3,8 @@ pub mod CountedLemmas
 pub mod EveryStep
 pub mod ReachLemmas
 pub mod RunLemmas
+pub mod SoundAfter
+pub mod SoundSteps
 pub mod anchors
 pub mod answers
 pub mod beginnings

@@ -1,4 +1,4 @@
--- What a caller remembers, and what that still says of the words.
+-- What a caller remembers, what that still says of the words, and which part of a state it reads.
 use Rattle.std.specs.Prelude.{ℕ, ◌≡◌, ◌<◌, ◌≤◌, ◌-◌, IsTrue, IsFalse, List, [], ◌∷◌, ◌++◌, Some, All}
 use Rattle.heap_geometry.specs.declared.geometry.Geometry.{Geometry}
 use Rattle.heap_geometry.specs.declared.need.Need.{Need}
@@ -86,6 +86,15 @@ abbrev pub EndsRefused : List Event → ℕ → ℕ → Type 0
 EndsRefused events caller class =
     (before : List Event) × (words : ℕ) × (need_of words ≡ Small class) × (events ≡ before ++ Looked caller class ∷ Refuse caller words ∷ [])
 
+-- a word of the arena, an anchor, a link, or where a superblock lies: no other word is recalled
+abbrev pub IsSaidWord : WordName → Type 0
+IsSaidWord (name.Arena place) = Unit {0}
+IsSaidWord (name.Anchor d) = Unit {0}
+IsSaidWord (name.Next d) = Unit {0}
+IsSaidWord (name.Info d) = Unit {0}
+IsSaidWord (name.FrameNext f) = Unit {0}
+IsSaidWord n = ⊥
+
 -- the word is no active word, no slot and no hazard word
 abbrev pub IsPlain : WordName → Type 0
 IsPlain (name.Active heap class) = ⊥
@@ -105,7 +114,7 @@ IsSo g s l caller (tops seat pile h) = IsTopStill s l seat pile h
 IsSo g s l caller (nexts seat pile h below) =
     h.tag ≡ (head_of (s.word (head_name seat pile))).tag → s.word (next_name pile (h.top - 1)) ≡ below
 IsSo g s l caller (tops_exist seat pile h) = h.top ≤ pile_limit g pile
-IsSo g s l caller (says word_name word) = IsPlain word_name × (s.word word_name ≡ word)
+IsSo g s l caller (says word_name word) = IsSaidWord word_name × (s.word word_name ≡ word)
 IsSo g s l caller (made frame class blocks) = AreMade s frame class blocks
 IsSo g s l caller (in_use a) = IsFalse (is_empty a.state)
 IsSo g s l caller (emptied d) = IsEmptied g s l d
@@ -114,6 +123,44 @@ IsSo g s l caller (owns place i) = (n : Need) × IsOwned s caller place n × (i 
 IsSo g s l caller (owns_all place need) = IsOwned s caller place need
 IsSo g s l caller (looked class) = EndsWith (own caller s.history) (Looked caller class)
 IsSo g s l caller (refused class) = EndsRefused (own caller s.history) caller class
+
+-- a part of a state that a recall reads
+pub data Part : Type 0 where
+  -- whether d has a superblock, and where it lies
+  bindings : (d : ℕ) → Part
+  -- the place that the word of d names
+  places : (d : ℕ) → Part
+  -- the free blocks of d's superblock
+  chains : (d : ℕ) → Part
+  -- a stack of frames or of partial superblocks
+  stacks : (seat : SeatFields) → (pile : Pile) → Part
+  -- the links of the first blocks of a frame
+  link_words : (frame class blocks : ℕ) → Part
+  -- whether d is EMPTY or available, and its next word
+  availables : (d : ℕ) → Part
+  -- the part of the caller's events and blocks
+  events : Part
+  -- the part that is one word
+  single : (word_name : WordName) → Part
+  -- the part that nothing changes
+  constant : Part
+
+-- the part that a thing which a caller remembers reads: it stays so while that stays
+abbrev pub part_of : Recall → Part
+part_of (bound_for d class) = bindings d
+part_of (bound_at d frame class) = bindings d
+part_of (located d frame class) = places d
+part_of (pops d a) = chains d
+part_of (links d a prefix) = chains d
+part_of (tops seat pile h) = stacks seat pile
+part_of (nexts seat pile h below) = stacks seat pile
+part_of (made frame class blocks) = link_words frame class blocks
+part_of (emptied d) = availables d
+part_of (noted d next) = availables d
+part_of (says n w) = single n
+part_of (tops_exist seat pile h) = constant
+part_of (in_use a) = constant
+part_of r = events
 
 -- everything that a caller remembers is so
 pub record IsRemembered (g : Geometry) (s : State) (l : Lists) : Type 0 where

@@ -24,7 +24,7 @@ use Rattle.lost_exchanges.specs.Won.{IsWon}
 use Rattle.sound_state.proofs.CountedLemmas.{without-counts}
 use Rattle.sound_state.proofs.ReachLemmas.{reached-sound}
 use Rattle.sound_state.proofs.beginnings.BegunLemmas.{owned-block}
-use Rattle.sound_state.proofs.beginnings.InstalledLemmas.{installed-sound}
+use Rattle.sound_state.proofs.beginnings.InstalledLemmas.{open_installed-sound}
 use Rattle.sound_state.proofs.beginnings.OpeningLemmas.{opening-sound}
 use Rattle.lost_exchanges.proofs.CountLemmas.{count-append}
 use Rattle.lost_exchanges.proofs.FirstWins.{first-won}
@@ -36,7 +36,7 @@ first-sound : (g : Geometry) (s : State) → IsChecked g → IsFirst g s → IsS
 first-sound g s checked first =
     elim first [
       | inl opens ↦ opening-sound g s checked opens
-      | inr has ↦ installed-sound g has.0 s checked has.1 has.2
+      | inr has ↦ open_installed-sound g has.0 s checked has.1 has.2
     ]
 
 first-none : (g : Geometry) (s : State) → IsFirst g s → IsWon g s no_wins

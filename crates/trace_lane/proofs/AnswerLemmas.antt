@@ -335,7 +335,7 @@ ends-full :
     → IsUnderWay e.caller (put place need shelf) e.point added → EndsFull e f place need shelf back back_need before after added
 ends-full e f before after added place need shelf found back back_need m offered way =
     let says = meant e f before after (reply.Full found) m in
-    let at = stands-at e f before after added _ (put place need shelf) m (large.PutBlock says.0 says.1 says.2) says.3 way in
+    let at = stands-at e f before after added _ (put place need shelf) m _ says.3 way in
     let offers = put-offers e.caller place need shelf e.point added way in
     let offer : Offer = record { place = place; need = need } in
     let other : Offer = record { place = back; need = back_need } in

@@ -1,7 +1,7 @@
 use Rattle.sound_state.proofs.Common.{opening, installed}
 use Rattle.lost_exchanges.specs.Wins.{no_wins}
 use Rattle.sound_state.proofs.beginnings.OpeningLemmas.{opening-sound}
-use Rattle.sound_state.proofs.beginnings.InstalledLemmas.{installed-sound}
+use Rattle.sound_state.proofs.beginnings.InstalledLemmas.{open_installed-sound}
 use Rattle.lost_exchanges.proofs.FirstWins.{first-won}
 use Rattle.lost_exchanges.proofs.MadeLemmas.{made-won}
 use Rattle.lost_exchanges.proofs.reached_states_have_wins.Goals as goal
@@ -14,4 +14,4 @@ returns-clause-opening c =
 pub returns-clause-installed : goal.returns-clause-installed
 returns-clause-installed c =
     λ g class s moves after w checked has first made.
-    made-won g s no_wins moves after w (installed-sound g class s checked has first) (first-won g (installed g class) s first) made
+    made-won g s no_wins moves after w (open_installed-sound g class s checked has first) (first-won g (installed g class) s first) made

@@ -2,8 +2,10 @@
 use Rattle.std.proofs.Common.{ℕ, true, ◌≡◌, ◌≢◌, ◌<◌, ◌≤◌, ◌+◌, refl, arith, ap, ◌∙◌}
 use Rattle.sound_state.proofs.Common.{Geometry, anchor_of, anchor_word, WordName, Site, IsSiteOf, Writes, new_credits, ErrandFields, State, Moves, waiting, on_its_way}
 use Rattle.sound_state.proofs.Common.{holds_of, errand_has, Lists, IsSoundWith, words_sum, callers_sum, anchor_for, info_for, is_bound, away_of, errand_away, errand_keeps}
-use Rattle.sound_state.proofs.Common.{kept_among, waiting_of, word_reserves, reserved_of, anchor_of-anchor_word, new_anchor, making}
+use Rattle.sound_state.proofs.Common.{kept_among, waiting_of, word_reserves, reserved_of, anchor_of-anchor_word, new_anchor, making, IsSo}
+use Rattle.std.specs.List.{AllByRecursion}
 use Rattle.word_table.specs.declared.name.WordName.TheVariants as name
+use Rattle.superblock_parts.specs.declared.point.BlockPoint.TheVariants as block
 use Rattle.sound_state.proofs.shared.UnplacedLemmas.{IsUnplaced, way-unplaced}
 use Rattle.sound_state.proofs.anchors.NewSuperblocks.{unbound-reserves}
 use Rattle.sound_state.proofs.shared.SumLemmas.{callers-none, sum-least, term-sum}
@@ -12,6 +14,9 @@ use Rattle.sound_state.proofs.shared.MakingWeights.{is_it, it-elsewhere, install
 use Rattle.sound_state.proofs.shared.MakingWeights.{installing-apart, it-here, making-ways}
 use Rattle.sound_state.proofs.shared.SuperblockEffects.{AnchorEffects, anchor-still, anchors-stay, info-stays, weights-stay}
 use Rattle.sound_state.proofs.shared.WrittenWords.{new_anchor-fits}
+use Rattle.sound_state.proofs.Common.{AreMade, Block, Continuation, recalls_of, IsLocated, block_count_of, block_place, live_at}
+use Rattle.sound_state.proofs.shared.CallerLemmas.{KeepsCounts}
+use Rattle.sound_state.proofs.shared.RecallFrame.{LiesAt}
 
 -- a caller stores the anchor of its new superblock, and all else stays
 pub record Anchors (g : Geometry) (s : State) (l : Lists) (caller : ℕ) (at : Site) (e : ErrandFields) (s' : State) : Type 0 where
@@ -23,6 +28,18 @@ pub record Anchors (g : Geometry) (s : State) (l : Lists) (caller : ℕ) (at : S
   pub retired : e.retired ≡ (s.errand caller).retired
   pub holds_before : holds_of (s.errand caller).point ≡ making at
   pub holds_after : holds_of e.point ≡ installing_holds at
+
+-- the store of the anchor of a superblock whose links are made, whose descriptor names it and none of whose blocks is live
+pub record MakesAnchor
+    (g : Geometry) (s : State) (l : Lists) (caller : ℕ) (at : Site) (o : Continuation) (e : ErrandFields) (s' : State) : Type 0 where
+  pub anchors : Anchors g s l caller at e s'
+  pub here : (s.errand caller).point ≡ Block (block.StoreAnchor at) o
+  pub after : e.point ≡ Block (block.InstallSuperblock at) o
+  pub own : KeepsCounts (s.errand caller) e
+  pub lies : IsLocated s at.desc at.frame at.seat.class
+  pub made : AreMade s at.frame at.seat.class (block_count_of at.seat.class)
+  pub unlive : (i : ℕ) → i < block_count_of at.seat.class → live_at s (block_place at.frame at.seat.class i) ≡ 0
+  pub recalls_after : LiesAt g s' l at → AllByRecursion (IsSo g s' l caller) (recalls_of e.point)
 
 module _ {g : Geometry} {s : State} {l : Lists} {caller : ℕ} {at : Site} {e : ErrandFields} {s' : State} (h : Anchors g s l caller at e s') where
   pub anchored-holds : HoldingEffects g s caller (making at) (installing_holds at) e s'

@@ -1,13 +1,15 @@
 -- The store of a new superblock's anchor keeps what the other callers remember.
-use Rattle.std.proofs.Common.{ℕ, ◌≡◌, ◌≢◌, ◌<◌, ◌≤◌, arith, ap, sym, subst, ◌∙◌, IsTrue, All}
-use Rattle.std.proofs.lemmas.List.Elements.{All-cons, recursion_from_All}
-use Rattle.sound_state.proofs.Common.{Continuation, Geometry, Site, is_empty, own, Point, ErrandFields, State, on_its_way, Lists, IsLocated, IsSo, bound_here, recalls_of}
+use Rattle.std.proofs.Common.{ℕ, ◌≡◌, ◌≢◌, ◌<◌, ◌≤◌, arith, ap, sym, subst, ◌∙◌, IsTrue}
+use Rattle.std.proofs.lemmas.List.Elements.{recursion_from_All}
+use Rattle.std.specs.List.{AllByRecursion}
+use Rattle.sound_state.proofs.Common.{Geometry, Site, is_empty, own, Point, ErrandFields, State, on_its_way, Lists, IsLocated, IsSo, recalls_of}
 use Rattle.sound_state.proofs.Common.{IsSoundWith, callers_sum, kept_among, is_bound, errand_keeps, IsEmptied, IsRemembered}
+use Rattle.sound_state.proofs.Common.{Part, bindings, chains, single}
 use Rattle.superblock_parts.specs.declared.point.BlockPoint.TheVariants as block
 use Rattle.errand_steps.specs.declared.point.Point.TheVariants as point
 use Rattle.sound_state.proofs.shared.MakingWeights.{it-here, making-ways, is_it}
-use Rattle.sound_state.proofs.shared.RecallEffects.{IsSteadyWord, Leaves, IsLeft, here-so, remembered-left}
-use Rattle.sound_state.proofs.shared.RecallFrame.{Part, bindings, chain-same, chains, single}
+use Rattle.sound_state.proofs.shared.RecallEffects.{IsSteadyWord, Leaves, IsLeft, lies-still, remembered-left}
+use Rattle.sound_state.proofs.shared.RecallFrame.{chain-same, LiesAt}
 use Rattle.sound_state.proofs.shared.RecallTables.{InstallsNone, IsSpared, bound-differs, spared-point}
 use Rattle.sound_state.proofs.shared.PointLemmas.{so-at}
 use Rattle.sound_state.proofs.shared.SumLemmas.{term-sum}
@@ -60,14 +62,10 @@ module _ {g : Geometry} {s : State} {l : Lists} {caller : ℕ} {at : Site} {e : 
   anchored-left old (single n) spared = λ said. h.writes.elsewhere n spared
   anchored-left old p spared = tt
 
-  pub anchored-remembered :
-      IsSoundWith g s l → IsLocated s at.desc at.frame at.seat.class → (o : Continuation) → e.point ≡ point.Block (block.InstallSuperblock at) o
-      → IsRemembered g s' l
-  unfolding recalls_of
-  anchored-remembered old lies o stands =
-      remembered-left g s l caller e s' h.moves
-      (subst (λ p. All (IsSo g s' l caller) (recalls_of p)) (sym stands)
-      (All-cons (IsSo g s' l caller) _ (bound_here at) (tt, h.writes.here)
-      (here-so g s l s' (anchored-leaves caller).steady caller at (anchored-bound_here h old) lies)))
-      (λ i has ne. anchored-leaves i)
+  pub anchored-lies : IsSoundWith g s l → IsLocated s at.desc at.frame at.seat.class → LiesAt g s' l at
+  anchored-lies old = lies-still g s l s' (anchored-leaves caller).steady at (anchored-bound_here h old)
+
+  pub anchored-remembered : IsSoundWith g s l → AllByRecursion (IsSo g s' l caller) (recalls_of e.point) → IsRemembered g s' l
+  anchored-remembered old so =
+      remembered-left g s l caller e s' h.moves so (λ i has ne. anchored-leaves i)
       (λ i has ne k d lt. anchored-left old _ (spared-point at.desc (s.errand i).point (anchored-installed old i has) k d lt)) old

@@ -6,8 +6,7 @@ use Rattle.sound_state.proofs.Common.{Large, Reply, event_of, next_of, plan_poin
 use Rattle.sound_state.proofs.Common.{SHELVES, usable_words, shelf_word, shelf-exact, first_wanted, WantFields, RunFields, Refuse, Write, Put, Take, TakeNone, Caller}
 use Rattle.sound_state.proofs.Common.{IsEmptyShelf, IsLegalEventWithoutCounts, handed_to, IsPlaceFor, IsWellFormed, every-each, found-itself, sound-differ, IsRunFor}
 use Rattle.sound_state.proofs.Common.{event_at, Small, block_place, HeadFields, Site, SeatFields, BlockPoint, Pile, Frames, Partials, StackPoint, DescPoint, own, Next}
-use Rattle.sound_state.proofs.Common.{Block, Stack, Desc, ErrandFields, settle_of, found_at, looked, Done, answer_of, begins_turn, is_spent, FitsContinuation, EndsRefused}
-use Rattle.sound_state.proofs.Common.{refused}
+use Rattle.sound_state.proofs.Common.{Block, Stack, Desc, ErrandFields, settle_of, found_at, Done, answer_of, begins_turn, is_spent, FitsContinuation, EndsRefused}
 use Rattle.heap_geometry.specs.declared.need.Need.TheVariants as need
 use Rattle.packed_words.specs.declared.shelf.ShelfWord.TheVariants as lies
 use Rattle.word_table.specs.declared.name.WordName.TheVariants as name
@@ -28,7 +27,7 @@ use Rattle.sound_state.proofs.answers.AnswerPoints.{either-ends, either-left, ta
 use Rattle.sound_state.proofs.EveryStep.{steps-sound}
 use Rattle.sound_state.proofs.large.TouchShelves.{changes-from}
 use Rattle.sound_state.proofs.quiet.QuietLinks.{written-at}
-use Rattle.sound_state.proofs.shared.PointLemmas.{fits-now, hands-at, recalled-at, so-at, the-alloc}
+use Rattle.sound_state.proofs.shared.PointLemmas.{fits-now, hands-at, recalled-at, the-alloc}
 use Rattle.sound_state.proofs.shared.ShelfFacts.{owned-or-none, shelf-fits}
 use Rattle.sound_state.proofs.shared.StepLemmas.{found_from}
 use Rattle.sound_state.proofs.shared.WordFacts.{payload-uncut}
@@ -291,9 +290,8 @@ module _
       let won = stack-ends (s.errand caller) (stack.ConfirmEmpty seat Frames h) (continuation.TakeFrame words d) (found_from s p) r ends in
       let told = event-told p (Some (Refuse caller words)) stands (rw (won.0) refl) in
       let grown : after.history ≡ s.history ++ Refuse caller words ∷ [] = step.history ∙ ap (with_event s.history) told in
-      let ended =
-      refused-ends caller s.history words seat.class fits.continuation.0
-      (so-at g s sound.parts.0 caller p sound.parts.1 has stands 0 (looked seat.class) (omega arith)) in
+      let (ends_looked, rest) = recalled-at g s sound.parts.0 caller p sound.parts.1 has stands in
+      let ended = refused-ends caller s.history words seat.class fits.continuation.0 ends_looked in
       answered reply.Refused r won.1 (inl (seat.class, subst (λ past. EndsRefused (own caller past) caller seat.class) (sym grown) ended))
   confirm-meant seat Partials h (continuation.Alloc words) r stands ends =
       let p = stack.ConfirmEmpty seat Partials h in
@@ -324,8 +322,8 @@ module _
       resumed-meant o r is
       (λ refuses.
       let q = Desc (desc.PushDesc seat d top) continuation.Refuse in
-      let so : EndsRefused (own caller s.history) caller seat.class =
-      so-at g s sound.parts.0 caller q sound.parts.1 has (stands ∙ ap (λ z. Desc (desc.PushDesc seat d top) z) refuses) 1 (refused seat.class) (omega arith) in
+      let (said, (so, none)) =
+      recalled-at g s sound.parts.0 caller q sound.parts.1 has (stands ∙ ap (λ z. Desc (desc.PushDesc seat d top) z) refuses) in
       inl (seat.class, subst (λ past. EndsRefused (own caller past) caller seat.class) (sym same) so))
 
   desc-meant :

@@ -14,12 +14,12 @@ use Rattle.heap_geometry.proofs.PlaceLemmas.{block_place-split}
 use Rattle.word_table.specs.declared.name.WordName.TheVariants as name
 use Rattle.errand_steps.specs.Begins.{IsHeapBlock}
 use Rattle.errand_steps.proofs.BegunErrands.{idle-is, alloc-errand, free-errand, write-errand, read-errand, put-errand, take-errand}
-use Rattle.sound_state.proofs.shared.AlikeLemmas.{sound-alike}
 use Rattle.sound_state.proofs.shared.ShownLemmas.{MayGoOn, MayGuard}
 use Rattle.sound_state.proofs.shared.StepLemmas.{HoldsException, actives-stay}
 use Rattle.sound_state.proofs.shared.WeighLemmas.{WeighAlike, WeighMost, alike-most, weigh-alike, weigh-emptied}
 use Rattle.sound_state.proofs.shared.TurnEffects.{IsQuiet, OwnCounts, own-counts}
 use Rattle.sound_state.proofs.shared.FormedLemmas.{formed-begun}
+use Rattle.sound_state.proofs.SoundSteps.{sound-alike}
 
 -- what a caller holds that holds nothing but blocks which it frees
 abbrev pub freeing : List Freed → Holding
@@ -73,13 +73,15 @@ begun-may g s l caller a p t turns blocks sound has stands idle b takes =
     let idle_takes : TakesTurns a.point 0 0 0 = subst (λ q. TakesTurns q 0 0 0) (sym was) idle-takes in
     record {
       stands = record {
+        point = record {
+          kept = subst (λ h. All (λ k. IsKeptAs s k.status k.desc k.class) h.kept) (sym b.fresh.holds)
+              (All-nil (λ k. IsKeptAs s k.status k.desc k.class));
+          so = b.so;
+          hands = subst (λ h. All (λ x. IsOwned s caller x.place x.need) h.hands) (sym b.fresh.holds) (All-nil (λ x. IsOwned s caller x.place x.need));
+          frees = subst (λ h. All (λ x. IsOwned s caller x.place x.need) h.frees) (sym b.fresh.holds) b.frees;
+        };
         retired = subst (λ e. All (IsWithout s) e.retired) stands (sound.kept.retired caller has);
-        kept = subst (λ h. All (λ k. IsKeptAs s k.status k.desc k.class) h.kept) (sym b.fresh.holds)
-            (All-nil (λ k. IsKeptAs s k.status k.desc k.class));
-        so = b.so;
         full = λ is. let bad : ⊥ = omega (arith, is, b.fresh.quiet.spare) in absurd bad;
-        hands = subst (λ h. All (λ x. IsOwned s caller x.place x.need) h.hands) (sym b.fresh.holds) (All-nil (λ x. IsOwned s caller x.place x.need));
-        frees = subst (λ h. All (λ x. IsOwned s caller x.place x.need) h.frees) (sym b.fresh.holds) b.frees;
       };
       excepts = λ place x. absurd (not-excepts place (subst (λ q. HoldsException (holds_of q) place) was x));
       counts = record {

@@ -8,10 +8,10 @@ use Rattle.std.proofs.lemmas.Option.{none-some}
 use Rattle.sound_state.proofs.Common.{Geometry, CLASSES, IsChecked, Held, active_of, anchor_of, head_of, info_of, WordName, descriptor_count, info_in, occurs, Frames}
 use Rattle.sound_state.proofs.Common.{Partials, Stacked, next_in, Event, block_at, pool_of, spare_of, ErrandFields, State, IsFramed, errand_frames, fills_frame, IsGuarded}
 use Rattle.sound_state.proofs.Common.{held_by, waiting, holds_of, IsKept, IsPartlyUsed, IsWithout, IsKeptAs, word_keeps, errand_has, full_keeps, Lists, IsListed}
-use Rattle.sound_state.proofs.Common.{recalls_of, IsSoundWith, IsOwnErrand, word_stock, errand_stock, full_stock, sum_below, words_sum, callers_sum, AreChained, IsChained}
+use Rattle.sound_state.proofs.Common.{recalls_of, IsOwnErrand, word_stock, errand_stock, full_stock, sum_below, words_sum, callers_sum, AreChained, IsChained}
 use Rattle.sound_state.proofs.Common.{anchor_for, info_for, superblock_of, is_bound, away_of, errand_away, errand_reserves, waiting_of, errand_keeps, IsTied, IsLive}
 use Rattle.sound_state.proofs.Common.{IsTurned, emptied_out, gives_small, refuses_small, unit_place, info_within, exists, IsOpening, IsRemembered, IsStocked, turn_open}
-use Rattle.sound_state.proofs.Common.{turn_unframed, turn_unlisted, errand_pops, cleared_of, errand_discards, turn_unanswered}
+use Rattle.sound_state.proofs.Common.{turn_unframed, turn_unlisted, errand_pops, cleared_of, errand_discards, turn_unanswered, IsFormed}
 use Rattle.packed_words.specs.declared.anchor.AnchorState.TheVariants as phase
 use Rattle.packed_words.specs.declared.widths.TheConstants.{TOP_BITS, HEAD_TAG_BITS}
 use Rattle.packed_words.specs.Fields.{bits_at}
@@ -185,7 +185,7 @@ first-tag g n first s d b =
     opening-word g first s (name.Anchor d) (λ w. (anchor_of w).tag ≡ 0) b.opening (λ e. b.rule.tags d) zero-anchor_tag
 
 -- the lists before the first step are the stacks that the words make
-first-listed : (g : Geometry) (n : ℕ) (first : WordName → ℕ) (s : State) → IsBegun g n first s → IsListed g s.word (first_lists g n)
+pub first-listed : (g : Geometry) (n : ℕ) (first : WordName → ℕ) (s : State) → IsBegun g n first s → IsListed g s.word (first_lists g n)
 first-listed g n first s b =
     let frames : n + (g.frames - n) ≡ g.frames = omega (arith, b.rule.frames) in
     let descriptors : n + (descriptor_count g - n) ≡ descriptor_count g = omega (arith, b.rule.descriptors) in
@@ -278,11 +278,11 @@ first-framed g n first s b once = record {
   once = λ f has. omega (arith, once f has, opened-weighs g first s (errand_frames f) b.opening (λ caller. refl));
 }
 
-first-remembered : (g : Geometry) (n : ℕ) (first : WordName → ℕ) (s : State) → IsBegun g n first s → IsRemembered g s (first_lists g n)
+pub first-remembered : (g : Geometry) (n : ℕ) (first : WordName → ℕ) (s : State) → IsBegun g n first s → IsRemembered g s (first_lists g n)
 unfolding recalls_of
 first-remembered g n first s b = grind (arith, b, at-opening, recalls_of)
 
-first-guarded : (g : Geometry) (n : ℕ) (first : WordName → ℕ) (s : State) → IsBegun g n first s → IsGuarded g s
+pub first-guarded : (g : Geometry) (n : ℕ) (first : WordName → ℕ) (s : State) → IsBegun g n first s → IsGuarded g s
 unfolding holds_of
 first-guarded g n first s b = grind (arith, b, at-opening, held_by, holds_of, spare_of, zero-word)
 
@@ -307,7 +307,7 @@ first-stocked g n first s b words =
 none-emptied : (g : Geometry) (n : ℕ) (first : WordName → ℕ) (s : State) (d : ℕ) → IsBegun g n first s → emptied_out g s (first_lists g n) d ≡ 0
 none-emptied g n first s d b = let active = first-state g n first s d b in grind (arith, active)
 
-first-turned : (g : Geometry) (n : ℕ) (first : WordName → ℕ) (s : State) → IsBegun g n first s → IsTurned g s (first_lists g n)
+pub first-turned : (g : Geometry) (n : ℕ) (first : WordName → ℕ) (s : State) → IsBegun g n first s → IsTurned g s (first_lists g n)
 first-turned g n first s b =
     let o = b.opening in
     let head : (head_of (s.word name.FrameHead)).tag ≡ 0 = ap (λ h. h.tag) (frame-head g n first s b) in
@@ -353,7 +353,7 @@ first-live g first s place o = ap (λ h. block_at place (pool_of h)) o.history
 none-live-first : (g : Geometry) (first : WordName → ℕ) (s : State) (place : ℕ) (b : Block) → IsOpening g first s → IsLive s place b → ⊥
 none-live-first g first s place b o live = none-some b (sym (first-live g first s place o) ∙ live)
 
-first-tied : (g : Geometry) (n : ℕ) (first : WordName → ℕ) (s : State) → IsBegun g n first s → IsTied g s (first_lists g n)
+pub first-tied : (g : Geometry) (n : ℕ) (first : WordName → ℕ) (s : State) → IsBegun g n first s → IsTied g s (first_lists g n)
 unfolding holds_of
 first-tied g n first s begun = grind (arith, begun, at-opening, bit_at, holds_of, none-live-first, pow_pos, shelf-nothing, unit_place, zero-bit, zero-word)
 
@@ -372,23 +372,8 @@ first-history g first s R o =
     subst (EachAfter R) (sym o.history)
     (λ before rest event is. absurd (let no : ⊥ = omega (arith, ap length is, length-append before (event ∷ rest)) in no))
 
--- a state before the first step is sound, where its descriptors, chains, frames and stock are in order
-pub first-sound :
-    (g : Geometry) (n : ℕ) (first : WordName → ℕ) (s : State) → IsBegun g n first s → IsKept g s (first_lists g n)
-    → AreChained g s (first_lists g n) → IsFramed g s (first_lists g n) → IsStocked g s (first_lists g n)
-    → IsSoundWith g s (first_lists g n)
-first-sound g n first s b kept chained framed stocked = record {
-  formed = record {
-    words = first-words g n first s b;
-    errands = λ caller has. subst (IsOwnErrand g caller) (sym (b.opening.errand caller has)) (open-own g caller b.checked has);
-  };
-  listed = first-listed g n first s b;
-  kept = kept;
-  chained = chained;
-  framed = framed;
-  remembered = first-remembered g n first s b;
-  guarded = first-guarded g n first s b;
-  stocked = stocked;
-  turned = first-turned g n first s b;
-  tied = first-tied g n first s b;
+pub first-formed : (g : Geometry) (n : ℕ) (first : WordName → ℕ) (s : State) → IsBegun g n first s → IsFormed g s
+first-formed g n first s b = record {
+  words = first-words g n first s b;
+  errands = λ caller has. subst (IsOwnErrand g caller) (sym (b.opening.errand caller has)) (open-own g caller b.checked has);
 }

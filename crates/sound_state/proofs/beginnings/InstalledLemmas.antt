@@ -15,10 +15,11 @@ use Rattle.word_table.proofs.SeatLemmas.{block_place-within}
 use Rattle.errand_steps.specs.Openings.{link_at, full_credits, full_anchor}
 use Rattle.sound_state.proofs.beginnings.FirstLemmas.{IsFirst, IsBegun, next-word, some-descriptors, info-some, info-zero, first_lists, zero-word, first-word, zero-state}
 use Rattle.sound_state.proofs.beginnings.FirstLemmas.{zero-anchor_tag, first-here, first-state, first-waiting, first-reserved, first-live, first-kept, first-chained}
-use Rattle.sound_state.proofs.beginnings.FirstLemmas.{first-fills, first-framed, first-stocked, first-history, first-sound}
+use Rattle.sound_state.proofs.beginnings.FirstLemmas.{first-fills, first-framed, first-stocked, first-history}
 use Rattle.sound_state.proofs.shared.HolderLemmas.{IsHolderWeight, is_holder, holders-one, keeps-holder, reserves-holder, stock-holder, zero-active}
 use Rattle.sound_state.proofs.beginnings.OpeningLists.{indexes, indexes-before, indexes-once, indexes-end, indexes-chained}
 use Rattle.sound_state.proofs.shared.SumLemmas.{sum-one}
+use Rattle.sound_state.proofs.SoundAfter.{first-sound}
 
 -- the credits of a superblock whose blocks are all free fit an active word, and are fewer than its blocks
 credits-fit : (class : ℕ) → class < CLASSES → (full_credits class < 2 ^ CREDIT_BITS) × (full_credits class + 1 ≤ block_count_of class)
@@ -259,8 +260,8 @@ active-stock-most : (class heap of_class word : ℕ) → word_stock class (name.
 active-stock-most class heap of_class word = grind (arith)
 
 -- a state before the first step, with a superblock installed, is sound
-pub installed-sound : (g : Geometry) (class : ℕ) (s : State) → IsChecked g → class < CLASSES → IsOpening g (installed g class) s → IsSound g s
-installed-sound g class s checked of o =
+pub open_installed-sound : (g : Geometry) (class : ℕ) (s : State) → IsChecked g → class < CLASSES → IsOpening g (installed g class) s → IsSound g s
+open_installed-sound g class s checked of o =
     let h = is-installed g class s checked of o in
     let first = installed g class in
     record {

@@ -4,10 +4,11 @@ use Rattle.sound_state.proofs.Common.{Geometry, IsChecked, WordName, descriptor_
 use Rattle.sound_state.proofs.Common.{descriptor_count_within, IsLegalEvent, opening, IsOpening}
 use Rattle.word_table.specs.declared.name.WordName.TheVariants as name
 use Rattle.sound_state.proofs.beginnings.FirstLemmas.{IsFirst, IsBegun, next-word, some-descriptors, info-zero, first_lists, zero-word, zero-state, zero-anchor_tag}
-use Rattle.sound_state.proofs.beginnings.FirstLemmas.{first-kept, first-chained, first-fills, first-framed, first-stocked, first-history, first-sound}
+use Rattle.sound_state.proofs.beginnings.FirstLemmas.{first-kept, first-chained, first-fills, first-framed, first-stocked, first-history}
 use Rattle.sound_state.proofs.shared.HolderLemmas.{IsHolderWeight, is_holder, holders-none, keeps-holder, stock-holder, zero-active}
 use Rattle.sound_state.proofs.beginnings.OpeningLists.{indexes, indexes-once}
 use Rattle.sound_state.proofs.shared.SumLemmas.{sum-none}
+use Rattle.sound_state.proofs.SoundAfter.{first-sound}
 
 -- the words at opening are words
 opening-below : (g : Geometry) (m : WordName) → IsChecked g → exists g m ≡ true → opening g m < 2 ^ 64

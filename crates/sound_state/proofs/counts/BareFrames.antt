@@ -1,9 +1,10 @@
 -- A bare frame weighs something: it is in a caller's hand, or a block of it is reserved.
 use Rattle.std.proofs.Common.{ℕ, Bool, true, Option, Some, None, ◌≡◌, ◌<◌, ◌≤◌, ◌+◌, [], refl, sym, ◌∙◌, ap, subst, arith, ◌==◌, ◌&&◌, if◌then◌else◌, All}
+use Rattle.std.specs.List.{AllByRecursion}
 use Rattle.std.proofs.lemmas.List.Elements.{All-head}
 use Rattle.sound_state.proofs.Common.{Geometry, Need, Small, block_count_of, block_place, frame_of, frame_of-block_place, WordName, Site, descriptor_count, occurs}
 use Rattle.sound_state.proofs.Common.{BlockPoint, Share, block_at, pool_of, place-found, Point, FitsPoint, State, fills_frame, errand_frames, waiting, holds_before_pop}
-use Rattle.sound_state.proofs.Common.{holds_of, Lists, IsSo, IsOwned, IsLocated, recalls_of, bound_here, IsSoundWith, sum_below, words_sum, callers_sum, Superblock}
+use Rattle.sound_state.proofs.Common.{holds_of, Lists, IsSo, IsOwned, recalls_of, IsSoundWith, sum_below, words_sum, callers_sum, Superblock}
 use Rattle.sound_state.proofs.Common.{IsChained, superblock_of, free_chain, live_at, is_there, info_for, is_bound, waiting_of, reserved_of, word_reserves, reserved_among}
 use Rattle.sound_state.proofs.Common.{errand_reserves, kept_among, errand_keeps, FitsBlock, keep, reserve, block_handed, block_holds, block_recalls}
 use Rattle.superblock_parts.specs.declared.point.BlockPoint.TheVariants as block
@@ -12,7 +13,8 @@ use Rattle.pool_model.specs.Pool.{Block}
 use Rattle.pool_model.specs.Legal.{IsBare}
 use Rattle.errand_steps.specs.declared.point.Point.TheVariants as point
 use Rattle.sound_state.proofs.counts.BareWeights.{popping, popping_block, popping_fills, errand_weighs, word_weighs, frame_weighs}
-use Rattle.sound_state.proofs.shared.PointLemmas.{fits-at}
+use Rattle.sound_state.proofs.shared.PointLemmas.{recalled-at, fits-at}
+use Rattle.sound_state.proofs.shared.RecallFrame.{LiesAt}
 use Rattle.sound_state.proofs.shared.WeightSums.{words-some, callers-least}
 use Rattle.sound_state.proofs.shared.SumLemmas.{sum-same, sum-ones, sum-occurs, some-term, term-sum}
 
@@ -97,12 +99,11 @@ live-there s caller f i at n bare there within owned =
 
 after-pop :
     (g : Geometry) (s : State) (l : Lists) (caller f d i more : ℕ) (at : Site) → IsBare (pool_of s.history) f → (info_for s d).frame ≡ f
-    → i < block_count_of at.seat.class → All (IsSo g s l caller) (bound_here at) → All (λ x. IsOwned s caller x.place x.need) (block_handed at i)
+    → i < block_count_of at.seat.class → LiesAt g s l at → All (λ x. IsOwned s caller x.place x.need) (block_handed at i)
     → 0 < reserved_among d (reserve at.desc more) → ⊥
-after-pop g s l caller f d i more at bare lies within so hands some =
+after-pop g s l caller f d i more at bare lies within here hands some =
     let same : at.desc ≡ d = reserved-of d at.desc more some in
-    let located : IsLocated s at.desc at.frame at.seat.class = (All-head (IsSo g s l caller) _ [] so).1 in
-    let there : at.frame ≡ f = sym located.frame ∙ ap (λ k. (info_for s k).frame) same ∙ lies in
+    let there : at.frame ≡ f = sym here.1.frame ∙ ap (λ k. (info_for s k).frame) same ∙ lies in
     live-there s caller f i at (Small at.seat.class) bare there within
     (All-head (λ x. IsOwned s caller x.place x.need) (record { place = block_place at.frame at.seat.class i; need = Small at.seat.class }) [] hands)
 
@@ -119,17 +120,17 @@ record Beside (g : Geometry) (s : State) (l : Lists) (caller f d : ℕ) : Type 0
 -- a caller beside a bare frame that the superblock of d fills
 module _ (g : Geometry) (s : State) (l : Lists) (caller f d : ℕ) (b : Beside g s l caller f d) where
   block-pops :
-      (p : BlockPoint) → FitsBlock g caller p → All (IsSo g s l caller) (block_recalls p) → All (λ x. IsOwned s caller x.place x.need) (block_holds p).hands
+      (p : BlockPoint) → FitsBlock g caller p → AllByRecursion (IsSo g s l caller) (block_recalls p) → All (λ x. IsOwned s caller x.place x.need) (block_holds p).hands
       → kept_among waiting d (block_holds p).kept ≡ 0 → 0 < reserved_among d (block_holds p).credits → 0 < popping_fills g s l f (popping_block p)
-  block-pops (block.InstallCredits at i more) fits so hands none some = absurd (after-pop g s l caller f d i more at b.bare b.lies fits.0.index so hands some)
-  block-pops (block.LoadReturn at i more) fits so hands none some = absurd (after-pop g s l caller f d i more at b.bare b.lies fits.0.index so hands some)
+  block-pops (block.InstallCredits at i more) fits so hands none some = absurd (after-pop g s l caller f d i more at b.bare b.lies fits.0.index so.0 hands some)
+  block-pops (block.LoadReturn at i more) fits so hands none some = absurd (after-pop g s l caller f d i more at b.bare b.lies fits.0.index so.0 hands some)
   block-pops (block.ReturnCredits at i more a) fits so hands none some =
-      absurd (after-pop g s l caller f d i more at b.bare b.lies fits.0.index so hands some)
+      absurd (after-pop g s l caller f d i more at b.bare b.lies fits.0.index so.0 hands some)
   block-pops p fits so hands none some = grind (arith, some, none, b.filled, before-pop, installs-waits)
 
   -- a caller at any point that has reserved a block of a bare frame's superblock is about to pop it
   point-pops :
-      (p : Point) → FitsPoint g caller p → All (IsSo g s l caller) (recalls_of p) → All (λ x. IsOwned s caller x.place x.need) (holds_of p).hands
+      (p : Point) → FitsPoint g caller p → AllByRecursion (IsSo g s l caller) (recalls_of p) → All (λ x. IsOwned s caller x.place x.need) (holds_of p).hands
       → kept_among waiting d (holds_of p).kept ≡ 0 → 0 < reserved_among d (holds_of p).credits → 0 < popping_fills g s l f (popping p)
   unfolding holds_of recalls_of
   point-pops (point.Block p o) fits so hands none some = block-pops p fits.point so hands none some
@@ -147,7 +148,7 @@ callers-pop g s l f d sound bare filled some =
     omega (arith, is.1, term-sum g.callers (λ caller. errand_keeps waiting d (s.errand caller)) i has) in
     let pops : 0 < popping_fills g s l f (popping (s.errand i).point) =
     point-pops g s l i f d (record { bare = bare; filled = filled; lies = is.2 }) (s.errand i).point
-    (fits-at g s l i (s.errand i).point sound has refl) (sound.remembered.so i has) (sound.tied.hands i has) none here in
+    (fits-at g s l i (s.errand i).point sound has refl) (recalled-at g s l i (s.errand i).point sound has refl) (sound.tied.hands i has) none here in
     omega (arith, pops, term-sum g.callers (λ caller. errand_weighs g s l f (s.errand caller)) i has)
 
 -- a bare frame that a superblock fills weighs something

@@ -15,17 +15,17 @@ use Rattle.errand_steps.specs.declared.continuation.Continuation.TheVariants as 
 use Rattle.errand_steps.specs.declared.reply.Reply.TheVariants as reply
 use Rattle.errand_steps.specs.Continuations.{resumes}
 use Rattle.sound_state.proofs.shared.RecallFrame.{Reads}
-use Rattle.sound_state.proofs.shared.ShownLemmas.{IsListedPart, sound-but_one, sound-shown, with_available, MayGoOn}
+use Rattle.sound_state.proofs.shared.ShownLemmas.{IsListedPart, with_available, MayGoOn}
 use Rattle.sound_state.proofs.descriptors.DescRecalls.{recalls-pushed}
 use Rattle.sound_state.proofs.descriptors.DescWeighs.{ListWeighs, restocks-by}
 use Rattle.sound_state.proofs.shared.PointLemmas.{exists-at, fits-at, hazard-at, recalled-at}
-use Rattle.sound_state.proofs.quiet.QuietExchanges.{either-sound}
 use Rattle.sound_state.proofs.quiet.QuietDescs.{push_desc_lost-sound}
 use Rattle.sound_state.proofs.shared.StepLemmas.{raised-least, found_from}
-use Rattle.sound_state.proofs.shared.KeepsSound.{KeepsSound, KeepsSoundWhere, silent-sound}
+use Rattle.sound_state.proofs.shared.KeepsSound.{KeepsSound, KeepsSoundWhere, silent-sound, either-sound}
 use Rattle.sound_state.proofs.shared.TieLemmas.{Excepts}
 use Rattle.sound_state.proofs.shared.NothingLemmas.{nothing-stands, resumes-counts, TurnResumes, nothing-guards, HoldsNothing}
 use Rattle.sound_state.proofs.shared.TurnEffects.{own-counts}
+use Rattle.sound_state.proofs.SoundAfter.{shown-sound, sound-but_one}
 
 -- the point at which a call goes on after a retirement, and the turns that it has begun then
 abbrev pub resumed_point : ErrandFields → SeatFields → Continuation → Point
@@ -203,7 +203,7 @@ push_desc_won-sound seat d top o g s caller s' sound has stands won step =
     (push-weighs l seat d top o (s.errand caller) x stands listed bare) (recalls-pushed g s l caller d old has exists listed pushes)
     (subst (All (Reads (IsListedPart l (d ∷ l.available)))) (sym bare.recalls) (All-nil (Reads (IsListedPart l (d ∷ l.available))))) in
     silent-sound g s caller s' (with_available l (d ∷ l.available)) sound has step past
-    (sound-shown g s l caller e s' (d ∷ l.available) restocks (sound-but_one g s l caller old))
+    (shown-sound restocks (sound-but_one g s l caller old))
 
 -- a push of a retired descriptor, won or lost, keeps the state sound
 pub push_desc-sound : (seat : SeatFields) (d top : ℕ) (o : Continuation) → KeepsSound (Desc (desc.PushDesc seat d top) o)

@@ -1,18 +1,20 @@
--- What a caller remembers of an EMPTY or a noted descriptor, it remembers of one that it guards or keeps.
+-- What a caller remembers of an available descriptor, or of one that isn't available, it remembers of one that it guards or keeps.
 use Rattle.std.proofs.Common.{ℕ, Some, ◌≡◌, ◌<◌, ◌≤◌, ◌+◌, List, ◌∷◌, refl, arith, ◌⊎◌, Contains, ne_eqb}
 use Rattle.std.specs.List.{AllByRecursion}
-use Rattle.sound_state.proofs.Common.{Geometry, descriptor_count, occurs, BlockPoint, Point, FitsPoint, pushed_by, State, Holding, partly_used, holds_of, errand_has, Lists}
-use Rattle.sound_state.proofs.Common.{recalls_of, IsSoundWith, sum_below, callers_sum, kept_among, errand_keeps, guarded, block_recalls}
+use Rattle.sound_state.proofs.Common.{Geometry, descriptor_count, occurs, BlockPoint, Point, FitsPoint, pushed_by, State, Holding, holds_of, errand_has, Lists}
+use Rattle.sound_state.proofs.Common.{recalls_of, block_holds, IsSoundWith, sum_below, callers_sum, guarded, block_recalls}
+use Rattle.sound_state.proofs.Common.{Part, availables, part_of}
 use Rattle.sound_state.proofs.shared.BackedRecalls.{AllRead, for-each}
+use Rattle.sound_state.proofs.shared.HasLemmas.{kept-itself}
 use Rattle.sound_state.proofs.shared.ListFacts.{contains-occurs}
-use Rattle.sound_state.proofs.shared.PointLemmas.{fits-at}
+use Rattle.sound_state.proofs.shared.PointLemmas.{fits-at, kept_places}
 use Rattle.sound_state.proofs.shared.SumLemmas.{sum-plus, sum-least, term-sum}
-use Rattle.sound_state.proofs.shared.RecallFrame.{Part, Reads, availables, part_of}
+use Rattle.sound_state.proofs.shared.RecallFrame.{Reads}
 use Rattle.sound_state.proofs.shared.ShownLemmas.{IsListedPart}
 
--- a holding guards the descriptor, or keeps it partly used
+-- a holding guards the descriptor, or keeps it
 abbrev pub Has : Holding → ℕ → Type 0
-Has h d = (h.hazard ≡ guarded d) ⊎ (1 ≤ kept_among partly_used d h.kept)
+Has h d = (h.hazard ≡ guarded d) ⊎ (1 ≤ kept_places d h.kept)
 
 -- a descriptor whose part is read is
 abbrev pub IsHeld : Holding → Part → Type 0
@@ -20,8 +22,8 @@ IsHeld h (availables d) = Has h d
 IsHeld h p = Unit {0}
 
 -- what is remembered at a point is of held descriptors
-held-block : (h : Holding) (p : BlockPoint) → AllByRecursion (Reads (IsHeld h)) (block_recalls p)
-held-block h p = grind (arith)
+held-block : (p : BlockPoint) → AllByRecursion (Reads (IsHeld (block_holds p))) (block_recalls p)
+held-block p = grind (arith, kept-itself)
 
 held-at : (g : Geometry) (caller : ℕ) (p : Point) → FitsPoint g caller p → AllByRecursion (Reads (IsHeld (holds_of p))) (recalls_of p)
 unfolding holds_of recalls_of
@@ -31,18 +33,19 @@ held-at g caller p fits = grind (arith, fits, held-block)
 module _
     (g : Geometry) (s : State) (l : Lists) (caller i d : ℕ) (old : IsSoundWith g s l) (has : caller < g.callers) (has_i : i < g.callers)
     (exists : d < descriptor_count g) (listed : Contains (s.errand caller).retired d) where
-  -- nobody keeps partly used a descriptor that is retired
-  retired-unkept : 1 ≤ errand_keeps partly_used d (s.errand i) → ⊥
+  -- nobody keeps a descriptor that is retired
+  retired-unkept : 1 ≤ kept_places d (holds_of (s.errand i).point).kept → ⊥
   unfolding callers_sum
   retired-unkept keeps =
       let lists = λ (j : ℕ). occurs d (s.errand j).retired in
-      let partly = λ (j : ℕ). errand_keeps partly_used d (s.errand j) in
-      let both : sum_below g.callers (λ j. lists j + partly j) ≡ sum_below g.callers lists + sum_below g.callers partly = sum-plus g.callers lists partly in
-      let least : sum_below g.callers (λ j. lists j + partly j) ≤ sum_below g.callers (λ j. errand_has d (s.errand j)) =
-      sum-least g.callers (λ j. lists j + partly j) (λ j. errand_has d (s.errand j)) (λ j lt. omega arith) in
+      let keeps_it = λ (j : ℕ). kept_places d (holds_of (s.errand j).point).kept in
+      let both : sum_below g.callers (λ j. lists j + keeps_it j) ≡ sum_below g.callers lists + sum_below g.callers keeps_it =
+      sum-plus g.callers lists keeps_it in
+      let least : sum_below g.callers (λ j. lists j + keeps_it j) ≤ sum_below g.callers (λ j. errand_has d (s.errand j)) =
+      sum-least g.callers (λ j. lists j + keeps_it j) (λ j. errand_has d (s.errand j)) (λ j lt. omega arith) in
       let once = old.kept.once d exists in
       let mine : lists caller ≤ sum_below g.callers lists = term-sum g.callers lists caller has in
-      let its : partly i ≤ sum_below g.callers partly = term-sum g.callers partly i has_i in
+      let its : keeps_it i ≤ sum_below g.callers keeps_it = term-sum g.callers keeps_it i has_i in
       omega (arith, once, both, least, mine, its, keeps, contains-occurs (s.errand caller).retired d listed)
 
   -- when it pushes it, nobody remembers it

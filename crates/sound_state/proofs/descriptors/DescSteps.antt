@@ -1,21 +1,22 @@
 -- The won exchanges of the stack of available descriptors keep the state sound.
-use Rattle.std.proofs.Common.{ℕ, true, false, None, ◌≡◌, ◌<◌, ◌+◌, List, [], ◌∷◌, refl, arith, ap, sym, subst, inl, inr, ◌∙◌, ◌==◌, All, eq-eqb}
-use Rattle.std.proofs.lemmas.Bool.{cases_eq, cond-true}
+use Rattle.std.proofs.Common.{ℕ, true, false, None, ◌≡◌, ◌<◌, ◌+◌, List, [], ◌∷◌, refl, arith, ap, sym, subst, inl, ◌∙◌, ◌==◌, All, eq-eqb}
+use Rattle.std.proofs.lemmas.Bool.{cond-true}
 use Rattle.std.proofs.lemmas.List.Elements.{All-head, All-tail, All-from_recursion}
 use Rattle.sound_state.proofs.Common.{Geometry, Found, name_of, after_action, descriptor_count, SeatFields, Writes, occurs, Partials, Stacked, next_in, Continuation, Desc}
 use Rattle.sound_state.proofs.Common.{ErrandFields, counts_cleared, raised, event_of, next_of, plan_point_of, State, Moves, found_at, with_event, IsGuard, holds_of}
-use Rattle.sound_state.proofs.Common.{IsWithout, Lists, IsSo, looked, recalls_of}
+use Rattle.sound_state.proofs.Common.{IsWithout, Lists, IsSo, recalls_of}
 use Rattle.word_table.specs.declared.name.WordName.TheVariants as name
 use Rattle.hazard_parts.specs.declared.point.DescPoint.TheVariants as desc
 use Rattle.sound_state.proofs.shared.HasLemmas.{ways-one}
-use Rattle.sound_state.proofs.shared.ShownLemmas.{sound-but_one, sound-shown, with_available}
+use Rattle.sound_state.proofs.shared.ShownLemmas.{with_available}
 use Rattle.sound_state.proofs.descriptors.DescRecalls.{recalls-popped}
 use Rattle.sound_state.proofs.descriptors.DescWeighs.{ListWeighs, restocks-by}
 use Rattle.sound_state.proofs.hazards.HazardLemmas.{plain-guards, leads-at}
 use Rattle.sound_state.proofs.shared.PointLemmas.{exists-at, hazard-at, recalled-at}
 use Rattle.sound_state.proofs.quiet.QuietDescs.{pop_desc_lost-sound}
 use Rattle.sound_state.proofs.shared.StepLemmas.{PointStands, at_point, may-step, found_from}
-use Rattle.sound_state.proofs.shared.KeepsSound.{KeepsSound, KeepsSoundWhere, silent-sound}
+use Rattle.sound_state.proofs.shared.KeepsSound.{KeepsSound, KeepsSoundWhere, silent-sound, either-sound}
+use Rattle.sound_state.proofs.SoundAfter.{shown-sound, sound-but_one}
 
 -- a stack whose top names a descriptor begins with it
 pub first-of :
@@ -34,7 +35,7 @@ pop-weighs l seat d next o ys e x stands is = grind (arith, stands, is, ways-one
 
 pop_desc-stands :
     (g : Geometry) (s : State) (l : Lists) (caller : ℕ) (seat : SeatFields) (d next : ℕ) (o : Continuation) → IsWithout s d
-    → All (IsSo g s l caller) (looked seat.class ∷ [])
+    → All (IsSo g s l caller) (recalls_of (Desc (desc.ClearAfterPop seat d) o))
     → PointStands g s l caller (Desc (desc.PopDesc seat d next) o) (Desc (desc.ClearAfterPop seat d) o)
 unfolding holds_of recalls_of
 pop_desc-stands g s l caller seat d next o without so = grind (arith, without, so)
@@ -84,12 +85,8 @@ pop_desc_won-sound seat d next o g s caller s' sound has at won step =
     (λ i has_i. recalls-popped l d ys is (s.errand i).point)
     (recalls-popped l d ys is q) in
     silent-sound g s caller s' (with_available l ys) sound has step past
-    (sound-shown g s l caller e s' ys restocks (sound-but_one g s l caller old))
+    (shown-sound restocks (sound-but_one g s l caller old))
 
 -- a pop of an available descriptor, won or lost, keeps the state sound
 pub pop_desc-sound : (seat : SeatFields) (d next : ℕ) (o : Continuation) → KeepsSound (Desc (desc.PopDesc seat d next) o)
-pop_desc-sound seat d next o g s caller s' sound has stands step =
-    elim (cases_eq (s.word name.DescHead) (d + 1)) [
-      | inl won ↦ pop_desc_won-sound seat d next o g s caller s' sound has stands won step
-      | inr lost ↦ pop_desc_lost-sound seat d next o g s caller s' sound has stands lost step
-    ]
+pop_desc-sound seat d next o = either-sound _ name.DescHead (d + 1) (pop_desc_won-sound seat d next o) (pop_desc_lost-sound seat d next o)

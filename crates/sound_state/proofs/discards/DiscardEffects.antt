@@ -1,7 +1,8 @@
 -- A lost install: what it changes, and that everything else stays.
-use Rattle.std.proofs.Common.{ℕ, ◌≡◌, ◌<◌, ◌≤◌, ◌+◌, [], ◌⊎◌, IsTrue}
+use Rattle.std.proofs.Common.{ℕ, ◌≡◌, ◌<◌, ◌≤◌, ◌+◌, ◌⊎◌, IsTrue}
+use Rattle.std.specs.List.{AllByRecursion}
 use Rattle.sound_state.proofs.Common.{Geometry, WordName, Site, IsSiteOf, ErrandFields, Point, State, Moves, holds_of, Lists, IsLocated, recalls_of, turn_stage_of}
-use Rattle.sound_state.proofs.Common.{anchor_for, is_bound, pops_left, new_anchor, making}
+use Rattle.sound_state.proofs.Common.{anchor_for, is_bound, pops_left, new_anchor, making, IsSo}
 use Rattle.errand_steps.specs.tables.TurnStage.{not_needed}
 use Rattle.sound_state.proofs.shared.MakingWeights.{installing_holds}
 use Rattle.sound_state.proofs.shared.TurnEffects.{StandsFramed, IsQuiet}
@@ -28,6 +29,6 @@ pub record Discards (g : Geometry) (s : State) (l : Lists) (caller : ℕ) (at : 
   pub cleared : e.cleared ≡ (s.errand caller).cleared
   pub holds_before : holds_of (s.errand caller).point ≡ installing_holds at
   pub holds_after : holds_of e.point ≡ making at
-  pub recalls_after : recalls_of e.point ≡ []
+  pub recalls_after : AllByRecursion (IsSo g s' l caller) (recalls_of e.point)
   pub stands_before : StandsFramed (s.errand caller).point
   pub stands_after : StandsDiscarding e.point

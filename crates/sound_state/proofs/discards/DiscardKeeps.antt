@@ -1,5 +1,5 @@
 -- A lost install keeps the lists, the descriptors, the stock, the frames, the chains, the guards and the bounds of tags and turns.
-use Rattle.std.proofs.Common.{ℕ, ◌≡◌, ◌≢◌, [], refl, arith, ap, sym, subst, inl, inr, ◌∙◌, All, IsTrue}
+use Rattle.std.proofs.Common.{ℕ, ◌≡◌, ◌≢◌, refl, arith, ap, sym, subst, inl, inr, ◌∙◌, All, IsTrue}
 use Rattle.std.proofs.Math.Path.{fun_ext}
 use Rattle.sound_state.proofs.Common.{Geometry, Site, ErrandFields, State, IsFramed, fills_frame, IsGuarded, on_its_way, IsKept, IsWithout, full_keeps, word_keeps, Lists}
 use Rattle.sound_state.proofs.Common.{IsListed, IsSoundWith, word_stock, AreChained, superblock_of, is_bound, away_of, waiting_of, IsTurned, emptied_out, IsStocked}

@@ -1,11 +1,10 @@
 -- A lost install keeps what the callers remember: nobody else remembers anything of the superblock that isn't needed.
-use Rattle.std.proofs.Common.{ℕ, ◌≡◌, ◌≢◌, arith, ap, sym, subst, ◌∙◌, IsTrue, All}
-use Rattle.std.proofs.lemmas.List.Elements.{All-nil}
-use Rattle.sound_state.proofs.Common.{Geometry, Site, is_empty, own, ErrandFields, State, Lists, IsSo, IsSoundWithoutCounts, IsSoundWith, anchor_for, IsRemembered}
+use Rattle.std.proofs.Common.{ℕ, ◌≡◌, ◌≢◌, arith, ap, sym, subst, ◌∙◌, IsTrue}
+use Rattle.sound_state.proofs.Common.{Geometry, Site, is_empty, own, ErrandFields, State, Lists, IsSoundWithoutCounts, IsSoundWith, anchor_for, IsRemembered}
+use Rattle.sound_state.proofs.Common.{Part, bindings, chains, single}
 use Rattle.packed_words.specs.declared.anchor.AnchorState.TheVariants as phase
 use Rattle.sound_state.proofs.shared.MakingWeights.{it-elsewhere}
 use Rattle.sound_state.proofs.shared.RecallEffects.{Leaves, IsLeft, chain-steady, remembered-left}
-use Rattle.sound_state.proofs.shared.RecallFrame.{Part, bindings, chains, single}
 use Rattle.sound_state.proofs.shared.RecallTables.{IsUnbound, unbound-recalls}
 use Rattle.sound_state.proofs.discards.DiscardEffects.{Discards}
 use Rattle.sound_state.proofs.discards.DiscardFacts.{discarded-descs, discarded-ways, discarded-bound, discarded-reserved, others-reserve}
@@ -35,7 +34,7 @@ module _ {g : Geometry} {s : State} {l : Lists} {caller : ℕ} {at : Site} {e : 
 
   pub discarded-remembered : IsSoundWithoutCounts g s → IsSoundWith g s l → IsRemembered g s' l
   discarded-remembered sound old =
-      remembered-left g s l caller e s' h.moves (subst (All (IsSo g s' l caller)) (sym h.recalls_after) (All-nil (IsSo g s' l caller)))
+      remembered-left g s l caller e s' h.moves h.recalls_after
       (λ i has ne. discarded-leaves i)
       (λ i has ne k d lt.
       discarded-left _ (unbound-recalls g s l i at.desc (own-apart h sound old i) old has (others-reserve h old i has ne) k d lt)) old

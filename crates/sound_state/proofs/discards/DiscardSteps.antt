@@ -1,6 +1,6 @@
 -- The step of a lost install, and what it changes.
 use Rattle.std.proofs.Common.{ℕ, true, false, ◌≡◌, ◌≢◌, ◌<◌, ◌≤◌, ◌+◌, ◌^◌, refl, arith, ap, sym, subst, inl, inr, ◌⊎◌, ◌==◌, ne_eqb}
-use Rattle.std.proofs.lemmas.Bool.{cases_eq, cases_lt, cond-false}
+use Rattle.std.proofs.lemmas.Bool.{cases_lt, cond-false}
 use Rattle.sound_state.proofs.Common.{Geometry, active_word, Null, Held, Found, Site, active_name, Writes, new_credits, Frames, Continuation, Point, Block, Stack}
 use Rattle.sound_state.proofs.Common.{ErrandFields, counts_lost, raised, event_of, next_of, asked, plan_point_of, State, Step, holds_of, Lists, counts_cleared, recalls_of}
 use Rattle.sound_state.proofs.Common.{IsSoundWithoutCounts, IsSoundWith, IsOwnErrand}
@@ -8,16 +8,13 @@ use Rattle.superblock_parts.specs.declared.point.BlockPoint.TheVariants as block
 use Rattle.stack_parts.specs.declared.point.StackPoint.TheVariants as stack
 use Rattle.errand_steps.specs.declared.continuation.Continuation.TheVariants as continuation
 use Rattle.sound_state.proofs.discards.DiscardEffects.{Discards, StandsDiscarding}
-use Rattle.sound_state.proofs.discards.DiscardKeeps.{discarded-listed, discarded-kept, discarded-stocked, discarded-framed, discarded-chained, discarded-guarded}
-use Rattle.sound_state.proofs.discards.DiscardKeeps.{discarded-turned}
-use Rattle.sound_state.proofs.discards.DiscardRecalls.{discarded-remembered}
-use Rattle.sound_state.proofs.discards.DiscardTies.{discarded-tied}
 use Rattle.sound_state.proofs.installs.InstallSteps.{about-to-install, install-stands, install_superblock-won}
 use Rattle.sound_state.proofs.shared.CreditLemmas.{lost_with}
 use Rattle.sound_state.proofs.shared.StepLemmas.{at_point, words-stay}
 use Rattle.sound_state.proofs.shared.TurnEffects.{StandsFramed}
 use Rattle.sound_state.proofs.shared.WonEffects.{StepEffects, step-effects}
-use Rattle.sound_state.proofs.shared.KeepsSound.{KeepsSound, KeepsSoundWhere, silent-sound}
+use Rattle.sound_state.proofs.shared.KeepsSound.{KeepsSound, KeepsSoundWhere, silent-sound, either-sound}
+use Rattle.sound_state.proofs.SoundAfter.{discarded-sound}
 
 -- the point to which a lost install leads
 abbrev pub discarded_point : Site → Continuation → Point
@@ -72,7 +69,7 @@ install-discards g s l caller s' at o sound is has here other step =
       cleared = ap (λ r. raised (counts_cleared r x) (s.errand caller).cleared) here;
       holds_before = ap holds_of here;
       holds_after = refl;
-      recalls_after = refl;
+      recalls_after = tt;
       stands_before = subst StandsFramed (sym here) (install-stands at o);
       stands_after = discard-stands at o;
     }
@@ -84,24 +81,8 @@ install_superblock-lost at o g s caller s' sound has here other step =
     let l = sound.parts.0 in
     let is = sound.parts.1 in
     let h = install-discards g s l caller s' at o sound is has here other step in
-    silent-sound g s caller s' l sound has step h.history
-    (λ formed. record {
-      formed = formed;
-      listed = discarded-listed h is;
-      kept = discarded-kept h is;
-      chained = discarded-chained h is;
-      framed = discarded-framed h is;
-      remembered = discarded-remembered h sound is;
-      guarded = discarded-guarded h is;
-      stocked = discarded-stocked h is;
-      turned = discarded-turned h is;
-      tied = discarded-tied h sound is;
-    })
+    silent-sound g s caller s' l sound has step h.history (discarded-sound h sound is)
 
 -- an install keeps the state sound, won or lost
 pub install_superblock-sound : (at : Site) (o : Continuation) → KeepsSound (Block (block.InstallSuperblock at) o)
-install_superblock-sound at o g s caller s' sound has here step =
-    elim (cases_eq (s.word (active_name at.seat)) (active_word Null)) [
-      | inl is ↦ install_superblock-won at o g s caller s' sound has here is step
-      | inr other ↦ install_superblock-lost at o g s caller s' sound has here other step
-    ]
+install_superblock-sound at o = either-sound _ (active_name at.seat) (active_word Null) (install_superblock-won at o) (install_superblock-lost at o)

@@ -1,18 +1,22 @@
 -- A step that stores its caller's hazard word, or reads one, and after which the caller holds what else it held.
-use Rattle.std.proofs.Common.{ℕ, false, Option, Some, None, ◌≡◌, ◌<◌, ◌+◌, List, length, arith, ap, sym, subst, inl, inr, ◌⊎◌, ◌∙◌, All, Any, IsTrue}
+use Rattle.std.proofs.Common.{ℕ, refl, false, Option, Some, None, ◌≡◌, ◌<◌, ◌+◌, List, length, arith, ap, sym, subst, inr, ◌⊎◌, ◌∙◌, All}
 use Rattle.std.proofs.lemmas.Option.{none-some}
+use Rattle.std.specs.List.{AllByRecursion}
+use Rattle.std.proofs.lemmas.List.Elements.{All-from_recursion}
 use Rattle.sound_state.proofs.Common.{FitsPoint, found_by, name_at, point_after, Next, Store, Geometry, Found, WordName, name_of, after_action, Writes, At, Pick}
-use Rattle.sound_state.proofs.Common.{Continuation, Point, Desc, SeatFields, ErrandFields, counts_cleared, settle_of, course_of, event_of, spare_of, pushed_by, next_of}
-use Rattle.sound_state.proofs.Common.{plan_point_of, State, Step, found_at, IsHazard, IsGuard, passed_by, held_by, holds_of, IsKeptAs, word_keeps, Lists, IsSo, IsOwned}
-use Rattle.sound_state.proofs.Common.{recalls_of, IsSoundWithoutCounts, IsSoundWith, waits_in, word_stock, stock_among, word_reserves, first_unheld, Guards, IsPlain}
+use Rattle.sound_state.proofs.Common.{Continuation, Point, Desc, SeatFields, ErrandFields, counts_cleared, settle_of, course_of, event_of, spare_of, pushed_by}
+use Rattle.sound_state.proofs.Common.{next_of, plan_point_of, State, Step, found_at, IsHazard, IsGuard, passed_by, held_by, holds_of, IsKeptAs, word_keeps, Lists}
+use Rattle.sound_state.proofs.Common.{IsSo, recalls_of, IsSoundWithoutCounts, IsSoundWith, waits_in, word_stock, stock_among, word_reserves, first_unheld, Guards}
+use Rattle.sound_state.proofs.Common.{IsPlain}
 use Rattle.word_table.specs.declared.name.WordName.TheVariants as name
 use Rattle.hazard_parts.specs.declared.point.DescPoint.TheVariants as desc
 use Rattle.sound_state.proofs.shared.ShownLemmas.{GuardsAnew, MayGuard}
-use Rattle.sound_state.proofs.shared.StepLemmas.{PointStands, TurnGoes, at_point, settle-at, step-most, found_from, actives-stay, words-stay, settle-next, LeadsOrEnds}
-use Rattle.sound_state.proofs.shared.PointLemmas.{fits-now, so-at}
+use Rattle.sound_state.proofs.shared.StepLemmas.{PointStands, TurnGoes, at_point, settle-at, found_from, actives-stay, words-stay, settle-next, LeadsOrEnds}
+use Rattle.sound_state.proofs.shared.PointLemmas.{fits-now, excepts-with, stands-with, recalled-at}
 use Rattle.sound_state.proofs.shared.KeepsSound.{KeepsSound}
 use Rattle.sound_state.proofs.shared.WeighLemmas.{WeighMost}
 use Rattle.sound_state.proofs.shared.SuperblocksStay.{actives-same, ActivesKept}
+use Rattle.sound_state.proofs.SoundSteps.{step-most}
 
 -- at q a caller holds what it holds at p, but for its hazard word, and is no further back in its turn
 pub record HoldsBut (p q : Point) : Type 0 where
@@ -30,16 +34,11 @@ but-stands :
     (g : Geometry) (s : State) (l : Lists) (caller : ℕ) (q : Point) → IsSoundWith g s l → caller < g.callers → HoldsBut (s.errand caller).point q
     → All (IsSo g s l caller) (recalls_of q) → PointStands g s l caller (s.errand caller).point q
 but-stands g s l caller q old has h so = record {
-  kept = subst (λ ks. All (λ k. IsKeptAs s k.status k.desc k.class) ks) (sym h.kept) (old.kept.errand caller has);
-  so = so;
+  point =
+      stands-with g s l caller (s.errand caller).point q old has refl h.hands h.frees
+      (subst (λ ks. All (λ k. IsKeptAs s k.status k.desc k.class) ks) (sym h.kept) (old.kept.errand caller has)) so;
   spare = h.spare;
-  hands = subst (λ bs. All (λ x. IsOwned s caller x.place x.need) bs) (sym h.hands) (old.tied.hands caller has);
-  frees = subst (λ bs. All (λ x. IsOwned s caller x.place x.need) bs) (sym h.frees) (old.tied.frees caller has);
-  excepts = λ place x.
-      elim x [
-        | inl a ↦ inl (subst (λ bs. Any (λ b. b.place ≡ place) bs) (sym h.hands) a)
-        | inr a ↦ inr (subst (λ bs. Any (λ b. (b.place ≡ place) × IsTrue b.overwritten) bs) (sym h.frees) a)
-      ];
+  excepts = excepts-with (holds_of (s.errand caller).point) (holds_of q) h.hands h.frees;
   turn = h.turn;
 }
 
@@ -146,7 +145,9 @@ pub record StoresOwn (p : Point) (n : Next) (i new : ℕ) : Type 0 where
   pub event : (caller w : ℕ) → event_of caller p (found_by (plan_point_of p) w) ≡ None
   pub cleared : (w : ℕ) → counts_cleared p (found_by (plan_point_of p) w) ≡ false
   pub holds : HoldsBut p (point_after n)
-  pub recalls : recalls_of (point_after n) ≡ recalls_of p
+  pub recalls :
+      (g : Geometry) (s : State) (l : Lists) (caller : ℕ) → AllByRecursion (IsSo g s l caller) (recalls_of p)
+      → AllByRecursion (IsSo g s l caller) (recalls_of (point_after n))
   pub hazard : IsHazard (holds_of (point_after n)).hazard new
   pub pushed : pushed_by (point_after n) ≡ None
   pub passed : passed_by (point_after n) ≡ 0
@@ -171,7 +172,9 @@ store-own p n i new given fits anew g s caller s' sound has stands step =
       after = settle-next e (found_at s caller) n h.plain (h.next _);
       event = h.event caller _;
       cleared = h.cleared _;
-      stands = but-stands g s l caller q old has h.holds (subst (All (IsSo g s l caller)) (sym given.recalls) (so-at g s l caller p old has stands));
+      stands =
+          but-stands g s l caller q old has h.holds
+          (All-from_recursion (IsSo g s l caller) (recalls_of q) (given.recalls g s l caller (recalled-at g s l caller p old has stands)));
       weigh = hazard-weighs (name_at s caller) caller _ _ e (found_at s caller) q (ap name_of h.plan ∙ ap name.Hazard own) h.holds;
     })
     (λ l old. hazard-actives g s l caller new s'.word old w)

@@ -16,13 +16,12 @@ use Rattle.stack_parts.specs.declared.point.StackPoint.TheVariants as stack
 use Rattle.hazard_parts.specs.declared.point.DescPoint.TheVariants as desc
 use Rattle.errand_steps.specs.declared.continuation.Continuation.TheVariants as continuation
 use Rattle.sound_state.proofs.hazards.HazardLemmas.{GoesHazard, picked_point, store-own, read-hazard, plain-guards, leads-at, picks-at}
-use Rattle.sound_state.proofs.quiet.QuietExchanges.{either-sound}
 use Rattle.sound_state.proofs.quiet.QuietDescs.{reload_desc_head_other-sound}
 use Rattle.sound_state.proofs.shared.GuardEffects.{available-unretired, bound-unretired}
 use Rattle.sound_state.proofs.shared.HasLemmas.{bound-away}
-use Rattle.sound_state.proofs.shared.PointLemmas.{fits-at, fits-now, so-at, hazard-at, unread-at, noted-unread, retired-exists, recalled-at}
+use Rattle.sound_state.proofs.shared.PointLemmas.{fits-at, fits-now, so-at, hazard-at, unread-at, noted-unread, retired-exists, recalled-at, goes-on}
 use Rattle.sound_state.proofs.shared.ShownLemmas.{GuardsAnew}
-use Rattle.sound_state.proofs.shared.KeepsSound.{KeepsSound, KeepsSoundWhere}
+use Rattle.sound_state.proofs.shared.KeepsSound.{KeepsSound, KeepsSoundWhere, either-sound}
 
 -- the store of the name of the descriptor on top of the available ones keeps the state sound
 pub store_hazard-sound : (seat : SeatFields) (d : ℕ) (o : Continuation) → KeepsSound (Desc (desc.StoreHazard seat d) o)
@@ -56,7 +55,7 @@ reload_desc_head_same-sound seat d o g s caller s' sound has stands same step =
       event = refl;
       cleared = refl;
       holds = grind (arith);
-      so = so-at g s l caller p old has stands;
+      so = goes-on g s l caller p (recalls_of q) old has stands (λ so. grind (arith, so));
       guards =
           plain-guards g s caller q (s.errand caller).retired (s.word (name.Hazard caller)) named
           (λ e is guard.
@@ -160,7 +159,7 @@ module _
         event = refl;
         cleared = refl;
         holds = grind (arith);
-        so = so-at g s l caller p old has stands;
+        so = goes-on g s l caller p (recalls_of q) old has stands (λ so. grind (arith, so));
         guards = record {
           hazard = hazard-at g s l caller p old has stands;
           guard = λ d is guard. absurd guard;

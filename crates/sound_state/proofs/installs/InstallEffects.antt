@@ -1,13 +1,15 @@
 -- A won install: what it changes, and that everything else stays.
 use Rattle.std.proofs.Common.{ℕ, false, ◌≡◌, ◌<◌, [], ◌∷◌, ◌++◌, IsTrue}
+use Rattle.std.specs.List.{AllByRecursion}
 use Rattle.sound_state.proofs.Common.{Geometry, need_of, block_place, Null, Held, active_word, Site, IsSiteOf, active_name, Exists, Writes, new_credits, ErrandFields}
-use Rattle.sound_state.proofs.Common.{State, Moves, Holding, holds_of, Lists, IsLocated, bound_here, recalls_of, anchor_for, is_bound, IsActiveWord, new_anchor, nothing}
-use Rattle.sound_state.proofs.Common.{block_handed}
+use Rattle.sound_state.proofs.Common.{State, Moves, Holding, holds_of, Lists, IsLocated, recalls_of, anchor_for, is_bound, IsActiveWord, new_anchor, nothing}
+use Rattle.sound_state.proofs.Common.{block_handed, IsSo}
 use Rattle.heap_geometry.specs.declared.need.Need.TheVariants as need
 use Rattle.pool_model.specs.declared.event.Event.TheVariants.{Alloc}
 use Rattle.sound_state.proofs.shared.MakingWeights.{installing_holds}
 use Rattle.sound_state.proofs.shared.TurnEffects.{StandsIn, StandsFramed}
 use Rattle.sound_state.proofs.shared.CallerLemmas.{KeepsCounts}
+use Rattle.sound_state.proofs.shared.RecallFrame.{LiesAt}
 
 -- what a caller holds that has installed a superblock
 abbrev pub installed_holds : Site → Holding
@@ -38,6 +40,6 @@ pub record Installs (g : Geometry) (s : State) (l : Lists) (caller : ℕ) (at : 
   pub own : KeepsCounts (s.errand caller) e
   pub holds_before : holds_of (s.errand caller).point ≡ installing_holds at
   pub holds_after : holds_of e.point ≡ installed_holds at
-  pub recalls_after : recalls_of e.point ≡ bound_here at
+  pub recalls_after : LiesAt g s' l at → AllByRecursion (IsSo g s' l caller) (recalls_of e.point)
   pub stands_before : StandsFramed (s.errand caller).point
   pub stands_after : StandsIn false e.point

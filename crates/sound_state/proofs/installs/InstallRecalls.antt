@@ -1,13 +1,13 @@
 -- A won install keeps what the callers remember.
-use Rattle.std.proofs.Common.{ℕ, ◌≢◌, ap, sym, subst, ◌∙◌, IsTrue, All}
-use Rattle.sound_state.proofs.Common.{Geometry, Site, is_empty, own, ErrandFields, State, Lists, IsSo, IsSoundWithoutCounts, IsSoundWith, IsRemembered}
+use Rattle.std.proofs.Common.{ℕ, ◌≢◌, ap, sym, subst, ◌∙◌, IsTrue}
+use Rattle.sound_state.proofs.Common.{Geometry, Site, is_empty, own, ErrandFields, State, Lists, IsSoundWithoutCounts, IsSoundWith, IsRemembered}
+use Rattle.sound_state.proofs.Common.{IsSaidWord, Part, bindings, chains, single}
 use Rattle.pool_model.specs.declared.event.Event.TheVariants.{Alloc}
 use Rattle.sound_state.proofs.installs.InstallEffects.{Installs, first_place}
 use Rattle.sound_state.proofs.installs.InstallFacts.{installed-anchor, installed-bound, installed-reserved, installed-ways}
 use Rattle.sound_state.proofs.installs.InstallTies.{installed-still-owned}
 use Rattle.sound_state.proofs.shared.EventFacts.{told-own}
-use Rattle.sound_state.proofs.shared.RecallEffects.{IsSteadyWord, AreSteady, Leaves, IsLeft, chain-steady, here-so, remembered-left}
-use Rattle.sound_state.proofs.shared.RecallFrame.{IsSaidWord, Part, bindings, chains, single}
+use Rattle.sound_state.proofs.shared.RecallEffects.{IsSteadyWord, AreSteady, Leaves, IsLeft, chain-steady, lies-still, remembered-left}
 
 -- an install that was won, seen by the callers that remember
 module _
@@ -36,6 +36,5 @@ module _
   pub installed-remembered : IsSoundWithoutCounts g s → IsSoundWith g s l → IsRemembered g s' l
   installed-remembered sound old =
       remembered-left g s l caller e s' h.moves
-      (subst (All (IsSo g s' l caller)) (sym h.recalls_after)
-      (here-so g s l s' installed-words-steady caller at (subst IsTrue (sym (installed-bound h at.desc)) h.bound) h.located))
+      (h.recalls_after (lies-still g s l s' installed-words-steady at (subst IsTrue (sym (installed-bound h at.desc)) h.bound) h.located))
       (λ i has ne. installed-leaves sound old i ne) (λ i has ne k d lt. installed-left _) old

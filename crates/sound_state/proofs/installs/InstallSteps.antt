@@ -4,12 +4,8 @@ use Rattle.sound_state.proofs.Common.{Geometry, active_word, anchor_of, Null, He
 use Rattle.sound_state.proofs.Common.{asked, plan_point_of, State, Step, holds_of, Lists, recalls_of, IsLocated, IsSoundWithoutCounts, IsSoundWith, anchor_for, is_bound}
 use Rattle.sound_state.proofs.Common.{IsActiveWord, anchor_of-anchor_word, new_anchor}
 use Rattle.superblock_parts.specs.declared.point.BlockPoint.TheVariants as block
-use Rattle.sound_state.proofs.installs.InstallChains.{installed-chained}
 use Rattle.sound_state.proofs.installs.InstallEffects.{Installs, installed_word}
-use Rattle.sound_state.proofs.installs.InstallKept.{installed-kept, installed-stocked, installed-framed}
-use Rattle.sound_state.proofs.installs.InstallRecalls.{installed-remembered}
-use Rattle.sound_state.proofs.installs.InstallTies.{installed-tied, installed-legal}
-use Rattle.sound_state.proofs.installs.InstallTurns.{installed-turned, installed-guarded, installed-listed}
+use Rattle.sound_state.proofs.installs.InstallTies.{installed-legal}
 use Rattle.sound_state.proofs.shared.PointLemmas.{fits-at, the-alloc, small-asked, recalled-at}
 use Rattle.sound_state.proofs.shared.StepLemmas.{at_point, keeps-counts}
 use Rattle.sound_state.proofs.shared.CreditLemmas.{won_with}
@@ -17,6 +13,7 @@ use Rattle.sound_state.proofs.shared.TurnEffects.{StandsIn, StandsFramed}
 use Rattle.sound_state.proofs.shared.WonEffects.{WonEffects, won-effects}
 use Rattle.sound_state.proofs.shared.WordFacts.{held-fits, seat-active}
 use Rattle.sound_state.proofs.shared.KeepsSound.{KeepsSoundWhere, stepped-sound}
+use Rattle.sound_state.proofs.SoundAfter.{installed-sound}
 use Rattle.sound_state.proofs.shared.WrittenWords.{credits-few, new_anchor-fits}
 
 pub install-stands : (at : Site) (o : Continuation) → StandsFramed (Block (block.InstallSuperblock at) o)
@@ -79,7 +76,7 @@ install-installs g s l caller s' at o sound is has here word step =
       own = keeps-counts (s.errand caller) p (won_with (active_word Null)) q here refl refl;
       holds_before = ap holds_of here;
       holds_after = refl;
-      recalls_after = refl;
+      recalls_after = λ lies. (lies, tt);
       stands_before = subst StandsFramed (sym here) (install-stands at o);
       stands_after = prefix-stands at 0 o;
     }
@@ -91,16 +88,4 @@ install_superblock-won at o g s caller s' sound has here word step =
     let l = sound.parts.0 in
     let is = sound.parts.1 in
     let h = install-installs g s l caller s' at o sound is has here word step in
-    stepped-sound g s caller s' l sound has step (installed-legal h sound is)
-    (λ formed. record {
-      formed = formed;
-      listed = installed-listed h is;
-      kept = installed-kept h is;
-      chained = installed-chained h is;
-      framed = installed-framed h is;
-      remembered = installed-remembered h sound is;
-      guarded = installed-guarded h is;
-      stocked = installed-stocked h is;
-      turned = installed-turned h sound is;
-      tied = installed-tied h sound is;
-    })
+    stepped-sound g s caller s' l sound has step (installed-legal h sound is) (installed-sound h sound is)

@@ -3,12 +3,13 @@ use Rattle.std.proofs.Common.{List, ℕ, Some, ◌≡◌, ◌≢◌, ◌<◌, �
 use Rattle.std.proofs.lemmas.List.Elements.{All-nil}
 use Rattle.sound_state.proofs.Common.{Geometry, Need, block_count_of, block_place, AnchorFields, anchor_of, info_of, link_of, WordName, descriptor_count, word_count, Event}
 use Rattle.sound_state.proofs.Common.{is_there, SeatFields, info_in, word_name, occurs, prefix_name, Pile, Frames, Partials, head_name, next_name, own, block_at, pool_of}
-use Rattle.sound_state.proofs.Common.{ErrandFields, Point, State, Moves, IsFramed, errand_frames, fills_frame, IsGuarded, IsFormed, Status, reserving, waiting, partly_used}
+use Rattle.sound_state.proofs.Common.{ErrandFields, Point, State, Moves, IsFramed, errand_frames, fills_frame, IsGuarded, Status, reserving, waiting, partly_used}
 use Rattle.sound_state.proofs.Common.{on_its_way, holds_of, IsKept, IsWithout, IsKeptAs, word_keeps, errand_has, full_keeps, Lists, IsListed, IsLocated, IsSo, IsOwned}
-use Rattle.sound_state.proofs.Common.{recalls_of, IsSoundWith, turn_stage_of, word_stock, errand_stock, full_stock, stock_among, IsTied, sum_below, words_sum, callers_sum}
+use Rattle.sound_state.proofs.Common.{recalls_of, IsSoundWith, turn_stage_of, word_stock, errand_stock, full_stock, stock_among, sum_below, words_sum, callers_sum}
 use Rattle.sound_state.proofs.Common.{AreChained, IsChained, info_or_zero, live_at, anchor_for, info_for, superblock_of, free_chain, reserved_of, word_reserves}
 use Rattle.sound_state.proofs.Common.{errand_reserves, reserved_among, waiting_of, away_of, errand_away, is_bound, errand_keeps, kept_among, IsTurned, gives_small}
 use Rattle.sound_state.proofs.Common.{refuses_small, pops_left, chain_of, Caller, clear, places_of, IsRemembered, out_of_turn, stock_of, is_small_alloc, is_small_free}
+use Rattle.sound_state.proofs.Common.{IsSaidWord, Part, bindings, places, chains, stacks, link_words, availables, events, single, constant}
 use Rattle.word_table.specs.declared.name.WordName.TheVariants as name
 use Rattle.superblock_parts.proofs.ChainLemmas.{chain_of-same}
 use Rattle.pool_model.specs.Pool.{Block}
@@ -18,8 +19,8 @@ use Rattle.sound_state.proofs.shared.GuardEffects.{guarded-clear}
 use Rattle.sound_state.proofs.shared.ListEffects.{IsListWord, listed-kept}
 use Rattle.sound_state.proofs.shared.SumLemmas.{callers-moved, sum-same}
 use Rattle.sound_state.proofs.shared.TurnEffects.{emptied-kept, head-tag, no-turn-weighs, turned-after, IsQuiet, counts-kept, EventEffects}
-use Rattle.sound_state.proofs.shared.RecallFrame.{ChainStays, IsSaidWord, Part, PartStays, bindings, places, chains, stacks, link_words, availables, events, single}
-use Rattle.sound_state.proofs.shared.RecallFrame.{constant, lies-same, stack-same}
+use Rattle.sound_state.proofs.shared.RecallFrame.{ChainStays, PartStays}
+use Rattle.sound_state.proofs.shared.RecallFrame.{lies-same, stack-same}
 use Rattle.sound_state.proofs.shared.SuperblocksStay.{SameDescs, actives-same, descs-kept}
 
 -- the word is none of the arena's, of the units and of the shelves
@@ -180,7 +181,7 @@ module _ {g : Geometry} {s : State} {l : Lists} {caller : ℕ} {e : ErrandFields
         ap (λ a. full_keeps a.state) (touched-anchor d),
       )
 
-  touched-stock : (class : ℕ) → stock_of g s' l class ≡ stock_of g s l class
+  pub touched-stock : (class : ℕ) → stock_of g s' l class ≡ stock_of g s l class
   touched-stock class =
       let full : sum_below (descriptor_count g) (full_stock s' class) ≡ sum_below (descriptor_count g) (full_stock s class) =
       sum-same (descriptor_count g) (full_stock s class) (full_stock s' class)
@@ -248,11 +249,11 @@ module _ {g : Geometry} {s : State} {l : Lists} {caller : ℕ} {e : ErrandFields
         (chained.chained d has bound);
   }
 
-  listed-touched : IsListed g s.word l → IsListed g s'.word l
+  pub listed-touched : IsListed g s.word l → IsListed g s'.word l
   listed-touched = listed-kept g s.word s'.word l (λ n is. h.word n (list-away n is))
 
   -- each descriptor stays where it is, in its state, after a touch
-  kept-touched : IsKept g s l → IsKept g s' l
+  pub kept-touched : IsKept g s l → IsKept g s' l
   kept-touched kept =
       descs-kept g s caller e s' l l
       (record {
@@ -268,7 +269,7 @@ module _ {g : Geometry} {s : State} {l : Lists} {caller : ℕ} {e : ErrandFields
       kept
 
   -- each frame stays where it is after a touch
-  framed-touched : IsFramed g s l → IsFramed g s' l
+  pub framed-touched : IsFramed g s l → IsFramed g s' l
   framed-touched framed = record {
     once = λ f has.
         let filled : sum_below (descriptor_count g) (fills_frame g s' l f) ≡ sum_below (descriptor_count g) (fills_frame g s l f) =
@@ -304,19 +305,19 @@ module _ {g : Geometry} {s : State} {l : Lists} {caller : ℕ} {e : ErrandFields
   touched-part chained i other (single n) stays = stays
   touched-part chained i other constant stays = tt
 
-  remembered-touched : IsSoundWith g s l → IsRemembered g s' l
+  pub remembered-touched : IsSoundWith g s l → IsRemembered g s' l
   remembered-touched old =
       remembered-stays g s l caller e s' l h.moves old.formed.errands (λ i has other. old.remembered.so i has)
       (subst (All (IsSo g s' l caller)) (sym h.recalls) (All-nil (IsSo g s' l caller)))
       (λ i has other k d lt. touched-part old.chained i other _ (h.stays i has other k d lt))
 
   -- the guards stay after a touch
-  guarded-touched : IsGuarded g s → IsGuarded g s'
+  pub guarded-touched : IsGuarded g s → IsGuarded g s'
   guarded-touched =
       guarded-clear g s caller e s' h.in_heap h.moves (λ i. h.word (name.Hazard i) tt) h.before.hazard h.after.hazard h.after.quiet
 
   -- the bounds of tags and turns stay after a touch
-  turned-touched : IsTurned g s l → IsTurned g s' l
+  pub turned-touched : IsTurned g s l → IsTurned g s' l
   turned-touched turned =
       let before = no-turn-weighs (s.errand caller) h.before.stage in
       let after = no-turn-weighs e h.after.stage in
@@ -341,18 +342,3 @@ module _ {g : Geometry} {s : State} {l : Lists} {caller : ℕ} {e : ErrandFields
             omega (arith, head-tag (h.word (name.ListHead class) tt), h.after.pops, after.unlisted, h.own.turns, h.own.cleared);
       })
       turned
-
-  -- the state is sound after a touch, where the words show the pool
-  pub sound-touched : IsSoundWith g s l → IsTied g s' l → IsFormed g s' → IsSoundWith g s' l
-  sound-touched old tied formed = record {
-    formed = formed;
-    listed = listed-touched old.listed;
-    kept = kept-touched old.kept;
-    chained = chained-touched old.chained;
-    framed = framed-touched old.framed;
-    remembered = remembered-touched old;
-    guarded = guarded-touched old.guarded;
-    stocked = record { most = λ class has. omega (arith, old.stocked.most class has, touched-stock class) };
-    turned = turned-touched old.turned;
-    tied = tied;
-  }

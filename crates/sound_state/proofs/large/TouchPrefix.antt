@@ -16,12 +16,13 @@ use Rattle.errand_steps.specs.declared.reply.Reply.TheVariants as reply
 use Rattle.sound_state.proofs.shared.ListFacts.{any-one, written-within}
 use Rattle.sound_state.proofs.shared.OverlapLemmas.{live-apart}
 use Rattle.sound_state.proofs.shared.PointLemmas.{fits-at, hands-at}
-use Rattle.sound_state.proofs.large.TouchEffects.{Touches, sound-touched}
+use Rattle.sound_state.proofs.large.TouchEffects.{Touches}
 use Rattle.sound_state.proofs.large.TouchPrefixes.{KeepsPrefixes, prefixes-stay, info-frame}
 use Rattle.sound_state.proofs.large.TouchSteps.{TouchesAt, idle-aside, idle-bare-handed, idle-recalls, large-aside, leaves-same, touched-step}
 use Rattle.sound_state.proofs.shared.TieLemmas.{IsBareHanded, bare-owns, one-live, ties-but, Excepts}
 use Rattle.sound_state.proofs.large.TouchTies.{touched-desc}
 use Rattle.sound_state.proofs.shared.KeepsSound.{KeepsSound, silent-sound}
+use Rattle.sound_state.proofs.SoundAfter.{touched-sound}
 
 -- the place of the word of the arena that this is
 abbrev pub arena_place : WordName → ℕ
@@ -155,4 +156,4 @@ store_run_prefix-sound place run o g s caller s' sound has stands step =
     touched-step g s l caller s' p Idle (name.Arena place) (prefix_word (prefix.Large run.units)) None old has stands
     (prefix-touches g s l caller place run o old fit.point) step in
     silent-sound g s caller s' l sound has step t.history
-    (sound-touched t.touches old (prefix-tied g s l caller place run o s' _ t.touches sound old stands owned t.word t.history idle-bare-handed))
+    (touched-sound t.touches old (prefix-tied g s l caller place run o s' _ t.touches sound old stands owned t.word t.history idle-bare-handed))

@@ -5,6 +5,7 @@ use Rattle.std.proofs.lemmas.List.Elements.{recursion_from_All}
 use Rattle.sound_state.proofs.Common.{Geometry, block_count_of, info_of, WordName, Site, descriptor_count, occurs, prefix_name, BlockPoint, Continuation, Point, State}
 use Rattle.sound_state.proofs.Common.{errand_frames, waiting, holds_of, Lists, IsSo, IsLocated, recalls_of, IsSoundWith, info_for, is_bound, errand_keeps, kept_among}
 use Rattle.sound_state.proofs.Common.{FitsBlock, block_recalls}
+use Rattle.sound_state.proofs.Common.{Part}
 use Rattle.word_table.specs.declared.name.WordName.TheVariants as name
 use Rattle.superblock_parts.specs.declared.point.BlockPoint.TheVariants as block
 use Rattle.errand_steps.specs.declared.point.Point.TheVariants as point
@@ -12,7 +13,7 @@ use Rattle.errand_steps.specs.tables.Blocks as holding
 use Rattle.sound_state.proofs.shared.BackedRecalls.{AllRead}
 use Rattle.sound_state.proofs.shared.MakingWeights.{making-waits}
 use Rattle.sound_state.proofs.shared.PointLemmas.{fits-at, so-at}
-use Rattle.sound_state.proofs.shared.RecallFrame.{Part, Reads}
+use Rattle.sound_state.proofs.shared.RecallFrame.{Reads}
 use Rattle.sound_state.proofs.shared.RecallTables.{IsElsewhere, reads-point}
 use Rattle.sound_state.proofs.large.TouchEffects.{IsAwayWord, Stays}
 use Rattle.sound_state.proofs.shared.WordFacts.{frame-of-within}
@@ -49,18 +50,15 @@ module _ (g : Geometry) (s : State) (l : Lists) (caller : ℕ) (words : WordName
       h.making i at.frame at.seat.class k has other within (subst (λ x. 0 < occurs at.frame x.frames) (sym holds) (frame-in-hand at.frame))
       (λ d. subst (λ x. kept_among waiting d x.kept ≡ 0) (sym holds) (making-waits d at)) lt
 
-  block-stays :
+  block-reads :
       IsSoundWith g s l → (i : ℕ) → i < g.callers → i ≢ caller → (p : BlockPoint) (o : Continuation) → (s.errand i).point ≡ point.Block p o → FitsBlock g i p
       → AllByRecursion (IsSo g s l i) (block_recalls p) → AllByRecursion (Reads (Stays s words)) (block_recalls p)
   unfolding holds_of
-  block-stays old i has other (block.PushBlock at k a stored heap) o stands fit so =
-      (λ said. at-hand g s l caller words h at fit.block.site.desc so.1.0 k fit.block.index, (tt, tt))
-  block-stays old i has other (block.LinkBlock at n) o stands fit so =
-      (λ k lt. at-making i has other _ stands at refl fit.site.frame k (omega (arith, lt, fit.index)), tt)
-  block-stays old i has other (block.StoreInfo at) o stands fit so = (λ k lt. at-making i has other _ stands at refl fit.frame k lt, tt)
-  block-stays old i has other (block.StoreAnchor at) o stands fit so =
-      (λ said. h.away (name.Info at.desc) tt, (λ k lt. at-making i has other _ stands at refl fit.frame k lt, tt))
-  block-stays old i has other p o stands fit so = grind (arith, h.away)
+  block-reads old i has other (block.LinkBlock at n) o stands fit so =
+      grind (arith, h.away, fit, at-making i has other _ stands at refl fit.site.frame)
+  block-reads old i has other (block.StoreInfo at) o stands fit so = grind (arith, h.away, at-making i has other _ stands at refl fit.frame)
+  block-reads old i has other (block.StoreAnchor at) o stands fit so = grind (arith, h.away, at-making i has other _ stands at refl fit.frame)
+  block-reads old i has other p o stands fit so = grind (arith, h.away, fit, so, at-hand g s l caller words h)
 
   -- outside of superblocks, only next words are read word by word
   elsewhere-stays : (q : Part) → IsElsewhere q → Stays s words q
@@ -72,7 +70,7 @@ module _ (g : Geometry) (s : State) (l : Lists) (caller : ℕ) (words : WordName
   prefixes-stay old i has other =
       reads-point (Stays s words) (elsewhere-stays) (s.errand i).point
       (λ b o is.
-      block-stays old i has other b o is (fits-at g s l i (point.Block b o) old has is).point
+      block-reads old i has other b o is (fits-at g s l i (point.Block b o) old has is).point
       (recursion_from_All (IsSo g s l i) (block_recalls b) (so-at g s l i (point.Block b o) old has is)))
 
 pub info-frame : (g : Geometry) (s : State) (l : Lists) (d : ℕ) → IsSoundWith g s l → d < descriptor_count g → (info_for s d).frame < g.frames

@@ -4,11 +4,11 @@ use Rattle.sound_state.proofs.Common.{Geometry, block_count_of, block_place, Wor
 use Rattle.sound_state.proofs.Common.{pool_of, LargePoint, Continuation, Large, Idle, Cas, holds_of, Point, settle_of, counts_lost, counts_cleared, event_of, next_of}
 use Rattle.sound_state.proofs.Common.{plan_point_of, State, Step, Moves, found_at, with_event, Lists, recalls_of, IsSoundWith, info_for, is_bound, is_there, gives_small}
 use Rattle.sound_state.proofs.Common.{refuses_small, caller_of, IsAllowed, pool_after, pool_of-push, is_small_alloc, is_small_free}
+use Rattle.sound_state.proofs.Common.{Part}
 use Rattle.word_table.specs.declared.name.WordName.TheVariants as name
 use Rattle.pool_model.proofs.OwnerLemmas.{others-keep}
 use Rattle.sound_state.proofs.shared.BackedRecalls.{AllRead}
 use Rattle.sound_state.proofs.shared.EventFacts.{counted-not, told-own}
-use Rattle.sound_state.proofs.shared.RecallFrame.{Part}
 use Rattle.sound_state.proofs.shared.CreditLemmas.{won_with}
 use Rattle.sound_state.proofs.shared.TieLemmas.{IsBareHanded}
 use Rattle.sound_state.proofs.shared.StepLemmas.{at_point, found_from, keeps-counts}

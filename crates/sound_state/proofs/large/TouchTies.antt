@@ -11,8 +11,9 @@ use Rattle.pool_model.specs.Pool.{Block}
 use Rattle.sound_state.proofs.shared.CallerLemmas.{each-other}
 use Rattle.sound_state.proofs.shared.TieLemmas.{bare-owns, excepted-stays, excepts-none, tie-stays, IsBareHanded, IsSaidAt}
 use Rattle.sound_state.proofs.shared.KeepsSound.{stepped-sound}
-use Rattle.sound_state.proofs.large.TouchEffects.{Touches, sound-touched, touched-bound, located-touched, owned-touched}
+use Rattle.sound_state.proofs.large.TouchEffects.{Touches, touched-bound, located-touched, owned-touched}
 use Rattle.sound_state.proofs.large.TouchSteps.{Touched, TouchesAt, touched-step}
+use Rattle.sound_state.proofs.SoundAfter.{touched-sound}
 
 -- two states that have live blocks at the same places, which serve the same needs
 pub record SamePlaces (s s' : State) : Type 0 where
@@ -29,7 +30,7 @@ touching g s caller s' p q n new event sound has stands legal touches tied step 
     let t = touched-step g s sound.parts.0 caller s' p q n new (Some event) sound.parts.1 has stands touches step in
     stepped-sound g s caller s' sound.parts.0 sound has step
     (subst (IsLegalWithoutCounts g) (sym t.history) (EachAfter-push (IsLegalEventWithoutCounts g) s.history event sound.legal legal))
-    (sound-touched t.touches sound.parts.1 (tied t))
+    (touched-sound t.touches sound.parts.1 (tied t))
 
 module _ {g : Geometry} {s : State} {l : Lists} {caller : ℕ} {e : ErrandFields} {s' : State} (h : Touches g s l caller e s') where
   -- the superblock of a small block is the same after a touch

@@ -1,5 +1,5 @@
 -- A usable word that is written.
-use Rattle.std.proofs.Common.{ℕ, None, Some, ◌≡◌, ◌≢◌, ◌<◌, ◌≤◌, ◌+◌, [], refl, arith, ap, sym, subst, inl, inr, get_or-set_same, get_or-set_other, ◌∙◌, slice_index_or}
+use Rattle.std.proofs.Common.{ℕ, None, Some, ◌≡◌, ◌≢◌, ◌<◌, ◌≤◌, ◌+◌, refl, arith, ap, sym, subst, inl, inr, get_or-set_same, get_or-set_other, ◌∙◌, slice_index_or}
 use Rattle.std.proofs.Common.{pow_pos}
 use Rattle.std.proofs.lemmas.Bool.{cases_eq}
 use Rattle.sound_state.proofs.Common.{Geometry, Need, block_count_of, block_place, frame_of, frame_of-block_place, WordName, Writes, block_at, pool_of, place-found}

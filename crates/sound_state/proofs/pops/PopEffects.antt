@@ -1,14 +1,16 @@
 -- A won pop: what it changes, and that everything else stays.
 use Rattle.std.proofs.Common.{ℕ, true, false, ◌≡◌, ◌≢◌, ◌<◌, ◌+◌, ◌-◌, [], ◌∷◌, ◌++◌, IsTrue, if◌then◌else◌, nat_lt}
+use Rattle.std.specs.List.{AllByRecursion}
 use Rattle.sound_state.proofs.Common.{Geometry, need_of, block_place, AnchorFields, WordName, Site, IsSiteOf, Share, ErrandFields, State, Moves, Holding, holds_before_pop}
-use Rattle.sound_state.proofs.Common.{holds_of, Lists, IsLocated, bound_here, recalls_of, anchor_for, is_bound, superblock_of, taken_off, popped_state, more_of, nothing}
-use Rattle.sound_state.proofs.Common.{holds_after_pop, block_handed}
+use Rattle.sound_state.proofs.Common.{holds_of, Lists, IsLocated, recalls_of, anchor_for, is_bound, superblock_of, taken_off, popped_state, more_of, nothing}
+use Rattle.sound_state.proofs.Common.{holds_after_pop, block_handed, IsSo}
 use Rattle.heap_geometry.specs.declared.need.Need.TheVariants as need
 use Rattle.word_table.specs.declared.name.WordName.TheVariants as name
 use Rattle.word_table.specs.Sites.{IsAnchorOf}
 use Rattle.pool_model.specs.declared.event.Event.TheVariants.{Alloc}
 use Rattle.sound_state.proofs.shared.TurnEffects.{StandsIn}
 use Rattle.sound_state.proofs.shared.CallerLemmas.{KeepsCounts}
+use Rattle.sound_state.proofs.shared.RecallFrame.{LiesAt}
 
 -- what a caller holds after a pop, with so many blocks reserved beside the one that it popped
 abbrev pub popped_holds : Site → ℕ → ℕ → Holding
@@ -45,6 +47,6 @@ pub record Pops (g : Geometry) (s : State) (l : Lists) (caller : ℕ) (at : Site
   pub own : KeepsCounts (s.errand caller) e
   pub holds_before : holds_of (s.errand caller).point ≡ holds_before_pop at.desc at.seat.class share
   pub holds_after : holds_of e.point ≡ popped_holds at a.avail (more_of share a)
-  pub recalls_after : recalls_of e.point ≡ bound_here at
+  pub recalls_after : LiesAt g s' l at → AllByRecursion (IsSo g s' l caller) (recalls_of e.point)
   pub stands_before : StandsIn true (s.errand caller).point
   pub stands_after : StandsIn false e.point

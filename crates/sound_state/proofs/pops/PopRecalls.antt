@@ -1,13 +1,14 @@
 -- A won pop keeps what the callers remember.
-use Rattle.std.proofs.Common.{ℕ, ◌≡◌, ◌≢◌, ◌<◌, ◌≤◌, ◌+◌, arith, ap, sym, subst, inl, inr, ◌∙◌, IsTrue, All}
+use Rattle.std.proofs.Common.{ℕ, ◌≡◌, ◌≢◌, ◌<◌, ◌≤◌, ◌+◌, arith, ap, sym, subst, inl, inr, ◌∙◌, IsTrue}
 use Rattle.std.proofs.lemmas.Bool.{cases_eq}
 use Rattle.std.proofs.lemmas.Option.{none-some}
-use Rattle.sound_state.proofs.Common.{Geometry, Need, AnchorFields, Site, Share, own, block_at, pool_of, ErrandFields, State, Lists, IsSo, IsOwned, IsSoundWithoutCounts}
+use Rattle.sound_state.proofs.Common.{Geometry, Need, AnchorFields, Site, Share, own, block_at, pool_of, ErrandFields, State, Lists, IsOwned, IsSoundWithoutCounts}
 use Rattle.sound_state.proofs.Common.{IsSoundWith, callers_sum, anchor_for, reserved_of, reserved_among, errand_reserves, IsRemembered}
+use Rattle.sound_state.proofs.Common.{Part, bindings, chains, single}
 use Rattle.pool_model.specs.declared.event.Event.TheVariants.{Alloc}
 use Rattle.sound_state.proofs.shared.EventFacts.{told-own}
-use Rattle.sound_state.proofs.shared.RecallEffects.{IsSteadyWord, AreSteady, Leaves, IsLeft, chain-steady, here-so, remembered-left}
-use Rattle.sound_state.proofs.shared.RecallFrame.{ChainStays, Part, bindings, chains, single}
+use Rattle.sound_state.proofs.shared.RecallEffects.{IsSteadyWord, AreSteady, Leaves, IsLeft, chain-steady, lies-still, remembered-left}
+use Rattle.sound_state.proofs.shared.RecallFrame.{ChainStays}
 use Rattle.sound_state.proofs.shared.RecallTables.{InstallsNone, IsSpared, spared-point}
 use Rattle.sound_state.proofs.pops.PopEffects.{Pops, popped_place}
 use Rattle.sound_state.proofs.pops.PopFacts.{popped-anchor, popped-empty, popped-bound, popped-ways, popped-reserved, popped-none, popped-there, pays-one}
@@ -85,7 +86,6 @@ module _
   pub popped-remembered : IsSoundWithoutCounts g s → IsSoundWith g s l → IsRemembered g s' l
   popped-remembered sound old =
       remembered-left g s l caller e s' h.moves
-      (subst (All (IsSo g s' l caller)) (sym h.recalls_after)
-      (here-so g s l s' popped-words-steady caller at (subst IsTrue (sym (popped-bound h at.desc)) h.bound) h.located))
+      (h.recalls_after (lies-still g s l s' popped-words-steady at (subst IsTrue (sym (popped-bound h at.desc)) h.bound) h.located))
       (λ i has ne. popped-leaves sound old i ne)
       (λ i has ne k d lt. popped-left _ (spared-point at.desc (s.errand i).point (popped-installed old i has ne) k d lt)) old

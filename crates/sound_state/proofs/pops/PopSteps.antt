@@ -1,9 +1,9 @@
 -- The step of a won pop, and what it changes.
-use Rattle.std.proofs.Common.{ℕ, Bool, true, false, ◌≡◌, ◌<◌, ◌+◌, ◌^◌, refl, arith, ap, sym, subst, inl, inr, ◌∙◌, if◌then◌else◌, nat_lt, mod-eq_of_lt}
-use Rattle.std.proofs.lemmas.Bool.{cases_eq}
+use Rattle.std.proofs.Common.{ℕ, Bool, true, false, ◌≡◌, ◌<◌, ◌+◌, ◌^◌, refl, arith, ap, sym, subst, inl, ◌∙◌, if◌then◌else◌, nat_lt, mod-eq_of_lt}
+use Rattle.std.specs.List.{AllByRecursion}
 use Rattle.sound_state.proofs.Common.{Geometry, AnchorFields, anchor_of, anchor_word, link_of, Site, BlockPoint, Share, Continuation, Point, Block, event_of, next_of}
-use Rattle.sound_state.proofs.Common.{asked, plan_point_of, State, Step, holds_of, Lists, bound_here, recalls_of, IsSoundWithoutCounts, IsSoundWith, anchor_for, IsAnchor}
-use Rattle.sound_state.proofs.Common.{TAG_BITS, anchor_of-anchor_word, more_of, Cas, nothing, block_handed}
+use Rattle.sound_state.proofs.Common.{asked, plan_point_of, State, Step, holds_of, Lists, recalls_of, IsSoundWithoutCounts, IsSoundWith, anchor_for, IsAnchor}
+use Rattle.sound_state.proofs.Common.{TAG_BITS, anchor_of-anchor_word, more_of, Cas, nothing, block_handed, IsSo}
 use Rattle.word_table.specs.declared.name.WordName.TheVariants as name
 use Rattle.superblock_parts.specs.Anchors.{popped}
 use Rattle.superblock_parts.specs.Points as points
@@ -11,19 +11,17 @@ use Rattle.superblock_parts.specs.declared.point.BlockPoint.TheVariants as block
 use Rattle.errand_steps.specs.tables.Blocks as hold
 use Rattle.sound_state.proofs.shared.PointLemmas.{fits-at, the-alloc, small-asked, recalled-at}
 use Rattle.sound_state.proofs.pops.PopEffects.{Pops, popped_anchor}
-use Rattle.sound_state.proofs.pops.PopChains.{popped-chained, popped-framed}
-use Rattle.sound_state.proofs.pops.PopKept.{popped-kept, popped-stocked}
-use Rattle.sound_state.proofs.pops.PopRecalls.{popped-remembered}
-use Rattle.sound_state.proofs.pops.PopTies.{popped-legal, popped-tied}
-use Rattle.sound_state.proofs.pops.PopTurns.{popped-guarded, popped-listed, popped-turned}
+use Rattle.sound_state.proofs.pops.PopTies.{popped-legal}
 use Rattle.sound_state.proofs.quiet.QuietExchanges.{pop_block-lost}
 use Rattle.sound_state.proofs.shared.StepLemmas.{at_point, keeps-counts}
 use Rattle.sound_state.proofs.shared.TagLemmas.{anchor-tags-below}
 use Rattle.sound_state.proofs.shared.CreditLemmas.{won_with}
 use Rattle.sound_state.proofs.shared.TurnEffects.{StandsIn}
 use Rattle.sound_state.proofs.shared.WonEffects.{AnchorWon, anchor-won}
-use Rattle.sound_state.proofs.shared.KeepsSound.{KeepsSound, KeepsSoundWhere, stepped-sound}
+use Rattle.sound_state.proofs.shared.KeepsSound.{KeepsSound, KeepsSoundWhere, stepped-sound, either-sound}
 use Rattle.sound_state.proofs.shared.WrittenWords.{popped-fits}
+use Rattle.sound_state.proofs.SoundAfter.{popped-sound}
+use Rattle.sound_state.proofs.shared.RecallFrame.{LiesAt}
 
 -- the point to which a won pop leads, by whether more blocks are reserved
 abbrev popped_point : Bool → Site → ℕ → ℕ → BlockPoint
@@ -37,10 +35,12 @@ unfolding holds_of
 popped-point-holds true at i more o = refl
 popped-point-holds false at i more o = refl
 
-popped-point-recalls : (b : Bool) (at : Site) (i more : ℕ) (o : Continuation) → recalls_of (Block (popped_point b at i more) o) ≡ bound_here at
+popped-point-so :
+    (g : Geometry) (s : State) (l : Lists) (caller : ℕ) (b : Bool) (at : Site) (i more : ℕ) (o : Continuation) → LiesAt g s l at
+    → AllByRecursion (IsSo g s l caller) (recalls_of (Block (popped_point b at i more) o))
 unfolding recalls_of
-popped-point-recalls true at i more o = refl
-popped-point-recalls false at i more o = refl
+popped-point-so g s l caller true at i more o lies = (lies, tt)
+popped-point-so g s l caller false at i more o lies = (lies, tt)
 
 popped-point-stands : (b : Bool) (at : Site) (i more : ℕ) (o : Continuation) → StandsIn false (Block (popped_point b at i more) o)
 popped-point-stands true at i more o = grind (arith)
@@ -94,7 +94,7 @@ pop-pops g s l caller s' at share a prefix o sound is has here word step =
       own = keeps-counts (s.errand caller) p (won_with (anchor_word a)) q here refl refl;
       holds_before = ap holds_of here;
       holds_after = popped-point-holds (nat_lt 0 (more_of share a)) at a.avail (more_of share a) o;
-      recalls_after = popped-point-recalls (nat_lt 0 (more_of share a)) at a.avail (more_of share a) o;
+      recalls_after = popped-point-so g s' l caller (nat_lt 0 (more_of share a)) at a.avail (more_of share a) o;
       stands_before = subst (StandsIn true) (sym here) (pop_block-stands at share a prefix o);
       stands_after = popped-point-stands (nat_lt 0 (more_of share a)) at a.avail (more_of share a) o;
     }
@@ -107,25 +107,11 @@ pop_block-won at share a prefix o g s caller s' sound has here word step =
     let l = sound.parts.0 in
     let is = sound.parts.1 in
     let h = pop-pops g s l caller s' at share a prefix o sound is has here word step in
-    stepped-sound g s caller s' l sound has step (popped-legal h sound is)
-    (λ formed. record {
-      formed = formed;
-      listed = popped-listed h is;
-      kept = popped-kept h is;
-      chained = popped-chained h sound is;
-      framed = popped-framed h is;
-      remembered = popped-remembered h sound is;
-      guarded = popped-guarded h is;
-      stocked = popped-stocked h is;
-      turned = popped-turned h sound is;
-      tied = popped-tied h sound is;
-    })
+    stepped-sound g s caller s' l sound has step (popped-legal h sound is) (popped-sound h sound is)
 
 -- a pop keeps the state sound, won or lost
 pub pop_block-sound :
     (at : Site) (share : Share) (a : AnchorFields) (prefix : ℕ) (o : Continuation) → KeepsSound (Block (block.PopBlock at share a prefix) o)
-pop_block-sound at share a prefix o g s caller s' sound has here step =
-    elim (cases_eq (s.word (name.Anchor at.desc)) (anchor_word a)) [
-      | inl is ↦ pop_block-won at share a prefix o g s caller s' sound has here is step
-      | inr other ↦ pop_block-lost at share a prefix o g s caller s' sound has here other step
-    ]
+pop_block-sound at share a prefix o =
+    either-sound _ (name.Anchor at.desc) (anchor_word a) (pop_block-won at share a prefix o)
+    (pop_block-lost at share a prefix o)

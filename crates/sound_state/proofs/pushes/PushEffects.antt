@@ -1,8 +1,9 @@
 -- A won push: what it changes, and that everything else stays.
-use Rattle.std.proofs.Common.{ℕ, Bool, true, ◌≡◌, ◌≢◌, ◌<◌, ◌≤◌, ◌+◌, List, [], ◌∷◌, ◌++◌, ◌⊎◌, IsTrue, if◌then◌else◌}
+use Rattle.std.proofs.Common.{ℕ, Bool, true, ◌≡◌, ◌≢◌, ◌<◌, ◌≤◌, ◌+◌, [], ◌∷◌, ◌++◌, ◌⊎◌, IsTrue, if◌then◌else◌}
+use Rattle.std.specs.List.{AllByRecursion}
 use Rattle.sound_state.proofs.Common.{Geometry, block_count_of, block_place, AnchorFields, WordName, Site, IsSiteOf, ErrandFields, Point, State, Moves, Holding}
-use Rattle.sound_state.proofs.Common.{partly_used, holds_of, Lists, Recall, IsLocated, IsOwned, emptied, recalls_of, turn_stage_of, anchor_for, is_bound, superblock_of}
-use Rattle.sound_state.proofs.Common.{pops_left, HazardState, nothing, keep, clear, guarded, if_stored, out_of_turn}
+use Rattle.sound_state.proofs.Common.{partly_used, holds_of, Lists, IsLocated, IsOwned, recalls_of, turn_stage_of, anchor_for, is_bound, superblock_of}
+use Rattle.sound_state.proofs.Common.{pops_left, HazardState, nothing, keep, clear, guarded, if_stored, out_of_turn, IsSo, IsEmptied}
 use Rattle.heap_geometry.specs.declared.need.Need.TheVariants as need
 use Rattle.packed_words.specs.declared.anchor.AnchorState.TheVariants as phase
 use Rattle.word_table.specs.declared.name.WordName.TheVariants as name
@@ -40,12 +41,6 @@ pushed_holds stays at stored = record nothing { hazard = hazard_after stored }
 pushed_holds unfills at stored = record nothing { kept = keep at.desc at.seat.class partly_used; hazard = hazard_after stored }
 pushed_holds empties at stored = record nothing { frames = at.frame ∷ []; hazard = guarded at.desc }
 
--- what a caller remembers after its push: that the superblock which it made EMPTY is
-abbrev pub pushed_recalls : Outcome → Site → List Recall
-pushed_recalls stays at = []
-pushed_recalls unfills at = []
-pushed_recalls empties at = emptied at.desc ∷ []
-
 -- the place of the block that is freed
 abbrev pub pushed_place : Site → ℕ → ℕ
 pushed_place at i = block_place at.frame at.seat.class i
@@ -76,6 +71,6 @@ pub record Pushes (g : Geometry) (s : State) (l : Lists) (caller : ℕ) (at : Si
   pub own : KeepsCounts (s.errand caller) e
   pub holds_before : holds_of (s.errand caller).point ≡ pushing at i (if_stored stored at.desc)
   pub holds_after : holds_of e.point ≡ pushed_holds out at stored
-  pub recalls_after : recalls_of e.point ≡ pushed_recalls out at
+  pub recalls_after : (out ≡ empties → IsEmptied g s' l at.desc) → AllByRecursion (IsSo g s' l caller) (recalls_of e.point)
   pub stands_before : FreeStands (s.errand caller).point
   pub stands_after : FreeStands e.point

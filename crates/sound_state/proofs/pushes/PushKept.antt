@@ -1,5 +1,5 @@
 -- A won push leaves each descriptor in one place, and as many out for each class.
-use Rattle.std.proofs.Common.{ℕ, Bool, ◌≡◌, ◌≢◌, ◌+◌, [], arith, ap, sym, inl, inr, ◌∙◌, ◌==◌, if◌then◌else◌}
+use Rattle.std.proofs.Common.{ℕ, Bool, ◌≡◌, ◌≢◌, ◌+◌, arith, ap, sym, inl, inr, ◌∙◌, ◌==◌, if◌then◌else◌}
 use Rattle.sound_state.proofs.Common.{Geometry, AnchorFields, Site, ErrandFields, State, IsKept, IsPartlyUsed, full_keeps, Lists, IsSoundWith, stock_among, anchor_for}
 use Rattle.sound_state.proofs.Common.{block_count_of-least, IsStocked, if_stored}
 use Rattle.packed_words.specs.declared.anchor.AnchorState.{AnchorState as Phase}

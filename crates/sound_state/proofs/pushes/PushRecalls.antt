@@ -1,19 +1,19 @@
 -- A won push keeps what the callers remember.
-use Rattle.std.proofs.Common.{ℕ, Bool, true, false, ◌≡◌, ◌≢◌, ◌<◌, ◌≤◌, [], ◌∷◌, arith, ap, sym, subst, inl, inr, ◌∙◌, not, IsTrue, All}
+use Rattle.std.proofs.Common.{ℕ, Bool, true, false, ◌≡◌, ◌≢◌, ◌<◌, ◌≤◌, ◌∷◌, arith, ap, sym, subst, inl, inr, ◌∙◌, not, IsTrue}
 use Rattle.std.proofs.lemmas.Bool.{cases_eq, cases_Bool, false≢true}
-use Rattle.std.proofs.lemmas.List.Elements.{All-nil, All-cons}
 use Rattle.sound_state.proofs.Common.{Geometry, block_count_of, block_place, AnchorFields, Site, occurs, is_empty, own, ErrandFields, State, on_its_way, holds_of, Lists}
-use Rattle.sound_state.proofs.Common.{IsLocated, IsSo, IsSoundWith, sum_below, callers_sum, anchor_for, superblock_of, free_chain, reserved_among, errand_reserves}
+use Rattle.sound_state.proofs.Common.{IsLocated, IsSoundWith, sum_below, callers_sum, anchor_for, superblock_of, free_chain, reserved_among, errand_reserves}
 use Rattle.sound_state.proofs.Common.{errand_away, is_bound, away_of, errand_keeps, live_at, is_there, occurs-more, IsEmptied, IsRemembered}
+use Rattle.sound_state.proofs.Common.{Part, bindings, chains, single}
 use Rattle.heap_geometry.specs.declared.need.Need.TheVariants as need
 use Rattle.pool_model.specs.declared.event.Event.TheVariants.{Free}
 use Rattle.sound_state.proofs.shared.EventFacts.{told-own}
 use Rattle.sound_state.proofs.shared.HasLemmas.{bound-away}
 use Rattle.sound_state.proofs.shared.RecallEffects.{IsSteadyWord, AreSteady, Leaves, IsLeft, chain-gains, chain-steady, remembered-left}
-use Rattle.sound_state.proofs.shared.RecallFrame.{ChainStays, Part, bindings, chains, single}
+use Rattle.sound_state.proofs.shared.RecallFrame.{ChainStays}
 use Rattle.sound_state.proofs.shared.RecallTables.{InstallsNone, IsSpared, IsUnbound, OwnsNone, spared-point, unbound-recalls}
 use Rattle.sound_state.proofs.pushes.PushChains.{pushed-chain, was-place}
-use Rattle.sound_state.proofs.pushes.PushEffects.{Outcome, stays, unfills, empties, Pushes, pushed_recalls, pushed_place}
+use Rattle.sound_state.proofs.pushes.PushEffects.{Outcome, stays, unfills, empties, Pushes, pushed_place}
 use Rattle.sound_state.proofs.pushes.PushFacts.{pushed-anchor, pushed-bound, pushed-bound-here, pushed-stood, pushed-ways, pushed-reserved, pushed-live, pushed-bare}
 use Rattle.sound_state.proofs.pushes.PushFacts.{makes_empty}
 use Rattle.sound_state.proofs.pushes.PushTies.{pushed-still-owned, owned-elsewhere}
@@ -55,21 +55,20 @@ module _
       let none = (pushed-bare h old).others k (subst (λ c. k < block_count_of c) (sym its.class) fits.index) apart in
       let bad : ⊥ = omega (arith, there, none) in bad
 
-  -- what the caller remembers after its push is so: the superblock that it made EMPTY is
-  own-recalls : (out : Outcome) → Pushes g s l caller at i stored a out e s' → All (IsSo g s' l caller) (pushed_recalls out at)
+  -- the superblock that a push makes EMPTY is
+  makes-emptied : (out : Outcome) → Pushes g s l caller at i stored a out e s' → out ≡ empties → IsEmptied g s' l at.desc
   unfolding callers_sum
-  own-recalls stays h = All-nil (IsSo g s' l caller)
-  own-recalls unfills h = All-nil (IsSo g s' l caller)
-  own-recalls empties h =
+  makes-emptied stays h is = cc
+  makes-emptied unfills h is = cc
+  makes-emptied empties h is =
       let none : away_of g s l at.desc ≡ 0 = bound-away g s l at.desc h.bound in
       let least : callers_sum g (errand_keeps on_its_way at.desc) s.errand ≤ callers_sum g (errand_away at.desc) s.errand =
       sum-least g.callers (λ k. errand_keeps on_its_way at.desc (s.errand k)) (λ k. errand_away at.desc (s.errand k)) (λ k lt. omega arith) in
-      let is : IsEmptied g s' l at.desc = record {
+      record {
         state = ap (λ x. x.state) h.after;
         unavailable = omega (arith, none);
         standing = omega (arith, pushed-ways h at.desc, none, least);
-      } in
-      All-cons (IsSo g s' l caller) _ [] is (All-nil (IsSo g s' l caller))
+      }
 
 -- a push that was won, seen by the callers that remember
 module _
@@ -144,7 +143,7 @@ module _
   pub pushed-remembered : IsSoundWith g s l → IsRemembered g s' l
   pushed-remembered old =
       remembered-left g s l caller e s' h.moves
-      (subst (All (IsSo g s' l caller)) (sym h.recalls_after) (own-recalls out h))
+      (h.recalls_after (makes-emptied out h))
       (λ j has ne. pushed-leaves j ne)
       (λ j has ne k d lt.
       pushed-left _ (spared-point at.desc (s.errand j).point (pushed-installed old j has) k d lt)

@@ -3,10 +3,11 @@ use Rattle.std.proofs.Common.{ℕ, Bool, true, false, ◌≡◌, ◌≢◌, ◌<
 use Rattle.std.proofs.Common.{ne_eqb, mod-eq_of_lt}
 use Rattle.std.proofs.lemmas.Bool.{cases_eq}
 use Rattle.std.proofs.lemmas.List.Elements.{All-head}
+use Rattle.std.specs.List.{AllByRecursion}
 use Rattle.sound_state.proofs.Common.{Geometry, block_count_of, AnchorFields, anchor_of, anchor_word, link_of, is_empty, Site, link_in, Frames, Continuation, Point, Idle}
 use Rattle.sound_state.proofs.Common.{Block, Stack, Desc, Partial, ErrandFields, event_of, next_of, plan_point_of, State, Step, holds_of, Lists, IsOwned, recalls_of}
 use Rattle.sound_state.proofs.Common.{IsSoundWith, IsChained, anchor_for, away_of, info_for, superblock_of, IsAnchor, AVAIL_BITS, COUNT_BITS, anchor_of-anchor_word}
-use Rattle.sound_state.proofs.Common.{block_count_of-most, is_last, Cas}
+use Rattle.sound_state.proofs.Common.{block_count_of-most, is_last, Cas, IsSo, IsEmptied}
 use Rattle.heap_geometry.specs.declared.need.Need.TheVariants as need
 use Rattle.packed_words.specs.declared.anchor.AnchorState.{AnchorState as Phase}
 use Rattle.packed_words.specs.declared.anchor.AnchorState.TheVariants as phase
@@ -23,7 +24,7 @@ use Rattle.errand_steps.specs.declared.reply.Reply.TheVariants as reply
 use Rattle.errand_steps.specs.Nexts.{leave_block}
 use Rattle.sound_state.proofs.shared.HasLemmas.{bound-stands}
 use Rattle.sound_state.proofs.shared.PointLemmas.{fits-at, frees-at, the-free, recalled-at}
-use Rattle.sound_state.proofs.pushes.PushEffects.{Outcome, stays, unfills, empties, IsOutcome, Pushes, FreeStands, pushed_anchor, pushed_holds, pushed_recalls}
+use Rattle.sound_state.proofs.pushes.PushEffects.{Outcome, stays, unfills, empties, IsOutcome, Pushes, FreeStands, pushed_anchor, pushed_holds}
 use Rattle.sound_state.proofs.pushes.PushEffects.{pushed_place}
 use Rattle.sound_state.proofs.shared.StepLemmas.{at_point, keeps-counts}
 use Rattle.sound_state.proofs.shared.CreditLemmas.{won_with}
@@ -100,12 +101,15 @@ pushed-point-holds stays at false heap = refl
 pushed-point-holds unfills at stored heap = refl
 pushed-point-holds empties at stored heap = refl
 
-pushed-point-recalls : (out : Outcome) (at : Site) (stored : Bool) (heap : ℕ) → recalls_of (pushed_point out at stored heap) ≡ pushed_recalls out at
+-- what a caller remembers after its push is so: that the superblock which it made EMPTY is
+pushed-point-so :
+    (g : Geometry) (s : State) (l : Lists) (caller : ℕ) (out : Outcome) (at : Site) (stored : Bool) (heap : ℕ)
+    → (out ≡ empties → IsEmptied g s l at.desc) → AllByRecursion (IsSo g s l caller) (recalls_of (pushed_point out at stored heap))
 unfolding recalls_of
-pushed-point-recalls stays at true heap = refl
-pushed-point-recalls stays at false heap = refl
-pushed-point-recalls unfills at stored heap = refl
-pushed-point-recalls empties at stored heap = refl
+pushed-point-so g s l caller stays at true heap so = tt
+pushed-point-so g s l caller stays at false heap so = tt
+pushed-point-so g s l caller unfills at stored heap so = tt
+pushed-point-so g s l caller empties at stored heap so = (so refl, tt)
 
 pushed-point-stands : (out : Outcome) (at : Site) (stored : Bool) (heap : ℕ) → FreeStands (pushed_point out at stored heap)
 pushed-point-stands stays at true heap = grind (arith)
@@ -180,7 +184,7 @@ push-pushes g s l caller s' at i a stored heap o is has here word step =
         own = keeps-counts (s.errand caller) p (won_with (anchor_word a)) q here refl refl;
         holds_before = ap holds_of here;
         holds_after = pushed-point-holds out at stored heap;
-        recalls_after = pushed-point-recalls out at stored heap;
+        recalls_after = pushed-point-so g s' l caller out at stored heap;
         stands_before = subst FreeStands (sym here) (push-stands at i a stored heap o);
         stands_after = pushed-point-stands out at stored heap;
       },

@@ -22,8 +22,8 @@ guard-goes :
     → IsGuard (pushed_holds out at stored).hazard → IsGuard (if_stored stored at.desc)
 guard-goes out at stored a is guard = grind (arith, is, guard)
 
-same-tag : (out : Outcome) (i : ℕ) (a : AnchorFields) → (pushed_anchor out i a).tag ≡ a.tag
-same-tag out i a = grind (arith)
+anchor-keeps_tag : (out : Outcome) (i : ℕ) (a : AnchorFields) → (pushed_anchor out i a).tag ≡ a.tag
+anchor-keeps_tag out i a = grind (arith)
 
 module _
     {g : Geometry} {s : State} {l : Lists} {caller : ℕ} {at : Site} {i : ℕ} {stored : Bool} {a : AnchorFields} {out : Outcome} {e : ErrandFields}
@@ -56,7 +56,7 @@ module _
       elim (cases_eq d at.desc) [
         | inl same ↦
             subst (λ k. (anchor_for s' k).tag ≡ (anchor_for s k).tag) (sym same)
-            (ap (λ x. x.tag) h.after ∙ same-tag out i a ∙ sym (ap (λ x. x.tag) h.before))
+            (ap (λ x. x.tag) h.after ∙ anchor-keeps_tag out i a ∙ sym (ap (λ x. x.tag) h.before))
         | inr ne ↦ ap (λ x. x.tag) (pushed-anchor h d ne)
       ]
 

@@ -9,4 +9,4 @@ use Rattle.sound_state.proofs.shared.KeepsSound.{KeepsSound}
 -- the load of the active word keeps the state sound
 pub load_active-sound : (seat : SeatFields) (need : ℕ) → KeepsSound (Block (block.LoadActive seat) (Alloc need))
 unfolding plan_point_of next_of event_of holds_of recalls_of
-load_active-sound seat need = onward _ 0 (grind (arith)) (λ w. grind (arith))
+load_active-sound seat need = onward _ (grind (arith)) (λ w. grind (arith))

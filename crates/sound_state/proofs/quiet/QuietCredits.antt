@@ -1,16 +1,18 @@
 -- A credit is taken, and reserved blocks are offered.
-use Rattle.std.proofs.Common.{ℕ, zero, suc, false, Some, ◌≡◌, ◌≢◌, ◌<◌, ◌+◌, ◌-◌, [], refl, arith, ap, sym, subst, ◌∙◌, eq-eqb, ne_eqb, ◌==◌, All, IsTrue, if◌then◌else◌}
+use Rattle.std.proofs.Common.{ℕ, zero, suc, false, Some, ◌≡◌, ◌≢◌, ◌<◌, ◌+◌, ◌-◌, [], refl, arith, ap, sym, subst, ◌∙◌, eq-eqb, ne_eqb, ◌==◌, All, IsTrue}
+use Rattle.std.proofs.Common.{if◌then◌else◌}
 use Rattle.std.proofs.lemmas.Bool.{cond-true, cond-false}
 use Rattle.std.proofs.lemmas.List.Elements.{All-nil, All-cons, All-head}
-use Rattle.sound_state.proofs.Common.{Geometry, IsChecked, Null, Held, active_word, active_of, Site, descriptor_count, SeatFields, active_name, Exists, Credit, LastCredit}
-use Rattle.sound_state.proofs.Common.{Continuation, Point, Block, At, event_of, next_of, plan_point_of, State, Step, Kept, holds_of, reserving, IsKeptAs, word_keeps, Lists}
-use Rattle.sound_state.proofs.Common.{IsSo, recalls_of, IsSoundWithoutCounts, IsSoundWith, is_bound, IsActiveWord, Cas, heap_of, IsActive}
+use Rattle.sound_state.proofs.Common.{Geometry, IsChecked, Null, Held, active_word, active_of, Site, descriptor_count, SeatFields, active_name, Exists, Credit}
+use Rattle.sound_state.proofs.Common.{LastCredit, Continuation, Point, Block, At, event_of, next_of, plan_point_of, State, Step, Kept, holds_of, reserving, IsKeptAs}
+use Rattle.sound_state.proofs.Common.{word_keeps, Lists, IsSo, recalls_of, IsSoundWithoutCounts, IsSoundWith, is_bound, IsActiveWord, Cas, heap_of, IsActive}
 use Rattle.superblock_parts.specs.declared.point.BlockPoint.TheVariants as block
-use Rattle.sound_state.proofs.shared.PointLemmas.{alike-goes, fits-at, fits-now, so-at}
-use Rattle.sound_state.proofs.quiet.QuietExchanges.{either-sound, lost-onward}
-use Rattle.sound_state.proofs.shared.CreditLemmas.{actives-written, active-bound, word-keeps-away, won-at}
+use Rattle.sound_state.proofs.shared.PointLemmas.{alike-goes, fits-at, fits-now, goes-on}
+use Rattle.sound_state.proofs.quiet.QuietExchanges.{lost-onward}
+use Rattle.sound_state.proofs.shared.CreditLemmas.{actives-written, active-bound, word-keeps-away}
 use Rattle.sound_state.proofs.shared.WordFacts.{held-fits, held-said, held-not-zero, null-none, null-said, seat-active, held-desc}
-use Rattle.sound_state.proofs.shared.KeepsSound.{KeepsSound, KeepsSoundWhere}
+use Rattle.sound_state.proofs.shared.KeepsSound.{KeepsSound, KeepsSoundWhere, either-sound}
+use Rattle.sound_state.proofs.SoundSteps.{won-at}
 
 -- the active word that gives a credit held an active, bound superblock of its class
 credit-held :
@@ -128,7 +130,7 @@ take_credit-won seat d (suc left) o =
 pub take_credit-sound : (seat : SeatFields) (d credits : ℕ) (o : Continuation) → KeepsSound (Block (block.TakeCredit seat d credits) o)
 unfolding plan_point_of next_of event_of holds_of recalls_of
 take_credit-sound seat d credits o =
-    either-sound _ _ _ (take_credit-won seat d credits o) (lost-onward _ _ _ _ 0 refl (λ w. refl) (λ w. grind (arith)))
+    either-sound _ _ _ (take_credit-won seat d credits o) (lost-onward _ _ _ _ refl (λ w. refl) (λ w. grind (arith)))
 
 -- the won offer of reserved blocks keeps the state sound: they and the descriptor go into the word
 install_credits-won :
@@ -159,7 +161,9 @@ install_credits-won site i more o g s caller s' sound has stands is step =
         frames = λ f. refl;
         stock = λ class. rw (null-none, some) (grind (arith));
       };
-      goes = λ l old. alike-goes g s l caller p _ old has stands (grind (arith)) (All-nil _) (so-at g s l caller p old has stands);
+      goes = λ l old.
+          alike-goes g s l caller p _ old has stands (grind (arith)) (All-nil _)
+          (goes-on g s l caller p (recalls_of (Block (block.StorePrefix site i) o)) old has stands (λ so. grind (arith, so)));
       actives = λ l old words' w.
           let kept : IsActive s d site.seat.class =
           All-head (λ (k : Kept). IsKeptAs s k.status k.desc k.class) (record { desc = d; class = site.seat.class; status = reserving }) []
@@ -174,4 +178,4 @@ install_credits-won site i more o g s caller s' sound has stands is step =
 pub install_credits-sound : (site : Site) (i more : ℕ) (o : Continuation) → KeepsSound (Block (block.InstallCredits site i more) o)
 unfolding plan_point_of next_of event_of holds_of recalls_of
 install_credits-sound site i more o =
-    either-sound _ _ _ (install_credits-won site i more o) (lost-onward _ _ _ _ 0 refl (λ w. refl) (λ w. grind (arith)))
+    either-sound _ _ _ (install_credits-won site i more o) (lost-onward _ _ _ _ refl (λ w. refl) (λ w. grind (arith)))

@@ -15,7 +15,7 @@ use Rattle.sound_state.proofs.shared.KeepsSound.{KeepsSound, KeepsSoundWhere}
 -- the load of the head of the available descriptors for a pop keeps the state sound
 pub load_desc_head-sound : (seat : SeatFields) (o : Continuation) → KeepsSound (Desc (desc.LoadDescHead seat) o)
 unfolding plan_point_of next_of event_of holds_of recalls_of
-load_desc_head-sound seat o = onward _ 0 (grind (arith)) (λ w. grind (arith))
+load_desc_head-sound seat o = onward _ (grind (arith)) (λ w. grind (arith))
 
 -- what the name of the descriptor below leads to
 next-leads :
@@ -23,7 +23,7 @@ next-leads :
     → (s.errand caller).point ≡ Desc (desc.LoadNextDesc seat d) o → link_in seat.geometry (s.word (name.Next d)) ≡ next
     → LeadsQuietly g s caller (Desc (desc.LoadNextDesc seat d) o) (At (Desc (after_next seat d next) o))
 unfolding holds_of recalls_of
-next-leads g s caller seat d o None has stands is = leads-on g s caller _ _ 0 has stands (grind (arith))
+next-leads g s caller seat d o None has stands is = leads-on g s caller _ _ has stands (grind (arith))
 next-leads g s caller seat d o (Some next) has stands is = record {
   plain = tt;
   holds = grind (arith);
@@ -63,13 +63,13 @@ pop_desc_lost-sound seat d next o g s caller s' sound has stands lost step =
 -- the load of the head of the available descriptors for a push keeps the state sound
 pub load_head_to_push-sound : (seat : SeatFields) (d : ℕ) (o : Continuation) → KeepsSound (Desc (desc.LoadHeadToPush seat d) o)
 unfolding plan_point_of next_of event_of holds_of recalls_of
-load_head_to_push-sound seat d o = onward _ 0 (grind (arith)) (λ w. grind (arith))
+load_head_to_push-sound seat d o = onward _ (grind (arith)) (λ w. grind (arith))
 
 -- a push of a descriptor that is lost, since the head isn't what it was, keeps the state sound
 pub push_desc_lost-sound :
     (seat : SeatFields) (d top : ℕ) (o : Continuation) → KeepsSoundWhere (Desc (desc.PushDesc seat d top) o) (λ s. s.word name.DescHead ≢ top)
 unfolding plan_point_of next_of event_of holds_of recalls_of
-push_desc_lost-sound seat d top o = lost-onward _ _ _ _ 1 refl (λ w. refl) (λ w. grind (arith))
+push_desc_lost-sound seat d top o = lost-onward _ _ _ _ refl (λ w. refl) (λ w. grind (arith))
 
 -- the load of the head again that finds another descriptor on top than the hazard word names keeps the state sound
 pub reload_desc_head_other-sound :

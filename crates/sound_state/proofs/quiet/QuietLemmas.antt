@@ -1,10 +1,9 @@
 -- Points at which a caller holds the same: with a word that stays it weighs the same, and it may stand there.
-use Rattle.std.proofs.Common.{ℕ, ◌≡◌, ◌<◌, ap, sym, subst, All, length}
-use Rattle.sound_state.proofs.Common.{Geometry, WordName, Point, spare_of, pushed_by, State, IsHazard, IsGuard, passed_by, held_by, holds_of, IsKeptAs, Lists, IsSo}
-use Rattle.sound_state.proofs.Common.{IsOwned, recalls_of, IsSoundWith, waits_in}
-use Rattle.word_table.specs.declared.name.WordName.TheVariants as name
-use Rattle.sound_state.proofs.shared.PointLemmas.{WeighFrom, weigh-stays}
-use Rattle.sound_state.proofs.shared.StepLemmas.{PointGoes, TurnGoes, HoldsException}
+use Rattle.std.proofs.Common.{ℕ, refl, ◌≡◌, ◌<◌, ap, sym, subst, All, length}
+use Rattle.sound_state.proofs.Common.{Geometry, WordName, Point, spare_of, pushed_by, State, passed_by, held_by, holds_of, IsKeptAs, Lists, IsSo}
+use Rattle.sound_state.proofs.Common.{recalls_of, IsSoundWith, waits_in}
+use Rattle.sound_state.proofs.shared.PointLemmas.{WeighFrom, weigh-stays, alike-goes}
+use Rattle.sound_state.proofs.shared.StepLemmas.{PointGoes, TurnGoes}
 
 -- at q a caller holds what it holds at p, and is no further back in its turn
 pub record HoldsSame (p q : Point) : Type 0 where
@@ -25,18 +24,17 @@ pub same-point-goes :
     (g : Geometry) (s : State) (l : Lists) (caller : ℕ) (q : Point) → IsSoundWith g s l → caller < g.callers → HoldsSame (s.errand caller).point q
     → All (IsSo g s l caller) (recalls_of q) → PointGoes g s l caller (s.errand caller).point q
 same-point-goes g s l caller q sound has h so =
-    let back = sym h.holds in
-    record {
-      kept = subst (λ held. All (λ k. IsKeptAs s k.status k.desc k.class) held.kept) back (sound.kept.errand caller has);
-      so = so;
-      hazard = subst (λ held. IsHazard held.hazard (s.word (name.Hazard caller))) back (sound.guarded.words caller has);
-      guard = λ d word guard. subst (λ held. IsGuard held.hazard) h.holds guard;
-      pushed = h.pushed;
-      passed = h.passed;
-      unread = h.unread;
-      spare = h.spare;
-      hands = subst (λ held. All (λ x. IsOwned s caller x.place x.need) held.hands) back (sound.tied.hands caller has);
-      frees = subst (λ held. All (λ x. IsOwned s caller x.place x.need) held.frees) back (sound.tied.frees caller has);
-      excepts = λ place x. subst (λ held. HoldsException held place) back x;
-      turn = h.turn;
-    }
+    alike-goes g s l caller (s.errand caller).point q sound has refl
+    (record {
+      hazard = ap (λ held. held.hazard) h.holds;
+      blocks = record {
+        hands = ap (λ held. held.hands) h.holds;
+        frees = ap (λ held. held.frees) h.holds;
+        pushed = h.pushed;
+        passed = h.passed;
+        unread = h.unread;
+        spare = h.spare;
+        turn = h.turn;
+      };
+    })
+    (subst (λ held. All (λ k. IsKeptAs s k.status k.desc k.class) held.kept) (sym h.holds) (sound.kept.errand caller has)) so

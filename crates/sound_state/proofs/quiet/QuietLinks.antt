@@ -2,17 +2,19 @@
 use Rattle.std.proofs.Common.{ℕ, Some, ◌≡◌, ◌≢◌, ◌<◌, ◌≤◌, refl, arith, sym, subst, inl, inr, ◌∙◌, eq-eqb}
 use Rattle.std.proofs.lemmas.Bool.{cases_eq}
 use Rattle.std.proofs.lemmas.List.Elements.{All-cons}
+use Rattle.std.specs.List.{AllByRecursion}
 use Rattle.sound_state.proofs.Common.{Geometry, CLASSES, HeadFields, WordName, name_of, after_action, descriptor_count, Writes, SeatFields, occurs, Pile, Frames, Partials}
 use Rattle.sound_state.proofs.Common.{next_name, Continuation, Point, Stack, Desc, pushed_by, ErrandFields, event_of, next_of, plan_point_of, State, Step, errand_frames}
-use Rattle.sound_state.proofs.Common.{holds_of, errand_has, Lists, IsSo, recalls_of, IsSoundWith, callers_sum, pile_limit, IsErrand, IsPlain, resumed_recalls}
+use Rattle.sound_state.proofs.Common.{holds_of, errand_has, Lists, IsSo, recalls_of, IsSoundWith, callers_sum, pile_limit, IsErrand, IsSaidWord, resumed_recalls}
 use Rattle.word_table.specs.declared.name.WordName.TheVariants as name
 use Rattle.stack_parts.specs.declared.point.StackPoint.TheVariants as stack
 use Rattle.hazard_parts.specs.declared.point.DescPoint.TheVariants as desc
 use Rattle.errand_steps.specs.tables.Stacks.{pushed_too}
 use Rattle.sound_state.proofs.shared.ListFacts.{contains-occurs}
 use Rattle.sound_state.proofs.stores.StoreFields.{IsLone, between, LoneKept}
+use Rattle.sound_state.proofs.shared.RecallFrame.{Reads}
 use Rattle.sound_state.proofs.shared.RecallTables.{IsLink, next-is_link}
-use Rattle.sound_state.proofs.stores.StoreReads.{IsOfArena, IsOfDesc, lone-written, blocks-kept, places-stay, place-stays, IsLinkUnread, block-unread, place-unread}
+use Rattle.sound_state.proofs.stores.StoreReads.{IsOfArena, IsOfDesc, IsBlindTo, IsUnread, lone-written, blocks-kept, places-stay, place-stays, unread-stands}
 use Rattle.sound_state.proofs.stores.StoreReads.{lone-kept}
 use Rattle.sound_state.proofs.stores.StoreSteps.{store-sound}
 use Rattle.sound_state.proofs.shared.HasLemmas.{has-at, others-none}
@@ -35,7 +37,7 @@ pub record IsAlone (g : Geometry) (s : State) (l : Lists) (caller : ℕ) (n : Wo
   pub unlisted : IsUnlisted l n
   pub others : (i : ℕ) → i < g.callers → i ≢ caller → link_weight n (s.errand i) ≡ 0
 
-desc-alone :
+pub desc-alone :
     (g : Geometry) (s : State) (l : Lists) (caller d : ℕ) → IsSoundWith g s l → caller < g.callers → d < descriptor_count g
     → 1 ≤ errand_has d (s.errand caller) → IsAlone g s l caller (name.Next d)
 unfolding callers_sum
@@ -74,9 +76,11 @@ pub retired-has : (e : ErrandFields) (p : Point) (d : ℕ) → IsErrand e → e.
 retired-has e p d rule stands pushes = grind (arith, rule, stands, pushes, contains-occurs)
 
 -- a caller that hasn't the index doesn't remember what its link word says
-unsaid : (e : ErrandFields) (p : Point) (n : WordName) → IsErrand e → e.point ≡ p → link_weight n e ≡ 0 → IsLinkUnread n p
-unfolding holds_of
-unsaid e p n rule stands none = grind (arith, rule, stands, none, pushed-has, retired-has)
+unsaid :
+    (e : ErrandFields) (p : Point) (n : WordName) → IsErrand e → e.point ≡ p → IsLink n → link_weight n e ≡ 0
+    → AllByRecursion (Reads (IsBlindTo n)) (recalls_of p)
+unfolding holds_of recalls_of
+unsaid e p n rule stands link none = grind (arith, rule, stands, link, none, pushed-has, retired-has)
 
 -- an index that is on a list is another one than the unlisted index of a link word
 off-frames : (l : Lists) (f : ℕ) (n : WordName) → 0 < occurs f l.frames → IsUnlisted l n → name.FrameNext f ≢ n
@@ -110,11 +114,11 @@ link-alone n link = grind (arith, link)
 -- the store of a link word by a caller that alone may store it, and doesn't remember it, keeps what is read
 links-kept :
     (g : Geometry) (s : State) (l : Lists) (caller : ℕ) (n : WordName) (new : ℕ) (words' : WordName → ℕ) → IsSoundWith g s l
-    → IsAlone g s l caller n → IsLinkUnread n (s.errand caller).point → IsLink n → InRange g n new → Writes s.word n new words'
+    → IsAlone g s l caller n → IsUnread n (s.errand caller).point → IsLink n → InRange g n new → Writes s.word n new words'
     → LoneKept g s l words'
 links-kept g s l caller n new words' old alone silent link range w =
     let kind = link-alone n link in
-    lone-kept g s l n new words' old kind.0 w
+    lone-kept g s l n new words' kind.0 w
     (record {
       nexts = λ d has. written-most g s.word n new words' w range (name.Next d) (old.listed.nexts d has);
       frame_nexts = λ f has. written-most g s.word n new words' w range (name.FrameNext f) (old.listed.frame_nexts f has);
@@ -122,18 +126,14 @@ links-kept g s l caller n new words' old alone silent link range w =
       available = λ d on. w.elsewhere (name.Next d) (off-available l d n on alone.unlisted);
       partials = λ class has d on. w.elsewhere (name.Next d) (off-partials l class d n has on alone.unlisted);
     })
-    (places-stay g s l n new words' old w kind.2) (blocks-kept g s l n new words' w kind.1)
+    (places-stay g s l n new words' old w kind.2) (blocks-kept g s l n new words' w kind.1) (place-stays s n new words' w kind.2)
     (λ i has.
-    let p : Point = (s.errand i).point in
-    record {
-      link =
-          elim (cases_eq i caller) [
-            | inl is ↦ subst (λ j. IsLinkUnread n (s.errand j).point) (sym is) silent
-            | inr other ↦ unsaid (s.errand i) p n (old.formed.errands i has).rule refl (alone.others i has other)
-          ];
-      block = block-unread n p kind.1;
-      place = place-unread s words' n p (place-stays s n new words' w kind.2) (λ at o stands is. kind.2 (subst IsOfDesc is tt));
-    })
+    elim (cases_eq i caller) [
+      | inl is ↦ subst (λ j. IsUnread n (s.errand j).point) (sym is) silent
+      | inr other ↦
+          unread-stands s i n (s.errand i).point refl
+          (unsaid (s.errand i) (s.errand i).point n (old.formed.errands i has).rule refl link (alone.others i has other))
+    ])
 
 -- what the step from a known point writes into its word
 pub written-at :
@@ -157,7 +157,7 @@ store_next_desc-sound seat d top o g s caller s' sound has stands step =
           let fit = (fits-at g s l caller p old has stands).point in
           links-kept g s l caller (name.Next d) top s'.word old
           (desc-alone g s l caller d old has fit.desc.desc (retired-has (s.errand caller) p d (old.formed.errands caller has).rule stands refl))
-          (subst (IsLinkUnread (name.Next d)) (sym stands) tt) tt fit.link w;
+          (unread-stands s caller (name.Next d) p stands (grind (arith))) tt fit.link w;
       so = λ l old.
           All-cons (IsSo g (between s s'.word) l caller) _ (resumed_recalls seat o) (tt, w.here)
           (so-at g (between s s'.word) l caller p old has stands);
@@ -171,8 +171,8 @@ below-alone :
 below-alone g s l caller Frames i old has exists mine = frame-alone g s l caller i old has exists mine
 below-alone g s l caller Partials i old has exists mine = desc-alone g s l caller i old has exists mine
 
-next-plain : (pile : Pile) (i : ℕ) → IsPlain (next_name pile i)
-next-plain pile i = grind (arith)
+next-said : (pile : Pile) (i : ℕ) → IsSaidWord (next_name pile i)
+next-said pile i = grind (arith)
 
 next-range : (g : Geometry) (pile : Pile) (i w : ℕ) → w ≤ pile_limit g pile → InRange g (next_name pile i) w
 next-range g pile i w most = grind (arith, most)
@@ -196,10 +196,10 @@ store_below-sound seat pile i h o g s caller s' sound has stands step =
           let fit = (fits-at g s l caller p old has stands).point in
           let (exists, rest) = recalled-at g s l caller p old has stands in
           links-kept g s l caller n h.top s'.word old (below-alone g s l caller pile i old has fit.0.index (pushed-has (s.errand caller) p seat pile i o stands refl))
-          (subst (IsLinkUnread n) (sym stands) tt) (next-is_link pile i) (next-range g pile i h.top exists) w;
+          (unread-stands s caller n p stands (grind (arith))) (next-is_link pile i) (next-range g pile i h.top exists) w;
       so = λ l old.
           let t = between s s'.word in
           All-cons (IsSo g t l caller) _ (recalls_of p)
-          (next-plain pile i, sym (lone-written s.word n h.top s'.word lone w n) ∙ w.here) (so-at g t l caller p old has stands);
+          (next-said pile i, sym (lone-written s.word n h.top s'.word lone w n) ∙ w.here) (so-at g t l caller p old has stands);
     })
     step

@@ -1,13 +1,15 @@
 -- Steps at a partial superblock that keep the state sound.
-use Rattle.std.proofs.Common.{ℕ, Bool, false, Option, Some, None, ◌≡◌, ◌≢◌, ◌<◌, ◌≤◌, ◌+◌, ◌-◌, [], ◌∷◌, refl, arith, ap, sym, subst, inl, inr, ◌∙◌, All, IsTrue, ne_eqb}
-use Rattle.std.proofs.Common.{eq-eqb}
+use Rattle.std.proofs.Common.{ℕ, Bool, false, Option, Some, None, ◌≡◌, ◌≢◌, ◌<◌, ◌≤◌, ◌+◌, ◌-◌, [], ◌∷◌, refl, arith, ap, sym, subst, inl, inr, ◌∙◌, All, IsTrue}
+use Rattle.std.proofs.Common.{ne_eqb, eq-eqb}
 use Rattle.std.proofs.lemmas.Bool.{cases_Bool, cases_eq}
 use Rattle.std.proofs.lemmas.Bool.Decides.{nat_tests}
-use Rattle.std.proofs.lemmas.List.Elements.{All-nil, All-cons, All-tail}
-use Rattle.sound_state.proofs.Common.{Geometry, descriptor_count, Writes, SeatFields, info_in, CLASSES, AnchorFields, anchor_word, info_of, Site, WordName, PartialPoint}
-use Rattle.sound_state.proofs.Common.{is_empty, Partials, Next, At, Continuation, ErrandFields, Partial, Stack, Desc, event_of, next_of, plan_point_of, State, Kept}
-use Rattle.sound_state.proofs.Common.{holds_of, partly_used, IsKeptAs, IsPartlyUsed, Lists, recalls_of, IsSo, IsLocated, IsSoundWith, errand_keeps, anchor_for, info_for}
-use Rattle.sound_state.proofs.Common.{waits_in, heap_of, anchor_in, slot_name, InfoFields, slot_of, Clear, point_after, continuation_holds, IsEmptied}
+use Rattle.std.proofs.lemmas.List.Elements.{All-nil, All-cons, All-tail, All-from_recursion}
+use Rattle.std.specs.List.{AllByRecursion}
+use Rattle.sound_state.proofs.Common.{Geometry, descriptor_count, Writes, SeatFields, info_in, CLASSES, AnchorFields, anchor_word, info_of, Site, WordName}
+use Rattle.sound_state.proofs.Common.{PartialPoint, is_empty, Partials, Next, At, Continuation, ErrandFields, Partial, Stack, Desc, event_of, next_of, plan_point_of}
+use Rattle.sound_state.proofs.Common.{State, Kept, holds_of, partly_used, IsKeptAs, IsPartlyUsed, Lists, recalls_of, IsSo, IsLocated, IsSoundWith, errand_keeps}
+use Rattle.sound_state.proofs.Common.{anchor_for, info_for, waits_in, heap_of, anchor_in, slot_name, InfoFields, slot_of, Clear, point_after, continuation_holds}
+use Rattle.sound_state.proofs.Common.{IsEmptied}
 use Rattle.word_table.specs.declared.name.WordName.TheVariants as name
 use Rattle.word_table.specs.declared.onward.Onward.TheVariants.{Leaves}
 use Rattle.partial_parts.specs.declared.exit.PartialExit.TheVariants as exit
@@ -21,18 +23,18 @@ use Rattle.errand_steps.specs.Nexts.{leave_partial}
 use Rattle.sound_state.proofs.quiet.QuietExchanges.{lost-onward, lost-steady}
 use Rattle.sound_state.proofs.quiet.QuietPops.{anchor-said, info-said}
 use Rattle.sound_state.proofs.quiet.QuietSteps.{StepsSteadily, LeadsQuietly, leads-on, onward, quiet-at, quietly, steady-at}
-use Rattle.sound_state.proofs.shared.CreditLemmas.{won-at}
-use Rattle.sound_state.proofs.shared.PointLemmas.{HoldsAlike, HoldsBlocks, WeighFrom, alike-goes, blocks-go, fits-at, fits-now, kept-at, so-at, weigh-stays, step-from}
-use Rattle.sound_state.proofs.shared.PointLemmas.{slot-written, slot-emptied, keeps-too, none-kept-as, exists-at, keeps-alone}
+use Rattle.sound_state.proofs.shared.PointLemmas.{HoldsAlike, HoldsBlocks, WeighFrom, alike-goes, blocks-go, fits-at, fits-now, kept-at, so-at, weigh-stays}
+use Rattle.sound_state.proofs.shared.PointLemmas.{slot-written, slot-emptied, keeps-too, none-kept-as, exists-at, keeps-alone, recalled-at}
 use Rattle.sound_state.proofs.shared.RecallEffects.{empty-is}
 use Rattle.sound_state.proofs.shared.StepLemmas.{LeadsOrEnds}
 use Rattle.sound_state.proofs.shared.KeepsSound.{KeepsSound, KeepsSoundWhere}
 use Rattle.sound_state.proofs.shared.SuperblocksStay.{ActivesKept}
+use Rattle.sound_state.proofs.SoundSteps.{step-from, won-at}
 
 -- the load of a slot keeps the state sound
 pub load_slot-sound : (seat : SeatFields) (need : ℕ) → KeepsSound (Partial (partial.LoadSlot seat) (Alloc need))
 unfolding plan_point_of next_of event_of holds_of recalls_of
-load_slot-sound seat need = onward _ 0 (grind (arith)) (λ w. grind (arith))
+load_slot-sound seat need = onward _ (grind (arith)) (λ w. grind (arith))
 
 -- the take of what stands in a slot keeps the state sound: the caller has it then, or the take is lost
 pub take_slot-sound : (seat : SeatFields) (d need : ℕ) → KeepsSound (Partial (partial.TakeSlot seat d) (Alloc need))
@@ -57,7 +59,7 @@ take_slot-sound seat d need g s caller s' sound has stands step =
             actives = λ l old words' w. slot-emptied g s l (heap_of seat) seat.class 0 words' old w refl;
           })
           there step
-      | inr lost ↦ lost-onward _ _ _ _ 0 refl (λ w. refl) (λ w. grind (arith)) g s caller s' sound has stands lost step
+      | inr lost ↦ lost-onward _ _ _ _ refl (λ w. refl) (λ w. grind (arith)) g s caller s' sound has stands lost step
     ]
 
 -- what the word of a taken descriptor leads to
@@ -66,7 +68,7 @@ taken_info-leads :
     → (s.errand caller).point ≡ Partial (partial.LoadTakenInfo seat d) (Alloc need) → info_in seat.geometry (s.word (name.Info d)) ≡ i
     → LeadsQuietly g s caller (Partial (partial.LoadTakenInfo seat d) (Alloc need)) (At (Partial (after_taken_info seat d i) (Alloc need)))
 unfolding holds_of recalls_of
-taken_info-leads g s caller seat d need None has stands is = leads-on g s caller _ _ 0 has stands (grind (arith))
+taken_info-leads g s caller seat d need None has stands is = leads-on g s caller _ _ has stands (grind (arith))
 taken_info-leads g s caller seat d need (Some info) has stands is = record {
   plain = tt;
   holds = grind (arith);
@@ -90,7 +92,7 @@ live-leads :
     → is_empty (anchor_for s site.desc).state ≡ false → LeadsQuietly g s caller (Partial (partial.LoadGrantAnchor site) (Alloc need))
     (At (Partial (after_live site a) (Alloc need)))
 unfolding holds_of recalls_of
-live-leads g s caller site need None has stands is used = leads-on g s caller _ _ 0 has stands (grind (arith))
+live-leads g s caller site need None has stands is used = leads-on g s caller _ _ has stands (grind (arith))
 live-leads g s caller site need (Some a) has stands is used = record {
   plain = tt;
   holds = grind (arith);
@@ -115,12 +117,12 @@ pub grant_lost-sound :
     (site : Site) (a : AnchorFields) (need : ℕ)
     → KeepsSoundWhere (Partial (partial.Grant site a) (Alloc need)) (λ s. s.word (name.Anchor site.desc) ≢ anchor_word a)
 unfolding plan_point_of next_of event_of holds_of recalls_of
-grant_lost-sound site a need = lost-onward _ _ _ _ 1 refl (λ w. refl) (λ w. grind (arith))
+grant_lost-sound site a need = lost-onward _ _ _ _ refl (λ w. refl) (λ w. grind (arith))
 
 -- the load of the info word of a superblock that became partial keeps the state sound
 pub load_partial_owner-sound : (seat : SeatFields) (d : ℕ) (stored : Bool) → KeepsSound (Partial (partial.LoadOwner seat d) (Finish stored))
 unfolding plan_point_of next_of event_of holds_of recalls_of
-load_partial_owner-sound seat d stored = onward _ 0 (grind (arith)) (λ w. grind (arith))
+load_partial_owner-sound seat d stored = onward _ (grind (arith)) (λ w. grind (arith))
 
 -- the look at the first superblock from the list keeps the state sound, where that isn't EMPTY
 pub load_first_listed-sound :
@@ -128,7 +130,7 @@ pub load_first_listed-sound :
 unfolding plan_point_of next_of event_of holds_of recalls_of
 load_first_listed-sound seat d g s caller s' sound has stands used step =
     quiet-at g s caller s' (Partial (partial.LoadListedAnchor seat d) Clear) sound has stands (record { event = refl; cleared = refl; word = refl })
-    (rw used (leads-on g s caller _ _ 0 has stands (grind (arith)))) step
+    (rw used (leads-on g s caller _ _ has stands (grind (arith)))) step
 
 -- a free whose EMPTY superblock isn't in the slot goes steadily on to clear its hazard word
 elsewhere-goes :
@@ -148,7 +150,7 @@ load_held_slot-sound seat d heap g s caller s' sound has stands step =
       | inl there ↦
           let yes = eq-eqb (s.word (slot_of seat heap)) (d + 1) there in
           quiet-at g s caller s' (Partial (partial.LoadHeldSlot seat d heap) Free) sound has stands (record { event = refl; cleared = refl; word = refl })
-          (rw yes (leads-on g s caller _ _ 0 has stands (grind (arith)))) step
+          (rw yes (leads-on g s caller _ _ has stands (grind (arith)))) step
       | inr other ↦
           let no = ne_eqb (s.word (slot_of seat heap)) (d + 1) other in
           let p = partial.LoadHeldSlot seat d heap in
@@ -175,7 +177,7 @@ remove_from_slot-sound seat d heap g s caller s' sound has stands step =
             goes = λ l old.
                 alike-goes g s l caller p q old has stands (grind (arith))
                 (keeps-too s d seat.class [] (old.kept.slot heap seat.class d exists.0 exists.1 there).1 (none-kept-as s))
-                (so-at g s l caller p old has stands);
+                (let (empty, rest) = recalled-at g s l caller p old has stands in All-from_recursion (IsSo g s l caller) (recalls_of q) (empty, tt));
             actives = λ l old words' w. slot-emptied g s l heap seat.class 0 words' old w refl;
           })
           there step
@@ -204,7 +206,9 @@ record FillsSlot (seat : SeatFields) (d heap : ℕ) (o : Continuation) (n : Next
   weighs : WeighFrom (slot_of seat heap) 0 (d + 1) (Partial (partial.PutSlot seat d heap) o) (point_after n)
   alike : HoldsAlike (Partial (partial.PutSlot seat d heap) o) (point_after n)
   kept : (holds_of (point_after n)).kept ≡ []
-  recalls : recalls_of (point_after n) ≡ recalls_of (Partial (partial.PutSlot seat d heap) o)
+  recalls :
+      (g : Geometry) (s : State) (l : Lists) (caller : ℕ) → AllByRecursion (IsSo g s l caller) (recalls_of (Partial (partial.PutSlot seat d heap) o))
+      → AllByRecursion (IsSo g s l caller) (recalls_of (point_after n))
 
 -- what follows a filled slot: the caller gives its block, or its free finishes, and ends where it stored no hazard word
 filled-leads :
@@ -227,7 +231,7 @@ put_slot_filled-sound seat d heap o g s caller s' sound has stands bare step =
       cleared = refl;
       goes =
           alike-goes g s l caller p _ old has stands fills.alike (subst (All (λ k. IsKeptAs s k.status k.desc k.class)) (sym fills.kept) (none-kept-as s))
-          (subst (All (IsSo g s l caller)) (sym fills.recalls) (so-at g s l caller p old has stands));
+          (All-from_recursion (IsSo g s l caller) (recalls_of _) (fills.recalls g s l caller (recalled-at g s l caller p old has stands)));
       weigh = rw bare fills.weighs;
       actives = λ words' w. put-actives g s l caller seat d heap o words' old has stands w;
     })
@@ -314,5 +318,5 @@ load_second-sound seat d first g s caller s' sound has stands step =
       | inr used ↦
           quiet-at g s caller s' (Partial (partial.LoadListedAnchor seat d) (ClearSecond first)) sound has stands
           (record { event = refl; cleared = refl; word = refl })
-          (rw used (leads-on g s caller _ _ 0 has stands (grind (arith)))) step
+          (rw used (leads-on g s caller _ _ has stands (grind (arith)))) step
     ]

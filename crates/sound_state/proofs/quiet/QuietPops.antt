@@ -1,8 +1,8 @@
 -- Loads on the way to a pop, and to the return of reserved blocks.
-use Rattle.std.proofs.Common.{ℕ, Option, Some, None, ◌≡◌, ◌<◌, ◌-◌, [], refl, arith, ap, sym, subst}
+use Rattle.std.proofs.Common.{ℕ, Option, Some, None, ◌≡◌, ◌<◌, [], refl, arith, ap, sym, subst}
 use Rattle.std.proofs.lemmas.List.Elements.{All-nil, All-cons}
 use Rattle.sound_state.proofs.Common.{Geometry, AnchorFields, anchor_of, info_of, Site, SeatFields, info_in, occurs, Share, Continuation, At, Point, Block, event_of}
-use Rattle.sound_state.proofs.Common.{next_of, plan_point_of, State, holds_of, holds_before_pop, IsSo, recalls_of, bound_here, callers_sum, info_for, info_or_zero}
+use Rattle.sound_state.proofs.Common.{next_of, plan_point_of, State, holds_of, holds_before_pop, IsSo, recalls_of, callers_sum, info_for, info_or_zero}
 use Rattle.sound_state.proofs.Common.{anchor_for, superblock_of, free_chain, reserved_of, reserved_among, errand_reserves, InfoFields, info_within, anchor_in, after_info}
 use Rattle.sound_state.proofs.Common.{after_anchor, occurs-here}
 use Rattle.word_table.specs.declared.name.WordName.TheVariants as name
@@ -23,7 +23,7 @@ info-leads :
     → (s.errand caller).point ≡ Block (block.LoadInfo seat d share) o → info_in seat.geometry (s.word (name.Info d)) ≡ said
     → LeadsQuietly g s caller (Block (block.LoadInfo seat d share) o) (At (Block (after_info seat d share said) o))
 unfolding holds_of recalls_of
-info-leads g s caller seat d share o None has stands is = leads-on g s caller _ _ 0 has stands (grind (arith))
+info-leads g s caller seat d share o None has stands is = leads-on g s caller _ _ has stands (grind (arith))
 info-leads g s caller seat d share o (Some info) has stands is = record {
   plain = tt;
   holds = grind (arith);
@@ -67,7 +67,7 @@ anchor-leads :
     → (s.errand caller).point ≡ Block (block.LoadAnchor site share) o → anchor_in site.seat.class (s.word (name.Anchor site.desc)) ≡ said
     → LeadsQuietly g s caller (Block (block.LoadAnchor site share) o) (At (Block (after_anchor site share said) o))
 unfolding holds_of recalls_of
-anchor-leads g s caller site share o None has stands is = leads-on g s caller _ _ 0 has stands (grind (arith))
+anchor-leads g s caller site share o None has stands is = leads-on g s caller _ _ has stands (grind (arith))
 anchor-leads g s caller site share o (Some a) has stands is = record {
   plain = tt;
   holds = grind (arith);
@@ -75,7 +75,7 @@ anchor-leads g s caller site share o (Some a) has stands is = record {
       let says : a ≡ anchor_for s site.desc = anchor-said site.seat.class (s.word (name.Anchor site.desc)) a is in
       let some : 0 < reserved_of g s site.desc =
       caller-reserves g s caller site.desc (Block (block.LoadAnchor site share) o) has stands (before-reserves site.desc site.seat.class share) in
-      All-cons (IsSo g s l caller) _ (bound_here site)
+      All-cons (IsSo g s l caller) _ (recalls_of (Block (block.LoadAnchor site share) o))
       (subst (IsPopped (superblock_of g s site.desc)) (sym says) (record { tag = omega arith; first = λ same. chain-first g s site.desc some }))
       (so-at g s l caller (Block (block.LoadAnchor site share) o) old has stands);
 }
@@ -102,4 +102,4 @@ load_link-sound site share a o =
 -- the load of an anchor for a return keeps the state sound
 pub load_return-sound : (site : Site) (i more : ℕ) (o : Continuation) → KeepsSound (Block (block.LoadReturn site i more) o)
 unfolding plan_point_of next_of event_of holds_of recalls_of
-load_return-sound site i more o = onward _ 0 (grind (arith)) (λ w. grind (arith))
+load_return-sound site i more o = onward _ (grind (arith)) (λ w. grind (arith))

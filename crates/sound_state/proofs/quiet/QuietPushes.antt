@@ -14,13 +14,13 @@ use Rattle.superblock_parts.specs.declared.point.BlockPoint.TheVariants as block
 use Rattle.superblock_parts.specs.Points.{after_prefix}
 use Rattle.sound_state.proofs.quiet.QuietSteps.{StepsSteadily, leads-on, onward, quiet-steady, steadily}
 use Rattle.sound_state.proofs.shared.OwnerLemmas.{begins-owned, prefix-ties, begins-free}
-use Rattle.sound_state.proofs.shared.PointLemmas.{blocks-go, fits-at, hazard-at, so-at, weigh-stays}
+use Rattle.sound_state.proofs.shared.PointLemmas.{blocks-go, fits-at, hazard-at, weigh-stays, goes-on}
 use Rattle.sound_state.proofs.shared.KeepsSound.{KeepsSound}
 
 -- the load of the owner of a guarded descriptor keeps the state sound
 pub load_guarded_owner-sound : (site : Site) (i : ℕ) (a : AnchorFields) (o : Continuation) → KeepsSound (Block (block.LoadOwner site i a) o)
 unfolding plan_point_of next_of event_of holds_of recalls_of
-load_guarded_owner-sound site i a o = onward _ 0 (grind (arith)) (λ w. grind (arith))
+load_guarded_owner-sound site i a o = onward _ (grind (arith)) (λ w. grind (arith))
 
 -- a small prefix word is twice its descriptor
 small-prefix-word : (word d : ℕ) → word < 2 ^ 64 → prefix_of word ≡ Some (Small d) → word ≡ 2 * d
@@ -57,22 +57,26 @@ small-prefix-leads g s caller seat frame i o d has stands is = record {
   plain = tt;
   weighs = λ w. weigh-stays _ w _ _ refl refl refl (λ class. refl);
   goes = λ l old. record {
-    kept = All-nil _;
-    so = All-cons (IsSo g s l caller) _ [] (prefix-names g s l caller seat frame i o d old has stands is)
-        (All-nil (IsSo g s l caller));
+    stands = record {
+      point = record {
+        kept = All-nil _;
+        so = All-cons (IsSo g s l caller) _ [] (prefix-names g s l caller seat frame i o d old has stands is)
+            (All-nil (IsSo g s l caller));
+        hands = All-nil _;
+        frees =
+            All-cons (λ (b : Freed). IsOwned s caller b.place b.need)
+            (record { place = block_place frame seat.class i; need = need.Small seat.class; overwritten = true }) []
+            (begins-owned g s l caller seat frame i o old has stands) (All-nil _);
+      };
+      spare = refl;
+      excepts = λ place x. absurd (begins-free seat frame i o place x);
+      turn = grind (arith);
+    };
     hazard = hazard-at g s l caller (Block (block.LoadPrefix seat frame i) o) old has stands;
     guard = λ d word guard. guard;
     pushed = refl;
     passed = refl;
     unread = refl;
-    spare = refl;
-    hands = All-nil _;
-    frees =
-        All-cons (λ (b : Freed). IsOwned s caller b.place b.need)
-        (record { place = block_place frame seat.class i; need = need.Small seat.class; overwritten = true }) []
-        (begins-owned g s l caller seat frame i o old has stands) (All-nil _);
-    excepts = λ place x. absurd (begins-free seat frame i o place x);
-    turn = grind (arith);
   };
 }
 
@@ -82,7 +86,7 @@ prefix-stays :
     (block.LoadPrefix seat frame i) o
     → StepsSteadily g s caller (Block (block.LoadPrefix seat frame i) o) (At (Block (block.LoadPrefix seat frame i) o))
 unfolding holds_of recalls_of
-prefix-stays g s caller seat frame i o has stands = quiet-steady g s caller _ _ has stands (leads-on g s caller _ _ 0 has stands (grind (arith)))
+prefix-stays g s caller seat frame i o has stands = quiet-steady g s caller _ _ has stands (leads-on g s caller _ _ has stands (grind (arith)))
 
 prefix-said :
     (g : Geometry) (s : State) (caller : ℕ) (seat : SeatFields) (frame i : ℕ) (o : Continuation) (said : Option Prefix) → caller < g.callers
@@ -119,7 +123,7 @@ push_anchor-last g s caller site i stored o a has stands =
       goes = λ l old.
           blocks-go g s l caller p (Block (block.StoreGuard site i a) o) old has stands (grind (arith)) tt
           (λ d word guard. stored-guards stored site.desc d (s.word (name.Hazard caller)) (hazard-at g s l caller p old has stands) word) (All-nil _)
-          (so-at g s l caller p old has stands);
+          (goes-on g s l caller p (recalls_of (Block (block.StoreGuard site i a) o)) old has stands (λ so. grind (arith, so)));
     }
 
 -- what an anchor leads to that is read for any push
@@ -128,12 +132,12 @@ push_anchor-said :
     → (s.errand caller).point ≡ Block (block.LoadPushAnchor site i stored) o → StepsSteadily g s caller (Block (block.LoadPushAnchor site i stored) o)
     (At (Block (after_push_anchor site i stored said) o))
 unfolding holds_of recalls_of
-push_anchor-said g s caller site i stored o None has stands = quiet-steady g s caller _ _ has stands (leads-on g s caller _ _ 0 has stands (grind (arith)))
+push_anchor-said g s caller site i stored o None has stands = quiet-steady g s caller _ _ has stands (leads-on g s caller _ _ has stands (grind (arith)))
 push_anchor-said g s caller site i stored o (Some a) has stands =
     cond_both (is_last site.seat.class a) (block.StoreGuard site i a) (block.StoreLink site i a stored 0)
     (λ q. StepsSteadily g s caller (Block (block.LoadPushAnchor site i stored) o) (At (Block q o)))
     (λ last. push_anchor-last g s caller site i stored o a has stands)
-    (λ more. quiet-steady g s caller _ _ has stands (leads-on g s caller _ _ 0 has stands (grind (arith))))
+    (λ more. quiet-steady g s caller _ _ has stands (leads-on g s caller _ _ has stands (grind (arith))))
 
 -- the load of an anchor for a push keeps the state sound
 pub load_push_anchor-sound : (site : Site) (i : ℕ) (stored : Bool) (o : Continuation) → KeepsSound (Block (block.LoadPushAnchor site i stored) o)

@@ -67,7 +67,7 @@ below-leads-quietly g s caller seat pile h o has stands =
           All-cons (IsSo g s l caller) _ (recalls_of (Stack p o)) (λ same. refl)
           (so-at g s l caller (Stack p o) old has stands);
     })
-    (λ beyond. leads-on g s caller (Stack p o) _ 0 has stands (record { plain = tt; holds = pops-same p p o refl; recalls = refl }))
+    (λ beyond. leads-on g s caller (Stack p o) _ has stands (record { plain = tt; holds = pops-same p p o refl; recalls = λ g s l caller so. so }))
 
 pub load_below-sound : (seat : SeatFields) (pile : Pile) (h : HeadFields) (o : Continuation) → KeepsSound (Stack (stack.LoadBelow seat pile h) o)
 unfolding plan_point_of next_of event_of
@@ -79,7 +79,7 @@ pub pop_top_lost-sound :
     → KeepsSoundWhere (Stack (stack.PopTop seat pile h below) o) (λ s. s.word (head_name seat pile) ≢ head_word h)
 unfolding plan_point_of next_of event_of holds_of recalls_of
 pop_top_lost-sound seat pile h below o =
-    lost-onward _ _ _ _ 2 refl (λ w. refl) (λ w. record { plain = tt; holds = pops-same _ (stack.LoadTop seat pile) o refl; recalls = refl })
+    lost-onward _ _ _ _ refl (λ w. refl) (λ w. record { plain = tt; holds = pops-same _ (stack.LoadTop seat pile) o refl; recalls = λ g s l caller so. so.1.1 })
 
 -- the look whether the stack is still empty keeps the state sound where it isn't
 pub confirm_empty_lost-sound :
@@ -87,7 +87,7 @@ pub confirm_empty_lost-sound :
     → KeepsSoundWhere (Stack (stack.ConfirmEmpty seat pile h) o) (λ s. s.word (head_name seat pile) ≢ head_word h)
 unfolding plan_point_of next_of event_of holds_of recalls_of
 confirm_empty_lost-sound seat pile h o =
-    lost-onward _ _ _ _ 0 refl (λ w. refl) (λ w. record { plain = tt; holds = pops-same _ (stack.LoadTop seat pile) o refl; recalls = refl })
+    lost-onward _ _ _ _ refl (λ w. refl) (λ w. record { plain = tt; holds = pops-same _ (stack.LoadTop seat pile) o refl; recalls = λ g s l caller so. so })
 
 -- a push onto a stack that is lost keeps the state sound
 pub push_top_lost-sound :
@@ -95,12 +95,12 @@ pub push_top_lost-sound :
     → KeepsSoundWhere (Stack (stack.PushTop seat pile i h) o) (λ s. s.word (head_name seat pile) ≢ head_word h)
 unfolding plan_point_of next_of event_of holds_of recalls_of
 push_top_lost-sound seat pile i h o =
-    lost-onward _ _ _ _ 2 refl (λ w. refl) (λ w. record { plain = tt; holds = pops-same _ (stack.LoadTopToPush seat pile i) o refl; recalls = refl })
+    lost-onward _ _ _ _ refl (λ w. refl) (λ w. record { plain = tt; holds = pops-same _ (stack.LoadTopToPush seat pile i) o refl; recalls = λ g s l caller so. so.1.1 })
 
 -- a stack that is read empty leads on: an allocation looks again, and a clearing that has popped one superblock puts it back
 empty-stack-leads :
     (seat : SeatFields) (pile : Pile) (h : HeadFields) (o : Continuation) → o ≢ Clear
-    → LeadsOn (Stack (stack.LoadTop seat pile) o) (found_empty seat pile h o) 0
+    → LeadsOn (Stack (stack.LoadTop seat pile) o) (found_empty seat pile h o)
 unfolding holds_of recalls_of
 empty-stack-leads seat pile h o goes = grind (arith)
 
@@ -117,7 +117,7 @@ top-leads-quietly g s caller seat pile o has stands goes =
     let q = stack.LoadBelow seat pile h in
     cond_both (h.top == 0) (Leaves (exit.FoundEmpty seat pile h)) (Stays (if nat_le h.top (pile_limit seat.geometry pile) then q else p))
     (λ r. LeadsQuietly g s caller (Stack p o) (enter_stack r o))
-    (λ empty. leads-on g s caller (Stack p o) _ 0 has stands (empty-stack-leads seat pile h o (λ is. goes is (eqb-true h.top 0 empty))))
+    (λ empty. leads-on g s caller (Stack p o) _ has stands (empty-stack-leads seat pile h o (λ is. goes is (eqb-true h.top 0 empty))))
     (λ some.
     cond_both (nat_le h.top (pile_limit seat.geometry pile)) q p (λ r. LeadsQuietly g s caller (Stack p o) (At (Stack r o)))
     (λ within. record {
@@ -134,7 +134,7 @@ top-leads-quietly g s caller seat pile o has stands goes =
           })
           (so-at g s l caller (Stack p o) old has stands);
     })
-    (λ beyond. leads-on g s caller (Stack p o) _ 0 has stands (record { plain = tt; holds = pops-same p p o refl; recalls = refl })))
+    (λ beyond. leads-on g s caller (Stack p o) _ has stands (record { plain = tt; holds = pops-same p p o refl; recalls = λ g s l caller so. so })))
 
 pub load_top-sound :
     (seat : SeatFields) (pile : Pile) (o : Continuation)

@@ -1,12 +1,14 @@
 -- Steps that leave their word, from a point that is known: they keep the state sound.
-use Rattle.std.proofs.Common.{ℕ, false, None, ◌≡◌, ◌<◌, refl, sym, subst, All, drop}
-use Rattle.std.proofs.lemmas.List.Elements.{All-nil, All-drop}
-use Rattle.sound_state.proofs.Common.{Geometry, name_of, after_action, Next, End, Point, Idle, Reply, counts_cleared, event_of, found_by, next_of, plan_point_of, State}
-use Rattle.sound_state.proofs.Common.{Step, Lists, IsSo, recalls_of, IsSoundWithoutCounts, IsSoundWith, point_after}
+use Rattle.std.proofs.Common.{ℕ, false, None, ◌≡◌, ◌<◌, refl, sym, subst, All}
+use Rattle.std.proofs.lemmas.List.Elements.{All-nil, All-from_recursion}
+use Rattle.std.specs.List.{AllByRecursion}
+use Rattle.sound_state.proofs.Common.{Geometry, name_of, after_action, Next, End, Point, Idle, Reply, counts_cleared, event_of, found_by, next_of, plan_point_of}
+use Rattle.sound_state.proofs.Common.{State, Step, Lists, IsSo, recalls_of, IsSoundWithoutCounts, IsSoundWith, point_after}
 use Rattle.sound_state.proofs.quiet.QuietLemmas.{HoldsSame, same-point-goes, same-stays}
-use Rattle.sound_state.proofs.shared.PointLemmas.{WeighFrom, so-at, stays-actives, step-from}
+use Rattle.sound_state.proofs.shared.PointLemmas.{WeighFrom, stays-actives, recalled-at}
 use Rattle.sound_state.proofs.shared.StepLemmas.{LeadsOrEnds, PointGoes, found_from}
 use Rattle.sound_state.proofs.shared.KeepsSound.{KeepsSound}
+use Rattle.sound_state.proofs.SoundSteps.{step-from}
 
 -- the step tells nothing, clears nothing, and leaves its word
 pub record IsSilent (s : State) (caller : ℕ) (p : Point) : Type 0 where
@@ -64,20 +66,23 @@ pub quiet-at :
 quiet-at g s caller s' p sound has stands silent h step =
     steady-at g s caller s' p sound has stands silent (quiet-steady g s caller p (next_of p (found_from s p)) has stands h) step
 
--- a step that leads where its caller holds the same, and remembers the same but for the first few things
-pub record LeadsOn (p : Point) (n : Next) (forgotten : ℕ) : Type 0 where
+-- a step that leads where its caller holds the same, and remembers nothing new
+pub record LeadsOn (p : Point) (n : Next) : Type 0 where
   pub plain : LeadsOrEnds n
   pub holds : HoldsSame p (point_after n)
-  pub recalls : recalls_of (point_after n) ≡ drop forgotten (recalls_of p)
+  pub recalls :
+      (g : Geometry) (s : State) (l : Lists) (caller : ℕ) → AllByRecursion (IsSo g s l caller) (recalls_of p)
+      → AllByRecursion (IsSo g s l caller) (recalls_of (point_after n))
 
--- a step that leads where its caller holds the same, and remembers the same but for the first few things, leads quietly
+-- a step that leads where its caller holds the same, and remembers nothing new, leads quietly
 pub leads-on :
-    (g : Geometry) (s : State) (caller : ℕ) (p : Point) (n : Next) (forgotten : ℕ) → caller < g.callers → (s.errand caller).point ≡ p
-    → LeadsOn p n forgotten → LeadsQuietly g s caller p n
-leads-on g s caller p n forgotten has stands h = record {
+    (g : Geometry) (s : State) (caller : ℕ) (p : Point) (n : Next) → caller < g.callers → (s.errand caller).point ≡ p → LeadsOn p n
+    → LeadsQuietly g s caller p n
+leads-on g s caller p n has stands h = record {
   plain = h.plain;
   holds = h.holds;
-  so = λ l old. subst (All (IsSo g s l caller)) (sym h.recalls) (All-drop (IsSo g s l caller) forgotten (recalls_of p) (so-at g s l caller p old has stands));
+  so = λ l old.
+      All-from_recursion (IsSo g s l caller) (recalls_of (point_after n)) (h.recalls g s l caller (recalled-at g s l caller p old has stands));
 }
 
 -- a step that ends the call of a caller that holds nothing leads quietly
@@ -109,5 +114,5 @@ pub quietly :
 quietly p mute leads = steadily p mute (λ g s caller has stands. quiet-steady g s caller p _ has stands (leads g s caller has stands))
 
 -- a step from a mute point that leads on, whatever it finds, keeps the state sound
-pub onward : (p : Point) (forgotten : ℕ) → IsMute p → ((w : ℕ) → LeadsOn p (next_of p (found_by (plan_point_of p) w)) forgotten) → KeepsSound p
-onward p forgotten mute leads = quietly p mute (λ g s caller has stands. leads-on g s caller p _ forgotten has stands (leads _))
+pub onward : (p : Point) → IsMute p → ((w : ℕ) → LeadsOn p (next_of p (found_by (plan_point_of p) w))) → KeepsSound p
+onward p mute leads = quietly p mute (λ g s caller has stands. leads-on g s caller p _ has stands (leads _))

@@ -12,7 +12,6 @@ use Rattle.sound_state.proofs.Common.{is_bound, word_reserves, emptied_out, one_
 use Rattle.sound_state.proofs.Common.{HazardState, clear, nothing, keep, IsPlain, resumed_recalls, lacks_frame, lacks_partial, lacks_answer}
 use Rattle.packed_words.specs.declared.anchor.AnchorState.TheVariants as phase
 use Rattle.word_table.specs.declared.name.WordName.TheVariants as name
-use Rattle.sound_state.proofs.shared.AlikeLemmas.{sound-alike}
 use Rattle.sound_state.proofs.hazards.HazardLemmas.{hazard_caller, hazard-actives}
 use Rattle.sound_state.proofs.shared.ListFacts.{occurs-push}
 use Rattle.sound_state.proofs.shared.ShownLemmas.{MayGoOn}
@@ -25,6 +24,7 @@ use Rattle.sound_state.proofs.shared.TurnEffects.{one_if-most, CountsGo}
 use Rattle.sound_state.proofs.shared.WeighLemmas.{WeighClose, weigh-close}
 use Rattle.sound_state.proofs.shared.SuperblocksStay.{ActivesKept}
 use Rattle.sound_state.proofs.shared.KeepsSound.{silent-sound}
+use Rattle.sound_state.proofs.SoundSteps.{sound-alike}
 
 -- the descriptor is away once more with the errand b than with a, and no other one is
 pub record GoesAway (d : ℕ) (a b : ErrandFields) : Type 0 where

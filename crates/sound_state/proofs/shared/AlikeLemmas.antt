@@ -1,9 +1,9 @@
 -- A step that changes no superblock, no list and no event: a caller goes on, at most active words and slots change, and at most an EMPTY superblock's descriptor is retired.
-use Rattle.std.proofs.Common.{ℕ, ◌≡◌, ◌≢◌, ◌<◌, ◌≤◌, ◌+◌, arith}
-use Rattle.sound_state.proofs.Common.{Geometry, WordName, descriptor_count, ErrandFields, State, Moves, errand_frames, on_its_way, Lists, IsSoundWith, sum_below}
-use Rattle.sound_state.proofs.Common.{callers_sum, reserved_of, waiting_of, is_bound, errand_keeps, emptied_out, places_of, IsPlain, IsStocked, IsFormed}
+use Rattle.std.proofs.Common.{ℕ, ◌≡◌, ◌≢◌, ◌<◌, ◌≤◌, ◌+◌}
+use Rattle.sound_state.proofs.Common.{Geometry, WordName, descriptor_count, ErrandFields, State, Moves, errand_frames, on_its_way, Lists, sum_below}
+use Rattle.sound_state.proofs.Common.{callers_sum, reserved_of, waiting_of, is_bound, errand_keeps, emptied_out, places_of, IsPlain, IsStocked}
 use Rattle.word_table.specs.declared.name.WordName.TheVariants as name
-use Rattle.sound_state.proofs.shared.ShownLemmas.{ShowsSame, sound-but_one, sound-shown, MayGoOn, MayGuard, IsSoundBut}
+use Rattle.sound_state.proofs.shared.ShownLemmas.{MayGoOn, MayGuard}
 use Rattle.sound_state.proofs.shared.SuperblocksStay.{ActivesKept}
 
 -- the state s' shows the same superblocks, lists and events as s
@@ -30,21 +30,3 @@ pub record GoesAlike (g : Geometry) (s : State) (l : Lists) (caller : ℕ) (e : 
   pub emptied :
       sum_below (descriptor_count g) (emptied_out g s' l) + e.cleared
       ≤ sum_below (descriptor_count g) (emptied_out g s l) + (s.errand caller).cleared
-
--- a state after that shows the same, and what was available is
-shows-alike :
-    (g : Geometry) (s : State) (l : Lists) (caller : ℕ) (e : ErrandFields) (s' : State) → GoesAlike g s l caller e s' → IsSoundBut g s l caller
-    → ShowsSame g s l caller e s' l.available
-shows-alike g s l caller e s' go sound = grind (arith, go, sound)
-
--- a caller that goes on alike makes sound a state that is so but for what it remembers and how often it was answered
-pub sound-but :
-    (g : Geometry) (s : State) (l : Lists) (caller : ℕ) (e : ErrandFields) (s' : State) → GoesAlike g s l caller e s' → IsSoundBut g s l caller
-    → IsFormed g s' → IsSoundWith g s' l
-sound-but g s l caller e s' go sound formed = sound-shown g s l caller e s' l.available (shows-alike g s l caller e s' go sound) sound formed
-
--- a step after which a state shows the same keeps it sound
-pub sound-alike :
-    (g : Geometry) (s : State) (l : Lists) (caller : ℕ) (e : ErrandFields) (s' : State) → GoesAlike g s l caller e s' → IsSoundWith g s l
-    → IsFormed g s' → IsSoundWith g s' l
-sound-alike g s l caller e s' go sound = sound-but g s l caller e s' go (sound-but_one g s l caller sound)

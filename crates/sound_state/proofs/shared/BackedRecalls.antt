@@ -3,8 +3,9 @@ use Rattle.std.proofs.Common.{ℕ, ◌≢◌, ◌<◌, List, arith, subst, All}
 use Rattle.std.specs.List.{AllByRecursion}
 use Rattle.std.proofs.lemmas.List.Elements.{All-from_recursion, recursion_from_All}
 use Rattle.sound_state.proofs.Common.{ErrandFields, FitsPoint, Geometry, IsOwnErrand, IsSo, Lists, Moves, Point, Recall, State, recalls_of, IsRemembered, IsFormed}
+use Rattle.sound_state.proofs.Common.{Part}
 use Rattle.sound_state.proofs.shared.CallerLemmas.{each-other}
-use Rattle.sound_state.proofs.shared.RecallFrame.{IsBacked, Part, PartStays, Reads, so-stays}
+use Rattle.sound_state.proofs.shared.RecallFrame.{IsBacked, PartStays, Reads, so-stays}
 
 -- what follows of each thing from what holds of each
 pub for-each : (P Q : Recall → Type 0) → ((r : Recall) → P r → Q r) → (rs : List Recall) → AllByRecursion P rs → All Q rs

@@ -1,13 +1,10 @@
 -- Exchanges that are won and lead on, and what the active words hold after a write of one.
-use Rattle.std.proofs.Common.{ℕ, true, false, Some, None, ◌≡◌, ◌<◌, ◌≤◌, refl, arith, ap, sym, subst, inl, inr, ◌∙◌, eq-eqb, ◌==◌, IsTrue, IsSome}
-use Rattle.std.proofs.lemmas.Bool.{cond-true}
-use Rattle.sound_state.proofs.Common.{Geometry, Held, active_of, Found, WordName, name_of, after_action, descriptor_count, Exists, word_name, word_count, Writes}
-use Rattle.sound_state.proofs.Common.{cases_name, Point, At, counts_cleared, event_of, next_of, plan_point_of, State, Step, IsKept, word_keeps, Lists, IsSoundWithoutCounts}
-use Rattle.sound_state.proofs.Common.{IsSoundWith, sum_below, words_sum, callers_sum, is_bound, away_of, Cas, found_by, word_index, word_index-within, word_name-word_index}
+use Rattle.std.proofs.Common.{ℕ, true, false, Some, ◌≡◌, ◌<◌, ◌≤◌, refl, arith, ap, sym, subst, inl, inr, ◌∙◌, eq-eqb, IsTrue, IsSome}
+use Rattle.sound_state.proofs.Common.{Geometry, Held, active_of, Found, WordName, descriptor_count, Exists, word_name, word_count, Writes}
+use Rattle.sound_state.proofs.Common.{cases_name, State, IsKept, word_keeps, Lists}
+use Rattle.sound_state.proofs.Common.{sum_below, words_sum, callers_sum, is_bound, away_of, word_index, word_index-within, word_name-word_index}
 use Rattle.sound_state.proofs.Common.{IsActive}
 use Rattle.word_table.specs.declared.name.WordName.TheVariants as name
-use Rattle.sound_state.proofs.shared.PointLemmas.{WeighFrom, step-from}
-use Rattle.sound_state.proofs.shared.StepLemmas.{PointGoes, found_from}
 use Rattle.sound_state.proofs.shared.SumLemmas.{term-sum, sum-least}
 use Rattle.sound_state.proofs.shared.SuperblocksStay.{ActivesKept}
 
@@ -69,39 +66,6 @@ actives-written g s l heap class new words' kept w some held = record {
 -- what a won exchange finds
 abbrev pub won_with : ℕ → Found
 won_with word = record { value = word; won = true }
-
--- an exchange from p to q that is won, and after which the caller may stand and weighs what it did
-pub record WinsTo (g : Geometry) (s : State) (caller : ℕ) (p q : Point) (n : WordName) (expected new : ℕ) : Type 0 where
-  pub plan : plan_point_of p ≡ Cas n expected new
-  pub next : next_of p (won_with (s.word n)) ≡ At q
-  pub event : event_of caller p (won_with (s.word n)) ≡ None
-  pub cleared : counts_cleared p (won_with (s.word n)) ≡ false
-  pub weighs : WeighFrom n expected new p q
-  pub goes : (l : Lists) → IsSoundWith g s l → PointGoes g s l caller p q
-  pub actives : (l : Lists) → IsSoundWith g s l → (words' : WordName → ℕ) → Writes s.word n new words' → ActivesKept g s words'
-
--- an exchange that is won and leads on keeps the state sound
-pub won-at :
-    (g : Geometry) (s : State) (caller : ℕ) (s' : State) (p q : Point) (n : WordName) (expected new : ℕ) → IsSoundWithoutCounts g s → caller < g.callers
-    → (s.errand caller).point ≡ p → WinsTo g s caller p q n expected new → s.word n ≡ expected → Step s caller s' → IsSoundWithoutCounts g s'
-won-at g s caller s' p q n expected new sound has stands h is step =
-    let won : (s.word n == expected) ≡ true = eq-eqb (s.word n) expected is in
-    let found : found_from s p ≡ won_with (s.word n) =
-    ap (λ a. found_by a (s.word (name_of a))) h.plan ∙ ap (λ b. record { value = s.word n; won = b }) won in
-    let after : after_action (Cas n expected new) (s.word n) ≡ new = cond-true {A = ℕ} (s.word n == expected) new (s.word n) won in
-    step-from g s caller s' p (At q) tt sound has stands
-    (λ l old. record {
-      next = ap (next_of p) found ∙ h.next;
-      event = ap (event_of caller p) found ∙ h.event;
-      cleared = ap (counts_cleared p) found ∙ h.cleared;
-      goes = h.goes l old;
-      weigh = rw (h.plan, after, is) h.weighs;
-      actives = λ words' w.
-          h.actives l old words'
-          (subst (λ v. Writes s.word n v words') after
-          (subst (λ a. Writes s.word (name_of a) (after_action a (s.word (name_of a))) words') h.plan w));
-    })
-    step
 
 -- what a lost exchange finds
 abbrev pub lost_with : ℕ → Found

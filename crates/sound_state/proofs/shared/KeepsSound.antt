@@ -1,6 +1,7 @@
 -- What is shown of each step: it keeps the state sound.
-use Rattle.std.proofs.Common.{ℕ, ◌≡◌, ◌<◌, sym, subst}
-use Rattle.sound_state.proofs.Common.{Geometry, IsFormed, IsLegalWithoutCounts, IsSoundWith, IsSoundWithoutCounts, Lists, Point, State, Step}
+use Rattle.std.proofs.Common.{ℕ, ◌≡◌, ◌≢◌, ◌<◌, sym, subst, inl, inr}
+use Rattle.std.proofs.lemmas.Bool.{cases_eq}
+use Rattle.sound_state.proofs.Common.{Geometry, IsFormed, IsLegalWithoutCounts, IsSoundWith, IsSoundWithoutCounts, Lists, Point, State, Step, WordName}
 use Rattle.sound_state.proofs.shared.FormedLemmas.{formed-after}
 
 -- a step from the point keeps every sound state so that is like this
@@ -35,3 +36,12 @@ pub silent-sound :
     → s'.history ≡ s.history → SoundIfFormed g s' l → IsSoundWithoutCounts g s'
 silent-sound g s caller s' l sound has step past with =
     stepped-sound g s caller s' l sound has step (subst (IsLegalWithoutCounts g) (sym past) sound.legal) with
+
+-- an exchange that keeps the state sound where it is won, and where it is lost, keeps it sound
+pub either-sound :
+    (p : Point) (n : WordName) (expected : ℕ) → KeepsSoundWhere p (λ s. s.word n ≡ expected) → KeepsSoundWhere p (λ s. s.word n ≢ expected) → KeepsSound p
+either-sound p n expected won lost g s caller s' sound has stands step =
+    elim (cases_eq (s.word n) expected) [
+      | inl is ↦ won g s caller s' sound has stands is step
+      | inr other ↦ lost g s caller s' sound has stands other step
+    ]

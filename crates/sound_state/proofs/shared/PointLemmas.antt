@@ -1,25 +1,25 @@
 -- Steps from a point that is known: what a sound state says of the caller there, and what its word and errand weigh.
-use Rattle.std.proofs.Common.{ℕ, false, None, ◌≡◌, ◌<◌, ◌≤◌, ◌+◌, List, [], ◌∷◌, arith, ap, sym, subst, inl, inr, ◌∙◌, ◌≢◌, length-set, get_or-set_other, All, Any}
-use Rattle.std.proofs.Common.{Contains, IsSome, IsTrue, length, slice_index, slice_set}
-use Rattle.std.proofs.lemmas.List.Elements.{All-nil, All-cons, recursion_from_All}
-use Rattle.sound_state.proofs.Common.{need_of, Geometry, active_of, SeatFields, Found, WordName, name_of, after_action, descriptor_count, Exists, Writes, cases_name, Site}
-use Rattle.sound_state.proofs.Common.{occurs, Continuation, Next, Desc, Point, ErrandFields, counts_cleared, event_of, FitsPoint, spare_of, pushed_by, next_of, asked}
-use Rattle.sound_state.proofs.Common.{plan_point_of, State, Step, action_at, name_at, word_at, found_at, IsHazard, IsGuard, passed_by, held_by, Kept, holds_of, on_its_way}
-use Rattle.sound_state.proofs.Common.{waiting, reserving, partly_used, IsKeptAs, IsPartlyUsed, errand_has, word_keeps, Lists, IsSo, IsOwned, recalls_of}
-use Rattle.sound_state.proofs.Common.{IsSoundWithoutCounts, IsSoundWith, waits_in, word_stock, stock_among, sum_below, callers_sum, errand_keeps, word_reserves}
-use Rattle.sound_state.proofs.Common.{reserved_among, kept_among, point_after, FitsContinuation, is_alloc, plan-exists}
+use Rattle.std.proofs.Common.{ℕ, ◌≡◌, ◌<◌, ◌≤◌, ◌+◌, List, [], ◌∷◌, arith, ap, sym, subst, inl, inr, ◌∙◌, ◌≢◌, length-set, get_or-set_other, All, Any, Contains}
+use Rattle.std.proofs.Common.{IsSome, IsTrue, length, slice_index, slice_set}
+use Rattle.std.proofs.lemmas.List.Elements.{All-nil, All-cons, recursion_from_All, All-from_recursion}
+use Rattle.sound_state.proofs.Common.{need_of, Geometry, active_of, SeatFields, Found, WordName, name_of, descriptor_count, Exists, Writes, cases_name, Site, occurs}
+use Rattle.sound_state.proofs.Common.{Continuation, Desc, Point, ErrandFields, FitsPoint, spare_of, pushed_by, asked, plan_point_of, State, IsHazard, IsGuard}
+use Rattle.sound_state.proofs.Common.{passed_by, held_by, Kept, Holding, holds_of, on_its_way, waiting, reserving, partly_used, IsKeptAs, IsPartlyUsed, errand_has}
+use Rattle.sound_state.proofs.Common.{word_keeps, Lists, IsSo, IsOwned, recalls_of}
+use Rattle.sound_state.proofs.Common.{Recall, IsSoundWithoutCounts, IsSoundWith, waits_in, word_stock, stock_among, sum_below, callers_sum}
+use Rattle.sound_state.proofs.Common.{errand_keeps, word_reserves, reserved_among, kept_among, FitsContinuation, is_alloc, plan-exists}
 use Rattle.heap_geometry.specs.declared.need.Need.TheVariants as need
 use Rattle.word_table.specs.declared.name.WordName.TheVariants as name
 use Rattle.hazard_parts.specs.declared.point.DescPoint.TheVariants as desc
 use Rattle.errand_steps.specs.declared.continuation.Continuation.TheVariants as continuation
 use Rattle.errand_steps.specs.Continuations.{is_free}
 use Rattle.sound_state.proofs.shared.BackedRecalls.{fits-own}
-use Rattle.sound_state.proofs.shared.StepLemmas.{LeadsOrEnds, PointGoes, TurnGoes, actives-stay, at_point, found_from, goes-guards, goes-stands, settle-next, step-most}
-use Rattle.sound_state.proofs.shared.StepLemmas.{words-stay}
+use Rattle.sound_state.proofs.shared.StepLemmas.{PointGoes, TurnGoes, actives-stay, at_point, HoldsException, words-stay}
 use Rattle.sound_state.proofs.shared.SumLemmas.{sum-plus, sum-least, term-sum}
-use Rattle.sound_state.proofs.shared.WeighLemmas.{IsStill, WeighAlike, alike-most, hazards-stay}
+use Rattle.sound_state.proofs.shared.WeighLemmas.{IsStill, WeighAlike}
 use Rattle.std.specs.List.{AllByRecursion}
 use Rattle.sound_state.proofs.shared.SuperblocksStay.{ActivesKept}
+use Rattle.sound_state.proofs.shared.ShownLemmas.{MayStandAt}
 
 -- a caller of a sound state fits at its point
 pub fits-at :
@@ -53,6 +53,13 @@ pub recalled-at :
     → AllByRecursion (IsSo g s l caller) (recalls_of p)
 recalled-at g s l caller p old has stands = recursion_from_All (IsSo g s l caller) (recalls_of p) (so-at g s l caller p old has stands)
 
+-- what it remembers where it goes on is so, where that follows from what it remembers here
+pub goes-on :
+    (g : Geometry) (s : State) (l : Lists) (caller : ℕ) (p : Point) (rs : List Recall) → IsSoundWith g s l → caller < g.callers
+    → (s.errand caller).point ≡ p → (AllByRecursion (IsSo g s l caller) (recalls_of p) → AllByRecursion (IsSo g s l caller) rs)
+    → All (IsSo g s l caller) rs
+goes-on g s l caller p rs old has stands follows = All-from_recursion (IsSo g s l caller) rs (follows (recalled-at g s l caller p old has stands))
+
 pub hazard-at :
     (g : Geometry) (s : State) (l : Lists) (caller : ℕ) (p : Point) → IsSoundWith g s l → caller < g.callers → (s.errand caller).point ≡ p
     → IsHazard (holds_of p).hazard (s.word (name.Hazard caller))
@@ -81,6 +88,24 @@ pub exists-at :
     → Exists g (name_of (plan_point_of p))
 exists-at g s caller p sound has stands = plan-exists g caller p sound.checked has (fits-now g s caller p sound has stands)
 
+-- a caller with the blocks that it has, or had, at p may stand at q, where what it keeps and remembers there is so
+pub stands-with :
+    (g : Geometry) (s : State) (l : Lists) (caller : ℕ) (p q : Point) → IsSoundWith g s l → caller < g.callers → (s.errand caller).point ≡ p
+    → (holds_of q).hands ≡ (holds_of p).hands → (holds_of q).frees ≡ (holds_of p).frees
+    → All (λ k. IsKeptAs s k.status k.desc k.class) (holds_of q).kept → All (IsSo g s l caller) (recalls_of q) → MayStandAt g s l caller q
+stands-with g s l caller p q old has stands hands frees kept so = record {
+  kept = kept;
+  so = so;
+  hands = subst (λ bs. All (λ x. IsOwned s caller x.place x.need) bs) (sym hands) (hands-at g s l caller p old has stands);
+  frees = subst (λ bs. All (λ x. IsOwned s caller x.place x.need) bs) (sym frees) (frees-at g s l caller p old has stands);
+}
+
+-- at points with the same blocks it excepts the same ones
+pub excepts-with :
+    (h k : Holding) → k.hands ≡ h.hands → k.frees ≡ h.frees → (place : ℕ) → HoldsException h place → HoldsException k place
+excepts-with h k hands frees place (inl a) = inl (subst (λ bs. Any (λ b. b.place ≡ place) bs) (sym hands) a)
+excepts-with h k hands frees place (inr a) = inr (subst (λ bs. Any (λ b. (b.place ≡ place) × IsTrue b.overwritten) bs) (sym frees) a)
+
 -- at q a caller has the blocks and the push that it has at p, and is no further back in its turn
 pub record HoldsBlocks (p q : Point) : Type 0 where
   pub hands : (holds_of q).hands ≡ (holds_of p).hands
@@ -98,40 +123,32 @@ pub blocks-go :
     → ((d : ℕ) → s.word (name.Hazard caller) ≡ d + 1 → IsGuard (holds_of q).hazard → IsGuard (holds_of p).hazard)
     → All (λ k. IsKeptAs s k.status k.desc k.class) (holds_of q).kept → All (IsSo g s l caller) (recalls_of q) → PointGoes g s l caller p q
 blocks-go g s l caller p q old has stands h hazard guard kept so = record {
-  kept = kept;
-  so = so;
+  stands = record {
+    point = stands-with g s l caller p q old has stands h.hands h.frees kept so;
+    spare = h.spare;
+    excepts = excepts-with (holds_of p) (holds_of q) h.hands h.frees;
+    turn = h.turn;
+  };
   hazard = hazard;
   guard = guard;
   pushed = h.pushed;
   passed = h.passed;
   unread = h.unread;
-  spare = h.spare;
-  hands = subst (λ bs. All (λ x. IsOwned s caller x.place x.need) bs) (sym h.hands) (hands-at g s l caller p old has stands);
-  frees = subst (λ bs. All (λ x. IsOwned s caller x.place x.need) bs) (sym h.frees) (frees-at g s l caller p old has stands);
-  excepts = λ place x.
-      elim x [
-        | inl a ↦ inl (subst (λ bs. Any (λ b. b.place ≡ place) bs) (sym h.hands) a)
-        | inr a ↦ inr (subst (λ bs. Any (λ b. (b.place ≡ place) × IsTrue b.overwritten) bs) (sym h.frees) a)
-      ];
-  turn = h.turn;
 }
 
 -- at q a caller has the hazard word, the blocks and the push that it has at p, and is no further back in its turn
 pub record HoldsAlike (p q : Point) : Type 0 where
   pub hazard : (holds_of q).hazard ≡ (holds_of p).hazard
-  pub hands : (holds_of q).hands ≡ (holds_of p).hands
-  pub frees : (holds_of q).frees ≡ (holds_of p).frees
-  pub pushed : pushed_by q ≡ pushed_by p
-  pub passed : passed_by q ≡ 0
-  pub unread : length (held_by q) ≡ 0
-  pub spare : spare_of q ≡ spare_of p
-  pub turn : TurnGoes p q
+  pub blocks : HoldsBlocks p q
 
 pub alike-goes :
     (g : Geometry) (s : State) (l : Lists) (caller : ℕ) (p q : Point) → IsSoundWith g s l → caller < g.callers → (s.errand caller).point ≡ p
     → HoldsAlike p q → All (λ k. IsKeptAs s k.status k.desc k.class) (holds_of q).kept → All (IsSo g s l caller) (recalls_of q)
     → PointGoes g s l caller p q
-alike-goes g s l caller p q old has stands h kept so = grind (arith, old, has, stands, h, kept, so, blocks-go, hazard-at)
+alike-goes g s l caller p q old has stands h kept so =
+    blocks-go g s l caller p q old has stands h.blocks
+    (subst (λ z. IsHazard z (s.word (name.Hazard caller))) (sym h.hazard) (hazard-at g s l caller p old has stands))
+    (λ d word guard. subst IsGuard h.hazard guard) kept so
 
 -- in how many places kept descriptors are d
 abbrev pub kept_places : ℕ → List Kept → ℕ
@@ -162,51 +179,6 @@ pub from-weighs :
     (n : WordName) (before after : ℕ) (e : ErrandFields) (x : Found) (q : Point) → WeighFrom n before after e.point q
     → WeighAlike n before after e (at_point e x q)
 from-weighs n before after e x q h = grind (arith, h)
-
--- a step from p that leads there, and what the active words and the slots hold after it
-pub record StepsFrom (g : Geometry) (s : State) (l : Lists) (caller : ℕ) (p : Point) (n : Next) : Type 0 where
-  pub next : next_of p (found_from s p) ≡ n
-  pub event : event_of caller p (found_from s p) ≡ None
-  pub cleared : counts_cleared p (found_from s p) ≡ false
-  pub goes : PointGoes g s l caller p (point_after n)
-  pub weigh :
-      WeighFrom (name_of (plan_point_of p)) (s.word (name_of (plan_point_of p)))
-      (after_action (plan_point_of p) (s.word (name_of (plan_point_of p)))) p (point_after n)
-  pub actives :
-      (words' : WordName → ℕ)
-      → Writes s.word (name_of (plan_point_of p)) (after_action (plan_point_of p) (s.word (name_of (plan_point_of p)))) words'
-      → ActivesKept g s words'
-
--- a step from a point that is known keeps the state sound
-pub step-from :
-    (g : Geometry) (s : State) (caller : ℕ) (s' : State) (p : Point) (n : Next) → LeadsOrEnds n → IsSoundWithoutCounts g s → caller < g.callers
-    → (s.errand caller).point ≡ p → ((l : Lists) → IsSoundWith g s l → StepsFrom g s l caller p n) → Step s caller s' → IsSoundWithoutCounts g s'
-step-from g s caller s' p n plain sound has at h step =
-    let e = s.errand caller in
-    let q = point_after n in
-    let moved = λ (l : Lists) (old : IsSoundWith g s l). subst (λ r. StepsFrom g s l caller r n) (sym at) (h l old) in
-    let weighs : (l : Lists) (old : IsSoundWith g s l)
-    → WeighAlike (name_at s caller) (word_at s caller) (after_action (action_at s caller) (word_at s caller)) e (at_point e (found_at s caller) q) =
-    λ l old. let m : StepsFrom g s l caller e.point n = moved l old in from-weighs _ _ _ e (found_at s caller) q m.weigh in
-    step-most g s caller s' q sound has
-    (λ l old.
-    let m : StepsFrom g s l caller e.point n = moved l old in
-    record {
-      after = settle-next e (found_at s caller) n plain m.next;
-      event = m.event;
-      cleared = m.cleared;
-      stands = goes-stands g s l caller e.point q m.goes;
-      weigh = alike-most (name_at s caller) _ _ e (at_point e (found_at s caller) q) (weighs l old);
-    })
-    (λ l old. let m : StepsFrom g s l caller e.point n = moved l old in m.actives s'.word step.word)
-    (λ l old.
-    let m : StepsFrom g s l caller e.point n = moved l old in
-    let stay = hazards-stay s.word (name_at s caller) _ s'.word step.word (weighs l old).still in
-    record {
-      others = λ i differ. stay i;
-      guards = goes-guards g s l caller q e.retired (s'.word (name.Hazard caller)) old.guarded has (stay caller) m.goes;
-    })
-    step
 
 -- a write that leaves its word leaves the active words and the slots
 pub stays-actives :

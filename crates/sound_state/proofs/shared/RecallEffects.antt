@@ -1,15 +1,17 @@
 -- What an effect on superblocks leaves of the parts that other callers' recalls read.
-use Rattle.std.proofs.Common.{ℕ, true, ◌≡◌, ◌≢◌, ◌<◌, [], refl, arith, ap, sym, subst, ◌∙◌, IsTrue, All}
-use Rattle.std.proofs.lemmas.List.Elements.{All-nil, All-cons}
+use Rattle.std.proofs.Common.{ℕ, true, ◌≡◌, ◌≢◌, ◌<◌, refl, arith, ap, sym, subst, ◌∙◌, IsTrue}
+use Rattle.std.specs.List.{AllByRecursion}
+use Rattle.std.proofs.lemmas.List.Elements.{All-from_recursion}
 use Rattle.sound_state.proofs.Common.{Geometry, Need, WordName, Site, SeatFields, occurs, prefix_name, Pile, head_name, next_name, is_empty, own, ErrandFields, State}
-use Rattle.sound_state.proofs.Common.{Moves, on_its_way, Lists, IsLocated, IsSo, IsOwned, bound_here, recalls_of, callers_sum, IsSoundWith, anchor_for, info_for}
+use Rattle.sound_state.proofs.Common.{Moves, on_its_way, Lists, IsLocated, IsSo, IsOwned, recalls_of, callers_sum, IsSoundWith, anchor_for, info_for}
 use Rattle.sound_state.proofs.Common.{superblock_of, free_chain, reserved_of, is_bound, errand_keeps, IsEmptied, IsRemembered}
+use Rattle.sound_state.proofs.Common.{IsSaidWord, Part, bindings, places, chains, stacks, link_words, availables, events, single, constant}
 use Rattle.packed_words.specs.declared.anchor.AnchorState.{AnchorState as Phase}
 use Rattle.packed_words.specs.declared.anchor.AnchorState.TheVariants as phase
 use Rattle.word_table.specs.declared.name.WordName.TheVariants as name
 use Rattle.sound_state.proofs.shared.BackedRecalls.{AllRead, remembered-stays}
-use Rattle.sound_state.proofs.shared.RecallFrame.{ChainStays, IsHere, IsSaidWord, Part, PartStays, bindings, places, chains, stacks, link_words, availables, events, single}
-use Rattle.sound_state.proofs.shared.RecallFrame.{constant, lies-same, stack-same}
+use Rattle.sound_state.proofs.shared.RecallFrame.{ChainStays, IsHere, PartStays, LiesAt}
+use Rattle.sound_state.proofs.shared.RecallFrame.{lies-same, stack-same}
 use Rattle.sound_state.proofs.shared.SuperblockEffects.{IsLayWord, LieStill, info-stays, next-stays}
 use Rattle.sound_state.proofs.shared.TieLemmas.{located-stays}
 
@@ -84,13 +86,9 @@ module _ (g : Geometry) (s : State) (l : Lists) (s' : State) (steady : AreSteady
       let chain : free_chain (superblock_of g s' d) ≡ free_chain (superblock_of g s d) = rw (links-steady d, anchor, reserved) refl in
       chain-gains d (ap (λ x. x.tag) anchor) (λ k. subst (λ xs. 0 < occurs k xs) (sym chain))
 
-  -- what a caller remembers is so that goes on at a bound superblock that lies there
-  pub here-so :
-      (caller : ℕ) (at : Site) → IsTrue (is_bound g s' l at.desc) → IsLocated s at.desc at.frame at.seat.class
-      → All (IsSo g s' l caller) (bound_here at)
-  here-so caller at bound lies =
-      All-cons (IsSo g s' l caller) _ [] (bound, located-stays s s' at.desc at.frame at.seat.class (info-steady at.desc) lies)
-      (All-nil (IsSo g s' l caller))
+  -- a bound superblock lies where it lay
+  pub lies-still : (at : Site) → IsTrue (is_bound g s' l at.desc) → IsLocated s at.desc at.frame at.seat.class → LiesAt g s' l at
+  lies-still at bound lies = (bound, located-stays s s' at.desc at.frame at.seat.class (info-steady at.desc) lies)
 
 -- each part that is left so stays
 left-part : (g : Geometry) (s : State) (l : Lists) (s' : State) (i : ℕ) → Leaves g s l s' i → (p : Part) → IsLeft g s l s' p → PartStays g s l s' l i p
@@ -115,8 +113,9 @@ left-part g s l s' i h constant left = tt
 -- all that is remembered is so after it, where its caller has what it needs
 pub remembered-left :
     (g : Geometry) (s : State) (l : Lists) (caller : ℕ) (e : ErrandFields) (s' : State) → Moves s.errand caller e s'.errand
-    → All (IsSo g s' l caller) (recalls_of e.point) → ((i : ℕ) → i < g.callers → i ≢ caller → Leaves g s l s' i)
+    → AllByRecursion (IsSo g s' l caller) (recalls_of e.point) → ((i : ℕ) → i < g.callers → i ≢ caller → Leaves g s l s' i)
     → ((i : ℕ) → i < g.callers → i ≢ caller → AllRead (IsLeft g s l s') (s.errand i).point) → IsSoundWith g s l → IsRemembered g s' l
 remembered-left g s l caller e s' moves mine leaves left old =
-    remembered-stays g s l caller e s' l moves old.formed.errands (λ i has ne. old.remembered.so i has) mine
+    remembered-stays g s l caller e s' l moves old.formed.errands (λ i has ne. old.remembered.so i has)
+    (All-from_recursion (IsSo g s' l caller) (recalls_of e.point) mine)
     (λ i has ne k d lt. left-part g s l s' i (leaves i has ne) _ (left i has ne k d lt))

@@ -1,62 +1,16 @@
--- What a recall reads, and that it stays so where that stays.
+-- What is remembered stays so, where the part that it reads stays.
 use Rattle.std.proofs.Common.{ℕ, ◌≡◌, ◌<◌, ◌≤◌, ◌∙◌, ◌-◌, ap, arith, sym, subst, IsTrue}
 use Rattle.word_table.specs.declared.name.WordName.TheVariants as name
 use Rattle.sound_state.specs.Recalls.{IsPopped, IsTopStill}
-use Rattle.errand_steps.specs.tables.Recall.{tops, nexts, tops_exist, in_use, owns, owns_all}
-use Rattle.sound_state.proofs.Common.{Looked, EndsWith, EndsRefused, IsEmptied, list_of, made, refused, CLASSES, Geometry, Lists, Need, Pile, Recall, SeatFields, Site}
-use Rattle.sound_state.proofs.Common.{State, WordName, IsLocated, IsOwned, IsSo, bound_at, bound_for, emptied, located, anchor_for, descriptor_count, free_chain, head_name}
-use Rattle.sound_state.proofs.Common.{head_of, info_for, is_bound, links, looked, next_name, noted, occurs, own, pops, prefix_name, says, superblock_of}
-
--- a part of a state that a recall reads
-pub data Part : Type 0 where
-  -- whether d has a superblock, and where it lies
-  bindings : (d : ℕ) → Part
-  -- the place that the word of d names
-  places : (d : ℕ) → Part
-  -- the free blocks of d's superblock
-  chains : (d : ℕ) → Part
-  -- a stack of frames or of partial superblocks
-  stacks : (seat : SeatFields) → (pile : Pile) → Part
-  -- the links of the first blocks of a frame
-  link_words : (frame class blocks : ℕ) → Part
-  -- whether d is EMPTY or available, and its next word
-  availables : (d : ℕ) → Part
-  -- the part of the caller's events and blocks
-  events : Part
-  -- the part that is one word
-  single : (word_name : WordName) → Part
-  -- the part that nothing changes
-  constant : Part
-
--- the part of a state that a recall reads
-abbrev pub part_of : Recall → Part
-part_of (bound_for d class) = bindings d
-part_of (bound_at d frame class) = bindings d
-part_of (located d frame class) = places d
-part_of (pops d a) = chains d
-part_of (links d a prefix) = chains d
-part_of (tops seat pile h) = stacks seat pile
-part_of (nexts seat pile h below) = stacks seat pile
-part_of (made frame class blocks) = link_words frame class blocks
-part_of (emptied d) = availables d
-part_of (noted d next) = availables d
-part_of (says n w) = single n
-part_of (tops_exist seat pile h) = constant
-part_of (in_use a) = constant
-part_of r = events
+use Rattle.errand_steps.specs.tables.Recall.{tops, nexts, owns, owns_all}
+use Rattle.sound_state.proofs.Common.{IsEmptied, list_of, CLASSES, Geometry, Lists, Need, Pile, Recall, SeatFields, Site}
+use Rattle.sound_state.proofs.Common.{State, IsLocated, IsOwned, IsSo, anchor_for, descriptor_count, free_chain, head_name}
+use Rattle.sound_state.proofs.Common.{head_of, info_for, is_bound, links, next_name, occurs, own, pops, prefix_name, superblock_of}
+use Rattle.sound_state.proofs.Common.{IsSaidWord, Part, part_of, bindings, places, chains, stacks, link_words, availables, events, single, constant}
 
 -- the recall reads such a part
 abbrev pub Reads : (Part → Type 0) → Recall → Type 0
 Reads P r = P (part_of r)
-
--- a word of the arena, an anchor, a link, or where a superblock lies: no other word is recalled
-abbrev pub IsSaidWord : WordName → Type 0
-IsSaidWord (name.Arena place) = Unit {0}
-IsSaidWord (name.Anchor d) = Unit {0}
-IsSaidWord (name.Next d) = Unit {0}
-IsSaidWord (name.Info d) = Unit {0}
-IsSaidWord (name.FrameNext f) = Unit {0}
-IsSaidWord n = ⊥
 
 -- the heap has d, and d has a superblock
 abbrev pub IsHere : Geometry → State → Lists → ℕ → Type 0
@@ -72,7 +26,6 @@ IsBacked g s l (pops d a) = IsHere g s l d
 IsBacked g s l (links d a prefix) = IsHere g s l d × IsPopped (superblock_of g s d) a
 IsBacked g s l (tops seat pile h) = seat.class < CLASSES
 IsBacked g s l (nexts seat pile h below) = (seat.class < CLASSES) × IsTopStill s l seat pile h
-IsBacked g s l (says n w) = IsSaidWord n
 IsBacked g s l r = Unit {0}
 
 -- the descriptor's info word names the same frame and class in both states
@@ -145,10 +98,6 @@ same-tag t x y first second is = (omega (arith, first, second, is), omega (arith
 pub so-stays :
     (g : Geometry) (s : State) (l : Lists) (s' : State) (l' : Lists) (i : ℕ) (r : Recall) → Reads (PartStays g s l s' l' i) r → IsBacked g s l r
     → IsSo g s l i r → IsSo g s' l' i r
-so-stays g s l s' l' i (bound_for d c) stay backed so = let kept = stay so.0 in (kept.0, kept.1.1 ∙ so.1)
-so-stays g s l s' l' i (bound_at d f c) stay backed so =
-    let kept = stay so.0 in (kept.0, record { frame = kept.1.0 ∙ so.1.frame; class = kept.1.1 ∙ so.1.class })
-so-stays g s l s' l' i (located d f c) stay backed so = record { frame = stay.0 ∙ so.frame; class = stay.1 ∙ so.class }
 so-stays g s l s' l' i (pops d a) stay backed so =
     let kept = stay backed in
     record {
@@ -174,13 +123,6 @@ so-stays g s l s' l' i (nexts seat p h below) stay backed so =
     let kept = stay backed.0 in
     let same = same-tag h.tag (head_of (s.word (head_name seat p))).tag (head_of (s'.word (head_name seat p))).tag backed.1.tag kept.tag is in
     kept.next same.0 (h.top - 1) (backed.1.top same.1) ∙ so same.1
-so-stays g s l s' l' i (made f c blocks) stay backed so = λ k below. stay k below ∙ so k below
-so-stays g s l s' l' i (emptied d) stay backed so = stay.emptied so
-so-stays g s l s' l' i (noted d next) stay backed so = λ on. let kept = stay.next on in kept.1 ∙ so kept.0
-so-stays g s l s' l' i (says n w) stay backed so = (so.0, stay backed ∙ so.1)
 so-stays g s l s' l' i (owns place k) stay backed so = (so.0, stay.owned place so.0 so.1, so.2)
 so-stays g s l s' l' i (owns_all place n) stay backed so = stay.owned place n so
-so-stays g s l s' l' i (looked c) stay backed so = subst (λ past. EndsWith past (Looked i c)) (sym stay.own_events) so
-so-stays g s l s' l' i (refused c) stay backed so = subst (λ past. EndsRefused past i c) (sym stay.own_events) so
-so-stays g s l s' l' i (tops_exist seat p h) stay backed so = so
-so-stays g s l s' l' i (in_use a) stay backed so = so
+so-stays g s l s' l' i r stay backed so = grind (arith, stay, so)

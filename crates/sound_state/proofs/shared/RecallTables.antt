@@ -7,6 +7,7 @@ use Rattle.sound_state.proofs.Common.{PartialPoint, LargePoint, Continuation, Po
 use Rattle.sound_state.proofs.Common.{recalls_of, IsSoundWith, is_bound, reserved_among, errand_reserves, FitsBlock, seat_of_stack, seat_of_partial, FitsContinuation}
 use Rattle.sound_state.proofs.Common.{goes_desc, Handed, Freed, reserve, block_holds, continuation_holds, stack_holds, partial_holds, block_recalls, continuation_recalls}
 use Rattle.sound_state.proofs.Common.{stack_recalls, desc_recalls, partial_recalls, large_recalls}
+use Rattle.sound_state.proofs.Common.{Part, bindings, chains, link_words, single}
 use Rattle.word_table.specs.declared.name.WordName.TheVariants as name
 use Rattle.superblock_parts.specs.Points.{IsBlockOf}
 use Rattle.superblock_parts.specs.declared.point.BlockPoint.TheVariants as block
@@ -15,7 +16,7 @@ use Rattle.errand_steps.specs.declared.point.Point.TheVariants as point
 use Rattle.errand_steps.specs.Points.{site_of}
 use Rattle.sound_state.proofs.shared.BackedRecalls.{AllRead}
 use Rattle.sound_state.proofs.shared.PointLemmas.{fits-at}
-use Rattle.sound_state.proofs.shared.RecallFrame.{LiesAt, Part, Reads, bindings, chains, link_words, single}
+use Rattle.sound_state.proofs.shared.RecallFrame.{LiesAt, Reads}
 use Rattle.sound_state.proofs.shared.SuperblockEffects.{anchor_number}
 
 -- a descriptor that is bound is another one than one that isn't
@@ -45,10 +46,17 @@ IsElsewhere p = Unit {0}
 
 -- what holds of all such parts, and of what is read in superblocks, holds of all that is read
 module _ (P : Part → Type 0) (goes : (q : Part) → IsElsewhere q → P q) where
+  reads-continuation : (seat : SeatFields) (o : Continuation) → AllByRecursion (Reads P) (continuation_recalls seat o)
+  reads-continuation seat o = grind (arith)
+
   pub reads-point :
       (p : Point) → ((b : BlockPoint) (o : Continuation) → p ≡ point.Block b o → AllByRecursion (Reads P) (block_recalls b)) → AllRead P p
   unfolding recalls_of
-  reads-point p blocks = grind (arith, blocks)
+  reads-point (point.Block p o) blocks = All-from_recursion (Reads P) (block_recalls p) (blocks p o refl)
+  reads-point (point.Stack p o) blocks = grind (arith, reads-continuation)
+  reads-point (point.Desc p o) blocks = grind (arith)
+  reads-point (point.Partial p o) blocks = grind (arith, reads-continuation)
+  reads-point p blocks = grind (arith)
 
 -- the part is not the anchor of d
 abbrev pub IsSpared : ℕ → Part → Type 0
@@ -60,7 +68,8 @@ spared-elsewhere d q is = grind (arith, is)
 
 spared-block :
     (d : ℕ) (p : BlockPoint) (o : Continuation) → InstallsNone (point.Block p o) d → AllByRecursion (Reads (IsSpared d)) (block_recalls p)
-spared-block d (block.InstallSuperblock at) o apart = (λ same. apart at o refl (ap anchor_number same), (tt, tt))
+spared-block d (block.InstallSuperblock at) o apart =
+    let other : name.Anchor at.desc ≢ name.Anchor d = λ same. apart at o refl (ap anchor_number same) in grind (arith, other)
 spared-block d p o apart = grind (arith)
 
 -- only a caller that waits to install the superblock of d recalls its anchor
@@ -108,15 +117,15 @@ module _ (g : Geometry) (s : State) (l : Lists) (i d : ℕ) (off : OwnsNone g s 
   apart-block :
       (p : BlockPoint) → reserved_among d (block_holds p).credits ≡ 0 → FitsBlock g i p → OwnHands s i (block_holds p).hands
       → OwnFrees s i (block_holds p).frees → AllByRecursion (IsSo g s l i) (block_recalls p) → AllByRecursion (Reads (IsUnbound d)) (block_recalls p)
-  apart-block (block.StorePrefix at k) none fit hands frees so = (off at k fit (its-handed _ hands) so.0, tt)
-  apart-block (block.InstallCredits at k more) none fit hands frees so = (off at k fit.0 (its-handed _ hands) so.0, tt)
-  apart-block (block.LoadReturn at k more) none fit hands frees so = (off at k fit.0 (its-handed _ hands) so.0, tt)
-  apart-block (block.ReturnCredits at k more a) none fit hands frees so = (off at k fit.0 (its-handed _ hands) so.0, tt)
-  apart-block (block.LoadPushAnchor at k stored) none fit hands frees so = (off at k fit (its-freed _ frees) so.0, tt)
-  apart-block (block.StoreGuard at k a) none fit hands frees so = (off at k fit.block (its-freed _ frees) so.0, tt)
-  apart-block (block.LoadOwner at k a) none fit hands frees so = (off at k fit.block (its-freed _ frees) so.0, tt)
-  apart-block (block.StoreLink at k a stored heap) none fit hands frees so = (off at k fit.block (its-freed _ frees) so.0, tt)
-  apart-block (block.PushBlock at k a stored heap) none fit hands frees so = (tt, (off at k fit.block (its-freed _ frees) so.1.0, tt))
+  apart-block (block.StorePrefix at k) none fit hands frees so = grind (arith, off at k fit (its-handed _ hands) so.0)
+  apart-block (block.InstallCredits at k more) none fit hands frees so = grind (arith, off at k fit.0 (its-handed _ hands) so.0)
+  apart-block (block.LoadReturn at k more) none fit hands frees so = grind (arith, off at k fit.0 (its-handed _ hands) so.0)
+  apart-block (block.ReturnCredits at k more a) none fit hands frees so = grind (arith, off at k fit.0 (its-handed _ hands) so.0)
+  apart-block (block.LoadPushAnchor at k stored) none fit hands frees so = grind (arith, off at k fit (its-freed _ frees) so.0)
+  apart-block (block.StoreGuard at k a) none fit hands frees so = grind (arith, off at k fit.block (its-freed _ frees) so.0)
+  apart-block (block.LoadOwner at k a) none fit hands frees so = grind (arith, off at k fit.block (its-freed _ frees) so.0)
+  apart-block (block.StoreLink at k a stored heap) none fit hands frees so = grind (arith, off at k fit.block (its-freed _ frees) so.0)
+  apart-block (block.PushBlock at k a stored heap) none fit hands frees so = grind (arith, off at k fit.block (its-freed _ frees) so.1.0)
   apart-block p none fit hands frees so = grind (arith, none, pop-apart, wait-apart)
 
   -- what is remembered behind a part isn't that d is bound
@@ -124,7 +133,7 @@ module _ (g : Geometry) (s : State) (l : Lists) (i d : ℕ) (off : OwnsNone g s 
       (seat : SeatFields) (o : Continuation) → FitsContinuation g i seat o → OwnHands s i (continuation_holds seat o).hands
       → AllByRecursion (IsSo g s l i) (continuation_recalls seat o) → AllByRecursion (Reads (IsUnbound d)) (continuation_recalls seat o)
   apart-continuation seat (continuation.GiveBlock words e frame k) fit hands so =
-      (off (site_of seat e frame) k fit.block (its-handed _ hands) so.0, tt)
+      grind (arith, off (site_of seat e frame) k fit.block (its-handed _ hands) so.0)
   apart-continuation seat o fit hands so = grind (arith)
 
   -- what is remembered at a stack isn't that d is bound

@@ -2,28 +2,31 @@
 use Rattle.std.proofs.Common.{ℕ, Some, ◌≡◌, ◌≢◌, ◌<◌, ◌≤◌, ◌+◌, List, length, refl, arith, ap, sym, subst, inl, inr, ◌∙◌, ◌⊎◌, slice_index, All, Contains}
 use Rattle.std.proofs.lemmas.Bool.{cases_eq}
 use Rattle.sound_state.proofs.Common.{Geometry, WordName, descriptor_count, Pile, Frames, Partials, head_name, next_name, Stacked, next_in, SeatFields, occurs, own}
-use Rattle.sound_state.proofs.Common.{pool_of, Point, ErrandFields, spare_of, pushed_by, State, Moves, IsFramed, errand_frames, IsGuarded, IsGuard, IsHazard, passed_by}
-use Rattle.sound_state.proofs.Common.{held_by, on_its_way, holds_of, IsKept, IsWithout, IsKeptAs, Lists, IsListed, IsSo, IsOwned, recalls_of, IsSoundWith, IsFormed}
-use Rattle.sound_state.proofs.Common.{sum_below, callers_sum, AreChained, reserved_of, waiting_of, is_bound, errand_keeps, IsTied, IsTurned, emptied_out, Guards, places_of}
-use Rattle.sound_state.proofs.Common.{IsRemembered, list_of, IsStocked}
+use Rattle.sound_state.proofs.Common.{pool_of, Point, ErrandFields, spare_of, pushed_by, State, Moves, errand_frames, IsGuarded, IsGuard, IsHazard, passed_by}
+use Rattle.sound_state.proofs.Common.{held_by, on_its_way, holds_of, IsKept, IsWithout, IsKeptAs, Lists, IsListed, IsSo, IsOwned, recalls_of, IsFormed, sum_below}
+use Rattle.sound_state.proofs.Common.{callers_sum, reserved_of, waiting_of, is_bound, errand_keeps, IsTurned, emptied_out, Guards, places_of, IsRemembered, list_of}
+use Rattle.sound_state.proofs.Common.{IsStocked, IsSaidWord, Part, stacks, availables, events, single}
 use Rattle.word_table.specs.declared.name.WordName.TheVariants as name
 use Rattle.sound_state.proofs.shared.BackedRecalls.{AllRead, OthersRemember, fits-next, recalls-stay, remembered-stays}
 use Rattle.sound_state.proofs.shared.CallerLemmas.{each-caller}
 use Rattle.sound_state.proofs.shared.ListEffects.{IsListWord, listed-anew}
-use Rattle.sound_state.proofs.shared.TurnEffects.{CountsGo, IsTurnedBut, OwnCounts, head-tag, no-event, turned-but, turned-from}
-use Rattle.sound_state.proofs.shared.RecallFrame.{IsSaidWord, Part, stacks, availables, events, single, stack-same}
+use Rattle.sound_state.proofs.shared.TurnEffects.{CountsGo, IsTurnedBut, OwnCounts, head-tag, no-event, turned-from}
+use Rattle.sound_state.proofs.shared.RecallFrame.{stack-same}
 use Rattle.sound_state.proofs.shared.TieLemmas.{Excepts, IsSaidAt}
-use Rattle.sound_state.proofs.shared.SuperblocksStay.{ActivesKept, IsSuperblockWord, RestStays, ShowsSuperblocks, chained-shows, descs-kept, descs-show, framed-shows}
-use Rattle.sound_state.proofs.shared.SuperblocksStay.{shows-part, tied-shows}
+use Rattle.sound_state.proofs.shared.SuperblocksStay.{ActivesKept, IsSuperblockWord, RestStays, ShowsSuperblocks, descs-kept, descs-show, shows-part}
 
--- a caller may stand with this errand: what it keeps, has retired, remembers, hands out and frees is so
+-- a caller may stand at the point: what it keeps, remembers, hands out and frees there is so
+pub record MayStandAt (g : Geometry) (s : State) (l : Lists) (caller : ℕ) (q : Point) : Type 0 where
+  pub kept : All (λ k. IsKeptAs s k.status k.desc k.class) (holds_of q).kept
+  pub so : All (IsSo g s l caller) (recalls_of q)
+  pub hands : All (λ x. IsOwned s caller x.place x.need) (holds_of q).hands
+  pub frees : All (λ x. IsOwned s caller x.place x.need) (holds_of q).frees
+
+-- a caller may stand with this errand: at its point, and with what it has retired
 pub record MayStand (g : Geometry) (s : State) (l : Lists) (caller : ℕ) (e : ErrandFields) : Type 0 where
-  pub kept : All (λ k. IsKeptAs s k.status k.desc k.class) (holds_of e.point).kept
+  pub point : MayStandAt g s l caller e.point
   pub retired : All (IsWithout s) e.retired
-  pub so : All (IsSo g s l caller) (recalls_of e.point)
   pub full : spare_of e.point ≡ 1 → length e.retired ≡ g.callers + 1
-  pub hands : All (λ x. IsOwned s caller x.place x.need) (holds_of e.point).hands
-  pub frees : All (λ x. IsOwned s caller x.place x.need) (holds_of e.point).frees
 
 -- a caller may go on from one errand to another in a state
 pub record MayGoOn (g : Geometry) (s : State) (l : Lists) (caller : ℕ) (a b : ErrandFields) : Type 0 where
@@ -171,26 +174,11 @@ pub record ShowsSame (g : Geometry) (s : State) (l : Lists) (caller : ℕ) (e : 
   pub stays : (i : ℕ) → i < g.callers → AllRead (IsListedPart l ys) (s.errand i).point
   pub stays_here : AllRead (IsListedPart l ys) e.point
 
--- the state is sound, but for what one caller remembers and how often it was answered
-pub record IsSoundBut (g : Geometry) (s : State) (l : Lists) (caller : ℕ) : Type 0 where
-  pub formed : IsFormed g s
-  pub listed : IsListed g s.word l
-  pub kept : IsKept g s l
-  pub chained : AreChained g s l
-  pub framed : IsFramed g s l
-  pub remembered : OthersRemember g s l caller
-  pub guarded : IsGuarded g s
-  pub stocked : IsStocked g s l
-  pub turned : IsTurnedBut g s l caller
-  pub tied : IsTied g s l
-
--- a sound state is sound but for any one caller
-pub sound-but_one : (g : Geometry) (s : State) (l : Lists) (caller : ℕ) → IsSoundWith g s l → IsSoundBut g s l caller
-sound-but_one g s l caller sound = grind (arith, sound, turned-but)
-
-module _ (g : Geometry) (s : State) (l : Lists) (caller : ℕ) (e : ErrandFields) (s' : State) (ys : List ℕ) (go : ShowsSame g s l caller e s' ys) where
-  its-superblocks : ShowsSuperblocks g s l s' (with_available l ys)
-  its-superblocks = grind (arith, pool_of, superblock-shown)
+-- what such a step leaves of each field of the sound state
+module _
+    {g : Geometry} {s : State} {l : Lists} {caller : ℕ} {e : ErrandFields} {s' : State} {ys : List ℕ} (go : ShowsSame g s l caller e s' ys) where
+  pub shown-superblocks : ShowsSuperblocks g s l s' (with_available l ys)
+  shown-superblocks = grind (arith, pool_of, superblock-shown)
 
   head-shown : (seat : SeatFields) (p : Pile)
       → s'.word (head_name seat p) ≡ s.word (head_name seat p)
@@ -208,7 +196,7 @@ module _ (g : Geometry) (s : State) (l : Lists) (caller : ℕ) (e : ErrandFields
       λ class. stack-same s l s' (with_available l ys) seat p (head-shown seat p) (pile-list-stays l ys seat p) (next-shown p)
   shown-part i (availables d) of = record {
     emptied = λ so. record {
-      state = ap (λ a. a.state) ((descs-show its-superblocks).anchor d) ∙ so.state;
+      state = ap (λ a. a.state) ((descs-show shown-superblocks).anchor d) ∙ so.state;
       unavailable = omega (arith, so.unavailable, of);
       standing = omega (arith, go.ways d so.unavailable, so.standing);
     };
@@ -218,32 +206,32 @@ module _ (g : Geometry) (s : State) (l : Lists) (caller : ℕ) (e : ErrandFields
   shown-part i (single n) of = λ said. go.word n (said-shown n said)
   shown-part i p of = tt
 
-  listed-shown : IsListed g s.word l → IsListed g s'.word (with_available l ys)
+  pub listed-shown : IsListed g s.word l → IsListed g s'.word (with_available l ys)
   listed-shown = listed-anew g s.word s'.word l ys (λ n is differ. go.word n (list-shown n is differ)) go.stacked go.exist
 
-  kept-shown : IsKept g s l → IsKept g s' (with_available l ys)
+  pub kept-shown : IsKept g s l → IsKept g s' (with_available l ys)
   kept-shown kept =
       descs-kept g s caller e s' l (with_available l ys)
       (record {
         moves = go.moves;
-        descs = descs-show its-superblocks;
+        descs = descs-show shown-superblocks;
         places = go.places;
         actives = go.actives;
         listed = kept.listed;
         available = go.without;
         retired = go.may.stands.retired;
-        own = go.may.stands.kept;
+        own = go.may.stands.point.kept;
       })
       kept
 
-  remembered-shown : IsSoundBut g s l caller → IsFormed g s' → IsRemembered g s' (with_available l ys)
-  remembered-shown old formed =
-      remembered-stays g s l caller e s' (with_available l ys) go.moves old.formed.errands old.remembered
-      (recalls-stay g s l caller s' (with_available l ys) e.point (fits-next g s caller e s' formed go.in_heap go.moves) go.may.stands.so
-      (λ k d lt. shows-part its-superblocks caller _ (shown-part caller _ (go.stays_here k d lt))))
-      (λ i has ne k d lt. shows-part its-superblocks i _ (shown-part i _ (go.stays i has k d lt)))
+  pub remembered-shown : IsFormed g s → OthersRemember g s l caller → IsFormed g s' → IsRemembered g s' (with_available l ys)
+  remembered-shown old others formed =
+      remembered-stays g s l caller e s' (with_available l ys) go.moves old.errands others
+      (recalls-stay g s l caller s' (with_available l ys) e.point (fits-next g s caller e s' formed go.in_heap go.moves) go.may.stands.point.so
+      (λ k d lt. shows-part shown-superblocks caller _ (shown-part caller _ (go.stays_here k d lt))))
+      (λ i has ne k d lt. shows-part shown-superblocks i _ (shown-part i _ (go.stays i has k d lt)))
 
-  turned-shown : IsTurnedBut g s l caller → IsTurned g s' (with_available l ys)
+  pub turned-shown : IsTurnedBut g s l caller → IsTurned g s' (with_available l ys)
   turned-shown turned =
       let events = no-event g caller s.history s'.history go.history in
       turned-from g s l caller e s' (with_available l ys) 0 0
@@ -252,26 +240,9 @@ module _ (g : Geometry) (s : State) (l : Lists) (caller : ℕ) (e : ErrandFields
         moves = go.moves;
         events = events;
         counts = subst (λ past. OwnCounts caller past e) (sym go.history) go.may.counts.own;
-        anchor_tags = λ d has. omega (arith, ap (λ a. a.tag) ((descs-show its-superblocks).anchor d));
+        anchor_tags = λ d has. omega (arith, ap (λ a. a.tag) ((descs-show shown-superblocks).anchor d));
         frame_turns = omega (arith, head-tag (go.word name.FrameHead tt), go.may.counts.frame_turns);
         emptied = omega (arith, go.emptied);
         list_turns = λ class has. omega (arith, head-tag (go.word (name.ListHead class) tt), go.may.counts.list_turns);
       })
       turned
-
-  -- a step makes sound a state that is so but for what its caller remembers and how often it was answered
-  pub sound-shown : IsSoundBut g s l caller → IsFormed g s' → IsSoundWith g s' (with_available l ys)
-  sound-shown sound formed = record {
-    formed = formed;
-    listed = listed-shown sound.listed;
-    kept = kept-shown sound.kept;
-    chained = chained-shows its-superblocks sound.chained;
-    framed = framed-shows its-superblocks (λ f. omega (arith, go.frames f)) sound.framed;
-    remembered = remembered-shown sound formed;
-    guarded = guarded-goes g s caller e s' go.moves go.others go.guards go.may.stands.full sound.guarded;
-    stocked = go.stock sound.stocked;
-    turned = turned-shown sound.turned;
-    tied =
-        tied-shows its-superblocks caller e go.moves (go.word name.Units tt) (λ k. go.word (name.Shelf k) tt) go.may.excepts go.may.stands.hands go.may.stands.frees
-        sound.tied;
-  }

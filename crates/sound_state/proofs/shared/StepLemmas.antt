@@ -1,16 +1,14 @@
 -- A step that leads from one point to another, and changes nothing that is shown, keeps the state sound.
-use Rattle.std.proofs.Common.{ℕ, Bool, false, None, ◌≡◌, ◌≢◌, ◌<◌, ◌≤◌, ◌+◌, ◌^◌, List, length, refl, arith, ap, sym, subst, inl, ◌∙◌, ◌⊎◌, All, Any, IsSome, IsTrue}
-use Rattle.sound_state.proofs.Common.{Geometry, Found, WordName, active_of, name_of, after_action, descriptor_count, Exists, Writes, cases_name, Next, At, End, Point, Idle}
+use Rattle.std.proofs.Common.{ℕ, Bool, false, None, ◌≡◌, ◌≢◌, ◌<◌, ◌≤◌, ◌+◌, ◌^◌, List, length, refl, arith, ap, sym, subst, inl, ◌∙◌, ◌⊎◌, Any, IsSome, IsTrue}
+use Rattle.sound_state.proofs.Common.{Geometry, Found, WordName, active_of, name_of, after_action, descriptor_count, Writes, cases_name, Next, At, End, Point, Idle}
 use Rattle.sound_state.proofs.Common.{Reply, ErrandFields, settle_of, course_of, raised, counts_lost, counts_cleared, spare_of, pushed_by, next_of, plan_point_of, State}
-use Rattle.sound_state.proofs.Common.{Step, Moves, action_at, name_at, word_at, found_at, with_event, IsGuarded, IsGuard, IsHazard, passed_by, held_by, Holding, holds_of}
-use Rattle.sound_state.proofs.Common.{IsKept, IsKeptAs, Lists, IsSo, IsOwned, recalls_of, IsSoundWithoutCounts, IsSoundWith, turn_stage_of, in_turn, is_unneeded, one_if}
-use Rattle.sound_state.proofs.Common.{pops_left, found_by, point_after, plan_of, counts_won, event_at, plan-exists, lacks_frame, lacks_partial, lacks_answer, Event}
+use Rattle.sound_state.proofs.Common.{action_at, name_at, word_at, found_at, IsGuarded, IsGuard, IsHazard, passed_by, held_by, Holding, holds_of, IsFormed}
+use Rattle.sound_state.proofs.Common.{IsKept, Lists, IsSoundWith, turn_stage_of, in_turn, is_unneeded, one_if}
+use Rattle.sound_state.proofs.Common.{pops_left, found_by, point_after, plan_of, counts_won, event_at, lacks_frame, lacks_partial, lacks_answer, Event}
 use Rattle.word_table.specs.declared.name.WordName.TheVariants as name
-use Rattle.sound_state.proofs.shared.AlikeLemmas.{sound-alike}
-use Rattle.sound_state.proofs.shared.ShownLemmas.{IsSoundBut, MayGoOn, MayGuard, sound-but_one}
-use Rattle.sound_state.proofs.shared.WeighLemmas.{WeighMost, weigh-alike, weigh-emptied}
+use Rattle.sound_state.proofs.shared.ShownLemmas.{MayGoOn, MayGuard, MayStandAt}
+use Rattle.sound_state.proofs.shared.WeighLemmas.{WeighMost}
 use Rattle.sound_state.proofs.shared.SuperblocksStay.{ActivesKept}
-use Rattle.sound_state.proofs.shared.KeepsSound.{silent-sound}
 use Rattle.sound_state.proofs.shared.CallerLemmas.{KeepsCounts}
 use Rattle.sound_state.proofs.shared.TurnEffects.{CountsGo, OwnCounts, own-counts}
 
@@ -27,33 +25,21 @@ pub record TurnGoes (p q : Point) : Type 0 where
   pub pops :
       pops_left q + one_if (lacks_partial (turn_stage_of q)) ≤ pops_left p + one_if (lacks_partial (turn_stage_of p))
 
+-- a caller may stand at q where it stood at p, but for the hazard words
+pub record PointStands (g : Geometry) (s : State) (l : Lists) (caller : ℕ) (p q : Point) : Type 0 where
+  pub point : MayStandAt g s l caller q
+  pub spare : spare_of q ≡ spare_of p
+  pub excepts : (place : ℕ) → HoldsException (holds_of p) place → HoldsException (holds_of q) place
+  pub turn : TurnGoes p q
+
 -- a caller may stand at q where it stood at p
 pub record PointGoes (g : Geometry) (s : State) (l : Lists) (caller : ℕ) (p q : Point) : Type 0 where
-  pub kept : All (λ k. IsKeptAs s k.status k.desc k.class) (holds_of q).kept
-  pub so : All (IsSo g s l caller) (recalls_of q)
+  pub stands : PointStands g s l caller p q
   pub hazard : IsHazard (holds_of q).hazard (s.word (name.Hazard caller))
   pub guard : (d : ℕ) → s.word (name.Hazard caller) ≡ d + 1 → IsGuard (holds_of q).hazard → IsGuard (holds_of p).hazard
   pub pushed : pushed_by q ≡ pushed_by p
   pub passed : passed_by q ≡ 0
   pub unread : length (held_by q) ≡ 0
-  pub spare : spare_of q ≡ spare_of p
-  pub hands : All (λ x. IsOwned s caller x.place x.need) (holds_of q).hands
-  pub frees : All (λ x. IsOwned s caller x.place x.need) (holds_of q).frees
-  pub excepts : (place : ℕ) → HoldsException (holds_of p) place → HoldsException (holds_of q) place
-  pub turn : TurnGoes p q
-
--- a caller may stand at q where it stood at p, but for the hazard words
-pub record PointStands (g : Geometry) (s : State) (l : Lists) (caller : ℕ) (p q : Point) : Type 0 where
-  pub kept : All (λ k. IsKeptAs s k.status k.desc k.class) (holds_of q).kept
-  pub so : All (IsSo g s l caller) (recalls_of q)
-  pub spare : spare_of q ≡ spare_of p
-  pub hands : All (λ x. IsOwned s caller x.place x.need) (holds_of q).hands
-  pub frees : All (λ x. IsOwned s caller x.place x.need) (holds_of q).frees
-  pub excepts : (place : ℕ) → HoldsException (holds_of p) place → HoldsException (holds_of q) place
-  pub turn : TurnGoes p q
-
-pub goes-stands : (g : Geometry) (s : State) (l : Lists) (caller : ℕ) (p q : Point) → PointGoes g s l caller p q → PointStands g s l caller p q
-goes-stands g s l caller p q h = grind (arith, h)
 
 -- a caller that goes on with the same hazard word, and scans nothing, may guard what it guarded
 pub goes-guards :
@@ -110,20 +96,17 @@ goes-counts caller past e x q counts few still turn = grind (arith, counts, few,
 
 -- a caller may go on to a point at which it may stand, where what it was given, was refused and lost accounts for its turns
 pub may-after :
-    (g : Geometry) (s : State) (l : Lists) (caller : ℕ) (x : Found) (q : Point) → IsSoundBut g s l caller → caller < g.callers
+    (g : Geometry) (s : State) (l : Lists) (caller : ℕ) (x : Found) (q : Point) → IsFormed g s → IsKept g s l → IsGuarded g s → caller < g.callers
     → OwnCounts caller s.history (s.errand caller) → counts_cleared (s.errand caller).point x ≡ false
     → PointStands g s l caller (s.errand caller).point q → MayGoOn g s l caller (s.errand caller) (at_point (s.errand caller) x q)
-may-after g s l caller x q but has counts still goes = record {
+may-after g s l caller x q formed kept guarded has counts still goes = record {
   stands = record {
-    kept = goes.kept;
-    retired = but.kept.retired caller has;
-    so = goes.so;
-    full = λ spare. but.guarded.full caller has (sym goes.spare ∙ spare);
-    hands = goes.hands;
-    frees = goes.frees;
+    point = goes.point;
+    retired = kept.retired caller has;
+    full = λ spare. guarded.full caller has (sym goes.spare ∙ spare);
   };
   excepts = λ place x. inl (goes.excepts place x);
-  counts = goes-counts caller s.history (s.errand caller) x q counts (but.formed.errands caller has).lost still goes.turn;
+  counts = goes-counts caller s.history (s.errand caller) x q counts (formed.errands caller has).lost still goes.turn;
 }
 
 -- so a caller of a sound state may
@@ -131,7 +114,7 @@ pub may-step :
     (g : Geometry) (s : State) (l : Lists) (caller : ℕ) (x : Found) (q : Point) → IsSoundWith g s l → caller < g.callers
     → counts_cleared (s.errand caller).point x ≡ false → PointStands g s l caller (s.errand caller).point q
     → MayGoOn g s l caller (s.errand caller) (at_point (s.errand caller) x q)
-may-step g s l caller x q sound has = may-after g s l caller x q (sound-but_one g s l caller sound) has (own-counts g s l caller sound.turned has)
+may-step g s l caller x q sound has = may-after g s l caller x q sound.formed sound.kept sound.guarded has (own-counts g s l caller sound.turned has)
 
 -- a caller that goes on to a point, and loses and clears nothing, keeps its counts
 pub keeps-counts :
@@ -177,41 +160,6 @@ pub record StepsMost (g : Geometry) (s : State) (l : Lists) (caller : ℕ) (q : 
 pub record HazardsAfter (g : Geometry) (s : State) (caller : ℕ) (q : Point) (words' : WordName → ℕ) : Type 0 where
   pub others : (i : ℕ) → i ≢ caller → words' (name.Hazard i) ≡ s.word (name.Hazard i)
   pub guards : MayGuard g s caller q (s.errand caller).retired (words' (name.Hazard caller))
-
--- a step after which its caller stands at the point keeps the state sound
-pub step-most :
-    (g : Geometry) (s : State) (caller : ℕ) (s' : State) (q : Point) → IsSoundWithoutCounts g s → caller < g.callers
-    → ((l : Lists) → IsSoundWith g s l → StepsMost g s l caller q) → ((l : Lists) → IsSoundWith g s l → ActivesKept g s s'.word)
-    → ((l : Lists) → IsSoundWith g s l → HazardsAfter g s caller q s'.word) → Step s caller s' → IsSoundWithoutCounts g s'
-step-most g s caller s' q sound has steps actives hazards step =
-    let l = sound.parts.0 in
-    let old = sound.parts.1 in
-    let to = steps l old in
-    let words = hazards l old in
-    let e = at_point (s.errand caller) (found_at s caller) q in
-    let own = old.formed.errands caller has in
-    let exists : Exists g (name_at s caller) =
-    subst (λ h. Exists h (name_at s caller)) own.geometry
-    (plan-exists (s.errand caller).geometry (s.errand caller).caller (s.errand caller).point own.rule.geometry own.rule.caller own.rule.point) in
-    let moves : Moves s.errand caller e s'.errand =
-    subst (λ f. Moves s.errand caller f s'.errand) to.after step.errand in
-    let past : s'.history ≡ s.history = step.history ∙ ap (with_event s.history) to.event in
-    silent-sound g s caller s' l sound has step past
-    (sound-alike g s l caller e s'
-    (record {
-      in_heap = has;
-      moves = moves;
-      alike = weigh-alike g s l caller (name_at s caller) _ e s' exists has step.word moves past to.weigh;
-      may = may-step g s l caller (found_at s caller) q old has to.cleared to.stands;
-      others = words.others;
-      guards = words.guards;
-      actives = actives l old;
-      emptied =
-          let same : raised (counts_cleared (s.errand caller).point (found_at s caller)) (s.errand caller).cleared ≡ (s.errand caller).cleared =
-          ap (λ b. raised b (s.errand caller).cleared) to.cleared in
-          omega (arith, weigh-emptied g s l caller (name_at s caller) _ e s' has step.word moves to.weigh, same);
-    })
-    old)
 
 -- a count that is raised rises by one at most
 pub raised-most : (b : Bool) (n : ℕ) → raised b n ≤ n + one_if b

@@ -1,6 +1,6 @@
 -- Descriptors never run out.
 use Rattle.std.proofs.Common.{ℕ, Option, Some, None, ◌≡◌, ◌<◌, ◌≤◌, ◌+◌, ◌*◌, List, [], ◌∷◌, length, refl, arith, inl, inr, ◌==◌, ◌&&◌, zero, if◌then◌else◌, All, eq-eqb}
-use Rattle.std.proofs.Common.{ne_eqb, suc, ◌-◌}
+use Rattle.std.proofs.Common.{ne_eqb, suc}
 use Rattle.std.proofs.lemmas.Bool.{cases_eq, cond-true, cond-false}
 use Rattle.sound_state.proofs.Common.{Geometry, CLASSES, ActiveWord, Null, Held, active_of, info_of, WordName, descriptor_count, word_count, SeatFields, Exists, word_name}
 use Rattle.sound_state.proofs.Common.{occurs, Partials, Stacked, next_in, Continuation, Point, FitsPoint, spare_of, ErrandFields, State, Kept, holds_of, word_keeps}

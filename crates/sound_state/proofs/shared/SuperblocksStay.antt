@@ -2,13 +2,13 @@
 use Rattle.std.proofs.Common.{ℕ, Some, ◌≡◌, ◌<◌, ◌≤◌, ◌+◌, ◌⊎◌, refl, arith, ap, sym, subst, ◌∙◌, All, IsTrue, IsSome, List, []}
 use Rattle.sound_state.proofs.Common.{AnchorFields, AreChained, CLASSES, ErrandFields, Geometry, Held, IsFramed, IsKept, IsKeptAs, IsOwned, IsPartlyUsed, IsTied, IsWithout}
 use Rattle.sound_state.proofs.Common.{Lists, Moves, Need, State, Status, Superblock, WordName, active_of, anchor_for, anchor_of, block_at, callers_sum, descriptor_count}
-use Rattle.sound_state.proofs.Common.{errand_frames, holds_of, info_for, is_bound, occurs, own, pool_of, prefix_name, reserved_of, superblock_of, waiting, waiting_of}
+use Rattle.sound_state.proofs.Common.{errand_frames, holds_of, info_for, is_bound, occurs, own, pool_of, prefix_name, reserved_of, superblock_of, waiting_of}
 use Rattle.sound_state.proofs.Common.{IsActive, places_of, Kept, keep}
+use Rattle.sound_state.proofs.Common.{Part, availables, bindings, chains, constant, events, link_words, places, single, stacks}
 use Rattle.packed_words.specs.declared.anchor.AnchorState.TheVariants as phase
 use Rattle.word_table.specs.declared.name.WordName.TheVariants as name
 use Rattle.sound_state.proofs.shared.CallerLemmas.{each-caller}
-use Rattle.sound_state.proofs.shared.RecallFrame.{Part, PartStays, availables, bindings, chain-same, chains, constant, events, lies-same, link_words, places, single}
-use Rattle.sound_state.proofs.shared.RecallFrame.{stacks}
+use Rattle.sound_state.proofs.shared.RecallFrame.{PartStays, chain-same, lies-same}
 use Rattle.sound_state.proofs.shared.SumLemmas.{sum-same}
 use Rattle.sound_state.proofs.shared.TieLemmas.{Excepts, IsSaidAt, blocks-stay, owned-stays, block-stays}
 use Rattle.std.proofs.lemmas.List.Elements.{All-nil, All-cons, All-head}

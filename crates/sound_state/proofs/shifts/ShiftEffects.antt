@@ -1,13 +1,15 @@
 -- A step that moves blocks of a superblock between its count and what is reserved: what it changes, and that everything else stays.
 use Rattle.std.proofs.Common.{ℕ, Bool, false, ◌≡◌, ◌≢◌, ◌<◌, ◌≤◌, ◌+◌, ◌==◌, IsTrue, if◌then◌else◌, All}
+use Rattle.std.specs.List.{AllByRecursion}
 use Rattle.sound_state.proofs.Common.{Geometry, block_count_of, AnchorFields, is_empty, WordName, Site, IsSiteOf, occurs, ErrandFields, State, Moves, waiting, on_its_way}
-use Rattle.sound_state.proofs.Common.{holds_of, IsKeptAs, full_keeps, Lists, IsLocated, bound_here, recalls_of, turn_stage_of, stock_among, anchor_for, is_bound}
+use Rattle.sound_state.proofs.Common.{holds_of, IsKeptAs, full_keeps, Lists, IsLocated, recalls_of, turn_stage_of, stock_among, anchor_for, is_bound, IsSo}
 use Rattle.sound_state.proofs.Common.{reserved_among, kept_among, clear, lacks_partial}
 use Rattle.packed_words.specs.declared.anchor.AnchorState.TheVariants as phase
 use Rattle.word_table.specs.declared.name.WordName.TheVariants as name
 use Rattle.sound_state.proofs.shared.PointLemmas.{kept_places}
 use Rattle.sound_state.proofs.shared.TurnEffects.{StandsIn}
 use Rattle.sound_state.proofs.shared.CallerLemmas.{KeepsCounts}
+use Rattle.sound_state.proofs.shared.RecallFrame.{LiesAt}
 
 -- a caller that alone keeps a superblock moves blocks between its count and what it has reserved, and all else stays
 pub record Shifts (g : Geometry) (s : State) (l : Lists) (caller : ℕ) (at : Site) (a b : AnchorFields) (e : ErrandFields) (s' : State) : Type 0 where
@@ -46,7 +48,7 @@ pub record Shifts (g : Geometry) (s : State) (l : Lists) (caller : ℕ) (at : Si
   pub clear_before : (holds_of (s.errand caller).point).hazard ≡ clear
   pub clear_after : (holds_of e.point).hazard ≡ clear
   pub kept_after : All (λ k. IsKeptAs s' k.status k.desc k.class) (holds_of e.point).kept
-  pub recalls_after : recalls_of e.point ≡ bound_here at
+  pub recalls_after : LiesAt g s' l at → AllByRecursion (IsSo g s' l caller) (recalls_of e.point)
   pub giving : Bool
   pub stands_before : StandsIn giving (s.errand caller).point
   pub stands_after : StandsIn giving e.point

@@ -1,16 +1,14 @@
 -- A step that moves blocks between the count and what is reserved keeps what the callers remember, and so the state sound.
-use Rattle.std.proofs.Common.{ℕ, ◌≡◌, ◌≢◌, ◌<◌, arith, ap, sym, subst, IsTrue, All}
-use Rattle.sound_state.proofs.Common.{Geometry, AnchorFields, Site, own, ErrandFields, State, errand_has, Lists, IsSo, occurs, IsFormed, Step, IsSoundWithoutCounts}
-use Rattle.sound_state.proofs.Common.{IsSoundWith, IsRemembered}
-use Rattle.sound_state.proofs.shared.RecallEffects.{IsSteadyWord, Leaves, IsLeft, chain-gains, here-so, remembered-left}
-use Rattle.sound_state.proofs.shared.RecallFrame.{Part, bindings, chains, single}
+use Rattle.std.proofs.Common.{ℕ, ◌≡◌, ◌≢◌, ◌<◌, arith, ap, sym, subst, IsTrue}
+use Rattle.sound_state.proofs.Common.{Geometry, AnchorFields, Site, own, ErrandFields, State, errand_has, Lists, occurs}
+use Rattle.sound_state.proofs.Common.{IsSoundWith, IsRemembered, Part, bindings, chains, single}
+use Rattle.sound_state.proofs.shared.RecallEffects.{IsSteadyWord, Leaves, IsLeft, chain-gains, lies-still, remembered-left}
 use Rattle.sound_state.proofs.shared.RecallTables.{InstallsNone, IsSpared, spared-point}
 use Rattle.sound_state.proofs.shared.WaitsAlone.{install-waits}
 use Rattle.sound_state.proofs.shifts.ShiftEffects.{Shifts}
-use Rattle.sound_state.proofs.shifts.ShiftFacts.{shifted-tag, shifted-empty, shifted-ways, shifted-bound, shifted-chain, shifted-chained, shifted-framed}
-use Rattle.sound_state.proofs.shifts.ShiftKept.{shifted-alone, shifted-kept, shifted-stocked}
-use Rattle.sound_state.proofs.shifts.ShiftTurns.{shifted-owned, shifted-listed, shifted-guarded, shifted-turned, shifted-tied}
-use Rattle.sound_state.proofs.shared.KeepsSound.{silent-sound}
+use Rattle.sound_state.proofs.shifts.ShiftFacts.{shifted-tag, shifted-empty, shifted-ways, shifted-bound, shifted-chain}
+use Rattle.sound_state.proofs.shifts.ShiftKept.{shifted-alone}
+use Rattle.sound_state.proofs.shifts.ShiftTurns.{shifted-owned}
 
 -- a shift of blocks between the count and what is reserved, seen by the callers that remember
 module _
@@ -43,25 +41,6 @@ module _
   pub shifted-remembered : IsSoundWith g s l → IsRemembered g s' l
   shifted-remembered old =
       remembered-left g s l caller e s' h.moves
-      (subst (All (IsSo g s' l caller)) (sym h.recalls_after)
-      (here-so g s l s' (shifted-leaves caller).steady caller at (subst IsTrue (sym (shifted-bound h at.desc)) h.bound) h.located))
+      (h.recalls_after (lies-still g s l s' (shifted-leaves caller).steady at (subst IsTrue (sym (shifted-bound h at.desc)) h.bound) h.located))
       (λ i has ne. shifted-leaves i)
       (λ i has ne k d lt. shifted-left _ (spared-point at.desc (s.errand i).point (shifted-installed old i has ne) k d lt)) old
-
-  -- the state stays sound
-  shifted-with : IsSoundWith g s l → IsFormed g s' → IsSoundWith g s' l
-  shifted-with old formed = record {
-    formed = formed;
-    listed = shifted-listed h old;
-    kept = shifted-kept h old;
-    chained = shifted-chained h old;
-    framed = shifted-framed h old;
-    remembered = shifted-remembered old;
-    guarded = shifted-guarded h old;
-    stocked = shifted-stocked h old;
-    turned = shifted-turned h old;
-    tied = shifted-tied h old;
-  }
-
-  pub shifted-sound : IsSoundWithoutCounts g s → IsSoundWith g s l → Step s caller s' → IsSoundWithoutCounts g s'
-  shifted-sound sound old step = silent-sound g s caller s' l sound h.in_heap step h.history (shifted-with old)

@@ -1,7 +1,7 @@
 -- Reserved blocks are returned, and blocks of a partial superblock are granted.
 use Rattle.std.proofs.Common.{ℕ, Bool, true, false, ◌≡◌, ◌≢◌, ◌<◌, ◌≤◌, ◌+◌, ◌^◌, List, [], refl, arith, ap, sym, subst, inl, inr, ◌∙◌, ◌==◌, IsTrue, if◌then◌else◌, nat_lt}
 use Rattle.std.proofs.Common.{All, eq-eqb, lt-ltb, mod-eq_of_lt}
-use Rattle.std.proofs.lemmas.Bool.{cases_eq, cases_lt, cond-true}
+use Rattle.std.proofs.lemmas.Bool.{cases_lt, cond-true}
 use Rattle.std.proofs.lemmas.List.Elements.{All-nil, All-cons, All-head}
 use Rattle.sound_state.proofs.Common.{Geometry, Need, block_count_of, block_place, AnchorFields, anchor_of, anchor_word, info_of, is_empty, Site, occurs, Grant}
 use Rattle.sound_state.proofs.Common.{Continuation, Point, Block, Partial, event_of, next_of, asked, plan_point_of, State, Step, Kept, reserving, waiting, partly_used}
@@ -24,14 +24,14 @@ use Rattle.sound_state.proofs.shared.HasLemmas.{keeps-near, kept-itself}
 use Rattle.sound_state.proofs.shared.PointLemmas.{fits-at, kept-at, hands-at, the-alloc, kept_places, recalled-at}
 use Rattle.sound_state.proofs.shared.TurnEffects.{StandsIn}
 use Rattle.sound_state.proofs.shifts.ShiftEffects.{Shifts}
-use Rattle.sound_state.proofs.shifts.ShiftRecalls.{shifted-sound}
 use Rattle.sound_state.proofs.shared.StepLemmas.{at_point, keeps-counts}
 use Rattle.sound_state.proofs.shared.SumLemmas.{term-sum}
 use Rattle.sound_state.proofs.shared.CreditLemmas.{won_with}
 use Rattle.sound_state.proofs.shared.TallyLemmas.{tally}
 use Rattle.sound_state.proofs.shared.SuperblockEffects.{located-live}
 use Rattle.sound_state.proofs.shared.WonEffects.{AnchorWon, anchor-won}
-use Rattle.sound_state.proofs.shared.KeepsSound.{KeepsSound, KeepsSoundWhere}
+use Rattle.sound_state.proofs.shared.KeepsSound.{KeepsSound, KeepsSoundWhere, silent-sound, either-sound}
+use Rattle.sound_state.proofs.SoundAfter.{shifted-sound}
 
 -- a superblock with a live block has fewer free blocks than blocks
 live-fewer : (b : Superblock) (i : ℕ) → IsChained b → i < b.size → b.live i ≡ 1 → b.anchor.count + b.reserved < b.size
@@ -186,7 +186,7 @@ return-shifts g s l caller s' site i more a o old has here word step =
             state = inl (ap (λ x. x.state) won.after, subst (λ x. 1 ≤ x.count) (sym won.after) some);
           })
           (All-nil (λ (k : Kept). IsKeptAs s' k.status k.desc k.class));
-      recalls_after = refl;
+      recalls_after = λ lies. (lies, tt);
       giving = false;
       stands_before = subst (StandsIn false) (sym here) (return-stands site i more a o);
       stands_after = put-stands site (heap_of site.seat) i (asked o);
@@ -200,7 +200,8 @@ pub return_credits_won-sound :
 return_credits_won-sound site i more a o g s caller s' sound has here word step =
     let l : Lists = sound.parts.0 in
     let old : IsSoundWith g s l = sound.parts.1 in
-    shifted-sound (return-shifts g s l caller s' site i more a o old has here word step) sound old step
+    let h = return-shifts g s l caller s' site i more a o old has here word step in
+    silent-sound g s caller s' l sound has step h.history (shifted-sound h old)
 
 -- what a caller keeps after a grant, by whether more than one block is granted
 abbrev grant_keeps : ℕ → ℕ → Bool → List Kept
@@ -357,7 +358,7 @@ grant-shifts g s l caller s' site a words old has here word step =
       clear_before = ap (λ r. (holds_of r).hazard) here;
       clear_after = refl;
       kept_after = grant-kept s' d c t (ap (λ x. x.class) info ∙ lies.class) (ap (λ x. x.state) won.after);
-      recalls_after = refl;
+      recalls_after = λ lies. (lies, tt);
       giving = true;
       stands_before = subst (StandsIn true) (sym here) (grant-stands site a words);
       stands_after = loads-stands site more words;
@@ -374,19 +375,16 @@ grant_won-sound site a o g s caller s' sound has here word step =
     let alloc : o ≡ continuation.Alloc (asked o) = the-alloc o (fits-at g s l caller (Partial (partial.Grant site a) o) old has here).goes in
     let stands : (s.errand caller).point ≡ Partial (partial.Grant site a) (continuation.Alloc (asked o)) =
     here ∙ ap (λ o. Partial (partial.Grant site a) o) alloc in
-    shifted-sound (grant-shifts g s l caller s' site a (asked o) old has stands word step) sound old step
+    let h = grant-shifts g s l caller s' site a (asked o) old has stands word step in
+    silent-sound g s caller s' l sound has step h.history (shifted-sound h old)
 
 -- a return keeps the state sound, won or lost
 pub return_credits-sound : (site : Site) (i more : ℕ) (a : AnchorFields) (o : Continuation) → KeepsSound (Block (block.ReturnCredits site i more a) o)
-return_credits-sound site i more a o g s caller s' sound has here step =
-    elim (cases_eq (s.word (name.Anchor site.desc)) (anchor_word a)) [
-      | inl is ↦ return_credits_won-sound site i more a o g s caller s' sound has here is step
-      | inr other ↦ return_credits-lost site i more a o g s caller s' sound has here other step
-    ]
+return_credits-sound site i more a o =
+    either-sound _ (name.Anchor site.desc) (anchor_word a) (return_credits_won-sound site i more a o)
+    (return_credits-lost site i more a o)
 
 pub grant-sound : (site : Site) (a : AnchorFields) (need : ℕ) → KeepsSound (Partial (partial.Grant site a) (continuation.Alloc need))
-grant-sound site a need g s caller s' sound has here step =
-    elim (cases_eq (s.word (name.Anchor site.desc)) (anchor_word a)) [
-      | inl is ↦ grant_won-sound site a (continuation.Alloc need) g s caller s' sound has here is step
-      | inr other ↦ grant_lost-sound site a need g s caller s' sound has here other step
-    ]
+grant-sound site a need =
+    either-sound _ (name.Anchor site.desc) (anchor_word a) (grant_won-sound site a (continuation.Alloc need))
+    (grant_lost-sound site a need)

@@ -1,19 +1,17 @@
 -- A step that takes the first index off a stack, or puts one in front, keeps the state sound, with the list that is left.
 use Rattle.std.proofs.Common.{ℕ, ◌≡◌, ◌<◌, ◌≤◌, refl, arith, ap, sym, subst, inl, inr, ◌∙◌, Bool, true, false, ◌==◌, ◌&&◌, not, All}
-use Rattle.sound_state.proofs.Common.{Geometry, anchor_of, is_empty, WordName, descriptor_count, Pile, Frames, Partials, next_name, occurs, own, pool_of, ErrandFields}
-use Rattle.sound_state.proofs.Common.{State, IsKept, IsWithout, Lists, IsSoundWith, IsFormed, Point, sum_below, anchor_for, away_of, is_bound, IsTurned, one_if}
-use Rattle.sound_state.proofs.Common.{emptied_out, IsRemembered}
+use Rattle.sound_state.proofs.Common.{Geometry, anchor_of, is_empty, WordName, descriptor_count, Pile, Frames, Partials, next_name, occurs, own, pool_of}
+use Rattle.sound_state.proofs.Common.{ErrandFields, State, IsKept, IsWithout, Lists, IsSoundWith, IsFormed, Point, sum_below, anchor_for, away_of, is_bound, IsTurned}
+use Rattle.sound_state.proofs.Common.{one_if, emptied_out, IsRemembered, IsSaidWord, Part, stacks, availables, events, single}
 use Rattle.packed_words.specs.declared.anchor.AnchorState.{AnchorState as Phase}
 use Rattle.packed_words.specs.declared.anchor.AnchorState.TheVariants as phase
 use Rattle.word_table.specs.declared.name.WordName.TheVariants as name
 use Rattle.sound_state.proofs.shared.BackedRecalls.{AllRead, fits-next, recalls-stay, remembered-stays}
-use Rattle.sound_state.proofs.shared.ShownLemmas.{MayGuard, guarded-goes}
 use Rattle.sound_state.proofs.stacks.StackEffects.{Restacks, IsNoHead}
 use Rattle.sound_state.proofs.shared.SumLemmas.{sum-least}
 use Rattle.sound_state.proofs.shared.TurnEffects.{OwnCounts, no-event, turned-after}
-use Rattle.sound_state.proofs.shared.RecallFrame.{IsSaidWord, Part, PartStays, stacks, availables, events, single}
-use Rattle.sound_state.proofs.shared.SuperblocksStay.{IsSuperblockWord, RestStays, ShowsSuperblocks, actives-same, chained-shows, descs-kept, descs-show, framed-shows}
-use Rattle.sound_state.proofs.shared.SuperblocksStay.{shows-part, tied-shows}
+use Rattle.sound_state.proofs.shared.RecallFrame.{PartStays}
+use Rattle.sound_state.proofs.shared.SuperblocksStay.{IsSuperblockWord, RestStays, ShowsSuperblocks, actives-same, descs-kept, descs-show, shows-part}
 
 -- a word that recalls name is no head
 said-no_head : (n : WordName) → IsSaidWord n → IsNoHead n
@@ -49,8 +47,8 @@ module _ {g : Geometry} {s : State} {l : Lists} {caller : ℕ} {e : ErrandFields
       subst (λ a. one_if ((away_of g s' l' d == 0) && is_empty a.state) ≤ emptied_out g s l d) (sym (anchor-restacked d))
       (out-least (away_of g s l d) (away_of g s' l' d) (is_empty (anchor_for s d).state) grows)
 
-  its-superblocks : ShowsSuperblocks g s l s' l'
-  its-superblocks = grind (arith, bound-restacked, pool_of, superblock-no_head)
+  pub restacked-superblocks : ShowsSuperblocks g s l s' l'
+  restacked-superblocks = grind (arith, bound-restacked, pool_of, superblock-no_head)
 
   next-restacked : (p : Pile) (i : ℕ) → s'.word (next_name p i) ≡ s.word (next_name p i)
   next-restacked Frames i = h.word (name.FrameNext i) tt
@@ -76,31 +74,31 @@ module _ {g : Geometry} {s : State} {l : Lists} {caller : ℕ} {e : ErrandFields
   restacked-part i (single n) = λ said. h.word n (said-no_head n said)
   restacked-part i p = tt
 
-  kept-restacked : IsKept g s l → IsKept g s' l'
+  pub kept-restacked : IsKept g s l → IsKept g s' l'
   kept-restacked kept =
       descs-kept g s caller e s' l l'
       (record {
         moves = h.moves;
-        descs = descs-show its-superblocks;
+        descs = descs-show restacked-superblocks;
         places = h.places;
         actives = actives-same g s l s'.word kept (λ heap class. h.word (name.Active heap class) tt) (λ heap class. h.word (name.Slot heap class) tt);
         listed = h.partly;
         available = subst (All (IsWithout s)) (sym h.available) kept.available;
         retired = h.may.retired;
-        own = h.may.kept;
+        own = h.may.point.kept;
       })
       kept
 
   stays-restacked : (i : ℕ) (p : Point) → AllRead (PartStays g s l s' l' i) p
-  stays-restacked i p = λ k d lt. shows-part its-superblocks i _ (restacked-part i _)
+  stays-restacked i p = λ k d lt. shows-part restacked-superblocks i _ (restacked-part i _)
 
-  remembered-restacked : IsSoundWith g s l → IsFormed g s' → IsRemembered g s' l'
+  pub remembered-restacked : IsSoundWith g s l → IsFormed g s' → IsRemembered g s' l'
   remembered-restacked old formed =
       remembered-stays g s l caller e s' l' h.moves old.formed.errands (λ i has ne. old.remembered.so i has)
-      (recalls-stay g s l caller s' l' e.point (fits-next g s caller e s' formed h.in_heap h.moves) h.may.so (stays-restacked caller e.point))
+      (recalls-stay g s l caller s' l' e.point (fits-next g s caller e s' formed h.in_heap h.moves) h.may.point.so (stays-restacked caller e.point))
       (λ i has ne. stays-restacked i (s.errand i).point)
 
-  turned-restacked : IsTurned g s l → IsTurned g s' l'
+  pub turned-restacked : IsTurned g s l → IsTurned g s' l'
   turned-restacked turned =
       let emptied_less : sum_below (descriptor_count g) (emptied_out g s' l') ≤ sum_below (descriptor_count g) (emptied_out g s l) =
       sum-least (descriptor_count g) (emptied_out g s' l') (emptied_out g s l) (λ d lt. out-restacked d) in
@@ -117,22 +115,3 @@ module _ {g : Geometry} {s : State} {l : Lists} {caller : ℕ} {e : ErrandFields
         list_turns = λ class has. omega (arith, h.list_turns class, h.cleared);
       })
       turned
-
-  -- the state stays sound, with the new lists
-  pub restacked-sound : IsSoundWith g s l → IsFormed g s' → IsSoundWith g s' l'
-  restacked-sound sound formed = record {
-    formed = formed;
-    listed = h.listed;
-    kept = kept-restacked sound.kept;
-    chained = chained-shows its-superblocks sound.chained;
-    framed = framed-shows its-superblocks h.frames sound.framed;
-    remembered = remembered-restacked sound formed;
-    guarded =
-        guarded-goes g s caller e s' h.moves (λ i differ. h.word (name.Hazard i) tt)
-        (subst (MayGuard g s caller e.point e.retired) (sym (h.word (name.Hazard caller) tt)) h.guards) h.may.full sound.guarded;
-    stocked = record { most = λ class has. omega (arith, sound.stocked.most class has, h.stock class) };
-    turned = turned-restacked sound.turned;
-    tied =
-        tied-shows its-superblocks caller e h.moves (h.word name.Units tt) (λ k. h.word (name.Shelf k) tt) (λ place x. inl (h.excepts place x))
-        h.may.hands h.may.frees sound.tied;
-  }

@@ -17,10 +17,11 @@ use Rattle.packed_words.specs.declared.anchor.AnchorState.TheVariants as phase
 use Rattle.sound_state.proofs.shared.ListFacts.{occurs-push}
 use Rattle.sound_state.proofs.shared.PointLemmas.{kept_places, fits-at, kept-at, hazard-at}
 use Rattle.sound_state.proofs.quiet.QuietStacks.{push_top_lost-sound}
-use Rattle.sound_state.proofs.stacks.StackSteps.{AreKept, head_pushed, pushes-on, keeps-less, in-hand, holds-true, push_going_on-sound}
+use Rattle.sound_state.proofs.shared.SuperblocksStay.{AreKept}
+use Rattle.sound_state.proofs.stacks.StackSteps.{head_pushed, pushes-on, keeps-less, in-hand, holds-true, push_going_on-sound}
 use Rattle.sound_state.proofs.stacks.StackShifts.{Exchanges, ErrandsBalanced, exchanges-sound, HoldsMore, Balanced, with_list, more-balanced, balance-back}
 use Rattle.sound_state.proofs.shared.StepLemmas.{raised-least, found_from}
-use Rattle.sound_state.proofs.shared.KeepsSound.{KeepsSound, KeepsSoundWhere}
+use Rattle.sound_state.proofs.shared.KeepsSound.{KeepsSound, KeepsSoundWhere, either-sound}
 use Rattle.sound_state.proofs.shared.NothingLemmas.{nothing-stands, resumes-counts, TurnResumes, active-nothing, idle-nothing, scan-nothing, nothing-guards, HoldsNothing}
 use Rattle.sound_state.proofs.shared.TurnEffects.{own-counts}
 
@@ -309,7 +310,7 @@ retire-exchanges g s l caller seat i h d sound old has stands word =
     let won : (s.word (name.ListHead seat.class) == head_word h) ≡ true = eq-eqb (s.word (name.ListHead seat.class)) (head_word h) word in
     let next : next_of a.point x ≡ Retire seat d continuation.EndFree =
     subst (λ z. next_of z (found_from s z) ≡ Retire seat d continuation.EndFree) (sym stands) (rw won refl) in
-    let is = All-head (IsSo g s l caller) _ [] (pushes-on g s l caller seat Partials i h (continuation.Retire d) sound old has stands word).so in
+    let (is, none) = (pushes-on g s l caller seat Partials i h (continuation.Retire d) sound old has stands word).so in
     let retires =
     push-exchanges g s l caller seat Partials i h (continuation.Retire d) d partly_used sound old has stands word (retire-off seat i h d) (inr (refl, is.state)) in
     elim (cases_Bool (is_full a)) [
@@ -367,8 +368,6 @@ push_top_won-sound seat pile i h o g s caller s' sound has stands word step =
 -- a push onto a stack, won or lost, keeps the state sound
 pub push_top-sound :
     (seat : SeatFields) (pile : Pile) (i : ℕ) (h : HeadFields) (o : Continuation) → KeepsSound (Stack (stack.PushTop seat pile i h) o)
-push_top-sound seat pile i h o g s caller s' sound has stands step =
-    elim (cases_eq (s.word (head_name seat pile)) (head_word h)) [
-      | inl won ↦ push_top_won-sound seat pile i h o g s caller s' sound has stands won step
-      | inr lost ↦ push_top_lost-sound seat pile i h o g s caller s' sound has stands lost step
-    ]
+push_top-sound seat pile i h o =
+    either-sound _ (head_name seat pile) (head_word h) (push_top_won-sound seat pile i h o)
+    (push_top_lost-sound seat pile i h o)

@@ -15,13 +15,13 @@ use Rattle.sound_state.proofs.shared.PointLemmas.{kept_places}
 use Rattle.sound_state.proofs.shared.ShownLemmas.{MayGuard, MayStand}
 use Rattle.sound_state.proofs.shared.WonEffects.{settle-leads, LeadsTo}
 use Rattle.sound_state.proofs.stacks.StackEffects.{Restacks, IsNoHead}
-use Rattle.sound_state.proofs.stacks.StackFacts.{restacked-sound}
 use Rattle.sound_state.proofs.shared.SuperblockEffects.{words-but}
-use Rattle.sound_state.proofs.shared.StepLemmas.{PointGoes, at_point, goes-stands, found_from, goes-guards, may-step}
+use Rattle.sound_state.proofs.shared.StepLemmas.{PointGoes, at_point, found_from, goes-guards, may-step}
 use Rattle.sound_state.proofs.shared.SumLemmas.{sum-same, sum-change, callers-moved}
 use Rattle.sound_state.proofs.shared.KeepsSound.{silent-sound}
 use Rattle.sound_state.proofs.shared.TieLemmas.{Excepts}
 use Rattle.sound_state.proofs.shared.TurnEffects.{OwnCounts}
+use Rattle.sound_state.proofs.SoundAfter.{restacked-sound}
 
 -- the lists with another list for one stack
 abbrev pub with_list : Lists → SeatFields → Pile → List ℕ → Lists
@@ -397,7 +397,7 @@ shifts-exchanges :
 shifts-exchanges g s l caller q seat pile new l' old has h =
     let e = at_point (s.errand caller) (found_at s caller) q in
     let after : settle_of (s.errand caller) (found_at s caller) ≡ e = settle-leads (s.errand caller) (found_at s caller) q h.leads in
-    let may = may-step g s l caller (found_at s caller) q old has h.cleared (goes-stands g s l caller (s.errand caller).point q h.goes) in
+    let may = may-step g s l caller (found_at s caller) q old has h.cleared h.goes.stands in
     record {
       event = h.event;
       head = h.head;
@@ -405,7 +405,7 @@ shifts-exchanges g s l caller q seat pile new l' old has h =
       settles = after;
       may = may.stands;
       guards = goes-guards g s l caller q e.retired (s.word (name.Hazard caller)) old.guarded has refl h.goes;
-      excepts = h.goes.excepts;
+      excepts = h.goes.stands.excepts;
       counts = may.counts.own;
       cleared = ap (λ b. raised b (s.errand caller).cleared) h.cleared;
       list = h.list;
@@ -420,9 +420,9 @@ shifts-exchanges g s l caller q seat pile new l' old has h =
         stock = λ class. omega (arith, h.balanced.stock class, h.waits class);
       };
       frame_turns = λ words' writes.
-          omega (arith, frame-spends s seat pile (s.errand caller).point q new words' h.list.fits writes h.spends h.goes.turn.unframed);
+          omega (arith, frame-spends s seat pile (s.errand caller).point q new words' h.list.fits writes h.spends h.goes.stands.turn.unframed);
       list_turns = λ class words' writes.
-          omega (arith, list-spends s seat pile (s.errand caller).point q new words' class h.list.fits writes h.spends h.goes.turn.pops);
+          omega (arith, list-spends s seat pile (s.errand caller).point q new words' class h.list.fits writes h.spends h.goes.stands.turn.pops);
     }
 
 -- a step from p to q that shifts a stack's head keeps the state sound, with other lists

@@ -1,14 +1,15 @@
 -- The steps of a won pop from a stack and of a won push onto one.
-use Rattle.std.proofs.Common.{ℕ, Bool, true, false, ◌≡◌, ◌≢◌, ◌<◌, ◌≤◌, ◌+◌, ◌-◌, ◌^◌, List, [], ◌∷◌, refl, arith, ap, sym, subst, inl, inr, ◌∙◌, ◌==◌, ◌⊎◌, All, IsTrue}
+use Rattle.std.proofs.Common.{ℕ, Bool, true, false, ◌≡◌, ◌≢◌, ◌<◌, ◌≤◌, ◌+◌, ◌-◌, ◌^◌, List, [], ◌∷◌, refl, arith, ap, sym, subst, inl, ◌∙◌, ◌==◌, All, IsTrue}
 use Rattle.std.proofs.Common.{eq-eqb, ne_eqb, mod-eq_of_lt}
 use Rattle.std.proofs.lemmas.Bool.{cases_eq, cond-true, cond-false}
-use Rattle.std.proofs.lemmas.List.Elements.{All-nil, All-cons, All-head, All-tail, All-from_recursion}
+use Rattle.std.proofs.lemmas.List.Elements.{All-cons, All-head, All-tail, All-from_recursion}
 use Rattle.std.proofs.Math.Path.{fun_ext}
+use Rattle.std.specs.List.{AllByRecursion}
 use Rattle.sound_state.proofs.Common.{Geometry, CLASSES, IsChecked, HeadFields, head_of, WordName, descriptor_count, SeatFields, Writes, occurs, Pile, Frames, Partials}
 use Rattle.sound_state.proofs.Common.{head_name, next_name, Stacked, next_in, At, Continuation, Point, Idle, Block, Stack, Desc, Partial, event_of, next_of, plan_point_of}
-use Rattle.sound_state.proofs.Common.{State, Step, Holding, Kept, holds_of, partly_used, IsKeptAs, IsPartlyUsed, Lists, IsListed, IsSo, recalls_of, IsSoundWithoutCounts}
+use Rattle.sound_state.proofs.Common.{State, Step, Holding, holds_of, partly_used, IsKeptAs, IsPartlyUsed, Lists, IsListed, IsSo, recalls_of, IsSoundWithoutCounts}
 use Rattle.sound_state.proofs.Common.{IsSoundWith, waits_in, IsHead, head_word, head_of-head_word, descriptor_count_within, pile_limit, put_away, pushes, list_of}
-use Rattle.sound_state.proofs.Common.{continuation_recalls, made}
+use Rattle.sound_state.proofs.Common.{continuation_recalls}
 use Rattle.packed_words.specs.declared.widths.TheConstants.{TOP_BITS, HEAD_TAG_BITS}
 use Rattle.word_table.specs.declared.name.WordName.TheVariants as name
 use Rattle.superblock_parts.specs.declared.point.BlockPoint.TheVariants as block
@@ -29,7 +30,8 @@ use Rattle.sound_state.proofs.stacks.StackShifts.{NewList, HoldsMore, OneMore, P
 use Rattle.sound_state.proofs.stacks.StackShifts.{list_class, no-head-apart, list-elsewhere}
 use Rattle.sound_state.proofs.shared.StepLemmas.{TurnGoes}
 use Rattle.sound_state.proofs.shared.TagLemmas.{frame-tag-below, list-tags-below}
-use Rattle.sound_state.proofs.shared.KeepsSound.{KeepsSound, KeepsSoundWhere}
+use Rattle.sound_state.proofs.shared.KeepsSound.{KeepsSound, KeepsSoundWhere, either-sound}
+use Rattle.sound_state.proofs.shared.SuperblocksStay.{AreKept}
 
 -- the tag of a stack's head has room
 pub tag-room :
@@ -118,10 +120,6 @@ list-partly :
 list-partly g s l seat Frames old has is = absurd (cc)
 list-partly g s l seat Partials old has is = old.kept.listed seat.class has
 
--- all that is kept is in its state
-abbrev pub AreKept : State → List Kept → Type 0
-AreKept s ks = All (λ k. IsKeptAs s k.status k.desc k.class) ks
-
 keeps-more :
     (s : State) (seat : SeatFields) (pile : Pile) (x : ℕ) (a b : Holding) → HoldsMore seat pile x a b
     → (pile ≡ Partials → IsPartlyUsed s x seat.class) → AreKept s a.kept → AreKept s b.kept
@@ -145,24 +143,17 @@ in-hand s seat Partials x a b more kept is =
     All-head (λ k. IsKeptAs s k.status k.desc k.class) (record { desc = x; class = seat.class; status = partly_used }) a.kept
     (subst (AreKept s) more.0 kept)
 
--- the point to which a won pop leads, and what the caller holds and remembers there
+-- the point to which a won pop leads, what the caller holds there, and that what it remembers is so: no link is stored yet
 record PopLeads (seat : SeatFields) (pile : Pile) (h : HeadFields) (below : ℕ) (o : Continuation) (q : Point) : Type 0 where
   next : popped seat (h.top - 1) o ≡ At q
   holds : HoldsAlike (Stack (stack.PopTop seat pile h below) o) q
   more : HoldsMore seat pile (h.top - 1) (holds_of (Stack (stack.PopTop seat pile h below) o)) (holds_of q)
   credits : (holds_of q).credits ≡ (holds_of (Stack (stack.PopTop seat pile h below) o)).credits
   waits : (class : ℕ) → waits_in class q ≡ 0
-  recalls : (recalls_of q ≡ []) ⊎ ((frame : ℕ) × (class : ℕ) × (recalls_of q ≡ made frame class 0 ∷ []))
+  recalls :
+      (g : Geometry) (s : State) (l : Lists) (caller : ℕ) → AllByRecursion (IsSo g s l caller) (recalls_of (Stack (stack.PopTop seat pile h below) o))
+      → AllByRecursion (IsSo g s l caller) (recalls_of q)
   spends : PaysForTag pile h.tag (h.tag + 1) (Stack (stack.PopTop seat pile h below) o) q
-
--- what is remembered where a won pop leads is so: no link is stored yet
-pop-recalls :
-    (g : Geometry) (s : State) (l : Lists) (caller : ℕ) (q : Point)
-    → (recalls_of q ≡ []) ⊎ ((frame : ℕ) × (class : ℕ) × (recalls_of q ≡ made frame class 0 ∷ [])) → All (IsSo g s l caller) (recalls_of q)
-pop-recalls g s l caller q (inl none) = subst (All (IsSo g s l caller)) (sym none) (All-nil (IsSo g s l caller))
-pop-recalls g s l caller q (inr one) =
-    subst (All (IsSo g s l caller)) (sym one.2)
-    (All-cons (IsSo g s l caller) (made one.0 one.1 0) [] (λ i below. let bad : ⊥ = omega (arith, below) in absurd bad) (All-nil (IsSo g s l caller)))
 
 -- a won pop from a stack that leads to q keeps the state sound
 pop-leads-sound :
@@ -205,7 +196,7 @@ pop-leads-sound g s caller s' seat pile h below o q to sound has stands word ste
             alike-goes g s l caller p q old has stands to.holds
             (keeps-more s seat pile (h.top - 1) (holds_of p) (holds_of q) to.more
             (λ is. All-head (λ d. IsPartlyUsed s d seat.class) (h.top - 1) top.rest (partly is)) (kept-at g s l caller p old has stands))
-            (pop-recalls g s l caller q to.recalls);
+            (All-from_recursion (IsSo g s l caller) (recalls_of q) (to.recalls g s l caller (recalled-at g s l caller p old has stands)));
         list = record {
           fits = fits;
           listed = λ words' writes.
@@ -244,7 +235,7 @@ pop-leads seat Frames h below (continuation.TakeFrame words d) is = record {
   more = (refl, refl);
   credits = refl;
   waits = λ class. refl;
-  recalls = inr (h.top - 1, seat.class, refl);
+  recalls = λ g s l caller so. (λ i below. let bad : ⊥ = omega (arith, below) in absurd bad, tt);
   spends = omega arith;
 }
 pop-leads seat Partials h below (continuation.Alloc words) is = grind (arith)
@@ -268,11 +259,9 @@ pop_top_won-sound seat pile h below o g s caller s' sound has stands word step =
 -- a pop from a stack, won or lost, keeps the state sound
 pub pop_top-sound :
     (seat : SeatFields) (pile : Pile) (h : HeadFields) (below : ℕ) (o : Continuation) → KeepsSound (Stack (stack.PopTop seat pile h below) o)
-pop_top-sound seat pile h below o g s caller s' sound has stands step =
-    elim (cases_eq (s.word (head_name seat pile)) (head_word h)) [
-      | inl won ↦ pop_top_won-sound seat pile h below o g s caller s' sound has stands won step
-      | inr lost ↦ pop_top_lost-sound seat pile h below o g s caller s' sound has stands lost step
-    ]
+pop_top-sound seat pile h below o =
+    either-sound _ (head_name seat pile) (head_word h) (pop_top_won-sound seat pile h below o)
+    (pop_top_lost-sound seat pile h below o)
 
 -- the point to which a won push leads, and what the caller holds and remembers there
 record PushLeads (seat : SeatFields) (pile : Pile) (i : ℕ) (h : HeadFields) (o : Continuation) (q : Point) : Type 0 where
@@ -281,7 +270,9 @@ record PushLeads (seat : SeatFields) (pile : Pile) (i : ℕ) (h : HeadFields) (o
   more : HoldsMore seat pile i (holds_of q) (holds_of (Stack (stack.PushTop seat pile i h) o))
   credits : (holds_of q).credits ≡ (holds_of (Stack (stack.PushTop seat pile i h) o)).credits
   waits : (class : ℕ) → waits_in class q ≡ 0
-  recalls : recalls_of q ≡ continuation_recalls seat o
+  recalls :
+      (g : Geometry) (s : State) (l : Lists) (caller : ℕ) → AllByRecursion (IsSo g s l caller) (continuation_recalls seat o)
+      → AllByRecursion (IsSo g s l caller) (recalls_of q)
 
 -- a turn that is no further back pays for a tag that stays
 push-spends : (pile : Pile) (t : ℕ) (p q : Point) → TurnGoes p q → PaysForTag pile t t p q
@@ -303,7 +294,7 @@ pub record PushesOn (g : Geometry) (s : State) (l : Lists) (caller : ℕ) (seat 
   pub list :
       (pile ≡ Partials → IsPartlyUsed s i seat.class)
       → NewList g s l seat pile (head_pushed i h) (with_list l seat pile (i ∷ list_of l seat pile))
-  pub so : All (IsSo g s l caller) (continuation_recalls seat o)
+  pub so : AllByRecursion (IsSo g s l caller) (continuation_recalls seat o)
 
 pub pushes-on :
     (g : Geometry) (s : State) (l : Lists) (caller : ℕ) (seat : SeatFields) (pile : Pile) (i : ℕ) (h : HeadFields) (o : Continuation)
@@ -342,7 +333,7 @@ pushes-on g s l caller seat pile i h o sound old has stands word =
         still = λ same j. omega (arith, ap (occurs j) (more-pushed l seat pile i).here);
         others = list-elsewhere l seat pile (i ∷ xs);
       };
-      so = All-from_recursion (IsSo g s l caller) (continuation_recalls seat o) rest;
+      so = rest;
     }
 
 -- a won push onto a stack that leads to q keeps the state sound
@@ -367,13 +358,13 @@ push-leads-sound g s caller s' seat pile i h o q to sound has stands word step =
         after = rw on.won (ap head_word on.uncut);
         goes =
             alike-goes g s l caller p q old has stands to.holds (keeps-less s seat pile i (holds_of q) (holds_of p) to.more kept)
-            (subst (All (IsSo g s l caller)) (sym to.recalls) on.so);
+            (All-from_recursion (IsSo g s l caller) (recalls_of q) (to.recalls g s l caller on.so));
         list = on.list (in-hand s seat pile i (holds_of q) (holds_of p) to.more kept);
         balanced =
             balance-back l' l (holds_of q) (holds_of p) (more-balanced seat pile i l' l (holds_of q) (holds_of p) on.class on.one to.more);
         credits = to.credits;
         waits = to.waits;
-        spends = subst (λ (x : HeadFields). PaysForTag pile x.tag h.tag p q) (sym on.before) (push-spends pile h.tag p q to.holds.turn);
+        spends = subst (λ (x : HeadFields). PaysForTag pile x.tag h.tag p q) (sym on.before) (push-spends pile h.tag p q to.holds.blocks.turn);
       },
     )) step
 

@@ -3,16 +3,15 @@ use Rattle.std.proofs.Common.{ℕ, Some, ◌≡◌, ◌≢◌, ◌<◌, ◌≤�
 use Rattle.std.specs.List.{AllByRecursion}
 use Rattle.std.proofs.lemmas.Bool.{cases_eq, cond-true}
 use Rattle.std.proofs.lemmas.List.Elements.{All-from_recursion}
-use Rattle.sound_state.proofs.Common.{Geometry, Held, active_of, WordName, Site, descriptor_count, info_in, Writes, occurs, Continuation, State, Kept, Status, reserving}
+use Rattle.sound_state.proofs.Common.{Geometry, Held, active_of, WordName, descriptor_count, info_in, Writes, occurs, State, Kept, Status, reserving}
 use Rattle.sound_state.proofs.Common.{waiting, partly_used, on_its_way, holds_of, word_keeps, full_keeps, Lists, IsSoundWith, anchor_for, is_bound, kept_among}
-use Rattle.sound_state.proofs.Common.{active_keeps, same_status}
+use Rattle.sound_state.proofs.Common.{Part, active_keeps, places, same_status, single}
 use Rattle.word_table.specs.declared.name.WordName.TheVariants as name
-use Rattle.superblock_parts.specs.declared.point.BlockPoint.TheVariants as block
-use Rattle.errand_steps.specs.declared.point.Point.TheVariants as point
 use Rattle.sound_state.proofs.shared.ListFacts.{all-occurring}
 use Rattle.sound_state.proofs.shared.UnplacedLemmas.{IsUnplaced}
-use Rattle.sound_state.proofs.stores.StoreFields.{IsPlaceKept, IsKeptStill, PlacesKept, LoneKept}
-use Rattle.sound_state.proofs.stores.StoreReads.{links-stay, blocks-kept, place-same, all-places-kept, IsPlaceUnread, link-unread, block-unread, place-unread, lone-kept}
+use Rattle.sound_state.proofs.stores.StoreFields.{IsPlaceKept, IsKeptStill, IsStillSaid, PlacesKept, LoneKept}
+use Rattle.sound_state.proofs.shared.BackedRecalls.{AllRead}
+use Rattle.sound_state.proofs.stores.StoreReads.{IsBlindTo, IsUnread, off-said, links-stay, blocks-kept, place-same, all-places-kept}
 
 abbrev pub info_number : WordName → ℕ
 info_number (name.Info d) = d
@@ -34,20 +33,29 @@ infos-some :
     → Writes s.word (name.Info d) new words' → (e : ℕ) → e < descriptor_count g → IsSome (info_in g (words' (name.Info e)))
 infos-some g s l d new words' old some w e has = grind (arith, old, some, w, has, infos-elsewhere)
 
+-- the part reads what other descriptors say
+abbrev pub IsOfOther : ℕ → Part → Type 0
+IsOfOther d (single n) = n ≢ name.Info d
+IsOfOther d (places e) = e ≢ d
+IsOfOther d q = Unit {0}
+
+pub other-off : (d : ℕ) (q : Part) → IsOfOther d q → IsBlindTo (name.Info d) q
+other-off d q other = grind (arith, other)
+
+other-place : (d : ℕ) (q : Part) (e : ℕ) → IsOfOther d q → q ≡ places e → e ≢ d
+other-place d q e other is = subst (IsOfOther d) is other
+
 -- a store into an info word keeps what is read of words that are stored alone, where what is read of the descriptor is kept
 infos-kept :
     (g : Geometry) (s : State) (l : Lists) (d new : ℕ) (words' : WordName → ℕ) → IsSoundWith g s l
     → Writes s.word (name.Info d) new words' → PlacesKept g s l words'
-    → ((i : ℕ) → i < g.callers → IsPlaceUnread s words' (name.Info d) (s.errand i).point) → LoneKept g s l words'
-infos-kept g s l d new words' old w places unread =
-    let n = name.Info d in
-    lone-kept g s l n new words' old tt w (links-stay g s l n new words' old w (λ no. no)) places
-    (blocks-kept g s l n new words' w (λ no. no))
-    (λ i has. record {
-      link = link-unread n (s.errand i).point (λ no. no);
-      block = block-unread n (s.errand i).point (λ no. no);
-      place = unread i has;
-    })
+    → ((i : ℕ) → i < g.callers → AllRead (IsStillSaid s words') (s.errand i).point) → LoneKept g s l words'
+infos-kept g s l d new words' old w named said = record {
+  links = links-stay g s l (name.Info d) new words' old w (λ no. no);
+  places = named;
+  blocks = blocks-kept g s l (name.Info d) new words' w (λ no. no);
+  recalls = said;
+}
 
 -- kept descriptors are kept still where all others' frames and classes stay, and d is kept only on its way
 abbrev kept_once : Status → ℕ → ℕ → Status → ℕ
@@ -74,9 +82,9 @@ still-kept s w d (k ∷ ks) other r v p = (
 pub placed-kept :
     (g : Geometry) (s : State) (l : Lists) (d new : ℕ) (words' : WordName → ℕ) → IsSoundWith g s l
     → IsSome (info_in g new) → Writes s.word (name.Info d) new words' → IsPlaceKept s words' d
-    → ((i : ℕ) → i < g.callers → (at : Site) (o : Continuation) → (s.errand i).point ≡ point.Block (block.StoreAnchor at) o → at.desc ≢ d)
+    → ((i : ℕ) → i < g.callers → IsUnread (name.Info d) (s.errand i).point)
     → LoneKept g s l words'
-placed-kept g s l d new words' old some w here apart =
+placed-kept g s l d new words' old some w here unread =
     let place : (e : ℕ) → IsPlaceKept s words' e =
     λ e.
     elim (cases_eq e d) [
@@ -84,8 +92,7 @@ placed-kept g s l d new words' old some w here apart =
       | inr differ ↦ places-elsewhere s d new words' w e differ
     ] in
     infos-kept g s l d new words' old w (all-places-kept g s l words' (infos-some g s l d new words' old some w) place)
-    (λ i has.
-    place-unread s words' (name.Info d) (s.errand i).point place (λ at o stands is. apart i has at o stands (ap info_number is)))
+    (λ i has k r lt. off-said s (name.Info d) new words' tt w _ (unread i has k r lt) (λ e is. place e))
 
 pub holds-it : (d e credits : ℕ) → e ≡ d → 1 ≤ active_keeps d (Some (Held e credits))
 holds-it d e credits is = omega (arith, cond-true {A = ℕ} (e == d) 1 0 (eq-eqb e d is))
@@ -94,8 +101,8 @@ holds-it d e credits is = omega (arith, cond-true {A = ℕ} (e == d) 1 0 (eq-eqb
 pub unplaced-kept :
     (g : Geometry) (s : State) (l : Lists) (d new : ℕ) (words' : WordName → ℕ) → IsSoundWith g s l
     → IsSome (info_in g new) → Writes s.word (name.Info d) new words' → IsUnplaced g s l d
-    → ((i : ℕ) → i < g.callers → IsPlaceUnread s words' (name.Info d) (s.errand i).point) → LoneKept g s l words'
-unplaced-kept g s l d new words' old some w free read =
+    → ((i : ℕ) → i < g.callers → AllRead (IsOfOther d) (s.errand i).point) → LoneKept g s l words'
+unplaced-kept g s l d new words' old some w free others =
     let other : (e : ℕ) → e ≢ d → IsPlaceKept s words' e = places-elsewhere s d new words' w in
     infos-kept g s l d new words' old w
     (record {
@@ -129,4 +136,5 @@ unplaced-kept g s l d new words' old some w free read =
             | inr differ ↦ inl (other e differ)
           ];
     })
-    read
+    (λ i has k r lt.
+    let read = others i has k r lt in off-said s (name.Info d) new words' tt w _ (other-off d _ read) (λ e is. other e (other-place d _ e read is)))

@@ -1,21 +1,26 @@
 -- Steps that store what a descriptor says.
-use Rattle.std.proofs.Common.{ℕ, Some, ◌≡◌, ◌≢◌, ◌<◌, ◌≤◌, refl, arith, ap, sym, subst, ◌∙◌, IsSome, lt-ltb}
-use Rattle.std.proofs.lemmas.List.Elements.{All-cons}
-use Rattle.sound_state.proofs.Common.{Geometry, IsChecked, info_of, WordName, Site, descriptor_count, info_in, IsSiteOf, Writes, Continuation, Point, Block, Partial}
+use Rattle.std.proofs.Common.{ℕ, Some, ◌≡◌, ◌<◌, ◌≤◌, refl, arith, ap, sym, subst, inl, inr, ◌∙◌, IsSome, lt-ltb}
+use Rattle.std.specs.List.{AllByRecursion}
+use Rattle.std.proofs.lemmas.Bool.{cases_eq}
+use Rattle.std.proofs.lemmas.List.Elements.{All-cons, All-from_recursion}
+use Rattle.sound_state.proofs.Common.{Geometry, IsChecked, info_of, Site, descriptor_count, info_in, IsSiteOf, Writes, Continuation, Point, Block, Partial}
 use Rattle.sound_state.proofs.Common.{event_of, next_of, plan_point_of, State, partly_used, on_its_way, holds_of, errand_has, Lists, IsSo, recalls_of, IsSoundWith}
-use Rattle.sound_state.proofs.Common.{info_or_zero, errand_keeps, InfoFields, info_word, info-exact, info_within, info_at}
+use Rattle.sound_state.proofs.Common.{ErrandFields, Holding, Part, part_of, places, single, info_or_zero, errand_keeps}
+use Rattle.sound_state.proofs.Common.{InfoFields, info_word, info-exact, info_within, info_at}
 use Rattle.word_table.specs.declared.name.WordName.TheVariants as name
 use Rattle.superblock_parts.specs.declared.point.BlockPoint.TheVariants as block
 use Rattle.partial_parts.specs.declared.point.PartialPoint.TheVariants as partial
 use Rattle.sound_state.proofs.shared.UnplacedLemmas.{way-unplaced, IsUnplaced}
 use Rattle.sound_state.proofs.shared.WordFacts.{site-heap, site-info}
 use Rattle.sound_state.proofs.stores.StoreFields.{between}
-use Rattle.sound_state.proofs.stores.StoreReads.{IsPlaceUnread}
+use Rattle.sound_state.proofs.stores.StoreReads.{IsBlindTo, unread-stands}
+use Rattle.sound_state.proofs.shared.BackedRecalls.{AllRead, for-each}
+use Rattle.sound_state.proofs.shared.RecallFrame.{Reads}
 use Rattle.sound_state.proofs.stores.StoreSteps.{store-sound}
-use Rattle.sound_state.proofs.stores.InfoPlaces.{placed-kept, unplaced-kept}
-use Rattle.sound_state.proofs.shared.PointLemmas.{fits-at, so-at, recalled-at}
-use Rattle.sound_state.proofs.quiet.QuietLinks.{written-at}
-use Rattle.sound_state.proofs.shared.HasLemmas.{kept-itself, keeps-at, has-at, only-one}
+use Rattle.sound_state.proofs.stores.InfoPlaces.{IsOfOther, other-off, placed-kept, unplaced-kept}
+use Rattle.sound_state.proofs.shared.PointLemmas.{fits-at, kept_places, so-at, recalled-at, goes-on}
+use Rattle.sound_state.proofs.quiet.QuietLinks.{desc-alone, written-at}
+use Rattle.sound_state.proofs.shared.HasLemmas.{kept-itself, keeps-at, has-at}
 use Rattle.sound_state.proofs.shared.KeepsSound.{KeepsSound}
 
 within-some : (g : Geometry) (i : InfoFields) → i.frame < g.frames → i.heap < g.heaps → IsSome (info_within g (Some i))
@@ -26,17 +31,33 @@ site-some g caller at checked site =
     subst (λ i. IsSome (info_within g i)) (sym (info-exact.back (info_at at) (site-info g caller at checked site)))
     (within-some g (info_at at) site.frame (site-heap g caller at checked site))
 
--- nobody else is about to store the anchor of a descriptor that a caller has elsewhere
-anchor-apart :
-    (g : Geometry) (s : State) (l : Lists) (caller d i : ℕ) (at : Site) (o : Continuation) → IsSoundWith g s l → caller < g.callers → i < g.callers
-    → d < descriptor_count g → 1 ≤ errand_has d (s.errand caller)
-    → ((s.errand caller).point ≡ Block (block.StoreAnchor at) o → ⊥) → (s.errand i).point ≡ Block (block.StoreAnchor at) o → at.desc ≢ d
-unfolding holds_of
-anchor-apart g s l caller d i at o old has has_i exists mine elsewhere stands same =
-    let his : 1 ≤ errand_has d (s.errand i) =
-    subst (λ k. 1 ≤ errand_has k (s.errand i)) same
-    (has-at (s.errand i) (Block (block.StoreAnchor at) o) on_its_way at.desc stands (kept-itself on_its_way at.desc at.seat.class)) in
-    elsewhere (subst (λ k. (s.errand k).point ≡ Block (block.StoreAnchor at) o) (only-one g s l caller i d old has has_i exists mine his) stands)
+-- what is read of what a descriptor says is read of one that is kept
+abbrev IsOfKept : Holding → Part → Type 0
+IsOfKept h (single (name.Info d)) = 1 ≤ kept_places d h.kept
+IsOfKept h (places d) = 1 ≤ kept_places d h.kept
+IsOfKept h q = Unit {0}
+
+kept-read : (p : Point) → AllByRecursion (Reads (IsOfKept (holds_of p))) (recalls_of p)
+unfolding holds_of recalls_of
+kept-read p = grind (arith, kept-itself)
+
+kept-other : (d : ℕ) (e : ErrandFields) → errand_has d e ≡ 0 → (q : Part) → IsOfKept (holds_of e.point) q → IsOfOther d q
+kept-other d e none q keeps = grind (arith, none, keeps)
+
+-- a caller that has a descriptor reads alone what that says
+others-read :
+    (g : Geometry) (s : State) (l : Lists) (caller d : ℕ) → IsSoundWith g s l → caller < g.callers → d < descriptor_count g
+    → 1 ≤ errand_has d (s.errand caller) → (P : Part → Type 0) → ((q : Part) → IsOfOther d q → P q) → AllRead P (s.errand caller).point
+    → (i : ℕ) → i < g.callers → AllRead P (s.errand i).point
+others-read g s l caller d old has exists mine P goes own i has_i =
+    let e = s.errand i in
+    elim (cases_eq i caller) [
+      | inl is ↦ subst (λ j. AllRead P (s.errand j).point) (sym is) own
+      | inr differ ↦
+          for-each (Reads (IsOfKept (holds_of e.point))) (Reads P)
+          (λ r keeps. goes (part_of r) (kept-other d e ((desc-alone g s l caller d old has exists mine).others i has_i differ) (part_of r) keeps))
+          (recalls_of e.point) (kept-read e.point)
+    ]
 
 -- the store of a taken superblock's processor heap keeps the state sound
 pub store_owner-sound : (site : Site) (o : Continuation) → KeepsSound (Partial (partial.StoreOwner site) o)
@@ -60,20 +81,12 @@ store_owner-sound site o g s caller s' sound has at step =
           let (lies, none) = recalled-at g s l caller p old has at in
           placed-kept g s l d new s'.word old (site-some g caller site sound.checked fit) w
           (ap (λ i. (info_or_zero i).frame) back ∙ sym lies.frame, ap (λ i. (info_or_zero i).class) back ∙ sym lies.class)
-          (λ i has_i other o'.
-          anchor-apart g s l caller d i other o' old has has_i fit.desc (has-at (s.errand caller) p partly_used d at (kept-itself partly_used d site.seat.class))
-          (λ stands. let both : p ≡ Block (block.StoreAnchor other) o' = sym at ∙ stands in cc));
-      so = λ l old. so-at g (between s s'.word) l caller p old has at;
+          (others-read g s l caller d old has fit.desc (has-at (s.errand caller) p partly_used d at (kept-itself partly_used d site.seat.class))
+          (IsBlindTo (name.Info d)) (other-off d)
+          (unread-stands s caller (name.Info d) p at (grind (arith))));
+      so = λ l old. goes-on g (between s s'.word) l caller p (recalls_of q) old has at (λ so. grind (arith, so));
     })
     step
-
--- nobody reads what a descriptor on its way says
-unplaced-unread :
-    (g : Geometry) (s : State) (l : Lists) (i d new : ℕ) (words' : WordName → ℕ) (p : Point) → i < g.callers → (s.errand i).point ≡ p
-    → Writes s.word (name.Info d) new words' → IsUnplaced g s l d
-    → ((at : Site) (o : Continuation) → p ≡ Block (block.StoreAnchor at) o → at.desc ≢ d) → IsPlaceUnread s words' (name.Info d) p
-unfolding holds_of
-unplaced-unread g s l i d new words' p has stands w free anchor = grind (arith, has, stands, w, free, anchor, kept-itself)
 
 -- the store of what the descriptor of a new superblock says keeps the state sound
 pub store_info-sound : (site : Site) (o : Continuation) → KeepsSound (Block (block.StoreInfo site) o)
@@ -96,11 +109,8 @@ store_info-sound site o g s caller s' sound has at step =
       kept = λ l old.
           let free : IsUnplaced g s l d = way-unplaced g s l caller d old has fit.desc way in
           unplaced-kept g s l d new s'.word old (site-some g caller site sound.checked fit) w free
-          (λ i has_i.
-          unplaced-unread g s l i d new s'.word (s.errand i).point has_i refl w free
-          (λ other o'.
-          anchor-apart g s l caller d i other o' old has has_i fit.desc (omega (arith, way))
-          (λ stands. let both : p ≡ Block (block.StoreAnchor other) o' = sym at ∙ stands in cc)));
+          (others-read g s l caller d old has fit.desc (omega (arith, way)) (IsOfOther d) (λ q other. other)
+          (subst (AllRead (IsOfOther d)) (sym at) (All-from_recursion (Reads (IsOfOther d)) (recalls_of p) (grind (arith)))));
       so = λ l old.
           All-cons (IsSo g (between s s'.word) l caller) _ (recalls_of p)
           (tt, w.here) (so-at g (between s s'.word) l caller p old has at);

@@ -1,9 +1,12 @@
 -- Who alone may store a word of the arena: the owner of the live block whose prefix it is, or the maker of the superblock in which it lies.
-use Rattle.std.proofs.Common.{ℕ, true, Some, None, ◌≡◌, ◌≢◌, ◌<◌, ◌≤◌, ◌+◌, length, refl, arith, ap, sym, subst, inl, inr, ◌∙◌, IsTrue, slice_index_or}
+use Rattle.std.proofs.Common.{ℕ, Some, None, ◌≡◌, ◌≢◌, ◌<◌, ◌≤◌, ◌+◌, length, refl, arith, ap, sym, subst, inl, inr, ◌∙◌, IsTrue, slice_index_or}
+use Rattle.std.specs.List.{AllByRecursion}
+use Rattle.std.proofs.lemmas.List.Elements.{recursion_from_All}
 use Rattle.std.proofs.lemmas.Bool.{cases_eq}
 use Rattle.std.proofs.lemmas.Option.{none-some}
 use Rattle.sound_state.proofs.Common.{Geometry, Need, Small, block_count_of, block_place, frame_of, frame_of-block_place, WordName, Site, descriptor_count, Writes, occurs}
-use Rattle.sound_state.proofs.Common.{prefix_name, block_at, pool_of, place-found, Point, FitsPoint, State, holds_of, Lists, IsOwned, IsSoundWith, IsSoundWithoutCounts}
+use Rattle.sound_state.proofs.Common.{prefix_name, block_at, pool_of, place-found, Point, FitsPoint, State, holds_of, Freed, Handed}
+use Rattle.sound_state.proofs.Common.{recalls_of, Lists, IsOwned, IsSoundWith, IsSoundWithoutCounts}
 use Rattle.sound_state.proofs.Common.{info_for, is_bound, superblock_of, free_chain, IsLive, TooLarge, usable_words, block-within, IsPlaceFor, IsWellFormed, large-frame}
 use Rattle.sound_state.proofs.Common.{class_span, making, IsExcepted}
 use Rattle.heap_geometry.specs.declared.need.Need.TheVariants.{Large}
@@ -16,9 +19,10 @@ use Rattle.sound_state.proofs.shared.ListFacts.{written-within}
 use Rattle.sound_state.proofs.shared.MakingPlaces.{IsMaking, is-making, making-unbound, making-alone, live-unmade, small-unmade}
 use Rattle.sound_state.proofs.shared.OverlapLemmas.{live-apart, free-unlive, formed-at}
 use Rattle.sound_state.proofs.shared.OwnerLemmas.{owner-there}
-use Rattle.sound_state.proofs.shared.PointLemmas.{fits-at, frees-at}
+use Rattle.sound_state.proofs.shared.PointLemmas.{fits-at, frees-at, hands-at}
 use Rattle.sound_state.proofs.stores.StoreFields.{LoneKept}
-use Rattle.sound_state.proofs.stores.StoreReads.{links-stay, places-stay, place-stays, IsBlockUnread, link-unread, place-unread, lone-kept}
+use Rattle.sound_state.proofs.stores.StoreReads.{IsBlindTo, IsUnread, links-stay, places-stay, place-stays, lone-kept, unread-stands}
+use Rattle.sound_state.proofs.shared.RecallFrame.{Reads}
 
 abbrev arena_word : WordName → ℕ
 arena_word (name.Arena place) = place
@@ -32,7 +36,7 @@ pub record IsLoose (g : Geometry) (s : State) (l : Lists) (p : ℕ) : Type 0 whe
   pub ties : (b : Block) → IsLive s p b → IsExcepted g s p
   pub contents :
       (place i v : ℕ) (b : Block) → IsLive s place b → slice_index_or b.contents i None ≡ Some v → place + 1 + i ≢ p
-  pub unread : (caller : ℕ) → caller < g.callers → IsBlockUnread (name.Arena p) (s.errand caller).point
+  pub unread : (caller : ℕ) → caller < g.callers → IsUnread (name.Arena p) (s.errand caller).point
 
 -- a write to a place that nobody reads keeps what is read
 pub arena-kept :
@@ -42,7 +46,7 @@ arena-kept g s l p new words' old loose w =
     let n = name.Arena p in
     let stay : (q : ℕ) → q ≢ p → words' (name.Arena q) ≡ s.word (name.Arena q) =
     λ q differ. w.elsewhere (name.Arena q) (λ is. differ (ap arena_word is)) in
-    lone-kept g s l n new words' old tt w (links-stay g s l n new words' old w (λ no. no)) (places-stay g s l n new words' old w (λ no. no))
+    lone-kept g s l n new words' tt w (links-stay g s l n new words' old w (λ no. no)) (places-stay g s l n new words' old w (λ no. no))
     (record {
       chains = λ d has bound i on. stay (block_place (info_for s d).frame (info_for s d).class i) (loose.chains d has bound i on);
       ties = λ place b live.
@@ -52,11 +56,7 @@ arena-kept g s l p new words' old loose w =
           ];
       contents = λ place i v b live of. stay (place + 1 + i) (loose.contents place i v b live of);
     })
-    (λ i has. record {
-      link = link-unread n (s.errand i).point (λ no. no);
-      block = loose.unread i has;
-      place = place-unread s words' n (s.errand i).point (place-stays s n new words' w (λ no. no)) (λ at o stands is. cc);
-    })
+    (place-stays s n new words' w (λ no. no)) loose.unread
 
 -- no written word of a block lies at a place at which a block is live
 unwritten-live :
@@ -93,40 +93,50 @@ written-frame g s place i v b TooLarge sound live of stands below =
     absurd (subst (λ n. IsPlaceFor g n b.place) of (formed-at g s place b sound live).place)
 
 -- a caller makes no superblock in the frame of the place, and owns no block there
-pub record IsElsewhere (s : State) (i p : ℕ) : Type 0 where
+pub record LeavesPlace (s : State) (i p : ℕ) : Type 0 where
   pub owns : (n : Need) → IsOwned s i p n → ⊥
   pub makes : (f : ℕ) → IsMaking s i f → frame_of p ≢ f
 
 -- a caller that makes no superblock in the frame of a place, and owns no block there, remembers nothing of the place
 unmade-unread :
     (g : Geometry) (s : State) (i p : ℕ) (q : Point) (at : Site) (k : ℕ) → (s.errand i).point ≡ q → holds_of q ≡ making at
-    → IsElsewhere s i p → k < block_count_of at.seat.class → prefix_name at.frame at.seat.class k ≢ name.Arena p
+    → LeavesPlace s i p → k < block_count_of at.seat.class → prefix_name at.frame at.seat.class k ≢ name.Arena p
 unmade-unread g s i p q at k stands holds away lt same =
     away.makes at.frame (is-making s i q at stands holds)
     (ap (λ n. frame_of (arena_word n)) (sym same) ∙ frame_of-block_place at.frame at.seat.class k lt)
 
+-- nor does one that owns no block there remember the prefix word of a block that it owns
+owned-unread :
+    (s : State) (i p : ℕ) → LeavesPlace s i p → (at : Site) (k : ℕ) → IsOwned s i (block_place at.frame at.seat.class k) (Small at.seat.class)
+    → prefix_name at.frame at.seat.class k ≢ name.Arena p
+owned-unread s i p away at k owned same = away.owns (Small at.seat.class) (subst (λ n. IsOwned s i (arena_word n) (Small at.seat.class)) same owned)
+
 unread-point :
     (g : Geometry) (s : State) (l : Lists) (i p : ℕ) (q : Point) → IsSoundWith g s l → i < g.callers
-    → (s.errand i).point ≡ q → FitsPoint g i q → IsElsewhere s i p → IsBlockUnread (name.Arena p) q
-unfolding holds_of
-unread-point g s l i p (point.Block (block.PushBlock at k x stored heap) o) old has stands fits away =
-    λ same.
-    away.owns (Small at.seat.class)
-    (subst (λ n. IsOwned s i (arena_word n) (Small at.seat.class)) same
-    (frees-at g s l i (point.Block (block.PushBlock at k x stored heap) o) old has stands 0
-    (record { place = block_place at.frame at.seat.class k; need = Small at.seat.class; overwritten = true }) (omega arith)))
+    → (s.errand i).point ≡ q → FitsPoint g i q → LeavesPlace s i p → AllByRecursion (Reads (IsBlindTo (name.Arena p))) (recalls_of q)
+unfolding holds_of recalls_of
 unread-point g s l i p (point.Block (block.LinkBlock at k) o) old has stands fits away =
-    λ j lt. unmade-unread g s i p (point.Block (block.LinkBlock at k) o) at j stands refl away (omega (arith, lt, fits.point.index))
+    grind (arith, fits, λ (j : ℕ). unmade-unread g s i p (point.Block (block.LinkBlock at k) o) at j stands refl away)
 unread-point g s l i p (point.Block (block.StoreInfo at) o) old has stands fits away =
-    λ j lt. unmade-unread g s i p (point.Block (block.StoreInfo at) o) at j stands refl away lt
+    grind (arith, λ (j : ℕ). unmade-unread g s i p (point.Block (block.StoreInfo at) o) at j stands refl away)
 unread-point g s l i p (point.Block (block.StoreAnchor at) o) old has stands fits away =
-    λ j lt. unmade-unread g s i p (point.Block (block.StoreAnchor at) o) at j stands refl away lt
-unread-point g s l i p q old has stands fits away = tt
+    grind (arith, λ (j : ℕ). unmade-unread g s i p (point.Block (block.StoreAnchor at) o) at j stands refl away)
+unread-point g s l i p q old has stands fits away =
+    let hands = recursion_from_All (λ (x : Handed). IsOwned s i x.place x.need) (holds_of q).hands (hands-at g s l i q old has stands) in
+    let frees = recursion_from_All (λ (x : Freed). IsOwned s i x.place x.need) (holds_of q).frees (frees-at g s l i q old has stands) in
+    grind (arith, hands, frees, owned-unread s i p away)
+
+-- nothing of a place is read by a caller that makes no superblock in its frame, and owns no block there
+unread-elsewhere :
+    (g : Geometry) (s : State) (l : Lists) (i p : ℕ) → IsSoundWith g s l → i < g.callers → LeavesPlace s i p → IsUnread (name.Arena p) (s.errand i).point
+unread-elsewhere g s l i p old has away =
+    let q = (s.errand i).point in
+    unread-stands s i (name.Arena p) q refl (unread-point g s l i p q old has refl (fits-at g s l i q old has refl) away)
 
 -- the owner of a live small block, which everybody excepts, may store its prefix word
 pub live-loose :
     (g : Geometry) (s : State) (l : Lists) (caller p class : ℕ) → IsSoundWithoutCounts g s → IsSoundWith g s l → caller < g.callers
-    → IsOwned s caller p (Small class) → IsExcepted g s p → IsBlockUnread (name.Arena p) (s.errand caller).point → IsLoose g s l p
+    → IsOwned s caller p (Small class) → IsExcepted g s p → IsUnread (name.Arena p) (s.errand caller).point → IsLoose g s l p
 live-loose g s l caller p class sound old has owned excepted off = record {
   chains = λ d exists bound i on same.
       none-some owned.block.0
@@ -135,9 +145,9 @@ live-loose g s l caller p class sound old has owned excepted off = record {
   contents = λ place i v b live of. unwritten-live g s p place i v owned.block.0 b sound owned.block.1 live of;
   unread = λ i has_i.
       elim (cases_eq i caller) [
-        | inl is ↦ subst (λ j. IsBlockUnread (name.Arena p) (s.errand j).point) (sym is) off
+        | inl is ↦ subst (λ j. IsUnread (name.Arena p) (s.errand j).point) (sym is) off
         | inr differ ↦
-            unread-point g s l i p (s.errand i).point old has_i refl (fits-at g s l i (s.errand i).point old has_i refl)
+            unread-elsewhere g s l i p old has_i
             (record {
               owns = λ n theirs. differ (sym (owner-there s i p n theirs) ∙ owner-there s caller p (Small class) owned);
               makes = λ f making at.
@@ -153,7 +163,7 @@ live-loose g s l caller p class sound old has owned excepted off = record {
 -- the maker of a superblock may store the link of one of its blocks
 pub making-loose :
     (g : Geometry) (s : State) (l : Lists) (caller f class i : ℕ) → IsSoundWithoutCounts g s → IsSoundWith g s l → caller < g.callers
-    → f < g.frames → i < block_count_of class → IsMaking s caller f → IsBlockUnread (name.Arena (block_place f class i)) (s.errand caller).point
+    → f < g.frames → i < block_count_of class → IsMaking s caller f → IsUnread (name.Arena (block_place f class i)) (s.errand caller).point
     → IsLoose g s l (block_place f class i)
 making-loose g s l caller f class i sound old has in_heap within mine off =
     let p = block_place f class i in
@@ -172,9 +182,9 @@ making-loose g s l caller f class i sound old has in_heap within mine off =
           (written-frame g s place k v b b.need sound live refl of (omega (arith, there, in_heap)) ∙ there);
       unread = λ j has_j.
           elim (cases_eq j caller) [
-            | inl is ↦ subst (λ k. IsBlockUnread (name.Arena p) (s.errand k).point) (sym is) off
+            | inl is ↦ subst (λ k. IsUnread (name.Arena p) (s.errand k).point) (sym is) off
             | inr differ ↦
-                unread-point g s l j p (s.errand j).point old has_j refl (fits-at g s l j (s.errand j).point old has_j refl)
+                unread-elsewhere g s l j p old has_j
                 (record {
                   owns = λ n theirs. unlive theirs.block.0 theirs.block.1;
                   makes = λ e making stands.

@@ -1,13 +1,14 @@
 -- Steps that store the prefix word or the link of a block.
-use Rattle.std.proofs.Common.{ℕ, Bool, true, false, Option, Some, None, ◌≡◌, ◌<◌, ◌≤◌, ◌+◌, ◌*◌, [], ◌∷◌, refl, arith, ap, sym, subst, inl, inr, ◌∙◌, All, Any, IsTrue}
-use Rattle.std.proofs.Common.{nat_lt, if◌then◌else◌, ltb-false}
+use Rattle.std.proofs.Common.{ℕ, Bool, true, false, Option, Some, None, ◌≡◌, ◌≢◌, ◌<◌, ◌≤◌, ◌+◌, ◌*◌, [], ◌∷◌, refl, arith, ap, sym, subst, inl, inr, ◌∙◌, Any}
+use Rattle.std.proofs.Common.{IsTrue, nat_lt, if◌then◌else◌, ltb-false}
+use Rattle.std.specs.List.{AllByRecursion}
 use Rattle.std.proofs.lemmas.Bool.{cases_eq, cases_Bool}
-use Rattle.std.proofs.lemmas.List.Elements.{All-nil, All-cons, All-head}
-use Rattle.sound_state.proofs.Common.{Geometry, Need, block_count_of, block_place, frame_of, frame_of-block_place, AnchorFields, WordName, Found, Site, descriptor_count}
-use Rattle.sound_state.proofs.Common.{Writes, prefix_name, BlockPoint, At, End, Continuation, Point, Idle, Block, Reply, raised, counts_cleared, event_of, next_of}
-use Rattle.sound_state.proofs.Common.{plan_point_of, State, Step, Moves, name_at, word_at, found_at, with_event, holds_of, Lists, IsSo, IsOwned, IsLocated, recalls_of}
-use Rattle.sound_state.proofs.Common.{bound_here, IsSoundWithoutCounts, IsSoundWith, waits_in, is_bound, IsLive, prefix_word, Handed, Freed, block_holds, making, AreMade}
-use Rattle.sound_state.proofs.Common.{block_recalls, made}
+use Rattle.std.proofs.lemmas.List.Elements.{All-nil, All-cons, All-head, All-from_recursion}
+use Rattle.sound_state.proofs.Common.{Geometry, Need, block_count_of, block_place, frame_of, frame_of-block_place, AnchorFields, WordName, Found, Site}
+use Rattle.sound_state.proofs.Common.{descriptor_count, Writes, prefix_name, BlockPoint, At, End, Continuation, Point, Idle, Block, Reply, raised, counts_cleared}
+use Rattle.sound_state.proofs.Common.{event_of, next_of, plan_point_of, State, Step, Moves, name_at, word_at, found_at, with_event, holds_of, Lists, IsSo, IsOwned}
+use Rattle.sound_state.proofs.Common.{IsLocated, recalls_of, IsSoundWithoutCounts, IsSoundWith, waits_in, is_bound, IsLive, prefix_word, Handed, Freed}
+use Rattle.sound_state.proofs.Common.{block_holds, making, AreMade, block_recalls}
 use Rattle.heap_geometry.specs.declared.need.Need.TheVariants as need
 use Rattle.packed_words.specs.declared.prefix.Prefix.TheVariants.{Small}
 use Rattle.word_table.specs.declared.name.WordName.TheVariants as name
@@ -18,15 +19,14 @@ use Rattle.superblock_parts.specs.declared.point.BlockPoint.TheVariants as block
 use Rattle.pool_model.specs.Pool.{Block as Live}
 use Rattle.errand_steps.specs.declared.reply.Reply.TheVariants as reply
 use Rattle.sound_state.proofs.shared.FrameLemmas.{one-in-frame}
-use Rattle.sound_state.proofs.shared.AlikeLemmas.{sound-alike}
 use Rattle.sound_state.proofs.shared.ListFacts.{any-none, any-one}
 use Rattle.sound_state.proofs.shared.MakingPlaces.{is-making}
 use Rattle.sound_state.proofs.shared.ShownLemmas.{MayGoOn}
 use Rattle.sound_state.proofs.stores.LoosePlaces.{arena-kept, IsLoose, live-loose, making-loose}
 use Rattle.sound_state.proofs.shared.NothingLemmas.{idle-nothing, nothing-guards, nothing-may}
 use Rattle.sound_state.proofs.shared.PointLemmas.{exists-at, fits-at, so-at, frees-at, hands-at, hazard-at, WeighFrom, weigh-stays, from-weighs, recalled-at}
-use Rattle.sound_state.proofs.stores.StoreFields.{between, sound-between}
-use Rattle.sound_state.proofs.stores.StoreReads.{lone-written, IsBlockUnread}
+use Rattle.sound_state.proofs.stores.StoreFields.{between}
+use Rattle.sound_state.proofs.stores.StoreReads.{lone-written, unread-stands}
 use Rattle.sound_state.proofs.stores.StoreSteps.{StoresTo, store-written, step-between, store-sound}
 use Rattle.sound_state.proofs.quiet.QuietLemmas.{HoldsSame}
 use Rattle.sound_state.proofs.quiet.QuietLinks.{written-at}
@@ -36,6 +36,8 @@ use Rattle.sound_state.proofs.shared.KeepsSound.{KeepsSound, silent-sound}
 use Rattle.sound_state.proofs.shared.TieLemmas.{IsSaidAt}
 use Rattle.sound_state.proofs.shared.FormedLemmas.{formed-after, formed-between}
 use Rattle.sound_state.proofs.shared.TurnEffects.{own-counts}
+use Rattle.sound_state.proofs.SoundAfter.{between-sound}
+use Rattle.sound_state.proofs.SoundSteps.{sound-alike}
 
 the-one : {X : Type 0} (P : X → Type 0) (x : X) → P x → Any P (x ∷ [])
 the-one P x is = (0, x, omega arith, refl, is)
@@ -65,9 +67,9 @@ store_link-sound site i a guarded heap o g s caller s' sound has stands step =
           arena-kept g s l place a.avail s'.word old
           (live-loose g s l caller place site.seat.class sound old has owned
           (record { caller = (caller, has, subst (λ r. HoldsException (holds_of r) place) (sym stands) mine) })
-          (subst (IsBlockUnread (name.Arena place)) (sym stands) tt)) w;
+          (unread-stands s caller (name.Arena place) p stands (grind (arith)))) w;
       so = λ l old.
-          All-cons (IsSo g (between s s'.word) l caller) _ (bound_here site) (tt, w.here)
+          All-cons (IsSo g (between s s'.word) l caller) _ (recalls_of p) (tt, w.here)
           (so-at g (between s s'.word) l caller p old has stands);
     })
     step
@@ -153,7 +155,7 @@ last-sound g s caller s' place new p r sound has stands given step =
     let again : Step t caller s' = step-between s caller s' (name.Arena place) new (End r) tt h.stores step in
     let same : (m : WordName) → s'.word m ≡ t.word m = lone-written s.word (name.Arena place) new s'.word tt w in
     let whole : IsSoundWith g t l =
-    sound-between g s l s'.word (arena-kept g s l place new s'.word old (h.loose l old) w) old
+    between-sound g s l s'.word (arena-kept g s l place new s'.word old (h.loose l old) w) old
     (formed-between g s s' t.word old.formed (formed-after g s caller s' old.formed has step) same) in
     let still : counts_cleared (s.errand caller).point x ≡ false = h.stores.cleared (word_at t caller) in
     let after = settle-end (s.errand caller) x r (h.stores.next (word_at t caller)) in
@@ -210,7 +212,7 @@ store_prefix-sound site i o g s caller s' sound has stands step =
           let mine : HoldsException (holds_of p) place = inl (the-one (λ (b : Handed). b.place ≡ place) handed refl) in
           live-loose g s l caller place class sound old has owned
           (record { caller = (caller, has, subst (λ r. HoldsException (holds_of r) place) (sym stands) mine) })
-          (subst (IsBlockUnread (name.Arena place)) (sym stands) tt);
+          (unread-stands s caller (name.Arena place) p stands (grind (arith)));
       said = λ l old q x.
           let t = between s s'.word in
           let owned : IsOwned t caller place (need.Small class) =
@@ -239,8 +241,9 @@ link_block-to :
     (g : Geometry) (s : State) (caller : ℕ) (s' : State) (site : Site) (i : ℕ) (o : Continuation) (q : BlockPoint) (n : ℕ) → IsSoundWithoutCounts g s
     → caller < g.callers → (s.errand caller).point ≡ Block (block.LinkBlock site i) o → Step s caller s'
     → after_link site i ≡ q → block_holds q ≡ making site
-    → block_recalls q ≡ made site.frame site.seat.class n ∷ [] → n ≤ i + 1 → HoldsSame (Block (block.LinkBlock site i) o) (Block q o)
-    → IsSoundWithoutCounts g s'
+    → ((t : State) (l : Lists) → AllByRecursion (IsSo g t l caller) (block_recalls (block.LinkBlock site i)) → AreMade t site.frame site.seat.class n
+    → AllByRecursion (IsSo g t l caller) (block_recalls q)) → n ≤ i + 1
+    → HoldsSame (Block (block.LinkBlock site i) o) (Block q o) → IsSoundWithoutCounts g s'
 unfolding plan_point_of next_of event_of holds_of recalls_of
 link_block-to g s caller s' site i o q n sound has stands step leads holds recalls most same =
     let p = Block (block.LinkBlock site i) o in
@@ -256,15 +259,15 @@ link_block-to g s caller s' site i o q n sound has stands step leads holds recal
       lone = tt;
       holds = same;
       kept = λ l old.
-          let apart : IsBlockUnread (name.Arena place) p = λ k lt. prefix_name-apart f c k i (omega (arith, lt)) in
+          let apart : (k : ℕ) → k < i → prefix_name f c k ≢ name.Arena place = λ k lt. prefix_name-apart f c k i (omega (arith, lt)) in
           arena-kept g s l place (new_link c i) s'.word old
           (making-loose g s l caller f c i sound old has fit.site.frame fit.index
-          (is-making s caller p site stands refl) (subst (IsBlockUnread (name.Arena place)) (sym stands) apart)) w;
+          (is-making s caller p site stands refl)
+          (unread-stands s caller (name.Arena place) p stands (grind (arith, apart)))) w;
       so = λ l old.
           let t = between s s'.word in
-          let (so_far, none) = recalled-at g t l caller p old has stands in
-          subst (All (IsSo g t l caller)) (sym recalls)
-          (All-cons (IsSo g t l caller) (made f c n) [] (links-made-more t f c i n so_far w.here most) (All-nil (IsSo g t l caller)));
+          let so = recalled-at g t l caller p old has stands in
+          All-from_recursion (IsSo g t l caller) (block_recalls q) (recalls t l so (links-made-more t f c i n so.0 w.here most));
     })
     step
 
@@ -274,9 +277,11 @@ link_block-sound site i o g s caller s' sound has stands step =
     elim (cases_Bool (nat_lt (i + 1) (block_count_of site.seat.class))) [
       | inl more ↦
           link_block-to g s caller s' site i o (block.LinkBlock site (i + 1)) (i + 1) sound has stands step
-          (ap (λ b. if b then block.LinkBlock site (i + 1) else block.StoreInfo site) more) refl refl (omega arith) (grind (arith))
+          (ap (λ b. if b then block.LinkBlock site (i + 1) else block.StoreInfo site) more) refl
+          (λ t l so is. (is, so.1)) (omega arith) (grind (arith))
       | inr last ↦
           link_block-to g s caller s' site i o (block.StoreInfo site) (block_count_of site.seat.class) sound has stands step
-          (ap (λ b. if b then block.LinkBlock site (i + 1) else block.StoreInfo site) last) refl refl
+          (ap (λ b. if b then block.LinkBlock site (i + 1) else block.StoreInfo site) last) refl
+          (λ t l so is. (is, tt))
           (omega (arith, ltb-false (i + 1) (block_count_of site.seat.class) last)) (grind (arith))
     ]

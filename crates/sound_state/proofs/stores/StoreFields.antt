@@ -1,12 +1,13 @@
 -- A store into a link, a word of the arena or what a descriptor says keeps the state sound where what is read of that word stays.
-use Rattle.std.proofs.Common.{ℕ, Bool, true, false, Some, None, ◌≡◌, ◌<◌, ◌≤◌, ◌+◌, ◌*◌, refl, arith, ap, sym, subst, inl, inr, ◌∙◌, ◌⊎◌, ◌==◌, ◌&&◌, if◌then◌else◌, All}
-use Rattle.std.proofs.Common.{IsTrue, IsSome, slice_index_or}
+use Rattle.std.proofs.Common.{ℕ, Bool, true, false, Some, None, ◌≡◌, ◌<◌, ◌≤◌, ◌+◌, ◌*◌, refl, arith, ap, sym, subst, inl, inr, ◌∙◌, ◌⊎◌, ◌==◌, ◌&&◌, if◌then◌else◌}
+use Rattle.std.proofs.Common.{All, IsTrue, IsSome, slice_index_or}
 use Rattle.sound_state.proofs.Common.{Geometry, CLASSES, block_count_of, block_place, frame_of, Need, Held, active_of, head_of, info_of, link_of, WordName, IsFormed}
-use Rattle.sound_state.proofs.Common.{descriptor_count, SeatFields, info_in, occurs, link_in, prefix_name, Pile, Frames, Partials, next_in, head_name, next_name, State}
-use Rattle.sound_state.proofs.Common.{IsFramed, fills_frame, IsGuarded, Status, reserving, waiting, partly_used, on_its_way, holds_of, IsKept, IsPartlyUsed, IsKeptAs}
-use Rattle.sound_state.proofs.Common.{word_keeps, errand_has, full_keeps, Lists, IsListed, IsLocated, IsOwned, IsSoundWith, word_stock, full_stock, sum_below, words_sum}
-use Rattle.sound_state.proofs.Common.{callers_sum, Superblock, AreChained, IsChained, info_or_zero, anchor_for, info_for, live_at, superblock_of, free_chain, is_bound}
-use Rattle.sound_state.proofs.Common.{waiting_of, word_reserves, errand_reserves, IsTied, IsLive, IsTurned, Guards, IsActive, list_of, IsStocked, IsExcepted}
+use Rattle.sound_state.proofs.Common.{descriptor_count, SeatFields, info_in, occurs, link_in, prefix_name, Pile, Frames, Partials, next_in, head_name, next_name}
+use Rattle.sound_state.proofs.Common.{State, IsFramed, fills_frame, IsGuarded, Status, reserving, waiting, partly_used, on_its_way, holds_of, IsKept, IsPartlyUsed}
+use Rattle.sound_state.proofs.Common.{IsKeptAs, word_keeps, errand_has, full_keeps, Lists, IsListed, IsLocated, IsOwned, word_stock, full_stock, sum_below, words_sum}
+use Rattle.sound_state.proofs.Common.{callers_sum, Superblock, AreChained, IsChained, info_or_zero, anchor_for, info_for, live_at, superblock_of, free_chain}
+use Rattle.sound_state.proofs.Common.{is_bound, waiting_of, word_reserves, errand_reserves, IsTied, IsLive, IsTurned, Guards, IsActive, list_of, IsStocked}
+use Rattle.sound_state.proofs.Common.{IsExcepted, Part, bindings, places, chains, stacks, link_words, availables, events, single, constant, IsRemembered}
 use Rattle.word_table.specs.declared.name.WordName.TheVariants as name
 use Rattle.superblock_parts.proofs.ChainLemmas.{chain_of-same}
 use Rattle.pool_model.specs.Pool.{Block}
@@ -14,7 +15,7 @@ use Rattle.sound_state.proofs.shared.HolderLemmas.{IsHolderWeight, keeps-holder,
 use Rattle.sound_state.proofs.shared.StackedLemmas.{stacked-agrees}
 use Rattle.sound_state.proofs.shared.SumLemmas.{sum-same}
 use Rattle.sound_state.proofs.shared.BackedRecalls.{AllRead, fits-own, recalls-stay}
-use Rattle.sound_state.proofs.shared.RecallFrame.{ChainStays, Part, PartStays, bindings, places, chains, stacks, link_words, availables, events, single, constant}
+use Rattle.sound_state.proofs.shared.RecallFrame.{ChainStays, PartStays}
 
 -- a word that a caller stores alone
 abbrev pub IsLone : WordName → Type 0
@@ -235,7 +236,7 @@ between-part g s l w i kept events still = record { own_events = refl; owned = o
 between-part g s l w i kept (single n) still = λ said. still
 between-part g s l w i kept constant still = tt
 
-listed-between :
+pub listed-between :
     (g : Geometry) (s : State) (l : Lists) (w : WordName → ℕ) → LinksKept g s l w → IsListed g s.word l → IsListed g (with_lone w s.word) l
 listed-between g s l w k old = record {
   nexts = k.nexts;
@@ -250,7 +251,7 @@ listed-between g s l w k old = record {
   partials_exist = old.partials_exist;
 }
 
-kept-between : (g : Geometry) (s : State) (l : Lists) (w : WordName → ℕ) → PlacesKept g s l w → IsKept g s l → IsKept g (between s w) l
+pub kept-between : (g : Geometry) (s : State) (l : Lists) (w : WordName → ℕ) → PlacesKept g s l w → IsKept g s l → IsKept g (between s w) l
 kept-between g s l w same kept = record {
   once = λ d has.
       ap
@@ -273,7 +274,7 @@ kept-between g s l w same kept = record {
   errand = λ i has k d lt. kept_as-between s w _ _ _ (same.errand i has k d lt) (kept.errand i has k d lt);
 }
 
-chained-between :
+pub chained-between :
     (g : Geometry) (s : State) (l : Lists) (w : WordName → ℕ) → LoneKept g s l w → AreChained g s l → AreChained g (between s w) l
 chained-between g s l w kept chained = record {
   infos = kept.places.infos;
@@ -289,7 +290,7 @@ fill-same :
 fill-same true w x y f h = ap (λ z. if (w == 0) && (z == f) then 1 else 0) (h refl)
 fill-same false w x y f h = refl
 
-framed-between : (g : Geometry) (s : State) (l : Lists) (w : WordName → ℕ) → PlacesKept g s l w → IsFramed g s l → IsFramed g (between s w) l
+pub framed-between : (g : Geometry) (s : State) (l : Lists) (w : WordName → ℕ) → PlacesKept g s l w → IsFramed g s l → IsFramed g (between s w) l
 framed-between g s l w kept framed = record {
   once = λ f has.
       let filled : sum_below (descriptor_count g) (fills_frame g (between s w) l f) ≡ sum_below (descriptor_count g) (fills_frame g s l f) =
@@ -300,7 +301,7 @@ framed-between g s l w kept framed = record {
       omega (arith, filled, framed.once f has);
 }
 
-guarded-between : (g : Geometry) (s : State) (w : WordName → ℕ) → IsGuarded g s → IsGuarded g (between s w)
+pub guarded-between : (g : Geometry) (s : State) (w : WordName → ℕ) → IsGuarded g s → IsGuarded g (between s w)
 guarded-between g s w guarded =
     let was : (i d : ℕ) → Guards (between s w) i d → Guards s i d = λ i d guards. record { word = guards.word; guard = guards.guard } in
     record {
@@ -316,7 +317,7 @@ counted-same :
 counted-same c c' class n (inl same) = ap (λ x. if x == class then n else 0) same
 counted-same c c' class n (inr none) = grind (arith, none)
 
-stocked-between :
+pub stocked-between :
     (g : Geometry) (s : State) (l : Lists) (w : WordName → ℕ) → PlacesKept g s l w → IsStocked g s l → IsStocked g (between s w) l
 stocked-between g s l w kept stocked = record {
   most = λ class has.
@@ -330,7 +331,7 @@ stocked-between g s l w kept stocked = record {
       omega (arith, full, words, stocked.most class has);
 }
 
-turned-between : (g : Geometry) (s : State) (l : Lists) (w : WordName → ℕ) → IsTurned g s l → IsTurned g (between s w) l
+pub turned-between : (g : Geometry) (s : State) (l : Lists) (w : WordName → ℕ) → IsTurned g s l → IsTurned g (between s w) l
 turned-between g s l w turned = record {
   own_turns = turned.own_turns;
   own_lost = turned.own_lost;
@@ -341,7 +342,7 @@ turned-between g s l w turned = record {
   list_tags = turned.list_tags;
 }
 
-tied-between : (g : Geometry) (s : State) (l : Lists) (w : WordName → ℕ) → LoneKept g s l w → IsTied g s l → IsTied g (between s w) l
+pub tied-between : (g : Geometry) (s : State) (l : Lists) (w : WordName → ℕ) → LoneKept g s l w → IsTied g s l → IsTied g (between s w) l
 tied-between g s l w kept tied =
     let tie : (place v : ℕ) (b : Block) → IsLive s place b → IsExcepted g s place ⊎ (s.word (name.Arena place) ≡ v)
     → IsExcepted g (between s w) place ⊎ (w (name.Arena place) ≡ v) =
@@ -374,23 +375,11 @@ tied-between g s l w kept tied =
       frees = λ i has k d lt. owned-between s w i _ _ (tied.frees i has k d lt);
     }
 
--- the state in between is sound
-pub sound-between :
-    (g : Geometry) (s : State) (l : Lists) (w : WordName → ℕ) → LoneKept g s l w → IsSoundWith g s l → IsFormed g (between s w)
-    → IsSoundWith g (between s w) l
-sound-between g s l w kept sound formed = record {
-  formed = formed;
-  listed = listed-between g s l w kept.links sound.listed;
-  kept = kept-between g s l w kept.places sound.kept;
-  chained = chained-between g s l w kept sound.chained;
-  framed = framed-between g s l w kept.places sound.framed;
-  remembered = record {
-    so = λ i has.
-        recalls-stay g s l i (between s w) l (s.errand i).point (fits-own g i (s.errand i) (formed.errands i has)) (sound.remembered.so i has)
-        (λ k d lt. between-part g s l w i kept _ (kept.recalls i has k d lt));
-  };
-  guarded = guarded-between g s w sound.guarded;
-  stocked = stocked-between g s l w kept.places sound.stocked;
-  turned = turned-between g s l w sound.turned;
-  tied = tied-between g s l w kept sound.tied;
+pub remembered-between :
+    (g : Geometry) (s : State) (l : Lists) (w : WordName → ℕ) → LoneKept g s l w → IsRemembered g s l → IsFormed g (between s w)
+    → IsRemembered g (between s w) l
+remembered-between g s l w kept remembered formed = record {
+  so = λ i has.
+      recalls-stay g s l i (between s w) l (s.errand i).point (fits-own g i (s.errand i) (formed.errands i has)) (remembered.so i has)
+      (λ k d lt. between-part g s l w i kept _ (kept.recalls i has k d lt));
 }

@@ -1,18 +1,14 @@
--- A store into a word that its caller stores alone keeps what is read of the other words, and what every caller remembers but for that word.
-use Rattle.std.proofs.Common.{ℕ, ◌≡◌, ◌≢◌, ◌<◌, arith, ap, sym, subst, ◌∙◌, IsSome}
+-- A store into a word that its caller stores alone keeps what is read of the other words, and what every caller remembers that reads no such word.
+use Rattle.std.proofs.Common.{ℕ, ◌≡◌, ◌≢◌, ◌<◌, arith, ap, sym, subst, refl, ◌∙◌, IsSome}
 use Rattle.std.specs.List.{AllByRecursion}
 use Rattle.std.proofs.lemmas.List.Elements.{All-from_recursion}
-use Rattle.sound_state.proofs.Common.{Geometry, block_count_of, info_of, WordName, Site, descriptor_count, info_in, Writes, prefix_name, next_name, Continuation, Point}
-use Rattle.sound_state.proofs.Common.{State, Lists, recalls_of, IsSoundWith, info_or_zero}
+use Rattle.sound_state.proofs.Common.{Geometry, info_of, WordName, descriptor_count, info_in, Writes, prefix_name, Point, recalls_of}
+use Rattle.sound_state.proofs.Common.{Part, places, link_words, single, State, Lists, IsSoundWith, info_or_zero}
 use Rattle.word_table.specs.declared.name.WordName.TheVariants as name
-use Rattle.superblock_parts.specs.declared.point.BlockPoint.TheVariants as block
-use Rattle.stack_parts.specs.declared.point.StackPoint.TheVariants as stack
-use Rattle.hazard_parts.specs.declared.point.DescPoint.TheVariants as desc
-use Rattle.partial_parts.specs.declared.point.PartialPoint.TheVariants as partial
-use Rattle.errand_steps.specs.declared.point.Point.TheVariants as point
-use Rattle.sound_state.proofs.shared.RecallFrame.{Reads}
-use Rattle.sound_state.proofs.shared.RecallTables.{IsLink, next-is_link}
+use Rattle.sound_state.proofs.shared.BackedRecalls.{AllRead}
+use Rattle.sound_state.proofs.shared.RecallTables.{IsLink}
 use Rattle.sound_state.proofs.stores.StoreFields.{IsLone, with_lone, IsPlaceKept, IsStillSaid, LinksKept, PlacesKept, BlocksKept, LoneKept}
+use Rattle.sound_state.proofs.shared.RecallFrame.{Reads}
 
 -- the words after a write of one that is stored alone are those of the state in between
 pub lone-written :
@@ -61,66 +57,38 @@ pub places-stay :
     → (IsOfDesc n → ⊥) → PlacesKept g s l words'
 places-stay g s l n new words' old w other = grind (arith, old, w, other, all-places-kept, place-stays)
 
--- a caller at the point remembers nothing of the link word, or of the word of the arena; or of the descriptor only what stays
-abbrev pub IsLinkUnread : WordName → Point → Type 0
-IsLinkUnread n (point.Stack (stack.PushTop seat pile i h) o) = next_name pile i ≢ n
-IsLinkUnread n (point.Desc (desc.PushDesc seat d top) o) = name.Next d ≢ n
-IsLinkUnread n p = Unit {0}
+-- the part reads no such word: neither the word itself nor a link there
+abbrev pub IsBlindTo : WordName → Part → Type 0
+IsBlindTo n (single m) = m ≢ n
+IsBlindTo n (link_words f c blocks) = (k : ℕ) → k < blocks → prefix_name f c k ≢ n
+IsBlindTo n q = Unit {0}
 
-abbrev pub IsBlockUnread : WordName → Point → Type 0
-IsBlockUnread n (point.Block (block.PushBlock at i a stored heap) o) = prefix_name at.frame at.seat.class i ≢ n
-IsBlockUnread n (point.Block (block.LinkBlock at i) o) = (k : ℕ) → k < i → prefix_name at.frame at.seat.class k ≢ n
-IsBlockUnread n (point.Block (block.StoreInfo at) o) =
-    (k : ℕ) → k < block_count_of at.seat.class → prefix_name at.frame at.seat.class k ≢ n
-IsBlockUnread n (point.Block (block.StoreAnchor at) o) =
-    (k : ℕ) → k < block_count_of at.seat.class → prefix_name at.frame at.seat.class k ≢ n
-IsBlockUnread n p = Unit {0}
+-- nothing of the word is read at the point
+abbrev pub IsUnread : WordName → Point → Type 0
+IsUnread n p = AllRead (IsBlindTo n) p
 
-abbrev pub IsPlaceUnread : State → (WordName → ℕ) → WordName → Point → Type 0
-IsPlaceUnread s w n (point.Block (block.StoreAnchor at) o) = name.Info at.desc ≢ n
-IsPlaceUnread s w n (point.Partial (partial.StoreOwner at) o) = IsPlaceKept s w at.desc
-IsPlaceUnread s w n (point.Partial (partial.LoadGrantAnchor at) o) = IsPlaceKept s w at.desc
-IsPlaceUnread s w n (point.Partial (partial.Grant at a) o) = IsPlaceKept s w at.desc
-IsPlaceUnread s w n p = Unit {0}
+pub unread-stands :
+    (s : State) (i : ℕ) (n : WordName) (p : Point) → (s.errand i).point ≡ p → AllByRecursion (Reads (IsBlindTo n)) (recalls_of p)
+    → IsUnread n (s.errand i).point
+unread-stands s i n p stands each = subst (IsUnread n) (sym stands) (All-from_recursion (Reads (IsBlindTo n)) (recalls_of p) each)
 
-pub record IsUnread (s : State) (w : WordName → ℕ) (n : WordName) (p : Point) : Type 0 where
-  pub link : IsLinkUnread n p
-  pub block : IsBlockUnread n p
-  pub place : IsPlaceUnread s w n p
+-- a store of a word that isn't read leaves what is read word by word, and so the places that it leaves
+pub off-said :
+    (s : State) (n : WordName) (new : ℕ) (words' : WordName → ℕ) → IsLone n → Writes s.word n new words' → (q : Part) → IsBlindTo n q
+    → ((d : ℕ) → q ≡ places d → IsPlaceKept s words' d) → IsStillSaid s words' q
+off-said s n new words' lone w (places d) off kept = kept d refl
+off-said s n new words' lone w (single m) off kept = sym (lone-written s.word n new words' lone w m) ∙ w.elsewhere m off
+off-said s n new words' lone w (link_words f c blocks) off kept = λ k lt. w.elsewhere (prefix_name f c k) (off k lt)
+off-said s n new words' lone w q off kept = tt
 
--- words of stacks, of the arena and of descriptors are of one kind only
-pub link-unread : (n : WordName) (p : Point) → (IsLink n → ⊥) → IsLinkUnread n p
-link-unread n p other = grind (arith, other, next-is_link)
-
-pub block-unread : (n : WordName) (p : Point) → (IsOfArena n → ⊥) → IsBlockUnread n p
-block-unread n p other = grind (arith, other)
-
--- only a caller that is about to store the anchor remembers the whole word, where every frame and class stay
-pub place-unread :
-    (s : State) (w : WordName → ℕ) (n : WordName) (p : Point) → ((d : ℕ) → IsPlaceKept s w d)
-    → ((at : Site) (o : Continuation) → p ≡ point.Block (block.StoreAnchor at) o → name.Info at.desc ≢ n) → IsPlaceUnread s w n p
-place-unread s w n p place anchor = grind (arith, place, anchor)
-
--- a store that leaves the other words, of which nothing is read at the point, leaves all that is read there word by word
-module _
-    (s : State) (w : WordName → ℕ) (n : WordName) (others : (m : WordName) → m ≢ n → with_lone w s.word m ≡ s.word m) where
-  said-point : (p : Point) → IsUnread s w n p → AllByRecursion (Reads (IsStillSaid s w)) (recalls_of p)
-  unfolding recalls_of
-  said-point p off = grind (arith, off)
-
--- the store keeps all that is read
+-- where every frame and class stay, a store of a word that nobody reads keeps all that is read
 pub lone-kept :
-    (g : Geometry) (s : State) (l : Lists) (n : WordName) (new : ℕ) (words' : WordName → ℕ) → IsSoundWith g s l → IsLone n
-    → Writes s.word n new words' → LinksKept g s l words' → PlacesKept g s l words' → BlocksKept g s l words'
-    → ((i : ℕ) → i < g.callers → IsUnread s words' n (s.errand i).point) → LoneKept g s l words'
-lone-kept g s l n new words' old lone w links places blocks unread =
-    let same = lone-written s.word n new words' lone w in
-    record {
-      links = links;
-      places = places;
-      blocks = blocks;
-      recalls = λ i has.
-          let p : Point = (s.errand i).point in
-          All-from_recursion (Reads (IsStillSaid s words')) (recalls_of p)
-          (said-point s words' n (λ m differ. sym (same m) ∙ w.elsewhere m differ) p (unread i has));
-    }
+    (g : Geometry) (s : State) (l : Lists) (n : WordName) (new : ℕ) (words' : WordName → ℕ) → IsLone n → Writes s.word n new words'
+    → LinksKept g s l words' → PlacesKept g s l words' → BlocksKept g s l words' → ((d : ℕ) → IsPlaceKept s words' d)
+    → ((i : ℕ) → i < g.callers → IsUnread n (s.errand i).point) → LoneKept g s l words'
+lone-kept g s l n new words' lone w links named blocks place unread = record {
+  links = links;
+  places = named;
+  blocks = blocks;
+  recalls = λ i has k r lt. off-said s n new words' lone w _ (unread i has k r lt) (λ d is. place d);
+}

@@ -5,9 +5,10 @@ use Rattle.sound_state.proofs.Common.{counts_cleared, event_of, next_of, plan_po
 use Rattle.sound_state.proofs.Common.{IsSoundWithoutCounts, IsSoundWith, Store, found_by, plan_of}
 use Rattle.sound_state.proofs.quiet.QuietLemmas.{HoldsSame}
 use Rattle.sound_state.proofs.quiet.QuietSteps.{LeadsQuietly, quiet-at}
-use Rattle.sound_state.proofs.stores.StoreFields.{IsLone, between, LoneKept, sound-between}
+use Rattle.sound_state.proofs.stores.StoreFields.{IsLone, between, LoneKept}
 use Rattle.sound_state.proofs.stores.StoreReads.{lone-written}
 use Rattle.sound_state.proofs.shared.FormedLemmas.{formed-after, formed-between}
+use Rattle.sound_state.proofs.SoundAfter.{between-sound}
 
 -- the point stores this into the word; whatever it finds there, it tells nothing, counts nothing and leads to the same
 pub record StoresTo (caller : ℕ) (p : Point) (n : WordName) (new : ℕ) (to : Next) : Type 0 where
@@ -66,7 +67,7 @@ store-sound g s caller s' p q n new sound has stands h step =
     let formed : IsFormed g t =
     formed-between g s s' t.word old.formed (formed-after g s caller s' old.formed has step) (lone-written s.word n new s'.word h.lone w) in
     quiet-at g t caller s' p
-    (record { checked = sound.checked; legal = sound.legal; parts = (l, sound-between g s l s'.word (h.kept l old) old formed) }) has stands
+    (record { checked = sound.checked; legal = sound.legal; parts = (l, between-sound g s l s'.word (h.kept l old) old formed) }) has stands
     (record {
       event = h.stores.event _;
       cleared = h.stores.cleared _;

@@ -30,8 +30,8 @@ tag-kept :
 tag-kept w a b fits new same = grind (arith, fits, new, same, eq-eqb, word-tag, ne_eqb)
 
 -- a push keeps the tag
-pushed-tag : (class i : ℕ) (a : AnchorFields) → (pushed class i a).tag ≡ a.tag
-pushed-tag class i a = grind (arith)
+pushed-keeps_tag : (class i : ℕ) (a : AnchorFields) → (pushed class i a).tag ≡ a.tag
+pushed-keeps_tag class i a = grind (arith)
 
 -- a pop that is won leaves the next tag
 pop-goes :
@@ -45,7 +45,7 @@ tag-block :
     (g : Geometry) (caller d w : ℕ) (p : BlockPoint) → FitsBlock g caller p → tag_in w + 1 < 2 ^ TAG_BITS
     → name_of (plan_block_of p) ≡ name.Anchor d
     → TagGoes (plan_block_of p) (pops_block d p) w ⊎ (1 ≤ kept_among on_its_way d (block_holds p).kept)
-tag-block g caller d w p fits room is = grind (arith, fits, room, is, pop-goes, tag-kept, returned-fits, pushed-fits, pushed-tag, eq-eqb)
+tag-block g caller d w p fits room is = grind (arith, fits, room, is, pop-goes, tag-kept, returned-fits, pushed-fits, pushed-keeps_tag, eq-eqb)
 
 -- no step at a stack is on an anchor
 stack-not-anchor : (p : StackPoint) (d : ℕ) → name_of (plan_stack_of p) ≡ name.Anchor d → ⊥

@@ -6,12 +6,14 @@ use Rattle.sound_state.proofs.Common.{full_keeps, Lists, IsSoundWith, IsSoundWit
 use Rattle.sound_state.proofs.Common.{errand_reserves, errand_keeps, errand_away, away_of, emptied_out, caller_of, IsAllowed, IsLegalEventWithoutCounts, EachAfter-push}
 use Rattle.sound_state.proofs.Common.{event_at, stock_of, IsFormed}
 use Rattle.word_table.specs.declared.name.WordName.TheVariants as name
-use Rattle.sound_state.proofs.shared.AlikeLemmas.{Alike, sound-but}
-use Rattle.sound_state.proofs.shared.ShownLemmas.{MayGoOn, MayGuard, IsSoundBut}
+use Rattle.sound_state.proofs.shared.AlikeLemmas.{Alike}
+use Rattle.sound_state.proofs.shared.ShownLemmas.{MayGoOn, MayGuard}
 use Rattle.sound_state.proofs.shared.StepLemmas.{actives-stay, words-stay}
 use Rattle.sound_state.proofs.shared.SumLemmas.{words-same, callers-moved, sum-same}
-use Rattle.sound_state.proofs.tellings.TellLemmas.{IsTold, told_state, told-but}
+use Rattle.sound_state.proofs.tellings.TellLemmas.{IsTold, told_state}
 use Rattle.sound_state.proofs.shared.KeepsSound.{stepped-sound}
+use Rattle.sound_state.proofs.SoundAfter.{told-sound, IsSoundBut}
+use Rattle.sound_state.proofs.SoundSteps.{sound-but}
 
 -- the new errand weighs what the old one did; it may have retired what was on its way
 pub record WeighTold (a b : ErrandFields) : Type 0 where
@@ -77,7 +79,7 @@ tells-on :
     → TellsOn g s l caller event e → IsFormed g s' → IsSoundWith g s' l
 tells-on g s l caller event e s' sound has same m past tells formed =
     let t = told_state s event in
-    let but : IsSoundBut g t l caller = told-but g s l caller event tells.told has sound in
+    let but : IsSoundBut g t l caller = told-sound g s l caller event tells.told has sound in
     sound-but g t l caller e s'
     (record {
       in_heap = has;

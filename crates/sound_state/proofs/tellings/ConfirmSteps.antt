@@ -2,9 +2,9 @@
 use Rattle.sound_state.proofs.Common.{turn_stage_of, in_turn, is_unneeded, Geometry, Small, need_of, HeadFields, head_of, Found, name_of, after_action, SeatFields, Pile}
 use Rattle.sound_state.proofs.Common.{Frames, Partials, head_name, next_in, At, Retire, Continuation, Point, Idle, Stack, Desc, ErrandFields, settle_of, raised}
 use Rattle.sound_state.proofs.Common.{counts_lost, counts_cleared, event_of, FitsPoint, spare_of, next_of, plan_point_of, State, Step, action_at, word_at, found_at}
-use Rattle.sound_state.proofs.Common.{IsHazard, holds_of, on_its_way, partly_used, IsWithout, IsKeptAs, Lists, IsSo, recalls_of, looked, IsSoundWithoutCounts, IsSoundWith}
+use Rattle.sound_state.proofs.Common.{IsHazard, holds_of, on_its_way, partly_used, IsWithout, IsKeptAs, Lists, IsSo, recalls_of, IsSoundWithoutCounts, IsSoundWith}
 use Rattle.sound_state.proofs.Common.{errand_stock, one_if, pops_left, gives_small, refuses_small, lacks_frame, lacks_partial, lacks_answer, SMALL_MOST, head_word}
-use Rattle.sound_state.proofs.Common.{head_of-head_word, Looked, Refuse, is_full, scan_begins, confirms, event_at, clear, refused}
+use Rattle.sound_state.proofs.Common.{head_of-head_word, Looked, Refuse, is_full, scan_begins, confirms, event_at, clear}
 use Rattle.sound_state.proofs.quiet.QuietStacks.{confirm_empty_lost-sound}
 use Rattle.std.proofs.Common.{ℕ, true, false, cond, Some, ◌≡◌, ◌<◌, ◌≤◌, ◌+◌, List, [], ◌∷◌, ◌++◌, refl, arith, ap, sym, subst, inl, inr, ◌∙◌, eq-eqb, ne_eqb, ◌==◌}
 use Rattle.std.proofs.Common.{if◌then◌else◌, All, IsTrue, count_by, nat_le}
@@ -20,18 +20,19 @@ use Rattle.errand_steps.specs.declared.continuation.Continuation.TheVariants as 
 use Rattle.errand_steps.specs.declared.reply.Reply.TheVariants as reply
 use Rattle.sound_state.proofs.shared.EventFacts.{counted-not, told-counts, refused-ends}
 use Rattle.sound_state.proofs.shared.ListFacts.{occurs-push}
-use Rattle.sound_state.proofs.shared.ShownLemmas.{MayGoOn, MayGuard, IsSoundBut}
+use Rattle.sound_state.proofs.shared.ShownLemmas.{MayGoOn, MayGuard}
 use Rattle.sound_state.proofs.shared.StackedLemmas.{stacked-none}
 use Rattle.sound_state.proofs.shared.TurnEffects.{small-served, OwnCounts, own-counts, counts-stay}
 use Rattle.sound_state.proofs.tellings.ConfirmLemmas.{WeighTold, StockFor, TellsOn, step-tells}
 use Rattle.sound_state.proofs.tellings.LookLemmas.{look-stock}
 use Rattle.sound_state.proofs.shared.HasLemmas.{kept-one}
 use Rattle.sound_state.proofs.shared.NothingLemmas.{HoldsNothing, idle-nothing, scan-nothing, keeps-excepts, nothing-guards}
-use Rattle.sound_state.proofs.shared.PointLemmas.{fits-at, so-at}
+use Rattle.sound_state.proofs.shared.PointLemmas.{fits-at, recalled-at}
 use Rattle.sound_state.proofs.retirements.RetireLemmas.{Lets, retired_at, retired-may, settle-full, settle-resumed-end}
 use Rattle.sound_state.proofs.shared.StepLemmas.{PointStands, raised-least, TurnGoes, at_point, settle-at, may-after, found_from}
-use Rattle.sound_state.proofs.tellings.TellLemmas.{IsTold, told_state, told-but, told-ends}
-use Rattle.sound_state.proofs.shared.KeepsSound.{KeepsSound, KeepsSoundWhere}
+use Rattle.sound_state.proofs.tellings.TellLemmas.{IsTold, told_state, told-ends}
+use Rattle.sound_state.proofs.shared.KeepsSound.{KeepsSound, KeepsSoundWhere, either-sound}
+use Rattle.sound_state.proofs.SoundAfter.{told-sound, IsSoundBut}
 
 -- a look, and a refusal, are events that leave the pool and count no block
 looked-told : (g : Geometry) (caller class : ℕ) → IsTold g caller (Looked caller class)
@@ -126,7 +127,7 @@ confirm_no_partial-sound seat h words g s caller s' sound has stands same step =
     fits.point.seat.class
     (λ l old.
     let t = told_state s event in
-    let but : IsSoundBut g t l caller = told-but g s l caller event (looked-told g caller seat.class) has old in
+    let but : IsSoundBut g t l caller = told-sound g s l caller event (looked-told g caller seat.class) has old in
     let counts : OwnCounts caller t.history e =
     counts-stay caller s.history t.history e (counted-not (gives_small caller) s.history event refl) (counted-not (refuses_small caller) s.history event refl)
     (own-counts g s l caller old.turned has) in
@@ -134,7 +135,7 @@ confirm_no_partial-sound seat h words g s caller s' sound has stands same step =
       told = looked-told g caller seat.class;
       weigh = look-weigh e x seat h words stands;
       may =
-          may-after g t l caller x q but has counts cleared
+          may-after g t l caller x q but.formed but.kept but.guarded has counts cleared
           (subst (λ r. PointStands g t l caller r q) (sym stands) (look-stands g s l caller seat h words));
       guards = look-guards g t caller seat words e.retired (s.word (name.Hazard caller));
       cleared = ap (λ b. raised b e.cleared) cleared;
@@ -261,8 +262,8 @@ confirm_no_frame-sound seat h words d g s caller s' sound has stands same step =
     let served : need_of words ≡ Small seat.class = fits.continuation.0 in
     let small : nat_le words SMALL_MOST ≡ true = small-served words seat.class served in
     let cleared : counts_cleared e.point x ≡ false = ap (λ r. counts_cleared r x) stands in
-    let allowed : IsRefusable g s.history caller (need_of words) =
-    subst (IsRefusable g s.history caller) (sym served) (so-at g s sound.parts.0 caller p sound.parts.1 has stands 0 (looked seat.class) (omega arith)) in
+    let (ends, rest) = recalled-at g s sound.parts.0 caller p sound.parts.1 has stands in
+    let allowed : IsRefusable g s.history caller (need_of words) = subst (IsRefusable g s.history caller) (sym served) ends in
     elim (cases_Bool (is_full e)) [
       | inl full ↦
           let after = settle-full e x seat d continuation.Refuse next full in
@@ -272,8 +273,7 @@ confirm_no_frame-sound seat h words d g s caller s' sound has stands same step =
           (subst (λ r. Lets r (scanning seat) d seat.class on_its_way clear) (sym stands)
           (refused-lets seat h words d (scanning seat) (scan-nothing seat continuation.Refuse)))
           (subst (λ r. TurnRefused r (scanning seat)) (sym stands) (refused-scan seat h words d)) (λ spare. full)
-          (All-cons (IsSo g (told_state s event) l caller) (refused seat.class) []
-          (refused-ends caller s.history words seat.class served (so-at g s l caller p old has stands 0 (looked seat.class) (omega arith)))
+          (All-cons (IsSo g (told_state s event) l caller) _ [] (refused-ends caller s.history words seat.class served ends)
           (All-nil (IsSo g (told_state s event) l caller))))
           step
       | inr few ↦
@@ -309,8 +309,6 @@ confirm_empty_won-sound seat pile h o g s caller s' sound has stands same step =
 -- the look whether a stack is still empty, won or lost, keeps the state sound
 pub confirm_empty-sound :
     (seat : SeatFields) (pile : Pile) (h : HeadFields) (o : Continuation) → KeepsSound (Stack (stack.ConfirmEmpty seat pile h) o)
-confirm_empty-sound seat pile h o g s caller s' sound has stands step =
-    elim (cases_eq (s.word (head_name seat pile)) (head_word h)) [
-      | inl won ↦ confirm_empty_won-sound seat pile h o g s caller s' sound has stands won step
-      | inr lost ↦ confirm_empty_lost-sound seat pile h o g s caller s' sound has stands lost step
-    ]
+confirm_empty-sound seat pile h o =
+    either-sound _ (head_name seat pile) (head_word h) (confirm_empty_won-sound seat pile h o)
+    (confirm_empty_lost-sound seat pile h o)

@@ -1,15 +1,13 @@
 -- An event that leaves the pool and counts no block keeps the state sound, but for what its caller remembers and how often it was answered.
-use Rattle.std.proofs.Common.{ℕ, false, ◌≡◌, ◌≢◌, ◌<◌, List, [], ◌∷◌, ◌++◌, refl, arith, sym, inl, ◌∙◌, eq-eqb}
-use Rattle.sound_state.proofs.Common.{Geometry, Moves, Event, own, pool_of, State, IsGuarded, IsKept, Lists, IsSoundWith, IsTurned, gives_small, refuses_small, caller_of}
-use Rattle.sound_state.proofs.Common.{EndsWith, Pool, pool_after, pool_of-push, own-append, is_small_alloc, is_small_free}
+use Rattle.std.proofs.Common.{ℕ, false, ◌≡◌, ◌≢◌, ◌<◌, List, [], ◌∷◌, ◌++◌, refl, arith, sym, ◌∙◌, eq-eqb}
+use Rattle.sound_state.proofs.Common.{Geometry, Moves, Event, own, pool_of, State, IsGuarded, IsKept, Lists, IsSoundWith, IsTurned, gives_small, refuses_small}
+use Rattle.sound_state.proofs.Common.{caller_of, EndsWith, Pool, pool_after, pool_of-push, own-append, is_small_alloc, is_small_free, Part, stacks, availables}
+use Rattle.sound_state.proofs.Common.{events, single}
 use Rattle.sound_state.proofs.shared.EventFacts.{counted-not, told-own}
-use Rattle.sound_state.proofs.shared.ShownLemmas.{IsSoundBut}
 use Rattle.sound_state.proofs.shared.TurnEffects.{IsTurnedBut, own-counts, counts-stay}
-use Rattle.sound_state.proofs.shared.BackedRecalls.{fits-own, recalls-stay}
-use Rattle.sound_state.proofs.shared.RecallFrame.{Part, stacks, availables, events, single, stack-same}
-use Rattle.sound_state.proofs.shared.SuperblocksStay.{RestStays, ShowsSuperblocks, actives-same, chained-shows, descs-kept, descs-show, framed-shows, shows-part}
-use Rattle.sound_state.proofs.shared.SuperblocksStay.{tied-shows}
-use Rattle.sound_state.proofs.shared.FormedLemmas.{formed-told}
+use Rattle.sound_state.proofs.shared.BackedRecalls.{fits-own, recalls-stay, OthersRemember}
+use Rattle.sound_state.proofs.shared.RecallFrame.{stack-same}
+use Rattle.sound_state.proofs.shared.SuperblocksStay.{RestStays, ShowsSuperblocks, actives-same, descs-kept, descs-show, shows-part}
 
 -- an event of the caller that leaves the pool; it gives no small block and frees none
 pub record IsTold (g : Geometry) (caller : ℕ) (event : Event) : Type 0 where
@@ -28,7 +26,7 @@ pub told-ends : (caller : ℕ) (history : List Event) (event : Event) → caller
 told-ends caller history event is =
     (own caller history, own-append caller history (event ∷ []) ∙ rw (eq-eqb (caller_of event) caller is) refl)
 
-guarded-told : (g : Geometry) (s : State) (event : Event) → IsGuarded g s → IsGuarded g (told_state s event)
+pub guarded-told : (g : Geometry) (s : State) (event : Event) → IsGuarded g s → IsGuarded g (told_state s event)
 guarded-told g s event guarded = record {
   words = guarded.words;
   pushed = λ i other d has has_other k. guarded.pushed i other d has has_other (record { word = k.word; guard = k.guard });
@@ -39,7 +37,7 @@ guarded-told g s event guarded = record {
 
 module _ (g : Geometry) (s : State) (l : Lists) (caller : ℕ) (event : Event) (h : IsTold g caller event) where
   -- the state shows the same superblocks and blocks
-  told-shows : ShowsSuperblocks g s l (told_state s event) l
+  pub told-shows : ShowsSuperblocks g s l (told_state s event) l
   told-shows = grind (arith, pool_of, pool_of-push)
 
   -- each part of the state stays that another caller's recalls read
@@ -54,10 +52,10 @@ module _ (g : Geometry) (s : State) (l : Lists) (caller : ℕ) (event : Event) (
   told-part i differ p = tt
 
   -- no errand changes
-  told-moves : Moves s.errand caller (s.errand caller) s.errand
+  pub told-moves : Moves s.errand caller (s.errand caller) s.errand
   told-moves = record { here = refl; elsewhere = λ i differ. refl }
 
-  kept-told : caller < g.callers → IsKept g s l → IsKept g (told_state s event) l
+  pub kept-told : caller < g.callers → IsKept g s l → IsKept g (told_state s event) l
   kept-told has kept =
       descs-kept g s caller (s.errand caller) (told_state s event) l l
       (record {
@@ -72,24 +70,11 @@ module _ (g : Geometry) (s : State) (l : Lists) (caller : ℕ) (event : Event) (
       })
       kept
 
-  turned-told : IsTurned g s l → IsTurnedBut g (told_state s event) l caller
+  pub turned-told : IsTurned g s l → IsTurnedBut g (told_state s event) l caller
   turned-told turned = grind (arith, turned, counted-not, counts-stay, gives_small, is_small_alloc, is_small_free, own-counts, refuses_small)
 
-  -- all but what the caller remembers, and how often it was answered, is as it was
-  pub told-but : caller < g.callers → IsSoundWith g s l → IsSoundBut g (told_state s event) l caller
-  told-but has sound = record {
-    formed = formed-told g s event sound.formed;
-    listed = sound.listed;
-    kept = kept-told has sound.kept;
-    chained = chained-shows told-shows sound.chained;
-    framed = framed-shows told-shows (λ f. refl) sound.framed;
-    remembered = λ i has_i differ.
-        recalls-stay g s l i (told_state s event) l (s.errand i).point (fits-own g i (s.errand i) (sound.formed.errands i has_i)) (sound.remembered.so i has_i)
-        (λ k d lt. shows-part told-shows i _ (told-part i differ _));
-    guarded = guarded-told g s event sound.guarded;
-    stocked = record { most = sound.stocked.most };
-    turned = turned-told sound.turned;
-    tied =
-        tied-shows told-shows caller (s.errand caller) told-moves refl (λ k. refl) (λ place x. inl x) (sound.tied.hands caller has)
-        (sound.tied.frees caller has) sound.tied;
-  }
+  -- what the others remember stays so
+  pub remembered-told : IsSoundWith g s l → OthersRemember g (told_state s event) l caller
+  remembered-told old = λ i has differ.
+      recalls-stay g s l i (told_state s event) l (s.errand i).point (fits-own g i (s.errand i) (old.formed.errands i has)) (old.remembered.so i has)
+      (λ k d lt. shows-part told-shows i _ (told-part i differ _))
