@@ -3,17 +3,20 @@
 
 usage: python3 tools/try_edits.py [CRATE ..]
 
-The gate tries at most ten edits a crate, those in must-fail/. This tries the others, of the named crates or
-of all, in a copy of the work tree where they stand in place of those ten: `rt ci` with these crates' names, which
+The gate tries the few edits of a crate that tell most, those in must-fail/. This tries the others, of the named
+crates or of all, in a copy of the work tree where they stand in place of those: `rt ci` with these crates' names, which
 takes what an earlier run of it proved on this machine, proves each crate once more and tries each edit over
 that. Where the kit's `rt ci` takes no names, `rt must-fail` does it, which first proves what lies below on one
-processor. Prints what rt says of each edit and at the end how many were refused; ends with 1 where one is not.
+processor. Prints what rt says of each edit, and at the end how many were refused and how long it took; ends with
+1 where one is not.
 """
 
+import resource
 import shutil
 import subprocess
 import sys
 import tempfile
+import time
 from pathlib import Path
 
 ROOT = Path(__file__).resolve().parent.parent
@@ -54,6 +57,7 @@ def main():
     lacking = [it for it in names if it not in has_edits]
     if lacking:
         sys.exit(f"{lacking[0]} has no folder also-must-fail")
+    began = time.monotonic()
     with tempfile.TemporaryDirectory(prefix="edits-") as room:
         copy_tree(Path(room))
         for name in names:
@@ -62,6 +66,9 @@ def main():
     refused = sum(": refused" in it for it in edits)
     print(*edits, *[it for it in last if it not in edits], sep="\n")
     print(f"{refused} of {len(edits)} edits refused, those of crates below among them where rt tries them too")
+    used = resource.getrusage(resource.RUSAGE_CHILDREN)
+    minutes, seconds = (time.monotonic() - began) / 60, used.ru_utime + used.ru_stime
+    print(f"{minutes:.0f} minutes by the clock, {seconds:.0f} seconds of processor time")
     sys.exit(status or refused < len(edits))
 
 
