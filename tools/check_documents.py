@@ -6,7 +6,7 @@ usage: python3 tools/check_documents.py
 A link of README.md or docs/ has to lead to a file of the repository, and to a heading of it where it names one. A
 name between backticks that could be one of the code (`word_behind`, `HasStepped`, `live_heap/specs/Calls`,
 `run_lanes.rt`) has to be a word of the crates or of the tools, one of the kit's that KIT lists, or the path of a file.
-A block of code that names a file behind its language (```rust crates/heap_tests/src/relay.rt) quotes it: its lines
+A block of code that names a file behind its language (```rust crates/worked_programs/src/relay.rt) quotes it: its lines
 stand in that file, in this order, comments apart. The table of crates in docs/ARCHITECTURE.md has each crate of
 crates.txt once, in its order; README's lines on what isn't proved begin with the headings of docs/OPEN.md; the counts
 of crates, of edits and of traces are those of the tree; and docs/PROOFS.md has each table over the points
@@ -109,7 +109,7 @@ def open_lines():
         yield f"a line on what isn't proved, or a heading of docs/OPEN.md, stands alone: {line}"
 
 
-NUMBERS = {"four": 4, "five": 5, "fifteen": 15, "sixteen": 16}
+NUMBERS = {"four": 4, "five": 5, "ten": 10, "fifteen": 15, "sixteen": 16}
 COUNTED = [
     ("README.md", r"now there are (\d+)", "crates/*/src"),
     ("README.md", r"has (\w+) traces with their reports", "traces/*.trace"),

@@ -1,9 +1,11 @@
-//! Random scripts of calls on a heap: a hand of blocks, the calls on it, whole or step by step, and two
-//! heaps beside each other, of which one has whole calls and the other has steps.
+//! Scripts of calls on a heap: a hand of blocks, the calls on it, whole or step by step, rows of them, and
+//! random scripts on two heaps beside each other, of which one has whole calls and the other has steps.
 #![tactic(auto)]
 
+pub mod alone;
 pub mod brought;
 pub mod compare;
+pub mod hand;
 pub mod random;
 pub mod request;
 mod script;

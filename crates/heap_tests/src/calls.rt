@@ -4,13 +4,13 @@
 ghost use Rattle.live_heap.specs.Hands.{IsHand};
 ghost use Rattle.live_heap.specs.Passes.{IsOf};
 
-use crate::alone::{close_alone, geometry, open_alone};
-use crate::hand::come_to;
 use errand_steps::reply::Begun;
 use errand_steps::told::{Ending, Stepped};
 use heap_geometry::geometry::Geometry;
 use heap_geometry::limits::{CALL_STEPS, CLASSES, SHELVES};
 use heap_geometry::need::Need;
+use heap_scripts::alone::{close_alone, geometry, open_alone};
+use heap_scripts::hand::come_to;
 use heap_scripts::request::{Request as Asked, Told};
 use heap_scripts::whole;
 use live_heap::block::Block;
@@ -173,7 +173,7 @@ fn seen(closed: &Closed) -> (Geometry, Option<u64>, Option<u64>, u64, u64) {
 fn the_first_block_makes_its_superblock_the_active_one(rt: HostRuntime) -> Result<(), Fail> {
     let (heap, mut pass, mut blocks) = open_alone(rt.alloc(), 1, 0, 9)?;
     let rows = [(Asked::Alloc(2047), Told::Given(0))];
-    come_to(&rt, &heap, &mut pass, &mut blocks, &rows)?;
+    come_to(&heap, &mut pass, &mut blocks, &rows)?;
     let block = blocks
         .first()
         .map(|block| (block.place(), block.words(), block.need()));
@@ -196,7 +196,7 @@ fn words_are_read_as_written(rt: HostRuntime) -> Result<(), Fail> {
         (Asked::Read(0, 1), Told::Word(6)),
         (Asked::Read(0, 2), Told::Word(7)),
     ];
-    come_to(&rt, &heap, &mut pass, &mut blocks, &rows)
+    come_to(&heap, &mut pass, &mut blocks, &rows)
 }
 
 // A shelf that is full gives the block back, which its owner may go on to use.
@@ -217,7 +217,7 @@ fn a_shelf_holds_one_block(rt: HostRuntime) -> Result<(), Fail> {
         (Asked::Take(0), Told::Got(0)),
         (Asked::Take(1), Told::Empty),
     ];
-    come_to(&rt, &heap, &mut pass, &mut blocks, &rows)
+    come_to(&heap, &mut pass, &mut blocks, &rows)
 }
 
 // Four superblocks of two blocks each are filled. The frees of their first blocks make them partial, and
@@ -243,13 +243,13 @@ fn an_empty_superblock_is_cleared_and_the_call_goes_on(rt: HostRuntime) -> Resul
         (Asked::Alloc(2047), Told::Given(8192)),
         (Asked::Alloc(2047), Told::Given(4096)),
     ];
-    come_to(&rt, &heap, &mut pass, &mut blocks, &rows)?;
+    come_to(&heap, &mut pass, &mut blocks, &rows)?;
     assert_eq!(rt; pass.cleared(), 0);
     let rows = [(Asked::Alloc(2047), Told::Busy)];
-    come_to(&rt, &heap, &mut pass, &mut blocks, &rows)?;
+    come_to(&heap, &mut pass, &mut blocks, &rows)?;
     assert_eq!(rt; (pass.idle(), pass.cleared(), pass.lost()), (false, 1, 0));
     let rows = [(Asked::Resume, Told::Given(0))];
-    come_to(&rt, &heap, &mut pass, &mut blocks, &rows)?;
+    come_to(&heap, &mut pass, &mut blocks, &rows)?;
     assert_eq!(rt; (pass.idle(), pass.turns()), (true, 12));
     Ok(())
 }
@@ -262,7 +262,7 @@ fn a_block_has_at_most_64_units_and_no_run_is_given_twice(rt: HostRuntime) -> Re
         (Asked::Alloc(131_071), Told::Given(4096)),
         (Asked::Alloc(131_071), Told::Refused),
     ];
-    come_to(&rt, &heap, &mut pass, &mut blocks, &rows)
+    come_to(&heap, &mut pass, &mut blocks, &rows)
 }
 
 #[test]
@@ -273,7 +273,7 @@ fn who_has_taken_all_turns_is_spent(rt: HostRuntime) -> Result<(), Fail> {
         (Asked::Alloc(1), Told::Given(2)),
         (Asked::Alloc(1), Told::Spent),
     ];
-    come_to(&rt, &heap, &mut pass, &mut blocks, &rows)
+    come_to(&heap, &mut pass, &mut blocks, &rows)
 }
 
 // The numbers of steps come from a model of the machine that was written apart from it.

@@ -5,11 +5,11 @@ ghost use Rattle.std.specs.Prelude.{◌<◌, IsTrue};
 ghost use Rattle.errand_steps.specs.Begins.{IsIdle};
 ghost use Rattle.step_machine.specs.Cores.{errand_at, OwnsBlock};
 
-use crate::alone::geometry;
 use errand_steps::reply::Begun;
 use errand_steps::told::{Ending, Stepped};
 use heap_geometry::limits::{CALL_STEPS, SHELVES};
 use heap_geometry::need::Need;
+use heap_scripts::alone::geometry;
 use lane_engine::grip::Grip;
 use lane_engine::over_core::step;
 use lane_engine::token::Token;

@@ -1,32 +1,8 @@
-//! Tests of the crates from the packed words to the machine on one thread: numbers of words, steps, events
-//! and places, which are worked by hand or come from a model that was written apart from the code.
+//! Tests of the machine on one thread: numbers of steps, events, words and places, which are worked by hand or
+//! come from a model that was written apart from the code.
 #![tactic(auto)]
 
 #[cfg(test)]
-mod errands;
-#[cfg(test)]
-mod hazards;
-#[cfg(test)]
-mod heaps;
-#[cfg(test)]
-mod large_blocks;
-#[cfg(test)]
 mod machine;
 #[cfg(test)]
-mod needs;
-#[cfg(test)]
-mod packing;
-#[cfg(test)]
-mod partials;
-#[cfg(test)]
-mod plain_calls;
-#[cfg(test)]
 mod script;
-#[cfg(test)]
-mod stacks;
-#[cfg(test)]
-mod superblocks;
-#[cfg(test)]
-mod table;
-#[cfg(test)]
-mod walk;

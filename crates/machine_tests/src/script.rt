@@ -4,7 +4,6 @@ ghost use Rattle.std.specs.Prelude.{◌<◌, IsTrue};
 ghost use Rattle.errand_steps.specs.Begins.{IsIdle};
 ghost use Rattle.step_machine.specs.Cores.{errand_at, OwnsBlock};
 
-use crate::heaps::checked;
 use errand_steps::reply::{Begun, Progress, Reply};
 use heap_geometry::geometry::Geometry;
 use heap_geometry::limits::{CALL_STEPS, CLASSES, FRAME_WORDS, SHELVES, UNIT_WORDS};
@@ -40,7 +39,9 @@ pub fn open<R: Abort>(
     geometry: Geometry,
     installed: Option<u8>,
 ) -> Result<Core, AllocError> {
-    let geometry = checked(rt, geometry);
+    let Ok(geometry) = geometry.check() else {
+        panic!(rt; "there is no such heap");
+    };
     match installed {
         None => Core::open(alloc, geometry),
         Some(class) if class < CLASSES => open_installed(alloc, geometry, class),

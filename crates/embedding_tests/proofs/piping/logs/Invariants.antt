@@ -1,0 +1,5 @@
+use Rattle.worked_programs.specs.Pipes.{IsLine}
+use Rattle.embedding_tests.proofs.piping.logs.Given as goal
+
+abbrev pub invariant-loop-row : goal.invariant-loop-row
+invariant-loop-row g l = IsLine l.line

@@ -1,5 +1,0 @@
-use Rattle.live_heap.specs.Hands.{IsHand}
-use Rattle.heap_tests.proofs.hand.come_to.Given as goal
-
-abbrev pub invariant-loop-row : goal.invariant-loop-row
-invariant-loop-row g l = IsHand l.heap l.pass l.blocks.items

@@ -1,5 +1,0 @@
-use Rattle.heap_tests.specs.Pipes.{IsLine}
-use Rattle.heap_tests.proofs.piping.logs.Given as goal
-
-abbrev pub invariant-loop-row : goal.invariant-loop-row
-invariant-loop-row g l = IsLine l.line

@@ -1,0 +1,29 @@
+//! Tests of the parts below the machine, from the packed words to errands, and of the plain pool: numbers of
+//! words, actions, steps and places, which are worked by hand or come from a model that was written apart from
+//! the code.
+#![tactic(auto)]
+
+#[cfg(test)]
+mod errands;
+#[cfg(test)]
+mod hazards;
+#[cfg(test)]
+mod heaps;
+#[cfg(test)]
+mod large_blocks;
+#[cfg(test)]
+mod needs;
+#[cfg(test)]
+mod packing;
+#[cfg(test)]
+mod partials;
+#[cfg(test)]
+mod plain_calls;
+#[cfg(test)]
+mod stacks;
+#[cfg(test)]
+mod superblocks;
+#[cfg(test)]
+mod table;
+#[cfg(test)]
+mod walk;

@@ -1,0 +1,148 @@
+-- The program's calls are whole calls, one after the other, and its blocks stay its own meanwhile.
+use Rattle.std.proofs.Common.{ℕ, ◌≡◌, ◌≢◌, ◌≤◌, List, [], ◌∷◌, ◌++◌, Result, Ok, Err, IfErr, IsErrAnd, refl, sym, subst}
+use Rattle.heap_geometry.specs.declared.need.Need.{Need}
+use Rattle.heap_geometry.specs.Need.{usable_words}
+use Rattle.errand_steps.specs.declared.reply.Reply.{Reply}
+use Rattle.errand_steps.specs.declared.reply.Reply.TheVariants as reply
+use Rattle.errand_steps.specs.Begins.{IsIdle}
+use Rattle.errand_steps.specs.Calls.{Call, alloc, read, take, write}
+use Rattle.errand_steps.specs.Errands.{ErrandFields}
+use Rattle.call_events.specs.Made.{LeadsBy, Made, answered}
+use Rattle.step_machine.specs.Cores.{OwnsAfter}
+use Rattle.step_machine.specs.Keeping.{LeavesPlace}
+use Rattle.live_heap.specs.declared.heap.Heap.{Heap}
+use Rattle.live_heap.specs.declared.pass.Pass.{Pass}
+use Rattle.live_heap.specs.Answers.{IsContents}
+use Rattle.live_heap.specs.Calls.{HasCalled}
+use Rattle.live_heap.specs.Passes.{IsFresh, IsOf, seen}
+use Rattle.live_heap.specs.Whole.{Hands, IsAtRest, IsWhole, OwnsFor, by_steps}
+use Rattle.live_heap.specs.Words.{TellsContents}
+use Rattle.worked_programs.specs.declared.embedded.Stop.{Stop}
+use Rattle.worked_programs.specs.Embedded.{HasStopped, Makes, Stops}
+use Rattle.worked_programs.proofs.EmbeddedCounts.{called-of}
+use Rattle.worked_programs.proofs.EmbeddedWays.{HasEnough}
+
+-- the caller of the pass owns the block that lies there
+abbrev pub OwnsAt : Pass → ℕ → Need → Type 0
+OwnsAt p place need = OwnsAfter (seen p) p.errand.caller place need
+
+-- the laws of whole calls on which these lemmas stand
+abbrev pub KeepsBlocks : Type 0
+KeepsBlocks =
+    (h k : Heap) (p q : Pass) (call : Call) (answer : Reply) (place : ℕ) (need : Need) → IsWhole h p call answer k q → LeavesPlace call place
+    → OwnsAt p place need → OwnsAt q place need
+
+abbrev pub HandsBlocks : Type 0
+HandsBlocks =
+    (h k : Heap) (p q : Pass) (call : Call) (answer : Reply) (place : ℕ) (need : Need) → IsWhole h p call answer k q → Hands answer place need
+    → OwnsAt q place need
+
+abbrev pub HandsOthers : Type 0
+HandsOthers =
+    (h k : Heap) (p q : Pass) (call : Call) (answer : Reply) (place other : ℕ) (need had : Need) → IsWhole h p call answer k q
+    → Hands answer place need → OwnsAt p other had → other ≢ place
+
+pub rest-of : (h : Heap) (p q : Pass) (call : Call) (answer : Reply) → Makes h p call answer q → IsAtRest h q
+rest-of h p q call answer made = let (whole, tells) = made in let (by, owned, same, rest) = whole in rest
+
+pub fresh-rest : (h : Heap) (p : Pass) → IsFresh h p → IsAtRest h p
+fresh-rest h p fresh = (fresh.of, subst (λ (e : ErrandFields). IsIdle e) (sym fresh.errand) refl)
+
+pub makes-of :
+    (h : Heap) (p q : Pass) (call : Call) (answer : Reply) (steps : ℕ) → HasCalled p call steps answer q → OwnsFor p call → IsOf h q
+    → TellsContents call answer q → Makes h p call answer q
+makes-of h p q call answer steps called owned of tells = ((by_steps (steps, called), owned, refl, (of, called.idle)), tells)
+
+pub given-words :
+    (h : Heap) (p q : Pass) (words place : ℕ) (need : Need) → HasEnough → Makes h p (alloc words) (reply.Given place need) q → words ≤ usable_words need
+given-words h p q words place need enough made =
+    let called = called-of p q (alloc words) (reply.Given place need) made.0.0 (λ (e : reply.Given place need ≡ reply.Spent). cc) in
+    enough p q words called.0 place need called.1
+
+pub given-owned :
+    (h : Heap) (p q : Pass) (words place : ℕ) (need : Need) → HandsBlocks → Makes h p (alloc words) (reply.Given place need) q → OwnsAt q place need
+given-owned h p q words place need hands made = hands h h p q (alloc words) (reply.Given place need) place need made.0 (refl, refl)
+
+push :
+    (h : Heap) (p q r : Pass) (calls : List Made) (call : Call) (answer : Reply) → LeadsBy (Makes h) p calls q → Makes h q call answer r
+    → LeadsBy (Makes h) p (calls ++ answered call answer ∷ []) r
+push h p q r [] call answer is made = (r, subst (λ (x : Pass). Makes h x call answer r) is made, refl)
+push h p q r (first ∷ calls) call answer leads made =
+    let (next, m, rest) = leads in (next, m, push h next q r calls call answer rest made)
+
+-- a pass has made these calls since it stood as `from`, is in none, and owns the block that lies there
+pub record Has (h : Heap) (from : Pass) (calls : List Made) (p : Pass) (place : ℕ) (need : Need) : Type 0 where
+  pub made : LeadsBy (Makes h) from calls p
+  pub rest : IsAtRest h p
+  pub owned : OwnsAt p place need
+
+-- a call more, which leaves the block
+pub has-more :
+    (h : Heap) (from p q : Pass) (calls : List Made) (place : ℕ) (need : Need) (call : Call) (answer : Reply) → KeepsBlocks
+    → Has h from calls p place need → LeavesPlace call place → Makes h p call answer q → Has h from (calls ++ answered call answer ∷ []) q place need
+has-more h from p q calls place need call answer keeps has leaves made = record {
+  made = push h from p q calls call answer has.made made;
+  rest = rest-of h p q call answer made;
+  owned = keeps h h p q call answer place need made.0 leaves has.owned;
+}
+
+-- an allocation and a write of its block
+pub has-written :
+    (h : Heap) (p q r : Pass) (words place : ℕ) (need : Need) (i v : ℕ) → KeepsBlocks → HandsBlocks
+    → Makes h p (alloc words) (reply.Given place need) q → HasCalled q (write place need i v) 0 reply.Wrote r → IsOf h r
+    → Has h p (answered (alloc words) (reply.Given place need) ∷ answered (write place need i v) reply.Wrote ∷ []) r place need
+has-written h p q r words place need i v keeps hands made wrote of =
+    let owned = given-owned h p q words place need hands made in
+    let m2 = makes-of h q r (write place need i v) reply.Wrote 0 wrote owned of tt in
+    record {
+      made = (q, made, (r, m2, refl));
+      rest = (of, wrote.idle);
+      owned = keeps h h q r (write place need i v) reply.Wrote place need m2.0 tt owned;
+    }
+
+-- behind a first block another one is given and written, and the first one stays
+pub has-both :
+    (h : Heap) (from p q r : Pass) (calls : List Made) (place words other : ℕ) (need wide : Need) (i v : ℕ) → KeepsBlocks → HandsBlocks
+    → Has h from calls p place need → Makes h p (alloc words) (reply.Given other wide) q
+    → HasCalled q (write other wide i v) 0 reply.Wrote r → IsOf h r
+    → Has h from ((calls ++ answered (alloc words) (reply.Given other wide) ∷ []) ++ answered (write other wide i v) reply.Wrote ∷ []) r place need
+has-both h from p q r calls place words other need wide i v keeps hands has made wrote of =
+    let given = has-more h from p q calls place need (alloc words) (reply.Given other wide) keeps has tt made in
+    let m = makes-of h q r (write other wide i v) reply.Wrote 0 wrote (given-owned h p q words other wide hands made) of tt in
+    has-more h from q r (calls ++ answered (alloc words) (reply.Given other wide) ∷ []) place need (write other wide i v) reply.Wrote keeps given tt m
+
+-- a block that is taken from the shelf
+pub has-taken :
+    (h : Heap) (p q : Pass) (shelf place : ℕ) (need : Need) → HandsBlocks → Makes h p (take shelf) (reply.Got place need) q
+    → Has h p (answered (take shelf) (reply.Got place need) ∷ []) q place need
+has-taken h p q shelf place need hands made = record {
+  made = (q, made, refl);
+  rest = rest-of h p q (take shelf) (reply.Got place need) made;
+  owned = hands h h p q (take shelf) (reply.Got place need) place need made.0 (refl, refl);
+}
+
+-- one more read of the block
+pub has-read :
+    (h : Heap) (from p q : Pass) (calls : List Made) (place : ℕ) (need : Need) (i word : ℕ) → KeepsBlocks → Has h from calls p place need
+    → HasCalled p (read place need i) 0 (reply.Word word) q → IsOf h q → IsContents q place i word
+    → Has h from (calls ++ answered (read place need i) (reply.Word word) ∷ []) q place need
+has-read h from p q calls place need i word keeps has called of contents =
+    has-more h from p q calls place need (read place need i) (reply.Word word) keeps has tt
+    (makes-of h p q (read place need i) (reply.Word word) 0 called has.owned of contents)
+
+-- the call behind the calls of a pass is the last one, or was answered so that the program goes no further
+pub ends-behind :
+    (h : Heap) (from p q : Pass) (calls : List Made) (place : ℕ) (need : Need) (call : Call) (answer : Reply) → Has h from calls p place need
+    → Makes h p call answer q → LeadsBy (Makes h) from (calls ++ answered call answer ∷ []) q
+ends-behind h from p q calls place need call answer has made = push h from p q calls call answer has.made made
+
+pub stops-behind :
+    (h : Heap) (from p q : Pass) (calls : List Made) (place : ℕ) (need : Need) (IsNext : List Made → Call → Type 0) (call : Call) (stop : Stop)
+    → Has h from calls p place need → IsNext calls call → Stops h p call stop q → HasStopped h from IsNext stop
+stops-behind h from p q calls place need IsNext call stop has next stops =
+    (q, record { calls = calls; last = p; made = has.made; call = call; next = next; stops = stops })
+
+-- an error that goes on through a `?`
+pub err-as : {A : Type 0} (r : Result A Stop) (stop : Stop) (P : Stop → Type 0) → IsErrAnd r (λ s. s ≡ stop) → P stop → IfErr r P
+err-as (Ok x) stop P is had = absurd is
+err-as (Err s) stop P is had = subst P (sym is) had

@@ -1,0 +1,18 @@
+use Rattle.std.proofs.Common.{◌∷◌, [], List, ◌∙◌, ap, subst, sym}
+use Rattle.live_heap.specs.declared.pass.Pass.{Pass}
+use Rattle.live_heap.specs.Endings.{HasClosed}
+use Rattle.live_heap.specs.Whole.{IsAtRest}
+use Rattle.worked_programs.proofs.ReuseEnds.{only-idle}
+use Rattle.worked_programs.proofs.reuse.close.Goals as goal
+
+pub close-requires : goal.close-requires
+close-requires c =
+    let h = c.args.heap in
+    let p = c.close-pass.result in
+    let rests = subst (λ (q : Pass). IsAtRest h q) (sym c.close-pass.ensures) (c.requires.rests.0.hand.of, c.requires.rests.1) in
+    only-idle h p _ rests c.in_ok-vec.ensures.items c.requires.alone
+
+pub returns-clause-closed : goal.returns-clause-closed
+returns-clause-closed c =
+    let only = c.in_ok-vec.ensures.items ∙ ap (λ (q : Pass). q ∷ []) c.close-pass.ensures in
+    subst (λ (l : List Pass). HasClosed c.args.heap l c.in-Ok.closed) only c.in-Ok.ensures.closed
