@@ -28,6 +28,7 @@ from pictures import FAINT, FREE, HELD, INK, LIVE, STRONG, TOP, Picture, below, 
 from timed import row, table_head
 
 PROOF, TESTS, BASE, EDITS = "proof", "tests", "edits' base", "edits"
+GRID = "#dfe3e8"
 FILLS = {PROOF: STRONG, TESTS: FREE, BASE: HELD, EDITS: LIVE}
 TICKS = os.sysconf("SC_CLK_TCK")
 EVERY = 0.5
@@ -247,7 +248,7 @@ def draw(run, stands_on):
     step = next(minutes for minutes in (1, 2, 5, 10, 20, 60) if run.seconds / 60 / minutes <= 16 or minutes == 60)
     for minute in range(0, int(run.seconds / 60) + 1, step):
         x = left + minute * 60 * scale
-        picture.path(f"M{x:.0f} 50 L{x:.0f} {56 + high * len(stands_on)}", arrow=False, colour=FAINT, dashed=True)
+        picture.path(f"M{x:.0f} 50 L{x:.0f} {56 + high * len(stands_on)}", arrow=False, colour=GRID)
         picture.text(x, 44, f"{minute} min", 11, colour=FAINT)
     for number, crate in enumerate(stands_on):
         y = 54 + number * high
