@@ -8,10 +8,11 @@ name between backticks that could be one of the code (`word_behind`, `HasStepped
 `run_lanes.rt`) has to be a word of the crates or of the tools, one of the kit's that KIT lists, or the path of a file.
 A block of code that names a file behind its language (```rust crates/worked_programs/src/relay.rt) quotes it: its lines
 stand in that file, in this order, comments apart. The table of crates in docs/ARCHITECTURE.md has each crate of
-crates.txt once, in its order; README's lines on what isn't proved begin with the headings of docs/OPEN.md; the counts
-of crates, of edits and of traces are those of the tree; and docs/PROOFS.md has each table over the points
-(tools/point_tables.py). Prints what isn't so, a name or a link with its
-document and line, and ends with 1 where there is something. It takes a second, and the gate doesn't run it.
+crates.txt once, in its order; some file of a crate has the name of each crate that crates.txt lists for it; README's
+lines on what isn't proved begin with the headings of docs/OPEN.md; the counts of crates, of edits and of traces are
+those of the tree; and docs/PROOFS.md has each table over the points (tools/point_tables.py). Prints what isn't so, a
+name or a link with its document and line, and ends with 1 where there is something. It takes some seconds, and the
+gate doesn't run it.
 """
 
 import re
@@ -99,6 +100,20 @@ def crates_in_order():
         yield "the map has not the order of crates.txt"
 
 
+def unnamed_crates():
+    """What crates.txt lists for a crate and no file of it names."""
+    for line in (ROOT / "crates.txt").read_text().splitlines():
+        head, _, listed = line.split("#")[0].partition(":")
+        if not head.strip():
+            continue
+        crate = ROOT / "crates" / head.split()[0]
+        files = [path for folder in ("src", "specs", "proofs") for path in (crate / folder).rglob("*.*t")]
+        words = set(re.findall(r"\w+", "\n".join(path.read_text() for path in files)))
+        for name in listed.split():
+            if name not in words:
+                yield f"crates.txt lists {name} for {crate.name}, and no file of it names that"
+
+
 def open_lines():
     """The headings of docs/OPEN.md that no line of README begins with, and the other way."""
     begins = (ROOT / "README.md").read_text().split("**Not proved**")[1].split("**Trusted:**")[0]
@@ -159,7 +174,7 @@ def main():
         for number, what in complaints(document, words, ends):
             print(f"{document.relative_to(ROOT)}:{number}: {what}")
             found += 1
-    for what in [*crates_in_order(), *open_lines(), *counts(), *point_tables.complaints()]:
+    for what in [*crates_in_order(), *unnamed_crates(), *open_lines(), *counts(), *point_tables.complaints()]:
         print(what)
         found += 1
     print(f"{found} names, links or quotes lead nowhere")
