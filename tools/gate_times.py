@@ -8,8 +8,8 @@ While the gate runs, its checks are looked at twice a second: what each proves a
 line of the gate is printed with the clock and the seconds since the start. At the end stands a table in Markdown, in the
 order of crates.txt: of each crate the seconds of processor time of its proof, of its tests' proof, of the proofs that its
 edits begin and end with, and of its edits; when by the clock the first two began and ended; and for which crate it waited,
-the one below it that was proved last. Then come the longest chain of crates, each of which stands on the one before, by
-processor time, and what ran last. A check that ends within half a second is not seen.
+the one below it that was proved last. Then come the longest chain of proofs by processor time, each of a crate that stands
+on the one before, and what ran last. A check that ends within half a second is not seen.
 
 `--keep` writes what was read, the lines as `log` and a line of JSON for each check as `samples`. `--picture` draws
 docs/pictures/gate.svg. Of several runs in a file of samples, `--read` takes the one with most checks, or that of PROCESS.
@@ -184,17 +184,25 @@ def kind_of(check):
 
 
 def longest_chain(run, stands_on):
-    """The chain of crates whose proofs take most processor time, each on the one before."""
+    """The chain of proofs that take most processor time, each of a crate on the one before; the last may be of tests,
+    which wait for what is below their crate, and not for the crate."""
     best = {}
+
+    def seconds(crate, kind):
+        own = run.of(crate, kind)
+        return own.taken if own else 0
+
+    def lower(crate):
+        return max(map(best_of, stands_on[crate]), default=(0, []))
 
     def best_of(crate):
         if crate not in best:
-            low = max(map(best_of, stands_on[crate]), default=(0, []))
-            own = run.of(crate, PROOF)
-            best[crate] = low[0] + (own.taken if own else 0), [*low[1], crate]
+            taken, chain = lower(crate)
+            best[crate] = taken + seconds(crate, PROOF), [*chain, (crate, PROOF)]
         return best[crate]
 
-    return max(map(best_of, stands_on))
+    tests = [(lower(crate)[0] + seconds(crate, TESTS), [*lower(crate)[1], (crate, TESTS)]) for crate in stands_on]
+    return max([*map(best_of, stands_on), *tests])
 
 
 def clock(seconds):
@@ -229,7 +237,7 @@ def told(run, stands_on):
            f"processor time in checks; {beside}.\n")
     yield from table(run, stands_on)
     taken, chain = longest_chain(run, stands_on)
-    words = [f"{crate} {run.of(crate, PROOF).taken:.0f}" for crate in chain if run.of(crate, PROOF)]
+    words = [f"{crate}{' (tests)' * (kind == TESTS)} {run.of(crate, kind).taken:.0f}" for crate, kind in chain if run.of(crate, kind)]
     yield f"\nThe longest chain of proofs, {taken:.0f} s of processor time: {', '.join(words)}."
     ends = {kind: max(((work.end, crate) for (crate, it), work in run.work.items() if it == kind), default=None) for kind in FILLS}
     yield "Last ended " + ", ".join(f"of {kind} {end[1]} at {clock(end[0])}" for kind, end in ends.items() if end) + "."
@@ -239,7 +247,7 @@ def told(run, stands_on):
 
 def draw(run, stands_on):
     """A bar for each crate and kind of work, from its first check to the end of its last one; the chain's names are bold."""
-    left, wide, high, chain = 190, 900, 15, longest_chain(run, stands_on)[1]
+    left, wide, high, chain = 190, 900, 15, dict(longest_chain(run, stands_on)[1])
     picture = Picture(left + wide + 40, 70 + high * len(stands_on), "The gate: when each crate was proved")
     scale = wide / max(run.seconds, 1)
     for number, kind in enumerate(FILLS):
