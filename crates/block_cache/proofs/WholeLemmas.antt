@@ -11,7 +11,7 @@ use Rattle.errand_steps.specs.declared.reply.Reply.TheVariants as reply
 use Rattle.errand_steps.specs.Begins.{IsIdle}
 use Rattle.errand_steps.specs.Calls.{Call, alloc, free, put, read, take, write}
 use Rattle.step_machine.specs.Cores.{OwnsAfter}
-use Rattle.step_machine.specs.Keeping.{LeavesPlace}
+use Rattle.step_machine.specs.Keeping.{Hands, LeavesPlace}
 use Rattle.live_heap.specs.declared.answers.AllocAnswer.{AllocAnswer}
 use Rattle.live_heap.specs.declared.answers.AllocAnswer.TheVariants as answer
 use Rattle.live_heap.specs.declared.answers.FreeAnswer.TheVariants as free_answer
@@ -20,7 +20,7 @@ use Rattle.live_heap.specs.declared.heap.Heap.{Heap}
 use Rattle.live_heap.specs.declared.pass.Pass.{Pass}
 use Rattle.live_heap.specs.Answers.{AllocTells, FreeTells}
 use Rattle.live_heap.specs.Passes.{seen}
-use Rattle.live_heap.specs.Whole.{HasEndedCall, Hands, MadeByPass, OwnsFor, at_once, by_steps}
+use Rattle.live_heap.specs.Whole.{HasEndedCall, MadeByPass, OwnsFor, at_once, by_steps}
 use Rattle.live_heap.proofs.Holding.{all-in, all-out, holds-all, holds-out}
 use Rattle.live_heap.specs.Holdings.{Holds}
 use Rattle.live_heap.proofs.WholeLaws.{pass-apart, pass-hands, pass-keeps}

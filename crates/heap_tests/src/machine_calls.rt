@@ -12,7 +12,7 @@ use heap_geometry::need::Need;
 use heap_scripts::alone::geometry;
 use lane_engine::grip::Grip;
 use lane_engine::over_core::step;
-use lane_engine::token::Token;
+use step_machine::token::Token;
 use pool_model::owner::Owner;
 use std::alloc::AllocError;
 use std::process::Abort;

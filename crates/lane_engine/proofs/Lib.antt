@@ -1,3 +1,2 @@
 pub mod CopyLemmas
 pub mod StepLemmas
-mod WholeLemmas

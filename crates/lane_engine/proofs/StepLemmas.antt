@@ -18,7 +18,7 @@ use Rattle.step_machine.specs.Moments.{HasSeenMore, IsMoment}
 use Rattle.step_machine.specs.Steps.{IsStepped, stepped}
 use Rattle.step_machine.proofs.CoreLemmas.{moves-set}
 use Rattle.step_machine.proofs.MomentLemmas.{core-moment, core-beside, same-seen}
-use Rattle.live_heap.proofs.Told.{moment-tellable}
+use Rattle.step_machine.proofs.TellLemmas.{moment-tellable}
 use Rattle.lane_engine.specs.Told.{HasStepped}
 use Rattle.lane_engine.specs.Machines.{MovesCore, ServesCaller}
 

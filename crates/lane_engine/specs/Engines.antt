@@ -5,10 +5,6 @@ use Rattle.heap_geometry.specs.declared.need.Need.{Need}
 use Rattle.pool_model.specs.declared.event.Event.{Event}
 use Rattle.errand_steps.specs.Errands.{ErrandFields}
 use Rattle.step_machine.specs.Cores.{CoreFields, errand_at}
-use Rattle.live_heap.specs.declared.block.Block.{Block}
-use Rattle.live_heap.specs.declared.heap.Heap.{Heap}
-use Rattle.live_heap.specs.declared.pass.Pass.{Pass}
-use Rattle.live_heap.specs.Passes.{seen}
 use Rattle.lane_engine.specs.declared.grip.Grip.{Grip}
 use Rattle.lane_engine.specs.Machines.{grip_need, grip_place}
 
@@ -24,14 +20,3 @@ pub record Engine (B : Type 0) : Type 0 where
 abbrev pub machine_at : CoreFields → ℕ → Engine Grip
 machine_at c caller =
     record { place_of = grip_place; need_of = grip_need; geometry = c.geometry; events = c.events; errand = errand_at c.errands caller }
-
--- a heap, to the caller of this pass
-abbrev pub heap_at : Heap → Pass → Engine Block
-heap_at h p =
-    record {
-      place_of = λ (block : Block). block.place;
-      need_of = λ (block : Block). block.need;
-      geometry = h.layout;
-      events = seen p;
-      errand = p.errand;
-    }

@@ -7,16 +7,11 @@ use Rattle.errand_steps.specs.declared.reply.Reply.{Reply}
 use Rattle.errand_steps.specs.declared.reply.Reply.TheVariants as reply
 use Rattle.errand_steps.specs.Calls.{Call, alloc, read, write}
 use Rattle.call_events.specs.Made.{LeadsBy, Made, answered}
-use Rattle.step_machine.specs.Cores.{OwnsAfter}
-use Rattle.step_machine.specs.Keeping.{LeavesPlace}
-use Rattle.live_heap.specs.declared.heap.Heap.{Heap}
-use Rattle.live_heap.specs.Passes.{seen}
-use Rattle.live_heap.specs.Whole.{Hands, IsAtRest, IsWhole}
+use Rattle.step_machine.specs.Keeping.{Hands, LeavesPlace}
 use Rattle.lane_engine.specs.declared.calls.Allocated.{Allocated}
 use Rattle.lane_engine.specs.declared.calls.Allocated.TheVariants as allocated
 use Rattle.lane_engine.specs.declared.calls.Taken.{Taken}
 use Rattle.lane_engine.specs.declared.calls.Taken.TheVariants as taken
-use Rattle.lane_engine.specs.declared.over_pass.PassCalls.{PassCalls}
 
 module _ {B : Type 0} (place_of : B → ℕ) (need_of : B → Need) where
   -- the answer of an allocation
@@ -44,17 +39,6 @@ pub record Maker (S : Type 0) : Type 1 where
   pub Base : Type 0
   pub runs_on : S → Base
   pub called : S → Call → Reply → S → Type 0
-
--- a pass of a heap, by its whole calls
-abbrev pub pass_maker : Maker PassCalls
-pass_maker =
-    record {
-      stands = λ e. IsAtRest e.heap.now e.pass.now;
-      owns = λ e place need. OwnsAfter (seen e.pass.now) e.pass.now.errand.caller place need;
-      Base = ℕ × Heap;
-      runs_on = λ e. (e.pass.ghost_name, e.heap.now);
-      called = λ e call answer f. IsWhole e.heap.now e.pass.now call answer f.heap.now f.pass.now;
-    }
 
 -- whole calls leave their caller its blocks, but for the one that each gives away; a block that one hands out is the caller's, and none of those that it had; and one that is given serves what was asked for
 pub record KeepBlocks {S : Type 0} (maker : Maker S) : Type 0 where

@@ -10,8 +10,8 @@ ghost use Rattle.errand_steps.specs.Calls.{Call, alloc, free, put, take};
 ghost use Rattle.lane_engine.specs.Whole.{Copies, KeepBlocks, Maker, PutTells, TakeTells, allocated_as};
 ghost use Rattle.call_events.specs.Made.{LeadsBy, Sums, wrote};
 
-use crate::token::Token;
 use std::sync::Wait;
+use step_machine::token::Token;
 
 /// What an allocation came to.
 #[derive(Debug, PartialEq, Eq, Drop)]

@@ -3,9 +3,9 @@
 ghost use Rattle.heap_geometry.specs.Need.{IsNeed};
 ghost use Rattle.step_machine.specs.Needs.{IsNeed-prop};
 
-use crate::token::Token;
 use errand_steps::told::MakesBlocks;
 use heap_geometry::need::{Need, usable};
+use step_machine::token::Token;
 
 /// A block that a caller of a machine holds. `place` is the arena word of its prefix.
 #[derive(Debug, PartialEq, Eq, Drop)]

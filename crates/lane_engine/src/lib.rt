@@ -5,5 +5,3 @@
 pub mod calls;
 pub mod grip;
 pub mod over_core;
-pub mod over_pass;
-pub mod token;

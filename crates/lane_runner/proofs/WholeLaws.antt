@@ -25,13 +25,13 @@ use Rattle.trace_text.specs.declared.trace.Op.{Op}
 use Rattle.trace_text.specs.declared.trace.Op.TheVariants as op
 use Rattle.trace_text.specs.Traces.{IsOp}
 use Rattle.call_events.specs.Made.{LeadsBy, Made, answered, found_from, wrote}
-use Rattle.lane_engine.specs.declared.over_pass.PassCalls.{PassCalls}
+use Rattle.pass_calls.specs.declared.over_pass.PassCalls.{PassCalls}
 use Rattle.lane_outcomes.specs.declared.registers.Held.{Held}
 use Rattle.lane_outcomes.specs.declared.outcome.Outcome.{Outcome}
 use Rattle.lane_outcomes.specs.declared.outcome.Outcome.TheVariants as outcome
 use Rattle.lane_outcomes.specs.Lane.{held_in, registers_after}
 use Rattle.lane_outcomes.specs.Standing.{OwnsHeld}
-use Rattle.lane_engine.specs.Whole.{pass_maker}
+use Rattle.pass_calls.specs.Passes.{pass_maker}
 use Rattle.trace_lane.specs.declared.stage.OperationStage.TheVariants as stage
 use Rattle.trace_lane.specs.Lanes.{IsLane}
 use Rattle.trace_lane.specs.Made.{AllMade, HasRun, HoldsBlocks, MadeFor, Skips, register_of}

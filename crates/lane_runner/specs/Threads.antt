@@ -20,7 +20,7 @@ use Rattle.trace_lane.specs.declared.lane.LaneState.{LaneState}
 use Rattle.lane_runner.specs.declared.run_lanes.LaneThread.{LaneThread}
 use Rattle.lane_runner.specs.declared.run_lanes.Reserved.{Reserved}
 use Rattle.trace_lane.specs.declared.stage.OperationStage.TheVariants as stage
-use Rattle.lane_engine.specs.Engines.{heap_at}
+use Rattle.pass_calls.specs.Passes.{heap_at}
 use Rattle.trace_lane.specs.Lanes.{IsLane}
 use Rattle.trace_lane.specs.Made.{AllMade}
 use Rattle.trace_lane.specs.Paths.{FirstPassed, begun_count, held_blocks}

@@ -5,8 +5,8 @@ ghost use Rattle.trace_text.specs.Traces.{IsTrace};
 ghost use Rattle.lane_runner.specs.Running.{operations_in};
 ghost use Rattle.trace_lane.specs.States.{AreNew};
 
-use lane_engine::token::Token;
 use std::alloc::{AllocError, Global};
+use step_machine::token::Token;
 use trace_lane::lane::LaneState;
 use trace_text::trace::{Op, Trace};
 

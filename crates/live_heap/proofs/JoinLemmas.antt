@@ -21,7 +21,7 @@ use Rattle.live_heap.specs.Answers.{reply_of}
 use Rattle.live_heap.specs.Going.{HasGone, HasWalked, IsGoing, Rejoins, at_block, stands_at}
 use Rattle.live_heap.proofs.CallsCounts.{goes-cleared, goes-lost, going-again, going-ends, going-further, going-grows, never-idle}
 use Rattle.live_heap.proofs.Stepped.{still-of, took-access, took-step}
-use Rattle.live_heap.proofs.Told.{moment-tellable}
+use Rattle.step_machine.proofs.TellLemmas.{moment-tellable}
 
 -- the errand of a call whose seat has made the step stands where the step began
 pub rejoins :

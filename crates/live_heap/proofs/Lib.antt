@@ -31,7 +31,6 @@ pub mod StepByStep
 pub mod StepHands
 pub mod Stepped
 pub mod Straight
-pub mod Told
 pub mod Totals
 pub mod WalkLemmas
 pub mod WholeLaws

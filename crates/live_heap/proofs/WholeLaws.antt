@@ -7,13 +7,13 @@ use Rattle.errand_steps.specs.declared.reply.Reply.{Reply}
 use Rattle.errand_steps.specs.declared.reply.Reply.TheVariants as reply
 use Rattle.errand_steps.specs.Calls.{Call, alloc}
 use Rattle.step_machine.specs.Cores.{OwnsAfter}
-use Rattle.step_machine.specs.Keeping.{LeavesPlace}
+use Rattle.step_machine.specs.Keeping.{Hands, LeavesPlace}
 use Rattle.step_machine.proofs.MomentAnswers.{moment-meant, moment-owns}
 use Rattle.live_heap.specs.declared.heap.Heap.{Heap}
 use Rattle.live_heap.specs.declared.pass.Pass.{Pass}
 use Rattle.live_heap.specs.Passes.{seen}
 use Rattle.live_heap.proofs.LawsKept.{called-adds, ended-spares, given-apart, got-apart, owns-on}
-use Rattle.live_heap.specs.Whole.{Hands, IsWhole, by_steps, at_once}
+use Rattle.live_heap.specs.Whole.{IsWhole, by_steps, at_once}
 
 abbrev OwnsAt : Pass → ℕ → Need → Type 0
 OwnsAt p place need = OwnsAfter (seen p) p.errand.caller place need

@@ -14,12 +14,6 @@ use Rattle.live_heap.specs.Answers.{IsSpentAtOnce}
 use Rattle.live_heap.specs.Calls.{HasCalled}
 use Rattle.live_heap.specs.Passes.{IsOf, seen}
 
--- the answer hands out this block
-abbrev pub Hands : Reply → ℕ → Need → Type 0
-Hands (reply.Given place need) p n = (place ≡ p) × (need ≡ n)
-Hands (reply.Got place need) p n = (place ≡ p) × (need ≡ n)
-Hands answer p n = ⊥
-
 -- a pass of this heap that is in no call
 abbrev pub IsAtRest : Heap → Pass → Type 0
 IsAtRest h p = IsOf h p × IsIdle p.errand

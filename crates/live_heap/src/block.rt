@@ -6,6 +6,7 @@ ghost use Rattle.step_machine.specs.Needs.{IsNeed-prop};
 
 use errand_steps::told::MakesBlocks;
 use heap_geometry::need::{Need, usable};
+use step_machine::token::Token;
 
 /// A block that a caller of a heap owns, or owned: it can't be copied, cloned or made, and whoever frees
 /// it or puts it on a shelf gives it away.
@@ -36,6 +37,24 @@ impl Block {
         ensures { result ≡ self.now.place }
     {
         self.place
+    }
+}
+
+impl Token for Block {
+    ghost place_of = { λ block. block.place };
+
+    ghost need_of = { λ block. block.need };
+
+    fn words(&self) -> u32 {
+        self.words()
+    }
+
+    fn need(&self) -> Need {
+        self.need()
+    }
+
+    fn place(&self) -> u32 {
+        self.place()
     }
 }
 

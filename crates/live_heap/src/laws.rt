@@ -19,7 +19,7 @@ ghost use Rattle.sound_state.specs.Sound.{IsSound};
 ghost use Rattle.sound_state.specs.Sums.{callers_sum};
 ghost use Rattle.sound_state.specs.Turns.{gives_small, refuses_small};
 ghost use Rattle.step_machine.specs.Cores.{OwnsAfter, errand_at, state_of};
-ghost use Rattle.step_machine.specs.Keeping.{LeavesPlace};
+ghost use Rattle.step_machine.specs.Keeping.{Hands, LeavesPlace};
 ghost use Rattle.step_machine.specs.Moments.{IsServed};
 ghost use Rattle.live_heap.specs.declared.answers.FreeAnswer.TheVariants as free_answer;
 ghost use Rattle.live_heap.specs.declared.answers.Resumed.TheVariants as resumed;
@@ -33,7 +33,7 @@ ghost use Rattle.live_heap.specs.Endings.{ClosedFields, IsResting, machine_of};
 ghost use Rattle.live_heap.specs.Passes.{IsOf, Owns, seen};
 ghost use Rattle.live_heap.specs.Refusals.{HasFoundNoFrame, HasFoundNoRun};
 ghost use Rattle.live_heap.specs.SeenSteps.{steps_of};
-ghost use Rattle.live_heap.specs.Whole.{Hands, IsWhole};
+ghost use Rattle.live_heap.specs.Whole.{IsWhole};
 
 /// What is so of every pass, whatever calls it has made: the events that it has seen are legal, and
 /// bound its turns from both sides, whether its errand is the one that its last step left or a call has

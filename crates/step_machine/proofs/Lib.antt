@@ -10,3 +10,4 @@ pub mod AloneLemmas
 pub mod MeantLemmas
 pub mod MomentLemmas
 pub mod MomentAnswers
+pub mod TellLemmas

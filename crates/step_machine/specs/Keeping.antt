@@ -1,9 +1,12 @@
--- What leaves a caller's block where it is.
-use Rattle.std.specs.Prelude.{ℕ, ◌≢◌, List, [], ◌∷◌}
+-- What leaves a caller's block where it is, and what hands one out.
+use Rattle.std.specs.Prelude.{ℕ, ◌≡◌, ◌≢◌, List, [], ◌∷◌}
+use Rattle.heap_geometry.specs.declared.need.Need.{Need}
 use Rattle.pool_model.specs.declared.event.Event.{Event}
 use Rattle.pool_model.specs.declared.event.Event.TheVariants.{Free, Put}
 use Rattle.pool_model.specs.Calls.{Ended}
 use Rattle.pool_model.specs.Calls as ended
+use Rattle.errand_steps.specs.declared.reply.Reply.{Reply}
+use Rattle.errand_steps.specs.declared.reply.Reply.TheVariants as reply
 use Rattle.errand_steps.specs.Calls.{Call, free, put}
 
 -- the event gives no block away that lies at this place; none of the events does
@@ -26,3 +29,9 @@ abbrev pub LeavesAtEnd : Ended → ℕ → Type 0
 LeavesAtEnd (ended.freed p) place = place ≢ p
 LeavesAtEnd (ended.put_done p shelf) place = place ≢ p
 LeavesAtEnd end place = Unit {0}
+
+-- the answer hands out this block
+abbrev pub Hands : Reply → ℕ → Need → Type 0
+Hands (reply.Given place need) p n = (place ≡ p) × (need ≡ n)
+Hands (reply.Got place need) p n = (place ≡ p) × (need ≡ n)
+Hands answer p n = ⊥

@@ -10,3 +10,4 @@ pub mod first;
 pub mod laws;
 pub mod machine;
 mod seen;
+pub mod token;

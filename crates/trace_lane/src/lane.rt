@@ -17,10 +17,10 @@ use crate::stage::OperationStage;
 use edge_io::gate::Gate;
 use lane_engine::grip::Grip;
 use lane_engine::over_core::step;
-use lane_engine::token::Token;
 use lane_outcomes::outcome::Outcome;
 use std::alloc::{AllocError, Global};
 use step_machine::machine::Core;
+use step_machine::token::Token;
 use trace_text::limits::REGISTERS;
 use trace_text::trace::Op;
 

@@ -25,7 +25,7 @@ ghost use Rattle.trace_lane.specs.declared.stage.OperationStage.{OperationStage}
 ghost use Rattle.trace_lane.specs.declared.stage.OperationStage.TheVariants.{Between};
 
 use crate::lane::LaneState;
-use lane_engine::token::Token;
+use step_machine::token::Token;
 
 /// A new lane stands where its caller is in no call and has no event, and it has begun no call.
 pub fn new_lanes_stand<B: Token>()

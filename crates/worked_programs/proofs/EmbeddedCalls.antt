@@ -9,13 +9,13 @@ use Rattle.errand_steps.specs.Calls.{Call, alloc, read, take, write}
 use Rattle.errand_steps.specs.Errands.{ErrandFields}
 use Rattle.call_events.specs.Made.{LeadsBy, Made, answered}
 use Rattle.step_machine.specs.Cores.{OwnsAfter}
-use Rattle.step_machine.specs.Keeping.{LeavesPlace}
+use Rattle.step_machine.specs.Keeping.{Hands, LeavesPlace}
 use Rattle.live_heap.specs.declared.heap.Heap.{Heap}
 use Rattle.live_heap.specs.declared.pass.Pass.{Pass}
 use Rattle.live_heap.specs.Answers.{IsContents}
 use Rattle.live_heap.specs.Calls.{HasCalled}
 use Rattle.live_heap.specs.Passes.{IsFresh, IsOf, seen}
-use Rattle.live_heap.specs.Whole.{Hands, IsAtRest, IsWhole, OwnsFor, by_steps}
+use Rattle.live_heap.specs.Whole.{IsAtRest, IsWhole, OwnsFor, by_steps}
 use Rattle.live_heap.specs.Words.{TellsContents}
 use Rattle.worked_programs.specs.declared.embedded.Stop.{Stop}
 use Rattle.worked_programs.specs.Embedded.{HasStopped, Makes, Stops}

@@ -21,8 +21,8 @@ use Rattle.live_heap.specs.Answers.{IsContents}
 use Rattle.live_heap.specs.Calls.{HasCalled}
 use Rattle.live_heap.specs.Contents.{word_in}
 use Rattle.live_heap.specs.Passes.{IsOf}
-use Rattle.live_heap.specs.Whole.{HasEndedCall, Hands}
-use Rattle.step_machine.specs.Keeping.{LeavesPlace}
+use Rattle.live_heap.specs.Whole.{HasEndedCall}
+use Rattle.step_machine.specs.Keeping.{Hands, LeavesPlace}
 use Rattle.block_cache.specs.declared.cache.Cache.{Cache}
 use Rattle.block_cache.specs.declared.magazines.Magazines.{Magazines}
 use Rattle.block_cache.specs.Caches.{HasFor, HasKept, HasRoom, HasServed, IsCache, KeepsMagazines}

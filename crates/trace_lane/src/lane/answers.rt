@@ -18,10 +18,10 @@ use super::registers::{put_in, take_out};
 use crate::stage::OperationStage;
 use errand_steps::told::{Ending, Stepped};
 use lane_engine::grip::Grip;
-use lane_engine::token::Token;
 use lane_outcomes::outcome::Outcome;
 use lane_outcomes::registers::Held;
 use step_machine::machine::Core;
+use step_machine::token::Token;
 use trace_text::trace::Op;
 
 impl LaneState<Grip> {

@@ -14,9 +14,9 @@ use super::registers::{is_full, put_in, take_out, unasked};
 use super::{LaneState, number_of};
 use edge_io::gate::Gate;
 use lane_engine::calls::{Allocated, Calls, Taken};
-use lane_engine::token::Token;
 use lane_outcomes::outcome::Outcome;
 use std::sync::Wait;
+use step_machine::token::Token;
 use trace_text::trace::Op;
 
 /// Takes the block that lies on a shelf; where another caller changed the shelf in between it tries again.

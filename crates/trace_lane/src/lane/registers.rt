@@ -7,8 +7,8 @@ ghost use Rattle.trace_lane.specs.Operations.{IsUnasked};
 ghost use Rattle.trace_lane.specs.Paths.{held_by};
 
 use heap_geometry::need::class_of;
-use lane_engine::token::Token;
 use lane_outcomes::outcome::Outcome;
+use step_machine::token::Token;
 
 /// Whether the register holds a block.
 pub(super) fn is_full<B>(registers: &Vec<Option<B>>, r: u16) -> bool

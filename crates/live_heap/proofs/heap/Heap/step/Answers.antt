@@ -8,7 +8,7 @@ use Rattle.live_heap.specs.declared.pass.Pass.{Pass}
 use Rattle.live_heap.specs.Answers.{block_need, block_place}
 use Rattle.live_heap.proofs.Begun.{of-laid}
 use Rattle.live_heap.proofs.Stepped.{of-sight, still-of, took-access, took-step, has-stepped}
-use Rattle.live_heap.proofs.Told.{moment-tellable}
+use Rattle.step_machine.proofs.TellLemmas.{moment-tellable}
 use Rattle.live_heap.proofs.heap.Heap.step.Goals as goal
 
 pub act-found-requires-clause-sight : goal.act-found-requires-clause-sight

@@ -1,0 +1,33 @@
+-- A pass of a heap as a lane sees it.
+use Rattle.std.specs.Prelude.{ℕ}
+use Rattle.step_machine.specs.Cores.{OwnsAfter}
+use Rattle.live_heap.specs.declared.block.Block.{Block}
+use Rattle.live_heap.specs.declared.heap.Heap.{Heap}
+use Rattle.live_heap.specs.declared.pass.Pass.{Pass}
+use Rattle.live_heap.specs.Passes.{seen}
+use Rattle.live_heap.specs.Whole.{IsAtRest, IsWhole}
+use Rattle.lane_engine.specs.Engines.{Engine}
+use Rattle.lane_engine.specs.Whole.{Maker}
+use Rattle.pass_calls.specs.declared.over_pass.PassCalls.{PassCalls}
+
+-- a heap, to the caller of this pass
+abbrev pub heap_at : Heap → Pass → Engine Block
+heap_at h p =
+    record {
+      place_of = λ (block : Block). block.place;
+      need_of = λ (block : Block). block.need;
+      geometry = h.layout;
+      events = seen p;
+      errand = p.errand;
+    }
+
+-- a pass of a heap, by its whole calls
+abbrev pub pass_maker : Maker PassCalls
+pass_maker =
+    record {
+      stands = λ e. IsAtRest e.heap.now e.pass.now;
+      owns = λ e place need. OwnsAfter (seen e.pass.now) e.pass.now.errand.caller place need;
+      Base = ℕ × Heap;
+      runs_on = λ e. (e.pass.ghost_name, e.heap.now);
+      called = λ e call answer f. IsWhole e.heap.now e.pass.now call answer f.heap.now f.pass.now;
+    }
