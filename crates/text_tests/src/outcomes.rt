@@ -42,10 +42,22 @@ fn two_lanes(alloc: Global) -> Result<Trace, AllocError> {
     })
 }
 
+/// What is live of a trace whose lanes came to these outcomes.
+fn live_of(alloc: Global, trace: &Trace, lanes: &[&[Outcome]]) -> Result<(u32, u64), AllocError> {
+    let mut outcomes = Vec::new(alloc);
+    for lane in lanes {
+        outcomes.push(lane.to_vec(alloc)?)?;
+    }
+    Ok(live_count(trace, outcomes.as_slice()))
+}
+
+/// What is live of the two lanes.
+fn live_of_two(alloc: Global, lanes: &[&[Outcome]]) -> Result<(u32, u64), AllocError> {
+    live_of(alloc, &two_lanes(alloc)?, lanes)
+}
+
 #[test]
 fn a_block_that_was_taken_and_freed_is_not_live(rt: HostRuntime) -> Result<(), Fail> {
-    let alloc = rt.alloc();
-    let trace = two_lanes(alloc)?;
     let first = [
         Outcome::Given { words: 1, place: 0 },
         Outcome::Given {
@@ -62,10 +74,9 @@ fn a_block_that_was_taken_and_freed_is_not_live(rt: HostRuntime) -> Result<(), F
         },
         Outcome::Freed,
     ];
-    let outcomes = vec![in alloc; first.to_vec(alloc)?, second.to_vec(alloc)?]?;
-    assert_eq!(rt; live_count(&trace, outcomes.as_slice()), (1, 1));
-    let shelved = vec![in alloc; first.to_vec(alloc)?]?;
-    assert_eq!(rt; live_count(&trace, shelved.as_slice()), (2, 4));
+    let (first, second) = (first.as_slice(), second.as_slice());
+    assert_eq!(rt; live_of_two(rt.alloc(), &[first, second])?, (1, 1));
+    assert_eq!(rt; live_of_two(rt.alloc(), &[first])?, (2, 4));
     Ok(())
 }
 
@@ -97,30 +108,28 @@ fn resizing_lane(alloc: Global) -> Result<Trace, AllocError> {
     })
 }
 
+/// What is live of that lane.
+fn live_of_resizing(alloc: Global, lane: &[Outcome]) -> Result<(u32, u64), AllocError> {
+    live_of(alloc, &resizing_lane(alloc)?, &[lane])
+}
+
 #[test]
 fn a_resized_block_is_live_in_place_of_the_old_one(rt: HostRuntime) -> Result<(), Fail> {
-    let alloc = rt.alloc();
-    let trace = resizing_lane(alloc)?;
-    let given = Outcome::Given { words: 3, place: 0 };
-    let kept = Outcome::Kept { words: 3, place: 0 };
-    let larger = Outcome::Resized {
-        words: 7,
-        place: 2048,
-    };
-    let smaller = Outcome::Resized {
-        words: 1,
-        place: 4096,
-    };
-    let mut lane = Vec::new(alloc);
-    for (outcome, live) in [
-        (given, (1, 3)),
-        (kept, (1, 3)),
-        (larger, (1, 7)),
-        (smaller, (1, 1)),
-    ] {
-        lane.push(outcome)?;
-        let outcomes = vec![in alloc; lane.as_slice().to_vec(alloc)?]?;
-        assert_eq!(rt; live_count(&trace, outcomes.as_slice()), live);
+    let outcomes = [
+        Outcome::Given { words: 3, place: 0 },
+        Outcome::Kept { words: 3, place: 0 },
+        Outcome::Resized {
+            words: 7,
+            place: 2048,
+        },
+        Outcome::Resized {
+            words: 1,
+            place: 4096,
+        },
+    ];
+    for (last, live) in [(1, 3), (1, 3), (1, 7), (1, 1)].into_iter().enumerate() {
+        assert!(rt; last < outcomes.len());
+        assert_eq!(rt; live_of_resizing(rt.alloc(), &outcomes[..=last])?, live);
     }
     Ok(())
 }
@@ -207,13 +216,26 @@ fn each_outcome(alloc: Global) -> Result<Vec<Outcome>, AllocError> {
     .to_vec(alloc)
 }
 
+/// The report of a lane with each outcome.
+fn report_of_each(alloc: Global) -> Result<Vec<u8>, AllocError> {
+    let outcomes = vec![in alloc; each_outcome(alloc)?]?;
+    report(alloc, &one_lane(alloc)?, &outcomes, 1, 3)
+}
+
+/// The report of no lane.
+fn report_of_none(alloc: Global) -> Result<Vec<u8>, AllocError> {
+    report(alloc, &no_lane(alloc), &[], 0, 0)
+}
+
 #[test]
 fn each_line_is_spelled(rt: HostRuntime) -> Result<(), Fail> {
-    let alloc = rt.alloc();
-    let outcomes = vec![in alloc; each_outcome(alloc)?]?;
-    let text = report(alloc, &one_lane(alloc)?, &outcomes, 1, 3)?;
-    assert_eq!(rt; text.as_slice(), EACH_OUTCOME.as_bytes());
-    let text = report(alloc, &no_lane(alloc), &[], 0, 0)?;
-    assert_eq!(rt; text.as_slice(), NAMED_LIMIT.as_bytes());
+    assert_eq!(rt;
+        report_of_each(rt.alloc())?.as_slice(),
+        EACH_OUTCOME.as_bytes()
+    );
+    assert_eq!(rt;
+        report_of_none(rt.alloc())?.as_slice(),
+        NAMED_LIMIT.as_bytes()
+    );
     Ok(())
 }

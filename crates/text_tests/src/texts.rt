@@ -1,7 +1,11 @@
 //! Texts that are read, refused and printed.
 
+ghost use Rattle.std.specs.Prelude.{◌≤◌, length};
+ghost use Rattle.trace_text.specs.declared.limits.TheConstants.{MAX_INPUT};
+
 use crate::printed::{printed, trace_of};
 use heap_geometry::geometry::Geometry;
+use std::alloc::{AllocError, Global};
 use std::process::Abort;
 use std::test::Fail;
 use trace_text::fault::{Cause, TraceFault};
@@ -23,21 +27,35 @@ fn is_refused(rt: &HostRuntime, text: &[u8], number: u32, cause: u8) -> bool {
         && read_trace(rt.alloc(), text).err() == Some(TraceFault::Line { number, cause })
 }
 
+/// Whether a text is read as a trace of one lane with these operations.
+fn has_one_lane(alloc: Global, text: &[u8], ops: &[Op]) -> Result<bool, Fail>
+    requires { length text.now ≤ MAX_INPUT }
+{
+    let trace = trace_of(alloc, text)?;
+    let lanes = trace.lanes.as_slice();
+    Ok(lanes.len() == 1 && lanes[0].as_slice() == ops)
+}
+
 /// A text is read as a trace of one lane with these operations.
 fn is_one_lane<R: Abort + AllocGlobal>(rt: &R, text: &[u8], ops: &[Op]) -> Result<(), Fail> {
     assert!(rt; text.len() <= MAX_INPUT);
-    let trace = trace_of(rt.alloc(), text)?;
-    let lanes = trace.lanes.as_slice();
-    assert_eq!(rt; lanes.len(), 1);
-    assert_eq!(rt; lanes[0].as_slice(), ops);
+    assert!(rt; has_one_lane(rt.alloc(), text, ops)?);
     Ok(())
 }
 
 const PLAIN: &[u8] = b"heap 4 1 2\nlane\na 0 1 5\na 1 3 7\nc 1\nf 0\nf 1\nend\n";
 
+/// The version of a text, its heap's numbers, whether it names a limit, and how many order runs it has.
+fn numbers_of(alloc: Global, text: &[u8]) -> Result<(Version, Geometry, bool, usize), Fail>
+    requires { length text.now ≤ MAX_INPUT }
+{
+    let trace = trace_of(alloc, text)?;
+    let orders = trace.orders.as_slice().len();
+    Ok((trace.version, trace.heap, trace.named_limit, orders))
+}
+
 #[test]
 fn a_plain_text(rt: HostRuntime) -> Result<(), Fail> {
-    let trace = trace_of(rt.alloc(), PLAIN)?;
     let heap = Geometry {
         frames: 4,
         heaps: 1,
@@ -45,9 +63,8 @@ fn a_plain_text(rt: HostRuntime) -> Result<(), Fail> {
         callers: 1,
         turn_limit: 68_719_476_735,
     };
-    let orders = trace.orders.as_slice().len();
-    assert_eq!(rt; (trace.heap, trace.named_limit, orders), (heap, false, 0));
-    assert_eq!(rt; trace.version, Version::One);
+    let numbers = numbers_of(rt.alloc(), PLAIN)?;
+    assert_eq!(rt; numbers, (Version::One, heap, false, 0));
     let ops = [
         Op::Alloc {
             r: 0,
@@ -69,8 +86,8 @@ fn a_plain_text(rt: HostRuntime) -> Result<(), Fail> {
 #[test]
 fn a_text_of_version_2(rt: HostRuntime) -> Result<(), Fail> {
     let text = b"heap2 4 1 2\nlane\na 0 3 10\nr 0 2\nr 1023 131071\nr 1 0\nend\n";
-    let trace = trace_of(rt.alloc(), text)?;
-    assert_eq!(rt; trace.version, Version::Two);
+    let (version, ..) = numbers_of(rt.alloc(), text)?;
+    assert_eq!(rt; version, Version::Two);
     let ops = [
         Op::Alloc {
             r: 0,
@@ -173,74 +190,92 @@ fn refused_texts(rt: HostRuntime) {
     }
 }
 
+/// The line and the cause of the first 0 bytes, of the first one, of the first two, and so on.
+const CUTS: [(u32, u8); 47] = [
+    (1, 2),
+    (1, 2),
+    (1, 2),
+    (1, 2),
+    (1, 5),
+    (1, 5),
+    (1, 5),
+    (1, 5),
+    (1, 5),
+    (1, 5),
+    (2, 9),
+    (2, 9),
+    (2, 4),
+    (2, 4),
+    (2, 4),
+    (3, 9),
+    (3, 9),
+    (3, 5),
+    (3, 5),
+    (3, 5),
+    (3, 5),
+    (3, 5),
+    (3, 5),
+    (4, 9),
+    (4, 9),
+    (4, 5),
+    (4, 5),
+    (4, 5),
+    (4, 5),
+    (4, 5),
+    (4, 5),
+    (5, 9),
+    (5, 9),
+    (5, 5),
+    (5, 5),
+    (6, 9),
+    (6, 9),
+    (6, 5),
+    (6, 5),
+    (7, 9),
+    (7, 9),
+    (7, 5),
+    (7, 5),
+    (8, 9),
+    (8, 9),
+    (8, 4),
+    (8, 4),
+];
+
+/// How many operations the lane of a text has, where that has one lane.
+fn operations_of(alloc: Global, text: &[u8]) -> Result<Option<usize>, Fail>
+    requires { length text.now ≤ MAX_INPUT }
+{
+    let trace = trace_of(alloc, text)?;
+    let lanes = trace.lanes.as_slice();
+    if lanes.len() == 1 {
+        Ok(Some(lanes[0].len()))
+    } else {
+        Ok(None)
+    }
+}
+
 #[test]
 fn cuts_of_a_text(rt: HostRuntime) -> Result<(), Fail> {
-    // The line and the cause of the first 0 bytes, of the first one, of the first two, and so on.
-    let cuts = [
-        (1, 2),
-        (1, 2),
-        (1, 2),
-        (1, 2),
-        (1, 5),
-        (1, 5),
-        (1, 5),
-        (1, 5),
-        (1, 5),
-        (1, 5),
-        (2, 9),
-        (2, 9),
-        (2, 4),
-        (2, 4),
-        (2, 4),
-        (3, 9),
-        (3, 9),
-        (3, 5),
-        (3, 5),
-        (3, 5),
-        (3, 5),
-        (3, 5),
-        (3, 5),
-        (4, 9),
-        (4, 9),
-        (4, 5),
-        (4, 5),
-        (4, 5),
-        (4, 5),
-        (4, 5),
-        (4, 5),
-        (5, 9),
-        (5, 9),
-        (5, 5),
-        (5, 5),
-        (6, 9),
-        (6, 9),
-        (6, 5),
-        (6, 5),
-        (7, 9),
-        (7, 9),
-        (7, 5),
-        (7, 5),
-        (8, 9),
-        (8, 9),
-        (8, 4),
-        (8, 4),
-    ];
-    for (bytes, (number, cause)) in cuts.into_iter().enumerate() {
+    for (bytes, (number, cause)) in CUTS.into_iter().enumerate() {
         assert!(rt; bytes < PLAIN.len());
         assert!(rt; is_refused(&rt, &PLAIN[..bytes], number, cause));
     }
-    let trace = trace_of(rt.alloc(), &PLAIN[..47])?;
-    let lanes = trace.lanes.as_slice();
-    assert_eq!(rt; lanes.len(), 1);
-    assert_eq!(rt; lanes[0].as_slice().len(), 5);
+    assert_eq!(rt; operations_of(rt.alloc(), &PLAIN[..47])?, Some(5));
     Ok(())
+}
+
+/// How many callers a text names, and whether these are its order runs.
+fn callers_of(alloc: Global, text: &[u8], runs: &[OrderRun]) -> Result<(u32, bool), Fail>
+    requires { length text.now ≤ MAX_INPUT }
+{
+    let trace = trace_of(alloc, text)?;
+    Ok((trace.heap.callers, trace.orders.as_slice() == runs))
 }
 
 #[test]
 fn every_line_is_printed_again(rt: HostRuntime) -> Result<(), Fail> {
     let text =
         b"heap 4 2 64 68719476735\nlane\na 1023 131071 18446744073709551615\nw 0 9\nc 0\nf 10\nlane\np 3 63\nt 3 0\nlane\norder 1 1000000\norder 2 1\nend\n";
-    let trace = trace_of(rt.alloc(), text)?;
     let runs = [
         OrderRun {
             lane: 1,
@@ -248,8 +283,7 @@ fn every_line_is_printed_again(rt: HostRuntime) -> Result<(), Fail> {
         },
         OrderRun { lane: 2, steps: 1 },
     ];
-    let orders = trace.orders.as_slice();
-    assert_eq!(rt; (trace.heap.callers, orders), (3, runs.as_slice()));
+    assert_eq!(rt; callers_of(rt.alloc(), text, runs.as_slice())?, (3, true));
     is_printed(&rt, text, text)?;
     let resizes = b"heap2 4 2 64 7\nlane\na 0 3 10\nr 0 131071\nr 1023 0\nend\n";
     is_printed(&rt, resizes, resizes)
@@ -271,18 +305,29 @@ fn a_refusal_is_told_in_one_line(rt: HostRuntime) -> Result<(), Fail> {
     Ok(())
 }
 
+/// A list of one lane with one operation comes back as it was made; it was empty at first.
+fn is_lane_given_back(alloc: Global) -> Result<bool, AllocError> {
+    let mut lanes = Lanes::new(Vec::new(alloc));
+    let was_empty = lanes.is_empty();
+    lanes.push_lane(alloc)?;
+    lanes.push_op(Op::Free { r: 3 })?;
+    let many = lanes.len();
+    let lanes = lanes.into_vec();
+    let has_op = lanes.len() == 1 && lanes[0].as_slice() == [Op::Free { r: 3 }].as_slice();
+    Ok(was_empty && many == 1 && has_op)
+}
+
+/// A list of one order run comes back with it; it was empty at first.
+fn is_order_given_back(alloc: Global) -> Result<bool, AllocError> {
+    let mut orders = Orders::new(Vec::new(alloc));
+    let was_empty = orders.is_empty();
+    orders.push(OrderRun { lane: 0, steps: 1 })?;
+    Ok(was_empty && orders.into_vec().len() == 1)
+}
+
 #[test]
 fn lists_are_given_back(rt: HostRuntime) -> Result<(), Fail> {
-    let mut lanes = Lanes::new(Vec::new(rt.alloc()));
-    assert!(rt; lanes.is_empty());
-    lanes.push_lane(rt.alloc())?;
-    lanes.push_op(Op::Free { r: 3 })?;
-    assert_eq!(rt; lanes.len(), 1);
-    let lanes = lanes.into_vec();
-    assert_eq!(rt; lanes[0].as_slice(), [Op::Free { r: 3 }].as_slice());
-    let mut orders = Orders::new(Vec::new(rt.alloc()));
-    assert!(rt; orders.is_empty());
-    orders.push(OrderRun { lane: 0, steps: 1 })?;
-    assert_eq!(rt; orders.into_vec().len(), 1);
+    assert!(rt; is_lane_given_back(rt.alloc())?);
+    assert!(rt; is_order_given_back(rt.alloc())?);
     Ok(())
 }
