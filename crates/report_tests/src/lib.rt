@@ -1,4 +1,5 @@
-//! Tests of whole runs of the program, over edges in memory: what it writes, how it ends and what it leaves.
+//! Tests of what the program reports of traces, over edges in memory: of those that have one report, of those
+//! that give the order of their steps, with a census, and through caches.
 #![tactic(auto)]
 
 #[cfg(test)]
@@ -6,14 +7,6 @@ mod caches;
 #[cfg(test)]
 mod censuses;
 #[cfg(test)]
-mod generated;
-#[cfg(test)]
-mod refusals;
-#[cfg(test)]
 mod replays;
 #[cfg(test)]
 mod schedules;
-#[cfg(test)]
-mod statuses;
-#[cfg(test)]
-mod stores;
