@@ -4,6 +4,7 @@ mod LeaveLemmas
 mod MadeCalls
 mod Numbers
 mod OpenLemmas
+mod Packing
 mod RangeLemmas
 pub mod Seal
 mod Slots

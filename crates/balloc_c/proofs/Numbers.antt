@@ -1,8 +1,8 @@
 -- What numbers name behind a change of a slot.
-use Rattle.std.proofs.Common.{ℕ, cond, arith, ◌≡◌, ◌≢◌, ◌<◌, ◌+◌, ◌*◌, ◌%◌, ◌^◌, ◌==◌, if◌then◌else◌, Bool, true, false, Option, Some, None, List, [], ◌∷◌, ◌++◌, length, slice_index_or, refl, sym, ap, ◌∙◌, subst}
+use Rattle.std.proofs.Common.{ℕ, zero, suc, cond, arith, ◌≡◌, ◌≢◌, ◌<◌, ◌≤◌, true≢false, ◌+◌, ◌*◌, ◌%◌, ◌^◌, ◌==◌, if◌then◌else◌, Bool, true, false, Option, Some, None, List, [], ◌∷◌, ◌++◌, length, slice_index_or, refl, sym, ap, ◌∙◌, subst}
 use Rattle.std.specs.Prelude.{count_by}
 use Rattle.std.proofs.lemmas.Bool.{eq-eqb, ne_eqb}
-use Rattle.std.proofs.lemmas.Bool.Decides.{eqb_tells}
+use Rattle.std.proofs.lemmas.Bool.Decides.{eqb_tells, leb_tells}
 use Rattle.std.proofs.lemmas.Nat.{mod-mul-add}
 use Rattle.std.proofs.lemmas.List.Sums.{sum_by-append, sum_by_push}
 use Rattle.std.proofs.Math.Nat.{add_assoc, mod-add-mod, mod-eq_of_lt, mod-lt}
@@ -10,7 +10,8 @@ use Rattle.live_heap.specs.declared.block.Block.{Block}
 use Rattle.balloc_c.specs.declared.table.Table.{Table}
 use Rattle.balloc_c.specs.Numbers.{NamesOneMore, GaveAway, KeepsNumbers, NamesOneLess, named, number_at}
 use Rattle.balloc_c.specs.declared.table.Slot.{Slot}
-use Rattle.balloc_c.specs.Slots.{HasAged, IsVacant, age_at, block_at, no_slot, set_block}
+use Rattle.balloc_c.specs.Packed.{HasOneMoreAtMost}
+use Rattle.balloc_c.specs.Slots.{HasAged, IsVacant, age_at, block_at, blocks_of, no_slot, set_block}
 use Rattle.balloc_c.proofs.Slots.{age-set, block-set_other, block-set_same, by_case}
 
 abbrev none : Option Block
@@ -200,3 +201,39 @@ gains-behind t m number block u kept gained = record {
   others = λ other apart. gained.others other apart ∙ kept.all other;
   gave = gave-more t m u [] [] kept.gave gained.gave;
 }
+
+some-not-none : (block : Block) → Some block ≢ None
+some-not-none block same = true≢false (ap is_there same)
+  where
+    is_there : Option Block → Bool
+    is_there None = false
+    is_there (Some b) = true
+
+behind-none : (slots : List Slot) (i : ℕ) → length slots ≤ i → block_at slots i ≡ None
+behind-none [] i past = refl
+behind-none (x ∷ xs) zero past = absurd (omega (arith, past))
+behind-none (x ∷ xs) (suc i) past = behind-none xs i (omega (arith, past))
+
+-- the first number of a table without slots is 0
+pub begins-at-zero :
+    (t u : Table) (number : ℕ) (block : Block) → t.slots.items ≡ [] → HasOneMoreAtMost t u → NamesOneMore t number block u → number < 2 ^ 64
+    → number ≡ 0
+begins-at-zero t u number block bare few gained small =
+    let i = number % 2 ^ 32 in
+    let names : named u number ≢ None = λ none. some-not-none block (sym gained.here ∙ none) in
+    let is : number_at u i ≡ number = names-itself u number names in
+    let here : block_at u.slots.items i ≡ Some block = sym (named-yes u number is) ∙ gained.here in
+    let there : i < length u.slots.items =
+    by_case (λ past. absurd (some-not-none block (sym here ∙ behind-none u.slots.items i past.1))) (λ low. omega (arith, low.1)) (leb_tells (length u.slots.items) i) in
+    let none : length t.slots.items ≡ 0 = ap length bare in
+    let held : length (blocks_of t.slots.items) ≡ 0 = ap (λ (l : List Slot). length (blocks_of l)) bare in
+    let most : length u.slots.items ≤ length (blocks_of t.slots.items) + 1 = few (omega (arith, none, there)) in
+    let first : i ≡ 0 = omega (arith, most, held, there) in
+    let age = age_at u.slots.items i in
+    let old : age_at t.slots.items i ≡ 0 = ap (λ (l : List Slot). age_at l i) bare in
+    let gave : age % 2 ^ 32 ≡ 0 = gained.gave i ∙ ap (λ (n : ℕ). (n + 0) % 2 ^ 32) old in
+    let whole : age * 2 ^ 32 + i % 2 ^ 32 ≡ number = is in
+    let low : age < 2 ^ 32 = omega (arith, whole, small) in
+    let zero_age : age ≡ 0 = sym (mod-eq_of_lt low) ∙ gave in
+    let rest : i % 2 ^ 32 ≡ 0 = ap (λ (n : ℕ). n % 2 ^ 32) first in
+    omega (arith, whole, zero_age, rest)

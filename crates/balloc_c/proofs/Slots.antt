@@ -47,7 +47,7 @@ about slots i within =
     ap blocks_of (sym (take-append-drop i slots) ∙ ap (λ (rest : List Slot). take i slots ++ rest) (drop_more slots i no_slot within))
     ∙ blocks-append (take i slots) (slice_index_or slots i no_slot ∷ drop (i + 1) slots)
 
-about-set :
+pub about-set :
     (slots : List Slot) (i : ℕ) (slot : Slot) → i < length slots
     → blocks_of (slice_set slots i slot) ≡ blocks_of (take i slots) ++ with_block slot.block (blocks_of (drop (i + 1) slots))
 about-set slots i slot within =

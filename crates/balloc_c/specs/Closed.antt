@@ -1,10 +1,14 @@
 -- How a pass closes for C.
-use Rattle.std.specs.Prelude.{ℕ, ◌≡◌, ◌≢◌, Bool, true, false, ℤ, pos, negsuc, Option, Some, None, Result, Ok, Err, List, [], ◌∷◌, ◌++◌, ◌⊎◌}
+use Rattle.std.specs.Prelude.{ℕ, ◌≡◌, Bool, true, false, ℤ, pos, negsuc, Option, Some, None, IsSomeAnd, Result, Ok, Err, List, [], ◌∷◌, ◌++◌, ◌⊎◌}
+use Rattle.std.specs.Arc.{arc_value}
+use Rattle.errand_steps.specs.Begins.{IsIdle}
 use Rattle.live_heap.specs.declared.answers.FreeAnswer.{FreeAnswer}
 use Rattle.live_heap.specs.declared.answers.FreeAnswer.TheVariants as free_answer
 use Rattle.live_heap.specs.declared.block.Block.{Block}
 use Rattle.live_heap.specs.Endings.{ClosedFields}
-use Rattle.shared_heap.specs.Places.{IsClosedWhole}
+use Rattle.shared_heap.specs.declared.shared.Receipt.{Receipt}
+use Rattle.shared_heap.specs.Gathered.{IsClosedWhole}
+use Rattle.shared_heap.specs.Shares.{IsReceiptFor}
 use Rattle.block_cache.specs.declared.cache.Cache.{Cache}
 use Rattle.balloc_c.specs.declared.counted.Counted.{Counted}
 use Rattle.balloc_c.specs.declared.hand.Hand.{Hand}
@@ -60,30 +64,40 @@ abbrev pub LeavesBlocks : Bool → Hand → Result (Unit {0}) Refusal → Hand �
 LeavesBlocks true hand outcome next = Makes HasFreedAll hand outcome next
 LeavesBlocks false hand outcome next = (outcome ≡ Ok tt) × (next ≡ hand)
 
--- the pass is closed, and what it won and lost is told; or it stays open
-abbrev pub Shuts : Result (Unit {0}) Refusal → Hand → ℕ → ℕ → ℕ → ℕ → Option Hand → Type 0
-Shuts (Ok done) hand won lost won_told lost_told after =
-    (won_told ≡ hand.cache.pass.errand.won) × (lost_told ≡ hand.cache.pass.errand.lost) × (after ≡ None)
-Shuts (Err cause) hand won lost won_told lost_told after = (won_told ≡ won) × (lost_told ≡ lost) × (after ≡ Some hand)
+-- the pass was given back as it stands, where it is in no call and has the ticket for it
+abbrev pub GivesBack : Hand → Option Receipt → Type 0
+GivesBack hand left =
+    IsIdle hand.cache.pass.errand → hand.ticket.caller ≡ hand.cache.pass.errand.caller
+    → IsSomeAnd left (IsReceiptFor (arc_value hand.heap) hand.cache.pass)
 
-abbrev pub Closes : Bool → Option Hand → ℤ → ℕ → ℕ → ℕ → ℕ → Option Hand → Type 0
-Closes frees None code won lost won_told lost_told after =
-    (code ≡ negsuc 0) × (won_told ≡ won) × (lost_told ≡ lost) × (after ≡ None)
-Closes frees (Some hand) code won lost won_told lost_told after =
-    (outcome : Result (Unit {0}) Refusal) × (next : Hand) × LeavesBlocks frees hand outcome next × (code ≡ code_in outcome)
-    × Shuts outcome next won lost won_told lost_told after
-
--- what is told of the heap: nothing; or it was closed with all its passes, and this is what it held
+-- what is told of the heap: nothing; or it was closed with a pass of each caller, each given back, with this one as it stands, and this is what it held
 abbrev pub TellsCensus : Hand → Counted → Counted → Type 0
 TellsCensus hand before after =
     (after ≡ before)
-    ⊎ ((c : ClosedFields) × IsClosedWhole (heap_of hand) c × (after.counted ≡ true) × IsCountOf c after)
+    ⊎ ((c : ClosedFields) × IsClosedWhole (heap_of hand) hand.cache.pass c × (after.counted ≡ true) × IsCountOf c after)
 
--- what a close tells of the heap: something at most where it was made
-abbrev pub ClosesHeap : Option Hand → ℤ → Counted → Counted → Type 0
-ClosesHeap None code before after = after ≡ record before { counted = false }
-ClosesHeap (Some hand) code before after =
-    (code ≢ pos 0 → after ≡ record before { counted = false }) × TellsCensus hand (record before { counted = false }) after
+-- a census that tells nothing
+abbrev pub untold : Counted → Counted
+untold census = record census { counted = false }
+
+-- what goes out of a close: exchanges won and lost, and a census
+abbrev pub Outs : Type 0
+Outs = ℕ × ℕ × Counted
+
+-- the pass is closed: what it won and lost is told, and the census of the heap, where that closes with it as it is told; or the pass stays open, and nothing is told
+abbrev pub Shuts : Result (Unit {0}) Refusal → Hand → Outs → Outs → Option Hand → Type 0
+Shuts (Ok done) hand before told after =
+    (told.0 ≡ hand.cache.pass.errand.won) × (told.1 ≡ hand.cache.pass.errand.lost) × (after ≡ None)
+    × TellsCensus hand (untold before.2) told.2
+Shuts (Err cause) hand before told after =
+    (told.0 ≡ before.0) × (told.1 ≡ before.1) × (after ≡ Some hand) × (told.2 ≡ untold before.2)
+
+abbrev pub Closes : Bool → Option Hand → ℤ → Outs → Outs → Option Hand → Type 0
+Closes frees None code before told after =
+    (code ≡ negsuc 0) × (told.0 ≡ before.0) × (told.1 ≡ before.1) × (after ≡ None) × (told.2 ≡ untold before.2)
+Closes frees (Some hand) code before told after =
+    (outcome : Result (Unit {0}) Refusal) × (next : Hand) × LeavesBlocks frees hand outcome next × (code ≡ code_in outcome)
+    × Shuts outcome next before told after
 
 -- what a pass has counted is told, or that there is no pass
 abbrev pub TellsCounts : Option Hand → ℤ → ℕ × ℕ × ℕ × ℕ → ℕ × ℕ × ℕ × ℕ → Type 0

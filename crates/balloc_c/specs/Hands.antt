@@ -2,13 +2,17 @@
 use Rattle.std.specs.Arc.{arc_value}
 use Rattle.live_heap.specs.declared.heap.Heap.{Heap}
 use Rattle.balloc_c.specs.Slots.{blocks_of}
+use Rattle.balloc_c.specs.Packed.{IsPacked}
 use Rattle.balloc_c.specs.Tended.{Tends}
+use Rattle.shared_heap.specs.Shares.{IsTicketOf}
 use Rattle.balloc_c.specs.declared.hand.Hand.{Hand}
 
 -- the heap that the hand has a share in
 abbrev pub heap_of : Hand → Heap
 heap_of hand = (arc_value hand.heap).heap
 
--- the cache is one in front of the heap that the hand has a share in, and its caller holds the blocks of the table
+-- the cache is one in front of the heap that the hand has a share in, and its caller holds the blocks of the table; no slot is lost, and the ticket is one for a pass of that heap
 abbrev pub IsTended : Hand → Type 0
-IsTended hand = Tends (heap_of hand) hand.cache (blocks_of hand.table.slots.items)
+IsTended hand =
+    Tends (heap_of hand) hand.cache (blocks_of hand.table.slots.items) × IsPacked hand.table
+    × IsTicketOf (arc_value hand.heap) hand.ticket.caller hand.ticket

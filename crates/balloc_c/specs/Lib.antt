@@ -7,6 +7,7 @@ pub mod Numbers
 pub mod Opened
 pub mod Outcomes
 pub mod Owned
+pub mod Packed
 pub mod Ranges
 pub mod Slots
 pub mod Tended

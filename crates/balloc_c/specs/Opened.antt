@@ -31,11 +31,13 @@ AreEmpty handles = (number : ℕ) → held_at handles number ≡ None
 abbrev pub Fit : Geometry → ℕ → Type 0
 Fit g depth = IsChecked g × (depth ≤ 64)
 
--- the pass of this caller of the heap, which has made no step and has no block; its magazines are empty, and have room for so many each
+-- the pass of this caller of the heap, with the ticket for it, which has made no step, and has no block and no slot for one; its magazines are empty, and have room for so many each
 pub record IsNew (h : Heap) (number depth : ℕ) (hand : Hand) : Type 0 where
   pub heap : heap_of hand ≡ h
   pub fresh : IsFresh h hand.cache.pass
   pub caller : hand.cache.pass.errand.caller ≡ number
+  pub ticket : hand.ticket.caller ≡ number
+  pub bare : hand.table.slots.items ≡ []
   pub blocks : blocks_of hand.table.slots.items ≡ []
   pub empty : cached_in hand.cache ≡ []
   pub deep : hand.cache.magazines.depth ≡ depth

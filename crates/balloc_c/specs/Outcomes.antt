@@ -21,6 +21,7 @@ use Rattle.balloc_c.specs.declared.refusal.Refusal.{Refusal}
 use Rattle.balloc_c.specs.declared.refusal.Refusal.TheVariants as refusal
 use Rattle.balloc_c.specs.declared.table.Table.{Table}
 use Rattle.balloc_c.specs.Numbers.{NamesOneMore, HasSlotReady, KeepsNumbers, NamesOneLess, named}
+use Rattle.balloc_c.specs.Packed.{HasOneMoreAtMost}
 use Rattle.balloc_c.specs.Through.{Asked, IsAllocation, IsFree}
 
 -- the first cause that stands bars a call
@@ -161,9 +162,11 @@ TellsWords t number (Err cause) = (cause ≡ refusal.NoBlock) × (named t number
 abbrev pub HasCounted : Cache → Table → ℕ → Result ℕ Refusal → Cache → Table → Type 0
 HasCounted c t number result d u = TellsWords t number result × (d ≡ c) × (u ≡ t)
 
--- a call on the cache and the table of a hand, whose heap stays
+-- a call on the cache and the table of a hand, whose heap and whose ticket stay; its table has one slot more than blocks at most, or no more slots than before
 abbrev pub Makes : {A : Type 0} → (Cache → Table → Result A Refusal → Cache → Table → Type 0) → Hand → Result A Refusal → Hand → Type 0
-Makes Call before result after = Call before.cache before.table result after.cache after.table × (after.heap ≡ before.heap)
+Makes Call before result after =
+    Call before.cache before.table result after.cache after.table × (after.heap ≡ before.heap) × (after.ticket ≡ before.ticket)
+    × HasOneMoreAtMost before.table after.table
 
 -- a call by a handle. What it shows of its outcome determines that outcome: its code, and where there is one its value
 abbrev pub Told :

@@ -27,6 +27,10 @@ block_at slots index = (slice_index_or slots index no_slot).block
 abbrev pub age_at : List Slot → ℕ → ℕ
 age_at slots index = (slice_index_or slots index no_slot).age
 
+-- the slot that was the spare one before it
+abbrev pub next_at : List Slot → ℕ → ℕ
+next_at slots index = (slice_index_or slots index no_slot).next
+
 -- the slot is there, and has no block
 abbrev pub IsVacant : List Slot → ℕ → Type 0
 IsVacant slots index = (index < length slots) × (block_at slots index ≡ None)

@@ -4,6 +4,7 @@ ghost use Rattle.std.specs.Prelude.{ℕ, ◌≡◌, ◌<◌, None, length};
 ghost use Rattle.errand_steps.specs.Begins.{IsIdle};
 ghost use Rattle.balloc_c.specs.Outcomes.{TellsWords, HasAllocated, HasFreed, HasPut, HasRead, HasResumed, HasTaken, HasWritten};
 ghost use Rattle.balloc_c.specs.Closed.{FreesSlot, FreesTable, HasFreedAll};
+ghost use Rattle.balloc_c.specs.Packed.{HasOneMoreAtMost, IsPacked};
 ghost use Rattle.balloc_c.specs.Slots.{block_at, blocks_of, set_block};
 ghost use Rattle.balloc_c.specs.Tended.{Tends};
 
@@ -20,7 +21,10 @@ pub const TRIES: u32 = 1000;
 /// An allocation of so many usable words. Answers the block's number.
 pub fn alloc(heap: &Heap, cache: &mut Cache, table: &mut Table, words: u32) -> Result<u64, Refusal>
     requires tends { Tends heap.now cache.old (blocks_of table.old.slots.items) }
+    requires packed { IsPacked table.old }
     ensures tends { Tends heap.now cache.new (blocks_of table.new.slots.items) }
+    ensures packed { IsPacked table.new }
+    ensures few { HasOneMoreAtMost table.old table.new }
     ensures answers { HasAllocated cache.old table.old words result cache.new table.new }
 {
     if !cache.idle() {
@@ -45,7 +49,10 @@ pub fn alloc(heap: &Heap, cache: &mut Cache, table: &mut Table, words: u32) -> R
 /// The free of the block of this number.
 pub fn free(heap: &Heap, cache: &mut Cache, table: &mut Table, number: u64) -> Result<(), Refusal>
     requires tends { Tends heap.now cache.old (blocks_of table.old.slots.items) }
+    requires packed { IsPacked table.old }
     ensures tends { Tends heap.now cache.new (blocks_of table.new.slots.items) }
+    ensures packed { IsPacked table.new }
+    ensures few { HasOneMoreAtMost table.old table.new }
     ensures answers { HasFreed cache.old table.old number result cache.new table.new }
 {
     if !cache.idle() {
@@ -66,7 +73,10 @@ pub fn free(heap: &Heap, cache: &mut Cache, table: &mut Table, number: u64) -> R
 /// behind it stay.
 pub fn free_all(heap: &Heap, cache: &mut Cache, table: &mut Table) -> Result<(), Refusal>
     requires tends { Tends heap.now cache.old (blocks_of table.old.slots.items) }
+    requires packed { IsPacked table.old }
     ensures tends { Tends heap.now cache.new (blocks_of table.new.slots.items) }
+    ensures packed { IsPacked table.new }
+    ensures few { HasOneMoreAtMost table.old table.new }
     ensures answers { HasFreedAll cache.old table.old result cache.new table.new }
 {
     if !cache.idle() {
@@ -85,8 +95,11 @@ pub fn free_all(heap: &Heap, cache: &mut Cache, table: &mut Table) -> Result<(),
 /// Frees the blocks in all slots.
 fn free_slots(heap: &Heap, cache: &mut Cache, table: &mut Table) -> FreeAnswer
     requires tends { Tends heap.now cache.old (blocks_of table.old.slots.items) }
+    requires packed { IsPacked table.old }
     requires idle { IsIdle cache.old.pass.errand }
     ensures tends { Tends heap.now cache.new (blocks_of table.new.slots.items) }
+    ensures packed { IsPacked table.new }
+    ensures count { length table.new.slots.items ≡ length table.old.slots.items }
     ensures idle { result ≡ FreeAnswer.Freed → IsIdle cache.new.pass.errand }
     ensures freed { FreesTable cache.old table.old result cache.new table.new }
 {
@@ -102,9 +115,11 @@ fn free_slots(heap: &Heap, cache: &mut Cache, table: &mut Table) -> FreeAnswer
 /// Frees the block in a slot, where there is one.
 fn free_slot(heap: &Heap, cache: &mut Cache, table: &mut Table, index: usize) -> FreeAnswer
     requires tends { Tends heap.now cache.old (blocks_of table.old.slots.items) }
+    requires packed { IsPacked table.old }
     requires idle { IsIdle cache.old.pass.errand }
     requires within { index < length table.old.slots.items }
     ensures tends { Tends heap.now cache.new (blocks_of table.new.slots.items) }
+    ensures packed { IsPacked table.new }
     ensures idle { result ≡ FreeAnswer.Freed → IsIdle cache.new.pass.errand }
     ensures blocks { blocks_of table.new.slots.items ≡ blocks_of (set_block table.old.slots.items index None) }
     ensures count { length table.new.slots.items ≡ length table.old.slots.items }
@@ -121,7 +136,10 @@ fn free_slot(heap: &Heap, cache: &mut Cache, table: &mut Table, index: usize) ->
 /// Goes on with the call that was interrupted. Answers the number of a block that it got.
 pub fn resume(heap: &Heap, cache: &mut Cache, table: &mut Table) -> Result<Option<u64>, Refusal>
     requires tends { Tends heap.now cache.old (blocks_of table.old.slots.items) }
+    requires packed { IsPacked table.old }
     ensures tends { Tends heap.now cache.new (blocks_of table.new.slots.items) }
+    ensures packed { IsPacked table.new }
+    ensures few { HasOneMoreAtMost table.old table.new }
     ensures answers { HasResumed cache.old table.old result cache.new table.new }
 {
     if cache.idle() {
@@ -218,7 +236,10 @@ pub fn put(
     shelf: u8,
 ) -> Result<(), Refusal>
     requires tends { Tends heap.now cache.old (blocks_of table.old.slots.items) }
+    requires packed { IsPacked table.old }
     ensures tends { Tends heap.now cache.new (blocks_of table.new.slots.items) }
+    ensures packed { IsPacked table.new }
+    ensures few { HasOneMoreAtMost table.old table.new }
     ensures answers { HasPut cache.old table.old number shelf result cache.new table.new }
 {
     if !cache.idle() {
@@ -246,7 +267,10 @@ pub fn put(
 /// Takes the block that lies on a shelf. Answers its number.
 pub fn take(heap: &Heap, cache: &mut Cache, table: &mut Table, shelf: u8) -> Result<u64, Refusal>
     requires tends { Tends heap.now cache.old (blocks_of table.old.slots.items) }
+    requires packed { IsPacked table.old }
     ensures tends { Tends heap.now cache.new (blocks_of table.new.slots.items) }
+    ensures packed { IsPacked table.new }
+    ensures few { HasOneMoreAtMost table.old table.new }
     ensures answers { HasTaken cache.old table.old shelf result cache.new table.new }
 {
     if !cache.idle() {

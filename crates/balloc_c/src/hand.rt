@@ -4,15 +4,18 @@ ghost use Rattle.std.specs.Prelude.{◌≡◌, []};
 ghost use Rattle.std.specs.Arc.{arc_value};
 ghost use Rattle.block_cache.specs.Caches.{Holds, IsCache};
 ghost use Rattle.balloc_c.specs.Slots.{blocks_of};
+ghost use Rattle.balloc_c.specs.Packed.{IsPacked};
 ghost use Rattle.balloc_c.specs.Tended.{Tends};
+ghost use Rattle.shared_heap.specs.Shares.{IsTicketOf};
 
 use crate::counted::Counted;
 use crate::refusal::Refusal;
 use crate::table::Table;
 use crate::{calls, ranges};
 use block_cache::cache::Cache;
-use shared_heap::shared::SharedHeap;
+use shared_heap::shared::{Left, Receipt, SharedHeap, Ticket};
 use std::alloc::Global;
+use std::snapshot::Snapshot;
 use std::sync::Arc;
 
 /// A pass with its magazines, its share in the heap and its blocks. Magazines of depth 0 keep nothing: each call is
@@ -20,25 +23,30 @@ use std::sync::Arc;
 #[derive(Drop)]
 pub struct Hand {
     heap: Arc<SharedHeap, Global>,
+    /// The right to give its pass back.
+    ticket: Ticket,
     cache: Cache,
     table: Table,
-    ghost is_tended: { ∥ Tends (arc_value heap).heap cache (blocks_of table.slots.items) ∥₁ },
+    ghost is_tended: { ∥ Tends (arc_value heap).heap cache (blocks_of table.slots.items) × IsPacked table × IsTicketOf (arc_value heap) ticket.caller ticket ∥₁ },
 }
 
 impl Hand {
     ghost use Rattle.balloc_c.specs.Outcomes.{TellsWords, HasAllocated, HasFreed, HasPut, HasRead, HasResumed, HasTaken, HasWritten, Makes, counts_of};
-    ghost use Rattle.balloc_c.specs.Closed.{LeavesBlocks, TellsCensus};
+    ghost use Rattle.balloc_c.specs.Closed.{GivesBack, LeavesBlocks, TellsCensus};
     ghost use Rattle.balloc_c.specs.Ranges.{HasFilled, HasReadRange, HasSummed, HasWrittenRange, IsFound};
     ghost use Rattle.balloc_c.specs.Hands.{IsTended};
 
-    /// A pass with no block.
-    pub fn new(alloc: Global, heap: Arc<SharedHeap, Global>, cache: Cache) -> Hand
+    /// A pass with no block, and no slot for one.
+    pub fn new(alloc: Global, heap: Arc<SharedHeap, Global>, ticket: Ticket, cache: Cache) -> Hand
         requires cache { IsCache (arc_value heap).heap cache }
         requires holds { Holds cache [] }
-        ensures { (arc_value result.heap ≡ arc_value heap) × (result.cache ≡ cache) × (blocks_of result.table.slots.items ≡ []) }
+        requires ticket { IsTicketOf (arc_value heap) ticket.caller ticket }
+        ensures parts { (arc_value result.heap ≡ arc_value heap) × (result.cache ≡ cache) × (result.ticket ≡ ticket) }
+        ensures bare { result.table.slots.items ≡ [] }
     {
         Hand {
             heap,
+            ticket,
             cache,
             table: Table::new(alloc),
         }
@@ -78,21 +86,22 @@ impl Hand {
     }
 
     /// Gives its pass back. Where it was the last one of the heap, the heap closes, and what it holds is told.
-    pub fn end(self, alloc: Global, counted: &mut Counted)
-        ensures { TellsCensus self counted.old counted.new }
+    pub fn end(self, alloc: Global, counted: &mut Counted) -> Snapshot<Option<Receipt>>
+        ensures given { GivesBack self result.value }
+        ensures census { TellsCensus self counted.old counted.new }
     {
         self.tended();
         let Hand {
             heap,
+            ticket,
             cache,
             table: _,
         } = self;
-        heap.give_back(cache.leave());
-        if let Some(last) = Arc::into_inner(heap) {
-            if let Some(closed) = last.close(alloc) {
-                counted.tell(&closed);
-            }
+        let Left { receipt, closed } = SharedHeap::leave(heap, alloc, ticket, cache.leave());
+        if let Some(closed) = closed {
+            counted.tell(&closed);
         }
+        receipt
     }
 
     /// Goes on with the call that was interrupted. Answers the number of a block that it got.

@@ -22,7 +22,7 @@ ghost use Rattle.std.specs.Prelude.{ℕ, ◌≡◌, Result, length};
 ghost use Rattle.balloc_c.specs.declared.hand.Hand.{Hand};
 ghost use Rattle.balloc_c.specs.declared.refusal.Refusal.{Refusal};
 ghost use Rattle.balloc_c.specs.Codes.{code_in, resumed_code, resumed_number, value_in};
-ghost use Rattle.balloc_c.specs.Closed.{Closes, ClosesHeap, TellsCounts};
+ghost use Rattle.balloc_c.specs.Closed.{Closes, TellsCounts};
 ghost use Rattle.balloc_c.specs.Opened.{Opens, numbers};
 ghost use Rattle.balloc_c.specs.Ranges.{HasFilled, HasReadRange, HasSummed, HasWrittenRange, IsFound};
 ghost use Rattle.balloc_c.specs.Outcomes.{HasAllocated, HasCounted, HasFreed, HasPut, HasRead, HasResumed, HasTaken, HasWritten, Makes, Told};
@@ -128,8 +128,8 @@ pub extern "C" fn balloc_close(
     lost: &mut u64,
     census: &mut Counted,
 ) -> i32
-    ensures told { Closes frees pass.old.held.hand result won.old lost.old won.new lost.new pass.new.held.hand }
-    ensures census { ClosesHeap pass.old.held.hand result census.old census.new }
+    ensures told { Closes frees pass.old.held.hand result (won.old, lost.old, census.old) (won.new, lost.new, census.new)
+        pass.new.held.hand }
 {
     census.counted = false;
     let Some(hand) = pass.hand() else {
@@ -142,7 +142,7 @@ pub extern "C" fn balloc_close(
     let (_, hand_won, hand_lost, _) = hand.counts();
     *won = hand_won;
     *lost = hand_lost;
-    Box::into_inner(hand).end(alloc, census);
+    let _ = Box::into_inner(hand).end(alloc, census);
     DONE
 }
 

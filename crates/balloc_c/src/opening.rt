@@ -96,14 +96,15 @@ fn give_all(
     ensures { IfOk result (λ _. (h : Heap) × (h.layout ≡ geometry) × HoldNew h depth geometry.callers passes.new) }
 {
     let (heap, made) = Heap::open(alloc, geometry)?;
-    let shared = SharedHeap::new(alloc, heap)?;
+    let (shared, mut dealer) = SharedHeap::new(alloc, heap)?;
     let heap = Arc::new(alloc, shared)?;
     let mut number = 0;
     for pass in made {
         let share = Arc::try_clone(&heap)?;
         let own = heap.heap();
         let cache = cached(alloc, own, pass, depth)?;
-        let hand = Box::new(alloc, Hand::new(alloc, share, cache))?;
+        let ticket = heap.ticket(&mut dealer);
+        let hand = Box::new(alloc, Hand::new(alloc, share, ticket, cache))?;
         drop(passes[number].take(alloc));
         passes[number].give(hand);
         number += 1;

@@ -1,8 +1,9 @@
 //! The table of a pass's blocks. A number names a slot, and how often that slot has given a block away.
 
-ghost use Rattle.std.specs.Prelude.{ℕ, ◌≡◌, ◌≢◌, ◌<◌, ◌%◌, ◌^◌, [], length, None, Some, IfOk, IfSome};
+ghost use Rattle.std.specs.Prelude.{ℕ, ◌≡◌, ◌≢◌, ◌<◌, ◌≤◌, ◌%◌, ◌^◌, [], length, None, Some, IfOk, IfSome};
 ghost use Rattle.std.specs.Result.{IfErr};
 ghost use Rattle.balloc_c.specs.declared.refusal.Refusal.TheVariants as refusal;
+ghost use Rattle.balloc_c.specs.declared.table.TheConstants.{NONE};
 
 use crate::refusal::Refusal;
 use live_heap::block::Block;
@@ -31,11 +32,13 @@ pub struct Table {
 
 impl Table {
     ghost use Rattle.balloc_c.specs.Numbers.{NamesOneMore, HasSpare, HasSlotReady, KeepsNumbers, named, number_at};
-    ghost use Rattle.balloc_c.specs.Slots.{IsVacant, HasAged, block_at, blocks_of, set_block};
+    ghost use Rattle.balloc_c.specs.Slots.{IsVacant, HasAged, block_at, blocks_of, next_at, set_block};
+    ghost use Rattle.balloc_c.specs.Packed.{HasOneMoreAtMost, IsLinked, IsPacked};
 
-    /// No block.
+    /// No block, and no slot.
     pub fn new(alloc: Global) -> Table
-        ensures { blocks_of result.slots.items ≡ [] }
+        ensures bare { result.slots.items ≡ [] }
+        ensures packed { IsPacked result }
     {
         Table {
             slots: Vec::new(alloc),
@@ -53,21 +56,30 @@ impl Table {
     /// A slot with no block, which stays the spare one until it is filled: one that has given its block away,
     /// or a new one.
     pub fn vacant(&mut self) -> Result<usize, Refusal>
+        requires packed { IsPacked self.old }
+        ensures packed { IsPacked self.new }
+        ensures few { HasOneMoreAtMost self.old self.new }
+        ensures spare { IfOk result (λ index. self.new.spare ≡ index) }
         ensures blocks { blocks_of self.new.slots.items ≡ blocks_of self.old.slots.items }
         ensures keeps { KeepsNumbers self.old self.new }
         ensures vacant { IfOk result (λ index. IsVacant self.new.slots.items index × (index < 2 ^ 32)) }
         ensures ready { IfOk result (λ index. HasSlotReady self.old self.new) }
         ensures refused { IfErr result (λ cause. cause ≡ refusal.NoMemory) }
     {
-        let index = self.spare as usize;
-        if index < self.slots.len() && self.slots[index].block.is_none() {
-            return Ok(index);
+        if self.spare == NONE {
+            return self.grow();
         }
-        self.grow()
+        Ok(self.spare as usize)
     }
 
-    /// One slot more, which is the spare one.
+    /// One slot more, which is the spare one, where each has a block.
     fn grow(&mut self) -> Result<usize, Refusal>
+        requires none { self.old.spare ≡ NONE }
+        requires full { length self.old.slots.items ≤ length (blocks_of self.old.slots.items) }
+        requires packed { IsPacked self.old }
+        ensures packed { IsPacked self.new }
+        ensures few { HasOneMoreAtMost self.old self.new }
+        ensures is_spare { IfOk result (λ index. self.new.spare ≡ index) }
         ensures blocks { blocks_of self.new.slots.items ≡ blocks_of self.old.slots.items }
         ensures keeps { KeepsNumbers self.old self.new }
         ensures vacant { IfOk result (λ index. IsVacant self.new.slots.items index × (index < 2 ^ 32)) }
@@ -129,15 +141,19 @@ impl Table {
     pub fn set(&mut self, index: usize, block: Option<Block>) -> Option<Block>
         requires { index < length self.old.slots.items }
         ensures slots { self.new.slots.items ≡ set_block self.old.slots.items index block }
+        ensures spare { self.new.spare ≡ self.old.spare }
         ensures value { result ≡ block_at self.old.slots.items index }
     {
         std::mem::replace(&mut self.slots[index].block, block)
     }
 
-    /// Puts a block into a slot that has none, and answers its number.
+    /// Puts a block into the spare slot, and answers its number.
     pub fn fill(&mut self, index: usize, block: Block) -> u64
         requires vacant { IsVacant self.old.slots.items index }
         requires small { index < 2 ^ 32 }
+        requires spare { self.old.spare ≡ index }
+        requires packed { IsPacked self.old }
+        ensures packed { IsPacked self.new }
         ensures slots { self.new.slots.items ≡ set_block self.old.slots.items index (Some block) }
         ensures gains { NamesOneMore self.old result block self.new }
     {
@@ -146,25 +162,26 @@ impl Table {
         self.number(index)
     }
 
-    /// The slot is no more the spare one.
+    /// The slot is no more the spare one, but the one that was before it.
     fn unspare(&mut self, index: usize)
         requires { index < length self.old.slots.items }
-        ensures { self.new.slots.items ≡ self.old.slots.items }
+        ensures slots { self.new.slots.items ≡ self.old.slots.items }
+        ensures spare { self.new.spare ≡ next_at self.old.slots.items index }
     {
-        if self.spare as usize == index {
-            self.spare = self.slots[index].next;
-        }
+        self.spare = self.slots[index].next;
     }
 
-    /// The block in the slot has been given away, and its number is no block's any more.
+    /// The block in the slot has been given away, and its number is no block's any more. The slot is the spare one.
     pub fn retire(&mut self, index: usize)
-        requires { index < length self.old.slots.items }
-        ensures { HasAged self.old.slots.items index self.new.slots.items }
+        requires within { index < length self.old.slots.items }
+        requires small { index < 2 ^ 32 }
+        ensures aged { HasAged self.old.slots.items index self.new.slots.items }
+        ensures linked { IsLinked self.old index self.new }
     {
         let next = self.spare;
         let slot = &mut self.slots[index];
         slot.age = slot.age.wrapping_add(1);
         slot.next = next;
-        self.spare = (index & 0xffff_ffff) as u32;
+        self.spare = index as u32;
     }
 }

@@ -1,33 +1,67 @@
 -- What lies in the places for the passes that are given back.
-use Rattle.std.specs.Prelude.{ℕ, ◌≡◌, ◌≢◌, ◌<◌, ◌≤◌, Option, Some, None, List, [], ◌∷◌, length, slice_index}
-use mathlib.Core.Option.{some}
+use Rattle.std.specs.Prelude.{ℕ, suc, ◌≡◌, ◌<◌, ◌≤◌, Option, Some, None, [], ◌∷◌, length, slice_index, slice_index_or}
+use mathlib.Core.Option.{Option as Maybe, some, none}
 use lib.ListN.{get_elem?}
-use Rattle.atomic_table.specs.Table.{State}
+use Rattle.atomic_table.specs.Table.{Me, State}
 use Rattle.errand_steps.specs.Begins.{IsIdle}
 use Rattle.live_heap.specs.declared.heap.Heap.{Heap}
 use Rattle.live_heap.specs.declared.pass.Pass.{Pass}
-use Rattle.live_heap.specs.Endings.{AreAllIdle, ClosedFields, HasClosed, IsResting}
 use Rattle.live_heap.specs.Passes.{IsOf}
+use Rattle.shared_heap.specs.declared.places.Stand.{Stand}
+use Rattle.shared_heap.specs.declared.places.Stand.TheVariants as stand
 
--- what lies in a place: a pass of the heap, in no call; or nothing
-abbrev pub IsGiven : Heap → Option Pass → Type 0
-IsGiven h None = Unit {0}
-IsGiven h (Some p) = IsOf h p × IsIdle p.errand
+-- the places, their words, and what each seat of them is for
+abbrev pub PlaceState : Type 0
+PlaceState = State (Option Pass) Stand
 
--- each place has a word, and where that isn't 1 the place is not taken, and has a pass in no call, or nothing
-pub record PlacesHold (h : Heap) (s : State (Option Pass) (Unit {0})) : Type 0 where
+-- what lies in a place: a pass or none; or nothing, where a seat has taken the place
+abbrev pub home_at : PlaceState → ℕ → Maybe (Option Pass)
+home_at s place = slice_index_or s.homes place none
+
+-- the seat is about this place
+abbrev pub IsAbout : Stand → ℕ → Type 0
+IsAbout (stand.Deals next) place = next ≤ place
+IsAbout (stand.Waits caller) place = place ≡ caller
+IsAbout (stand.Takes caller) place = place ≡ caller
+IsAbout (stand.Laid p) place = place ≡ p.errand.caller
+
+-- a pass of the heap, in no call, lies in the place of its caller
+abbrev pub IsGiven : Heap → ℕ → Pass → Type 0
+IsGiven h place p = IsOf h p × IsIdle p.errand × (p.errand.caller ≡ place)
+
+-- what is so of the place's word and of what lies there, by a seat that is about it: no pass lies there yet; or it is taken; or the pass that the seat has laid lies there
+abbrev pub Knows : Heap → Stand → ℕ → ℕ → Maybe (Option Pass) → Type 0
+Knows h (stand.Deals next) place word home = (word ≡ 0) × (home ≡ some None)
+Knows h (stand.Waits caller) place word home = (word ≡ 0) × (home ≡ some None)
+Knows h (stand.Takes caller) place word home = word ≡ 1
+Knows h (stand.Laid p) place word home = (word ≡ 2) × (home ≡ some (Some p)) × IsGiven h place p
+
+-- each place has a word and at most one seat that is about it, which knows what lies there; and where the word is 2 a pass lies that was given back
+pub record PlacesHold (h : Heap) (s : PlaceState) : Type 0 where
   pub words : length s.homes ≤ length s.words
   pub each :
-      (place : ℕ) → place < length s.homes → slice_index s.words place ≢ 1
-      → (given : Option Pass) × (get_elem? s.homes place ≡ some (some given)) × IsGiven h given
+      (id : ℕ) (v : Stand) (place : ℕ) → get_elem? s.views id ≡ some v → IsAbout v place → place < length s.homes
+      → Knows h v place (slice_index s.words place) (home_at s place)
+  pub alone :
+      (id other : ℕ) (v w : Stand) (place : ℕ) → get_elem? s.views id ≡ some v → get_elem? s.views other ≡ some w
+      → IsAbout v place → IsAbout w place → id ≡ other
+  pub filled :
+      (place : ℕ) → place < length s.homes → slice_index s.words place ≡ 2
+      → (p : Pass) × (home_at s place ≡ some (Some p)) × IsGiven h place p
 
--- who finds that a place isn't taken takes it
-abbrev pub HasTaken : ℕ → ℕ → List (ℕ × Option Pass) → Type 0
-HasTaken place found taken = found ≢ 1 → (given : Option Pass) × (taken ≡ (place, given) ∷ [])
+-- a seat that hands out places goes on behind the next one, and another seat is about that
+abbrev pub rest_of : Stand → Stand
+rest_of (stand.Deals next) = stand.Deals (suc next)
+rest_of v = v
 
--- all passes of the heap came together, each in no call, and the heap was closed with them
-pub record IsClosedWhole (h : Heap) (c : ClosedFields) : Type 0 where
-  pub passes : List Pass
-  pub all : AreAllIdle h passes
-  pub closed : HasClosed h passes c
-  pub rests : IsResting c
+abbrev pub next_of : Stand → Stand
+next_of (stand.Deals next) = stand.Waits next
+next_of v = v
+
+-- a seat has taken a place, in which nothing lay
+abbrev pub HasTaken : ℕ → Me (Option Pass) Stand → Me (Option Pass) Stand → Type 0
+HasTaken place before after = after ≡ (stand.Takes place, (place, None) ∷ before.1)
+
+-- a seat that held a place with a pass, and no other, has laid the pass there
+abbrev pub HasLaid : ℕ → Me (Option Pass) Stand → Me (Option Pass) Stand → Type 0
+HasLaid place before after = (p : Pass) → before.1 ≡ (place, Some p) ∷ [] → after ≡ (stand.Laid p, [])

@@ -6,6 +6,8 @@ use Rattle.balloc_c.specs.Slots.{blocks_of}
 use Rattle.balloc_c.specs.Through.{IsAllocation}
 use Rattle.balloc_c.proofs.MadeCalls.{busy-answers, filled-tends, given-answers, refused-answers, same-tends, spent-answers}
 use Rattle.balloc_c.proofs.Numbers.{gains-behind}
+use Rattle.balloc_c.proofs.Packing.{few-set}
+use Rattle.std.specs.Prelude.{Some}
 use Rattle.balloc_c.proofs.calls.alloc.Goals as goal
 
 pub returns-in-Given-clause-tends : goal.returns-in-Given-clause-tends
@@ -77,3 +79,7 @@ returns-in-Busy-clause-answers c =
     let told : IsAllocation s c.args.words alloc_answer.Busy d =
     record { served = c.in-Busy.ensures.served; asked = c.in-Busy.ensures.asked; depth = c.alloc.ensures.depth } in
     busy-answers s t c.args.words d c.vacant.new.self idle few c.in-Ok.ensures.ready told
+
+pub returns-in-Given-clause-few : goal.returns-in-Given-clause-few
+returns-in-Given-clause-few c =
+    few-set c.args.table.now c.vacant.new.self c.fill.new.self c.in-Ok.index (Some c.in-Given.block) c.vacant.ensures.few c.fill.ensures.slots

@@ -7,6 +7,7 @@ use Rattle.balloc_c.specs.Through.{IsFree}
 use Rattle.balloc_c.proofs.LeaveLemmas.{freed-idle}
 use Rattle.balloc_c.proofs.MadeCalls.{gone-tends}
 use Rattle.balloc_c.proofs.Slots.{held-at}
+use Rattle.balloc_c.proofs.Packing.{gone-packed}
 use Rattle.balloc_c.proofs.calls.free_slot.Goals as goal
 
 pub free-requires-clause-held : goal.free-requires-clause-held
@@ -26,7 +27,7 @@ returns-clause-tends c =
     let block = c.in-Some.block in
     let is : block_at slots c.args.index ≡ Some block = sym c.set.ensures.value ∙ c.in-Some.is in
     gone-tends h s c.free.new.self slots c.set.new.self.slots.items c.retire.new.self.slots.items c.args.index block c.requires.tends
-    c.requires.within is c.set.ensures.slots c.retire.ensures.blocks c.free.ensures.cache c.free.ensures.holds
+    c.requires.within is c.set.ensures.slots c.retire.ensures.aged.blocks c.free.ensures.cache c.free.ensures.holds
 
 pub returns-clause-idle : goal.returns-clause-idle
 returns-clause-idle c freed =
@@ -52,4 +53,11 @@ returns-clause-freed c =
 
 pub returns-clause-count : goal.returns-clause-count
 returns-clause-count c =
-    c.retire.ensures.count ∙ ap length c.set.ensures.slots ∙ length-set c.args.table.now.slots.items c.args.index _
+    c.retire.ensures.aged.count ∙ ap length c.set.ensures.slots ∙ length-set c.args.table.now.slots.items c.args.index _
+
+pub returns-clause-packed : goal.returns-clause-packed
+returns-clause-packed c =
+    let t = c.args.table.now in
+    let is : block_at t.slots.items c.args.index ≡ Some c.in-Some.block = sym c.set.ensures.value ∙ c.in-Some.is in
+    gone-packed t c.set.new.self c.retire.new.self c.args.index c.in-Some.block c.requires.packed c.requires.within is c.set.ensures.slots
+    c.set.ensures.spare c.retire.ensures.aged c.retire.ensures.linked

@@ -22,6 +22,7 @@ loop-index-preserved c =
     let here : c.loop-index.index < length slots = omega (arith, within, i.count) in
     record {
       tends = c.free_slot.ensures.tends;
+      packed = c.free_slot.ensures.packed;
       idle = c.free_slot.ensures.idle c.in-Freed.is;
       count = c.free_slot.ensures.count ∙ i.count;
       empty = empty-next before slots after c.loop-index.index here c.free_slot.ensures.same i.empty;

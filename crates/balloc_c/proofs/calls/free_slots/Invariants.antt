@@ -1,6 +1,7 @@
 use Rattle.std.proofs.Common.{ℕ, ◌≡◌, ◌<◌, ◌≤◌, None, length, take}
 use Rattle.errand_steps.specs.Begins.{IsIdle}
 use Rattle.balloc_c.specs.Closed.{FreesAll}
+use Rattle.balloc_c.specs.Packed.{IsPacked}
 use Rattle.balloc_c.specs.Slots.{block_at, blocks_of}
 use Rattle.balloc_c.specs.Tended.{Tends}
 use Rattle.balloc_c.proofs.calls.free_slots.Given as goal
@@ -8,6 +9,7 @@ use Rattle.balloc_c.proofs.calls.free_slots.Given as goal
 abbrev pub invariant-loop-index : goal.invariant-loop-index
 invariant-loop-index l = record {
   tends : Tends l.heap l.cache (blocks_of l.table.slots.items);
+  packed : IsPacked l.table;
   idle : IsIdle l.cache.pass.errand;
   count : length l.table.slots.items ≡ length l.fn.table.slots.items;
   empty : (k : ℕ) → k < l.index → block_at l.table.slots.items k ≡ None;

@@ -3,6 +3,8 @@ use Rattle.errand_steps.specs.Points.{is_idle}
 use Rattle.balloc_c.specs.Slots.{blocks_of}
 use Rattle.balloc_c.proofs.MadeCalls.{filled-tends, resumed-answers, same-tends}
 use Rattle.balloc_c.proofs.Numbers.{gains-behind}
+use Rattle.balloc_c.proofs.Packing.{few-set}
+use Rattle.std.specs.Prelude.{Some}
 use Rattle.balloc_c.proofs.calls.resume.Goals as goal
 
 pub returns-in-Given-clause-tends : goal.returns-in-Given-clause-tends
@@ -43,3 +45,7 @@ returns-in-Given-clause-answers c =
     let busy : is_idle s.pass.errand.point ≡ false = search rules in
     resumed-answers s t c.fill.result c.in-Given.block c.resume.new.self u busy
     (gains-behind t c.vacant.new.self c.fill.result c.in-Given.block u c.vacant.ensures.keeps c.fill.ensures.gains) (c.in-Given.ensures.tells, c.resume.ensures.keeps)
+
+pub returns-in-Given-clause-few : goal.returns-in-Given-clause-few
+returns-in-Given-clause-few c =
+    few-set c.args.table.now c.vacant.new.self c.fill.new.self c.in-Ok.index (Some c.in-Given.block) c.vacant.ensures.few c.fill.ensures.slots

@@ -4,6 +4,8 @@ use Rattle.heap_geometry.specs.declared.limits.TheConstants.{SHELVES}
 use Rattle.balloc_c.specs.Slots.{blocks_of}
 use Rattle.balloc_c.proofs.MadeCalls.{filled-tends, same-tends, taken-answers}
 use Rattle.balloc_c.proofs.Numbers.{gains-behind}
+use Rattle.balloc_c.proofs.Packing.{few-set}
+use Rattle.std.specs.Prelude.{Some}
 use Rattle.balloc_c.proofs.calls.take.Goals as goal
 
 pub returns-in-Got-clause-tends : goal.returns-in-Got-clause-tends
@@ -33,3 +35,7 @@ returns-in-Got-clause-answers c =
     let has : c.args.shelf < SHELVES = omega (arith, c.if-shelf-ge-SHELVES.false) in
     taken-answers s t c.args.shelf c.fill.result c.in-Got.block c.take.new.self u idle has
     (gains-behind t c.vacant.new.self c.fill.result c.in-Got.block u c.vacant.ensures.keeps c.fill.ensures.gains) c.in-Got.ensures.tells c.take.ensures.keeps
+
+pub returns-in-Got-clause-few : goal.returns-in-Got-clause-few
+returns-in-Got-clause-few c =
+    few-set c.args.table.now c.vacant.new.self c.fill.new.self c.in-Ok.index (Some c.in-Got.block) c.vacant.ensures.few c.fill.ensures.slots

@@ -1,8 +1,16 @@
-use Rattle.std.proofs.Common.{None, refl, ap, ◌∙◌}
+use Rattle.std.proofs.Common.{◌≡◌, arith, length, None, refl, ap, ◌∙◌}
 use Rattle.balloc_c.specs.Slots.{blocks_of}
+use Rattle.balloc_c.proofs.Packing.{grown-packed}
 use Rattle.balloc_c.proofs.Slots.{grown}
 use Rattle.balloc_c.proofs.table.Table.grow.Goals as goal
 
 pub returns-in-Ok-clause-blocks : goal.returns-in-Ok-clause-blocks
 returns-in-Ok-clause-blocks c =
     ap blocks_of c.in-Ok.ensures.items ∙ grown c.args.self.now.slots.items (record { block = None; age = 0; next = c.args.self.now.spare }) refl
+
+pub returns-in-Ok-clause-packed : goal.returns-in-Ok-clause-packed
+returns-in-Ok-clause-packed c =
+    let t = c.args.self.now in
+    let last : c.len-index.result ≡ length t.slots.items = omega (arith, c.len-index.ensures) in
+    grown-packed t (record { slots = c.push.new.self; spare = c.len-index.result }) (record { block = None; age = 0; next = t.spare }) c.requires.none
+    c.requires.full (omega (arith, last, c.if-index-ge4294967295.false)) refl refl c.in-Ok.ensures.items last
