@@ -1,3 +1,4 @@
+pub mod Fills
 pub mod Rows
 pub mod Runs
 pub mod Made

@@ -1,8 +1,8 @@
 //! Words that whoever holds a token owns.
-ghost use Rattle.std.specs.Prelude.{◌≡◌, ℕ, ◌<◌, ◌≤◌, ◌+◌, ◌-◌, ◌*◌, ◌^◌, List, ◌++◌, length, take, drop, slice_set, ⊤};
+ghost use Rattle.std.specs.Prelude.{◌≡◌, ℕ, ◌<◌, ◌≤◌, ◌+◌, ◌-◌, ◌*◌, ◌^◌, List, ◌++◌, length, take, drop, replicate, slice_set, ⊤};
 ghost use Rattle.std.specs.Borrow.{sem};
 ghost use denote.RawPtr.{Ptr};
-ghost use Rattle.plain_words.specs.Places.{Place, laid, laids, place_at, IsHere, IsLaidRun, run, put};
+ghost use Rattle.plain_words.specs.Places.{Place, laid, laids, place_at, AllHere, IsHere, IsLaid, IsLaidRun, run, put};
 ghost use Rattle.plain_words.specs.Owned.{plain_owns, plain_lent};
 
 use std::alloc::AllocError;
@@ -61,12 +61,32 @@ impl PlainWords {
         unsafe { start.at.add(word).write(number) }
     }
 
+    /// Lays all the words, those from `from` up to `to`, with the number.
+    pub fn fill(&mut self, start: Start, from: usize, to: usize, number: u64)
+        requires { (start.at ≡ self.old.at) × (from ≡ self.old.first) × (to ≡ self.old.first + length self.old.places) × AllHere self.old.places }
+        ensures { (self.new.at ≡ self.old.at) × (self.new.first ≡ self.old.first) × (self.new.places ≡ laids (replicate (length self.old.places) number)) }
+    {
+        let mut word = from;
+        while word < to {
+            self.lay(start, word, number);
+            word += 1;
+        }
+    }
+
     /// So many words from the word `from` on, each of them laid.
     pub fn slice(&self, start: Start, from: usize, len: usize) -> &[u64]
         requires { (start.at ≡ self.now.at) × (self.now.first ≤ from) × IsLaidRun self.now.places (from - self.now.first) len }
         ensures { run self.now.places (from - self.now.first) len ≡ laids result.now }
     {
         unsafe { slice::from_raw_parts(start.at.add(from), len) }
+    }
+
+    /// A word that was laid.
+    pub fn word(&self, start: Start, word: usize) -> u64
+        requires { (start.at ≡ self.now.at) × (self.now.first ≤ word) × IsLaid self.now.places (word - self.now.first) }
+        ensures { place_at self.now.places (word - self.now.first) ≡ laid result }
+    {
+        self.slice(start, word, 1)[0]
     }
 
     /// All the words, each of them laid.

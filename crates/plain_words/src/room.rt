@@ -82,6 +82,14 @@ impl<A: Allocator> Room<A> {
         Ok(Room { plain, backing })
     }
 
+    /// The words, and what stands behind them.
+    pub fn into_parts(self) -> (PlainWords, Backing<A>)
+        ensures { (result.0 ≡ self.plain) × (result.1 ≡ self.backing) }
+    {
+        let Room { plain, backing } = self;
+        (plain, backing)
+    }
+
     /// How many words it has.
     pub fn count(&self) -> usize
         ensures { result ≡ length self.now.plain.places }
@@ -102,7 +110,7 @@ impl<A: Allocator> Room<A> {
         requires { IsLaid self.now.plain.places word }
         ensures { place_at self.now.plain.places word ≡ laid result }
     {
-        self.plain.slice(self.backing.start, word, 1)[0]
+        self.plain.word(self.backing.start, word)
     }
 }
 
