@@ -1,3 +1,4 @@
+pub mod Beside
 pub mod Moves
 pub mod Names
 pub mod Sent

@@ -29,3 +29,28 @@ module _ (n : ℕ) where
   pub all_of_them : (ps : List Place) → so_far ps (length ps) ≡ laids (replicate (length ps) n)
   all_of_them [] = refl
   all_of_them (p ∷ ps) = ap (λ (l : List Place). laid n ∷ l) (all_of_them ps)
+
+-- the first i numbers are laid, and the other words as they were
+abbrev pub begun : List ℕ → List Place → ℕ → List Place
+begun ns ps zero = ps
+begun [] ps (suc i) = ps
+begun (n ∷ ns) [] (suc i) = []
+begun (n ∷ ns) (p ∷ ps) (suc i) = laid n ∷ begun ns ps i
+
+pub begun-long : (ns : List ℕ) (ps : List Place) (i : ℕ) → length (begun ns ps i) ≡ length ps
+begun-long ns ps zero = refl
+begun-long [] ps (suc i) = refl
+begun-long (n ∷ ns) [] (suc i) = refl
+begun-long (n ∷ ns) (p ∷ ps) (suc i) = ap suc (begun-long ns ps i)
+
+pub begun-more : (ns : List ℕ) (ps : List Place) (i : ℕ) → i < length ns → length ps ≡ length ns → set (begun ns ps i) i (laid (get_or ns i 0)) ≡ begun ns ps (suc i)
+begun-more [] ps i lt same = absurd (omega arith)
+begun-more (n ∷ ns) [] i lt same = absurd (omega (arith, same))
+begun-more (n ∷ ns) (p ∷ ps) zero lt same = refl
+begun-more (n ∷ ns) (p ∷ ps) (suc i) lt same = ap (λ (l : List Place). laid n ∷ l) (begun-more ns ps i (omega (arith, lt)) (omega (arith, same)))
+
+pub begun-all : (ns : List ℕ) (ps : List Place) → length ps ≡ length ns → begun ns ps (length ns) ≡ laids ns
+begun-all [] [] same = refl
+begun-all [] (p ∷ ps) same = absurd (omega (arith, same))
+begun-all (n ∷ ns) [] same = absurd (omega (arith, same))
+begun-all (n ∷ ns) (p ∷ ps) same = ap (λ (l : List Place). laid n ∷ l) (begun-all ns ps (omega (arith, same)))

@@ -2,7 +2,7 @@
 ghost use Rattle.std.specs.Prelude.{◌≡◌, ℕ, ◌-◌, ◌+◌, ◌*◌, ◌^◌, ◌<◌, length, slice_set, IfOk};
 ghost use Rattle.std.specs.Ptr.{ptr_add};
 ghost use Rattle.std.specs.Borrow.{u64};
-ghost use Rattle.plain_words.specs.Places.{AllHere, IsLaid, laid, place_at, blanks};
+ghost use Rattle.plain_words.specs.Places.{AllHere, IsLaid, laid, laids, place_at, blanks};
 
 use crate::block::{Deed, allocate, deallocate};
 use crate::plain::{PlainWords, Start};
@@ -25,11 +25,13 @@ pub struct Backing<A: Allocator> {
 }
 
 impl<A: Allocator> Backing<A> {
-    /// So many words, none of them laid.
+    /// So many words, none of them laid. From 2^59 words on there is no memory.
     pub fn reserve(alloc: A, words: usize) -> Result<(Backing<A>, PlainWords), AllocError>
-        requires { words < 2 ^ 59 }
         ensures { IfOk result (λ r. (r.0.words ≡ words) × (r.1.at ≡ r.0.start.at) × (r.1.first ≡ 0) × (r.1.places ≡ blanks words)) }
     {
+        if words >= 1 << 59 {
+            return Err(AllocError);
+        }
         let pairs = words / 2 + 1;
         let (block, start, all, deed) = allocate(&alloc, pairs)?;
         let (plain, spare) = all.split(words);
@@ -73,13 +75,25 @@ pub struct Room<A: Allocator> {
 }
 
 impl<A: Allocator> Room<A> {
-    /// So many words, none of them laid.
+    /// So many words, none of them laid. From 2^59 words on there is no memory.
     pub fn new(alloc: A, words: usize) -> Result<Room<A>, AllocError>
-        requires { words < 2 ^ 59 }
         ensures { IfOk result (λ r. r.plain.places ≡ blanks words) }
     {
         let (backing, plain) = Backing::reserve(alloc, words)?;
         Ok(Room { plain, backing })
+    }
+
+    /// As many words, each laid with its number.
+    pub fn of_words(alloc: A, words: &[u64]) -> Result<Room<A>, AllocError>
+        ensures { IfOk result (λ r. r.plain.places ≡ laids words.now) }
+    {
+        let mut room = Room::new(alloc, words.len())?;
+        let mut i = 0;
+        while i < words.len() {
+            room.lay(i, words[i]);
+            i += 1;
+        }
+        Ok(room)
     }
 
     /// The words, and what stands behind them.
