@@ -17,10 +17,7 @@ use Rattle.live_heap.specs.Passes.{IsOf}
 use Rattle.live_heap.proofs.Changes.{called-changes}
 use Rattle.live_heap.proofs.Enough.{given-enough}
 use Rattle.live_heap.proofs.Exact.{called-exact}
-use Rattle.typed_store.specs.Passings.{KeepsWords}
-use Rattle.pool_model.specs.Counts.{is_alloc, is_free}
-use Rattle.typed_store.proofs.CountLemmas.{allocs-blind, frees-blind, refused-none, spent-none}
-use Rattle.typed_store.proofs.PassLemmas.{called-rests, reads-self}
+use Rattle.typed_store.proofs.PassLemmas.{StaysSame, called-stays, reads-self, reads-stay}
 use Rattle.typed_store.proofs.StayLemmas.{SameFor, given-same}
 
 -- a block that is given comes to the hand; no word of it is written, and there are enough; the others stay
@@ -44,29 +41,15 @@ given-to h p q words steps hand block of called held =
     }
 
 -- where no block is given all is as before
-pub refused-reads : (h : Heap) (p q : Pass) (words steps : ℕ) → IsOf h q → HasCalled p (alloc words) steps reply.Refused q → KeepsWords h p q
-refused-reads h p q words steps of called = record {
-  rests =
-      called-rests h p q (alloc words) steps reply.Refused of called (λ blocks. refl)
-      (λ added has. (
-        refused-none is_alloc p.errand.caller words added allocs-blind has,
-        refused-none is_free p.errand.caller words added frees-blind has,
-      ));
-  same = called-changes h p q (alloc words) steps reply.Refused of called;
-}
+pub refused-stays : (h : Heap) (p q : Pass) (words steps : ℕ) → IsOf h q → HasCalled p (alloc words) steps reply.Refused q → StaysSame h p q
+refused-stays h p q words steps of called =
+    called-stays h p q (alloc words) steps reply.Refused of called (λ blocks. refl) (called-changes h p q (alloc words) steps reply.Refused of called)
 
-pub spent-called-reads : (h : Heap) (p q : Pass) (words steps : ℕ) → IsOf h q → HasCalled p (alloc words) steps reply.Spent q → KeepsWords h p q
-spent-called-reads h p q words steps of called = record {
-  rests =
-      called-rests h p q (alloc words) steps reply.Spent of called (λ blocks. refl)
-      (λ added has. (
-        spent-none is_alloc p.errand.caller words added allocs-blind has,
-        spent-none is_free p.errand.caller words added frees-blind has,
-      ));
-  same = called-changes h p q (alloc words) steps reply.Spent of called;
-}
+pub spent-called-stays : (h : Heap) (p q : Pass) (words steps : ℕ) → IsOf h q → HasCalled p (alloc words) steps reply.Spent q → StaysSame h p q
+spent-called-stays h p q words steps of called =
+    called-stays h p q (alloc words) steps reply.Spent of called (λ blocks. refl) (called-changes h p q (alloc words) steps reply.Spent of called)
 
-pub spent-reads :
-    (h : Heap) (p q : Pass) (words tries : ℕ) → IsOf h p → IsIdle p.errand → IsOf h q → AllocTells p words tries alloc_answer.Spent q → KeepsWords h p q
-spent-reads h p q words tries of_p idle of (inl once) = subst (KeepsWords h p) (sym once.same) (reads-self h p of_p idle)
-spent-reads h p q words tries of_p idle of (inr ended) = spent-called-reads h p q words ended.0.steps of ended.0.called
+pub spent-stays :
+    (h : Heap) (p q : Pass) (words tries : ℕ) → IsOf h p → IsIdle p.errand → IsOf h q → AllocTells p words tries alloc_answer.Spent q → StaysSame h p q
+spent-stays h p q words tries of_p idle of (inl once) = subst (StaysSame h p) (sym once.same) (reads-stay h p p (reads-self h p of_p idle))
+spent-stays h p q words tries of_p idle of (inr ended) = spent-called-stays h p q words ended.0.steps of ended.0.called

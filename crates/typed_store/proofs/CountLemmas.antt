@@ -92,6 +92,16 @@ spending P k (Small class) events blind is = ap (count_by P) is.1 ∙ count-look
 spending P k (Large units) events blind is = absurd is
 spending P k TooLarge events blind is = absurd is
 
+-- a read has no event, and a write its own
+pub read-adds :
+    (k place i word : ℕ) (need : Need) (added : List Event) → HasEnded k (read place need i) (reply.Word word) added → added ≡ []
+read-adds k place i word need added has = ended-as k (read place need i) (reply.Word word) ended.read added refl has
+
+pub write-adds :
+    (k place i v : ℕ) (need : Need) (added : List Event) → HasEnded k (write place need i v) reply.Wrote added
+    → added ≡ Rattle.pool_model.specs.declared.event.Event.TheVariants.Write k place i v ∷ []
+write-adds k place i v need added has = ended-as k (write place need i v) reply.Wrote (wrote place i v) added refl has
+
 -- how many events of a kind the calls of a store add
 pub reads-none :
     (P : Event → Bool) (k place i word : ℕ) (need : Need) (added : List Event) → HasEnded k (read place need i) (reply.Word word) added

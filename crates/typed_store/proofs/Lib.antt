@@ -1,4 +1,5 @@
 pub mod CountLemmas
+pub mod LedLemmas
 pub mod LinkLemmas
 pub mod PassLemmas
 pub mod SlotLemmas
@@ -10,5 +11,6 @@ pub mod AskLemmas
 pub mod UnlinkLemmas
 pub mod PopLemmas
 pub mod ResumeLemmas
+pub mod ReadLemmas
 pub mod RecordLemmas
 pub mod OnListLemmas

@@ -1,6 +1,7 @@
 -- What reads and writes of a store's pass leave, and what a node's block contains.
-use Rattle.std.proofs.Common.{ℕ, zero, suc, ◌≡◌, ◌<◌, List, [], ◌∷◌, Option, Some, None, count_by, length, refl, sym, ◌∙◌, ap, subst, arith, slice_index_or}
+use Rattle.std.proofs.Common.{ℕ, zero, suc, ◌≡◌, ◌<◌, List, [], ◌∷◌, ◌++◌, Option, Some, None, count_by, length, refl, sym, ◌∙◌, ap, subst, arith, inl, inr, slice_index_or}
 use Rattle.std.specs.Prelude.{option_map}
+use Rattle.std.proofs.lemmas.List.Elements.{All-append, All-cons, All-nil}
 use Rattle.std.proofs.lemmas.Option.{none-some, some_pair_parts}
 use Rattle.heap_geometry.specs.Need.{least, need_of, usable_words}
 use Rattle.heap_geometry.specs.declared.need.Need.{Need}
@@ -13,14 +14,17 @@ use Rattle.pool_model.proofs.PoolLemmas.{every-each}
 use Rattle.pool_model.proofs.WellFormedLemmas.{sound-of}
 use Rattle.errand_steps.specs.declared.reply.Reply.{Reply}
 use Rattle.errand_steps.specs.declared.reply.Reply.TheVariants as reply
+use Rattle.errand_steps.specs.Begins.{IsIdle}
 use Rattle.errand_steps.specs.Calls.{Call, read, write}
+use Rattle.call_events.specs.Made.{LeadsBy, Made, answered}
 use Rattle.live_heap.specs.declared.block.Block.{Block}
 use Rattle.live_heap.specs.declared.heap.Heap.{Heap}
 use Rattle.live_heap.specs.declared.pass.Pass.{Pass}
 use Rattle.live_heap.specs.Calls.{HasCalled}
 use Rattle.live_heap.specs.Contents.{OwnsBut, OwnsSame, owned_in, word_in, word_of}
-use Rattle.live_heap.specs.Holdings.{ChangesHand}
+use Rattle.live_heap.specs.Holdings.{ChangesHand, HoldsExactly}
 use Rattle.live_heap.specs.Passes.{IsOf, Owns, seen}
+use Rattle.live_heap.specs.Whole.{OwnsFor}
 use Rattle.live_heap.proofs.Changes.{called-changes}
 use Rattle.live_heap.proofs.Exact.{called-exact}
 use Rattle.typed_store.specs.Nodes.{node_at, node_of}
@@ -28,42 +32,87 @@ use Rattle.call_events.specs.Ends.{HasEnded}
 use Rattle.pool_model.specs.declared.event.Event.{Event}
 use Rattle.pool_model.specs.Counts.{is_alloc, is_free}
 use Rattle.typed_store.specs.Passings.{KeepsWords, Rests}
+use Rattle.typed_store.specs.Walks.{CallsOnce, IsOnWord, IsRead, LedBy}
 use Rattle.typed_store.proofs.CountLemmas.{allocs-blind, counts-on, frees-blind, reads-none, writes-none}
+
+-- a pass that calls have left with what it owned
+pub record StaysSame (h : Heap) (p q : Pass) : Type 0 where
+  pub of : IsOf h q
+  pub idle : IsIdle q.errand
+  pub hand : (blocks : List Block) → HoldsExactly p blocks → HoldsExactly q blocks
+  pub same : OwnsSame p q
+
+pub reads-stay : (h : Heap) (p q : Pass) → KeepsWords h p q → StaysSame h p q
+reads-stay h p q reads = record { of = reads.rests.of; idle = reads.rests.idle; hand = reads.rests.hand; same = reads.same }
+
+-- a call that leaves the hand and what is owned leaves the pass at rest
+pub called-stays :
+    (h : Heap) (p q : Pass) (call : Call) (steps : ℕ) (answer : Reply) → IsOf h q → HasCalled p call steps answer q
+    → ((blocks : List Block) → ChangesHand call answer blocks blocks) → OwnsSame p q → StaysSame h p q
+called-stays h p q call steps answer of called same owned = record {
+  of = of;
+  idle = called.idle;
+  hand = λ blocks holds. called-exact h p q call steps answer blocks blocks of called (same blocks) holds;
+  same = owned;
+}
+
+-- calls that lead from one state to another lead on by further ones
+pub leads-on :
+    {S : Type 0} (called : S → Call → Reply → S → Type 0) (s t u : S) (made more : List Made) → LeadsBy called s made t → LeadsBy called t more u
+    → LeadsBy called s (made ++ more) u
+leads-on called s t u [] more first rest = subst (λ x. LeadsBy called x more u) first rest
+leads-on called s t u (m ∷ made) more first rest = (first.0, first.1, leads-on called first.0 t u made more first.2 rest)
+
+-- one call of one access
+pub led-once :
+    (h : Heap) (p q : Pass) (call : Call) (answer : Reply) → OwnsFor p call → IsOf h q → HasCalled p call 0 answer q
+    → LedBy h p (answered call answer ∷ []) q
+led-once h p q call answer owns of called = (q, (called, owns, (of, called.idle)), refl)
 
 -- a call neither gives a block nor frees one
 abbrev pub IsCalm : ℕ → Call → Reply → Type 0
 IsCalm k call answer = (added : List Event) → HasEnded k call answer added → (count_by is_alloc added ≡ 0) × (count_by is_free added ≡ 0)
 
--- a call that leaves the hand, and neither gives a block nor frees one, leaves the pass at rest
-pub called-rests :
-    (h : Heap) (p q : Pass) (call : Call) (steps : ℕ) (answer : Reply) → IsOf h q → HasCalled p call steps answer q
-    → ((blocks : List Block) → ChangesHand call answer blocks blocks) → IsCalm p.errand.caller call answer → Rests h p q
-called-rests h p q call steps answer of called same calm = record {
+-- a read or a write of a word leaves the pass at rest
+called-rests :
+    (h : Heap) (p q : Pass) (call : Call) (answer : Reply) → OwnsFor p call → IsOf h q → HasCalled p call 0 answer q
+    → ((blocks : List Block) → ChangesHand call answer blocks blocks) → IsCalm p.errand.caller call answer → IsOnWord (answered call answer) → Rests h p q
+called-rests h p q call answer owns of called same calm on = record {
   of = of;
   idle = called.idle;
   caller = called.caller;
-  hand = λ blocks holds. called-exact h p q call steps answer blocks blocks of called (same blocks) holds;
-  given = omega (arith, counts-on is_alloc 0 p q call steps answer (λ added has. (calm added has).0) called);
-  freed = omega (arith, counts-on is_free 0 p q call steps answer (λ added has. (calm added has).1) called);
+  hand = λ blocks holds. called-exact h p q call 0 answer blocks blocks of called (same blocks) holds;
+  given = omega (arith, counts-on is_alloc 0 p q call 0 answer (λ added has. (calm added has).0) called);
+  freed = omega (arith, counts-on is_free 0 p q call 0 answer (λ added has. (calm added has).1) called);
+  made = answered call answer ∷ [];
+  on_words = All-cons IsOnWord (answered call answer) [] on (All-nil IsOnWord);
+  led = led-once h p q call answer owns of called;
 }
 
 pub read-reads :
-    (h : Heap) (p q : Pass) (place i word : ℕ) (need : Need) → IsOf h q → HasCalled p (read place need i) 0 (reply.Word word) q → KeepsWords h p q
-read-reads h p q place i word need of called = record {
+    (h : Heap) (p q : Pass) (place i word : ℕ) (need : Need) → OwnsFor p (read place need i) → IsOf h q
+    → HasCalled p (read place need i) 0 (reply.Word word) q → KeepsWords h p q
+unfolding called-rests
+read-reads h p q place i word need owns of called = record {
   rests =
-      called-rests h p q (read place need i) 0 (reply.Word word) of called (λ blocks. refl)
-      (λ added has. (reads-none is_alloc p.errand.caller place i word need added has, reads-none is_free p.errand.caller place i word need added has));
+      called-rests h p q (read place need i) (reply.Word word) owns of called (λ blocks. refl)
+      (λ added has. (reads-none is_alloc p.errand.caller place i word need added has, reads-none is_free p.errand.caller place i word need added has))
+      (inl (place, need, i, word, refl));
   same = called-changes h p q (read place need i) 0 (reply.Word word) of called;
+  reads =
+      All-cons IsRead (answered (read place need i) (reply.Word word)) [] (place, need, i, word, refl) (All-nil IsRead);
 }
 
 pub write-rests :
-    (h : Heap) (p q : Pass) (place i v : ℕ) (need : Need) → IsOf h q → HasCalled p (write place need i v) 0 reply.Wrote q → Rests h p q
-write-rests h p q place i v need of called =
-    called-rests h p q (write place need i v) 0 reply.Wrote of called (λ blocks. refl)
+    (h : Heap) (p q : Pass) (place i v : ℕ) (need : Need) → OwnsFor p (write place need i v) → IsOf h q
+    → HasCalled p (write place need i v) 0 reply.Wrote q → Rests h p q
+write-rests h p q place i v need owns of called =
+    called-rests h p q (write place need i v) reply.Wrote owns of called (λ blocks. refl)
     (λ added has. (
       writes-none is_alloc p.errand.caller place i v need added allocs-blind has,
       writes-none is_free p.errand.caller place i v need added frees-blind has,
     ))
+    (inr (place, need, i, v, refl))
 
 pub write-changes :
     (h : Heap) (p q : Pass) (place i v : ℕ) (need : Need) → IsOf h q → HasCalled p (write place need i v) 0 reply.Wrote q
@@ -78,14 +127,35 @@ rests-on h p q r a b = record {
   hand = λ blocks holds. b.hand blocks (a.hand blocks holds);
   given = b.given ∙ a.given;
   freed = b.freed ∙ a.freed;
+  made = a.made ++ b.made;
+  on_words = All-append IsOnWord a.made b.made a.on_words b.on_words;
+  led = leads-on (CallsOnce h) p q r a.made b.made a.led b.led;
 }
 
 pub reads-on : (h : Heap) (p q r : Pass) → KeepsWords h p q → KeepsWords h q r → KeepsWords h p r
-reads-on h p q r a b = record { rests = rests-on h p q r a.rests b.rests; same = λ place. b.same place ∙ a.same place }
+unfolding rests-on
+reads-on h p q r a b = record {
+  rests = rests-on h p q r a.rests b.rests;
+  same = λ place. b.same place ∙ a.same place;
+  reads = All-append IsRead a.rests.made b.rests.made a.reads b.reads;
+}
 
-pub reads-self : (h : Heap) (p : Pass) → IsOf h p → Rattle.errand_steps.specs.Begins.IsIdle p.errand → KeepsWords h p p
-reads-self h p of idle =
-    record { rests = record { of = of; idle = idle; caller = refl; hand = λ blocks holds. holds; given = refl; freed = refl }; same = λ place. refl }
+pub reads-self : (h : Heap) (p : Pass) → IsOf h p → IsIdle p.errand → KeepsWords h p p
+reads-self h p of idle = record {
+  rests = record {
+    of = of;
+    idle = idle;
+    caller = refl;
+    hand = λ blocks holds. holds;
+    given = refl;
+    freed = refl;
+    made = [];
+    on_words = All-nil IsOnWord;
+    led = refl;
+  };
+  same = λ place. refl;
+  reads = All-nil IsRead;
+}
 
 -- a token that is owned has its block at its place
 pub owned-token : (p : Pass) (token : Block) → (owns : Owns p token) → owned_in p token.place ≡ Some owns.0

@@ -19,9 +19,9 @@ use Rattle.live_heap.specs.Passes.{IsOf}
 use Rattle.live_heap.proofs.Exact.{called-exact}
 use Rattle.typed_store.specs.declared.store.Pending.TheVariants.{Pair, Record, Free}
 use Rattle.typed_store.specs.declared.store.Store.{Store}
-use Rattle.typed_store.specs.Passings.{KeepsWords}
 use Rattle.typed_store.specs.Stores.{IsBuilt, IsReady, IsUnderWay, IsWaitingFor, blocks_of}
-use Rattle.typed_store.proofs.AskLemmas.{given-to, refused-reads, spent-called-reads}
+use Rattle.typed_store.proofs.AskLemmas.{given-to, refused-stays, spent-called-stays}
+use Rattle.typed_store.proofs.PassLemmas.{StaysSame}
 use Rattle.typed_store.proofs.StayLemmas.{SameFor, calling-alloc-same, calling-free-same, freed-same, same-all, same-since}
 use Rattle.typed_store.proofs.StoreLemmas.{built-stays}
 
@@ -87,16 +87,16 @@ pub record IsOver (h : Heap) (s : Store) (q : Pass) : Type 0 where
   pub ready : IsReady h (record s { pass = q })
   pub same : SameFor s.pass q (blocks_of s)
 
-over : (h : Heap) (s : Store) (words : ℕ) (q : Pass) → (a : AsksFor s words) → IsOf h s.pass → KeepsWords h a.first q → IsBuilt s → IsOver h s q
-over h s words q a of_s reads built =
+over : (h : Heap) (s : Store) (words : ℕ) (q : Pass) → (a : AsksFor s words) → IsOf h s.pass → StaysSame h a.first q → IsBuilt s → IsOver h s q
+over h s words q a of_s stays built =
     let same =
     same-since a.first s.pass q (blocks_of s) (calling-alloc-same h a.first s.pass words a.steps (blocks_of s) of_s a.calling a.exactly.0)
-    (same-all a.first q reads.same (blocks_of s)) in
+    (same-all a.first q stays.same (blocks_of s)) in
     record {
       ready = record {
-        of = reads.rests.of;
-        idle = reads.rests.idle;
-        exactly = reads.rests.hand (blocks_of s) a.exactly;
+        of = stays.of;
+        idle = stays.idle;
+        exactly = stays.hand (blocks_of s) a.exactly;
         built = built-stays s q s.pending same built;
       };
       same = same;
@@ -106,13 +106,13 @@ pub resumed-refused :
     (h : Heap) (s : Store) (words tries : ℕ) (q : Pass) → (a : AsksFor s words) → IsOf h s.pass → IsOf h q → IsBuilt s
     → ResumeTells a.first (alloc words) a.steps s.pass tries resumed.Refused q → IsOver h s q
 resumed-refused h s words tries q a of_s of built tells =
-    over h s words q a of_s (refused-reads h a.first q words tells.steps of tells.called) built
+    over h s words q a of_s (refused-stays h a.first q words tells.steps of tells.called) built
 
 pub resumed-spent :
     (h : Heap) (s : Store) (words tries : ℕ) (q : Pass) → (a : AsksFor s words) → IsOf h s.pass → IsOf h q → IsBuilt s
     → ResumeTells a.first (alloc words) a.steps s.pass tries resumed.Spent q → IsOver h s q
 resumed-spent h s words tries q a of_s of built tells =
-    over h s words q a of_s (spent-called-reads h a.first q words tells.0.steps of tells.0.called) built
+    over h s words q a of_s (spent-called-stays h a.first q words tells.0.steps of tells.0.called) built
 
 pub asked-again :
     (h : Heap) (s : Store) (words tries : ℕ) (q : Pass) → (a : AsksFor s words) → IsOf h s.pass → IsOf h q

@@ -20,6 +20,7 @@ use Rattle.typed_store.specs.Passings.{KeepsWords, but}
 use Rattle.typed_store.specs.Records.{IsRecord}
 use Rattle.typed_store.specs.Stores.{HasList, HasRecords, IsBuilt, IsReady, blocks_of}
 use Rattle.typed_store.proofs.LinkLemmas.{leads-behind, leads-new, leads-same}
+use Rattle.typed_store.proofs.PassLemmas.{StaysSame, reads-stay}
 use Rattle.typed_store.proofs.SlotLemmas.{around, get-other, get-push, get-set, length-set, tokens-push}
 use Rattle.typed_store.proofs.StayLemmas.{SameFor, nodes-stay, records-stay, same-all, same-back, same-front, spells-stay}
 
@@ -204,13 +205,16 @@ pub words-stay :
 words-stay s q records same has =
     (records-stay s.pass q s.records.items records (same-back s.pass q (tokens_in s.slots.items) s.records.items same) has.0, has.1)
 
-pub ready-reads : (h : Heap) (s : Store) (q : Pass) → IsReady h s → KeepsWords h s.pass q → IsReady h (record s { pass = q })
-ready-reads h s q ready reads = record {
-  of = reads.rests.of;
-  idle = reads.rests.idle;
-  exactly = reads.rests.hand (blocks_of s) ready.exactly;
-  built = built-stays s q s.pending (same-all s.pass q reads.same (blocks_of s)) ready.built;
+pub ready-stays : (h : Heap) (s : Store) (q : Pass) → IsReady h s → StaysSame h s.pass q → IsReady h (record s { pass = q })
+ready-stays h s q ready stays = record {
+  of = stays.of;
+  idle = stays.idle;
+  exactly = stays.hand (blocks_of s) ready.exactly;
+  built = built-stays s q s.pending (same-all s.pass q stays.same (blocks_of s)) ready.built;
 }
+
+pub ready-reads : (h : Heap) (s : Store) (q : Pass) → IsReady h s → KeepsWords h s.pass q → IsReady h (record s { pass = q })
+ready-reads h s q ready reads = ready-stays h s q ready (reads-stay h s.pass q reads)
 
 pub room-list :
     (s : Store) (slots : Vec Slot Global) (pairs : List (ℕ × ℕ))

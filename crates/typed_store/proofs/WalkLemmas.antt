@@ -41,12 +41,24 @@ at-node at here (pair ∷ rest) some (slot, next, is, there, left) =
       left = left;
     }
 
+none-after : (at : ℕ → Option (ℕ × (ℕ × ℕ))) (here : ℕ) (after : List (ℕ × ℕ)) → length after ≡ 0 → Leads at here after 0 → here ≡ 0
+none-after at here [] none leads = leads
+none-after at here (pair ∷ rest) none leads = absurd (omega (arith, none))
+
 pub passing-at :
     (at : ℕ → Option (ℕ × (ℕ × ℕ))) (head previous here passed : ℕ) (pairs : List (ℕ × ℕ))
     → (p : IsPassing at head previous here passed pairs) → passed < length pairs → IsAt at here p.after
 passing-at at head previous here passed pairs p few =
     let long : length pairs ≡ length p.before + length p.after = ap (λ l. length l) p.whole ∙ length-append p.before p.after in
     at-node at here p.after (omega (arith, long, p.passed_is, few)) p.left
+
+-- a walk that has passed all pairs stands at no number more
+pub passed-all :
+    (at : ℕ → Option (ℕ × (ℕ × ℕ))) (head previous here passed : ℕ) (pairs : List (ℕ × ℕ)) → IsPassing at head previous here passed pairs
+    → length pairs ≡ passed → here ≡ 0
+passed-all at head previous here passed pairs p all =
+    let long : length pairs ≡ length p.before + length p.after = ap (λ l. length l) p.whole ∙ length-append p.before p.after in
+    none-after at here p.after (omega (arith, long, p.passed_is, all)) p.left
 
 -- the slot where a walk stands has a token, which is the pass's, and its block holds a node
 pub walk-token :

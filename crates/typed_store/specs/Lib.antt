@@ -4,3 +4,4 @@ pub mod Nodes
 pub mod Passings
 pub mod Records
 pub mod Stores
+pub mod Walks

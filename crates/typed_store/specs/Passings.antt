@@ -1,8 +1,9 @@
 -- What the store's pass may do between two changes of its blocks, and where a walk along the list stands.
-use Rattle.std.specs.Prelude.{ℕ, suc, ◌≡◌, ◌==◌, ◌⊎◌, List, [], ◌∷◌, ◌++◌, Option, Some, None, count_by, length, if◌then◌else◌}
+use Rattle.std.specs.Prelude.{ℕ, suc, ◌≡◌, ◌==◌, ◌⊎◌, List, [], ◌∷◌, ◌++◌, All, Option, Some, None, count_by, length, if◌then◌else◌}
 use Rattle.pool_model.specs.Counts.{is_alloc, is_free}
 use Rattle.pool_model.specs.Histories.{own}
 use Rattle.errand_steps.specs.Begins.{IsIdle}
+use Rattle.call_events.specs.Made.{Made}
 use Rattle.live_heap.specs.declared.block.Block.{Block}
 use Rattle.live_heap.specs.declared.heap.Heap.{Heap}
 use Rattle.live_heap.specs.declared.pass.Pass.{Pass}
@@ -12,6 +13,7 @@ use Rattle.live_heap.specs.Passes.{IsOf, seen}
 use Rattle.typed_store.specs.declared.seeking.Sought.{Sought}
 use Rattle.typed_store.specs.Links.{Leads}
 use Rattle.typed_store.specs.Nodes.{first_with}
+use Rattle.typed_store.specs.Walks.{IsOnWord, IsRead, LedBy}
 
 -- how often the caller of a pass was given a block, and how often it freed one, by the events that the pass has seen
 abbrev pub given_in : Pass → ℕ
@@ -20,7 +22,7 @@ given_in p = count_by is_alloc (own p.errand.caller (seen p))
 abbrev pub freed_in : Pass → ℕ
 freed_in p = count_by is_free (own p.errand.caller (seen p))
 
--- the pass is in no call, holds the blocks that it held, and was given and has freed none since
+-- the pass is in no call, holds the blocks that it held, and was given and has freed none since: all that led to it are reads and writes of words, one access each
 pub record Rests (h : Heap) (p q : Pass) : Type 0 where
   pub of : IsOf h q
   pub idle : IsIdle q.errand
@@ -28,11 +30,15 @@ pub record Rests (h : Heap) (p q : Pass) : Type 0 where
   pub hand : (blocks : List Block) → HoldsExactly p blocks → HoldsExactly q blocks
   pub given : given_in q ≡ given_in p
   pub freed : freed_in q ≡ freed_in p
+  pub made : List Made
+  pub on_words : All IsOnWord made
+  pub led : LedBy h p made q
 
--- the pass rests, and its blocks have the words that they had
+-- the pass rests, its blocks have the words that they had, and all that led to it are reads
 pub record KeepsWords (h : Heap) (p q : Pass) : Type 0 where
   pub rests : Rests h p q
   pub same : OwnsSame p q
+  pub reads : All IsRead rests.made
 
 -- which node leads to this number, behind these pairs from the head: none, or that of the last of the pairs
 abbrev pub IsLink : (ℕ → Option (ℕ × (ℕ × ℕ))) → ℕ → List (ℕ × ℕ) → ℕ → ℕ → Type 0

@@ -8,6 +8,7 @@ ghost use Rattle.live_heap.specs.Contents.{owned_in};
 ghost use Rattle.live_heap.specs.Passes.{IsOf, Owns};
 ghost use Rattle.typed_store.specs.Nodes.{node_at};
 ghost use Rattle.typed_store.specs.Passings.{KeepsWords, Rests};
+ghost use Rattle.typed_store.specs.Walks.{LedBy, node_reads};
 
 use live_heap::block::Block;
 use live_heap::heap::Heap;
@@ -33,6 +34,7 @@ pub(crate) fn read_node(heap: &Heap, pass: &mut Pass, block: &Block) -> Node
     requires node { (next : ℕ) × (pair : ℕ × ℕ) × (node_at (owned_in pass.old block.now.place) ≡ Some (next, pair)) }
     ensures reads { KeepsWords heap.now pass.old pass.new }
     ensures node { node_at (owned_in pass.old block.now.place) ≡ Some (result.next, (result.key, result.value)) }
+    ensures found { LedBy heap.now pass.old (node_reads block.now result.next (result.key, result.value)) pass.new }
 {
     let next = heap.read(pass, block, 0);
     let key = heap.read(pass, block, 1);

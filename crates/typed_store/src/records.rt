@@ -8,6 +8,7 @@ ghost use Rattle.live_heap.specs.Contents.{owned_in};
 ghost use Rattle.live_heap.specs.Passes.{IsOf, Owns};
 ghost use Rattle.typed_store.specs.Passings.{KeepsWords, Rests};
 ghost use Rattle.typed_store.specs.Records.{IsRecord};
+ghost use Rattle.typed_store.specs.Walks.{LedBy, record_reads};
 
 use live_heap::block::Block;
 use live_heap::heap::Heap;
@@ -52,6 +53,7 @@ pub(crate) fn read_record(
     requires record { (words : List ℕ) × IsRecord pass.old block.now words }
     ensures reads { KeepsWords heap.now pass.old pass.new }
     ensures words { IfOk result (λ read. (words : List ℕ) → IsRecord pass.old block.now words → read.items ≡ words) }
+    ensures found { IfOk result (λ read. LedBy heap.now pass.old (record_reads block.now read.items) pass.new) }
 {
     let _most = block.words();
     let count = heap.read(pass, block, 0) as u32;

@@ -1,6 +1,6 @@
 //! Walks along a list.
 
-ghost use Rattle.std.specs.Prelude.{ℕ, ◌≡◌, ◌≢◌, List, ◌++◌, All, None, IfOk, IfSome, IfNone, length};
+ghost use Rattle.std.specs.Prelude.{ℕ, ◌≡◌, ◌≢◌, List, ◌++◌, All, None, IfOk, IfSome, IfNone, OnErr, length};
 ghost use Rattle.errand_steps.specs.Begins.{IsIdle};
 ghost use Rattle.live_heap.specs.declared.block.Block.{Block};
 ghost use Rattle.live_heap.specs.Contents.{owned_in};
@@ -9,6 +9,7 @@ ghost use Rattle.live_heap.specs.Passes.{IsOf};
 ghost use Rattle.typed_store.specs.Links.{Leads};
 ghost use Rattle.typed_store.specs.Nodes.{Spells, first_with, nodes_at, tokens_in};
 ghost use Rattle.typed_store.specs.Passings.{FindsNode, KeepsWords, Rests, StandsBetween, but};
+ghost use Rattle.typed_store.specs.Walks.{ReadsPairs};
 
 use crate::nodes::{Node, read_node, write_next};
 use crate::slot::{Slot, token};
@@ -77,6 +78,8 @@ pub(crate) fn list_pairs(
     requires spelled { (pairs : List (ℕ × ℕ)) × Spells (owned_in pass.old) slots.now.items head pairs × (count ≡ length pairs) }
     ensures reads { KeepsWords heap.now pass.old pass.new }
     ensures pairs { IfOk result (λ listed. (pairs : List (ℕ × ℕ)) → Spells (owned_in pass.old) slots.now.items head pairs → listed.items ≡ pairs) }
+    ensures found { IfOk result (λ listed. ReadsPairs heap.now pass.old slots.now.items head listed.items pass.new) }
+    ensures err { OnErr result (pass.new ≡ pass.old) }
 {
     let mut listed = Vec::with_capacity(alloc, count as usize)?;
     let mut here = head;

@@ -14,8 +14,9 @@ ghost use Rattle.typed_store.specs.declared.store.Popped.TheVariants as popped;
 ghost use Rattle.typed_store.specs.declared.store.Stored.TheVariants as stored;
 ghost use Rattle.typed_store.specs.Causes.{IsAnswerOf, IsFreed, IsResumedAnswer};
 ghost use Rattle.typed_store.specs.Nodes.{first_with, nodes_at, without_first};
-ghost use Rattle.typed_store.specs.Passings.{Rests, StandsBetween};
+ghost use Rattle.typed_store.specs.Passings.{KeepsWords, Rests, StandsBetween};
 ghost use Rattle.typed_store.specs.Stores.{HasList, HasRecords, IsBuilt, IsReady, IsUnderWay, LeavesStore, LeavesPopped, TellsPopped, blocks_of, pairs_after, records_after, slot_count, with_pair, with_record};
+ghost use Rattle.typed_store.specs.Walks.{ReadsPairs, ReadsRecord};
 
 use crate::nodes::{NODE_WORDS, Node, read_node, write_node};
 use crate::records::{read_record, record_token, write_record};
@@ -122,7 +123,7 @@ impl Store {
         ensures records { (records : List (List ℕ)) → HasRecords self.old records → HasRecords self.new records }
         ensures cause { IfOk result (λ stored. IsAnswerOf heap.now self.old.pass 3 tries stored self.new.pass) }
         ensures slots { OnOk result ((pairs : List (ℕ × ℕ)) → HasList self.old pairs → slot_count self.new ≡ max (slot_count self.old) (length pairs + 1)) }
-        ensures none { OnErr result (slot_count self.new ≡ slot_count self.old) }
+        ensures none { OnErr result ((slot_count self.new ≡ slot_count self.old) × (self.new.pass ≡ self.old.pass)) }
     {
         make_room(&mut self.slots, &mut self.unused)?;
         Ok(self.ask_for_node(heap, key, value, tries))
@@ -270,6 +271,7 @@ impl Store {
             → (result ≡ option_map (λ pair. pair.1) (first_with key pairs)) × HasList self.new pairs }
         ensures records { (records : List (List ℕ)) → HasRecords self.old records → HasRecords self.new records }
         ensures slots { slot_count self.new ≡ slot_count self.old }
+        ensures stays { KeepsWords heap.now self.old.pass self.new.pass × (self.new ≡ record self.old { pass = self.new.pass }) }
     {
         match seek(
             heap,
@@ -293,6 +295,9 @@ impl Store {
         ensures list { (pairs : List (ℕ × ℕ)) → HasList self.old pairs → HasList self.new pairs }
         ensures records { (records : List (List ℕ)) → HasRecords self.old records → HasRecords self.new records }
         ensures slots { slot_count self.new ≡ slot_count self.old }
+        ensures found { IfOk result (λ listed. ReadsPairs heap.now self.old.pass self.old.slots.items self.old.head listed.items self.new.pass) }
+        ensures err { OnErr result (self.new.pass ≡ self.old.pass) }
+        ensures stays { KeepsWords heap.now self.old.pass self.new.pass × (self.new ≡ record self.old { pass = self.new.pass }) }
     {
         list_pairs(
             alloc,
@@ -323,6 +328,7 @@ impl Store {
         ensures list { (pairs : List (ℕ × ℕ)) → HasList self.old pairs → HasList self.new pairs }
         ensures cause { IfOk result (λ stored. IsAnswerOf heap.now self.old.pass (length words.now + 1) tries stored self.new.pass) }
         ensures slots { slot_count self.new ≡ slot_count self.old }
+        ensures none { OnErr result (self.new.pass ≡ self.old.pass) }
     {
         self.records.reserve(1)?;
         Ok(self.ask_for_record(heap, words, tries))
@@ -392,6 +398,8 @@ impl Store {
         ensures records { (records : List (List ℕ)) → HasRecords self.old records → HasRecords self.new records }
         ensures list { (pairs : List (ℕ × ℕ)) → HasList self.old pairs → HasList self.new pairs }
         ensures slots { slot_count self.new ≡ slot_count self.old }
+        ensures read { IfOk result (λ found. ReadsRecord heap.now self.old.pass self.old.records.items number (option_map (λ words. words.items) found) self.new.pass) }
+        ensures stays { KeepsWords heap.now self.old.pass self.new.pass × (self.new ≡ record self.old { pass = self.new.pass }) }
     {
         if number >= self.recorded {
             return Ok(None);

@@ -3,7 +3,8 @@ use Rattle.std.specs.Prelude.{option_map}
 use Rattle.pool_model.specs.Pool.{fresh_block, written}
 use Rattle.live_heap.specs.Contents.{owned_in}
 use Rattle.typed_store.specs.Nodes.{node_at}
-use Rattle.typed_store.proofs.PassLemmas.{node-made, rests-on, write-changes, write-rests, wrote-owns}
+use Rattle.typed_store.proofs.PassLemmas.{node-made, write-changes, wrote-owns}
+use Rattle.typed_store.proofs.ReadLemmas.{writes-three}
 use Rattle.typed_store.proofs.nodes.write_node.Goals as goal
 
 pub write-requires-2-clause-owned : goal.write-requires-2-clause-owned
@@ -23,12 +24,10 @@ write-requires-3-clause-owned c =
 
 pub returns-clause-rests : goal.returns-clause-rests
 returns-clause-rests c =
-    let b = c.args.block.now in
-    let h = c.args.heap.now in
-    let w = write-rests h c.args.pass.now c.write.new.pass b.place 0 c.args.node.next b.need c.write.ensures.of c.write.ensures.called in
-    let x = write-rests h c.write.new.pass c.write-2.new.pass b.place 1 c.args.node.key b.need c.write-2.ensures.of c.write-2.ensures.called in
-    let y = write-rests h c.write-2.new.pass c.write-3.new.pass b.place 2 c.args.node.value b.need c.write-3.ensures.of c.write-3.ensures.called in
-    rests-on h c.args.pass.now c.write.new.pass c.write-3.new.pass w (rests-on h c.write.new.pass c.write-2.new.pass c.write-3.new.pass x y)
+    let n = c.args.node in
+    writes-three c.args.heap.now c.args.pass.now c.write.new.pass c.write-2.new.pass c.write-3.new.pass c.args.block.now n.next n.key n.value
+    c.requires.owned c.write.ensures.of c.write.ensures.called c.write-2.ensures.of c.write-2.ensures.called c.write-3.ensures.of
+    c.write-3.ensures.called
 
 pub returns-clause-node : goal.returns-clause-node
 returns-clause-node c =

@@ -1,9 +1,11 @@
-use Rattle.std.proofs.Common.{ℕ, ◌<◌, ◌-◌, ◌∙◌, ◌++◌, ◌∷◌, [], List, length, arith, sym, ap}
+use Rattle.std.proofs.Common.{ℕ, suc, ◌≡◌, ◌<◌, ◌-◌, ◌∙◌, ◌++◌, ◌∷◌, [], List, length, arith, refl, sym, ap, subst}
 use Rattle.live_heap.specs.Contents.{owned_in}
 use Rattle.typed_store.specs.Nodes.{nodes_at}
-use Rattle.typed_store.proofs.PassLemmas.{reads-on, reads-self, same-owns}
+use Rattle.typed_store.proofs.PassLemmas.{leads-on, reads-on, reads-self, same-owns}
 use Rattle.typed_store.proofs.SlotLemmas.{token-out}
-use Rattle.typed_store.proofs.WalkLemmas.{counted, passing-at, walk-begins, walk-node, walk-on, walk-read, walk-token}
+use Rattle.typed_store.proofs.WalkLemmas.{counted, passed-all, passing-at, walk-begins, walk-node, walk-on, walk-read, walk-token}
+use Rattle.typed_store.specs.Walks.{CallsOnce, ReadsAlong, node_reads}
+use Rattle.typed_store.proofs.ReadLemmas.{along-more}
 use Rattle.typed_store.proofs.seeking.list_pairs.Goals as goal
 
 pub loop-passed-init : goal.loop-passed-init
@@ -12,6 +14,7 @@ loop-passed-init c =
     let sp = c.requires.spelled in
     record {
       reads = reads-self c.args.heap.now c.args.pass.now c.requires.of c.requires.idle;
+      made = ([], subst (λ (l : List (ℕ × ℕ)). ReadsAlong c.args.slots.now.items c.args.head l c.args.head []) (sym c.in_ok-listed.ensures.items) (refl, refl), refl);
       room = (c.in_ok-listed.ensures.len, c.in_ok-listed.ensures.exact);
       passing = λ pairs leads. (
         counted at c.args.head c.args.count sp.0 pairs sp.1 sp.2 leads,
@@ -62,8 +65,21 @@ loop-passed-preserved c =
     let there =
     walk-read c.args.heap.now c.args.pass.now l.pass c.args.slots.now.items (l.here - 1) c.token.result.now node.next (node.key, node.value)
     l.invariant.reads c.token.ensures c.read_node-node.ensures.node in
+    let sp = c.requires.spelled in
+    let first = l.invariant.passing sp.0 sp.1 in
+    let here_is : l.here ≡ suc (l.here - 1) =
+    (passing-at at c.args.head first.1 l.here l._passed sp.0 first.2 (omega (arith, first.0, c.loop-passed-test.true))).here_is in
+    let more = node_reads c.token.result.now node.next (node.key, node.value) in
     record {
       reads = reads-on c.args.heap.now c.args.pass.now l.pass c.read_node-node.new.pass l.invariant.reads c.read_node-node.ensures.reads;
+      made = (
+        l.invariant.made.0 ++ more,
+        subst (λ (x : List (ℕ × ℕ)). ReadsAlong c.args.slots.now.items c.args.head x node.next (l.invariant.made.0 ++ more)) (sym c.push_reserved.ensures.items)
+            (along-more c.args.slots.now.items c.args.head l.here node.next c.token.result.now l.listed.items (node.key, node.value) l.invariant.made.0
+            here_is c.token.ensures l.invariant.made.1),
+        leads-on (CallsOnce c.args.heap.now) c.args.pass.now l.pass c.read_node-node.new.pass l.invariant.made.0 more l.invariant.made.2
+            c.read_node-node.ensures.found,
+      );
       room = (omega (arith, c.push_reserved.ensures.len, l.invariant.room.0), c.push_reserved.ensures.capacity ∙ l.invariant.room.1);
       passing = λ pairs leads.
           let i = l.invariant.passing pairs leads in
@@ -76,3 +92,19 @@ loop-passed-preserved c =
             c.push_reserved.ensures.items ∙ (ap (λ (x : List (ℕ × ℕ)). x ++ (node.key, node.value) ∷ []) i.3 ∙ sym on.before_is),
           );
     }
+
+pub returns-clause-found : goal.returns-clause-found
+returns-clause-found c =
+    let l = c.loop-passed in
+    let sp = c.requires.spelled in
+    let p = l.invariant.passing sp.0 sp.1 in
+    let all : l._passed ≡ c.args.count = omega (arith, c.loop-passed-test.false, l.auto._passed-end) in
+    let over : l.here ≡ 0 =
+    passed-all (nodes_at (owned_in c.args.pass.now) c.args.slots.now.items) c.args.head p.1 l.here l._passed sp.0 p.2 (omega (arith, p.0, all)) in (
+      l.invariant.made.0,
+      subst (λ (to : ℕ). ReadsAlong c.args.slots.now.items c.args.head l.listed.items to l.invariant.made.0) over l.invariant.made.1,
+      l.invariant.made.2,
+    )
+
+pub returns-in_err-listed-clause-reads : goal.returns-in_err-listed-clause-reads
+returns-in_err-listed-clause-reads c = reads-self c.args.heap.now c.args.pass.now c.requires.of c.requires.idle

@@ -5,6 +5,7 @@ use Rattle.live_heap.specs.Contents.{owned_in}
 use Rattle.typed_store.specs.Nodes.{node_at, node_in, nodes_at}
 use Rattle.typed_store.proofs.RelinkLemmas.{follows, unlinked-first, unlinked-later}
 use Rattle.typed_store.proofs.SlotLemmas.{all-token, node-token, nodes-other, token-out}
+use Rattle.typed_store.proofs.PassLemmas.{reads-self}
 use Rattle.typed_store.proofs.seeking.relink.Goals as goal
 
 pub token-requires : goal.token-requires
@@ -55,3 +56,6 @@ returns-else-sought-eq0-clause-others c = λ place away.
     let block = c.token.result.now in
     c.write_next.ensures.others place
     (λ same. all-token (λ (b : Block). b.place ≢ place) c.args.slots.now.items (c.args.sought.now.previous - 1) block c.token.ensures away (sym same))
+
+pub returns-then-sought-eq0-clause-rests : goal.returns-then-sought-eq0-clause-rests
+returns-then-sought-eq0-clause-rests c = (reads-self c.args.heap.now c.args.pass.now c.requires.of c.requires.idle).rests

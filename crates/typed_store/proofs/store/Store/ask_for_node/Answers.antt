@@ -2,9 +2,9 @@ use Rattle.std.proofs.Common.{suc, refl}
 use Rattle.errand_steps.specs.Calls.{alloc}
 use Rattle.typed_store.specs.declared.store.Pending.TheVariants.{Pair}
 use Rattle.typed_store.specs.Stores.{blocks_of}
-use Rattle.typed_store.proofs.AskLemmas.{given-to, refused-reads, spent-reads}
+use Rattle.typed_store.proofs.AskLemmas.{given-to, refused-stays, spent-stays}
 use Rattle.typed_store.proofs.StayLemmas.{calling-alloc-same, same-all}
-use Rattle.typed_store.proofs.StoreLemmas.{built-stays, list-stays, ready-reads, words-stay}
+use Rattle.typed_store.proofs.StoreLemmas.{built-stays, list-stays, ready-stays, words-stay}
 use Rattle.typed_store.proofs.store.Store.ask_for_node.Goals as goal
 
 pub link-requires-clause-exactly : goal.link-requires-clause-exactly
@@ -53,42 +53,42 @@ pub returns-in-Refused-clause-left : goal.returns-in-Refused-clause-left
 returns-in-Refused-clause-left c =
     let s = c.args.self.now in
     let e = c.in-Refused.ensures in
-    ready-reads c.args.heap.now s c.alloc.new.pass c.requires.ready
-    (refused-reads c.args.heap.now s.pass c.alloc.new.pass 3 e.tells.steps e.of e.tells.called)
+    ready-stays c.args.heap.now s c.alloc.new.pass c.requires.ready
+    (refused-stays c.args.heap.now s.pass c.alloc.new.pass 3 e.tells.steps e.of e.tells.called)
 
 pub returns-in-Refused-clause-list : goal.returns-in-Refused-clause-list
 returns-in-Refused-clause-list c = λ pairs has.
     let s = c.args.self.now in
     let e = c.in-Refused.ensures in
-    let r = refused-reads c.args.heap.now s.pass c.alloc.new.pass 3 e.tells.steps e.of e.tells.called in
+    let r = refused-stays c.args.heap.now s.pass c.alloc.new.pass 3 e.tells.steps e.of e.tells.called in
     list-stays s c.alloc.new.pass pairs (same-all s.pass c.alloc.new.pass r.same (blocks_of s)) has
 
 pub returns-in-Refused-clause-records : goal.returns-in-Refused-clause-records
 returns-in-Refused-clause-records c = λ records has.
     let s = c.args.self.now in
     let e = c.in-Refused.ensures in
-    let r = refused-reads c.args.heap.now s.pass c.alloc.new.pass 3 e.tells.steps e.of e.tells.called in
+    let r = refused-stays c.args.heap.now s.pass c.alloc.new.pass 3 e.tells.steps e.of e.tells.called in
     words-stay s c.alloc.new.pass records (same-all s.pass c.alloc.new.pass r.same (blocks_of s)) has
 
 pub returns-in-Spent-clause-left : goal.returns-in-Spent-clause-left
 returns-in-Spent-clause-left c =
     let s = c.args.self.now in
     let e = c.in-Spent.ensures in
-    ready-reads c.args.heap.now s c.alloc.new.pass c.requires.ready
-    (spent-reads c.args.heap.now s.pass c.alloc.new.pass 3 c.args.tries c.requires.ready.of c.requires.ready.idle e.of e.tells)
+    ready-stays c.args.heap.now s c.alloc.new.pass c.requires.ready
+    (spent-stays c.args.heap.now s.pass c.alloc.new.pass 3 c.args.tries c.requires.ready.of c.requires.ready.idle e.of e.tells)
 
 pub returns-in-Spent-clause-list : goal.returns-in-Spent-clause-list
 returns-in-Spent-clause-list c = λ pairs has.
     let s = c.args.self.now in
     let e = c.in-Spent.ensures in
-    let r = spent-reads c.args.heap.now s.pass c.alloc.new.pass 3 c.args.tries c.requires.ready.of c.requires.ready.idle e.of e.tells in
+    let r = spent-stays c.args.heap.now s.pass c.alloc.new.pass 3 c.args.tries c.requires.ready.of c.requires.ready.idle e.of e.tells in
     list-stays s c.alloc.new.pass pairs (same-all s.pass c.alloc.new.pass r.same (blocks_of s)) has
 
 pub returns-in-Spent-clause-records : goal.returns-in-Spent-clause-records
 returns-in-Spent-clause-records c = λ records has.
     let s = c.args.self.now in
     let e = c.in-Spent.ensures in
-    let r = spent-reads c.args.heap.now s.pass c.alloc.new.pass 3 c.args.tries c.requires.ready.of c.requires.ready.idle e.of e.tells in
+    let r = spent-stays c.args.heap.now s.pass c.alloc.new.pass 3 c.args.tries c.requires.ready.of c.requires.ready.idle e.of e.tells in
     words-stay s c.alloc.new.pass records (same-all s.pass c.alloc.new.pass r.same (blocks_of s)) has
 
 pub returns-in-Busy-clause-left : goal.returns-in-Busy-clause-left

@@ -1,4 +1,4 @@
-use Rattle.std.proofs.Common.{ℕ, List, sym, ap, ◌∙◌}
+use Rattle.std.proofs.Common.{ℕ, List, refl, sym, ap, ◌∙◌}
 use Rattle.std.specs.Prelude.{option_map}
 use Rattle.typed_store.specs.Nodes.{first_with}
 use Rattle.typed_store.specs.Stores.{blocks_of}
@@ -51,3 +51,9 @@ returns-in-Some-clause-rests c = c.seek.ensures.reads.rests
 
 pub returns-in-None-clause-rests : goal.returns-in-None-clause-rests
 returns-in-None-clause-rests c = c.seek.ensures.reads.rests
+
+pub returns-in-Some-clause-stays : goal.returns-in-Some-clause-stays
+returns-in-Some-clause-stays c = (c.seek.ensures.reads, refl)
+
+pub returns-in-None-clause-stays : goal.returns-in-None-clause-stays
+returns-in-None-clause-stays c = (c.seek.ensures.reads, refl)

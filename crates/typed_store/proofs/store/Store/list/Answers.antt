@@ -1,3 +1,4 @@
+use Rattle.std.proofs.Common.{refl}
 use Rattle.typed_store.specs.Stores.{blocks_of}
 use Rattle.typed_store.proofs.StayLemmas.{same-all}
 use Rattle.typed_store.proofs.StoreLemmas.{list-stays, ready-reads, words-stay}
@@ -24,3 +25,6 @@ returns-clause-records c = λ records has.
 
 pub returns-clause-rests : goal.returns-clause-rests
 returns-clause-rests c = c.list_pairs.ensures.reads.rests
+
+pub returns-clause-stays : goal.returns-clause-stays
+returns-clause-stays c = (c.list_pairs.ensures.reads, refl)

@@ -1,9 +1,10 @@
-use Rattle.std.proofs.Common.{ℕ, List, Some, sym, ap, ◌∙◌, arith}
+use Rattle.std.proofs.Common.{ℕ, List, Some, refl, sym, ap, ◌∙◌, arith}
 use Rattle.typed_store.specs.Nodes.{tokens_in}
 use Rattle.typed_store.specs.Stores.{blocks_of}
 use Rattle.typed_store.proofs.RecordLemmas.{got, holds-back, record-at, records-counted}
 use Rattle.typed_store.proofs.StayLemmas.{same-all}
 use Rattle.typed_store.proofs.StoreLemmas.{list-stays, ready-reads, words-stay}
+use Rattle.typed_store.proofs.PassLemmas.{reads-self}
 use Rattle.typed_store.proofs.store.Store.record.Goals as goal
 
 pub record_token-block-requires : goal.record_token-block-requires
@@ -62,3 +63,18 @@ returns-in_err-read_record-clause-rests c = c.read_record.ensures.reads.rests
 
 pub returns-clause-rests : goal.returns-clause-rests
 returns-clause-rests c = c.read_record.ensures.reads.rests
+
+pub returns-in_err-read_record-clause-stays : goal.returns-in_err-read_record-clause-stays
+returns-in_err-read_record-clause-stays c = (c.read_record.ensures.reads, refl)
+
+pub returns-clause-stays : goal.returns-clause-stays
+returns-clause-stays c = (c.read_record.ensures.reads, refl)
+
+pub returns-clause-read : goal.returns-clause-read
+returns-clause-read c = (c.record_token-block.result.now, c.record_token-block.ensures, c.in_ok-read_record.ensures.found)
+
+pub returns-then-number-self-clause-rests : goal.returns-then-number-self-clause-rests
+returns-then-number-self-clause-rests c = (reads-self c.args.heap.now c.args.self.now.pass c.requires.of c.requires.idle).rests
+
+pub returns-then-number-self-clause-stays : goal.returns-then-number-self-clause-stays
+returns-then-number-self-clause-stays c = (reads-self c.args.heap.now c.args.self.now.pass c.requires.of c.requires.idle, refl)
