@@ -1,5 +1,5 @@
 -- What the calls of the script count.
-use Rattle.std.proofs.Common.{ℕ, true, false, Option, Some, None, length, eqb, ◌≡◌, ◌≢◌, ◌<◌, ◌+◌, List, [], ◌∷◌, refl, sym, ◌∙◌, ap, subst, inl, inr, arith}
+use Rattle.std.proofs.Common.{ℕ, true, false, Option, Some, None, length, eqb, ◌≡◌, ◌≢◌, ◌<◌, ◌+◌, List, [], ◌∷◌, ◌++◌, refl, sym, ◌∙◌, ap, subst, inl, inr, arith}
 use Rattle.heap_geometry.specs.declared.need.Need.{Need}
 use Rattle.pool_model.specs.Counts.{is_alloc, is_free}
 use Rattle.errand_steps.specs.declared.reply.Reply.TheVariants as reply
@@ -9,7 +9,14 @@ use Rattle.live_heap.specs.declared.pass.Pass.{Pass}
 use Rattle.live_heap.specs.declared.answers.AllocAnswer.TheVariants as alloc_answer
 use Rattle.live_heap.specs.declared.answers.FreeAnswer.TheVariants as free_answer
 use Rattle.live_heap.specs.declared.block.Block.{Block}
-use Rattle.live_heap.specs.Answers.{AllocTells, FreeTells}
+use Rattle.live_heap.specs.Answers.{AllocTells, FreeTells, IsSpentAtOnce}
+use Rattle.live_heap.specs.Whole.{MadeByPass, at_once, by_steps}
+use Rattle.call_events.specs.Made.{LeadsBy, Made, answered}
+use Rattle.live_heap.specs.Passes.{seen}
+use Rattle.pool_model.specs.Histories.{Begins}
+use Rattle.live_heap.proofs.LawsKept.{called-grows}
+use Rattle.errand_steps.specs.declared.reply.Reply.{Reply}
+use Rattle.errand_steps.specs.Calls.{Call}
 use Rattle.live_heap.specs.Calls.{HasCalled}
 use Rattle.live_heap.specs.Passes.{IsOf}
 use Rattle.live_heap.specs.declared.answers.Resumed.TheVariants as resumed
@@ -26,19 +33,48 @@ use Rattle.typed_store.specs.Causes.{GoesOnTo, IsAnswerOf, IsFreed, IsResumedAns
 use Rattle.typed_store.specs.Nodes.{first_with, without_first}
 use Rattle.typed_store.specs.Stores.{IsReady, LeavesPopped, TellsPopped, pairs_after, records_after, with_pair, with_record}
 use Rattle.typed_store.proofs.WalkLemmas.{first-kept}
-use Rattle.typed_store.specs.Passings.{Rests}
+use Rattle.typed_store.specs.Passings.{Rests, freed_in, given_in}
+use Rattle.typed_store.proofs.LedLemmas.{begins-on, begins-self, led-made}
+use Rattle.typed_store.proofs.PassLemmas.{leads-on}
 use Rattle.typed_store.proofs.CountLemmas.{allocs-blind, counts-on, freed-one, frees-blind, given-one, refused-none, spent-none}
 use Rattle.store_runner.specs.Counts.{CountsBlocks}
+use Rattle.store_runner.specs.Scripts.{HasComeTo}
+
+-- whole calls leave what was seen in front
+once-grows : (p q : Pass) (call : Call) (answer : Reply) → MadeByPass p call answer q → Begins (seen p) (seen q)
+once-grows p q call answer (by_steps (steps, called)) = called-grows p q call steps answer called
+once-grows p q call answer (at_once words call_is answer_is once) = begins-self p q once.same
+
+pub made-grows : (p q : Pass) (made : List Made) → LeadsBy MadeByPass p made q → Begins (seen p) (seen q)
+made-grows p q [] led = begins-self p q led
+made-grows p q (m ∷ made) (next, one, rest) =
+    begins-on (seen p) (seen next) (seen q) (once-grows p next m.call m.answer one) (made-grows next q made rest)
+
+-- whole calls that led to a pass lead on by those that are counted
+pub come-on : (h : Heap) (given freed : ℕ) (p q : Pass) → HasComeTo h p → CountsBlocks given freed p q → HasComeTo h q
+come-on h given freed p q come counts = record {
+  first = come.first;
+  fresh = come.fresh;
+  made = come.made ++ counts.made;
+  led = leads-on MadeByPass come.first p q come.made counts.made come.led counts.led;
+}
 
 pub counts-then : (a b c d : ℕ) (p q r : Pass) → CountsBlocks a b p q → CountsBlocks c d q r → CountsBlocks (a + c) (b + d) p r
 counts-then a b c d p q r x y = record {
   caller = y.caller ∙ x.caller;
   given_is = omega (arith, x.given_is, y.given_is);
   freed_is = omega (arith, x.freed_is, y.freed_is);
+  made = x.made ++ y.made;
+  led = leads-on MadeByPass p q r x.made y.made x.led y.led;
 }
 
+-- no call at all
+pub counts-self : (p : Pass) → CountsBlocks 0 0 p p
+counts-self p = record { caller = refl; given_is = omega arith; freed_is = omega arith; made = []; led = refl }
+
 pub rests-count : (h : Heap) (p q : Pass) → Rests h p q → CountsBlocks 0 0 p q
-rests-count h p q r = record { caller = r.caller; given_is = omega (arith, r.given); freed_is = omega (arith, r.freed) }
+rests-count h p q r =
+    record { caller = r.caller; given_is = omega (arith, r.given); freed_is = omega (arith, r.freed); made = r.made; led = led-made h p q r.made r.led }
 
 pub given-counts :
     (p q : Pass) (words steps place : ℕ) (need : Need) → HasCalled p (alloc words) steps (reply.Given place need) q → CountsBlocks 1 0 p q
@@ -49,6 +85,8 @@ given-counts p q words steps place need called =
       caller = called.caller;
       given_is = counts-on is_alloc 1 p q (alloc words) steps answer (λ added has. given-one is_alloc k words place need added allocs-blind has) called;
       freed_is = counts-on is_free 0 p q (alloc words) steps answer (λ added has. given-one is_free k words place need added frees-blind has) called;
+      made = answered (alloc words) answer ∷ [];
+      led = (q, by_steps (steps, called), refl);
     }
 
 pub refused-counts : (p q : Pass) (words steps : ℕ) → HasCalled p (alloc words) steps reply.Refused q → CountsBlocks 0 0 p q
@@ -58,6 +96,8 @@ refused-counts p q words steps called =
       caller = called.caller;
       given_is = counts-on is_alloc 0 p q (alloc words) steps reply.Refused (λ added has. refused-none is_alloc k words added allocs-blind has) called;
       freed_is = counts-on is_free 0 p q (alloc words) steps reply.Refused (λ added has. refused-none is_free k words added frees-blind has) called;
+      made = answered (alloc words) reply.Refused ∷ [];
+      led = (q, by_steps (steps, called), refl);
     }
 
 pub spent-counts : (p q : Pass) (words steps : ℕ) → HasCalled p (alloc words) steps reply.Spent q → CountsBlocks 0 0 p q
@@ -67,14 +107,22 @@ spent-counts p q words steps called =
       caller = called.caller;
       given_is = counts-on is_alloc 0 p q (alloc words) steps reply.Spent (λ added has. spent-none is_alloc k words added allocs-blind has) called;
       freed_is = counts-on is_free 0 p q (alloc words) steps reply.Spent (λ added has. spent-none is_free k words added frees-blind has) called;
+      made = answered (alloc words) reply.Spent ∷ [];
+      led = (q, by_steps (steps, called), refl);
     }
 
-pub same-counts : (p q : Pass) → q ≡ p → CountsBlocks 0 0 p q
-same-counts p q same =
-    subst (λ (r : Pass). CountsBlocks 0 0 p r) (sym same) (record { caller = refl; given_is = omega arith; freed_is = omega arith })
+-- an allocation that found no turn left
+at-once-counts : (p q : Pass) (words : ℕ) → IsSpentAtOnce p words q → CountsBlocks 0 0 p q
+at-once-counts p q words once = record {
+  caller = ap (λ (r : Pass). r.errand.caller) once.same;
+  given_is = omega (arith, ap given_in once.same);
+  freed_is = omega (arith, ap freed_in once.same);
+  made = answered (alloc words) reply.Spent ∷ [];
+  led = (q, at_once words refl refl once, refl);
+}
 
 pub spent-tells : (p q : Pass) (words tries : ℕ) → AllocTells p words tries alloc_answer.Spent q → CountsBlocks 0 0 p q
-spent-tells p q words tries (inl once) = same-counts p q once.same
+spent-tells p q words tries (inl once) = at-once-counts p q words once
 spent-tells p q words tries (inr ended) = spent-counts p q words ended.0.steps ended.0.called
 
 pub freed-counts : (p q : Pass) (block : Block) (tries : ℕ) → FreeTells p block tries free_answer.Freed q → CountsBlocks 0 1 p q
@@ -86,6 +134,8 @@ freed-counts p q block tries tells =
       caller = called.caller;
       given_is = counts-on is_alloc 0 p q call tells.steps reply.Freed (λ added has. freed-one is_alloc k block.place block.need added has) called;
       freed_is = counts-on is_free 1 p q call tells.steps reply.Freed (λ added has. freed-one is_free k block.place block.need added has) called;
+      made = answered call reply.Freed ∷ [];
+      led = (q, by_steps (tells.steps, called), refl);
     }
 
 -- an addition that is done, refused or spent

@@ -11,13 +11,14 @@ use Rattle.errand_steps.specs.Begins.{IsIdle}
 use Rattle.live_heap.specs.declared.heap.Heap.{Heap}
 use Rattle.live_heap.specs.declared.pass.Pass.{Pass}
 use Rattle.live_heap.specs.Contents.{owned_after, owned_in}
-use Rattle.live_heap.specs.Endings.{AreAllIdle, ClosedFields, HasClosed, HasTakenIn, IsResting}
+use Rattle.live_heap.specs.Endings.{AreAllIdle, ClosedFields, HasAccesses, HasClosed, HasTakenIn, IsResting}
 use Rattle.live_heap.specs.Passes.{AreFrom, IsFresh, IsOf, seen}
 use Rattle.typed_store.specs.Passings.{freed_in, given_in}
 use Rattle.store_runner.specs.declared.script.Script.{Script}
 use Rattle.store_runner.specs.Closings.{IsStored, store_heap}
 use Rattle.store_runner.specs.Ends.{HasRun}
 use Rattle.store_runner.specs.Scripts.{list_after, values_of}
+use Rattle.typed_store.proofs.LedLemmas.{begins-on}
 use Rattle.store_runner.proofs.KeepLemmas.{keeps-same}
 
 -- the one pass of a new heap
@@ -65,10 +66,16 @@ CountsBlocks =
     (g : Geometry) (history : List Event) → IsLegalWithoutCounts g history
     → length (pool_of history) + count_by is_free history ≡ count_by is_alloc history
 
+-- the heap that the script left, with what was read of it
+abbrev pub StoresRead : ℕ → ClosedFields → Script → Type 0
+StoresRead rounds c script =
+    (stored : IsStored rounds c) × (stored.pairs ≡ script.pairs.items) × (stored.words ≡ script.words.items)
+
 pub closed-stored :
     (h : Heap) (rounds : ℕ) (script : Script) (c : ClosedFields) → SaysClosed → CountsBlocks → h.layout ≡ store_heap → HasRun h rounds script
-    → HasClosed h (script.pass ∷ []) c → IsResting c → IsLegal c.geometry c.events → IsLegalWithoutCounts c.geometry c.events → IsStored rounds c
-closed-stored h rounds script c says counted laid run closed rests legal weaker =
+    → HasClosed h (script.pass ∷ []) c → HasAccesses c (script.pass ∷ []) → IsResting c → IsLegal c.geometry c.events → IsLegalWithoutCounts c.geometry c.events
+    → StoresRead rounds c script
+closed-stored h rounds script c says counted laid run closed accesses rests legal weaker =
     let p = script.pass in
     let mine : HasTakenIn c p = closed.each 0 p (omega arith) in
     let heap : c.geometry ≡ store_heap = closed.heap ∙ laid in
@@ -81,14 +88,30 @@ closed-stored h rounds script c says counted laid run closed rests legal weaker 
     let allocs : count_by is_alloc c.events ≡ given_in p = ap (count_by is_alloc) own_is in
     let frees : count_by is_free c.events ≡ freed_in p = ap (count_by is_free) own_is in
     let pairs = list_after rounds in
-    record {
-      heap = heap;
-      rests = rests;
-      legal = subst (λ (g : Geometry). IsLegal g c.events) heap legal;
-      keeps =
-          keeps-same (owned_in p) (owned_after c.events 0) pairs (values_of pairs)
-          (λ place. ap (λ k. owned_after c.events k place) (sym run.caller) ∙ says c p place rests mine) run.keeps;
-      live = omega (arith, counted c.geometry c.events weaker, allocs, frees, run.given, run.freed);
-      given = allocs ∙ run.given;
-      freed = omega (arith, frees, run.freed);
-    }
+    let kept =
+    keeps-same (owned_in p) (owned_after c.events 0) h pairs (values_of pairs) script.pairs.items script.words.items p
+    (λ place. ap (λ k. owned_after c.events k place) (sym run.caller) ∙ says c p place rests mine) run.keeps run.read in (
+      record {
+        heap = heap;
+        rests = rests;
+        legal = subst (λ (g : Geometry). IsLegal g c.events) heap legal;
+        keeps = kept.0;
+        opened = h;
+        laid = laid;
+        pass = p;
+        come = run.come;
+        closed = closed;
+        accesses = accesses;
+        played = (run.played.0, run.played.1, begins-on run.played.0 (seen p) c.events run.played.2 mine.seen_before);
+        pairs = script.pairs.items;
+        words = script.words.items;
+        read = kept.1;
+        pairs_are = run.pairs;
+        words_are = run.words;
+        live = omega (arith, counted c.geometry c.events weaker, allocs, frees, run.given, run.freed);
+        given = allocs ∙ run.given;
+        freed = omega (arith, frees, run.freed);
+      },
+      refl,
+      refl,
+    )

@@ -1,5 +1,5 @@
 -- What a store's blocks spell, said of what is owned alone.
-use Rattle.std.proofs.Common.{ℕ, suc, ◌≡◌, List, [], ◌∷◌, ◌++◌, Option, Some, None, length, refl, ◌∙◌, ap, subst}
+use Rattle.std.proofs.Common.{ℕ, suc, ◌≡◌, List, [], ◌∷◌, ◌++◌, Option, Some, None, length, refl, sym, ◌∙◌, ap, subst}
 use Rattle.std.specs.List.{AllZip}
 use Rattle.pool_model.specs.Pool.{Block as PoolBlock}
 use Rattle.live_heap.specs.declared.block.Block.{Block}
@@ -15,7 +15,8 @@ use Rattle.typed_store.specs.Records.{IsRecord}
 use Rattle.typed_store.specs.Stores.{HasList, HasRecords, IsReady}
 use Rattle.typed_store.proofs.LinkLemmas.{leads-one, leads-same}
 use Rattle.typed_store.proofs.PassLemmas.{owned-token}
-use Rattle.store_runner.specs.Ends.{AreOwned, IsSpelled}
+use Rattle.typed_store.specs.Walks.{LedBy, ReadsPairs, ReadsRecord, record_reads}
+use Rattle.store_runner.specs.Ends.{AreOwned, IsSpelled, ReadsBack}
 
 holds-owned : (p : Pass) (blocks : List Block) → Holds p blocks → AreOwned (owned_in p) blocks
 holds-owned p [] holds = tt
@@ -29,26 +30,52 @@ one-record p [] words are = absurd are
 one-record p (b ∷ []) words are = (b, refl, are.0)
 one-record p (b ∷ c ∷ bs) words are = absurd are.1
 
+-- blocks that spell a list and a record, and that were read last
+abbrev pub KeepsRead : (ℕ → Option PoolBlock) → Heap → List (ℕ × ℕ) → List ℕ → List (ℕ × ℕ) → List ℕ → Pass → Type 0
+KeepsRead owned h pairs words listed found p =
+    (keeps : IsSpelled owned pairs words) × ReadsBack h keeps.slots keeps.head keeps.block listed found p
+
+-- what the store's list and its record were read as, where both reads left all but its pass
+read-last :
+    (h : Heap) (s t u : Store) (listed : List (ℕ × ℕ)) (found : List ℕ) (block : Block) → t ≡ record s { pass = t.pass }
+    → u ≡ record t { pass = u.pass } → u.records.items ≡ block ∷ [] → ReadsPairs h s.pass s.slots.items s.head listed t.pass
+    → ReadsRecord h t.pass t.records.items 0 (Some found) u.pass → ReadsBack h u.slots.items u.head block listed found u.pass
+read-last h s t u listed found block first second only pairs (token, there, record_read) =
+    let slots : u.slots.items ≡ s.slots.items =
+    ap (λ (x : Store). x.slots.items) second ∙ ap (λ (x : Store). x.slots.items) first in
+    let head : u.head ≡ s.head = ap (λ (x : Store). x.head) second ∙ ap (λ (x : Store). x.head) first in
+    let one : t.records.items ≡ block ∷ [] = sym (ap (λ (x : Store). x.records.items) second) ∙ only in
+    let same : Some token ≡ Some block = sym there ∙ ap (λ (l : List Block). Rattle.std.specs.List.slice_get l 0) one in
+    let is : token ≡ block = cc in
+    let listed_then : ReadsPairs h s.pass u.slots.items u.head listed t.pass =
+    subst (λ (l : List Slot). ReadsPairs h s.pass l u.head listed t.pass) (sym slots)
+    (subst (λ (n : ℕ). ReadsPairs h s.pass s.slots.items n listed t.pass) (sym head) pairs) in
+    (s.pass, t.pass, listed_then, subst (λ (b : Block). LedBy h t.pass (record_reads b found) u.pass) is record_read)
+
 pub store-keeps :
-    (h : Heap) (s : Store) (pairs : List (ℕ × ℕ)) (words : List ℕ) → IsReady h s → HasList s pairs → HasRecords s (words ∷ [])
-    → IsSpelled (owned_in s.pass) pairs words
-store-keeps h s pairs words ready list records =
+    (h : Heap) (s t u : Store) (listed pairs : List (ℕ × ℕ)) (found words : List ℕ) → t ≡ record s { pass = t.pass }
+    → u ≡ record t { pass = u.pass } → ReadsPairs h s.pass s.slots.items s.head listed t.pass
+    → ReadsRecord h t.pass t.records.items 0 (Some found) u.pass → IsReady h u → HasList u pairs → HasRecords u (words ∷ [])
+    → KeepsRead (owned_in u.pass) h pairs words listed found u.pass
+store-keeps h before t s listed pairs found words first second pairs_read record_read ready list records =
     let one = one-record s.pass s.records.items words records.0 in
     let b = ready.built in
     let same : b.pairs ≡ pairs = leads-one (nodes_at (owned_in s.pass) s.slots.items) s.head b.pairs pairs b.list.0 list.0 in
     let exactly : HoldsExactly s.pass (tokens_in s.slots.items ++ one.0 ∷ []) =
-    subst (λ (l : List Block). HoldsExactly s.pass (tokens_in s.slots.items ++ l)) one.1 ready.exactly in
-    record {
-      slots = s.slots.items;
-      head = s.head;
-      list = list.0;
-      nodes = b.nodes ∙ ap length same;
-      block = one.0;
-      counted = one.2.counted;
-      each = one.2.each;
-      owns = holds-owned s.pass (tokens_in s.slots.items ++ one.0 ∷ []) exactly.0;
-      others = exactly.1;
-    }
+    subst (λ (l : List Block). HoldsExactly s.pass (tokens_in s.slots.items ++ l)) one.1 ready.exactly in (
+      record {
+        slots = s.slots.items;
+        head = s.head;
+        list = list.0;
+        nodes = b.nodes ∙ ap length same;
+        block = one.0;
+        counted = one.2.counted;
+        each = one.2.each;
+        owns = holds-owned s.pass (tokens_in s.slots.items ++ one.0 ∷ []) exactly.0;
+        others = exactly.1;
+      },
+      read-last h before t s listed found one.0 first second one.1 pairs_read record_read,
+    )
 
 -- blocks spell the same where the same is owned at every place
 node-same : (owned now : ℕ → Option PoolBlock) (o : Option Slot) → ((place : ℕ) → now place ≡ owned place) → node_in now o ≡ node_in owned o
@@ -63,18 +90,22 @@ owned-same owned now [] same are = tt
 owned-same owned now (b ∷ bs) same are = ((are.0.0, same b.place ∙ are.0.1), are.1, owned-same owned now bs same are.2)
 
 pub keeps-same :
-    (owned now : ℕ → Option PoolBlock) (pairs : List (ℕ × ℕ)) (words : List ℕ) → ((place : ℕ) → now place ≡ owned place)
-    → IsSpelled owned pairs words → IsSpelled now pairs words
-keeps-same owned now pairs words same k = record {
-  slots = k.slots;
-  head = k.head;
-  list =
-      leads-same (nodes_at owned k.slots) (nodes_at now k.slots)
-      (λ slot. node-same owned now (Rattle.std.specs.List.slice_get k.slots slot) same) k.head pairs 0 k.list;
-  nodes = k.nodes;
-  block = k.block;
-  counted = ap (λ (o : Option PoolBlock). word_of o 0) (same k.block.place) ∙ k.counted;
-  each = λ i few. ap (λ (o : Option PoolBlock). word_of o (suc i)) (same k.block.place) ∙ k.each i few;
-  owns = owned-same owned now (tokens_in k.slots ++ k.block ∷ []) same k.owns;
-  others = λ place away. same place ∙ k.others place away;
-}
+    (owned now : ℕ → Option PoolBlock) (h : Heap) (pairs : List (ℕ × ℕ)) (words : List ℕ) (listed : List (ℕ × ℕ)) (found : List ℕ) (p : Pass)
+    → ((place : ℕ) → now place ≡ owned place) → (k : IsSpelled owned pairs words) → ReadsBack h k.slots k.head k.block listed found p
+    → KeepsRead now h pairs words listed found p
+keeps-same owned now h pairs words listed found p same k read = (
+  record {
+    slots = k.slots;
+    head = k.head;
+    list =
+        leads-same (nodes_at owned k.slots) (nodes_at now k.slots)
+        (λ slot. node-same owned now (Rattle.std.specs.List.slice_get k.slots slot) same) k.head pairs 0 k.list;
+    nodes = k.nodes;
+    block = k.block;
+    counted = ap (λ (o : Option PoolBlock). word_of o 0) (same k.block.place) ∙ k.counted;
+    each = λ i few. ap (λ (o : Option PoolBlock). word_of o (suc i)) (same k.block.place) ∙ k.each i few;
+    owns = owned-same owned now (tokens_in k.slots ++ k.block ∷ []) same k.owns;
+    others = λ place away. same place ∙ k.others place away;
+  },
+  read,
+)

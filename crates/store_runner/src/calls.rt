@@ -95,9 +95,12 @@ pub(crate) fn push<R: Wait>(
     ensures counts { OnOk result (CountsBlocks 1 0 store.old.pass store.new.pass) }
 {
     for _ in rt.forever() {
-        match try_push(rt, heap, store, key, value)? {
+        let stored = try_push(rt, heap, store, key, value)?;
+        match stored {
             Stored::Done => return Ok(()),
-            Stored::Refused | Stored::Spent | Stored::Busy => {}
+            Stored::Refused => {}
+            Stored::Spent => {}
+            Stored::Busy => {}
         }
     }
     unreachable!()
@@ -143,9 +146,12 @@ pub(crate) fn note<R: Wait>(
     ensures counts { OnOk result (CountsBlocks 1 0 store.old.pass store.new.pass) }
 {
     for _ in rt.forever() {
-        match try_note(rt, heap, store, words)? {
+        let stored = try_note(rt, heap, store, words)?;
+        match stored {
             Stored::Done => return Ok(()),
-            Stored::Refused | Stored::Spent | Stored::Busy => {}
+            Stored::Refused => {}
+            Stored::Spent => {}
+            Stored::Busy => {}
         }
     }
     unreachable!()

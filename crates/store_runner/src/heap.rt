@@ -3,7 +3,7 @@
 ghost use Rattle.std.specs.Prelude.{◌≡◌, ◌≤◌, IfOk};
 ghost use Rattle.heap_geometry.specs.Geometry.{IsChecked};
 ghost use Rattle.store_runner.specs.Closings.{IsStored, store_heap};
-ghost use Rattle.store_runner.specs.Texts.{store_text};
+ghost use Rattle.store_runner.specs.Texts.{store_text, text_of};
 
 use crate::script::{Script, run_script};
 use crate::told::told;
@@ -44,6 +44,7 @@ fn geometry() -> Geometry
 pub fn run_store<R: Wait>(rt: &R, alloc: Global, rounds: u32) -> Result<StoreRun, AllocError>
     ensures stored { IfOk result (λ run. IsStored rounds run.closed) }
     ensures text { IfOk result (λ run. run.text.items ≡ store_text rounds) }
+    ensures told { IfOk result (λ run. (stored : IsStored rounds run.closed) × (run.text.items ≡ text_of rounds stored.pairs stored.words)) }
 {
     calls_change_their_block();
     closed_heaps_are_sound();

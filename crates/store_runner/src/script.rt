@@ -5,7 +5,7 @@ ghost use Rattle.live_heap.specs.Contents.{owned_in};
 ghost use Rattle.live_heap.specs.Passes.{IsFresh};
 ghost use Rattle.typed_store.specs.Passings.{Rests};
 ghost use Rattle.typed_store.specs.Stores.{HasList, HasRecords, IsReady};
-ghost use Rattle.store_runner.specs.Ends.{HasRun, IsSpelled};
+ghost use Rattle.store_runner.specs.Ends.{HasRun, IsSpelled, ReadsBack};
 ghost use Rattle.store_runner.specs.Scripts.{IsBehind, values_of};
 
 use crate::calls::{note, push, take_out};
@@ -94,10 +94,12 @@ fn read_back(alloc: Global, heap: &Heap, mut store: Store) -> Result<Script, All
     ensures pairs { IfOk result (λ script. HasList store script.pairs.items) }
     ensures words { IfOk result (λ script. (words : List ℕ) → HasRecords store (words ∷ []) → script.words.items ≡ words) }
     ensures keeps { IfOk result (λ script. (pairs : List (ℕ × ℕ)) (words : List ℕ) → HasList store pairs → HasRecords store (words ∷ [])
-        → IsSpelled (owned_in script.pass) pairs words) }
+        → (keeps : IsSpelled (owned_in script.pass) pairs words)
+        × ReadsBack heap.now keeps.slots keeps.head keeps.block script.pairs.items script.words.items script.pass) }
 {
     let pairs = store.list(alloc, heap)?;
-    match store.record(alloc, heap, 0)? {
+    let found = store.record(alloc, heap, 0)?;
+    match found {
         Some(words) => Ok(Script {
             pass: store.close(),
             pairs,

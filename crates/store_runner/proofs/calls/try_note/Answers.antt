@@ -1,7 +1,7 @@
 use Rattle.std.proofs.Common.{suc, ◌+◌, length, subst}
 use Rattle.typed_store.specs.declared.store.Stored.{Stored}
 use Rattle.typed_store.specs.Causes.{IsAnswerOf}
-use Rattle.store_runner.proofs.CallLemmas.{refused-counts, spent-tells}
+use Rattle.store_runner.proofs.CallLemmas.{answer-counts, refused-counts, spent-tells}
 use Rattle.store_runner.proofs.calls.try_note.Goals as goal
 
 pub returns-in-Busy-clause-counts : goal.returns-in-Busy-clause-counts
@@ -27,3 +27,11 @@ returns-in-Spent-clause-counts g c =
     let words = length c.args.words.now + 1 in
     spent-tells p q words 1000
     (subst (λ (x : Stored). IsAnswerOf c.args.heap.now p words 1000 x q) c.in-Spent.is c.in_ok-stored.ensures.cause)
+
+pub returns-in-Done-clause-counts : goal.returns-in-Done-clause-counts
+returns-in-Done-clause-counts g c =
+    let p = c.args.store.now.pass in
+    let q = c.add_record.new.self.pass in
+    let words = length c.args.words.now + 1 in
+    answer-counts c.args.heap.now p q words 1000
+    (subst (λ (x : Stored). IsAnswerOf c.args.heap.now p words 1000 x q) c.in-Done.is c.in_ok-stored.ensures.cause)
