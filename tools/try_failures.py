@@ -4,8 +4,9 @@
 usage: python3 tools/try_failures.py PROGRAM, at the top of the repository; PROGRAM is the built one, as
 crates/balloc/out/balloc. Needs gcc. Ends with 1 where a run says something untrue.
 
-A run of `replay`, one of `census` and one of `cache` on the plain trace, a run of `schedule` on a race, and a
-pipeline and a store, which have no input, are made again for every call of the C library that the program makes
+A run of `replay`, one of `census` and one of `cache` on the plain trace, a run of `schedule` on each of four races,
+one of `replay` on the race of two lanes for a superblock, and a pipeline and a store, which have no input, are made
+again for every call of the C library that the program makes
 for memory, for input or for output: the n-th one fails. Each such run has to end
 
 - with status 0 and its whole text, where the call wasn't needed after all,
@@ -27,6 +28,10 @@ RUNS = [
     (["replay"], TRACES / "plain_run.trace"),
     (["census"], TRACES / "plain_run.trace"),
     (["schedule"], TRACES / "two_installs.trace"),
+    (["replay"], TRACES / "two_installs.trace"),
+    (["schedule"], TRACES / "two_want_the_last_credit.trace"),
+    (["schedule"], TRACES / "slow_free.trace"),
+    (["schedule"], TRACES / "tag_tells_a_reused_block_apart.trace"),
     (["cache", "16"], TRACES / "plain_run.trace"),
     (["pipe", "4", "3", "7"], Path(os.devnull)),
     (["store", "10"], Path(os.devnull)),
