@@ -12,12 +12,12 @@ use heap_geometry::need::Need;
 use heap_scripts::alone::geometry;
 use lane_engine::grip::Grip;
 use lane_engine::over_core::step;
-use step_machine::token::Token;
 use pool_model::owner::Owner;
 use std::alloc::AllocError;
 use std::process::Abort;
 use std::test::Fail;
 use step_machine::machine::Core;
+use step_machine::token::Token;
 
 /// What is asked of a block.
 #[derive(Clone, Copy, Debug)]

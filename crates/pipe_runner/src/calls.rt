@@ -12,10 +12,10 @@ ghost use Rattle.pipe_runner.specs.Messages.{HasThreeWords, three_from, with_wor
 ghost use Rattle.pipe_runner.specs.Moves.{HasAllocated, KeepsBlocks};
 
 use lane_engine::calls::{Allocated, Calls};
-use pass_calls::over_pass::PassCalls;
 use live_heap::block::Block;
 use live_heap::heap::Heap;
 use live_heap::pass::Pass;
+use pass_calls::over_pass::PassCalls;
 use std::sync::Wait;
 use std::thread;
 
