@@ -2,5 +2,7 @@
 //! the last owner can close it.
 #![tactic(auto)]
 
+#[cfg(test)]
+mod leaving;
 mod places;
 pub mod shared;
