@@ -162,7 +162,7 @@ TellsWords t number (Err cause) = (cause ≡ refusal.NoBlock) × (named t number
 abbrev pub HasCounted : Cache → Table → ℕ → Result ℕ Refusal → Cache → Table → Type 0
 HasCounted c t number result d u = TellsWords t number result × (d ≡ c) × (u ≡ t)
 
--- a call on the cache and the table of a hand, whose heap and whose ticket stay; its table has one slot more than blocks at most, or no more slots than before
+-- a call on the cache and the table of a hand, whose heap and whose ticket stay; its table has no more slots than before, or at most one more than it had blocks
 abbrev pub Makes : {A : Type 0} → (Cache → Table → Result A Refusal → Cache → Table → Type 0) → Hand → Result A Refusal → Hand → Type 0
 Makes Call before result after =
     Call before.cache before.table result after.cache after.table × (after.heap ≡ before.heap) × (after.ticket ≡ before.ticket)
