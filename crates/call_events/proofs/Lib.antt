@@ -1,10 +1,13 @@
 pub mod AnswerLemmas
 pub mod BeginsLemmas
+pub mod CallRuns
+pub mod CallSteps
 pub mod CourseLemmas
 pub mod EndLemmas
 pub mod EventLists
 pub mod LeadsDefs
 pub mod MadeLemmas
 pub mod OfferLemmas
+pub mod OwnEvents
 pub mod PointEvents
 pub mod SoFarLemmas

@@ -23,6 +23,8 @@ ghost use Rattle.errand_steps.specs.declared.reply.Progress.TheVariants.{Done};
 ghost use Rattle.call_events.specs.Ends.{end_of, HasEnded};
 ghost use Rattle.call_events.specs.UnderWay.{IsUnderWay, IsAboutBlock};
 
+pub mod runs;
+
 /// A caller in no call that begins one has added no event of it. Every call begins, but for an
 /// allocation that answers that none does; that one has ended, without an event.
 pub fn calls_begin_without_events()

@@ -33,19 +33,19 @@ use Rattle.errand_steps.proofs.EventLemmas.{event_own}
 use Rattle.errand_steps.specs.tables.Blocks.{block_stage}
 use Rattle.errand_steps.specs.tables.CallStage.{continuation_stage}
 use Rattle.call_events.specs.UnderWay.{IsUnderWay, SoFar}
-use Rattle.calls_end.specs.Alone.{alone_left, class_at, clearings, emptied_for, stale_words}
-use Rattle.lost_exchanges.specs.Expectations.{expects_of}
+use Rattle.call_bounds.specs.Alone.{alone_left, class_at, clearings, emptied_for, stale_words}
+use Rattle.call_bounds.specs.Expectations.{expects_of}
 use Rattle.sound_state.specs.TurnStages.{in_turn}
-use Rattle.lost_exchanges.proofs.BegunWins.{begun-expects}
+use Rattle.call_bounds.proofs.BegunWins.{begun-expects}
 use Rattle.std.specs.Prelude.{count_by}
 use Rattle.sound_state.specs.Moves.{is_step}
 use Rattle.sound_state.specs.Runs.{BeginsCall, Move, begins, steps}
 use Rattle.sound_state.specs.Sound.{IsSound}
-use Rattle.calls_end.specs.StepsLeft.{steps_left}
+use Rattle.call_bounds.specs.StepsLeft.{steps_left}
 use Rattle.sound_state.specs.Turns.{one_if}
-use Rattle.calls_end.proofs.AloneLemmas.{alone-falls, alone-stale}
-use Rattle.calls_end.proofs.RunsAlone.{alone-below}
-use Rattle.calls_end.proofs.StaleLemmas.{none-stale}
+use Rattle.call_bounds.proofs.AloneLemmas.{alone-falls, alone-stale}
+use Rattle.call_bounds.proofs.RunsAlone.{alone-below}
+use Rattle.call_bounds.proofs.StaleLemmas.{none-stale}
 use Rattle.step_machine.specs.Cores.{CoreFields, IsCore, errand_at, state_of}
 use Rattle.step_machine.proofs.CoreLemmas.{core-sound}
 use Rattle.lane_engine.specs.declared.grip.Grip.{Grip}

@@ -25,11 +25,11 @@ use Rattle.call_events.specs.Ends.{HasEnded}
 use Rattle.call_events.specs.UnderWay.{IsAboutBlock, IsUnderWay}
 use Rattle.call_events.proofs.AnswerLemmas.{step-goes_on, step-ends}
 use Rattle.call_events.proofs.BeginsLemmas.{call-begins, started-busy, other-busy}
-use Rattle.calls_end.specs.StepsLeft.{steps_left}
+use Rattle.call_bounds.specs.StepsLeft.{steps_left}
 use Rattle.sound_state.proofs.CountedLemmas.{without-counts}
-use Rattle.calls_end.proofs.LeftMost.{left-most}
-use Rattle.calls_end.proofs.LeftSteps.{steps-go_on}
-use Rattle.sound_state.proofs.events.OwnEvents.{own-with_event, added-event}
+use Rattle.call_bounds.proofs.LeftMost.{left-most}
+use Rattle.call_bounds.proofs.LeftSteps.{steps-go_on}
+use Rattle.call_events.proofs.OwnEvents.{own-with_event, added-event}
 use Rattle.sound_state.proofs.shared.ClearedLemmas.{cleared-far}
 use Rattle.step_machine.specs.Moments.{IsMoment}
 use Rattle.step_machine.proofs.MomentAnswers.{moment-own_after, settle-caller}

@@ -39,7 +39,7 @@ use Rattle.errand_steps.specs.Points.{plan_point_of}
 use Rattle.call_events.specs.UnderWay.{IsUnderWay}
 use Rattle.call_events.proofs.OfferLemmas.{put-offers}
 use Rattle.sound_state.specs.Answers.{StandsAt}
-use Rattle.calls_end.specs.StepsLeft.{steps_left}
+use Rattle.call_bounds.specs.StepsLeft.{steps_left}
 use Rattle.errand_steps.proofs.BegunErrands.{idle-is}
 use Rattle.step_machine.specs.Cores.{OwnsAfter}
 use Rattle.step_machine.specs.Moments.{IsMoment}

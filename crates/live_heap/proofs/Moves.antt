@@ -38,7 +38,7 @@ use Rattle.sound_state.specs.Recalls.{IsOwned}
 use Rattle.sound_state.specs.Moves.{is_step_of}
 use Rattle.sound_state.specs.Runs.{MayBegin, BeginsCall, Move, begins, steps}
 use Rattle.sound_state.specs.Sound.{IsSound, IsOwnErrand}
-use Rattle.lost_exchanges.specs.Wins.{Win, Wins, win_list_after, win_at}
+use Rattle.call_bounds.specs.Wins.{Win, Wins, win_list_after, win_at}
 use Rattle.step_machine.specs.Cores.{IsLonger, IsReached, made_with, no_errand}
 use Rattle.step_machine.specs.Moments.{IsServed}
 use Rattle.step_machine.proofs.CoreLemmas.{run-sound, run-longer}

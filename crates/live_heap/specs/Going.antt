@@ -15,7 +15,7 @@ use Rattle.errand_steps.specs.Offers.{offered_at}
 use Rattle.errand_steps.specs.Calls.{Call, begun_by}
 use Rattle.errand_steps.specs.Errands.{ErrandFields, IsErrand, answer_of, settle_of}
 use Rattle.errand_steps.specs.Nexts.{leave_block}
-use Rattle.calls_end.specs.StepsLeft.{steps_left}
+use Rattle.call_bounds.specs.StepsLeft.{steps_left}
 use Rattle.live_heap.specs.declared.answers.AllocAnswer.{AllocAnswer}
 use Rattle.live_heap.specs.declared.answers.FreeAnswer.{FreeAnswer}
 use Rattle.live_heap.specs.declared.block.Block.{Block}

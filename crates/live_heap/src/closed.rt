@@ -5,7 +5,7 @@ ghost use Rattle.std.specs.Result.{IfErr};
 ghost use Rattle.word_table.specs.Table.{Exists};
 ghost use Rattle.word_table.specs.Words.{word_in};
 ghost use Rattle.errand_steps.specs.Begins.{IsIdle};
-ghost use Rattle.lost_exchanges.specs.Contention.{lost_of, won_of};
+ghost use Rattle.call_bounds.specs.Contention.{lost_of, won_of};
 ghost use Rattle.sound_state.specs.Sums.{callers_sum};
 ghost use Rattle.step_machine.specs.Cores.{errand_at};
 ghost use Rattle.live_heap.specs.Endings.{AreAllIdle, HasAccesses, HasClosed, IsGathered, IsResting};

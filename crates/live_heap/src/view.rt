@@ -36,7 +36,7 @@ pub struct Won {
 }
 
 impl Model for Won {
-    ghost use Rattle.lost_exchanges.specs.Wins.{Win};
+    ghost use Rattle.call_bounds.specs.Wins.{Win};
 
     ghost Value = { Win };
 

@@ -12,7 +12,6 @@ pub mod counts
 pub mod descriptors
 pub mod discards
 pub mod guards
-pub mod events
 pub mod hazards
 pub mod installs
 pub mod large

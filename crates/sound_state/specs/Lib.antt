@@ -1,5 +1,4 @@
 pub mod Answers
-pub mod Calls
 pub mod Consequences
 pub mod Frames
 pub mod Guarding

@@ -12,7 +12,6 @@ ghost use Rattle.sound_state.specs.Runs.{BeginsCall, Move, Reaches};
 ghost use Rattle.sound_state.specs.Sound.{IsSound, IsSoundWithoutCounts, TellsCounted};
 
 pub mod answers;
-pub mod calls;
 pub mod consequences;
 pub mod guards;
 pub mod sums;

@@ -8,15 +8,15 @@ use Rattle.errand_steps.specs.Begins.{IsIdle}
 use Rattle.errand_steps.specs.Errands.{ErrandFields, one_more}
 use Rattle.errand_steps.specs.Steps.{State, Step, Run}
 use Rattle.errand_steps.specs.declared.reply.Progress.{Progress}
-use Rattle.calls_end.specs.Alone.{alone_left, clearings, stale_words}
-use Rattle.lost_exchanges.specs.Expectations.{expects_of}
+use Rattle.call_bounds.specs.Alone.{alone_left, clearings, stale_words}
+use Rattle.call_bounds.specs.Expectations.{expects_of}
 use Rattle.errand_steps.specs.Calls.{Call, begun_by}
 use Rattle.sound_state.specs.Sound.{IsSound}
 use Rattle.sound_state.proofs.RunLemmas.{runs-sound}
-use Rattle.calls_end.proofs.AloneLemmas.{alone-falls}
-use Rattle.calls_end.proofs.RunsAlone.{LeadsAlone, runs-alone, idle-stays, alone-most, alone-below, leads-few}
-use Rattle.calls_end.proofs.StaleLemmas.{none-stale}
-use Rattle.lost_exchanges.proofs.BegunWins.{begun-expects}
+use Rattle.call_bounds.proofs.AloneLemmas.{alone-falls}
+use Rattle.call_bounds.proofs.RunsAlone.{LeadsAlone, runs-alone, idle-stays, alone-most, alone-below, leads-few}
+use Rattle.call_bounds.proofs.StaleLemmas.{none-stale}
+use Rattle.call_bounds.proofs.BegunWins.{begun-expects}
 use Rattle.step_machine.specs.Cores.{CoreFields, errand_at, state_of}
 use Rattle.step_machine.specs.Steps.{IsStepped, RunsAlone, stepped, counted}
 

@@ -57,7 +57,7 @@ use Rattle.sound_state.specs.Answers.{IsMeant, StandsAt}
 use Rattle.sound_state.specs.Recalls.{IsOwned}
 use Rattle.sound_state.proofs.CountedLemmas.{without-counts, steps-counted}
 use Rattle.sound_state.proofs.answers.StepAnswers.{answers-meant}
-use Rattle.sound_state.proofs.events.OwnEvents.{own-with_event}
+use Rattle.call_events.proofs.OwnEvents.{own-with_event}
 use Rattle.lane_outcomes.specs.Rows.{IsWord, IsFullShelf}
 use Rattle.step_machine.specs.Cores.{OwnsAfter}
 use Rattle.step_machine.specs.Moments.{IsMoment, IsServed}

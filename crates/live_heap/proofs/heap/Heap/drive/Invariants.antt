@@ -1,6 +1,6 @@
 use Rattle.std.proofs.Common.{◌+◌, ◌*◌}
 use Rattle.heap_geometry.specs.declared.limits.TheConstants.{CALL_STEPS}
-use Rattle.calls_end.specs.StepsLeft.{steps_left}
+use Rattle.call_bounds.specs.StepsLeft.{steps_left}
 use Rattle.live_heap.specs.Passes.{IsOf}
 use Rattle.live_heap.specs.Going.{IsGoing}
 use Rattle.live_heap.proofs.heap.Heap.drive.Given as goal

@@ -1,8 +1,0 @@
-use Rattle.lost_exchanges.proofs.WonSteps.{lost-dirty, step-pairs}
-use Rattle.lost_exchanges.proofs.lost_exchanges_were_dirty.Goals as goal
-
-pub returns-clause-dirty : goal.returns-clause-dirty
-returns-clause-dirty c = lost-dirty
-
-pub returns-clause-used : goal.returns-clause-used
-returns-clause-used c = step-pairs

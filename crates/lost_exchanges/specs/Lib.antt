@@ -1,6 +1,0 @@
-pub mod Contention
-pub mod Expectations
-pub mod Installs
-pub mod Made
-pub mod Wins
-pub mod Won

@@ -1,3 +1,0 @@
-pub mod CallRuns
-pub mod CallSteps
-pub mod OwnEvents
