@@ -1,8 +1,8 @@
 #!/usr/bin/env python3
 """Runs the gate and tells where its time goes, crate by crate.
 
-    tools/gate_times.py [--keep FOLDER] [--picture] [WORD..]        runs `rt ci WORD..` at the top of the tree
-    tools/gate_times.py --read LOG SAMPLES [--of PROCESS] [--picture]   tells it of a run that has ended
+    tools/gate_times.py [--keep FOLDER] [--on N] [--picture] [WORD..]   runs `rt ci WORD..` at the top of the tree
+    tools/gate_times.py --read LOG SAMPLES [--of PROCESS] [--on N] [--picture]   tells it of a run that has ended
 
 While the gate runs, its checks are looked at twice a second: what each proves and the processor time it has taken. Each
 line of the gate is printed with the clock and the seconds since the start. At the end stands a table in Markdown, in the
@@ -13,6 +13,8 @@ on the one before, and what ran last. A check that ends within half a second is 
 
 `--keep` writes what was read, the lines as `log` and a line of JSON for each check as `samples`. `--picture` draws
 docs/pictures/gate.svg. Of several runs in a file of samples, `--read` takes the one with most checks, or that of PROCESS.
+`--on` tells too how long the same checks would take on N processors, each one in as many seconds as it took of a processor
+in the run, in the order in which `rt ci` takes them; what comes before the first check and behind the last is as in the run.
 """
 import argparse
 import datetime
@@ -205,6 +207,44 @@ def longest_chain(run, stands_on):
     return max([*map(best_of, stands_on), *tests])
 
 
+def chain_behind(run, stands_on):
+    """Of each proof how many seconds of proofs and tests stand behind it, itself among them: the longest chain of them."""
+    behind = {}
+    for crate in reversed(list(stands_on)):
+        above = [other for other in stands_on if crate in stands_on[other]]
+        tests = [run.of(other, TESTS).taken for other in above if run.of(other, TESTS)]
+        own = run.of(crate, PROOF)
+        behind[crate] = (own.taken if own else 0) + max([*(behind[other] for other in above), *tests], default=0)
+    return behind
+
+
+def seconds_on(run, stands_on, processors):
+    """The seconds that the run's checks would take on so many processors: those with the longest chain behind them first,
+    edits and the proofs before them where no other check is ready."""
+    behind, kinds = chain_behind(run, stands_on), {}
+    for (crate, kind), work in run.work.items():
+        kinds.setdefault(crate, {})[kind] = work.taken / (work.many if kind == EDITS else 1), work.many if kind == EDITS else 1
+    tasks = []
+    for crate, found in kinds.items():
+        lows = {(low, PROOF, 0) for low in below(stands_on, crate) if PROOF in kinds.get(low, {})}
+        proofs = {(crate, kind, 0) for kind in (PROOF, TESTS) if kind in found}
+        for kind, (seconds, many) in found.items():
+            before = proofs | {(crate, BASE, 0) for it in found if it == BASE} if kind == EDITS else set()
+            rank = (kind in (BASE, EDITS), -(behind[crate] if kind == PROOF else seconds))
+            tasks += [(rank, (crate, kind, number), lows | before, seconds) for number in range(many)]
+    tasks.sort(key=lambda task: task[0])
+    now, running, ended = 0.0, [], set()
+    while tasks or running:
+        for task in [task for task in tasks if task[2] <= ended][:processors - len(running)]:
+            tasks.remove(task)
+            running.append((now + task[3], task[1]))
+        now, done = min(running)
+        running.remove((now, done))
+        ended.add(done)
+    first = min(work.begin for work in run.work.values())
+    return first + now + max(run.seconds - run.last[1], 0)
+
+
 def clock(seconds):
     """Minutes and seconds since the start of the run."""
     return f"{int(seconds) // 60}:{int(seconds) % 60:02}"
@@ -275,11 +315,14 @@ def main():
     parser.add_argument("--keep")
     parser.add_argument("--read", nargs=2)
     parser.add_argument("--of", type=int)
+    parser.add_argument("--on", type=int, action="append", default=[])
     parser.add_argument("--picture", action="store_true")
     words, rest = parser.parse_known_args()
     status, run = (0, read(*words.read, words.of)) if words.read else watched(rest, words.keep)
     stands_on = read_crates()
     print(*told(run, stands_on), sep="\n")
+    for many in words.on:
+        print(f"The same checks on {many} processors: {clock(seconds_on(run, stands_on, many))}.")
     if words.picture:
         draw(run, stands_on)
     return status
