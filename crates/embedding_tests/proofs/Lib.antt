@@ -1,1 +1,2 @@
 pub mod CachedHands
+pub mod DriverLemmas

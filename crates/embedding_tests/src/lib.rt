@@ -1,4 +1,5 @@
-//! Tests of what a program that embeds a heap has over it: a cache, a pipe, a census, and the worked programs.
+//! Tests of what a program that embeds a heap has over it: a cache, a pipe, several owners, a store, a census, and
+//! the worked programs.
 #![tactic(auto)]
 
 #[cfg(test)]
@@ -8,6 +9,14 @@ mod caches;
 #[cfg(test)]
 mod censuses;
 #[cfg(test)]
+mod driver;
+#[cfg(test)]
 mod embedding;
 #[cfg(test)]
+mod leaving;
+#[cfg(test)]
 mod piping;
+#[cfg(test)]
+mod stores;
+#[cfg(test)]
+mod stores_beside_lists;

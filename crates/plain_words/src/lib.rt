@@ -4,8 +4,6 @@
 mod block;
 mod plain;
 mod room;
-#[cfg(test)]
-mod tests;
 
 pub use plain::{PlainWords, Start};
 pub use room::{Backing, Room};

@@ -3,5 +3,3 @@
 
 pub mod lock;
 pub mod rule;
-#[cfg(test)]
-mod tests;

@@ -2,7 +2,5 @@
 //! the last owner can close it.
 #![tactic(auto)]
 
-#[cfg(test)]
-mod leaving;
 mod places;
 pub mod shared;

@@ -1,4 +1,6 @@
-use crate::Room;
+//! Words of a room.
+
+use plain_words::Room;
 
 #[test]
 fn words_are_laid_and_read(rt: HostRuntime) {

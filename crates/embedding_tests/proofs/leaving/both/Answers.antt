@@ -2,7 +2,7 @@ use Rattle.std.proofs.Common.{ℕ, suc, ◌≡◌, List, [], ◌∷◌, ◌++◌
 use Rattle.live_heap.specs.declared.heap.Heap.{Heap}
 use Rattle.live_heap.specs.declared.pass.Pass.{Pass}
 use Rattle.live_heap.specs.Passes.{AreFrom, IsOf}
-use Rattle.shared_heap.proofs.leaving.both.Goals as goal
+use Rattle.embedding_tests.proofs.leaving.both.Goals as goal
 
 -- the last pass of a new heap, and those before it
 last-from : (h : Heap) (caller : ℕ) (ps : List Pass) (p : Pass) → AreFrom h caller (ps ++ p ∷ []) → AreFrom h caller ps × IsOf h p

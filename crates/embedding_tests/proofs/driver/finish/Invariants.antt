@@ -2,7 +2,7 @@ use Rattle.std.proofs.Common.{ℕ, ◌≡◌, length}
 use Rattle.typed_store.specs.declared.store.Pending.{Pending}
 use Rattle.typed_store.specs.declared.store.Pending.TheVariants.{Record}
 use Rattle.typed_store.specs.Stores.{LeavesStore}
-use Rattle.store_tests.proofs.driver.finish.Given as goal
+use Rattle.embedding_tests.proofs.driver.finish.Given as goal
 
 -- the last answer left the store so; a record that it waits for has these words
 abbrev pub invariant-loop-resumed : goal.invariant-loop-resumed

@@ -4,10 +4,10 @@ ghost use Rattle.std.specs.Prelude.{IfSome};
 ghost use Rattle.live_heap.specs.declared.heap.Heap.{Heap};
 ghost use Rattle.live_heap.specs.Passes.{AreFrom, IsOf};
 
-use crate::shared::SharedHeap;
 use heap_geometry::geometry::Geometry;
 use live_heap::heap::Heap;
 use live_heap::pass::Pass;
+use shared_heap::shared::SharedHeap;
 use std::sync::Arc;
 use std::test::Fail;
 

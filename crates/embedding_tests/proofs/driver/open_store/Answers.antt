@@ -1,6 +1,6 @@
 use Rattle.std.proofs.Common.{◌<◌, length, arith}
-use Rattle.store_tests.proofs.DriverLemmas.{first-fresh}
-use Rattle.store_tests.proofs.driver.open_store.Goals as goal
+use Rattle.embedding_tests.proofs.DriverLemmas.{first-fresh}
+use Rattle.embedding_tests.proofs.driver.open_store.Goals as goal
 
 pub returns : goal.returns
 returns c =

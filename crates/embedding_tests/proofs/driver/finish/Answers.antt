@@ -1,6 +1,6 @@
 use Rattle.std.proofs.Common.{◌∙◌, sym, subst}
 use Rattle.typed_store.specs.Stores.{LeavesStore}
-use Rattle.store_tests.proofs.driver.finish.Goals as goal
+use Rattle.embedding_tests.proofs.driver.finish.Goals as goal
 
 pub resume-stored-requires-clause-under_way : goal.resume-stored-requires-clause-under_way
 resume-stored-requires-clause-under_way g c =

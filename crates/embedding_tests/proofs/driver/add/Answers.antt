@@ -1,5 +1,5 @@
 use Rattle.std.proofs.Common.{arith}
-use Rattle.store_tests.proofs.driver.add.Goals as goal
+use Rattle.embedding_tests.proofs.driver.add.Goals as goal
 
 pub add_record-requires-clause-room : goal.add_record-requires-clause-room
 add_record-requires-clause-room g c =

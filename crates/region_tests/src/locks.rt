@@ -1,4 +1,6 @@
-use crate::lock::Lock;
+//! Uses of a lock over a range of words, one after another and on two threads.
+
+use range_lock::lock::Lock;
 
 #[test]
 fn each_use_of_a_thread_adds_one(rt: HostRuntime) {
