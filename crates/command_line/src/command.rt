@@ -13,7 +13,7 @@ use workloads::kind::Kind;
 use workloads::making::MAX_SIZE;
 
 /// A workload that a command names. `size` is at most `MAX_SIZE`.
-#[derive(Clone, Copy, Debug, PartialEq, Eq)]
+#[derive(Clone, Copy)]
 pub struct Workload {
     pub kind: Kind,
     /// The rounds of all lanes together.
@@ -27,7 +27,7 @@ pub const MAX_MESSAGES: u32 = 100_000;
 
 /// A pipeline that a command names: how many senders, from 1 to 4, how many messages each of them sends,
 /// at most `MAX_MESSAGES`, and the number from which the words count.
-#[derive(Clone, Copy, Debug, PartialEq, Eq)]
+#[derive(Clone, Copy)]
 pub struct Piping {
     pub senders: u8,
     pub messages: u32,
@@ -41,7 +41,7 @@ pub const MAX_ROUNDS: u32 = 1_000_000;
 pub const MAX_DEPTH: u8 = 64;
 
 /// A command of the program.
-#[derive(Clone, Copy, Debug, PartialEq, Eq)]
+#[derive(Clone, Copy)]
 pub enum Command {
     /// Run the trace that stands on standard input, each lane on a thread of its own, and report it.
     Replay,

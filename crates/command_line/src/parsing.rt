@@ -19,7 +19,7 @@ const WORDS: &str = "words";
 const WORDS_MOST: usize = 4;
 
 /// Why there is no command.
-#[derive(Clone, Copy, Debug, PartialEq, Eq)]
+#[derive(Clone, Copy)]
 pub enum NoCommand {
     /// The words are none of the program's commands.
     Usage,

@@ -6,7 +6,7 @@ ghost use Rattle.command_line.specs.Statuses.{stop_status};
 use crate::status::{OUT_OF_MEMORY, READ_FAULT, TOO_MANY};
 
 /// Why there is no answer.
-#[derive(Clone, Copy, Debug, PartialEq, Eq)]
+#[derive(Clone, Copy)]
 pub enum Stop {
     /// The source failed.
     Fault,

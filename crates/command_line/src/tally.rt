@@ -9,7 +9,7 @@ use lane_outcomes::outcome::Outcome;
 use trace_text::trace::Op;
 
 /// How many outcomes of each kind some lanes had, and the usable words that they were given.
-#[derive(Clone, Copy, Debug, PartialEq, Eq)]
+#[derive(Clone, Copy)]
 pub struct OutcomeTally {
     pub given: u128,
     pub words: u128,

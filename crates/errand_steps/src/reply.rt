@@ -3,7 +3,7 @@
 use heap_geometry::need::Need;
 
 /// The answer of a call that has ended. Places are arena words.
-#[derive(Clone, Copy, Debug, PartialEq, Eq)]
+#[derive(Clone, Copy, PartialEq, Eq)]
 pub enum Reply {
     /// The allocation is given the block at this place.
     Given { place: u32, need: Need },
@@ -30,7 +30,7 @@ pub enum Reply {
 }
 
 /// The answer of a call that begins an allocation.
-#[derive(Clone, Copy, Debug, PartialEq, Eq)]
+#[derive(Clone, Copy, PartialEq, Eq)]
 pub enum Begun {
     /// The allocation is under way.
     Started,
@@ -41,7 +41,7 @@ pub enum Begun {
 }
 
 /// What a step of a caller came to.
-#[derive(Clone, Copy, Debug, PartialEq, Eq)]
+#[derive(Clone, Copy, PartialEq, Eq)]
 pub enum Progress {
     /// The caller was in no call, and made no step.
     Idle,
@@ -56,7 +56,7 @@ pub enum Progress {
 }
 
 /// The block that a put offers to its shelf. `place` is the arena word of its prefix word.
-#[derive(Clone, Copy, Debug, PartialEq, Eq)]
+#[derive(Clone, Copy, PartialEq, Eq)]
 pub struct Offer {
     pub place: u32,
     pub need: Need,

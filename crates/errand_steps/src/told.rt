@@ -10,7 +10,7 @@ use crate::reply::{Offer, Progress, Reply};
 use heap_geometry::need::Need;
 
 /// What a step came to, where `B` is a block.
-#[derive(Debug, PartialEq, Eq, Drop)]
+#[derive(PartialEq, Eq, Drop)]
 pub enum Stepped<B> {
     /// The caller was in no call, and made no step.
     Idle,
@@ -25,7 +25,7 @@ pub enum Stepped<B> {
 }
 
 /// How a call has ended, where `B` is a block.
-#[derive(Debug, PartialEq, Eq, Drop)]
+#[derive(PartialEq, Eq, Drop)]
 pub enum Ending<B> {
     /// The allocation is given this block.
     Given(B),

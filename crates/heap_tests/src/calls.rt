@@ -280,19 +280,19 @@ fn who_has_taken_all_turns_is_spent(rt: HostRuntime) -> Result<(), Fail> {
 #[test]
 fn calls_are_made_step_by_step(rt: HostRuntime) -> Result<(), Fail> {
     let (heap, mut pass, _) = open_alone(rt.alloc(), 2, 0, 9)?;
-    assert_eq!(rt; heap.step(&mut pass), Stepped::Idle);
+    assert!(rt; heap.step(&mut pass) == Stepped::Idle);
     let given = alloc_by_steps(&heap, &mut pass, 1).and_then(given_after);
     assert_eq!(rt; given, Some((2065, 0, 1)));
     assert_eq!(rt; (pass.idle(), pass.turns(), pass.won()), (true, 1, 3));
     let taken = take_by_steps(&heap, &mut pass, 0);
-    assert_eq!(rt; taken, Some((2, Stepped::Done(Ending::Empty))));
+    assert!(rt; taken == Some((2, Stepped::Done(Ending::Empty))));
     let freed = call_on_eight(rt.alloc(), Request::Free)?;
-    assert_eq!(rt; freed, Some((4, Stepped::Done(Ending::Freed))));
+    assert!(rt; freed == Some((4, Stepped::Done(Ending::Freed))));
     let wrote = call_on_eight(rt.alloc(), Request::Write(0, 9))?;
-    assert_eq!(rt; wrote, Some((1, Stepped::Done(Ending::Wrote))));
+    assert!(rt; wrote == Some((1, Stepped::Done(Ending::Wrote))));
     let read = call_on_eight(rt.alloc(), Request::Read(0))?;
-    assert_eq!(rt; read, Some((1, Stepped::Done(Ending::Word(8)))));
+    assert!(rt; read == Some((1, Stepped::Done(Ending::Word(8)))));
     let put = call_on_eight(rt.alloc(), Request::Put(0))?;
-    assert_eq!(rt; put, Some((1, Stepped::Done(Ending::Put))));
+    assert!(rt; put == Some((1, Stepped::Done(Ending::Put))));
     Ok(())
 }

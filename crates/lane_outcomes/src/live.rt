@@ -17,7 +17,7 @@ use heap_geometry::need::class_of;
 use trace_text::trace::{Op, Trace};
 
 /// Some blocks: how many they are, and their usable words together.
-#[derive(Clone, Copy, Debug, PartialEq, Eq)]
+#[derive(Clone, Copy)]
 struct Amount {
     blocks: u128,
     words: u128,
@@ -39,7 +39,7 @@ impl Amount {
 }
 
 /// The blocks that were given and those that were freed.
-#[derive(Clone, Copy, Debug, PartialEq, Eq)]
+#[derive(Clone, Copy)]
 struct Tally {
     given: Amount,
     freed: Amount,

@@ -4,7 +4,7 @@ use heap_geometry::need::Need;
 
 /// What became of an operation. Places are told beside what the report prints, since a history names
 /// its blocks by their places; and the need of a block that was taken, which no operation of the lane says.
-#[derive(Clone, Copy, Debug, PartialEq, Eq)]
+#[derive(Clone, Copy, PartialEq, Eq)]
 pub enum Outcome {
     /// A block of `words` usable words was given, and filled.
     Given { words: u32, place: u32 },

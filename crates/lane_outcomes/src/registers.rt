@@ -20,7 +20,7 @@ pub struct Held {
 }
 
 /// What each register of a lane holds.
-#[derive(Debug, Drop)]
+#[derive(Drop)]
 pub struct Registers {
     held: [Option<Held>; REGISTERS as usize],
 }

@@ -43,7 +43,7 @@ fn steps<R: Abort>(rt: &R, errand: Errand, rows: &[Row]) -> Errand {
     for (value, won, expected) in rows {
         let (after, told) = step(errand, *value, *won);
         errand = after;
-        assert_eq!(rt; told, Some(*expected));
+        assert!(rt; told == Some(*expected));
     }
     errand
 }
@@ -79,7 +79,7 @@ fn counts(errand: &Errand) -> (bool, u64, u64, u64, u64) {
 #[test]
 fn a_run_is_taken(rt: HostRuntime) {
     let (errand, begun) = alloc(Errand::open(1, GEOMETRY), 2048);
-    assert_eq!(rt; begun, Some(Begun::Started));
+    assert!(rt; begun == Some(Begun::Started));
     let given = Event::Alloc {
         caller: 1,
         need: 2048,
@@ -146,7 +146,7 @@ fn refused_thrice<R: Abort>(rt: &R) -> Errand {
     ];
     for (desc, progress) in (0u16..3).zip(progresses) {
         let (after, begun) = alloc(errand, 2047);
-        assert_eq!(rt; begun, Some(Begun::Started));
+        assert!(rt; begun == Some(Begun::Started));
         errand = steps(rt, after, &refused_steps(desc, progress));
     }
     errand
@@ -179,11 +179,11 @@ fn the_third_retired_descriptor_is_one_too_many(rt: HostRuntime) {
 fn who_has_no_turn_left_is_spent(rt: HostRuntime) {
     let errand = steps(&rt, refused_thrice(&rt), &push_steps());
     let (errand, begun) = alloc(errand, 0);
-    assert_eq!(rt; begun, Some(Begun::Spent));
+    assert!(rt; begun == Some(Begun::Spent));
     let (errand, begun) = alloc(errand, 131_072);
-    assert_eq!(rt; begun, Some(Begun::TooLarge));
+    assert!(rt; begun == Some(Begun::TooLarge));
     let (_, told) = step(errand, 0, true);
-    assert_eq!(rt; told, None);
+    assert!(rt; told == None);
 }
 
 /// A caller that has begun to free a block of the largest class; and a run of two units.
@@ -244,8 +244,8 @@ fn shelves_are_the_first_words_of_puts_and_takes(rt: HostRuntime) {
         place: 4096,
         need: Need::Large(2),
     };
-    assert_eq!(rt; put.offered(), Some(offer));
-    assert_eq!(rt; take.offered(), None);
+    assert!(rt; put.offered() == Some(offer));
+    assert!(rt; take.offered() == None);
     let shelved = Event::Put {
         caller: 0,
         place: 4096,

@@ -26,13 +26,13 @@ const LARGEST: Geometry = Geometry {
     turn_limit: 68_719_476_735,
 };
 
-/// The word at a place of the table, and the place of that word; `None` behind the last word.
-fn found_at(layout: &Layout, index: u32) -> Option<(WordName, u32)> {
+/// Whether this word stands at this place of the table, and its place is this one.
+fn stands(layout: &Layout, name: WordName, index: u32) -> bool {
     if index < layout.words() {
-        let name = layout.name(index);
-        Some((name, layout.index(name)))
+        let found = layout.name(index);
+        found == name && layout.index(found) == index
     } else {
-        None
+        false
     }
 }
 
@@ -40,7 +40,7 @@ fn found_at(layout: &Layout, index: u32) -> Option<(WordName, u32)> {
 fn stand<R: Abort>(rt: &R, layout: &Layout, rows: &[(WordName, u32)]) {
     for row in rows {
         let (name, index) = *row;
-        assert_eq!(rt; found_at(layout, index), Some((name, index)));
+        assert!(rt; stands(layout, name, index), "at {index}");
     }
 }
 
@@ -117,38 +117,45 @@ fn actions(rt: HostRuntime) {
     }
 }
 
-/// The second to last of four callers, in a heap of three processor heaps, at blocks of 2048 words.
+/// A heap of three processor heaps and four callers.
+const SHARED: Geometry = Geometry {
+    frames: 4,
+    heaps: 3,
+    units: 2,
+    callers: 4,
+    turn_limit: 1,
+};
+
+/// The second to last of the callers, at blocks of 2048 words.
 fn seat<R: Abort>(rt: &R) -> Seat {
-    let geometry = Geometry {
-        frames: 4,
-        heaps: 3,
-        units: 2,
-        callers: 4,
-        turn_limit: 1,
-    };
-    seat_of(rt, geometry, 2, 10)
+    seat_of(rt, SHARED, 2, 10)
+}
+
+/// What the seat is for, and the numbers of its heap that it tells.
+fn numbers_of(seat: Seat) -> [u32; 6] {
+    [
+        u32::from(seat.caller()),
+        u32::from(seat.class()),
+        u32::from(seat.heap()),
+        seat.geometry().frames,
+        seat.descriptors(),
+        u32::from(seat.block_count()),
+    ]
 }
 
 // 11 * (4 + 3 + 2 * 4) + 4 * 5 = 185 descriptors.
 #[test]
 fn seats(rt: HostRuntime) {
     let seat = seat(&rt);
-    let names = (seat.caller(), seat.class(), seat.heap());
-    assert_eq!(rt; names, (2, 10, 2));
-    let counts = (
-        seat.geometry().frames,
-        seat.descriptors(),
-        seat.block_count(),
-    );
-    assert_eq!(rt; counts, (4, 185, 2));
+    assert_eq!(rt; numbers_of(seat), [2, 10, 2, 4, 185, 2]);
     let word = 3 + 2 * 65_536 + 10 * 16_777_216;
     let site = Site {
         seat,
         desc: 5,
         frame: 3,
     };
-    let told = (seat.place(3, 1), site.place(1), site.info_word());
-    assert_eq!(rt; told, (14_336, 14_336, word));
+    assert_eq!(rt; [seat.place(3, 1), site.place(1)], [14_336, 14_336]);
+    assert_eq!(rt; site.info_word(), word);
 }
 
 // What a found word names, where the heap has it.

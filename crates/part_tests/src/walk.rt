@@ -80,8 +80,7 @@ fn go<R: Abort, P: Point>(rt: &R, at: &mut P, rows: &[Row]) -> Option<P::Exit> {
     let mut exit = None;
     for row in rows {
         let (action, value, won) = *row;
-        assert!(rt; exit.is_none());
-        assert_eq!(rt; at.plan(), action);
+        assert!(rt; exit.is_none() && at.plan() == action, "{action:?}");
         exit = at.settle(Found { value, won });
     }
     exit
@@ -101,13 +100,17 @@ pub fn leave<R: Abort, P: Point>(rt: &R, first: P, rows: &[Row]) -> Option<P::Ex
     go(rt, &mut point, rows)
 }
 
+/// Whether the plan behind a point, where its word is found to be this, is the same as before.
+fn stays<P: Point>(point: P, value: u64) -> bool {
+    let mut next = point;
+    let exit = next.settle(Found { value, won: true });
+    exit.is_none() && next.plan() == point.plan()
+}
+
 /// Behind each of these points, where its word is found to be this, the plan is the same as before.
 pub fn stay<R: Abort, P: Point>(rt: &R, rows: &[(P, u64)]) {
     for row in rows {
         let (point, value) = *row;
-        let mut next = point;
-        let exit = next.settle(Found { value, won: true });
-        assert!(rt; exit.is_none(), "at {value}");
-        assert_eq!(rt; next.plan(), point.plan(), "at {value}");
+        assert!(rt; stays(point, value), "at {value}");
     }
 }

@@ -1,6 +1,10 @@
 //! Texts of generated traces.
 
+ghost use Rattle.std.specs.Prelude.{◌≤◌};
+ghost use Rattle.workloads.specs.declared.making.TheConstants.{MAX_SIZE};
+
 use crate::texts::is_printed;
+use std::alloc::{AllocError, Global};
 use std::process::Abort;
 use std::test::Fail;
 use trace_text::printing::print_trace;
@@ -21,14 +25,25 @@ fn text_of<R: Abort + AllocGlobal>(
 
 /// A number in which the place of each byte counts.
 fn sum_of(text: &[u8]) -> u32 {
-    let mut sum: u32 = 0;
-    for byte in text {
-        sum = sum.wrapping_mul(31).wrapping_add(u32::from(*byte));
-    }
-    sum
+    text.iter().fold(0, |sum: u32, byte| {
+        sum.wrapping_mul(31).wrapping_add(u32::from(*byte))
+    })
 }
 
-const EMPTY: &[u8] = b"heap 1024 8 0\nlane\nlane\nlane\nlane\nlane\nlane\nlane\nlane\nend\n";
+/// The text of a workload's trace is this.
+fn is_text<R: Abort + AllocGlobal>(
+    rt: &R,
+    kind: Kind,
+    size: u32,
+    start: u64,
+    want: &str,
+) -> Result<(), Fail> {
+    let text = text_of(rt, kind, size, start)?;
+    assert_eq!(rt; text.as_slice(), want.as_bytes());
+    Ok(())
+}
+
+const EMPTY: &str = "heap 1024 8 0\nlane\nlane\nlane\nlane\nlane\nlane\nlane\nlane\nend\n";
 
 #[test]
 fn no_rounds(rt: HostRuntime) -> Result<(), Fail> {
@@ -40,7 +55,7 @@ fn no_rounds(rt: HostRuntime) -> Result<(), Fail> {
     ];
     for kind in kinds {
         for start in [0, 7, 18_446_744_073_709_551_615] {
-            assert_eq!(rt; text_of(&rt, kind, 0, start)?.as_slice(), EMPTY);
+            is_text(&rt, kind, 0, start, EMPTY)?;
         }
     }
     Ok(())
@@ -48,46 +63,46 @@ fn no_rounds(rt: HostRuntime) -> Result<(), Fail> {
 
 #[test]
 fn short_texts(rt: HostRuntime) -> Result<(), Fail> {
-    let texts: [(Kind, u32, u64, &[u8]); 6] = [
+    let texts: [(Kind, u32, u64, &str); 6] = [
         (
             Kind::Scalability,
             3,
             7,
-            b"heap 1024 8 0\nlane\na 0 1 2442223337\nf 0\nlane\na 0 1 414063806\nf 0\nlane\na 0 1 2743600285\nf 0\nlane\nlane\nlane\nlane\nlane\nend\n",
+            "heap 1024 8 0\nlane\na 0 1 2442223337\nf 0\nlane\na 0 1 414063806\nf 0\nlane\na 0 1 2743600285\nf 0\nlane\nlane\nlane\nlane\nlane\nend\n",
         ),
         (
             Kind::Scalability,
             10,
             3,
-            b"heap 1024 8 0\nlane\na 0 1 1170342731\nf 0\na 0 1 636832815\nf 0\nlane\na 0 1 4217149081\nf 0\na 0 1 757380062\nf 0\nlane\na 0 1 361647185\nf 0\nlane\na 0 1 721287141\nf 0\nlane\na 0 1 3995479478\nf 0\nlane\na 0 1 3298735423\nf 0\nlane\na 0 1 2255140568\nf 0\nlane\na 0 1 1042523632\nf 0\nend\n",
+            "heap 1024 8 0\nlane\na 0 1 1170342731\nf 0\na 0 1 636832815\nf 0\nlane\na 0 1 4217149081\nf 0\na 0 1 757380062\nf 0\nlane\na 0 1 361647185\nf 0\nlane\na 0 1 721287141\nf 0\nlane\na 0 1 3995479478\nf 0\nlane\na 0 1 3298735423\nf 0\nlane\na 0 1 2255140568\nf 0\nlane\na 0 1 1042523632\nf 0\nend\n",
         ),
         (
             Kind::Threadtest,
             10,
             18_446_744_073_709_551_615,
-            b"heap 1024 8 0\nlane\na 0 7 2553256318\na 1 7 1362994822\nc 0\nf 0\nc 1\nf 1\nlane\na 0 7 3759657484\na 1 7 3366838333\nc 0\nf 0\nc 1\nf 1\nlane\na 0 7 2323195082\nc 0\nf 0\nlane\na 0 7 1040808896\nc 0\nf 0\nlane\na 0 7 1763830589\nc 0\nf 0\nlane\na 0 7 975353581\nc 0\nf 0\nlane\na 0 7 2866471994\nc 0\nf 0\nlane\na 0 7 2106911640\nc 0\nf 0\nend\n",
+            "heap 1024 8 0\nlane\na 0 7 2553256318\na 1 7 1362994822\nc 0\nf 0\nc 1\nf 1\nlane\na 0 7 3759657484\na 1 7 3366838333\nc 0\nf 0\nc 1\nf 1\nlane\na 0 7 2323195082\nc 0\nf 0\nlane\na 0 7 1040808896\nc 0\nf 0\nlane\na 0 7 1763830589\nc 0\nf 0\nlane\na 0 7 975353581\nc 0\nf 0\nlane\na 0 7 2866471994\nc 0\nf 0\nlane\na 0 7 2106911640\nc 0\nf 0\nend\n",
         ),
         (
             Kind::Larson,
             10,
             0,
-            b"heap 1024 8 0\nlane\na 3 60 336081875\na 62 43 1616833669\nf 3\nf 62\nlane\na 14 56 56572352\na 62 50 116872860\nf 14\nf 62\nlane\na 37 39 1017583790\nf 37\nlane\na 33 5 450705938\nf 33\nlane\na 35 29 1950789135\nf 35\nlane\na 44 61 3428145879\nf 44\nlane\na 36 13 2939988025\nf 36\nlane\na 2 59 3187628890\nf 2\nend\n",
+            "heap 1024 8 0\nlane\na 3 60 336081875\na 62 43 1616833669\nf 3\nf 62\nlane\na 14 56 56572352\na 62 50 116872860\nf 14\nf 62\nlane\na 37 39 1017583790\nf 37\nlane\na 33 5 450705938\nf 33\nlane\na 35 29 1950789135\nf 35\nlane\na 44 61 3428145879\nf 44\nlane\na 36 13 2939988025\nf 36\nlane\na 2 59 3187628890\nf 2\nend\n",
         ),
         (
             Kind::Pipeline,
             3,
             18_446_744_073_709_551_615,
-            b"heap 1024 8 0\nlane\na 0 3 2553256318\np 0 0\nlane\nt 0 0\nc 0\nf 0\nlane\na 0 3 1362994822\np 0 16\nlane\nlane\nlane\nlane\nlane\nend\n",
+            "heap 1024 8 0\nlane\na 0 3 2553256318\np 0 0\nlane\nt 0 0\nc 0\nf 0\nlane\na 0 3 1362994822\np 0 16\nlane\nlane\nlane\nlane\nlane\nend\n",
         ),
         (
             Kind::Pipeline,
             10,
             5,
-            b"heap 1024 8 0\nlane\na 0 3 3086511542\np 0 0\na 0 3 1342643712\np 0 1\nlane\nt 0 0\nc 0\nf 0\nt 0 1\nc 0\nf 0\nlane\na 0 3 28595221\np 0 16\nlane\nt 0 16\nc 0\nf 0\nlane\na 0 3 496592263\np 0 32\nlane\nt 0 32\nc 0\nf 0\nlane\na 0 3 2875980676\np 0 48\nlane\nt 0 48\nc 0\nf 0\nend\n",
+            "heap 1024 8 0\nlane\na 0 3 3086511542\np 0 0\na 0 3 1342643712\np 0 1\nlane\nt 0 0\nc 0\nf 0\nt 0 1\nc 0\nf 0\nlane\na 0 3 28595221\np 0 16\nlane\nt 0 16\nc 0\nf 0\nlane\na 0 3 496592263\np 0 32\nlane\nt 0 32\nc 0\nf 0\nlane\na 0 3 2875980676\np 0 48\nlane\nt 0 48\nc 0\nf 0\nend\n",
         ),
     ];
     for (kind, size, start, want) in texts {
-        assert_eq!(rt; text_of(&rt, kind, size, start)?.as_slice(), want);
+        is_text(&rt, kind, size, start, want)?;
     }
     Ok(())
 }
@@ -149,13 +164,20 @@ fn a_text_is_read_again(rt: HostRuntime) -> Result<(), Fail> {
     is_printed(&rt, &text, &text)
 }
 
+/// How many lanes a workload of threads has, and whether each has so many operations.
+fn lanes_of(alloc: Global, size: u32, operations: usize) -> Result<(usize, bool), AllocError>
+    requires { size ≤ MAX_SIZE }
+{
+    let trace = make_trace(alloc, Kind::Threadtest, size, 7)?;
+    let lanes = trace.lanes.as_slice();
+    Ok((
+        lanes.len(),
+        lanes.iter().all(|lane| lane.len() == operations),
+    ))
+}
+
 #[test]
 fn operations_of_a_large_workload(rt: HostRuntime) -> Result<(), Fail> {
-    let trace = make_trace(rt.alloc(), Kind::Threadtest, 100_000, 7)?;
-    let lanes = trace.lanes.as_slice();
-    assert_eq!(rt; lanes.len(), 8);
-    for lane in lanes {
-        assert_eq!(rt; lane.len(), 37_500);
-    }
+    assert_eq!(rt; lanes_of(rt.alloc(), 100_000, 37_500)?, (8, true));
     Ok(())
 }

@@ -21,7 +21,7 @@ pub enum TraceFault {
 
 /// Why a line is refused. The tests of a line are made in the order of these causes, but for
 /// `BadGeometry`, which stands in place of `OutOfRange` in the heap line.
-#[derive(Clone, Copy, Debug, PartialEq, Eq)]
+#[derive(Clone, Copy)]
 pub enum Cause {
     /// A byte is neither a tab nor one that can be printed.
     NotAscii,
@@ -63,7 +63,7 @@ impl Cause {
 }
 
 /// Why the reader stops at a line.
-#[derive(Clone, Copy, Debug, PartialEq, Eq)]
+#[derive(Clone, Copy)]
 pub(crate) enum Stop {
     OutOfMemory,
     Because(Cause),

@@ -100,13 +100,8 @@ fn three(fields: &[u8]) -> Result<(u64, u64, u64), Cause>
     ensures { result ≡ three_in (fields_of fields.now) }
 {
     let (a, rest) = field(fields)?;
-    let (b, rest) = field(rest)?;
-    let (c, rest) = field(rest)?;
-    none(rest)?;
-    let a = numeral(a)?;
-    let b = numeral(b)?;
-    let c = numeral(c)?;
-    Ok((a, b, c))
+    let (b, c) = two(rest)?;
+    Ok((numeral(a)?, b, c))
 }
 
 #[tactic(auto, unfolding(crate::specs::Said::alloc_in))]

@@ -19,7 +19,7 @@ use std::alloc::Global;
 
 /// Where the reader stands: before the heap line, behind it with the trace so far, or behind `end`
 /// with the whole trace.
-#[derive(Debug, Drop)]
+#[derive(Drop)]
 pub(crate) enum ReadingStage {
     Before,
     Inside(Trace),

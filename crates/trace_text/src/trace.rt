@@ -9,7 +9,7 @@ use std::alloc::{AllocError, Global};
 use std::marker::Model;
 
 /// A trace. Contracts see it as plain data: a lane is a list of operations.
-#[derive(Debug, Drop)]
+#[derive(Drop)]
 pub struct Trace {
     /// The version of the trace language that the text is of.
     pub version: Version,
@@ -46,7 +46,7 @@ impl Version {
 }
 
 /// What a lane does next. `r` is one of its registers, below `REGISTERS`.
-#[derive(Clone, Copy, Debug, PartialEq, Eq)]
+#[derive(Clone, Copy, PartialEq, Eq)]
 pub enum Op {
     /// Allocates `need` words into the register, and fills them with `v`.
     Alloc { r: u16, need: u32, v: u64 },
@@ -66,7 +66,7 @@ pub enum Op {
 }
 
 /// A run of steps of one lane.
-#[derive(Clone, Copy, Debug, PartialEq, Eq)]
+#[derive(Clone, Copy, PartialEq, Eq)]
 pub struct OrderRun {
     /// The lane that takes the steps.
     pub lane: u8,
@@ -75,7 +75,7 @@ pub struct OrderRun {
 }
 
 /// The lanes of a trace, each with its operations in their order.
-#[derive(Debug, Drop)]
+#[derive(Drop)]
 pub struct Lanes {
     lanes: Vec<Vec<Op>>,
 }
@@ -156,7 +156,7 @@ impl Lanes {
 }
 
 /// The order runs of a trace.
-#[derive(Debug, Drop)]
+#[derive(Drop)]
 pub struct Orders {
     runs: Vec<OrderRun>,
 }
