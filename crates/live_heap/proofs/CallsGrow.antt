@@ -2,7 +2,7 @@
 use Rattle.std.proofs.Common.{ℕ, suc, ◌≡◌, ◌≢◌, ◌<◌, ◌^◌, ◌⊎◌, inl, inr, true, List, [], ◌++◌, Option, Some, refl, sym, ap, ◌∙◌, subst, arith}
 use Rattle.std.proofs.lemmas.Bool.{cases_Bool}
 use Rattle.std.proofs.lemmas.List.{append-nil}
-use Rattle.atomic_table.specs.declared.shared.Seat.{Seat}
+use Rattle.atomic_region.specs.declared.shared.Seat.{Seat}
 use Rattle.heap_geometry.specs.declared.limits.TheConstants.{CALL_STEPS}
 use Rattle.packed_words.specs.declared.widths.TheConstants.{TAG_BITS}
 use Rattle.word_table.specs.Actions.{is_won}
@@ -118,11 +118,11 @@ pub begins-calling :
     (p q : Pass) (call : Call) → HasBegun p call q → IsIdle p.errand → IsAboutBlock p.errand.geometry call → IsBusy q.errand
     → IsCalling p call 0 q
 begins-calling p q call since idle about busy =
-    let sees : seen q ≡ seen p = ap (λ (s : Seat ℕ View). s.me.0.seen) since.seat in
+    let sees : seen q ≡ seen p = ap (λ (s : Seat View). s.me.0.seen) since.seat in
     record {
       caller = ap (λ (e : ErrandFields). e.caller) since.errand ∙ begun-caller p.errand call;
       on = (since.errand, sees);
-      accesses = omega (arith, ap (λ (s : Seat ℕ View). accesses_of s.me.0.callers) since.seat);
+      accesses = omega (arith, ap (λ (s : Seat View). accesses_of s.me.0.callers) since.seat);
       busy = busy;
       added = [];
       events = ap (own p.errand.caller) sees ∙ sym (append-nil (own p.errand.caller (seen p)));

@@ -1,7 +1,7 @@
 -- The passes of a new heap.
 use Rattle.std.proofs.Common.{ℕ, zero, suc, ◌≡◌, ◌<◌, ◌+◌, ◌-◌, inl, List, [], ◌∷◌, ◌++◌, length, refl, sym, ap, subst, arith}
 use Rattle.std.specs.Prelude.{if◌then◌else◌}
-use Rattle.atomic_table.specs.Table.{Me}
+use Rattle.atomic_region.specs.Region.{Me}
 use Rattle.heap_geometry.specs.declared.geometry.Geometry.{Geometry}
 use Rattle.heap_geometry.specs.Geometry.{IsChecked}
 use Rattle.word_table.specs.Table.{exists}
@@ -50,18 +50,18 @@ first-served g caller checked has =
     }
 
 pub fresh :
-    (h : Heap) (p : Pass) (caller : ℕ) → caller < h.layout.callers → p.seat.table_id ≡ h.table.shared.table_id
+    (h : Heap) (p : Pass) (caller : ℕ) → caller < h.layout.callers → p.seat.region ≡ h.table.shared.id
     → p.seat.me ≡ (idle_view h.layout caller 1, []) → p.errand ≡ open_errand caller h.layout → IsFresh h p
 fresh h p caller has table me errand =
     let g = h.layout in
-    let nothing : p.seat.me.0.seen ≡ [] = ap (λ (m : Me ℕ View). m.0.seen) me in
+    let nothing : p.seat.me.0.seen ≡ [] = ap (λ (m : Me View). m.0.seen) me in
     let number : p.errand.caller ≡ caller = ap (λ (e : ErrandFields). e.caller) errand in
     record {
       of = record {
         table = table;
-        empty = ap (λ (m : Me ℕ View). m.1) me;
+        empty = ap (λ (m : Me View). m.1) me;
         before = idle_standing g caller;
-        one = ap (λ (m : Me ℕ View). m.0.callers) me;
+        one = ap (λ (m : Me View). m.0.callers) me;
         sight = sym nothing;
         begun = inl errand;
         served = subst (λ (e : ErrandFields). IsServed g e.caller e (seen p)) (sym errand) (subst (λ (l : List Event). IsServed g caller (open_errand caller g) l) (sym nothing) (first-served g caller h.checked has));
@@ -69,7 +69,7 @@ fresh h p caller has table me errand =
       };
       errand = subst (λ n. p.errand ≡ open_errand n g) (sym number) errand;
       nothing_seen = nothing;
-      none_made = ap (λ (m : Me ℕ View). accesses_of m.0.callers) me;
+      none_made = ap (λ (m : Me View). accesses_of m.0.callers) me;
     }
 
 pub AreFrom-push :

@@ -57,7 +57,7 @@ module _
 
   pub joins-of : IsOf h q
   joins-of =
-      still-of h last q j.has.0 j.of (ap (λ s. s.table_id) seat ∙ j.table) (ap (λ s. s.me.1) seat ∙ j.empty) settled stepped
+      still-of h last q j.has.0 j.of (ap (λ s. s.region) seat ∙ j.table) (ap (λ s. s.me.1) seat ∙ j.empty) settled stepped
 
   pub joins-moment : IsMoment last.errand q.errand (seen last) (seen q) answer
   joins-moment = took-step last q j.has.0 answer settled answered stepped

@@ -16,6 +16,7 @@ pub mod Growing
 pub mod Holding
 pub mod JoinLemmas
 pub mod Last
+pub mod Laid
 pub mod LawsClosed
 pub mod LawsKept
 pub mod LawsServed

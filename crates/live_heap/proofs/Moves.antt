@@ -5,6 +5,8 @@ use mathlib.Core.Option.{some, some-injective, some-ne-none}
 use lib.ListN.{get_elem?}
 use prog.Atomic.{either}
 use Rattle.atomic_table.specs.Table.{Me, Allows}
+use Rattle.atomic_region.specs.Region as region
+use Rattle.atomic_region.proofs.Beside.{as_before}
 use Rattle.atomic_table.specs.Table.Act.{keeps as nothing}
 use Rattle.atomic_table.proofs.Lists.{at_set}
 use Rattle.placed_words.specs.Places.{place}
@@ -46,7 +48,7 @@ use Rattle.step_machine.proofs.MomentAnswers.{settle-caller}
 use Rattle.step_machine.proofs.MomentLemmas.{reached-served}
 use Rattle.live_heap.specs.declared.view.Standing.{Standing}
 use Rattle.live_heap.specs.declared.view.View.{View}
-use Rattle.live_heap.specs.Rule.{IsStanding, Stands, KeptTable, PlacesHold, TableHolds, state_with}
+use Rattle.live_heap.specs.Rule.{IsStanding, Stands, KeptTable, MemoryHolds, PlacesHold, TableHolds, WordsHold, state_with}
 use Rattle.live_heap.specs.Sights.{IsBegun, Saw, TakesStep, after_events, found_in}
 use Rattle.live_heap.proofs.Alone.{reached-alone}
 use Rattle.live_heap.proofs.Growing.{IsBy, begin-uncounted, own-between, own-others, rest-none, starts-event, starts-more, starts-self, step-counted, steps-others, wins-others}
@@ -449,12 +451,16 @@ module _ (g : Geometry) (words : List ℕ) (views : List View) (id : ℕ) (v : V
     alone = alone_then;
   }
 
+-- what a step on a table of words alone tells
+abbrev Told : ErrandFields → ℕ → Me ℕ View → Me ℕ View → Type 0
+Told e n before after = TakesStep e n before.0 after.0 × (after.1 ≡ before.1)
+
 -- a step of the errand may be made on any table under the rule
 pub may-step :
-    {S : Type 0} (g : Geometry) (slots id : ℕ) (me : Me S View) (before : Standing) (e : ErrandFields) → me.0.callers ≡ before ∷ []
+    (g : Geometry) (slots id : ℕ) (me : Me ℕ View) (before : Standing) (e : ErrandFields) → me.0.callers ≡ before ∷ []
     → IsBegun me.0.seen before.errand e → IsBusy e
-    → Allows {S = S} (TableHolds g) slots id me (word_index g (name_of (plan_of e))) (after_action (plan_of e)) (λ n. Saw e n me)
-may-step {S} g slots id me before e one b busy s h homes at small =
+    → Allows {S = ℕ} (TableHolds g) slots id me (word_index g (name_of (plan_of e))) (after_action (plan_of e)) (λ n. Told e n me)
+may-step g slots id me before e one b busy s h homes at small =
     let v = me.0 in (
       view_then g s.words s.views id v before e h at one b busy,
       nothing,
@@ -464,36 +470,41 @@ may-step {S} g slots id me before e one b busy s h homes at small =
     )
 
 -- the five actions, at the place of their word
-module _ {S : Type 0} (key g : Geometry) (slots id : ℕ) (me : Me S View) (before : Standing) (e f : ErrandFields) (w : WordName) (index : ℕ)
+module _ (key g : Geometry) (size id : ℕ) (me : region.Me View) (before : Standing) (e f : ErrandFields) (w : WordName) (index : ℕ)
     (same : key ≡ g) (named : f ≡ e) (one : me.0.callers ≡ before ∷ []) (b : IsBegun me.0.seen before.errand f) (busy : IsBusy f)
-    (number : word_index g w < word_count g) (there : index ≡ place g (word_index g w)) where
-  abbrev At : Action → Type 0
-  At a = Allows {S = S} (PlacesHold key) slots id me index (after_action a) (λ n. Saw e n me)
+    (number : word_index g w < word_count g) (there : index ≡ place g (word_index g w)) (inside : index < size) where
+  -- the pass as a table of words alone has it
+  abbrev on_table : Me ℕ View
+  on_table = (me.0, [])
 
-  may : (a : Action) → name_of a ≡ w → plan_of f ≡ a → At a
-  may a on is =
-      let A : Action → Type 0 = λ x. Allows {S = S} (TableHolds g) slots id me (word_index g (name_of x)) (after_action x) (λ n. Saw e n me) in
-      let I : ℕ → Type 0 = λ i. Allows {S = S} (TableHolds g) slots id me i (after_action a) (λ n. Saw e n me) in
-      let P : ℕ → Type 0 = λ i. Allows {S = S} (PlacesHold g) slots id me i (after_action a) (λ n. Saw e n me) in
-      let K : Geometry → Type 0 = λ k. Allows {S = S} (PlacesHold k) slots id me index (after_action a) (λ n. Saw e n me) in
+  may-on_table : (a : Action) → name_of a ≡ w → plan_of f ≡ a → Allows {S = ℕ} (PlacesHold key) 0 id on_table index (after_action a) (λ n. Told e n on_table)
+  may-on_table a on is =
+      let A : Action → Type 0 = λ x. Allows {S = ℕ} (TableHolds g) 0 id on_table (word_index g (name_of x)) (after_action x) (λ n. Told e n on_table) in
+      let I : ℕ → Type 0 = λ i. Allows {S = ℕ} (TableHolds g) 0 id on_table i (after_action a) (λ n. Told e n on_table) in
+      let P : ℕ → Type 0 = λ i. Allows {S = ℕ} (PlacesHold g) 0 id on_table i (after_action a) (λ n. Told e n on_table) in
+      let K : Geometry → Type 0 = λ k. Allows {S = ℕ} (PlacesHold k) 0 id on_table index (after_action a) (λ n. Told e n on_table) in
       subst K (sym same)
       (subst P (sym there)
-      (allows-at_place g (TableHolds g) slots id me (word_index g w) (after_action a) (λ n. Saw e n me) number
+      (allows-at_place g (TableHolds g) 0 id on_table (word_index g w) (after_action a) (λ n. Told e n on_table) number
       (subst I (ap (word_index g) on)
       (subst A (ap plan_of (sym named) ∙ is)
-      (may-step g slots id me before e one (subst (IsBegun me.0.seen before.errand) named b) (subst IsBusy named busy))))))
+      (may-step g 0 id on_table before e one (subst (IsBegun me.0.seen before.errand) named b) (subst IsBusy named busy))))))
 
-  pub may-load : plan_of f ≡ Load w → Allows {S = S} (PlacesHold key) slots id me index (λ n. n) (λ n. Saw e n me)
+  may : (a : Action) → name_of a ≡ w → plan_of f ≡ a → region.Allows (MemoryHolds key) size id me index (after_action a) (λ n. Saw e n me)
+  may a on is =
+      as_before (WordsHold key) 0 size id me.0 me.1 index (after_action a) (λ n. Told e n on_table) (λ n. Saw e n me) inside (λ words views h. ([], refl)) (λ n u d t. (t.0, refl)) (may-on_table a on is)
+
+  pub may-load : plan_of f ≡ Load w → region.Allows (MemoryHolds key) size id me index (λ n. n) (λ n. Saw e n me)
   may-load is = may (Load w) refl is
 
-  pub may-store : (x : ℕ) → plan_of f ≡ Store w x → Allows {S = S} (PlacesHold key) slots id me index (λ _. x) (λ _ m. (k : ℕ) × Saw e k me m)
-  may-store x is s h homes at small = let t = may (Store w x) refl is s h homes at small in (t.0, t.1, t.2, t.3, (_, t.4))
+  pub may-store : (x : ℕ) → plan_of f ≡ Store w x → region.Allows (MemoryHolds key) size id me index (λ _. x) (λ _ m. (k : ℕ) × Saw e k me m)
+  may-store x is s h long at = let t = may (Store w x) refl is s h long at in (t.0, λ small. let r = t.1 small in (r.0, r.1, r.2, r.3, (_, r.4)))
 
-  pub may-swap : (x : ℕ) → plan_of f ≡ Swap w x → Allows {S = S} (PlacesHold key) slots id me index (λ _. x) (λ n. Saw e n me)
+  pub may-swap : (x : ℕ) → plan_of f ≡ Swap w x → region.Allows (MemoryHolds key) size id me index (λ _. x) (λ n. Saw e n me)
   may-swap x is = may (Swap w x) refl is
 
-  pub may-and : (x : ℕ) → plan_of f ≡ And w x → Allows {S = S} (PlacesHold key) slots id me index (λ n. bit_and n x) (λ n. Saw e n me)
+  pub may-and : (x : ℕ) → plan_of f ≡ And w x → region.Allows (MemoryHolds key) size id me index (λ n. bit_and n x) (λ n. Saw e n me)
   may-and x is = may (And w x) refl is
 
-  pub may-exchange : (x y : ℕ) → plan_of f ≡ Cas w x y → Allows {S = S} (PlacesHold key) slots id me index (λ n. either (n == x) y n) (λ n. Saw e n me)
+  pub may-exchange : (x y : ℕ) → plan_of f ≡ Cas w x y → region.Allows (MemoryHolds key) size id me index (λ n. either (n == x) y n) (λ n. Saw e n me)
   may-exchange x y is = may (Cas w x y) refl is

@@ -22,7 +22,7 @@ of-sight h p of = record { before = of.before; one = of.one; begun = of.begun; l
 
 -- the pass stays one of its heap behind a step
 pub still-of :
-    (h : Heap) (p q : Pass) (n : ℕ) → IsOf h p → q.seat.table_id ≡ p.seat.table_id → q.seat.me.1 ≡ p.seat.me.1
+    (h : Heap) (p q : Pass) (n : ℕ) → IsOf h p → q.seat.region ≡ p.seat.region → q.seat.me.1 ≡ p.seat.me.1
     → q.errand ≡ settle_of p.errand (found_in p.errand n) → TakesStep p.errand n (view p) (view q) → IsOf h q
 still-of h p q n of table empty is s =
     let x = found_in p.errand n in

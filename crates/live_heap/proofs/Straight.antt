@@ -119,7 +119,7 @@ module _
     (may : MayBegin (after_events (seen p)) p.errand.caller call)
     (is : q.errand ≡ settle_of (begun_by p.errand call) (found_in (begun_by p.errand call) n))
     (s : TakesStep (begun_by p.errand call) n (view p) (view q)) where
-  pub one-of : q.seat.table_id ≡ p.seat.table_id → q.seat.me.1 ≡ p.seat.me.1 → IsOf h q
+  pub one-of : q.seat.region ≡ p.seat.region → q.seat.me.1 ≡ p.seat.me.1 → IsOf h q
   one-of table empty = still-of h (in_call p call) q n (begins-of h p (in_call p call) call of idle may refl refl) table empty is s
 
   pub one-stepped :
@@ -144,7 +144,7 @@ pub ends-at_once :
     → q.errand ≡ settle_of (begun_by p.errand call) (found_in (begun_by p.errand call) n)
     → Done (reply_of end) ≡ answer_of (begun_by p.errand call) (found_in (begun_by p.errand call) n)
     → GivesBack block_place block_need (offered_at (begun_by p.errand call).point) (step.Done end) → TakesStep (begun_by p.errand call) n (view p) (view q)
-    → q.seat.table_id ≡ p.seat.table_id → q.seat.me.1 ≡ p.seat.me.1 → EndsAtOnce h p call end q
+    → q.seat.region ≡ p.seat.region → q.seat.me.1 ≡ p.seat.me.1 → EndsAtOnce h p call end q
 ends-at_once h p q call n end of idle may about other is answers back s table empty =
     let stepped = one-stepped h p q call n end of idle may is s answers back in
     let calling = other-calling p (in_call p call) call (record { seat = refl; errand = refl }) idle about other in

@@ -2,7 +2,7 @@
 use Rattle.std.specs.Prelude.{ℕ, zero, suc, ◌≡◌, ◌<◌, ◌-◌, ◌^◌, ◌==◌, if◌then◌else◌, count_by, min, sum_by, List, [], ◌∷◌, All, length}
 use mathlib.Core.Option.{some}
 use lib.ListN.{get_elem?}
-use Rattle.atomic_table.specs.declared.shared.Seat.{Seat}
+use Rattle.atomic_region.specs.declared.shared.Seat.{Seat}
 use Rattle.heap_geometry.specs.declared.geometry.Geometry.{Geometry}
 use Rattle.pool_model.specs.declared.event.Event.{Event}
 use Rattle.pool_model.specs.Histories.{Begins, own}
@@ -93,8 +93,8 @@ pub record IsIn (v : View) (p : Pass) : Type 0 where
   pub counted : standing.accesses ≡ accesses p
 
 -- all passes are taken in by the seat, and won and lost so many exchanges together
-pub record IsGathered (h : Heap) (passes : List Pass) (seat : Seat ℕ View) (won lost : ℕ) : Type 0 where
-  pub table : seat.table_id ≡ h.table.shared.table_id
+pub record IsGathered (h : Heap) (passes : List Pass) (seat : Seat View) (won lost : ℕ) : Type 0 where
+  pub table : seat.region ≡ h.table.shared.id
   pub empty : seat.me.1 ≡ []
   pub each : All (IsIn seat.me.0) passes
   pub all : length seat.me.0.callers ≡ h.layout.callers

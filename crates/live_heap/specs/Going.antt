@@ -1,7 +1,7 @@
 -- A call that goes on, and one that was made so far without an errand.
 use Rattle.std.specs.Prelude.{ℕ, Option, None, Some, ◌≡◌, ◌<◌, ◌≤◌, ◌+◌, ◌*◌, ◌-◌, ◌^◌}
 use Rattle.heap_geometry.specs.declared.limits.TheConstants.{CALL_STEPS}
-use Rattle.atomic_table.specs.declared.shared.Seat.{Seat}
+use Rattle.atomic_region.specs.declared.shared.Seat.{Seat}
 use Rattle.word_table.specs.declared.action.Found.{Found as Find}
 use Rattle.superblock_parts.specs.declared.point.BlockPoint.{BlockPoint}
 use Rattle.superblock_parts.specs.declared.exit.BlockExit.{BlockExit}
@@ -79,10 +79,10 @@ pub record IsWalking (h : Heap) (start : Pass) (tries : ℕ) (p : BlockPoint) (o
 
 -- a walking call's seat has made the step from its point and found this; the pass's errand stands still
 pub record HasWalked (h : Heap) (start : Pass) (tries : ℕ) (p : BlockPoint) (o : Continuation) (x : Find) (q : Pass) : Type 0 where
-  pub seat : Seat ℕ View
+  pub seat : Seat View
   pub walks : IsWalking h start tries p o (record { seat = seat; errand = q.errand })
   pub has : HasFound (at_block q.errand p o) x seat.me.0 (view q)
-  pub table : q.seat.table_id ≡ seat.table_id
+  pub table : q.seat.region ≡ seat.region
   pub empty : q.seat.me.1 ≡ seat.me.1
 
 -- a call that stood at `start` had come to a pass `last`; the seat of this one has made the step from there and found this, and its errand stands there still
@@ -93,7 +93,7 @@ pub record Rejoins (h : Heap) (start : Pass) (tries : ℕ) (x : Find) (q : Pass)
   pub stands : q.errand ≡ last.errand
   pub offers : offered_at last.errand.point ≡ None
   pub has : HasFound last.errand x (view last) (view q)
-  pub table : q.seat.table_id ≡ last.seat.table_id
+  pub table : q.seat.region ≡ last.seat.region
   pub empty : q.seat.me.1 ≡ last.seat.me.1
 
 -- a call that leaves a superblock by this exit ends so, wherever it goes on

@@ -28,7 +28,7 @@ accesses p = accesses_of (view p).callers
 
 -- the pass is of this heap: it stands for one caller, whose errand is the one that its last step left, or one that a call has begun with since; the events that it has seen are legal, and bound its turns; and with one caller nothing was lost
 pub record IsOf (h : Heap) (p : Pass) : Type 0 where
-  pub table : p.seat.table_id ≡ h.table.shared.table_id
+  pub table : p.seat.region ≡ h.table.shared.id
   pub empty : p.seat.me.1 ≡ []
   pub before : Standing
   pub one : (view p).callers ≡ before ∷ []

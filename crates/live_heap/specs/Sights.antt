@@ -1,6 +1,6 @@
 -- What a pass sees of its own step.
 use Rattle.std.specs.Prelude.{ℕ, suc, ◌≡◌, List, [], ◌∷◌, ◌⊎◌}
-use Rattle.atomic_table.specs.Table.{Me}
+use Rattle.atomic_region.specs.Region.{Me}
 use Rattle.heap_geometry.specs.declared.geometry.Geometry.{Geometry}
 use Rattle.word_table.specs.declared.action.Found.{Found}
 use Rattle.word_table.specs.Actions.{found_by}
@@ -45,7 +45,7 @@ pub record TakesStep (e : ErrandFields) (n : ℕ) (v w : View) : Type 0 where
   pub alone : e.geometry.callers ≡ 1 → (settle_of e (found_in e n)).lost ≡ 0
 
 -- a pass made the step of the errand e, which found n, and holds what it held
-abbrev pub Saw : {S : Type 0} → ErrandFields → ℕ → Me S View → Me S View → Type 0
+abbrev pub Saw : ErrandFields → ℕ → Me View → Me View → Type 0
 Saw e n before after = TakesStep e n before.0 after.0 × (after.1 ≡ before.1)
 
 -- a pass of this heap, whose errand is e, may make a step of it where its view is this one

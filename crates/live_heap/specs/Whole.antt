@@ -1,6 +1,5 @@
 -- Whole calls of a pass.
 use Rattle.std.specs.Prelude.{ℕ, ◌≡◌}
-use Rattle.heap_geometry.specs.declared.need.Need.{Need}
 use Rattle.errand_steps.specs.declared.reply.Reply.{Reply}
 use Rattle.errand_steps.specs.declared.reply.Reply.TheVariants as reply
 use Rattle.errand_steps.specs.Begins.{IsIdle}

@@ -14,9 +14,10 @@ use crate::heap::Heap;
 use crate::pass::Pass;
 use crate::plays::Gathers;
 use crate::view::View;
-use atomic_table::Seat;
+use atomic_region::Seat;
 use heap_geometry::geometry::Geometry;
 use placed_words::placement::Placement;
+use plain_words::Room;
 use std::alloc::Global;
 use std::marker::Model;
 use std::snapshot::Snapshot;
@@ -26,24 +27,24 @@ use word_table::name::WordName;
 /// each caller, all idle, the whole history and all that callers won from each other, which take no
 /// memory.
 pub struct Closed {
-    table: atomic_table::Closed<u8, Global>,
+    room: Room<Global>,
     layout: Placement,
-    last: Snapshot<Seat<u8, View>>,
+    last: Snapshot<Seat<View>>,
     won: u64,
     lost: u64,
 }
 
 impl Model for Closed {
-    ghost use Rattle.std.specs.Prelude.{◌≡◌};
-    ghost use Rattle.std.specs.Slots.{slots_items, slots_len, IsFull};
+    ghost use Rattle.std.specs.Prelude.{◌≡◌, length};
+    ghost use Rattle.plain_words.specs.Places.{laids, numbers};
     ghost use Rattle.placed_words.specs.Places.{placed_count, words_at};
     ghost use Rattle.live_heap.specs.Endings.{ClosedFields, IsCounted, IsResting, closed_with};
 
     ghost Value = { ClosedFields };
 
-    ghost view = { λ s. closed_with s.layout (words_at s.layout (slots_items s.table.words)) s.last.value.me.0 };
+    ghost view = { λ s. closed_with s.layout (words_at s.layout (numbers s.room.plain.places)) s.last.value.me.0 };
 
-    ghost invariant = { λ s. record { full : IsFull s.table.words; len : slots_len s.table.words ≡ placed_count s.layout; bare : slots_len s.table.slots ≡ 0; rests : IsResting (closed_with s.layout (words_at s.layout (slots_items s.table.words)) s.last.value.me.0); counts : IsCounted (closed_with s.layout (words_at s.layout (slots_items s.table.words)) s.last.value.me.0) s.won s.lost } };
+    ghost invariant = { λ s. record { laid : s.room.plain.places ≡ laids (numbers s.room.plain.places); len : length s.room.plain.places ≡ placed_count s.layout; rests : IsResting (closed_with s.layout (words_at s.layout (numbers s.room.plain.places)) s.last.value.me.0); counts : IsCounted (closed_with s.layout (words_at s.layout (numbers s.room.plain.places)) s.last.value.me.0) s.won s.lost } };
 }
 
 /// What is refused where there is no memory for closing: nothing has changed.
@@ -55,7 +56,7 @@ pub struct CloseRefused {
 
 /// A seat that has taken passes in, and what they won and lost together, each at most 2^64 - 1.
 struct Gathered {
-    seat: Seat<u8, View>,
+    seat: Seat<View>,
     won: u64,
     lost: u64,
 }
@@ -72,9 +73,9 @@ impl Heap {
     {
         let Gathered { seat, won, lost } = self.gather(passes);
         let last = Snapshot::of(&seat);
-        let Heap { table, layout } = self;
+        let (room, layout) = self.end(seat);
         Ok(Closed {
-            table: table.close_with(seat),
+            room,
             layout,
             last,
             won,
@@ -87,6 +88,8 @@ impl Heap {
         requires { AreAllIdle self.now passes.items }
         ensures { IsGathered self.now passes.items result.seat result.won result.lost }
     {
+        let shared = &self.table.shared;
+        let start = self.table.start();
         let Pass { mut seat, errand } = passes.pop().unwrap();
         let mut won = errand.won();
         let mut lost = errand.lost();
@@ -97,7 +100,7 @@ impl Heap {
             } = pass;
             won = won.saturating_add(errand.won());
             lost = lost.saturating_add(errand.lost());
-            self.table.shared.join_seat::<Gathers>(&mut seat, other);
+            shared.join_seat::<Gathers>(&mut seat, other, start, 0);
         }
         Gathered { seat, won, lost }
     }
@@ -117,7 +120,7 @@ impl Closed {
         requires { Exists self.now.geometry name }
         ensures { result ≡ word_in self.now.geometry self.now.words name }
     {
-        self.table.word(self.layout.place(name) as usize)
+        self.room.word(self.layout.place(name) as usize)
     }
 
     /// How many exchanges all callers won, at most 2^64 - 1.
@@ -142,13 +145,13 @@ impl Closed {
 
 impl Drop for Closed {
     fn drop(self) {
-        let Closed {
-            table,
+        let Self {
+            room,
             layout: _,
             last: _,
             won: _,
             lost: _,
         } = self;
-        table.free();
+        drop(room);
     }
 }

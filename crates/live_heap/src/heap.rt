@@ -10,10 +10,11 @@ use crate::opened::first_words;
 use crate::pass::Pass;
 use crate::plays::{Peels, Reachable};
 use crate::view::View;
-use atomic_table::{Seat, Table};
+use atomic_region::{Region, Seat};
 use errand_steps::errand::Errand;
 use heap_geometry::geometry::Geometry;
 use placed_words::placement::Placement;
+use plain_words::Room;
 use std::alloc::{AllocError, Global};
 use word_table::name::WordName;
 
@@ -21,16 +22,17 @@ use word_table::name::WordName;
 ///
 /// No call on a pass takes memory, waits or takes a lock; each returns. Where a thread stops for ever in
 /// the middle of a call, the others go on.
-#[derive(Drop)]
 pub struct Heap {
-    pub(crate) table: Table<u8, View, Geometry, Reachable, Global>,
+    pub(crate) table: Region<View, Geometry, Reachable, Global>,
     pub(crate) layout: Placement,
-    ghost laid: { (table.shared.table_id.words ≡ placed_count layout) × (table.shared.table_id.slots ≡ 0) × (table.shared.key ≡ layout) },
+    ghost laid: { (table.shared.id.words ≡ placed_count layout) × (table.shared.key ≡ layout) },
     ghost checked: { IsChecked layout },
 }
 
 impl Heap {
+    ghost use Rattle.atomic_region.specs.Region.{Final, Seen};
     ghost use Rattle.live_heap.specs.Passes.{AreFrom};
+    ghost use Rattle.live_heap.specs.Rule.{MemoryHolds};
     ghost use Rattle.live_heap.specs.Views.{opening_view, idle_view};
 
     /// A heap with these numbers, and one pass for each caller in the order of their numbers. Nothing has
@@ -51,30 +53,33 @@ impl Heap {
     }
 
     /// The table of a heap before the first step, and the seat that stands for all callers.
-    fn lay(alloc: Global, geometry: Geometry) -> Result<(Heap, Seat<u8, View>), AllocError>
+    fn lay(alloc: Global, geometry: Geometry) -> Result<(Heap, Seat<View>), AllocError>
         requires { IsChecked geometry }
-        ensures { IfOk result (λ laid. (laid.0.layout ≡ geometry) × (laid.1.table_id ≡ laid.0.table.shared.table_id)
+        ensures { IfOk result (λ laid. (laid.0.layout ≡ geometry) × (laid.1.region ≡ laid.0.table.shared.id)
             × (laid.1.me ≡ (opening_view geometry, []))) }
     {
         let layout = Placement::new(geometry);
         let words = first_words(alloc, &layout)?;
-        let (table, seat) = Table::of_words(alloc, words.as_slice(), &geometry)?;
+        let room = Room::of_words(alloc, words.as_slice())?;
+        let (table, seat) = Region::open(room, &geometry);
         Ok((Heap { table, layout }, seat))
     }
 
     /// The passes of all callers but the last, and the seat that is left for that one.
-    fn deal(&self, passes: &mut Vec<Pass>, seat: Seat<u8, View>) -> Seat<u8, View>
+    fn deal(&self, passes: &mut Vec<Pass>, seat: Seat<View>) -> Seat<View>
         requires room { (passes.old.items ≡ []) × (self.now.layout.callers ≤ vec_capacity passes.old) }
-        requires seat { (seat.table_id ≡ self.now.table.shared.table_id) × (seat.me ≡ (opening_view self.now.layout, [])) }
+        requires seat { (seat.region ≡ self.now.table.shared.id) × (seat.me ≡ (opening_view self.now.layout, [])) }
         ensures passes { AreFrom self.now 0 passes.new.items × (length passes.new.items + 1 ≡ self.now.layout.callers)
             × (vec_capacity passes.new ≡ vec_capacity passes.old) }
-        ensures seat { (result.table_id ≡ self.now.table.shared.table_id)
+        ensures seat { (result.region ≡ self.now.table.shared.id)
             × (result.me ≡ (idle_view self.now.layout (length passes.new.items) 1, [])) }
     {
+        let shared = &self.table.shared;
+        let start = self.table.start();
         let geometry = self.layout.geometry();
         let mut rest = seat;
         for caller in 0..geometry.callers - 1 {
-            let next = self.table.shared.split_seat::<Peels>(&mut rest);
+            let next = shared.split_seat::<Peels>(&mut rest, start, 0);
             passes.push_reserved(Pass {
                 seat: rest,
                 errand: Errand::open(caller, geometry),
@@ -98,8 +103,26 @@ impl Heap {
         requires { Exists self.now.layout name }
         ensures number { word_index self.now.layout name < word_count self.now.layout }
         ensures place { result ≡ place self.now.layout (word_index self.now.layout name) }
-        ensures within { result < self.now.table.shared.table_id.words }
+        ensures within { result < self.now.table.shared.id.words }
     {
         self.layout.place(name) as usize
+    }
+
+    /// All words as they are in the end, where the seat has this view.
+    pub(crate) fn end(self, seat: Seat<View>) -> (Room<Global>, Placement)
+        requires { seat.region ≡ self.table.shared.id }
+        ensures layout { result.1 ≡ self.layout }
+        ensures last { Final (Seen (MemoryHolds result.1) seat.id seat.me.0) result.0.plain.places }
+    {
+        let Self { table, layout } = self;
+        (table.close_with(seat).into_room(), layout)
+    }
+}
+
+impl Drop for Heap {
+    /// No word is ever out, so all memory goes back.
+    fn drop(self) {
+        let Self { table, layout: _ } = self;
+        drop(table.close().into_room());
     }
 }

@@ -4,14 +4,14 @@ ghost use Rattle.std.specs.Prelude.{◌≡◌, ◌<◌, ◌≤◌};
 ghost use Rattle.errand_steps.specs.Points.{is_idle};
 
 use crate::view::View;
-use atomic_table::Seat;
+use atomic_region::Seat;
 use errand_steps::errand::Errand;
 
 /// A caller of a heap: a thread makes its calls with it, and no other thread with the same one. It can't
 /// be copied, cloned or made; `Heap::open` gives one for each caller.
 #[derive(Drop)]
 pub struct Pass {
-    pub(crate) seat: Seat<u8, View>,
+    pub(crate) seat: Seat<View>,
     pub(crate) errand: Errand,
 }
 

@@ -1,18 +1,19 @@
 //! The rule of the table, and what its steps tell whoever makes them.
 
 use crate::view::View;
-use atomic_table::{Join, Play, Split, TableRule};
+use atomic_region::{Play, RegionRule};
+use atomic_table::{Join, Split};
 use heap_geometry::geometry::Geometry;
 use std::marker::{Brand, PhantomData};
 
 /// The words, the errands and the longest list that was seen are a state that callers reach.
 pub struct Reachable;
 
-impl TableRule<u8, View, Geometry> for Reachable {
-    ghost use Rattle.live_heap.specs.Rule.{PlacesHold};
+impl RegionRule<View, Geometry> for Reachable {
+    ghost use Rattle.live_heap.specs.Rule.{MemoryHolds};
     ghost use Rattle.live_heap.specs.Views.{opening_view};
 
-    ghost holds = { PlacesHold };
+    ghost holds = { MemoryHolds };
 
     ghost first = { opening_view };
 }
@@ -35,7 +36,7 @@ pub struct Finds<E> {
     errand: PhantomData<E>,
 }
 
-impl<E: Doing> Play<u8, View> for Finds<E> {
+impl<E: Doing> Play<View> for Finds<E> {
     ghost use Rattle.live_heap.specs.Sights.{Saw};
 
     ghost then = { λ st before n after. Saw E.errand n before after };
@@ -46,7 +47,7 @@ pub struct Stores<E> {
     errand: PhantomData<E>,
 }
 
-impl<E: Doing> Play<u8, View> for Stores<E> {
+impl<E: Doing> Play<View> for Stores<E> {
     ghost use Rattle.std.specs.Prelude.{ℕ};
     ghost use Rattle.live_heap.specs.Sights.{Saw};
 

@@ -16,7 +16,7 @@ use crate::heap::Heap;
 use crate::pass::Pass;
 use crate::plays::{Doing, Finds, Stores};
 use crate::view::View;
-use atomic_table::Seat;
+use atomic_region::Seat;
 use errand_steps::errand::{Errand, plan};
 use errand_steps::told::{Stepped, told};
 use std::marker::Brand;
@@ -46,26 +46,27 @@ impl Heap {
     #[inline(always)]
     pub(crate) fn act<E: Doing>(
         &self,
-        seat: &mut Seat<u8, View>,
+        seat: &mut Seat<View>,
         _errand: &Errand,
         action: Action,
     ) -> Found
-        requires table { seat.old.table_id ≡ self.now.table.shared.table_id }
+        requires table { seat.old.region ≡ self.now.table.shared.id }
         requires busy { IsBusy E.errand }
         requires planned { action ≡ plan_of E.errand }
         requires there { Exists self.now.layout (name_of action) }
         requires sight { IsSightOf self.now.layout seat.old.me.0 E.errand }
-        ensures seat { (seat.new.table_id ≡ seat.old.table_id) × (seat.new.me.1 ≡ seat.old.me.1) }
+        ensures seat { (seat.new.region ≡ seat.old.region) × (seat.new.me.1 ≡ seat.old.me.1) }
         ensures step { HasFound E.errand result seat.old.me.0 seat.new.me.0 }
     {
         let shared = &self.table.shared;
+        let start = self.table.start();
         match action {
             Action::Load(name) => {
-                let value = shared.load::<Finds<E>>(seat, self.index(name));
+                let value = shared.load::<Finds<E>>(seat, start, self.index(name));
                 Found { value, won: true }
             }
             Action::Store(name, new) => {
-                shared.store::<Stores<E>>(seat, self.index(name), new);
+                shared.store::<Stores<E>>(seat, start, self.index(name), new);
                 Found {
                     value: new,
                     won: true,
@@ -74,6 +75,7 @@ impl Heap {
             Action::Cas(name, expected, new) => {
                 let value = shared.compare_exchange::<Finds<E>>(
                     seat,
+                    start,
                     self.index(name),
                     expected,
                     new,
@@ -84,11 +86,11 @@ impl Heap {
                 }
             }
             Action::Swap(name, new) => {
-                let value = shared.swap::<Finds<E>>(seat, self.index(name), new);
+                let value = shared.swap::<Finds<E>>(seat, start, self.index(name), new);
                 Found { value, won: true }
             }
             Action::And(name, mask) => {
-                let value = shared.fetch_and::<Finds<E>>(seat, self.index(name), mask);
+                let value = shared.fetch_and::<Finds<E>>(seat, start, self.index(name), mask);
                 Found { value, won: true }
             }
         }

@@ -15,7 +15,7 @@ use crate::heap::Heap;
 use crate::pass::Pass;
 use crate::plays::Doing;
 use crate::view::View;
-use atomic_table::Seat;
+use atomic_region::Seat;
 use errand_steps::continuation::Continuation;
 use errand_steps::errand::{Errand, plan};
 use errand_steps::reply::Progress;
@@ -30,18 +30,18 @@ impl Heap {
     #[inline(always)]
     fn step_at<E: Doing>(
         &self,
-        seat: &mut Seat<u8, View>,
+        seat: &mut Seat<View>,
         _errand: &Errand,
         action: Action,
         _at: &BlockPoint,
         _goes: &Continuation,
     ) -> Found
-        requires table { seat.old.table_id ≡ self.now.table.shared.table_id }
+        requires table { seat.old.region ≡ self.now.table.shared.id }
         requires named { E.errand ≡ record _errand.now { point = point.Block _at.now _goes.now } }
         requires planned { action ≡ plan_block_of _at.now }
         requires rule { IsErrand E.errand }
         requires sight { IsSightOf self.now.layout seat.old.me.0 E.errand }
-        ensures seat { (seat.new.table_id ≡ seat.old.table_id) × (seat.new.me.1 ≡ seat.old.me.1) }
+        ensures seat { (seat.new.region ≡ seat.old.region) × (seat.new.me.1 ≡ seat.old.me.1) }
         ensures step { HasFound E.errand result seat.old.me.0 seat.new.me.0 }
     {
         self.act::<E>(seat, _errand, action)

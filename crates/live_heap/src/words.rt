@@ -15,7 +15,7 @@ use crate::heap::Heap;
 use crate::pass::Pass;
 use crate::plays::{Doing, Finds, Stores};
 use crate::view::View;
-use atomic_table::Seat;
+use atomic_region::Seat;
 use errand_steps::errand::Errand;
 use heap_geometry::need::Need;
 use std::marker::Brand;
@@ -47,49 +47,51 @@ impl Heap {
     /// Stores a usable word, as the one step of a write, which `E` names for the proof.
     fn store_word<E: Doing>(
         &self,
-        seat: &mut Seat<u8, View>,
+        seat: &mut Seat<View>,
         _errand: &Errand,
         place: u32,
         _need: Need,
         i: u32,
         v: u64,
     )
-        requires table { seat.old.table_id ≡ self.now.table.shared.table_id }
+        requires table { seat.old.region ≡ self.now.table.shared.id }
         requires named { E.errand ≡ begun_by _errand.now (write place _need i v) }
         requires inside { place + 1 + i < arena_words self.now.layout }
         requires sight { IsSightOf self.now.layout seat.old.me.0 E.errand }
-        ensures seat { (seat.new.table_id ≡ seat.old.table_id) × (seat.new.me.1 ≡ seat.old.me.1) }
+        ensures seat { (seat.new.region ≡ seat.old.region) × (seat.new.me.1 ≡ seat.old.me.1) }
         ensures step { (n : ℕ) × TakesStep (begun_by _errand.now (write place _need i v)) n seat.old.me.0 seat.new.me.0 }
     {
         let word = self.payload(place, i);
-        self.table.shared.store::<Stores<E>>(seat, word, v);
+        let start = self.table.start();
+        self.table.shared.store::<Stores<E>>(seat, start, word, v);
     }
 
     /// Loads a usable word, as the one step of a read, which `E` names for the proof.
     fn load_word<E: Doing>(
         &self,
-        seat: &mut Seat<u8, View>,
+        seat: &mut Seat<View>,
         _errand: &Errand,
         place: u32,
         _need: Need,
         i: u32,
     ) -> u64
-        requires table { seat.old.table_id ≡ self.now.table.shared.table_id }
+        requires table { seat.old.region ≡ self.now.table.shared.id }
         requires named { E.errand ≡ begun_by _errand.now (read place _need i) }
         requires inside { place + 1 + i < arena_words self.now.layout }
         requires sight { IsSightOf self.now.layout seat.old.me.0 E.errand }
-        ensures seat { (seat.new.table_id ≡ seat.old.table_id) × (seat.new.me.1 ≡ seat.old.me.1) }
+        ensures seat { (seat.new.region ≡ seat.old.region) × (seat.new.me.1 ≡ seat.old.me.1) }
         ensures step { TakesStep (begun_by _errand.now (read place _need i)) result seat.old.me.0 seat.new.me.0 }
     {
         let word = self.payload(place, i);
-        self.table.shared.load::<Finds<E>>(seat, word)
+        let start = self.table.start();
+        self.table.shared.load::<Finds<E>>(seat, start, word)
     }
 
     /// Where a usable word of the block at this place lies in memory, which begins with the arena.
     fn payload(&self, place: u32, i: u32) -> usize
         requires { place + 1 + i < arena_words self.now.layout }
         ensures place { result ≡ place + 1 + i }
-        ensures within { result < self.now.table.shared.table_id.words }
+        ensures within { result < self.now.table.shared.id.words }
     {
         place as usize + 1 + i as usize
     }

@@ -153,7 +153,7 @@ gathered-all h id own words slots final count passes g = record {
 
 -- a pass of a heap is one of the heap that has the same table and the same numbers
 of-same :
-    (h k : Heap) (p : Pass) → h.table.shared.table_id ≡ k.table.shared.table_id → h.layout ≡ k.layout → IsOf h p → IsOf k p
+    (h k : Heap) (p : Pass) → h.table.shared.id ≡ k.table.shared.id → h.layout ≡ k.layout → IsOf h p → IsOf k p
 of-same h k p table layout of =
     record {
       table = of.table ∙ table;
@@ -167,12 +167,12 @@ of-same h k p table layout of =
     }
 
 pub given-same :
-    (h k : Heap) (place : ℕ) (p : Pass) → h.table.shared.table_id ≡ k.table.shared.table_id → h.layout ≡ k.layout
+    (h k : Heap) (place : ℕ) (p : Pass) → h.table.shared.id ≡ k.table.shared.id → h.layout ≡ k.layout
     → IsGiven h place p → IsGiven k place p
 given-same h k place p table layout given = (of-same h k p table layout given.0, given.1, given.2)
 
 knows-same :
-    (h k : Heap) (v : Stand) (place word : ℕ) (home : mathlib.Core.Option.Option (Option Pass)) → h.table.shared.table_id ≡ k.table.shared.table_id
+    (h k : Heap) (v : Stand) (place word : ℕ) (home : mathlib.Core.Option.Option (Option Pass)) → h.table.shared.id ≡ k.table.shared.id
     → h.layout ≡ k.layout → Knows h v place word home → Knows k v place word home
 knows-same h k (stand.Deals next) place word home table layout it = it
 knows-same h k (stand.Waits caller) place word home table layout it = it
@@ -180,7 +180,7 @@ knows-same h k (stand.Takes caller) place word home table layout it = it
 knows-same h k (stand.Laid p) place word home table layout it = (it.0, it.1, given-same h k place p table layout it.2)
 
 stood-same :
-    (h k : Heap) (own : Pass) (s : PlaceState) → h.table.shared.table_id ≡ k.table.shared.table_id → h.layout ≡ k.layout
+    (h k : Heap) (own : Pass) (s : PlaceState) → h.table.shared.id ≡ k.table.shared.id → h.layout ≡ k.layout
     → StoodWith h own s → StoodWith k own s
 stood-same h k own s table layout stood = record {
   id = stood.id;
@@ -198,7 +198,7 @@ stood-same h k own s table layout stood = record {
 }
 
 pub gathered-same :
-    (h k : Heap) (own : Pass) (passes : List Pass) → h.table.shared.table_id ≡ k.table.shared.table_id → h.layout ≡ k.layout
+    (h k : Heap) (own : Pass) (passes : List Pass) → h.table.shared.id ≡ k.table.shared.id → h.layout ≡ k.layout
     → HasGathered h own passes → HasGathered k own passes
 gathered-same h k own passes table layout g = record {
   state = g.state;

@@ -1,8 +1,7 @@
-use Rattle.std.proofs.Common.{◌≡◌, ℕ, zero, suc, List, [], ◌∷◌, sym, ap, ◌∙◌, subst}
+use Rattle.std.proofs.Common.{◌<◌, List, length, sym, ap, ◌∙◌, subst, arith}
+use Rattle.std.proofs.lemmas.List.{length-map}
 use Rattle.std.specs.Prelude.{slice_index}
-use mathlib.Core.Option.{some, some-injective, some-ne-none}
-use lib.ListN.{get_elem?}
-use Rattle.std.specs.Slots.{slots_items}
+use Rattle.plain_words.specs.Places.{Place, number, numbers, IsLaid}
 use Rattle.placed_words.specs.Places.{words_at}
 use Rattle.placed_words.proofs.WordsLemmas.{at-words_at}
 use Rattle.word_table.proofs.TableLemmas.{word_index-within}
@@ -10,20 +9,26 @@ use Rattle.word_table.specs.Table.{Exists, word_index}
 use Rattle.word_table.specs.Words.{word_in}
 use Rattle.word_table.proofs.WordLemmas.{word_in-there}
 use Rattle.live_heap.specs.Endings.{ClosedFields}
+use Rattle.live_heap.proofs.Laid.{is-laid, read-number}
 use Rattle.live_heap.proofs.closed.Closed.word.Goals as goal
 
-read : (l : List ℕ) (i n : ℕ) → get_elem? l i ≡ some n → n ≡ slice_index l i
-read [] i n e = absurd (some-ne-none n (sym e))
-read (x ∷ xs) zero n e = sym (some-injective x n e)
-read (x ∷ xs) (suc i) n e = read xs i n e
+pub word-requires : goal.word-requires
+word-requires c =
+    let ps = c.self.inside.room.plain.places in
+    let placed = numbers ps in
+    let i = c.place.result in
+    let inv = c.self.invariant in
+    let below : i < length placed = omega (arith, c.place.ensures.within, length-map ps number, inv.len) in
+    subst (λ (qs : List Place). IsLaid qs i) (sym inv.laid) (is-laid placed i below)
 
 pub returns : goal.returns
 returns c =
     let E : ClosedFields → Type 0 = λ w. Exists w.geometry c.args.name in
     let there = subst E (sym c.self.view_is) c.requires in
     let g = c.self.inside.layout in
-    let placed = slots_items c.self.inside.table.words in
-    read placed c.place.result c.word.result c.word.ensures
+    let ps = c.self.inside.room.plain.places in
+    let placed = numbers ps in
+    read-number ps c.place.result c.word.result c.word.ensures
     ∙ (ap (slice_index placed) c.place.ensures.place
     ∙ (sym (at-words_at g placed (word_index g c.args.name) (word_index-within g c.args.name there))
     ∙ (sym (word_in-there g (words_at g placed) c.args.name there)

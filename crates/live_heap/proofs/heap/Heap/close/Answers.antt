@@ -1,64 +1,70 @@
-use Rattle.std.proofs.Common.{ℕ, List, slice_index_or, refl, sym, subst, rules}
-use Rattle.std.specs.Slots.{slots_items}
-use Rattle.atomic_table.specs.declared.shared.Seat.{Seat}
+use Rattle.std.proofs.Common.{◌≡◌, ℕ, List, length, slice_index_or, sym, ap, ◌∙◌, subst}
+use Rattle.std.proofs.lemmas.List.{length-map}
+use Rattle.plain_words.specs.Places.{Place, laid, laids, numbers}
+use Rattle.atomic_region.specs.declared.shared.Seat.{Seat}
 use Rattle.placed_words.specs.Places.{words_at}
 use Rattle.heap_geometry.specs.declared.geometry.Geometry.{Geometry}
 use Rattle.live_heap.specs.declared.view.View.{View}
 use Rattle.live_heap.specs.Endings.{HasAccesses, HasTakenIn, IsCounted, IsResting, closed_with}
-use Rattle.live_heap.specs.Rule.{KeptTable}
 use Rattle.live_heap.proofs.Ending.{IsLast, last-accesses, last-rests, last-counted, last-taken}
 use Rattle.live_heap.proofs.Gathering.{idle-at}
+use Rattle.live_heap.proofs.Laid.{numbers-laids}
 use Rattle.live_heap.proofs.heap.Heap.close.Goals as goal
-use Rattle.live_heap.proofs.heap.Heap.close.Goals.{After-close_with}
+use Rattle.live_heap.proofs.heap.Heap.close.Goals.{After-end-room}
+
+-- all words at the end are laid
+laid_in : (c : goal.After-end-room) → let ps : List Place = c.end-room.result.0.plain.places in ps ≡ laids c.end-room.ensures.last.1.0.0
+laid_in c = let f = c.end-room.ensures.last in sym f.2 ∙ f.1.0.2
+
+read_in : (c : goal.After-end-room) → numbers c.end-room.result.0.plain.places ≡ c.end-room.ensures.last.1.0.0
+read_in c = ap numbers (laid_in c) ∙ numbers-laids c.end-room.ensures.last.1.0.0
 
 -- the words at the end, and the view of the seat that took all passes in
-last : (c : goal.After-close_with) → IsLast c.args.self.layout (words_at c.args.self.layout (slots_items c.close_with.result.words)) c.gather-seat.result.seat.me.0
+last : (c : goal.After-end-room) → IsLast c.end-room.result.1 (words_at c.end-room.result.1 (numbers c.end-room.result.0.plain.places)) c.gather-seat.result.seat.me.0
 last c =
-    let g = c.args.self.layout in
-    let f = c.close_with.ensures.values.2 in
-    let s = f.0 in
+    let g = c.end-room.result.1 in
+    let f = c.end-room.ensures.last in
     let seat = c.gather-seat.result.seat in
-    let kept : KeptTable g (words_at g s.words) s.views = subst (λ (k : Geometry). KeptTable k (words_at k s.words) s.views) c.args.self.laid.2 f.1.0.1 in
-    subst (λ (ws : List ℕ). IsLast g (words_at g ws) seat.me.0) f.2
-    (record { views = s.views; id = seat.id; kept = kept; at = f.1.1; all = c.gather-seat.ensures.all })
+    subst (λ (ws : List ℕ). IsLast g (words_at g ws) seat.me.0) (sym (read_in c))
+    (record { views = f.0.views; id = seat.id; kept = f.1.0.1.1; at = f.1.1; all = c.gather-seat.ensures.all ∙ sym (ap (λ (h : Geometry). h.callers) c.end-room.ensures.layout) })
 
-rests : (c : goal.After-close_with) → IsResting (closed_with c.args.self.layout (words_at c.args.self.layout (slots_items c.close_with.result.words)) c.of-last.result.value.me.0)
+rests : (c : goal.After-end-room) → IsResting (closed_with c.end-room.result.1 (words_at c.end-room.result.1 (numbers c.end-room.result.0.plain.places)) c.of-last.result.value.me.0)
 rests c =
-    let g = c.args.self.layout in
+    let g = c.end-room.result.1 in
     let seat = c.gather-seat.result.seat in
-    subst (λ (x : Seat ℕ View). IsResting (closed_with g (words_at g (slots_items c.close_with.result.words)) x.me.0)) (sym c.of-last.ensures)
-    (last-rests g (words_at g (slots_items c.close_with.result.words)) seat.me.0 (last c) (idle-at seat.me.0.callers c.gather-seat.ensures.idle))
+    subst (λ (x : Seat View). IsResting (closed_with g (words_at g (numbers c.end-room.result.0.plain.places)) x.me.0)) (sym c.of-last.ensures)
+    (last-rests g (words_at g (numbers c.end-room.result.0.plain.places)) seat.me.0 (last c) (idle-at seat.me.0.callers c.gather-seat.ensures.idle))
 
-counted : (c : goal.After-close_with) → IsCounted (closed_with c.args.self.layout (words_at c.args.self.layout (slots_items c.close_with.result.words)) c.of-last.result.value.me.0) c.gather-seat.result.won c.gather-seat.result.lost
+counted : (c : goal.After-end-room) → IsCounted (closed_with c.end-room.result.1 (words_at c.end-room.result.1 (numbers c.end-room.result.0.plain.places)) c.of-last.result.value.me.0) c.gather-seat.result.won c.gather-seat.result.lost
 counted c =
-    let g = c.args.self.layout in
+    let g = c.end-room.result.1 in
     let seat = c.gather-seat.result.seat in
-    subst (λ (x : Seat ℕ View). IsCounted (closed_with g (words_at g (slots_items c.close_with.result.words)) x.me.0) c.gather-seat.result.won c.gather-seat.result.lost) (sym c.of-last.ensures)
-    (last-counted g (words_at g (slots_items c.close_with.result.words)) seat.me.0 (last c) c.gather-seat.result.won c.gather-seat.result.lost c.gather-seat.ensures.won_is c.gather-seat.ensures.lost_is)
+    subst (λ (x : Seat View). IsCounted (closed_with g (words_at g (numbers c.end-room.result.0.plain.places)) x.me.0) c.gather-seat.result.won c.gather-seat.result.lost) (sym c.of-last.ensures)
+    (last-counted g (words_at g (numbers c.end-room.result.0.plain.places)) seat.me.0 (last c) c.gather-seat.result.won c.gather-seat.result.lost c.gather-seat.ensures.won_is c.gather-seat.ensures.lost_is)
 
 pub invariant_of-result : goal.invariant_of-result
-invariant_of-result c = record { full = search rules; len = search rules; bare = search rules; rests = rests c; counts = counted c }
+invariant_of-result c = record { laid = laid_in c ∙ ap laids (sym (read_in c)); len = ap length (laid_in c) ∙ length-map c.end-room.ensures.last.1.0.0 laid ∙ c.end-room.ensures.last.1.0.1.0; rests = rests c; counts = counted c }
 
 pub returns-clause-rests : goal.returns-clause-rests
 returns-clause-rests c = rests c
 
 pub returns-clause-accesses : goal.returns-clause-accesses
 returns-clause-accesses c =
-    let g = c.args.self.layout in
+    let g = c.end-room.result.1 in
     let seat = c.gather-seat.result.seat in
-    subst (λ (x : Seat ℕ View). HasAccesses (closed_with g (words_at g (slots_items c.close_with.result.words)) x.me.0) c.args.passes.items)
+    subst (λ (x : Seat View). HasAccesses (closed_with g (words_at g (numbers c.end-room.result.0.plain.places)) x.me.0) c.args.passes.items)
     (sym c.of-last.ensures)
-    (last-accesses g (words_at g (slots_items c.close_with.result.words)) seat.me.0 (last c) (idle-at seat.me.0.callers c.gather-seat.ensures.idle)
+    (last-accesses g (words_at g (numbers c.end-room.result.0.plain.places)) seat.me.0 (last c) (idle-at seat.me.0.callers c.gather-seat.ensures.idle)
     c.args.passes.items c.gather-seat.ensures.each)
 
 pub returns-clause-closed : goal.returns-clause-closed
 returns-clause-closed c =
-    let g = c.args.self.layout in
+    let g = c.end-room.result.1 in
     let seat = c.gather-seat.result.seat in
     record {
-      heap = refl;
+      heap = c.end-room.ensures.layout;
       each = λ k d l.
-          subst (λ (x : Seat ℕ View). HasTakenIn (closed_with g (words_at g (slots_items c.close_with.result.words)) x.me.0) (slice_index_or c.args.passes.items k d))
+          subst (λ (x : Seat View). HasTakenIn (closed_with g (words_at g (numbers c.end-room.result.0.plain.places)) x.me.0) (slice_index_or c.args.passes.items k d))
           (sym c.of-last.ensures)
-          (last-taken g (words_at g (slots_items c.close_with.result.words)) seat.me.0 (last c) (slice_index_or c.args.passes.items k d) (c.gather-seat.ensures.each k d l));
+          (last-taken g (words_at g (numbers c.end-room.result.0.plain.places)) seat.me.0 (last c) (slice_index_or c.args.passes.items k d) (c.gather-seat.ensures.each k d l));
     }

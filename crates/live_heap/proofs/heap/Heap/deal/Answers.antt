@@ -1,6 +1,6 @@
 use Rattle.std.proofs.Common.{◌≡◌, ℕ, ◌+◌, ◌-◌, ◌<◌, List, [], ◌∷◌, length, sym, ap, ◌∙◌, subst, arith, rules}
 use Rattle.heap_geometry.specs.declared.geometry.Geometry.{Geometry}
-use Rattle.atomic_table.specs.Table.{Me}
+use Rattle.atomic_region.specs.Region.{Me}
 use Rattle.errand_steps.specs.Errands.{ErrandFields, open_errand}
 use Rattle.live_heap.specs.declared.pass.Pass.{Pass}
 use Rattle.live_heap.specs.declared.view.Standing.{Standing}
@@ -8,7 +8,8 @@ use Rattle.live_heap.specs.declared.view.View.{View}
 use Rattle.live_heap.specs.Passes.{AreFrom}
 use Rattle.live_heap.specs.Views.{first_part, other_part, idle_standing, idles_from}
 use Rattle.placed_words.proofs.StepLemmas.{splits-at_places}
-use Rattle.live_heap.specs.Rule.{TableHolds}
+use Rattle.live_heap.specs.Rule.{TableHolds, WordsHold}
+use Rattle.atomic_region.proofs.Beside.{splits_as_before}
 use Rattle.live_heap.proofs.Seats.{some-words, splits}
 use Rattle.live_heap.proofs.Dealt.{idles-more, fresh, AreFrom-push}
 use Rattle.live_heap.proofs.heap.Heap.deal.Goals as goal
@@ -17,7 +18,11 @@ pub split_seat-next-requires : goal.split_seat-next-requires
 split_seat-next-requires c =
     let h = c.args.self.now in
     let some = some-words h.layout in
-    (c.loop-caller.invariant.table, omega (arith, some, h.laid.0), splits-at_places h.table.shared.key (TableHolds h.table.shared.key) c.loop-caller.rest.id c.loop-caller.rest.me.0 _ _ (splits h.table.shared.key c.loop-caller.rest.id c.loop-caller.rest.me.0))
+    let below : 0 < h.table.shared.id.words = omega (arith, some, h.laid.0) in
+    let key = h.table.shared.key in
+    let id = c.loop-caller.rest.id in
+    let v = c.loop-caller.rest.me.0 in
+    (c.loop-caller.invariant.table, c.start-start.ensures, below, splits_as_before (WordsHold key) h.table.shared.id.words 0 id v below {S = ℕ} _ _ (splits-at_places key (TableHolds key) id v _ _ (splits key id v)))
 
 pub loop-caller-preserved : goal.loop-caller-preserved
 loop-caller-preserved c =
@@ -32,17 +37,17 @@ loop-caller-preserved c =
     let some_left : 0 < left = omega (arith, many, c.loop-caller-test.true) in
     let more = idles-more g n left some_left in
     let one_less : left - 1 ≡ g.callers - (n + 1) = omega arith in
-    let V : List Standing → Me ℕ View = λ l. (record { callers = l; seen = []; wins = [] }, []) in
+    let V : List Standing → Me View = λ l. (record { callers = l; seen = []; wins = [] }, []) in
     let now : c.loop-caller.rest.me ≡ V (idle_standing g n ∷ idles_from g (n + 1) (g.callers - (n + 1))) =
     i.me ∙ ap V (more ∙ ap (λ (k : ℕ). idle_standing g n ∷ idles_from g (n + 1) k) one_less) in
     let p : Pass = record { seat = c.split_seat-next.new.seat; errand = c.open.result } in
     let errand : c.open.result ≡ open_errand n g = c.open.ensures ∙ ap (open_errand n) same in
     let has : n < g.callers = omega (arith, some_left) in
-    let is_fresh = fresh h p n has (s.0 ∙ i.table) (s.2 ∙ ap (λ (m : Me ℕ View). (first_part m.0, m.1)) now) errand in
+    let is_fresh = fresh h p n has (s.old.0 ∙ i.table) (s.old.2 ∙ ap (λ (m : Me View). (first_part m.0, m.1)) now) errand in
     let number : c.open.result.caller ≡ 0 + length c.loop-caller.passes.items = ap (λ (e : ErrandFields). e.caller) errand ∙ omega (arith, i.len) in
     record {
-      table = s.3 ∙ i.table;
-      me = s.4 ∙ ap (λ (m : Me ℕ View). (other_part m.0, [])) now;
+      table = s.new.0 ∙ i.table;
+      me = s.new.1 ∙ ap (λ (m : Me View). (other_part m.0, [])) now;
       dealt = subst (λ (l : List Pass). AreFrom h 0 l) (sym c.push_reserved.ensures.items) (AreFrom-push h 0 c.loop-caller.passes.items p i.dealt is_fresh number);
       len = search rules;
       room = search rules;

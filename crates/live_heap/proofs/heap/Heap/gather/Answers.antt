@@ -1,15 +1,16 @@
 use Rattle.std.specs.Prelude.{option_to_list, sum_by}
 use Rattle.std.proofs.lemmas.List.Sums.{sum_by-append}
-use Rattle.std.proofs.Common.{◌≡◌, ℕ, List, [], ◌∷◌, ◌++◌, length, All, sym, ap, ◌∙◌, subst, arith, length-append, append_assoc}
+use Rattle.std.proofs.Common.{◌≡◌, ◌<◌, ℕ, List, [], ◌∷◌, ◌++◌, length, All, sym, ap, ◌∙◌, subst, arith, length-append, append_assoc}
 use Rattle.errand_steps.specs.Begins.{IsIdle}
-use Rattle.atomic_table.specs.Table.{Me}
+use Rattle.atomic_region.specs.Region.{Me}
 use Rattle.live_heap.specs.declared.view.Standing.{Standing}
 use Rattle.live_heap.specs.declared.view.View.{View}
 use Rattle.live_heap.specs.declared.pass.Pass.{Pass}
 use Rattle.live_heap.specs.Endings.{IsIn}
 use Rattle.live_heap.specs.Passes.{IsOf}
 use Rattle.placed_words.proofs.StepLemmas.{joins-at_places}
-use Rattle.live_heap.specs.Rule.{TableHolds}
+use Rattle.live_heap.specs.Rule.{TableHolds, WordsHold}
+use Rattle.atomic_region.proofs.Beside.{joins_as_before}
 use Rattle.live_heap.proofs.Seats.{joins, some-words}
 use Rattle.live_heap.proofs.Gathering.{front, last, one-idle, one-sum, all-idle, is_in-itself, more-in, one-in}
 use Rattle.live_heap.proofs.heap.Heap.gather.Goals as goal
@@ -22,7 +23,13 @@ join_seat-requires c =
     let taken = subst (λ (l : List Pass). All P l) c.in-Some.ensures.items i.others in
     let mine = last (λ (p : Pass). IsOf h p × IsIdle p.errand) c.pop-in-loop-pass.new.self.items c.in-Some.pass taken in
     let some = some-words h.layout in
-    (i.table, mine.0.table, mine.0.empty, omega (arith, some, h.laid.0), joins-at_places h.table.shared.key (TableHolds h.table.shared.key) c.loop-pass.seat.id c.loop-pass.seat.me.0 c.in-Some.pass.seat.id c.in-Some.pass.seat.me.0 _ _ (joins h.table.shared.key c.loop-pass.seat.id c.loop-pass.seat.me.0 c.in-Some.pass.seat.id c.in-Some.pass.seat.me.0))
+    let below : 0 < h.table.shared.id.words = omega (arith, some, h.laid.0) in
+    let key = h.table.shared.key in
+    let id = c.loop-pass.seat.id in
+    let v = c.loop-pass.seat.me.0 in
+    let from = c.in-Some.pass.seat.id in
+    let w = c.in-Some.pass.seat.me.0 in
+    (i.table, mine.0.table, c.start-start.ensures, below, joins_as_before (WordsHold key) h.table.shared.id.words 0 id v below {S = ℕ} from w _ _ (joins-at_places key (TableHolds key) id v from w _ _ (joins key id v from w)))
 
 pub loop-pass-preserved : goal.loop-pass-preserved
 loop-pass-preserved c =
@@ -33,7 +40,7 @@ loop-pass-preserved c =
     let mine = last (λ (p : Pass). IsOf h p × IsIdle p.errand) c.pop-in-loop-pass.new.self.items c.in-Some.pass taken in
     let one = one-idle h c.in-Some.pass mine.0 mine.1 in
     let j = c.join_seat.ensures in
-    let errands : c.join_seat.new.seat.me.0.callers ≡ c.loop-pass.seat.me.0.callers ++ c.in-Some.pass.seat.me.0.callers = ap (λ (m : Me ℕ View). m.0.callers) j.2 in
+    let errands : c.join_seat.new.seat.me.0.callers ≡ c.loop-pass.seat.me.0.callers ++ c.in-Some.pass.seat.me.0.callers = ap (λ (m : Me View). m.0.callers) j.2 in
     let n = length-append c.loop-pass.seat.me.0.callers c.in-Some.pass.seat.me.0.callers in
     let was = ap length c.in-Some.ensures.items in
     let m = length-append c.pop-in-loop-pass.new.self.items (c.in-Some.pass ∷ []) in
@@ -50,10 +57,10 @@ loop-pass-preserved c =
       among = (
         c.in-Some.pass ∷ i.among.0,
         i.among.1 ∙ (ap (λ (l : List Pass). l ++ i.among.0) c.in-Some.ensures.items ∙ append_assoc c.pop-in-loop-pass.new.self.items (c.in-Some.pass ∷ []) i.among.0),
-        subst (λ (v : View). All (IsIn v) (c.in-Some.pass ∷ i.among.0)) (sym (ap (λ (m : Me ℕ View). m.0) j.2)) (more-in c.loop-pass.seat.me.0 c.in-Some.pass.seat.me.0 c.in-Some.pass i.among.0 (is_in-itself h c.in-Some.pass mine.0 mine.1) i.among.2),
+        subst (λ (v : View). All (IsIn v) (c.in-Some.pass ∷ i.among.0)) (sym (ap (λ (m : Me View). m.0) j.2)) (more-in c.loop-pass.seat.me.0 c.in-Some.pass.seat.me.0 c.in-Some.pass i.among.0 (is_in-itself h c.in-Some.pass mine.0 mine.1) i.among.2),
       );
       table = j.0 ∙ i.table;
-      empty = ap (λ (m : Me ℕ View). m.1) j.2 ∙ i.empty;
+      empty = ap (λ (m : Me View). m.1) j.2 ∙ i.empty;
       count = omega (arith, n, m, was, now, one.1, i.count);
       others = front (λ (p : Pass). IsOf h p × IsIdle p.errand) c.pop-in-loop-pass.new.self.items c.in-Some.pass taken;
       idle = subst (λ (l : List Standing). All (λ (x : Standing). IsIdle x.errand) l) (sym errands) (all-idle c.loop-pass.seat.me.0.callers c.in-Some.pass.seat.me.0.callers i.idle one.0);

@@ -9,7 +9,7 @@ use Rattle.live_heap.proofs.heap.Heap.gather.Given as goal
 abbrev pub invariant-loop-pass : goal.invariant-loop-pass
 invariant-loop-pass l = record {
   among : (taken : List Pass) × (l.fn.passes.items ≡ l.passes.items ++ taken) × All (IsIn l.seat.me.0) taken;
-  table : l.seat.table_id ≡ l.self.table.shared.table_id;
+  table : l.seat.region ≡ l.self.table.shared.id;
   empty : l.seat.me.1 ≡ [];
   count : length l.seat.me.0.callers + length l.passes.items ≡ l.self.layout.callers;
   others : All (λ p. IsOf l.self p × IsIdle p.errand) l.passes.items;

@@ -15,7 +15,8 @@ store-requires g c =
     let h = c.args.self.now in
     let e = begun_by c.args._errand.now (write c.args.place c.args._need c.args.i c.args.v) in (
       r.table,
+      c.start-start.ensures,
       c.payload-word.ensures.within,
-      may-store h.table.shared.key h.layout _ c.args.seat.now.id c.args.seat.now.me r.sight.before g.E.Doing.errand e (Arena (c.args.place + 1 + c.args.i))
-          c.payload-word.result h.laid.2 (sym r.named) r.sight.one (subst (λ (f : ErrandFields). IsBegun c.args.seat.now.me.0.seen r.sight.before.errand f) r.named r.sight.begun) (write-busy c.args._errand.now c.args.place c.args._need c.args.i c.args.v) (word_index-within h.layout (Arena (c.args.place + 1 + c.args.i)) r.inside) (c.payload-word.ensures.place ∙ start-place h.layout (Arena (c.args.place + 1 + c.args.i)) h.checked r.inside) c.args.v (write-plan c.args._errand.now c.args.place c.args._need c.args.i c.args.v (arena-short h.layout _ h.checked r.inside)),
+      may-store h.table.shared.key h.layout h.table.shared.id.words c.args.seat.now.id c.args.seat.now.me r.sight.before g.E.Doing.errand e (Arena (c.args.place + 1 + c.args.i))
+          c.payload-word.result h.laid.1 (sym r.named) r.sight.one (subst (λ (f : ErrandFields). IsBegun c.args.seat.now.me.0.seen r.sight.before.errand f) r.named r.sight.begun) (write-busy c.args._errand.now c.args.place c.args._need c.args.i c.args.v) (word_index-within h.layout (Arena (c.args.place + 1 + c.args.i)) r.inside) (c.payload-word.ensures.place ∙ start-place h.layout (Arena (c.args.place + 1 + c.args.i)) h.checked r.inside) c.payload-word.ensures.within c.args.v (write-plan c.args._errand.now c.args.place c.args._need c.args.i c.args.v (arena-short h.layout _ h.checked r.inside)),
     )
