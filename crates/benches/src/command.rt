@@ -11,14 +11,14 @@ use std::alloc::{AllocError, Global};
 const WORDS: usize = 8;
 
 /// Steps of allocations of one word.
-#[derive(Clone, Copy, PartialEq, Eq)]
+#[derive(Clone, Copy)]
 pub struct Steps {
     /// Whether each block is freed behind its allocation.
     pub frees: bool,
 }
 
 /// What the threads do with a heap by whole calls.
-#[derive(Clone, Copy, PartialEq, Eq)]
+#[derive(Clone, Copy)]
 pub enum Task {
     /// Allocations of one word, each with its free behind it.
     Pairs,
@@ -31,7 +31,7 @@ pub enum Task {
 }
 
 /// Which calls are begun on the machine, and whose step is the next one.
-#[derive(Clone, Copy, PartialEq, Eq)]
+#[derive(Clone, Copy)]
 pub enum Mix {
     /// Each caller in turn asks for one usable word again and again, and frees nothing.
     Hold,
@@ -42,7 +42,7 @@ pub enum Mix {
 }
 
 /// How another caller of the heap goes on beside a store.
-#[derive(Clone, Copy, PartialEq, Eq)]
+#[derive(Clone, Copy)]
 pub enum Company {
     /// By turns, on one thread.
     ByTurns,
@@ -51,7 +51,7 @@ pub enum Company {
 }
 
 /// What is timed.
-#[derive(Clone, Copy, PartialEq, Eq)]
+#[derive(Clone, Copy)]
 pub enum Bench {
     /// Atomic accesses alone, on threads.
     Atomics,

@@ -66,7 +66,7 @@ fn run_unread<R: Threads + Wait + Sync>(
 
 #[test]
 fn workloads_read_nothing(rt: HostRuntime) -> Result<(), Fail> {
-    let input = b"heap 4 1 2\nend\n";
+    let input = "heap 4 1 2\nend\n".as_bytes();
     let cases = [
         ("make larson 1 1", Left::Shared),
         ("print larson 1 1", Left::Nothing),

@@ -78,7 +78,7 @@ fn other_words_are_no_command(rt: HostRuntime) -> Result<(), Fail> {
         "replay -x",
         "replay replay replay replay replay",
     ];
-    let input = b"heap 4 1 2\nend\n";
+    let input = "heap 4 1 2\nend\n".as_bytes();
     let all = Some(input.len());
     let uncalled = Uncalled {
         told: (USAGE, Left::Nothing),
@@ -131,7 +131,7 @@ fn run_failing_read<R: Threads + Wait + Sync>(
 /// Five reads bring the 48 bytes, and the sixth finds the end.
 #[test]
 fn a_failed_read_ends_the_run(rt: HostRuntime) -> Result<(), Fail> {
-    let input = b"heap 4 1 2\nlane\na 0 1 5\na 1 3 7\nc 1\nf 0\nf 1\nend\n";
+    let input = "heap 4 1 2\nlane\na 0 1 5\na 1 3 7\nc 1\nf 0\nf 1\nend\n".as_bytes();
     let report =
         "heap 4 1 2 lanes 1\nlane 0\ngiven 1\ngiven 3\nsum 24\nfreed\nfreed\nlive 0 words 0\n";
     let failed = (READ_FAULT, Left::Nothing);

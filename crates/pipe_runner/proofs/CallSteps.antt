@@ -40,6 +40,7 @@ use Rattle.block_pipe.specs.declared.pipe.Pipe.{Pipe}
 use Rattle.block_pipe.specs.declared.sender.Sender.{Sender}
 use Rattle.block_pipe.specs.Answers.{HasPutNext}
 use Rattle.block_pipe.specs.Notes.{shelf_for}
+use Rattle.pipe_runner.specs.EndCalls.{FoundFull, GaveNone, HasTried}
 use Rattle.pipe_runner.specs.Moves.{HasAllocated, HasHandedOver, KeepsBlocks}
 use Rattle.pipe_runner.proofs.MoveLemmas.{goes-here, goes-trans, whole-goes}
 
@@ -96,9 +97,9 @@ given-serves h p q block whole = pass-serves h h p q 3 block.place block.need wh
 
 -- an allocation that was given a block, behind others that were not
 pub has-allocated :
-    (h : Heap) (p q r : Pass) (block : Block) → KeepsBlocks h p q
+    (h : Heap) (p q r : Pass) (block : Block) → KeepsBlocks h p q → HasTried (GaveNone 3) p q
     → IsWhole h q (alloc 3) (reply.Given block.place block.need) h r → HasAllocated h p 3 block r
-has-allocated h p q r block before whole =
+has-allocated h p q r block before refused whole =
     let answer : Reply = reply.Given block.place block.need in
     let (made, may, same, rest) = whole in
     let changed = whole-changes h h q r (alloc 3) answer whole in
@@ -107,6 +108,9 @@ has-allocated h p q r block before whole =
         goes = goes-trans p q r before.moves.goes (whole-goes h q r (alloc 3) answer (ended.alloc_given 3 block.place) whole refl tt);
         rest = rest;
       };
+      last = q;
+      refused = refused;
+      gives = made;
       given = subst (λ (c : ℕ). owned_in r block.place ≡ Some (fresh c block)) before.moves.goes.caller changed.given.here;
       owned = pass-hands h h q r (alloc 3) answer block.place block.need whole (refl, refl);
       serves = given-serves h q r block whole;
@@ -236,9 +240,11 @@ three-usable = omega arith
 -- a put on the shelf that a sender had come to as its next one
 pub handed :
     (h : Heap) (pipe : Pipe) (p last q : Pass) (e f : Sender) (block left : Block) → KeepsBlocks h p last → OwnsSame p last → IsOf h q
-    → HasPutNext pipe f last left q → f ≡ e → left ≡ block → HasHandedOver h p block (shelf_for pipe.shelves e.number e.sent) q
-handed h pipe p last q e f block left keeps same of called end is = record {
+    → HasPutNext pipe f last left q → f ≡ e → left ≡ block → HasTried (FoundFull block (shelf_for pipe.shelves e.number e.sent)) p last
+    → HasHandedOver h p block (shelf_for pipe.shelves e.number e.sent) q
+handed h pipe p last q e f block left keeps same of called end is full = record {
   last = last;
+  full = full;
   keeps = keeps;
   same = same;
   called = subst (λ (b : Block). HasCalled last (put b.place b.need (shelf_for pipe.shelves e.number e.sent)) 0 reply.Put q) is

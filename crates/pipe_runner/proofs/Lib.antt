@@ -1,6 +1,7 @@
 pub mod Arriving
 pub mod CallSteps
 pub mod ClosedLemmas
+pub mod EndLemmas
 pub mod HandLemmas
 pub mod MessageLemmas
 pub mod MoveLemmas

@@ -18,10 +18,12 @@ use Rattle.block_pipe.specs.declared.pipe.Pipe.{Pipe}
 use Rattle.block_pipe.specs.declared.sender.Sender.{Sender}
 use Rattle.block_pipe.specs.Ends.{AreNewFrom, IsSender, pushed_by}
 use Rattle.pipe_runner.specs.declared.sender.SenderThread.{SenderThread}
+use Rattle.pipe_runner.specs.EndCalls.{SendsAll}
 use Rattle.pipe_runner.specs.Messages.{contents_of, fold_of}
 use Rattle.pipe_runner.specs.Receivers.{HasTaken}
 use Rattle.pipe_runner.specs.Runs.{AreDone, HasDone}
 use Rattle.pipe_runner.specs.Senders.{AreSending, HasSent, IsBetween, IsSending, PutsWithin}
+use Rattle.pipe_runner.proofs.EndLemmas.{sends-none}
 
 pub fresh-rest : (h : Heap) (p : Pass) → IsFresh h p → IsAtRest h p
 fresh-rest h p fresh = (fresh.of, subst (λ (e : ErrandFields). IsIdle e) (sym fresh.errand) refl)
@@ -103,6 +105,7 @@ module _ (passed : ℕ → ℕ → Type 0) (h : Heap) (pipe : Pipe) (start : ℕ
     pending = pending;
     caller = caller ∙ sym number;
     pushed = ap length pushed;
+    calls = sends-none h start s.number (pushed_by s) p fresh pushed;
     has = fresh-sent passed h pipe.senders start p fresh;
   })
 
@@ -132,4 +135,5 @@ module _ (passed : ℕ → ℕ → Type 0) (h : Heap) (pipe : Pipe) (start : ℕ
     number_is = here;
     pending = is.pending;
     pushed = is.pushed;
+    calls = subst (λ (k : ℕ). SendsAll h start k (pushed_by w.end) w.pass) here is.calls;
   }

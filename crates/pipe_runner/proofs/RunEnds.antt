@@ -1,5 +1,5 @@
 -- How a run of a pipeline begins and ends.
-use Rattle.std.proofs.Common.{ℕ, ◌≡◌, ◌<◌, ◌+◌, ◌++◌, List, [], ◌∷◌, length, sym, ap, ◌∙◌, subst, arith}
+use Rattle.std.proofs.Common.{ℕ, ◌≡◌, ◌<◌, ◌+◌, ◌++◌, List, [], ◌∷◌, length, refl, sym, ap, ◌∙◌, subst, arith}
 use Rattle.std.specs.Prelude.{All, slice_index}
 use Rattle.std.proofs.lemmas.List.{length-append}
 use Rattle.std.proofs.lemmas.List.Elements.{All-append, All-cons, All-nil}
@@ -8,7 +8,7 @@ use Rattle.pool_model.proofs.HistoryLemmas.{legal-weaker}
 use Rattle.errand_steps.specs.Begins.{IsIdle}
 use Rattle.live_heap.specs.declared.heap.Heap.{Heap}
 use Rattle.live_heap.specs.declared.pass.Pass.{Pass}
-use Rattle.live_heap.specs.Endings.{AreAllIdle, HasClosed, HasTakenIn, IsResting}
+use Rattle.live_heap.specs.Endings.{AreAllIdle, HasAccesses, HasClosed, HasTakenIn, IsResting}
 use Rattle.live_heap.specs.Passes.{AreFrom, IsFresh, IsOf}
 use Rattle.live_heap.proofs.LawsClosed.{closed-legal}
 use Rattle.block_pipe.specs.declared.note.Note.{Note}
@@ -19,11 +19,13 @@ use Rattle.block_pipe.specs.Logs.{HasLogged, HasSender}
 use Rattle.block_pipe.specs.Notes.{of_sender}
 use Rattle.pipe_runner.specs.declared.receiver.ReceiverThread.{ReceiverThread}
 use Rattle.pipe_runner.specs.declared.run.PipeRun.{PipeRun}
+use Rattle.pipe_runner.specs.EndCalls.{ReceivesAll}
 use Rattle.pipe_runner.specs.Receivers.{HasTaken, IsReceiving}
 use Rattle.pipe_runner.specs.Runs.{AreDone, IsPipeRun, pipe_heap}
+use Rattle.pipe_runner.proofs.EndLemmas.{receives-none}
 use Rattle.pipe_runner.proofs.MessageLemmas.{all-before}
 use Rattle.pipe_runner.proofs.PairLemmas.{done-as-many, fresh-taken, from-pop, push-long}
-use Rattle.pipe_runner.proofs.RunLemmas.{IsOverAll, done-distinct, done-ends, done-find, done-idle, over-all-equal, over-all-folds, over-all-gate, over-all-messages, over-all-nothing, over-all-quiet}
+use Rattle.pipe_runner.proofs.RunLemmas.{IsOverAll, done-distinct, done-ends, done-find, done-idle, over-all-equal, over-all-folds, over-all-gate, over-all-messages, over-all-nothing, over-all-quiet, over-all-three}
 
 -- a new receiver's thread
 pub new-receiving :
@@ -36,6 +38,7 @@ new-receiving h pipe w shelves new fresh caller no_count no_fold = record {
   kept = new.kept;
   caller = caller;
   popped = λ k below. ap (λ (l : List Note). length (of_sender k l)) new.none ∙ sym (no_count k);
+  calls = λ three. receives-none h pipe.senders (popped_by w.end) (λ k. slice_index w.folds.numbers k) w.pass fresh new.none no_fold;
   has = fresh-taken h pipe.senders (λ k. slice_index w.counts.numbers k) (λ k. slice_index w.folds.numbers k) w.pass fresh no_count no_fold;
 }
 
@@ -61,9 +64,9 @@ module _ (passed : ℕ → ℕ → Type 0) (h : Heap) (pipe : Pipe) (start count
 
   pub run-over :
       (run : PipeRun) → h.layout ≡ pipe_heap pipe.senders → HasClosed h (ps ++ w.pass ∷ []) run.closed → IsResting run.closed
-      → HasLogged pipe es w.end run.log → run.folds ≡ w.folds → ((k : ℕ) → k < pipe.senders → slice_index w.counts.numbers k ≡ count)
+      → HasAccesses run.closed (ps ++ w.pass ∷ []) → HasLogged pipe es w.end run.log → run.folds ≡ w.folds → ((k : ℕ) → k < pipe.senders → slice_index w.counts.numbers k ≡ count)
       → IsPipeRun passed pipe.senders count start run
-  run-over run layout closed rests logged same all =
+  run-over run layout closed rests accesses logged same all =
       let c = run.closed in
       let n = pipe.senders in
       let folds : ℕ → ℕ = λ k. slice_index run.folds.numbers k in
@@ -97,6 +100,27 @@ module _ (passed : ℕ → ℕ → Type 0) (h : Heap) (pipe : Pipe) (start count
         folds = over-all-folds passed h n start count folds c over;
         nothing = over-all-nothing passed h n start count folds c over;
         gate = over-all-gate passed h n start count folds c over;
+        ran = (
+          h,
+          pipe,
+          record {
+            laid = layout;
+            senders_are = refl;
+            shelves_are = receiving.shelves;
+            passes = ps;
+            ends = es;
+            sent = done;
+            pass = w.pass;
+            end = w.end;
+            caller = receiving.caller;
+            received = subst (λ f. ReceivesAll h n (popped_by w.end) (λ k. slice_index f.numbers k) w.pass) (sym same)
+                (receiving.calls (over-all-three passed h n start count folds c over));
+            closed = closed;
+            accesses = accesses;
+            all = ends-all;
+            logged = logged;
+          },
+        );
       }
 
 -- the passes of a new heap: those of the senders, and the receiver's

@@ -169,13 +169,14 @@ module _ (passed : ℕ → ℕ → Type 0) (h : Heap) (n start count : ℕ) (fol
       ap contents_of (sent-closed c p k caller in_it)
       ∙ subst (λ (j : ℕ). contents_of (sent 8 j (seen p)) ≡ messages start j count) caller has.contents
 
+  pub over-all-three : (k : ℕ) → k < n → HaveThreeWords (taken n 8 k (seen o.r))
+  over-all-three k below =
+      let words = ap contents_of (over-all-equal k below) ∙ over-all-messages k below in
+      subst HaveThreeWords (taken-closed c o.r n k o.receiver o.in_it) (sent-three (taken n 8 k c.events) start k count words)
+
   pub over-all-folds : (k : ℕ) → k < n → folds k ≡ fold_of (taken n 8 k c.events)
   over-all-folds k below =
-      let same = taken-closed c o.r n k o.receiver o.in_it in
-      let words = ap contents_of (over-all-equal k below) ∙ over-all-messages k below in
-      let three : HaveThreeWords (taken n 8 k (seen o.r)) =
-      subst HaveThreeWords same (sent-three (taken n 8 k c.events) start k count words) in
-      o.took.fold k below three ∙ ap fold_of (sym same)
+      o.took.fold k below (over-all-three k below) ∙ ap fold_of (sym (taken-closed c o.r n k o.receiver o.in_it))
 
   pub over-all-nothing : pool_of c.events ≡ []
   over-all-nothing =

@@ -62,7 +62,7 @@ pub record HasOneMore (s : ℕ) (counts folds counts_now folds_now : ℕ → ℕ
   pub other_folds : (k : ℕ) → k ≢ s → folds_now k ≡ folds k
 
 -- what was taken of each sender, with the take of a sender's next block from its next shelf
-taken-here :
+pub taken-here :
     (n s place shelf : ℕ) (h now : List Event) (b : PoolBlock) → sender_of 8 shelf ≡ s → IsHandedAt n h now (Take n shelf place) place b
     → taken n 8 s now ≡ taken n 8 s h ++ parcel_of b ∷ []
 taken-here n s place shelf h now b home at =
@@ -71,7 +71,7 @@ taken-here n s place shelf h now b home at =
     ap (taken n 8 s) at.grows ∙ parcels-add (is_take_of n 8 s) (h ++ at.more) event (parcel_of b) (take-is n 8 s place shelf home) (ap parcels_in at.there)
     ∙ ap (λ (l : List Parcel). l ++ parcel_of b ∷ []) (parcels-none (is_take_of n 8 s) h at.more none)
 
-taken-else :
+pub taken-else :
     (n s place shelf : ℕ) (h now : List Event) (b : PoolBlock) → sender_of 8 shelf ≢ s → IsHandedAt n h now (Take n shelf place) place b
     → taken n 8 s now ≡ taken n 8 s h
 taken-else n s place shelf h now b away at =

@@ -1,3 +1,4 @@
+pub mod EndCalls
 pub mod Messages
 pub mod Moves
 pub mod Receivers

@@ -13,6 +13,7 @@ use Rattle.block_pipe.specs.Notes.{of_sender}
 use Rattle.pipe_runner.specs.declared.receiver.Arrival.{Arrival}
 use Rattle.pipe_runner.specs.declared.receiver.ReceiverThread.{ReceiverThread}
 use Rattle.pipe_runner.specs.declared.sender.TheConstants.{SHELVES_EACH}
+use Rattle.pipe_runner.specs.EndCalls.{ReceivesAll}
 use Rattle.pipe_runner.specs.Messages.{HaveThreeWords, fold_of}
 use Rattle.pipe_runner.specs.Moves.{HasTakenOff}
 use Rattle.pipe_runner.specs.Senders.{IsBetween}
@@ -32,11 +33,14 @@ pub record HasTaken (h : Heap) (senders : ℕ) (counts folds : ℕ → ℕ) (p :
   pub fold :
       (k : ℕ) → k < senders → HaveThreeWords (taken senders SHELVES_EACH k (seen p)) → folds k ≡ fold_of (taken senders SHELVES_EACH k (seen p))
 
--- the receiver's thread: it has taken as many blocks of each sender as it has popped notes
+-- the receiver's thread: it has taken as many blocks of each sender as it has popped notes; and if all that it has taken has three words each, all that it has done is to receive these
 pub record IsReceiving (h : Heap) (pipe : Pipe) (w : ReceiverThread) : Type 0 where
   pub shelves : pipe.shelves ≡ SHELVES_EACH
   pub end : IsReceiver pipe w.end
   pub kept : w.end.kept ≡ None
   pub caller : w.pass.errand.caller ≡ pipe.senders
   pub popped : (k : ℕ) → k < pipe.senders → length (of_sender k (popped_by w.end)) ≡ slice_index w.counts.numbers k
+  pub calls :
+      ((k : ℕ) → k < pipe.senders → HaveThreeWords (taken pipe.senders SHELVES_EACH k (seen w.pass)))
+      → ReceivesAll h pipe.senders (popped_by w.end) (λ k. slice_index w.folds.numbers k) w.pass
   pub has : HasTaken h pipe.senders (λ k. slice_index w.counts.numbers k) (λ k. slice_index w.folds.numbers k) w.pass

@@ -1,18 +1,21 @@
 -- A whole run of a pipeline.
-use Rattle.std.specs.Prelude.{ℕ, suc, ◌≡◌, ◌<◌, ◌≤◌, ◌+◌, List, [], ◌∷◌, None, length, slice_index, vec_capacity}
+use Rattle.std.specs.Prelude.{ℕ, suc, ◌≡◌, ◌<◌, ◌≤◌, ◌+◌, ◌++◌, List, [], ◌∷◌, None, length, slice_index, vec_capacity}
 use Rattle.heap_geometry.specs.declared.geometry.Geometry.{Geometry}
 use Rattle.heap_geometry.specs.declared.limits.TheConstants.{MAX_TURNS}
 use Rattle.pool_model.specs.Pool.{pool_of}
 use Rattle.shelf_laws.specs.Quiet.{IsQuiet, sent, taken}
 use Rattle.live_heap.specs.declared.heap.Heap.{Heap}
 use Rattle.live_heap.specs.declared.pass.Pass.{Pass}
-use Rattle.live_heap.specs.Endings.{IsResting}
+use Rattle.live_heap.specs.Endings.{HasAccesses, HasClosed, IsResting}
 use Rattle.block_pipe.specs.declared.pipe.Pipe.{Pipe}
+use Rattle.block_pipe.specs.declared.receiver.Receiver.{Receiver}
 use Rattle.block_pipe.specs.declared.sender.Sender.{Sender}
-use Rattle.block_pipe.specs.Ends.{IsSender, pushed_by}
+use Rattle.block_pipe.specs.Ends.{AreAllEnds, IsSender, popped_by, pushed_by}
+use Rattle.block_pipe.specs.Logs.{HasLogged}
 use Rattle.pipe_runner.specs.declared.run.Parts.{Parts}
 use Rattle.pipe_runner.specs.declared.run.PipeRun.{PipeRun}
 use Rattle.pipe_runner.specs.declared.sender.TheConstants.{SHELVES_EACH}
+use Rattle.pipe_runner.specs.EndCalls.{ReceivesAll, SendsAll}
 use Rattle.pipe_runner.specs.Messages.{contents_of, fold_of, messages}
 use Rattle.pipe_runner.specs.Receivers.{IsReceiving}
 use Rattle.pipe_runner.specs.Senders.{AreSending, HasSent}
@@ -33,7 +36,7 @@ pub record IsReadyToRun (passed : ℕ → ℕ → Type 0) (senders start : ℕ) 
   pub no_end : parts.ends.items ≡ []
   pub ends : senders ≤ vec_capacity parts.ends
 
--- a sender of this number has sent so many messages, with a note of each
+-- a sender of this number has sent so many messages, with a note of each, and has made no other call
 pub record HasDone (passed : ℕ → ℕ → Type 0) (h : Heap) (pipe : Pipe) (start count number : ℕ) (p : Pass) (e : Sender) : Type 0 where
   pub has : HasSent passed h pipe.senders start count p
   pub caller : p.errand.caller ≡ number
@@ -41,6 +44,7 @@ pub record HasDone (passed : ℕ → ℕ → Type 0) (h : Heap) (pipe : Pipe) (s
   pub number_is : e.number ≡ number
   pub pending : e.pending ≡ None
   pub pushed : length (pushed_by e) ≡ count
+  pub calls : SendsAll h start number (pushed_by e) p
 
 -- each sender from a number on has sent so many messages, with a note of each
 abbrev pub AreDone : (ℕ → ℕ → Type 0) → Heap → Pipe → ℕ → ℕ → ℕ → List Pass → List Sender → Type 0
@@ -50,8 +54,25 @@ AreDone passed h pipe start count number (p ∷ ps) (e ∷ es) =
 AreDone passed h pipe start count number (p ∷ ps) [] = ⊥
 AreDone passed h pipe start count number [] (e ∷ es) = ⊥
 
+-- a pipeline ran over this heap and this pipe: here are the passes with which the heap was closed, those of the senders and the receiver's, and the ends with which the pipe was; each sender has sent its messages and the receiver has received all blocks, with the words that its reads found in these folds; the closed heap counts just the accesses that these passes made, and the log the notes that these ends pushed and popped
+pub record IsRunOf (h : Heap) (pipe : Pipe) (passed : ℕ → ℕ → Type 0) (senders count start : ℕ) (run : PipeRun) : Type 0 where
+  pub laid : h.layout ≡ pipe_heap senders
+  pub senders_are : pipe.senders ≡ senders
+  pub shelves_are : pipe.shelves ≡ SHELVES_EACH
+  pub passes : List Pass
+  pub ends : List Sender
+  pub sent : AreDone passed h pipe start count 0 passes ends
+  pub pass : Pass
+  pub end : Receiver
+  pub caller : pass.errand.caller ≡ senders
+  pub received : ReceivesAll h senders (popped_by end) (λ k. slice_index run.folds.numbers k) pass
+  pub closed : HasClosed h (passes ++ pass ∷ []) run.closed
+  pub accesses : HasAccesses run.closed (passes ++ pass ∷ [])
+  pub all : AreAllEnds pipe ends end
+  pub logged : HasLogged pipe ends end run.log
+
 -- a pipeline has run to its end: the closed heap's history is quiet for it; of each sender just that was taken which was sent, the sender's messages,
--- each of which has passed the gate before; the log has as many notes pushed and popped; the fold is the one over what was taken; and no block is live
+-- each of which has passed the gate before; the log has as many notes pushed and popped; the fold is the one over what was taken; no block is live; and there are the heap, the pipe and the ends that ran
 pub record IsPipeRun (passed : ℕ → ℕ → Type 0) (senders count start : ℕ) (run : PipeRun) : Type 0 where
   pub heap : run.closed.geometry ≡ pipe_heap senders
   pub rests : IsResting run.closed
@@ -63,3 +84,4 @@ pub record IsPipeRun (passed : ℕ → ℕ → Type 0) (senders count start : �
   pub folds : (k : ℕ) → k < senders → slice_index run.folds.numbers k ≡ fold_of (taken senders SHELVES_EACH k run.closed.events)
   pub nothing : pool_of run.closed.events ≡ []
   pub gate : (k i : ℕ) → k < senders → i < count → passed k i
+  pub ran : (h : Heap) × (pipe : Pipe) × IsRunOf h pipe passed senders count start run

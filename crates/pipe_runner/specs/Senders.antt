@@ -13,6 +13,7 @@ use Rattle.block_pipe.specs.declared.pipe.Pipe.{Pipe}
 use Rattle.block_pipe.specs.Ends.{IsSender, pushed_by}
 use Rattle.pipe_runner.specs.declared.sender.SenderThread.{SenderThread}
 use Rattle.pipe_runner.specs.declared.sender.TheConstants.{MAX_MESSAGES, SHELVES_EACH}
+use Rattle.pipe_runner.specs.EndCalls.{SendsAll}
 use Rattle.pipe_runner.specs.Messages.{contents_of, messages}
 
 -- a put is on a shelf of the pipe
@@ -34,13 +35,14 @@ pub record HasSent (passed : ℕ → ℕ → Type 0) (h : Heap) (senders start c
   pub contents : contents_of (sent SHELVES_EACH p.errand.caller (seen p)) ≡ messages start p.errand.caller count
   pub passed_gate : (i : ℕ) → i < count → passed p.errand.caller i
 
--- a sender's thread that has sent so many messages, with a note of each
+-- a sender's thread that has sent so many messages, with a note of each, and has made no other call
 pub record IsSending (passed : ℕ → ℕ → Type 0) (h : Heap) (pipe : Pipe) (start count : ℕ) (w : SenderThread) : Type 0 where
   pub shelves : pipe.shelves ≡ SHELVES_EACH
   pub end : IsSender pipe w.end
   pub pending : w.end.pending ≡ None
   pub caller : w.pass.errand.caller ≡ w.end.number
   pub pushed : length (pushed_by w.end) ≡ count
+  pub calls : SendsAll h start w.end.number (pushed_by w.end) w.pass
   pub has : HasSent passed h pipe.senders start count w.pass
 
 -- the threads of all senders from this number on, the last number first, each of which has sent so many

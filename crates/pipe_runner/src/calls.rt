@@ -1,15 +1,17 @@
 //! What a pass does with a message between its hand-overs.
 
-ghost use Rattle.std.specs.Prelude.{ℕ, ◌≡◌, ◌≤◌, ◌%◌, ◌^◌, ◌+◌, ◌*◌, Some, None, IfSome};
+ghost use Rattle.std.specs.Prelude.{ℕ, ◌≡◌, ◌≤◌, ◌%◌, ◌^◌, ◌+◌, ◌*◌, List, Some, None, IfSome};
 ghost use Rattle.heap_geometry.specs.Need.{usable_words};
 ghost use Rattle.errand_steps.specs.declared.reply.Reply.TheVariants as reply;
 ghost use Rattle.errand_steps.specs.Calls.{alloc, free};
 ghost use Rattle.pool_model.specs.Pool.{Block as PoolBlock, fresh_block};
 ghost use Rattle.live_heap.specs.Contents.{owned_in};
 ghost use Rattle.live_heap.specs.Passes.{Owns};
-ghost use Rattle.live_heap.specs.Whole.{IsAtRest, IsWhole};
+ghost use Rattle.call_events.specs.Made.{LeadsBy, found_from};
+ghost use Rattle.live_heap.specs.Whole.{IsAtRest, IsWhole, MadeByPass};
+ghost use Rattle.pipe_runner.specs.EndCalls.{GaveNone, HasTried, with_found, words_from, wrote_from};
 ghost use Rattle.pipe_runner.specs.Messages.{HasThreeWords, three_from, with_word, with_words};
-ghost use Rattle.pipe_runner.specs.Moves.{HasAllocated, KeepsBlocks};
+ghost use Rattle.pipe_runner.specs.Moves.{AreThree, HasAllocated, KeepsBlocks};
 
 use lane_engine::calls::{Allocated, Calls};
 use live_heap::block::Block;
@@ -23,7 +25,7 @@ use std::thread;
 fn try_allocate<R: Wait>(rt: &R, heap: &Heap, pass: &mut Pass) -> Option<Block>
     requires rest { IsAtRest heap.now pass.old }
     ensures given { IfSome result (λ block. IsWhole heap.now pass.old (alloc 3) (reply.Given block.place block.need) heap.now pass.new) }
-    ensures none { result ≡ None → KeepsBlocks heap.now pass.old pass.new }
+    ensures none { result ≡ None → KeepsBlocks heap.now pass.old pass.new × HasTried (GaveNone 3) pass.old pass.new }
 {
     let mut calls = PassCalls::new(heap, pass);
     match calls.allocate(rt, 3) {
@@ -64,6 +66,7 @@ pub(crate) fn write_message(heap: &Heap, pass: &mut Pass, block: &Block, first: 
     ensures keeps { KeepsBlocks heap.now pass.old pass.new }
     ensures written { owned_in pass.old block.now.place ≡ Some (fresh_block pass.old.errand.caller 3 block.now.place)
         → (b : PoolBlock) × (owned_in pass.new block.now.place ≡ Some b) × (b.contents ≡ three_from first) }
+    ensures wrote { LeadsBy MadeByPass pass.old (wrote_from block.now.place block.now.need 0 (words_from first)) pass.new }
 {
     heap.write(pass, block, 0, first);
     heap.write(pass, block, 1, first.wrapping_add(1));
@@ -84,6 +87,8 @@ pub(crate) fn fold_block(heap: &Heap, pass: &mut Pass, block: &Block, fold: u64)
     ensures keeps { KeepsBlocks heap.now pass.old pass.new }
     ensures folded { (b : PoolBlock) → owned_in pass.old block.now.place ≡ Some b → HasThreeWords b.contents
         → result ≡ with_words fold b.contents }
+    ensures found { (words : List ℕ) × AreThree block.now words
+        × LeadsBy MadeByPass pass.old (found_from block.now.place block.now.need 0 words) pass.new × (result ≡ with_found fold words) }
 {
     if block.words() < 3 {
         return fold;

@@ -3,7 +3,7 @@
 ghost use Rattle.std.specs.Prelude.{ℕ, ◌≡◌, ◌<◌, ◌≤◌, ◌++◌, None, true, IfSome, slice_index};
 ghost use Rattle.live_heap.specs.Whole.{IsAtRest};
 ghost use Rattle.block_pipe.specs.Ends.{IsReceiver, popped_by};
-ghost use Rattle.pipe_runner.specs.Moves.{HasTakenOff, KeepsBlocks};
+ghost use Rattle.pipe_runner.specs.Moves.{HasTakenOff};
 ghost use Rattle.pipe_runner.specs.Receivers.{Arrives, IsReceiving};
 
 use crate::calls::{fold_block, release};
@@ -63,7 +63,7 @@ fn receive<R: Wait>(
     requires rest { IsAtRest heap.now pass.old }
     requires caller { pass.old.errand.caller ≡ pipe.now.senders }
     ensures end { IsReceiver pipe.now end.new × (end.new.kept ≡ None) }
-    ensures nothing { result ≡ None → KeepsBlocks heap.now pass.old pass.new × (popped_by end.new ≡ popped_by end.old) }
+    ensures nothing { result ≡ None → (pass.new ≡ pass.old) × (popped_by end.new ≡ popped_by end.old) }
     ensures got { IfSome result (λ arrival. Arrives heap.now pipe.now end.old pass.old arrival end.new pass.new) }
 {
     for _ in rt.forever() {

@@ -1,8 +1,9 @@
 //! A sender at work.
 
-ghost use Rattle.std.specs.Prelude.{◌≡◌, ◌<◌, ◌≤◌, ◌+◌, ◌++◌, ◌^◌, ◌%◌, ◌*◌, None, length};
+ghost use Rattle.std.specs.Prelude.{◌≡◌, ◌<◌, ◌≤◌, ◌+◌, ◌++◌, ◌∷◌, ◌^◌, ◌%◌, ◌*◌, [], None};
 ghost use Rattle.live_heap.specs.Passes.{Owns};
 ghost use Rattle.live_heap.specs.Whole.{IsAtRest};
+ghost use Rattle.block_pipe.specs.Answers.{note_of};
 ghost use Rattle.block_pipe.specs.Ends.{IsSender, pending_of, pushed_by};
 ghost use Rattle.block_pipe.specs.Notes.{shelf_for};
 ghost use Rattle.pipe_runner.specs.Messages.{first_word};
@@ -63,7 +64,7 @@ fn hand_over<R: Wait>(
     requires caller { pass.old.errand.caller ≡ end.old.number }
     requires owned { Owns pass.old block }
     ensures end { IsSender pipe.now end.new × (end.new.number ≡ end.old.number) × (end.new.pending ≡ None) }
-    ensures pushed { length (pushed_by end.new) ≡ length (pushed_by end.old) + 1 }
+    ensures pushed { pushed_by end.new ≡ pushed_by end.old ++ note_of pipe.now end.old.number end.old.sent block.place ∷ [] }
     ensures put { HasHandedOver heap.now pass.old block (shelf_for pipe.now.shelves end.old.number end.old.sent) pass.new }
 {
     let mut left = block;

@@ -6,6 +6,8 @@
 #[cfg(test)]
 mod bounds;
 #[cfg(test)]
+mod caches_and_pipes;
+#[cfg(test)]
 mod contests;
 #[cfg(test)]
 mod gates;

@@ -100,7 +100,7 @@ fn run_meeting<R: Threads + Wait + AllocGlobal + Sync>(
 }
 
 /// All lanes of a run by this command meet, and it has its report and these lines behind it.
-fn meets<R: Threads + Wait + Abort + AllocGlobal + Sync>(
+pub(crate) fn meets<R: Threads + Wait + Abort + AllocGlobal + Sync>(
     rt: &R,
     line: &str,
     heap: &str,

@@ -79,7 +79,7 @@ impl Gate for Keeping {
 }
 
 /// Sixteen lanes of seven operations, among them one that is skipped.
-fn sixteen_lanes(alloc: Global) -> Result<String, AllocError> {
+pub(crate) fn sixteen_lanes(alloc: Global) -> Result<String, AllocError> {
     let mut trace = String::new(alloc);
     trace.push_str("heap 64 2 0\n")?;
     for lane in 0..16u32 {
@@ -108,7 +108,7 @@ fn run_kept<R: Threads + Wait + AllocGlobal + Sync>(
 }
 
 /// Each operation of these lanes passes once, and in its turn.
-fn passes_in_turn<R: Threads + Wait + Abort + AllocGlobal + Sync>(
+pub(crate) fn passes_in_turn<R: Threads + Wait + Abort + AllocGlobal + Sync>(
     rt: &R,
     line: &str,
     input: &str,

@@ -43,7 +43,7 @@ fn is_one_lane<R: Abort + AllocGlobal>(rt: &R, text: &[u8], ops: &[Op]) -> Resul
     Ok(())
 }
 
-const PLAIN: &[u8] = b"heap 4 1 2\nlane\na 0 1 5\na 1 3 7\nc 1\nf 0\nf 1\nend\n";
+const PLAIN: &str = "heap 4 1 2\nlane\na 0 1 5\na 1 3 7\nc 1\nf 0\nf 1\nend\n";
 
 /// The version of a text, its heap's numbers, whether it names a limit, and how many order runs it has.
 fn numbers_of(alloc: Global, text: &[u8]) -> Result<(Version, Geometry, bool, usize), Fail>
@@ -63,7 +63,9 @@ fn a_plain_text(rt: HostRuntime) -> Result<(), Fail> {
         callers: 1,
         turn_limit: 68_719_476_735,
     };
-    let numbers = numbers_of(rt.alloc(), PLAIN)?;
+    let text = PLAIN.as_bytes();
+    assert!(rt; text.len() <= MAX_INPUT);
+    let numbers = numbers_of(rt.alloc(), text)?;
     assert_eq!(rt; numbers, (Version::One, heap, false, 0));
     let ops = [
         Op::Alloc {
@@ -80,12 +82,13 @@ fn a_plain_text(rt: HostRuntime) -> Result<(), Fail> {
         Op::Free { r: 0 },
         Op::Free { r: 1 },
     ];
-    is_one_lane(&rt, PLAIN, &ops)
+    is_one_lane(&rt, text, &ops)
 }
 
 #[test]
 fn a_text_of_version_2(rt: HostRuntime) -> Result<(), Fail> {
-    let text = b"heap2 4 1 2\nlane\na 0 3 10\nr 0 2\nr 1023 131071\nr 1 0\nend\n";
+    let text = "heap2 4 1 2\nlane\na 0 3 10\nr 0 2\nr 1023 131071\nr 1 0\nend\n".as_bytes();
+    assert!(rt; text.len() <= MAX_INPUT);
     let (version, ..) = numbers_of(rt.alloc(), text)?;
     assert_eq!(rt; version, Version::Two);
     let ops = [
@@ -107,7 +110,7 @@ fn a_text_of_version_2(rt: HostRuntime) -> Result<(), Fail> {
 #[test]
 fn a_lenient_text(rt: HostRuntime) -> Result<(), Fail> {
     let text =
-        b"heap 1 1 0\r\n# note\r\n\r\nlane\r\na 0 1 18446744073709551615\r\n\ta\t0  1 2 \r\nw 0 4\r\nc 0\r\nf 0\r\nf 0\r\nc 0\r\nend";
+        "heap 1 1 0\r\n# note\r\n\r\nlane\r\na 0 1 18446744073709551615\r\n\ta\t0  1 2 \r\nw 0 4\r\nc 0\r\nf 0\r\nf 0\r\nc 0\r\nend".as_bytes();
     let ops = [
         Op::Alloc {
             r: 0,
@@ -130,63 +133,64 @@ fn a_lenient_text(rt: HostRuntime) -> Result<(), Fail> {
 
 #[test]
 fn the_largest_need(rt: HostRuntime) -> Result<(), Fail> {
-    let larger = b"heap 1 1 64\nlane\na 0 131072 1\nend\n";
+    let larger = "heap 1 1 64\nlane\na 0 131072 1\nend\n".as_bytes();
     assert!(rt; is_refused(&rt, larger, 3, 7));
     let ops = [Op::Alloc {
         r: 0,
         need: 131_071,
         v: 1,
     }];
-    is_one_lane(&rt, b"heap 1 1 64\nlane\na 0 131071 1\nend\n", &ops)
+    let largest = "heap 1 1 64\nlane\na 0 131071 1\nend\n".as_bytes();
+    is_one_lane(&rt, largest, &ops)
 }
 
 #[test]
 fn refused_texts(rt: HostRuntime) {
-    let refused: [(&[u8], u32, u8); 37] = [
-        (b"", 1, 2),
-        (b"a 0 1 1\n", 1, 2),
-        (b"heap 0 1 2\nend\n", 1, 3),
-        (b"heap 4 1 2\nlane\n", 3, 9),
-        (b"heap 4 1 2\nlane\na 0 1", 3, 5),
-        (b"heap 4 1 2\nlane\na 0 x 1\nend\n", 3, 6),
-        (b"heap 4 1 2\nlane\na 1024 1 1\nend\n", 3, 7),
-        (b"heap 4 1 2\nlane\nr 0 5\nend\n", 3, 4),
-        (b"heap 4 1 2\na 0 1 1\nend\n", 2, 4),
-        (b"heap 4 1 2\nend\nlane\n", 3, 4),
+    let refused: [(&str, u32, u8); 37] = [
+        ("", 1, 2),
+        ("a 0 1 1\n", 1, 2),
+        ("heap 0 1 2\nend\n", 1, 3),
+        ("heap 4 1 2\nlane\n", 3, 9),
+        ("heap 4 1 2\nlane\na 0 1", 3, 5),
+        ("heap 4 1 2\nlane\na 0 x 1\nend\n", 3, 6),
+        ("heap 4 1 2\nlane\na 1024 1 1\nend\n", 3, 7),
+        ("heap 4 1 2\nlane\nr 0 5\nend\n", 3, 4),
+        ("heap 4 1 2\na 0 1 1\nend\n", 2, 4),
+        ("heap 4 1 2\nend\nlane\n", 3, 4),
         (
-            b"heap 4 1 2\nlane\nlane\nlane\nlane\nlane\nlane\nlane\nlane\nlane\nlane\nlane\nlane\nlane\nlane\nlane\nlane\nlane\n",
+            "heap 4 1 2\nlane\nlane\nlane\nlane\nlane\nlane\nlane\nlane\nlane\nlane\nlane\nlane\nlane\nlane\nlane\nlane\nlane\n",
             18,
             8,
         ),
-        (b"heap 4 1 2\n\xc3\xa9", 2, 1),
-        (b"heap 4 1 2\nlane\norder 1 5\nend\n", 3, 7),
-        (b"\0", 1, 1),
-        (b"heap 4097 1 0", 1, 3),
-        (b"heap 4 1 2 0", 1, 3),
-        (b"heap 4 1 2 68719476736", 1, 3),
-        (b"heap 4 1 2\nlane\na 0 1 99999999999999999999", 3, 6),
-        (b"heap 4 1 2\nlane\nw 01 5\nend\n", 3, 6),
-        (b"heap 4 1 2\nheap 4 1 2\nend\n", 2, 4),
-        (b"heap 4 1 2\nend\nend\n", 3, 4),
-        (b"heap 4 1 2\norder 0 5\nend\n", 2, 7),
-        (b"heap 4 1 2\nlane\norder 0 5\nlane\nend\n", 4, 4),
-        (b"heap 4 1 2\nlane\norder 0 5\nf 0\nend\n", 4, 4),
-        (b"heap 4 1 2\nlane\norder 0 1000001\nend\n", 3, 7),
-        (b"heap 4 1 2\nlane\nt 0 64\nend\n", 3, 7),
-        (b"heap 4 1 2\r\r\nend\n", 1, 1),
-        (b"heap2 4 1 2\nlane\nr 0 131072\nend\n", 3, 7),
-        (b"heap2 4 1 2\nlane\nr 1024 5\nend\n", 3, 7),
-        (b"heap2 4 1 2\nlane\nr 0\nend\n", 3, 5),
-        (b"heap2 4 1 2\nlane\nr 0 5 1\nend\n", 3, 5),
-        (b"heap2 4 1 2\nlane\nr 0 x\nend\n", 3, 6),
-        (b"heap2 4 1 2\nr 0 5\nend\n", 2, 4),
-        (b"heap2 4 1 2\nheap 4 1 2\nend\n", 2, 4),
-        (b"heap 4 1 2\nheap2 4 1 2\nend\n", 2, 4),
-        (b"heap2 0 1 2\nend\n", 1, 3),
-        (b"heap3 4 1 2\nend\n", 1, 2),
+        ("heap 4 1 2\n\u{e9}", 2, 1),
+        ("heap 4 1 2\nlane\norder 1 5\nend\n", 3, 7),
+        ("\0", 1, 1),
+        ("heap 4097 1 0", 1, 3),
+        ("heap 4 1 2 0", 1, 3),
+        ("heap 4 1 2 68719476736", 1, 3),
+        ("heap 4 1 2\nlane\na 0 1 99999999999999999999", 3, 6),
+        ("heap 4 1 2\nlane\nw 01 5\nend\n", 3, 6),
+        ("heap 4 1 2\nheap 4 1 2\nend\n", 2, 4),
+        ("heap 4 1 2\nend\nend\n", 3, 4),
+        ("heap 4 1 2\norder 0 5\nend\n", 2, 7),
+        ("heap 4 1 2\nlane\norder 0 5\nlane\nend\n", 4, 4),
+        ("heap 4 1 2\nlane\norder 0 5\nf 0\nend\n", 4, 4),
+        ("heap 4 1 2\nlane\norder 0 1000001\nend\n", 3, 7),
+        ("heap 4 1 2\nlane\nt 0 64\nend\n", 3, 7),
+        ("heap 4 1 2\r\r\nend\n", 1, 1),
+        ("heap2 4 1 2\nlane\nr 0 131072\nend\n", 3, 7),
+        ("heap2 4 1 2\nlane\nr 1024 5\nend\n", 3, 7),
+        ("heap2 4 1 2\nlane\nr 0\nend\n", 3, 5),
+        ("heap2 4 1 2\nlane\nr 0 5 1\nend\n", 3, 5),
+        ("heap2 4 1 2\nlane\nr 0 x\nend\n", 3, 6),
+        ("heap2 4 1 2\nr 0 5\nend\n", 2, 4),
+        ("heap2 4 1 2\nheap 4 1 2\nend\n", 2, 4),
+        ("heap 4 1 2\nheap2 4 1 2\nend\n", 2, 4),
+        ("heap2 0 1 2\nend\n", 1, 3),
+        ("heap3 4 1 2\nend\n", 1, 2),
     ];
     for (text, number, cause) in refused {
-        assert!(rt; is_refused(&rt, text, number, cause));
+        assert!(rt; is_refused(&rt, text.as_bytes(), number, cause));
     }
 }
 
@@ -256,11 +260,13 @@ fn operations_of(alloc: Global, text: &[u8]) -> Result<Option<usize>, Fail>
 
 #[test]
 fn cuts_of_a_text(rt: HostRuntime) -> Result<(), Fail> {
+    let text = PLAIN.as_bytes();
     for (bytes, (number, cause)) in CUTS.into_iter().enumerate() {
-        assert!(rt; bytes < PLAIN.len());
-        assert!(rt; is_refused(&rt, &PLAIN[..bytes], number, cause));
+        assert!(rt; bytes < text.len());
+        assert!(rt; is_refused(&rt, &text[..bytes], number, cause));
     }
-    assert_eq!(rt; operations_of(rt.alloc(), &PLAIN[..47])?, Some(5));
+    assert!(rt; 47 <= text.len() && text.len() <= MAX_INPUT);
+    assert_eq!(rt; operations_of(rt.alloc(), &text[..47])?, Some(5));
     Ok(())
 }
 
@@ -275,7 +281,7 @@ fn callers_of(alloc: Global, text: &[u8], runs: &[OrderRun]) -> Result<(u32, boo
 #[test]
 fn every_line_is_printed_again(rt: HostRuntime) -> Result<(), Fail> {
     let text =
-        b"heap 4 2 64 68719476735\nlane\na 1023 131071 18446744073709551615\nw 0 9\nc 0\nf 10\nlane\np 3 63\nt 3 0\nlane\norder 1 1000000\norder 2 1\nend\n";
+        "heap 4 2 64 68719476735\nlane\na 1023 131071 18446744073709551615\nw 0 9\nc 0\nf 10\nlane\np 3 63\nt 3 0\nlane\norder 1 1000000\norder 2 1\nend\n".as_bytes();
     let runs = [
         OrderRun {
             lane: 1,
@@ -283,15 +289,17 @@ fn every_line_is_printed_again(rt: HostRuntime) -> Result<(), Fail> {
         },
         OrderRun { lane: 2, steps: 1 },
     ];
+    assert!(rt; text.len() <= MAX_INPUT);
     assert_eq!(rt; callers_of(rt.alloc(), text, runs.as_slice())?, (3, true));
     is_printed(&rt, text, text)?;
-    let resizes = b"heap2 4 2 64 7\nlane\na 0 3 10\nr 0 131071\nr 1023 0\nend\n";
+    let resizes = "heap2 4 2 64 7\nlane\na 0 3 10\nr 0 131071\nr 1023 0\nend\n".as_bytes();
     is_printed(&rt, resizes, resizes)
 }
 
 #[test]
 fn an_unnamed_limit_is_not_printed(rt: HostRuntime) -> Result<(), Fail> {
-    is_printed(&rt, b"heap 4 1 2\n # a comment\nend", b"heap 4 1 2\nend\n")
+    let noted = "heap 4 1 2\n # a comment\nend".as_bytes();
+    is_printed(&rt, noted, "heap 4 1 2\nend\n".as_bytes())
 }
 
 #[test]

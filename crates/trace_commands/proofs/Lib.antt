@@ -3,3 +3,4 @@ mod RunLemmas
 mod SerialLemmas
 mod CensusLemmas
 mod CachedLemmas
+mod PipeLemmas

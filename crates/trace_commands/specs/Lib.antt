@@ -4,3 +4,4 @@ pub mod Censuses
 pub mod Runs
 pub mod Pipes
 pub mod Stored
+pub mod Ended

@@ -9,6 +9,7 @@ mod cached;
 mod census;
 pub mod closing;
 pub mod driven;
+pub mod laws;
 mod made;
 mod piped;
 pub mod run;

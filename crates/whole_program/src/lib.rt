@@ -3,7 +3,9 @@
 #![tactic(auto)]
 
 ghost use Rattle.std.specs.Process.{exit_status};
+ghost use Rattle.std.specs.declared.io.stdio.Printer.{Printer};
 ghost use Rattle.trace_commands.specs.Runs.{IsStatus};
+ghost use Rattle.whole_program.specs.Ended.{IsProgramsStatus};
 
 use command_line::exit::{code_of, status_without_words};
 use edge_io::gate::NoGate;
@@ -29,6 +31,10 @@ fn words<R: Env + AllocGlobal>(rt: &R, alloc: Global) -> io::Result<Vec<String>>
 /// the code that the program ends with.
 pub fn run_program<R: Env + Input + Print + Threads + Wait + AllocGlobal + Sync>(rt: &R) -> ExitCode
     ensures known { IsStatus (exit_status result) }
+
+    // The words, the edges and the heap that the program left are not seen by its caller: there are such, of which all is so that
+    // `run` promises. Without words nothing is run.
+    ensures told { IsProgramsStatus R.Reader (Printer R) (exit_status result) }
 {
     let alloc = rt.alloc();
     let words = match words(rt, alloc) {

@@ -1,3 +1,4 @@
+use Rattle.pipe_runner.specs.EndCalls.{GaveNone, HasTried}
 use Rattle.pipe_runner.specs.Moves.{KeepsBlocks}
 use Rattle.pipe_runner.proofs.calls.allocate.Given as goal
 
@@ -6,4 +7,5 @@ invariant-loop g l = record {
   can_next : (goal.iterator-loop g).can_next l.iterator';
   is_finite : (goal.iterator-loop g).is_finite l.iterator';
   keeps : KeepsBlocks l.heap l.initial.pass l.pass;
+  refused : HasTried (GaveNone 3) l.initial.pass l.pass;
 }

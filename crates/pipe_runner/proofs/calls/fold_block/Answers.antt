@@ -1,4 +1,5 @@
-use Rattle.std.proofs.Common.{ℕ, ◌∙◌, ap, arith}
+use Rattle.std.proofs.Common.{ℕ, [], ◌∷◌, ◌∙◌, ap, arith, inl, inr, refl}
+use Rattle.live_heap.specs.Whole.{by_steps}
 use Rattle.pipe_runner.specs.Messages.{with_word}
 use Rattle.pipe_runner.proofs.CallSteps.{keeps-here, keeps-trans, read-keeps, three-long, three-read}
 use Rattle.pipe_runner.proofs.calls.fold_block.Goals as goal
@@ -43,3 +44,19 @@ returns-clause-folded c = λ b there three.
     ∙ three-read c.args.heap.now c.args.pass.now c.read-a.new.pass c.read-b.new.pass c.read-c.new.pass c.args.block.now c.read-a.result
     c.read-b.result c.read-c.result b c.args.fold c.read-a.ensures.of c.read-b.ensures.of c.read-c.ensures.of c.read-a.ensures.called
     c.read-b.ensures.called c.read-c.ensures.called c.read-a.ensures.contents c.read-b.ensures.contents c.read-c.ensures.contents there three
+
+pub returns-then-words-lt3-clause-found : goal.returns-then-words-lt3-clause-found
+returns-then-words-lt3-clause-found c = ([], inr (omega (arith, c.words.ensures, c.if-words-lt3.true), refl), refl, refl)
+
+pub returns-clause-found : goal.returns-clause-found
+returns-clause-found c = (
+  c.read-a.result ∷ c.read-b.result ∷ c.read-c.result ∷ [],
+  inl refl,
+  (
+    c.read-a.new.pass,
+    by_steps (0, c.read-a.ensures.called),
+    (c.read-b.new.pass, by_steps (0, c.read-b.ensures.called), (c.read-c.new.pass, by_steps (0, c.read-c.ensures.called), refl)),
+  ),
+  c.with_word-3.ensures
+      ∙ ap (λ (k : ℕ). with_word k c.read-c.result) (c.with_word-2.ensures ∙ ap (λ (k : ℕ). with_word k c.read-b.result) c.with_word.ensures),
+)

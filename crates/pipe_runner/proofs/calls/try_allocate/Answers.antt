@@ -6,8 +6,10 @@ use Rattle.live_heap.specs.declared.block.Block.{Block}
 use Rattle.live_heap.specs.declared.heap.Heap.{Heap}
 use Rattle.live_heap.specs.declared.pass.Pass.{Pass}
 use Rattle.live_heap.specs.Whole.{IsAtRest, IsWhole, MadeByPass}
+use Rattle.pipe_runner.specs.EndCalls.{GaveNone, HasTried}
 use Rattle.pipe_runner.specs.Moves.{KeepsBlocks}
 use Rattle.pipe_runner.proofs.CallSteps.{not-given}
+use Rattle.pipe_runner.proofs.EndLemmas.{none-given}
 use Rattle.pipe_runner.proofs.calls.try_allocate.Goals as goal
 
 pub returns-in_default : goal.returns-in_default
@@ -25,6 +27,7 @@ returns-in_default g c =
       refl,
       subst (λ (k : Heap). IsAtRest k q) (ap (λ (x : ℕ × Heap). x.1) base ∙ n.heap) rest,
     ) in
-    let kept : KeepsBlocks h p q = not-given h p q c.allocate.result c.in_default.not-Given whole in
+    let kept : KeepsBlocks h p q × HasTried (GaveNone 3) p q =
+    (not-given h p q c.allocate.result c.in_default.not-Given whole, none-given h p q c.allocate.result c.in_default.not-Given whole) in
     let name = ap (λ (x : ℕ × Heap). x.0) base ∙ n.same in
     search rules

@@ -1,4 +1,5 @@
 use Rattle.std.proofs.Common.{◌+◌, ◌%◌, ◌^◌, refl}
+use Rattle.live_heap.specs.Whole.{by_steps}
 use Rattle.pipe_runner.proofs.CallSteps.{keeps-trans, three-written, wrote-keeps}
 use Rattle.pipe_runner.proofs.calls.write_message.Goals as goal
 
@@ -32,3 +33,10 @@ returns-clause-written c = λ there.
     three-written c.args.heap.now c.args.pass.now c.write.new.pass c.write-2.new.pass c.write-3.new.pass c.args.block.now c.args.first
     ((c.args.first + 1) % 2 ^ 64) ((c.args.first + 2) % 2 ^ 64) c.write.ensures.of c.write-2.ensures.of c.write-3.ensures.of c.write.ensures.called
     c.write-2.ensures.called c.write-3.ensures.called refl refl there
+
+pub returns-clause-wrote : goal.returns-clause-wrote
+returns-clause-wrote c = (
+  c.write.new.pass,
+  by_steps (0, c.write.ensures.called),
+  (c.write-2.new.pass, by_steps (0, c.write-2.ensures.called), (c.write-3.new.pass, by_steps (0, c.write-3.ensures.called), refl)),
+)

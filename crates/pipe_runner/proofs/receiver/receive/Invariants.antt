@@ -1,6 +1,6 @@
 use Rattle.block_pipe.specs.Ends.{IsReceiver}
 use Rattle.pipe_runner.specs.Moves.{KeepsBlocks}
-use Rattle.pipe_runner.proofs.Arriving.{HasCome}
+use Rattle.pipe_runner.proofs.Arriving.{HasCome, HasTriedFor}
 use Rattle.pipe_runner.proofs.receiver.receive.Given as goal
 
 abbrev pub invariant-loop : goal.invariant-loop
@@ -10,4 +10,5 @@ invariant-loop g l = record {
   of : IsReceiver l.pipe l.end;
   come : HasCome l.pipe l.initial.end l.end;
   keeps : KeepsBlocks l.heap l.initial.pass l.pass;
+  tried : HasTriedFor l.end.kept l.initial.pass l.pass;
 }

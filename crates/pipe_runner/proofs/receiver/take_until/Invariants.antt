@@ -1,3 +1,4 @@
+use Rattle.pipe_runner.specs.EndCalls.{GotNone, HasTried}
 use Rattle.pipe_runner.specs.Moves.{KeepsBlocks}
 use Rattle.pipe_runner.proofs.receiver.take_until.Given as goal
 
@@ -6,4 +7,5 @@ invariant-loop g l = record {
   can_next : (goal.iterator-loop g).can_next l.iterator';
   is_finite : (goal.iterator-loop g).is_finite l.iterator';
   keeps : KeepsBlocks l.heap l.initial.pass l.pass;
+  missed : HasTried (GotNone l.shelf) l.initial.pass l.pass;
 }

@@ -1,6 +1,6 @@
 use Rattle.std.proofs.Common.{ℕ, ◌≡◌, ◌<◌, List, length, refl, sym, ap, ◌∙◌, subst}
 use Rattle.live_heap.specs.declared.pass.Pass.{Pass}
-use Rattle.live_heap.specs.Endings.{AreAllIdle, HasClosed}
+use Rattle.live_heap.specs.Endings.{AreAllIdle, HasAccesses, HasClosed}
 use Rattle.pipe_runner.specs.Runs.{IsPipeRun, pipe_heap}
 use Rattle.pipe_runner.proofs.RunEnds.{ends-all, idle-all, run-over}
 use Rattle.pipe_runner.proofs.run.run_pipe.Goals as goal
@@ -36,4 +36,5 @@ returns g c =
     (run-over passed parts.heap parts.pipe c.args.start c.args.messages ps c.take_apart.new.ends.items w c.take_apart.ensures.done many
     c.drain.ensures.stands (record { closed = c.in-Ok.closed; log = c.in-Ok-close.log; folds = w.folds }) (ready.layout ∙ ap pipe_heap (sym ready.pipe))
     (subst (λ (l : List Pass). HasClosed parts.heap l c.in-Ok.closed) c.push_reserved.ensures.items c.in-Ok.ensures.closed) c.in-Ok.ensures.rests
+    (subst (HasAccesses c.in-Ok.closed) c.push_reserved.ensures.items c.in-Ok.ensures.accesses)
     c.in-Ok-close.ensures.log refl (λ k below. c.drain.ensures.all k (subst (λ (n : ℕ). k < n) ready.pipe below)))

@@ -1,5 +1,7 @@
 use Rattle.std.proofs.Common.{◌≡◌}
 use Rattle.live_heap.specs.Contents.{OwnsSame}
+use Rattle.block_pipe.specs.Notes.{shelf_for}
+use Rattle.pipe_runner.specs.EndCalls.{FoundFull, HasTried}
 use Rattle.pipe_runner.specs.Moves.{KeepsBlocks}
 use Rattle.pipe_runner.proofs.sender.hand_over.Given as goal
 
@@ -11,4 +13,5 @@ invariant-loop g l = record {
   left : l.left ≡ l.fn.block;
   keeps : KeepsBlocks l.heap l.initial.pass l.pass;
   same : OwnsSame l.initial.pass l.pass;
+  full : HasTried (FoundFull l.fn.block (shelf_for l.pipe.shelves l.initial.end.number l.initial.end.sent)) l.initial.pass l.pass;
 }
