@@ -6,6 +6,7 @@ pub mod Fits
 pub mod Nexts
 pub mod Offers
 pub mod Continuations
+pub mod Openers
 pub mod Openings
 pub mod Points
 pub mod Steps

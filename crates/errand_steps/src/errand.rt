@@ -12,6 +12,7 @@ ghost use Rattle.errand_steps.specs.Begins.{IsBusy, IsHeapBlock};
 ghost use Rattle.errand_steps.specs.Errands.{IsErrand, IsListable, counts_won, raised, open_errand, plan_of, settle_of, answer_of, led_to, led_by, ended_by, is_full, is_spent, going_on};
 ghost use Rattle.errand_steps.specs.Events.{event_of};
 ghost use Rattle.errand_steps.specs.Offers.{offered_at};
+ghost use Rattle.errand_steps.specs.Openers.{AreOpened};
 ghost use Rattle.errand_steps.specs.declared.next.Next.TheVariants.{Turn, Retire};
 ghost use Rattle.errand_steps.specs.declared.point.Point.TheVariants.{Block};
 ghost use Rattle.errand_steps.specs.Nexts.{resumed};
@@ -22,7 +23,7 @@ use crate::count::{counts_cleared, counts_lost, counts_won, raised};
 use crate::enter::large::ending_on_word;
 use crate::enter::{plan_point, settle_point};
 use crate::next::Next;
-use crate::point::Point;
+use crate::point::{Pieces, Point};
 use crate::reply::{Offer, Progress, Reply};
 use hazard_parts::held::Held;
 use hazard_parts::point::DescPoint;
@@ -104,6 +105,30 @@ impl Errand {
                 at: LargePoint::PutBlock { place, need, .. },
                 ..
             } => Some(Offer { place, need }),
+            _ => None,
+        }
+    }
+
+    /// The pieces that the caller's next step is the first to use: the frame whose blocks it begins to link,
+    /// or the units of a run that it hands out.
+    pub fn opens(&self) -> Option<Pieces>
+        ensures { AreOpened self.now.geometry self.now.point result }
+    {
+        match self.point {
+            Point::Block {
+                at: BlockPoint::LinkBlock { site, index: 0 },
+                ..
+            } => Some(Pieces {
+                first: u32::from(site.frame),
+                count: 1,
+            }),
+            Point::Large {
+                at: LargePoint::StoreRunPrefix { run, .. },
+                ..
+            } => Some(Pieces {
+                first: self.seat.geometry().frames + u32::from(run.first()),
+                count: u32::from(run.units()),
+            }),
             _ => None,
         }
     }

@@ -38,3 +38,11 @@ pub enum Point {
         continuation: Continuation,
     },
 }
+
+/// Pieces of the arena that lie side by side. What is laid at once is a piece: a frame, or a unit. Frames are
+/// numbered from 0, and units behind them.
+#[derive(Clone, Copy)]
+pub struct Pieces {
+    pub first: u32,
+    pub count: u32,
+}

@@ -24,7 +24,8 @@ use Rattle.sound_state.proofs.shared.PointLemmas.{fits-at, frees-at, hands-at, r
 use Rattle.sound_state.proofs.shared.StackedLemmas.{stacked-same}
 use Rattle.sound_state.proofs.shared.SumLemmas.{term-sum}
 use Rattle.first_uses.specs.Pieces.{piece_of}
-use Rattle.first_uses.specs.Uses.{IsUnused, Opens}
+use Rattle.errand_steps.specs.Openers.{Opens}
+use Rattle.first_uses.specs.Uses.{IsUnused}
 use Rattle.first_uses.proofs.PieceLemmas.{frame-of, unit-of}
 use Rattle.first_uses.proofs.Opened.{HasRun, opens-hand, opens-waits, opens-run, one-hand, one-run}
 

@@ -30,7 +30,8 @@ use Rattle.sound_state.proofs.shared.StackedLemmas.{stacked-agrees, stacked-same
 use Rattle.sound_state.proofs.shared.StepLemmas.{settle-at, words-stay}
 use Rattle.sound_state.proofs.shared.SumLemmas.{term-sum}
 use Rattle.sound_state.proofs.stacks.StackSteps.{holds-true}
-use Rattle.first_uses.specs.Uses.{IsFreeFrame, IsUnused, Opens}
+use Rattle.errand_steps.specs.Openers.{Opens}
+use Rattle.first_uses.specs.Uses.{IsFreeFrame, IsUnused}
 
 -- whether a word is one of the stack of frames; whether it is the word of the units
 abbrev is_frame_word : WordName → Bool

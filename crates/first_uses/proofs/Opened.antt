@@ -14,7 +14,7 @@ use Rattle.sound_state.proofs.shared.OverlapLemmas.{live-apart}
 use Rattle.sound_state.proofs.shared.PointLemmas.{fits-at, hands-at}
 use Rattle.sound_state.proofs.shared.SumLemmas.{two-terms}
 use Rattle.sound_state.proofs.shared.TieLemmas.{one-live}
-use Rattle.first_uses.specs.Uses.{Opens}
+use Rattle.errand_steps.specs.Openers.{Opens}
 
 -- who is about to use a frame first has it in its hand, and keeps no superblock that waits
 pub opens-hand : (g : Geometry) (p : Point) (k : ℕ) → Opens g p k → k < g.frames → 1 ≤ occurs k (holds_of p).frames

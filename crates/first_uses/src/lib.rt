@@ -10,7 +10,8 @@ ghost use Rattle.errand_steps.specs.Openings.{IsOpening, opening};
 ghost use Rattle.errand_steps.specs.Steps.{State, Step, name_at};
 ghost use Rattle.sound_state.specs.Sound.{IsSoundWithoutCounts};
 ghost use Rattle.first_uses.specs.Pieces.{piece_count, piece_of};
-ghost use Rattle.first_uses.specs.Uses.{IsUnused, Opens};
+ghost use Rattle.errand_steps.specs.Openers.{Opens};
+ghost use Rattle.first_uses.specs.Uses.{IsUnused};
 
 /// A piece that nobody uses stays so at every step, but where the step's caller is about to use it first.
 pub fn pieces_are_taken_one_by_one()
