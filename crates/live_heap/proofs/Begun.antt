@@ -62,6 +62,7 @@ begins-of h p q call of idle may seat is =
       begun = begins-on (seen p) of.before.errand p.errand q.errand call of.begun idle may is;
       served = subst (λ (e : ErrandFields). IsServed h.layout e.caller e (seen p)) (sym is) (call-served h.layout p.errand (seen p) call of.served idle may);
       alone = λ one. ap (λ (e : ErrandFields). e.lost) is ∙ begun-lost p.errand call ∙ of.alone one;
+      settled = of.settled;
     })
 
 -- a block that a pass owns is one of its heap

@@ -66,6 +66,7 @@ fresh h p caller has table me errand =
         begun = inl errand;
         served = subst (λ (e : ErrandFields). IsServed g e.caller e (seen p)) (sym errand) (subst (λ (l : List Event). IsServed g caller (open_errand caller g) l) (sym nothing) (first-served g caller h.checked has));
         alone = λ one. ap (λ (e : ErrandFields). e.lost) errand;
+        settled = ap (λ (m : Me View). m.0.lays) me;
       };
       errand = subst (λ n. p.errand ≡ open_errand n g) (sym number) errand;
       nothing_seen = nothing;

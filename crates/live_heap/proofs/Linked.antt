@@ -1,9 +1,9 @@
 -- The words of a heap as they are opened, one link after the other.
-use Rattle.std.proofs.Common.{ℕ, ◌≡◌, ◌≢◌, ◌<◌, ◌+◌, List, length, arith, ◌∙◌, inl, inr, ◌⊎◌}
+use Rattle.std.proofs.Common.{ℕ, ◌≡◌, ◌≢◌, ◌<◌, ◌+◌, List, arith, ◌∙◌, inl, inr, ◌⊎◌}
 use Rattle.std.proofs.lemmas.Bool.{cases_eq}
 use Rattle.errand_steps.specs.Openings.{opening}
 use Rattle.heap_geometry.specs.declared.geometry.Geometry.{Geometry}
-use Rattle.placed_words.specs.Places.{placed_count, words_at}
+use Rattle.placed_words.specs.Places.{words_at}
 use Rattle.placed_words.specs.Writes.{Wrote, word_at}
 use Rattle.placed_words.proofs.WordsLemmas.{at-word_name, length-words_at}
 use Rattle.step_machine.specs.Firsts.{IsTable}
@@ -15,10 +15,8 @@ use Rattle.word_table.proofs.TableLemmas.{word_name-Exists}
 use Rattle.live_heap.specs.Linked.{AreLinked, IsNoLink}
 
 pub none-linked :
-    (g : Geometry) (placed : List ℕ) → length placed ≡ placed_count g → ((name : WordName) → Exists g name → word_at g placed name ≡ 0)
-    → AreLinked g placed 0 0
-none-linked g placed whole blank = record {
-  whole = whole;
+    (g : Geometry) (placed : List ℕ) → ((name : WordName) → Exists g name → word_at g placed name ≡ 0) → AreLinked g placed 0 0
+none-linked g placed blank = record {
   nexts = λ desc below is. absurd (omega arith);
   frame_nexts = λ frame below is. absurd (omega arith);
   others = λ name is no_link. blank name is;
@@ -28,7 +26,6 @@ pub next-linked :
     (g : Geometry) (before after : List ℕ) (desc new : ℕ) → AreLinked g before desc 0 → new ≡ opening g (Next desc)
     → Wrote g before (Next desc) new after → AreLinked g after (desc + 1) 0
 next-linked g before after desc new l is w = record {
-  whole = w.whole ∙ l.whole;
   nexts = λ d below there. go d below there (cases_eq d desc);
   frame_nexts = λ frame below there. absurd (omega arith);
   others = λ name there no_link. w.elsewhere name there (no_link.0 desc) ∙ l.others name there no_link;
@@ -45,7 +42,6 @@ pub frame-linked :
     (g : Geometry) (before after : List ℕ) (descs frame new : ℕ) → AreLinked g before descs frame → new ≡ opening g (FrameNext frame)
     → Wrote g before (FrameNext frame) new after → AreLinked g after descs (frame + 1)
 frame-linked g before after descs frame new l is w = record {
-  whole = w.whole ∙ l.whole;
   nexts = λ d below there. w.elsewhere (Next d) there (λ e. apart d frame e) ∙ l.nexts d below there;
   frame_nexts = λ f below there. go f below there (cases_eq f frame);
   others = λ name there no_link. w.elsewhere name there (no_link.1 frame) ∙ l.others name there no_link;

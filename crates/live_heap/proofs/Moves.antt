@@ -1,22 +1,14 @@
 -- Each step of a pass keeps the rule.
-use Rattle.std.proofs.Common.{ℕ, zero, suc, ◌≡◌, ◌≢◌, ◌<◌, ◌≤◌, inl, inr, List, [], ◌∷◌, ◌++◌, length, Option, Some, refl, sym, ap, ◌∙◌, subst, ⊎_elim, arith, length-set, eq-eqb, ne_eqb}
-use Rattle.std.specs.Prelude.{slice_index, slice_set, bit_and, count_by, ◌==◌, if◌then◌else◌, option_to_list}
+use Rattle.std.proofs.Common.{ℕ, zero, suc, Bool, true, false, ◌≡◌, ◌≢◌, ◌<◌, ◌≤◌, ◌⊎◌, inl, inr, List, [], ◌∷◌, ◌++◌, length, Option, Some, refl, sym, ap, ◌∙◌, subst, ⊎_elim, arith, length-set, eq-eqb, ne_eqb}
+use Rattle.std.specs.Prelude.{slice_index, slice_set, count_by, ◌==◌, if◌then◌else◌, option_to_list}
 use mathlib.Core.Option.{some, some-injective, some-ne-none}
 use lib.ListN.{get_elem?}
-use prog.Atomic.{either}
-use Rattle.atomic_table.specs.Table.{Me, Allows}
-use Rattle.atomic_region.specs.Region as region
-use Rattle.atomic_region.proofs.Beside.{as_before}
-use Rattle.atomic_table.specs.Table.Act.{keeps as nothing}
 use Rattle.atomic_table.proofs.Lists.{at_set}
-use Rattle.placed_words.specs.Places.{place}
-use Rattle.placed_words.proofs.StepLemmas.{allows-at_place}
 use Rattle.heap_geometry.specs.declared.geometry.Geometry.{Geometry}
 use Rattle.heap_geometry.specs.declared.need.Need.{Need}
-use Rattle.word_table.specs.declared.action.Action.{Action}
-use Rattle.word_table.specs.declared.action.Action.TheVariants.{Load, Store, Cas, Swap, And}
+use Rattle.heap_geometry.specs.declared.need.Need.TheVariants as need
 use Rattle.word_table.specs.declared.action.Found.{Found as Find}
-use Rattle.word_table.specs.declared.name.WordName.{WordName}
+use Rattle.word_table.specs.declared.name.WordName.TheVariants.{Arena}
 use Rattle.word_table.specs.Actions.{name_of, after_action, found_by}
 use Rattle.word_table.specs.Counts.{word_count}
 use Rattle.word_table.specs.Table.{Exists, word_index}
@@ -28,9 +20,14 @@ use Rattle.pool_model.specs.Legal.{IsLegal}
 use Rattle.pool_model.specs.Pool.{block_at, pool_of}
 use Rattle.pool_model.proofs.HistoryLemmas.{legal-weaker}
 use Rattle.pool_model.proofs.OwnerLemmas.{others-keep_all}
-use Rattle.errand_steps.specs.Begins.{IsBusy, IsIdle, alloc_begun, free_begun, write_begun, read_begun, put_begun, take_begun}
+use Rattle.heap_geometry.specs.Need.{need_of}
+use Rattle.errand_steps.specs.Begins.{IsBusy, IsIdle, begins_alloc, free_point, alloc_begun, free_begun, write_begun, read_begun, put_begun, take_begun}
+use Rattle.errand_steps.specs.Points.{is_idle}
+use Rattle.errand_steps.specs.declared.point.Point.{Point}
+use Rattle.errand_steps.specs.declared.point.Point.TheVariants.{Block, Large}
+use Rattle.std.proofs.lemmas.Bool.{cases_eq}
 use Rattle.errand_steps.specs.Calls.{Call, alloc, free, write, read, put, take, begun_by}
-use Rattle.errand_steps.specs.Errands.{ErrandFields, plan_of, settle_of, answer_of}
+use Rattle.errand_steps.specs.Errands.{ErrandFields, is_spent, plan_of, settle_of, answer_of}
 use Rattle.errand_steps.specs.Events.{event_of}
 use Rattle.errand_steps.specs.Openings.{opening, IsOpening}
 use Rattle.errand_steps.specs.Steps.{State, Step, Moves, with_event, found_at}
@@ -48,8 +45,14 @@ use Rattle.step_machine.proofs.MomentAnswers.{settle-caller}
 use Rattle.step_machine.proofs.MomentLemmas.{reached-served}
 use Rattle.live_heap.specs.declared.view.Standing.{Standing}
 use Rattle.live_heap.specs.declared.view.View.{View}
-use Rattle.live_heap.specs.Rule.{IsStanding, Stands, KeptTable, MemoryHolds, PlacesHold, TableHolds, WordsHold, state_with}
-use Rattle.live_heap.specs.Sights.{IsBegun, Saw, TakesStep, after_events, found_in}
+use Rattle.live_heap.specs.Rule.{IsStanding, Stands, KeptTable, state_with}
+use Rattle.live_heap.specs.Sights.{IsBegun, TakesStep, after_events, found_in}
+use Rattle.sound_state.proofs.CountedLemmas.{without-counts}
+use Rattle.first_uses.specs.Pieces.{piece_of}
+use Rattle.errand_steps.specs.Openers.{Opens}
+use Rattle.first_uses.specs.Uses.{IsUnused}
+use Rattle.first_uses.proofs.InUse.{InUse, point-in_use}
+use Rattle.first_uses.proofs.Leaving.{unused-stays}
 use Rattle.live_heap.proofs.Alone.{reached-alone}
 use Rattle.live_heap.proofs.Growing.{IsBy, begin-uncounted, own-between, own-others, rest-none, starts-event, starts-more, starts-self, step-counted, steps-others, wins-others}
 
@@ -94,7 +97,7 @@ may-still g s caller (put place need shelf) log rest is none legal may = (owned-
 may-still g s caller (take shelf) log rest is none legal may = may
 
 -- the run at the moment of a step: the caller's errand is what it has begun with, and nothing else has changed
-record Starts (g : Geometry) (words : List ℕ) (errands : ℕ → ErrandFields) (log : List Event) (made : ℕ) (run : IsReached g (state_with g words errands log) made) (caller : ℕ) (e : ErrandFields) : Type 0 where
+pub record Starts (g : Geometry) (words : List ℕ) (errands : ℕ → ErrandFields) (log : List Event) (made : ℕ) (run : IsReached g (state_with g words errands log) made) (caller : ℕ) (e : ErrandFields) : Type 0 where
   pub started : ℕ → ErrandFields
   pub moves : Moves errands caller e started
   pub made_then : ℕ
@@ -197,6 +200,41 @@ pub is_begun-caller : (seen : List Event) (before e : ErrandFields) → IsBegun 
 is_begun-caller seen before e (inl same) = ap (λ (x : ErrandFields). x.caller) same
 is_begun-caller seen before e (inr (call, idle, may, begun)) = ap (λ (x : ErrandFields). x.caller) begun ∙ begun-caller before call
 
+-- who is in no call is about to use no piece
+pub idle-opens : (g : Geometry) (q : Point) (piece : ℕ) → is_idle q ≡ true → Opens g q piece → ⊥
+idle-opens g (Block p o) piece idle it = let no : false ≡ true = idle in cc
+idle-opens g (Large p o) piece idle it = let no : false ≡ true = idle in cc
+idle-opens g q piece idle it = it
+
+-- nor is who has just begun a call
+if-opens : (g : Geometry) (e f : ErrandFields) (b : Bool) (piece : ℕ) → (Opens g e.point piece → ⊥) → (Opens g f.point piece → ⊥) → Opens g (if b then e else f).point piece → ⊥
+if-opens g e f true piece one other it = one it
+if-opens g e f false piece one other it = other it
+
+need-opens : (g : Geometry) (e : ErrandFields) (words : ℕ) (n : Need) (piece : ℕ) → is_idle e.point ≡ true → Opens g (begins_alloc e words n).point piece → ⊥
+need-opens g e words (need.Small class) piece idle it = if-opens g e _ (is_spent e) piece (idle-opens g e.point piece idle) (λ x. x) it
+need-opens g e words (need.Large units) piece idle it = it
+need-opens g e words need.TooLarge piece idle it = idle-opens g e.point piece idle it
+
+free-opens : (g : Geometry) (e : ErrandFields) (place : ℕ) (n : Need) (piece : ℕ) → is_idle e.point ≡ true → Opens g (free_point e place n) piece → ⊥
+free-opens g e place (need.Small class) piece idle it = it
+free-opens g e place (need.Large units) piece idle it = it
+free-opens g e place need.TooLarge piece idle it = idle-opens g e.point piece idle it
+
+pub begun-opens : (g : Geometry) (e : ErrandFields) (call : Call) (piece : ℕ) → is_idle e.point ≡ true → Opens g (begun_by e call).point piece → ⊥
+unfolding alloc_begun free_begun write_begun read_begun put_begun take_begun
+begun-opens g e (alloc words) piece idle it = need-opens g e words (need_of words) piece idle it
+begun-opens g e (free place need) piece idle it = free-opens g e place need piece idle it
+begun-opens g e (write place need i value) piece idle it = it
+begun-opens g e (read place need i) piece idle it = it
+begun-opens g e (put place need shelf) piece idle it = it
+begun-opens g e (take shelf) piece idle it = it
+
+-- so who opens a piece in an errand that began or goes on has come there by its last step
+pub opens-since : (g : Geometry) (seen : List Event) (f h : ErrandFields) (piece : ℕ) → IsBegun seen f h → Opens g h.point piece → Opens g f.point piece
+opens-since g seen f h piece (inl same) it = subst (λ (x : ErrandFields). Opens g x.point piece) same it
+opens-since g seen f h piece (inr (call, idle, may, is)) it = absurd (begun-opens g f call piece idle (subst (λ (x : ErrandFields). Opens g x.point piece) is it))
+
 in_list : {A : Type 0} (l : List A) (i : ℕ) (a : A) → get_elem? l i ≡ some a → i < length l
 in_list [] i a e = absurd (some-ne-none a (sym e))
 in_list (x ∷ xs) zero a e = omega arith
@@ -208,17 +246,17 @@ only x y (suc k) e = absurd (some-ne-none y (sym e))
 
 module _ (g : Geometry) (words : List ℕ) (views : List View) (id : ℕ) (v : View) (before : Standing) (e : ErrandFields) (k : KeptTable g words views)
     (at : get_elem? views id ≡ some v) (one : v.callers ≡ before ∷ []) (b : IsBegun v.seen before.errand e) (busy : IsBusy e) where
-  abbrev caller : ℕ
+  abbrev pub caller : ℕ
   caller = e.caller
 
   -- where the step's word stands, and what the step finds there
-  abbrev index : ℕ
+  abbrev pub index : ℕ
   index = word_index g (name_of (plan_of e))
 
-  abbrev number : ℕ
+  abbrev pub number : ℕ
   number = slice_index words index
 
-  abbrev after : ErrandFields
+  abbrev pub after : ErrandFields
   after = settle_of e (found_in e number)
 
   abbrev event : Option Event
@@ -247,7 +285,7 @@ module _ (g : Geometry) (words : List ℕ) (views : List View) (id : ℕ) (v : V
   between_none : own caller mine.seen.0 ≡ []
   between_none = rest-none caller v.seen mine.seen.0 (own_before ∙ ap (own caller) mine.seen.1)
 
-  begun : Starts g words k.errands k.events k.made k.run caller e
+  pub begun : Starts g words k.errands k.events k.made k.run caller e
   begun = starts g words k.errands k.events k.made k.run caller before.errand e v.seen mine.seen.0 known (sym same_caller) mine.seen.1 between_none b has
 
   abbrev state : State
@@ -259,7 +297,7 @@ module _ (g : Geometry) (words : List ℕ) (views : List View) (id : ℕ) (v : V
   own_errand : IsOwnErrand g caller e
   own_errand = subst (IsOwnErrand g caller) begun.moves.here (sound.parts.1.formed.errands caller has)
 
-  there : Exists g (name_of (plan_of e))
+  pub there : Exists g (name_of (plan_of e))
   there = subst (λ h. Exists h (name_of (plan_of e))) own_errand.geometry
       (plan-exists e.geometry caller e.point own_errand.rule.geometry own_errand.rule.caller own_errand.rule.point)
 
@@ -272,7 +310,7 @@ module _ (g : Geometry) (words : List ℕ) (views : List View) (id : ℕ) (v : V
       let F : ErrandFields → Find = λ x. found_by (plan_of x) (state.word (name_of (plan_of x))) in
       ap F begun.moves.here ∙ ap (found_by (plan_of e)) finds
 
-  abbrev words_then : List ℕ
+  abbrev pub words_then : List ℕ
   words_then = slice_set words index (after_action (plan_of e) number)
 
   abbrev errands_then : ℕ → ErrandFields
@@ -325,11 +363,11 @@ module _ (g : Geometry) (words : List ℕ) (views : List View) (id : ℕ) (v : V
   by_me : IsBy caller event
   by_me = λ ev is. event_own caller e.point (found_in e number) ev is
 
-  abbrev standing_then : Standing
+  abbrev pub standing_then : Standing
   standing_then = record { errand = after; seen = events_now; accesses = suc before.accesses }
 
-  abbrev view_then : View
-  view_then = record { callers = standing_then ∷ []; seen = events_now; wins = list_now }
+  abbrev pub view_then : View
+  view_then = record { callers = standing_then ∷ []; seen = events_now; wins = list_now; lays = v.lays; ready = v.ready }
 
   now_mine : errands_then caller ≡ after
   now_mine = (moves-moved begun.started caller after).here
@@ -396,7 +434,7 @@ module _ (g : Geometry) (words : List ℕ) (views : List View) (id : ℕ) (v : V
       (λ (t : (j ≢ id) × (get_elem? views j ≡ some u)). others_then j u t.0 t.1)
       (at_set views id j view_then u is)
 
-  kept_then : KeptTable g words_then (slice_set views id view_then)
+  pub kept_then : KeptTable g words_then (slice_set views id view_then)
   kept_then = record {
     whole = length-set words _ _ ∙ k.whole;
     errands = errands_then;
@@ -421,7 +459,7 @@ module _ (g : Geometry) (words : List ℕ) (views : List View) (id : ℕ) (v : V
       let one_caller : g.callers ≡ 1 = ap (λ (h : Geometry). h.callers) (sym own_errand.geometry) ∙ is in
       ap (λ (x : ErrandFields). x.lost) (sym now_mine) ∙ reached-alone g next made_now caller run_now has one_caller
 
-  steps_then : TakesStep e number v view_then
+  pub steps_then : TakesStep e number v view_then
   steps_then = record {
     before = before;
     after = standing_then;
@@ -449,62 +487,50 @@ module _ (g : Geometry) (words : List ℕ) (views : List View) (id : ℕ) (v : V
     };
     served = served_then;
     alone = alone_then;
+    lays = refl;
   }
 
--- what a step on a table of words alone tells
-abbrev Told : ErrandFields → ℕ → Me ℕ View → Me ℕ View → Type 0
-Told e n before after = TakesStep e n before.0 after.0 × (after.1 ≡ before.1)
+  -- a piece that nobody uses stays so, but where the caller is about to use it first
+  pub unused_then : (piece : ℕ) → IsUnused g (word_in g words) piece → IsUnused g (word_in g words_then) piece ⊎ Opens g after.point piece
+  unused_then piece unused =
+      ⊎_elim (λ x. inl x) (λ opens. inr (subst (λ (x : ErrandFields). Opens g x.point piece) now_mine opens))
+      (unused-stays g state caller next piece (without-counts g state sound) has step unused)
 
--- a step of the errand may be made on any table under the rule
-pub may-step :
-    (g : Geometry) (slots id : ℕ) (me : Me ℕ View) (before : Standing) (e : ErrandFields) → me.0.callers ≡ before ∷ []
-    → IsBegun me.0.seen before.errand e → IsBusy e
-    → Allows {S = ℕ} (TableHolds g) slots id me (word_index g (name_of (plan_of e))) (after_action (plan_of e)) (λ n. Told e n me)
-may-step g slots id me before e one b busy s h homes at small =
-    let v = me.0 in (
-      view_then g s.words s.views id v before e h at one b busy,
-      nothing,
-      tt,
-      kept_then g s.words s.views id v before e h at one b busy,
-      (steps_then g s.words s.views id v before e h at one b busy, refl),
-    )
+  -- the step is on no word of a piece that nobody uses, and no other pass is about to use it first
+  used_now : (word : ℕ) → name_of (plan_of e) ≡ Arena word → InUse g state caller (piece_of g word)
+  used_now word is =
+      point-in_use g state caller word (state.errand caller).point (without-counts g state sound) has refl
+      (ap (λ (x : ErrandFields). name_of (plan_of x)) begun.moves.here ∙ is)
 
--- the five actions, at the place of their word
-module _ (key g : Geometry) (size id : ℕ) (me : region.Me View) (before : Standing) (e f : ErrandFields) (w : WordName) (index : ℕ)
-    (same : key ≡ g) (named : f ≡ e) (one : me.0.callers ≡ before ∷ []) (b : IsBegun me.0.seen before.errand f) (busy : IsBusy f)
-    (number : word_index g w < word_count g) (there : index ≡ place g (word_index g w)) (inside : index < size) where
-  -- the pass as a table of words alone has it
-  abbrev on_table : Me ℕ View
-  on_table = (me.0, [])
+  pub unused_never : (word : ℕ) → name_of (plan_of e) ≡ Arena word → IsUnused g (word_in g words) (piece_of g word) → ⊥
+  unused_never word is unused = (used_now word is).used unused
 
-  may-on_table : (a : Action) → name_of a ≡ w → plan_of f ≡ a → Allows {S = ℕ} (PlacesHold key) 0 id on_table index (after_action a) (λ n. Told e n on_table)
-  may-on_table a on is =
-      let A : Action → Type 0 = λ x. Allows {S = ℕ} (TableHolds g) 0 id on_table (word_index g (name_of x)) (after_action x) (λ n. Told e n on_table) in
-      let I : ℕ → Type 0 = λ i. Allows {S = ℕ} (TableHolds g) 0 id on_table i (after_action a) (λ n. Told e n on_table) in
-      let P : ℕ → Type 0 = λ i. Allows {S = ℕ} (PlacesHold g) 0 id on_table i (after_action a) (λ n. Told e n on_table) in
-      let K : Geometry → Type 0 = λ k. Allows {S = ℕ} (PlacesHold k) 0 id on_table index (after_action a) (λ n. Told e n on_table) in
-      subst K (sym same)
-      (subst P (sym there)
-      (allows-at_place g (TableHolds g) 0 id on_table (word_index g w) (after_action a) (λ n. Told e n on_table) number
-      (subst I (ap (word_index g) on)
-      (subst A (ap plan_of (sym named) ∙ is)
-      (may-step g 0 id on_table before e one (subst (IsBegun me.0.seen before.errand) named b) (subst IsBusy named busy))))))
+  pub opener_mine :
+      (word : ℕ) → name_of (plan_of e) ≡ Arena word → (i : ℕ) (u : View) (n : ℕ) (x : Standing) → get_elem? views i ≡ some u → get_elem? u.callers n ≡ some x
+      → Opens g x.errand.point (piece_of g word) → (i ≡ id) × (x ≡ before)
+  opener_mine word is i u n x at_u at_x opens =
+      let y = (k.each i u at_u).each n x at_x in
+      let mine : x.errand.caller ≡ caller =
+      elim (cases_eq x.errand.caller caller) [
+        | inl same ↦ same
+        | inr other ↦
+            let stands : state.errand x.errand.caller ≡ x.errand = begun.moves.elsewhere x.errand.caller other ∙ y.errand in
+            (used_now word is).alone x.errand.caller y.has (subst (λ (f : ErrandFields). Opens g f.point (piece_of g word)) (sym stands) opens)
+      ] in
+      let place_is : (i, n) ≡ (id, 0) = sym y.at_place ∙ ap k.place (mine ∙ same_caller) ∙ first.at_place in
+      let i_is : i ≡ id = ap (λ (q : ℕ × ℕ). q.0) place_is in
+      let n_is : n ≡ 0 = ap (λ (q : ℕ × ℕ). q.1) place_is in
+      let u_is : u ≡ v = some-injective u v (sym at_u ∙ ap (get_elem? views) i_is ∙ at) in (
+        i_is,
+        some-injective x before
+            (sym at_x ∙ ap (λ (q : List Standing × ℕ). get_elem? q.0 q.1) (let both : (u.callers, n) ≡ (v.callers, 0) = (λ j. (ap (λ (z : View). z.callers) u_is j, n_is j)) in both)
+            ∙ ap (λ (l : List Standing). get_elem? l 0) one),
+      )
 
-  may : (a : Action) → name_of a ≡ w → plan_of f ≡ a → region.Allows (MemoryHolds key) size id me index (after_action a) (λ n. Saw e n me)
-  may a on is =
-      as_before (WordsHold key) 0 size id me.0 me.1 index (after_action a) (λ n. Told e n on_table) (λ n. Saw e n me) inside (λ words views h. ([], refl)) (λ n u d t. (t.0, refl)) (may-on_table a on is)
-
-  pub may-load : plan_of f ≡ Load w → region.Allows (MemoryHolds key) size id me index (λ n. n) (λ n. Saw e n me)
-  may-load is = may (Load w) refl is
-
-  pub may-store : (x : ℕ) → plan_of f ≡ Store w x → region.Allows (MemoryHolds key) size id me index (λ _. x) (λ _ m. (k : ℕ) × Saw e k me m)
-  may-store x is s h long at = let t = may (Store w x) refl is s h long at in (t.0, λ small. let r = t.1 small in (r.0, r.1, r.2, r.3, (_, r.4)))
-
-  pub may-swap : (x : ℕ) → plan_of f ≡ Swap w x → region.Allows (MemoryHolds key) size id me index (λ _. x) (λ n. Saw e n me)
-  may-swap x is = may (Swap w x) refl is
-
-  pub may-and : (x : ℕ) → plan_of f ≡ And w x → region.Allows (MemoryHolds key) size id me index (λ n. bit_and n x) (λ n. Saw e n me)
-  may-and x is = may (And w x) refl is
-
-  pub may-exchange : (x y : ℕ) → plan_of f ≡ Cas w x y → region.Allows (MemoryHolds key) size id me index (λ n. either (n == x) y n) (λ n. Saw e n me)
-  may-exchange x y is = may (Cas w x y) refl is
+  -- who is about to use a piece first stands there already
+  pub opens-before : (piece : ℕ) → Opens g before.errand.point piece → Opens g e.point piece
+  opens-before piece opens = opens-begun v.seen before.errand e b opens
+    where
+      opens-begun : (seen : List Event) (f h : ErrandFields) → IsBegun seen f h → Opens g f.point piece → Opens g h.point piece
+      opens-begun seen f h (inl same) it = subst (λ (x : ErrandFields). Opens g x.point piece) (sym same) it
+      opens-begun seen f h (inr (call, idle, may, is)) it = absurd (idle-opens g f.point piece idle it)

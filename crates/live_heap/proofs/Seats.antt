@@ -6,8 +6,6 @@ use mathlib.Core.Option.{some, some-injective, some-ne-none}
 use lib.ListN.{get_elem?}
 use Rattle.atomic_table.specs.Table.{Splits, Joins}
 use Rattle.atomic_table.proofs.Lists.{at_set, set_else}
-use Rattle.placed_words.specs.Places.{placed_count}
-use Rattle.placed_words.proofs.PlaceLemmas.{place-least}
 use Rattle.heap_geometry.specs.declared.geometry.Geometry.{Geometry}
 use Rattle.heap_geometry.specs.Geometry.{IsChecked}
 use Rattle.word_table.specs.Counts.{word_count}
@@ -16,8 +14,6 @@ use Rattle.word_table.specs.Words.{word_in}
 use Rattle.word_table.specs.declared.name.WordName.{WordName}
 use Rattle.errand_steps.specs.Errands.{open_errand}
 use Rattle.errand_steps.specs.Openings.{opening, IsOpening}
-use Rattle.word_table.specs.declared.name.WordName.TheVariants.{FrameHead}
-use Rattle.word_table.proofs.TableLemmas.{word_index-within}
 use Rattle.word_table.proofs.NameLemmas.{exists-true, true-Exists}
 use Rattle.word_table.proofs.WordLemmas.{word_in-nowhere}
 use Rattle.step_machine.specs.Firsts.{IsTable}
@@ -350,7 +346,3 @@ joins g id v from w s h at apart there = record {
                 counted = y.counted;
               };
         }
-
--- a table has words
-pub some-words : (g : Geometry) → 0 < placed_count g
-some-words g = omega (arith, word_index-within g FrameHead tt, place-least g (word_count g))

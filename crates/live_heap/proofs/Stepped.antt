@@ -40,6 +40,7 @@ still-of h p q n of table empty is s =
       begun = inl (is ∙ number);
       served = subst S (sym is) (subst (λ c. IsServed h.layout c (settle_of p.errand x) (seen q)) (sym (settle-caller p.errand x)) served);
       alone = λ one. subst (λ (f : ErrandFields). f.lost ≡ 0) (sym is) (s.alone (ap (λ (g : Geometry). g.callers) laid ∙ one));
+      settled = s.lays ∙ of.settled;
     }
 
 -- the moment of the step, as the code made it

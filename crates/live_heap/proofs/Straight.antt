@@ -35,6 +35,8 @@ use Rattle.live_heap.specs.declared.pass.Pass.{Pass}
 use Rattle.live_heap.specs.Answers.{HasStepped, block_need, block_place, reply_of}
 use Rattle.live_heap.specs.Calls.{HasCalled, IsCalling}
 use Rattle.live_heap.specs.Going.{in_call}
+use Rattle.live_heap.specs.declared.view.View.{View}
+use Rattle.live_heap.specs.Pieces.{IsReady}
 use Rattle.live_heap.specs.Passes.{IsOf, seen, view}
 use Rattle.live_heap.specs.Sights.{IsSightOf, TakesStep, after_events, found_in}
 use Rattle.live_heap.proofs.Begun.{begins-of}
@@ -82,6 +84,15 @@ write-busy e place n i v = refl
 pub read-busy : (e : ErrandFields) (place : ℕ) (n : Need) (i : ℕ) → IsBusy (begun_by e (read place n i))
 unfolding read_begun
 read-busy e place n i = refl
+
+-- neither is the first to use a piece
+pub write-ready : (g : Geometry) (e : ErrandFields) (place : ℕ) (n : Need) (i v : ℕ) (u : View) → IsReady g (begun_by e (write place n i v)).point u
+unfolding write_begun
+write-ready g e place n i v u k opens = absurd opens
+
+pub read-ready : (g : Geometry) (e : ErrandFields) (place : ℕ) (n : Need) (i : ℕ) (u : View) → IsReady g (begun_by e (read place n i)).point u
+unfolding read_begun
+read-ready g e place n i u k opens = absurd opens
 
 -- the steps of a write and of a read leave the errand as it was, and answer
 pub write-settles :

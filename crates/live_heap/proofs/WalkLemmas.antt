@@ -10,6 +10,8 @@ use Rattle.word_table.specs.declared.onward.Onward.TheVariants.{Stays, Leaves}
 use Rattle.word_table.specs.Onwards.{exit_by, point_by}
 use Rattle.superblock_parts.specs.declared.exit.BlockExit.{BlockExit}
 use Rattle.superblock_parts.specs.declared.point.BlockPoint.{BlockPoint}
+use Rattle.superblock_parts.specs.declared.point.BlockPoint.TheVariants as block
+use Rattle.heap_geometry.specs.declared.geometry.Geometry.{Geometry}
 use Rattle.superblock_parts.specs.Points.{plan_block_of, settle_block_of}
 use Rattle.errand_steps.specs.declared.continuation.Continuation.{Continuation}
 use Rattle.errand_steps.specs.declared.next.Next.TheVariants as next
@@ -30,7 +32,9 @@ use Rattle.live_heap.specs.declared.heap.Heap.{Heap}
 use Rattle.live_heap.specs.declared.pass.Pass.{Pass}
 use Rattle.live_heap.specs.Answers.{reply_in, reply_of}
 use Rattle.live_heap.specs.Calls.{GoesOn, IsCalling}
-use Rattle.live_heap.specs.Going.{EndsBy, HasGone, HasWalked, IsWalking, at_block, in_call, stands_at}
+use Rattle.live_heap.specs.Going.{EndsBy, HasGone, HasWalked, IsWalking, LinksNone, at_block, in_call, stands_at}
+use Rattle.live_heap.specs.declared.view.View.{View}
+use Rattle.live_heap.specs.Pieces.{IsReady}
 use Rattle.live_heap.specs.Passes.{IsOf, seen}
 use Rattle.live_heap.specs.Sights.{after_events, found_in}
 use Rattle.live_heap.proofs.Begun.{begins-of}
@@ -52,6 +56,15 @@ won-kept (And name mask) x won = refl
 kept : (p : BlockPoint) (o : Continuation) (x : Find) → x.won ≡ true → counts_lost (point.Block p o) x ≡ false
 unfolding plan_point_of
 kept p o x won = won-kept (plan_block_of p) x won
+
+-- where it links none, the step is the first to use no piece
+pub links-none-ready : (g : Geometry) (p : BlockPoint) (o : Continuation) (v : View) → LinksNone p → IsReady g (point.Block p o) v
+links-none-ready g (block.LinkBlock at i) o v none k opens = absurd none
+links-none-ready g p o v none k opens = absurd opens
+
+-- no step but one that links blocks leads to one that does
+stays-apart : (p : BlockPoint) (x : Find) → LinksNone p → LinksNone (point_by p (settle_block_of p x))
+stays-apart p x apart = grind (arith)
 
 -- an errand with what a step wins counted
 abbrev pub counted : ErrandFields → BlockPoint → Find → ErrandFields
@@ -121,6 +134,7 @@ module _
         idle = w.walks.idle;
         rule = subst IsErrand (sym settled) w.has.1.served.own_errand.rule;
         some = w.walks.some;
+        links_none = subst LinksNone (sym is) (stays-apart p x w.walks.links_none);
       } in
       subst (λ d. IsWalking h start tries q o (record { seat = r.seat; errand = d })) (sym counts) goes
 
@@ -152,8 +166,8 @@ module _
     (p : Pass) (call : Call) (q : Pass) (first : BlockPoint) (o : Continuation) (same : stands_at q first o ≡ in_call p call) where
   pub walk-begins :
       (h : Heap) (tries : ℕ) → IsOf h p → IsIdle p.errand → MayBegin (after_events (seen p)) p.errand.caller call → IsIdle q.errand
-      → IsErrand (in_call p call).errand → 0 < tries → IsWalking h (stands_at q first o) tries first o q
-  walk-begins h tries of idle may idle_then rule some =
+      → IsErrand (in_call p call).errand → 0 < tries → LinksNone first → IsWalking h (stands_at q first o) tries first o q
+  walk-begins h tries of idle may idle_then rule some links_none =
       let still : IsOf h (stands_at q first o) = subst (IsOf h) (sym same) (begins-of h p (in_call p call) call of idle may refl refl) in
       record {
         of = still;
@@ -161,6 +175,7 @@ module _
         idle = idle_then;
         rule = subst IsErrand (ap (λ (b : Pass). b.errand) (sym same)) rule;
         some = some;
+        links_none = links_none;
       }
 
   -- a call that has begun has gone on as it did from its first point

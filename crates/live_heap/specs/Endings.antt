@@ -62,6 +62,11 @@ pub record HasTakenIn (c : ClosedFields) (p : Pass) : Type 0 where
   pub seen_before : Begins (seen p) c.events
   pub events : own p.errand.caller c.events ≡ own p.errand.caller (seen p)
 
+-- the view stands for all callers, each of them in no call
+pub record IsAtRest (g : Geometry) (v : View) : Type 0 where
+  pub all : length v.callers ≡ g.callers
+  pub idle : All (λ x. IsIdle x.errand) v.callers
+
 -- these are all passes of the heap, each in no call
 pub record AreAllIdle (h : Heap) (passes : List Pass) : Type 0 where
   pub all : length passes ≡ h.layout.callers

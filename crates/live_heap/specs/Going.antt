@@ -4,6 +4,7 @@ use Rattle.heap_geometry.specs.declared.limits.TheConstants.{CALL_STEPS}
 use Rattle.atomic_region.specs.declared.shared.Seat.{Seat}
 use Rattle.word_table.specs.declared.action.Found.{Found as Find}
 use Rattle.superblock_parts.specs.declared.point.BlockPoint.{BlockPoint}
+use Rattle.superblock_parts.specs.declared.point.BlockPoint.TheVariants as block
 use Rattle.superblock_parts.specs.declared.exit.BlockExit.{BlockExit}
 use Rattle.pool_model.specs.Histories.{Begins}
 use Rattle.errand_steps.specs.declared.continuation.Continuation.{Continuation}
@@ -69,6 +70,11 @@ at_block e p o = record e { point = point.Block p o }
 abbrev pub stands_at : Pass → BlockPoint → Continuation → Pass
 stands_at q p o = record { seat = q.seat; errand = at_block q.errand p o }
 
+-- the step at this point links no block of a new superblock, so it is the first to use no piece
+abbrev pub LinksNone : BlockPoint → Type 0
+LinksNone (block.LinkBlock at i) = ⊥
+LinksNone p = Unit {0}
+
 -- a call that stood at `start` and is given so many tries has come to this point, and none is lost; the pass's own errand is idle all the time
 pub record IsWalking (h : Heap) (start : Pass) (tries : ℕ) (p : BlockPoint) (o : Continuation) (q : Pass) : Type 0 where
   pub of : IsOf h (stands_at q p o)
@@ -76,6 +82,7 @@ pub record IsWalking (h : Heap) (start : Pass) (tries : ℕ) (p : BlockPoint) (o
   pub idle : IsIdle q.errand
   pub rule : IsErrand (at_block q.errand p o)
   pub some : 0 < tries
+  pub links_none : LinksNone p
 
 -- a walking call's seat has made the step from its point and found this; the pass's errand stands still
 pub record HasWalked (h : Heap) (start : Pass) (tries : ℕ) (p : BlockPoint) (o : Continuation) (x : Find) (q : Pass) : Type 0 where

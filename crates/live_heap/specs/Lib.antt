@@ -2,11 +2,13 @@ pub mod Answers
 pub mod Calls
 pub mod Contents
 pub mod Endings
+pub mod FirstRoom
 pub mod Going
 pub mod Hands
 pub mod Holdings
 pub mod Linked
 pub mod Passes
+pub mod Pieces
 pub mod Refusals
 pub mod Rule
 pub mod SeenSteps

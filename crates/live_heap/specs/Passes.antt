@@ -1,5 +1,5 @@
 -- When a pass is of a heap, and what it owns.
-use Rattle.std.specs.Prelude.{ℕ, zero, suc, ◌≡◌, List, [], ◌∷◌}
+use Rattle.std.specs.Prelude.{ℕ, zero, suc, ◌≡◌, List, [], ◌∷◌, None}
 use Rattle.pool_model.specs.declared.event.Event.{Event}
 use Rattle.errand_steps.specs.Errands.{open_errand}
 use Rattle.step_machine.specs.Cores.{OwnsAfter}
@@ -36,6 +36,7 @@ pub record IsOf (h : Heap) (p : Pass) : Type 0 where
   pub begun : IsBegun (seen p) before.errand p.errand
   pub served : IsServed h.layout p.errand.caller p.errand (seen p)
   pub alone : h.layout.callers ≡ 1 → p.errand.lost ≡ 0
+  pub settled : (view p).lays ≡ None
 
 -- the pass owns the block, after the events that it has seen
 abbrev pub Owns : Pass → Block → Type 0

@@ -1,11 +1,9 @@
--- The rule of the table: its words, the errands and what the passes have seen are a state that callers reach from the opening.
-use Rattle.std.specs.Prelude.{ℕ, ◌≡◌, ◌<◌, ◌≤◌, if◌then◌else◌, nat_lt, List, [], ◌++◌, length, count_by}
+-- The rule of the heap's words: they, the errands and what the passes have seen are a state that callers reach from the opening.
+use Rattle.std.specs.Prelude.{ℕ, ◌≡◌, ◌<◌, ◌≤◌, if◌then◌else◌, nat_lt, List, ◌++◌, length, count_by}
 use mathlib.Core.Option.{some}
 use lib.ListN.{get_elem?}
 use Rattle.atomic_table.specs.Table.{State as TableState}
-use Rattle.atomic_region.specs.Region.{State as RegionState}
-use Rattle.plain_words.specs.Places.{laids}
-use Rattle.placed_words.specs.Places.{HoldsAtPlaces}
+use Rattle.placed_words.specs.Places.{placed_count, words_at}
 use Rattle.heap_geometry.specs.declared.geometry.Geometry.{Geometry}
 use Rattle.word_table.specs.Counts.{word_count}
 use Rattle.word_table.specs.Words.{word_in}
@@ -67,14 +65,6 @@ pub record KeptTable (g : Geometry) (words : List ℕ) (views : List View) : Typ
 abbrev pub TableHolds : {S : Type 0} → Geometry → TableState S View → Type 0
 TableHolds g s = KeptTable g s.words s.views
 
--- the rule of a table in memory, where each word lies at its place
-abbrev pub PlacesHold : {S : Type 0} → Geometry → TableState S View → Type 0
-PlacesHold g s = HoldsAtPlaces g (TableHolds g) s
-
--- the same of words and views alone
+-- the same of words in memory, where each lies at its place
 abbrev pub WordsHold : Geometry → List ℕ → List View → Type 0
-WordsHold g words views = PlacesHold {S = ℕ} g (record { words = words; homes = []; views = views })
-
--- the rule of the region: each of its words is laid and at home, and they are a table in memory
-abbrev pub MemoryHolds : Geometry → RegionState View → Type 0
-MemoryHolds g s = (words : List ℕ) × WordsHold g words s.views × (s.places ≡ laids words)
+WordsHold g words views = (length words ≡ placed_count g) × KeptTable g (words_at g words) views

@@ -43,6 +43,7 @@ pub record TakesStep (e : ErrandFields) (n : ℕ) (v w : View) : Type 0 where
   pub moment : IsMoment e (settle_of e (found_in e n)) v.seen w.seen (answer_of e (found_in e n))
   pub served : IsServed e.geometry e.caller (settle_of e (found_in e n)) w.seen
   pub alone : e.geometry.callers ≡ 1 → (settle_of e (found_in e n)).lost ≡ 0
+  pub lays : w.lays ≡ v.lays
 
 -- a pass made the step of the errand e, which found n, and holds what it held
 abbrev pub Saw : ErrandFields → ℕ → Me View → Me View → Type 0

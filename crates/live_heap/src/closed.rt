@@ -1,6 +1,6 @@
 //! How a heap closes, and what is left of it.
 
-ghost use Rattle.std.specs.Prelude.{ℕ, ◌≡◌, ◌<◌, ◌≤◌, ◌-◌, ◌*◌, ◌^◌, min, sum_by, length, All, IfOk};
+ghost use Rattle.std.specs.Prelude.{ℕ, ◌≡◌, ◌==◌, ◌<◌, ◌≤◌, ◌-◌, ◌*◌, ◌^◌, min, sum_by, length, slice_index, All, IfOk};
 ghost use Rattle.std.specs.Result.{IfErr};
 ghost use Rattle.word_table.specs.Table.{Exists};
 ghost use Rattle.word_table.specs.Words.{word_in};
@@ -8,9 +8,13 @@ ghost use Rattle.errand_steps.specs.Begins.{IsIdle};
 ghost use Rattle.call_bounds.specs.Contention.{lost_of, won_of};
 ghost use Rattle.sound_state.specs.Sums.{callers_sum};
 ghost use Rattle.step_machine.specs.Cores.{errand_at};
+ghost use Rattle.first_uses.specs.Pieces.{piece_count};
+ghost use Rattle.plain_words.specs.Places.{numbers};
+ghost use Rattle.live_heap.specs.Pieces.{AreMarked, mark_place};
 ghost use Rattle.live_heap.specs.Endings.{AreAllIdle, HasAccesses, HasClosed, IsGathered, IsResting};
 
 use crate::heap::Heap;
+use crate::laying::{LAID, piece_of};
 use crate::pass::Pass;
 use crate::plays::Gathers;
 use crate::view::View;
@@ -35,16 +39,16 @@ pub struct Closed {
 }
 
 impl Model for Closed {
-    ghost use Rattle.std.specs.Prelude.{◌≡◌, length};
-    ghost use Rattle.plain_words.specs.Places.{laids, numbers};
-    ghost use Rattle.placed_words.specs.Places.{placed_count, words_at};
+    ghost use Rattle.plain_words.specs.Places.{numbers};
+    ghost use Rattle.placed_words.specs.Places.{words_at};
     ghost use Rattle.live_heap.specs.Endings.{ClosedFields, IsCounted, IsResting, closed_with};
+    ghost use Rattle.live_heap.specs.Pieces.{AreMarked};
 
     ghost Value = { ClosedFields };
 
     ghost view = { λ s. closed_with s.layout (words_at s.layout (numbers s.room.plain.places)) s.last.value.me.0 };
 
-    ghost invariant = { λ s. record { laid : s.room.plain.places ≡ laids (numbers s.room.plain.places); len : length s.room.plain.places ≡ placed_count s.layout; rests : IsResting (closed_with s.layout (words_at s.layout (numbers s.room.plain.places)) s.last.value.me.0); counts : IsCounted (closed_with s.layout (words_at s.layout (numbers s.room.plain.places)) s.last.value.me.0) s.won s.lost } };
+    ghost invariant = { λ s. record { marked : AreMarked s.layout s.room.plain.places; rests : IsResting (closed_with s.layout (words_at s.layout (numbers s.room.plain.places)) s.last.value.me.0); counts : IsCounted (closed_with s.layout (words_at s.layout (numbers s.room.plain.places)) s.last.value.me.0) s.won s.lost } };
 }
 
 /// What is refused where there is no memory for closing: nothing has changed.
@@ -90,6 +94,7 @@ impl Heap {
     {
         let shared = &self.table.shared;
         let start = self.table.start();
+        let mark = self.first_mark();
         let Pass { mut seat, errand } = passes.pop().unwrap();
         let mut won = errand.won();
         let mut lost = errand.lost();
@@ -100,7 +105,7 @@ impl Heap {
             } = pass;
             won = won.saturating_add(errand.won());
             lost = lost.saturating_add(errand.lost());
-            shared.join_seat::<Gathers>(&mut seat, other, start, 0);
+            shared.join_seat::<Gathers>(&mut seat, other, start, mark);
         }
         Gathered { seat, won, lost }
     }
@@ -115,12 +120,16 @@ impl Closed {
         self.layout.geometry()
     }
 
-    /// The word of this name.
+    /// The word of this name. A word of the arena that nobody used is 0, and its memory isn't touched.
     pub fn word(&self, name: WordName) -> u64
         requires { Exists self.now.geometry name }
         ensures { result ≡ word_in self.now.geometry self.now.words name }
     {
-        self.room.word(self.layout.place(name) as usize)
+        match name {
+            WordName::Arena(word)
+                if !is_laid(&self.room, &self.layout, piece_of(&self.layout, word)) => { 0 }
+            _ => self.room.word(self.layout.place(name) as usize),
+        }
     }
 
     /// How many exchanges all callers won, at most 2^64 - 1.
@@ -141,6 +150,15 @@ impl Closed {
     {
         self.lost
     }
+}
+
+/// Whether a piece was laid, by its mark.
+fn is_laid(room: &Room<Global>, layout: &Placement, piece: u32) -> bool
+    requires marked { AreMarked layout.now room.now.plain.places }
+    requires piece { piece < piece_count layout.now }
+    ensures { result ≡ (slice_index (numbers room.now.plain.places) (mark_place layout.now piece) == 2) }
+{
+    room.word(layout.count() as usize + piece as usize) == LAID
 }
 
 impl Drop for Closed {

@@ -1,16 +1,21 @@
 //! A heap, and how it opens.
 
-ghost use Rattle.std.specs.Prelude.{ℕ, ◌≡◌, ◌<◌, ◌+◌, ◌≤◌, [], length, vec_capacity, IfOk};
+ghost use Rattle.std.specs.Prelude.{ℕ, true, false, ◌≡◌, ◌<◌, ◌+◌, ◌≤◌, [], length, vec_capacity, IfOk};
 ghost use Rattle.heap_geometry.specs.Geometry.{IsChecked};
+ghost use Rattle.first_uses.specs.Pieces.{piece_count};
+ghost use Rattle.live_heap.specs.Pieces.{HasOut, PiecesHold, mark_place};
 ghost use Rattle.placed_words.specs.Places.{place, placed_count};
+ghost use Rattle.plain_words.specs.Places.{AllHere};
+ghost use Rattle.atomic_region.specs.Region.{Final, Seen};
 ghost use Rattle.word_table.specs.Counts.{word_count};
 ghost use Rattle.word_table.specs.Table.{Exists, word_index};
 
-use crate::opened::first_words;
+use crate::laying::OUT;
+use crate::opened::first_room;
 use crate::pass::Pass;
 use crate::plays::{Peels, Reachable};
 use crate::view::View;
-use atomic_region::{Region, Seat};
+use atomic_region::{Closed, Region, Seat};
 use errand_steps::errand::Errand;
 use heap_geometry::geometry::Geometry;
 use placed_words::placement::Placement;
@@ -25,14 +30,13 @@ use word_table::name::WordName;
 pub struct Heap {
     pub(crate) table: Region<View, Geometry, Reachable, Global>,
     pub(crate) layout: Placement,
-    ghost laid: { (table.shared.id.words ≡ placed_count layout) × (table.shared.key ≡ layout) },
+    ghost laid: { (table.shared.id.words ≡ placed_count layout + piece_count layout) × (table.shared.key ≡ layout) },
     ghost checked: { IsChecked layout },
 }
 
 impl Heap {
-    ghost use Rattle.atomic_region.specs.Region.{Final, Seen};
+    ghost use Rattle.live_heap.specs.Endings.{IsAtRest};
     ghost use Rattle.live_heap.specs.Passes.{AreFrom};
-    ghost use Rattle.live_heap.specs.Rule.{MemoryHolds};
     ghost use Rattle.live_heap.specs.Views.{opening_view, idle_view};
 
     /// A heap with these numbers, and one pass for each caller in the order of their numbers. Nothing has
@@ -59,8 +63,7 @@ impl Heap {
             × (laid.1.me ≡ (opening_view geometry, []))) }
     {
         let layout = Placement::new(geometry);
-        let words = first_words(alloc, &layout)?;
-        let room = Room::of_words(alloc, words.as_slice())?;
+        let room = first_room(alloc, &layout)?;
         let (table, seat) = Region::open(room, &geometry);
         Ok((Heap { table, layout }, seat))
     }
@@ -76,10 +79,11 @@ impl Heap {
     {
         let shared = &self.table.shared;
         let start = self.table.start();
+        let mark = self.first_mark();
         let geometry = self.layout.geometry();
         let mut rest = seat;
         for caller in 0..geometry.callers - 1 {
-            let next = shared.split_seat::<Peels>(&mut rest, start, 0);
+            let next = shared.split_seat::<Peels>(&mut rest, start, mark);
             passes.push_reserved(Pass {
                 seat: rest,
                 errand: Errand::open(caller, geometry),
@@ -108,11 +112,21 @@ impl Heap {
         self.layout.place(name) as usize
     }
 
-    /// All words as they are in the end, where the seat has this view.
+    /// The place of the mark of the first piece. A seat is cut, or taken in, at a load of it.
+    pub(crate) fn first_mark(&self) -> usize
+        ensures place { result ≡ mark_place self.now.layout 0 }
+        ensures within { result < self.now.table.shared.id.words }
+    {
+        self.layout.count() as usize
+    }
+
+    /// All memory as it is in the end, where the seat has this view: all callers' views in one, and each caller in no
+    /// call. So no piece is out.
     pub(crate) fn end(self, seat: Seat<View>) -> (Room<Global>, Placement)
-        requires { seat.region ≡ self.table.shared.id }
+        requires table { seat.region ≡ self.table.shared.id }
+        requires rests { IsAtRest self.layout seat.me.0 }
         ensures layout { result.1 ≡ self.layout }
-        ensures last { Final (Seen (MemoryHolds result.1) seat.id seat.me.0) result.0.plain.places }
+        ensures last { Final (Seen (PiecesHold result.1) seat.id seat.me.0) result.0.plain.places }
     {
         let Self { table, layout } = self;
         (table.close_with(seat).into_room(), layout)
@@ -120,9 +134,29 @@ impl Heap {
 }
 
 impl Drop for Heap {
-    /// No word is ever out, so all memory goes back.
+    /// All memory goes back. Where a pass was stopped while it laid a piece, so that the piece is out, the memory stays
+    /// allocated.
     fn drop(self) {
-        let Self { table, layout: _ } = self;
-        drop(table.close().into_room());
+        let Self { table, layout } = self;
+        let closed = table.close();
+        if all_at_home(&closed, &layout) {
+            drop(closed.into_room());
+        }
     }
+}
+
+/// Whether each mark says that its piece is no pass's, which lays it.
+fn all_at_home(closed: &Closed<Global>, layout: &Placement) -> bool
+    requires { Final (PiecesHold layout.now) closed.now.plain.places }
+    ensures home { result ≡ true → AllHere closed.now.plain.places }
+    ensures out { result ≡ false → HasOut layout.now closed.now.plain.places }
+{
+    let marks = layout.count() as usize;
+    let geometry = layout.geometry();
+    for piece in 0..(geometry.frames + geometry.units) as usize {
+        if closed.word(marks + piece) == OUT {
+            return false;
+        }
+    }
+    true
 }

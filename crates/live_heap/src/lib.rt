@@ -4,6 +4,10 @@
 //! The table's rule is that its words, the errands of all passes and the longest list of events that a
 //! pass has seen are a state of the machine that its callers reach from the opening. So every step of
 //! every thread is a step of that machine, in whatever order the hardware makes them.
+//!
+//! The table lies in a region of memory whose arena isn't written at opening. A frame or a unit is filled
+//! with 0 by the pass that is the first to use it (laying.rt); until then its words count as 0 for the
+//! machine, and no step is on one of them.
 #![tactic(auto)]
 
 pub mod answers;
@@ -14,6 +18,7 @@ pub mod closed;
 mod fills;
 pub mod heap;
 pub mod laws;
+mod laying;
 mod opened;
 pub mod pass;
 mod plays;

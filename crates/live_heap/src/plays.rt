@@ -6,14 +6,15 @@ use atomic_table::{Join, Split};
 use heap_geometry::geometry::Geometry;
 use std::marker::{Brand, PhantomData};
 
-/// The words, the errands and the longest list that was seen are a state that callers reach.
+/// The words, the errands and the longest list that was seen are a state that callers reach; and the pieces are
+/// laid that were used.
 pub struct Reachable;
 
 impl RegionRule<View, Geometry> for Reachable {
-    ghost use Rattle.live_heap.specs.Rule.{MemoryHolds};
+    ghost use Rattle.live_heap.specs.Pieces.{PiecesHold};
     ghost use Rattle.live_heap.specs.Views.{opening_view};
 
-    ghost holds = { MemoryHolds };
+    ghost holds = { PiecesHold };
 
     ghost first = { opening_view };
 }
@@ -52,6 +53,46 @@ impl<E: Doing> Play<View> for Stores<E> {
     ghost use Rattle.live_heap.specs.Sights.{Saw};
 
     ghost then = { λ st before n after. (found : ℕ) × Saw E.errand found before after };
+}
+
+/// The piece that is laid, of a heap with these numbers. Each step names it for the proof.
+pub trait Laying {
+    ghost use Rattle.std.specs.Prelude.{ℕ};
+    ghost use Rattle.heap_geometry.specs.declared.geometry.Geometry.{Geometry};
+
+    ghost layout: { Geometry };
+
+    ghost piece: { ℕ };
+}
+
+impl Laying for Brand {
+    ghost use Rattle.live_heap.specs.Pieces.{no_layout};
+
+    ghost layout = { no_layout };
+
+    ghost piece = { 0 };
+}
+
+/// A claim of a piece: whoever finds that it was never laid has it out.
+pub struct Claims<L> {
+    piece: PhantomData<L>,
+}
+
+impl<L: Laying> Play<View> for Claims<L> {
+    ghost use Rattle.live_heap.specs.Pieces.{Claimed};
+
+    ghost then = { λ st before n after. Claimed L.layout L.piece before.0 n after };
+}
+
+/// A piece comes back, and is laid.
+pub struct Lays<L> {
+    piece: PhantomData<L>,
+}
+
+impl<L: Laying> Play<View> for Lays<L> {
+    ghost use Rattle.live_heap.specs.Pieces.{HasLaid};
+
+    ghost then = { λ st before n after. HasLaid L.piece before.0 after };
 }
 
 /// The first caller stays with one seat, and the others go to another.

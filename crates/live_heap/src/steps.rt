@@ -9,6 +9,7 @@ ghost use Rattle.errand_steps.specs.Errands.{plan_of};
 ghost use Rattle.live_heap.specs.Answers.{HasStepped};
 ghost use Rattle.live_heap.specs.Going.{HasFound};
 ghost use Rattle.live_heap.specs.Passes.{IsOf};
+ghost use Rattle.live_heap.specs.Pieces.{IsReady};
 ghost use Rattle.live_heap.specs.Sights.{IsSightOf};
 
 use crate::block::{Block, Tokens};
@@ -34,6 +35,7 @@ impl Heap {
         if pass.errand.idle() {
             return Stepped::Idle;
         }
+        self.make_ready(&mut pass.seat, &pass.errand);
         let offer = pass.errand.offered();
         let action = plan(&pass.errand);
         let found = self.act::<Brand>(&mut pass.seat, &pass.errand, action);
@@ -55,6 +57,7 @@ impl Heap {
         requires planned { action ≡ plan_of E.errand }
         requires there { Exists self.now.layout (name_of action) }
         requires sight { IsSightOf self.now.layout seat.old.me.0 E.errand }
+        requires ready { IsReady self.now.layout E.errand.point seat.old.me.0 }
         ensures seat { (seat.new.region ≡ seat.old.region) × (seat.new.me.1 ≡ seat.old.me.1) }
         ensures step { HasFound E.errand result seat.old.me.0 seat.new.me.0 }
     {

@@ -6,8 +6,8 @@ use std::collections::LinkedList;
 use std::marker::Model;
 use word_table::name::WordName;
 
-/// How many steps a caller has made, each one access to a shared word. Its number has no end, as it is for
-/// proofs alone.
+/// How many steps a caller has made, each one access to a shared word; what lays a piece is no step. Its
+/// number has no end, as it is for proofs alone.
 pub struct Accesses {
     made: LinkedList<()>,
 }
@@ -43,9 +43,12 @@ impl Model for Won {
     ghost view = { λ w. record { caller = w.caller; word = w.word; install = w.install } };
 }
 
-/// The callers that a pass stands for, and the events and the wins that it has seen.
+/// The callers that a pass stands for, the events and the wins that it has seen, the piece of the arena that is out
+/// with it, and the pieces that it knows to be laid.
 pub struct View {
     pub callers: LinkedList<Standing>,
     pub seen: LinkedList<Event>,
     pub wins: LinkedList<Won>,
+    pub lays: Option<u32>,
+    pub ready: LinkedList<u32>,
 }

@@ -6,7 +6,7 @@ ghost use Rattle.superblock_parts.specs.Points.{plan_block_of};
 ghost use Rattle.errand_steps.specs.Errands.{IsErrand};
 ghost use Rattle.errand_steps.specs.declared.point.Point.TheVariants as point;
 ghost use Rattle.live_heap.specs.declared.pass.Pass.{Pass};
-ghost use Rattle.live_heap.specs.Going.{HasFound, HasGone, HasWalked, IsGoing, IsWalking, Rejoins};
+ghost use Rattle.live_heap.specs.Going.{HasFound, HasGone, HasWalked, IsGoing, IsWalking, LinksNone, Rejoins};
 ghost use Rattle.live_heap.specs.Passes.{IsOf};
 ghost use Rattle.live_heap.specs.Sights.{IsSightOf};
 
@@ -41,6 +41,7 @@ impl Heap {
         requires planned { action ≡ plan_block_of _at.now }
         requires rule { IsErrand E.errand }
         requires sight { IsSightOf self.now.layout seat.old.me.0 E.errand }
+        requires links_none { LinksNone _at.now }
         ensures seat { (seat.new.region ≡ seat.old.region) × (seat.new.me.1 ≡ seat.old.me.1) }
         ensures step { HasFound E.errand result seat.old.me.0 seat.new.me.0 }
     {

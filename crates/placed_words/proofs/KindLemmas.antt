@@ -26,6 +26,10 @@ are-at : (g : Geometry) → AreAt g
 unfolding word_index start_of words_in
 are-at g = record { superblocks = omega arith; heaps = omega arith; heads = omega arith }
 
+-- the arena lies before all other words
+pub arena-first : (g : Geometry) → word_index g (Anchor 0) ≡ arena_words g
+arena-first g = (are-at g).superblocks
+
 -- the place of a number by its distance from the arena
 abbrev by : (g : Geometry) → ℕ → ℕ
 by g index =

@@ -1,4 +1,3 @@
 pub mod PlaceLemmas
 pub mod WordsLemmas
-pub mod StepLemmas
 pub mod KindLemmas

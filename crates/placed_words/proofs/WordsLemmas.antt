@@ -1,6 +1,6 @@
 -- The words at the places of numbers.
-use Rattle.std.proofs.Common.{ℕ, zero, suc, ◌≡◌, ◌≢◌, ◌<◌, ◌+◌, List, length, slice_index, slice_set, arith, refl, ap, sym, ◌∙◌, inl, inr, ◌⊎◌}
-use Rattle.std.proofs.lemmas.List.{get_or-set_same, get_or-set_other, ext_get_or, length-set}
+use Rattle.std.proofs.Common.{ℕ, zero, suc, ◌≡◌, ◌≢◌, ◌<◌, ◌≤◌, ◌+◌, List, length, slice_index, slice_set, take, arith, refl, ap, sym, ◌∙◌, inl, inr, ◌⊎◌}
+use Rattle.std.proofs.lemmas.List.{get_or-set_same, get_or-set_other, get_or-take, ext_get_or, length-set}
 use Rattle.std.proofs.lemmas.Bool.{cases_eq}
 use Rattle.heap_geometry.specs.declared.geometry.Geometry.{Geometry}
 use Rattle.word_table.specs.Counts.{word_count}
@@ -36,6 +36,17 @@ at-words_at g placed i below =
     let e : 0 + i ≡ i = omega arith in
     at-words_from g placed 0 (word_count g) i below ∙ ap (λ n. slice_index placed (place g n)) e
 
+-- numbers behind all places are no words
+pub words_at-take : (g : Geometry) (placed : List ℕ) → words_at g (take (placed_count g) placed) ≡ words_at g placed
+words_at-take g placed =
+    let some = length-words_at g (take (placed_count g) placed) in
+    let all = length-words_at g placed in
+    ext_get_or 0 (words_at g (take (placed_count g) placed)) (words_at g placed) (omega arith)
+    (λ j within.
+    let has : j < word_count g = omega arith in
+    at-words_at g (take (placed_count g) placed) j has ∙ get_or-take (placed_count g) placed (place g j) 0 (place-within g j has)
+    ∙ sym (at-words_at g placed j has))
+
 -- a change at a number's place is a change at the number
 pub set-words_at :
     (g : Geometry) (placed : List ℕ) (i new : ℕ) → length placed ≡ placed_count g → i < word_count g
@@ -63,7 +74,7 @@ set-words_at g placed i new whole below =
 
 -- a write at a name's place changes the word of that name alone
 pub wrote :
-    (g : Geometry) (placed : List ℕ) (name : WordName) (new : ℕ) → length placed ≡ placed_count g → Exists g name
+    (g : Geometry) (placed : List ℕ) (name : WordName) (new : ℕ) → placed_count g ≤ length placed → Exists g name
     → Wrote g placed name new (slice_set placed (place_of g name) new)
 wrote g placed name new whole is =
     let within = place-within g (word_index g name) (word_index-within g name is) in

@@ -1,6 +1,5 @@
--- The place of each word in memory, and the table that stands at those places.
-use Rattle.std.specs.Prelude.{ℕ, zero, suc, ◌≡◌, ◌+◌, ◌-◌, ◌*◌, min, List, [], ◌∷◌, length, slice_index}
-use Rattle.atomic_table.specs.Table.{State}
+-- The place of each word in memory, and the words that stand at those places.
+use Rattle.std.specs.Prelude.{ℕ, zero, suc, ◌+◌, ◌-◌, ◌*◌, min, List, [], ◌∷◌, slice_index}
 use Rattle.heap_geometry.specs.declared.geometry.Geometry.{Geometry}
 use Rattle.heap_geometry.specs.declared.limits.TheConstants.{CLASSES}
 use Rattle.word_table.specs.Counts.{descriptor_count, word_count}
@@ -59,12 +58,3 @@ words_from g placed index (suc more) = slice_index placed (place g index) ∷ wo
 -- the table: the words at the places of all numbers
 abbrev pub words_at : Geometry → List ℕ → List ℕ
 words_at g placed = words_from g placed 0 (word_count g)
-
-module _ {S V : Type 0} where
-  -- the table's state as the numbers have it
-  abbrev pub at_places : Geometry → State S V → State S V
-  at_places g s = record { words = words_at g s.words; homes = s.homes; views = s.views }
-
-  -- all places are there, and the rule holds of the words at them
-  abbrev pub HoldsAtPlaces : Geometry → (State S V → Type 0) → State S V → Type 0
-  HoldsAtPlaces g holds s = (length s.words ≡ placed_count g) × holds (at_places g s)

@@ -1,19 +1,16 @@
 //! The places of the words of one heap.
 
-ghost use Rattle.std.specs.Prelude.{ℕ, ◌≡◌, ◌<◌, ◌≤◌, ◌+◌, ◌-◌, ◌*◌, ◌^◌, min, length, IfOk};
+ghost use Rattle.std.specs.Prelude.{ℕ, ◌≡◌, ◌<◌, ◌≤◌, ◌+◌, ◌-◌, ◌*◌, ◌^◌, min};
 ghost use Rattle.heap_geometry.specs.declared.limits.TheConstants.{CLASSES};
 ghost use Rattle.heap_geometry.specs.Geometry.{IsChecked};
 ghost use Rattle.heap_geometry.specs.declared.geometry.Geometry.{Geometry};
-ghost use Rattle.word_table.specs.Counts.{word_count};
+ghost use Rattle.word_table.specs.Counts.{arena_words, word_count};
 ghost use Rattle.word_table.specs.Table.{Exists, word_index};
 ghost use Rattle.placed_words.specs.Places.{place, placed_count};
-ghost use Rattle.placed_words.specs.Writes.{Wrote, word_at};
-ghost use Rattle.word_table.specs.declared.name.WordName.{WordName};
 ghost use Rattle.placed_words.specs.Starts.{place_from, starts_of, stretches_of};
 
 use heap_geometry::geometry::Geometry;
 use heap_geometry::limits::CLASSES;
-use std::alloc::{AllocError, Global};
 use std::marker::Model;
 use word_table::layout::Layout;
 use word_table::name::WordName;
@@ -23,7 +20,7 @@ pub const APART: u32 = 8;
 
 /// Words in a row, each of which is apart. A gap lies behind each of them, and behind the word before
 /// the first one.
-#[derive(Clone, Copy, Debug, PartialEq, Eq)]
+#[derive(Clone, Copy)]
 pub struct Stretch {
     /// The number of the word before the first one.
     pub before: u32,
@@ -31,7 +28,7 @@ pub struct Stretch {
 }
 
 /// The stretches of a heap, by the numbers of its words.
-#[derive(Clone, Copy, Debug, PartialEq, Eq)]
+#[derive(Clone, Copy)]
 pub struct Stretches {
     pub superblocks: Stretch,
     pub heaps: Stretch,
@@ -39,7 +36,7 @@ pub struct Stretches {
 }
 
 /// The places of the first words of each kind.
-#[derive(Clone, Copy, Debug, PartialEq, Eq)]
+#[derive(Clone, Copy)]
 pub struct Starts {
     pub anchors: u32,
     pub nexts: u32,
@@ -113,26 +110,22 @@ impl Placement {
         place_from(&self.starts, name)
     }
 
-    /// Room for the words, each of them 0.
-    pub fn blank(&self, alloc: Global) -> Result<Vec<u64>, AllocError>
-        ensures count { IfOk result (λ placed. length placed.items ≡ placed_count self.now) }
-        ensures words { IfOk result (λ placed. (name : WordName) → Exists self.now name → word_at self.now placed.items name ≡ 0) }
+    /// How many words the arena has, which lies first.
+    pub fn arena_words(&self) -> u32
+        ensures { result ≡ arena_words self.now }
     {
-        let words = place_at(
+        self.layout.index(WordName::Anchor(0))
+    }
+
+    /// How many words lie in memory, with the gaps.
+    pub fn count(&self) -> u32
+        ensures { result ≡ placed_count self.now }
+    {
+        place_at(
             &self.layout,
             stretches_of(&self.layout),
             self.layout.words(),
-        );
-        vec![in alloc; 0u64; words as usize]
-    }
-
-    /// Writes a word at its place.
-    pub fn write(&self, placed: &mut Vec<u64>, name: WordName, new: u64)
-        requires whole { length placed.old.items ≡ placed_count self.now }
-        requires exists { Exists self.now name }
-        ensures { Wrote self.now placed.old.items name new placed.new.items }
-    {
-        placed[self.place(name) as usize] = new;
+        )
     }
 }
 

@@ -6,6 +6,7 @@ use Rattle.errand_steps.proofs.BegunErrands.{alloc-errand}
 use Rattle.live_heap.specs.declared.pass.Pass.{Pass}
 use Rattle.live_heap.specs.Answers.{AllocTells}
 use Rattle.live_heap.specs.Calls.{IsCalling}
+use Rattle.live_heap.specs.Going.{LinksNone}
 use Rattle.live_heap.proofs.AllocLemmas.{alloc-answers, alloc-call, allocs-from, answer-fits}
 use Rattle.live_heap.proofs.Begun.{of-rule}
 use Rattle.live_heap.proofs.WalkLemmas.{walk-begins, walk-goes}
@@ -20,7 +21,7 @@ alloc_on-requires c =
     let active = c.alloc_from-active.result in
     let same = allocs-from p c.args.need c.args.class active q.errand r.class r.left c.alloc_from-active.ensures c.take_turn.ensures in
     let rule = alloc-errand p.errand c.args.need (of-rule c.args.self.now p r.of) r.idle in (
-      walk-begins p call q active (Alloc c.args.need) same c.args.self.now c.args.tries r.of r.idle tt (subst IsIdle (sym c.take_turn.ensures) r.idle) rule r.tries,
+      walk-begins p call q active (Alloc c.args.need) same c.args.self.now c.args.tries r.of r.idle tt (subst IsIdle (sym c.take_turn.ensures) r.idle) rule r.tries (subst LinksNone (sym c.alloc_from-active.ensures) tt),
       (p, subst (IsCalling p call 0) (sym same) (alloc-call p c.args.need c.args.class r.idle r.class r.left)),
     )
 

@@ -1,32 +1,28 @@
-use Rattle.std.proofs.Common.{◌≡◌, ℕ, List, length, slice_index_or, sym, ap, ◌∙◌, subst}
-use Rattle.std.proofs.lemmas.List.{length-map}
-use Rattle.plain_words.specs.Places.{Place, laid, laids, numbers}
+use Rattle.std.proofs.Common.{slice_index_or, sym, ap, ◌∙◌, subst}
+use Rattle.plain_words.specs.Places.{numbers}
 use Rattle.atomic_region.specs.declared.shared.Seat.{Seat}
 use Rattle.placed_words.specs.Places.{words_at}
 use Rattle.heap_geometry.specs.declared.geometry.Geometry.{Geometry}
 use Rattle.live_heap.specs.declared.view.View.{View}
 use Rattle.live_heap.specs.Endings.{HasAccesses, HasTakenIn, IsCounted, IsResting, closed_with}
+use Rattle.live_heap.proofs.ClosedPieces.{last-marked, last-words}
 use Rattle.live_heap.proofs.Ending.{IsLast, last-accesses, last-rests, last-counted, last-taken}
 use Rattle.live_heap.proofs.Gathering.{idle-at}
-use Rattle.live_heap.proofs.Laid.{numbers-laids}
 use Rattle.live_heap.proofs.heap.Heap.close.Goals as goal
 use Rattle.live_heap.proofs.heap.Heap.close.Goals.{After-end-room}
 
--- all words at the end are laid
-laid_in : (c : goal.After-end-room) → let ps : List Place = c.end-room.result.0.plain.places in ps ≡ laids c.end-room.ensures.last.1.0.0
-laid_in c = let f = c.end-room.ensures.last in sym f.2 ∙ f.1.0.2
+pub end-room-requires-clause-table : goal.end-room-requires-clause-table
+end-room-requires-clause-table c = c.gather-seat.ensures.table
 
-read_in : (c : goal.After-end-room) → numbers c.end-room.result.0.plain.places ≡ c.end-room.ensures.last.1.0.0
-read_in c = ap numbers (laid_in c) ∙ numbers-laids c.end-room.ensures.last.1.0.0
+pub end-room-requires-clause-rests : goal.end-room-requires-clause-rests
+end-room-requires-clause-rests c = record { all = c.gather-seat.ensures.all; idle = c.gather-seat.ensures.idle }
 
 -- the words at the end, and the view of the seat that took all passes in
 last : (c : goal.After-end-room) → IsLast c.end-room.result.1 (words_at c.end-room.result.1 (numbers c.end-room.result.0.plain.places)) c.gather-seat.result.seat.me.0
 last c =
-    let g = c.end-room.result.1 in
-    let f = c.end-room.ensures.last in
     let seat = c.gather-seat.result.seat in
-    subst (λ (ws : List ℕ). IsLast g (words_at g ws) seat.me.0) (sym (read_in c))
-    (record { views = f.0.views; id = seat.id; kept = f.1.0.1.1; at = f.1.1; all = c.gather-seat.ensures.all ∙ sym (ap (λ (h : Geometry). h.callers) c.end-room.ensures.layout) })
+    last-words c.end-room.result.1 seat.id seat.me.0 c.end-room.result.0.plain.places
+    (c.gather-seat.ensures.all ∙ sym (ap (λ (h : Geometry). h.callers) c.end-room.ensures.layout)) c.end-room.ensures.last
 
 rests : (c : goal.After-end-room) → IsResting (closed_with c.end-room.result.1 (words_at c.end-room.result.1 (numbers c.end-room.result.0.plain.places)) c.of-last.result.value.me.0)
 rests c =
@@ -43,7 +39,13 @@ counted c =
     (last-counted g (words_at g (numbers c.end-room.result.0.plain.places)) seat.me.0 (last c) c.gather-seat.result.won c.gather-seat.result.lost c.gather-seat.ensures.won_is c.gather-seat.ensures.lost_is)
 
 pub invariant_of-result : goal.invariant_of-result
-invariant_of-result c = record { laid = laid_in c ∙ ap laids (sym (read_in c)); len = ap length (laid_in c) ∙ length-map c.end-room.ensures.last.1.0.0 laid ∙ c.end-room.ensures.last.1.0.1.0; rests = rests c; counts = counted c }
+invariant_of-result c =
+    let seat = c.gather-seat.result.seat in
+    record {
+      marked = last-marked c.end-room.result.1 seat.id seat.me.0 c.end-room.result.0.plain.places c.end-room.ensures.last;
+      rests = rests c;
+      counts = counted c;
+    }
 
 pub returns-clause-rests : goal.returns-clause-rests
 returns-clause-rests c = rests c

@@ -1,28 +1,32 @@
 use Rattle.std.proofs.Common.{◌≡◌, ℕ, ◌+◌, ◌-◌, ◌<◌, List, [], ◌∷◌, length, sym, ap, ◌∙◌, subst, arith, rules}
+use Rattle.std.specs.Prelude.{None}
 use Rattle.heap_geometry.specs.declared.geometry.Geometry.{Geometry}
-use Rattle.atomic_region.specs.Region.{Me}
+use Rattle.heap_geometry.specs.Geometry.{IsChecked}
+use Rattle.atomic_region.specs.Region.{Me, Splits}
 use Rattle.errand_steps.specs.Errands.{ErrandFields, open_errand}
 use Rattle.live_heap.specs.declared.pass.Pass.{Pass}
 use Rattle.live_heap.specs.declared.view.Standing.{Standing}
 use Rattle.live_heap.specs.declared.view.View.{View}
 use Rattle.live_heap.specs.Passes.{AreFrom}
 use Rattle.live_heap.specs.Views.{first_part, other_part, idle_standing, idles_from}
-use Rattle.placed_words.proofs.StepLemmas.{splits-at_places}
-use Rattle.live_heap.specs.Rule.{TableHolds, WordsHold}
-use Rattle.atomic_region.proofs.Beside.{splits_as_before}
-use Rattle.live_heap.proofs.Seats.{some-words, splits}
+use Rattle.live_heap.specs.Pieces.{PiecesHold, mark_place}
+use Rattle.live_heap.proofs.PieceSeats.{splits-pieces}
 use Rattle.live_heap.proofs.Dealt.{idles-more, fresh, AreFrom-push}
 use Rattle.live_heap.proofs.heap.Heap.deal.Goals as goal
 
 pub split_seat-next-requires : goal.split_seat-next-requires
 split_seat-next-requires c =
     let h = c.args.self.now in
-    let some = some-words h.layout in
-    let below : 0 < h.table.shared.id.words = omega (arith, some, h.laid.0) in
-    let key = h.table.shared.key in
-    let id = c.loop-caller.rest.id in
     let v = c.loop-caller.rest.me.0 in
-    (c.loop-caller.invariant.table, c.start-start.ensures, below, splits_as_before (WordsHold key) h.table.shared.id.words 0 id v below {S = ℕ} _ _ (splits-at_places key (TableHolds key) id v _ _ (splits key id v)))
+    let lays : v.lays ≡ None = ap (λ (m : Me View). m.0.lays) c.loop-caller.invariant.me in
+    let at : IsChecked h.table.shared.key = subst IsChecked (sym h.laid.1) h.checked in
+    let S : ℕ → Type 0 = λ place. Splits (PiecesHold h.table.shared.key) h.table.shared.id.words place c.loop-caller.rest.id v (first_part v) (other_part v) in (
+      c.loop-caller.invariant.table,
+      c.start-start.ensures,
+      c.first_mark-mark.ensures.within,
+      subst S (ap (λ (g : Geometry). mark_place g 0) h.laid.1 ∙ sym c.first_mark-mark.ensures.place)
+          (splits-pieces h.table.shared.key h.table.shared.id.words c.loop-caller.rest.id v at lays),
+    )
 
 pub loop-caller-preserved : goal.loop-caller-preserved
 loop-caller-preserved c =
@@ -37,7 +41,7 @@ loop-caller-preserved c =
     let some_left : 0 < left = omega (arith, many, c.loop-caller-test.true) in
     let more = idles-more g n left some_left in
     let one_less : left - 1 ≡ g.callers - (n + 1) = omega arith in
-    let V : List Standing → Me View = λ l. (record { callers = l; seen = []; wins = [] }, []) in
+    let V : List Standing → Me View = λ l. (record { callers = l; seen = []; wins = []; lays = None; ready = [] }, []) in
     let now : c.loop-caller.rest.me ≡ V (idle_standing g n ∷ idles_from g (n + 1) (g.callers - (n + 1))) =
     i.me ∙ ap V (more ∙ ap (λ (k : ℕ). idle_standing g n ∷ idles_from g (n + 1) k) one_less) in
     let p : Pass = record { seat = c.split_seat-next.new.seat; errand = c.open.result } in

@@ -1,7 +1,11 @@
-use Rattle.std.proofs.Common.{sym, ◌∙◌, subst}
-use Rattle.plain_words.specs.Places.{AllHere}
-use Rattle.live_heap.proofs.Laid.{all-here}
+use Rattle.std.proofs.Common.{subst}
+use Rattle.heap_geometry.specs.declared.geometry.Geometry.{Geometry}
+use Rattle.atomic_region.specs.Region.{Final}
+use Rattle.live_heap.specs.Pieces.{PiecesHold}
 use Rattle.live_heap.proofs.heap.Heap.drop.Goals as goal
 
+pub all_at_home-requires : goal.all_at_home-requires
+all_at_home-requires c = subst (λ (g : Geometry). Final (PiecesHold g) c.close-closed.result.plain.places) c.args.self.laid.1 c.close-closed.ensures.2
+
 pub into_room-requires : goal.into_room-requires
-into_room-requires c = let f = c.close.ensures.2 in let rule = f.1 in subst AllHere (sym (sym f.2 ∙ rule.2)) (all-here rule.0)
+into_room-requires c = c.all_at_home.ensures.home c.if-all_at_home.true

@@ -1,17 +1,18 @@
 use Rattle.std.specs.Prelude.{option_to_list, sum_by}
 use Rattle.std.proofs.lemmas.List.Sums.{sum_by-append}
-use Rattle.std.proofs.Common.{◌≡◌, ◌<◌, ℕ, List, [], ◌∷◌, ◌++◌, length, All, sym, ap, ◌∙◌, subst, arith, length-append, append_assoc}
+use Rattle.std.proofs.Common.{◌≡◌, ℕ, List, [], ◌∷◌, ◌++◌, length, All, sym, ap, ◌∙◌, subst, arith, length-append, append_assoc}
 use Rattle.errand_steps.specs.Begins.{IsIdle}
-use Rattle.atomic_region.specs.Region.{Me}
+use Rattle.atomic_region.specs.Region.{Me, Joins}
+use Rattle.heap_geometry.specs.declared.geometry.Geometry.{Geometry}
+use Rattle.heap_geometry.specs.Geometry.{IsChecked}
 use Rattle.live_heap.specs.declared.view.Standing.{Standing}
 use Rattle.live_heap.specs.declared.view.View.{View}
 use Rattle.live_heap.specs.declared.pass.Pass.{Pass}
 use Rattle.live_heap.specs.Endings.{IsIn}
 use Rattle.live_heap.specs.Passes.{IsOf}
-use Rattle.placed_words.proofs.StepLemmas.{joins-at_places}
-use Rattle.live_heap.specs.Rule.{TableHolds, WordsHold}
-use Rattle.atomic_region.proofs.Beside.{joins_as_before}
-use Rattle.live_heap.proofs.Seats.{joins, some-words}
+use Rattle.live_heap.specs.Pieces.{PiecesHold, mark_place}
+use Rattle.live_heap.specs.Views.{gathered, spent_view}
+use Rattle.live_heap.proofs.PieceSeats.{joins-pieces}
 use Rattle.live_heap.proofs.Gathering.{front, last, one-idle, one-sum, all-idle, is_in-itself, more-in, one-in}
 use Rattle.live_heap.proofs.heap.Heap.gather.Goals as goal
 
@@ -22,14 +23,17 @@ join_seat-requires c =
     let P : Pass → Type 0 = λ p. IsOf h p × IsIdle p.errand in
     let taken = subst (λ (l : List Pass). All P l) c.in-Some.ensures.items i.others in
     let mine = last (λ (p : Pass). IsOf h p × IsIdle p.errand) c.pop-in-loop-pass.new.self.items c.in-Some.pass taken in
-    let some = some-words h.layout in
-    let below : 0 < h.table.shared.id.words = omega (arith, some, h.laid.0) in
-    let key = h.table.shared.key in
-    let id = c.loop-pass.seat.id in
     let v = c.loop-pass.seat.me.0 in
-    let from = c.in-Some.pass.seat.id in
     let w = c.in-Some.pass.seat.me.0 in
-    (i.table, mine.0.table, c.start-start.ensures, below, joins_as_before (WordsHold key) h.table.shared.id.words 0 id v below {S = ℕ} from w _ _ (joins-at_places key (TableHolds key) id v from w _ _ (joins key id v from w)))
+    let at : IsChecked h.table.shared.key = subst IsChecked (sym h.laid.1) h.checked in
+    let J : ℕ → Type 0 = λ place. Joins (PiecesHold h.table.shared.key) h.table.shared.id.words place c.loop-pass.seat.id v c.in-Some.pass.seat.id w (gathered v w) spent_view in (
+      i.table,
+      mine.0.table,
+      c.start-start.ensures,
+      c.first_mark-mark.ensures.within,
+      subst J (ap (λ (g : Geometry). mark_place g 0) h.laid.1 ∙ sym c.first_mark-mark.ensures.place)
+          (joins-pieces h.table.shared.key h.table.shared.id.words c.loop-pass.seat.id v c.in-Some.pass.seat.id w at i.settled mine.0.settled),
+    )
 
 pub loop-pass-preserved : goal.loop-pass-preserved
 loop-pass-preserved c =
@@ -61,6 +65,7 @@ loop-pass-preserved c =
       );
       table = j.0 ∙ i.table;
       empty = ap (λ (m : Me View). m.1) j.2 ∙ i.empty;
+      settled = ap (λ (m : Me View). m.0.lays) j.2 ∙ i.settled;
       count = omega (arith, n, m, was, now, one.1, i.count);
       others = front (λ (p : Pass). IsOf h p × IsIdle p.errand) c.pop-in-loop-pass.new.self.items c.in-Some.pass taken;
       idle = subst (λ (l : List Standing). All (λ (x : Standing). IsIdle x.errand) l) (sym errands) (all-idle c.loop-pass.seat.me.0.callers c.in-Some.pass.seat.me.0.callers i.idle one.0);
@@ -83,6 +88,7 @@ loop-pass-init c =
       among = (p ∷ [], items, one-in p.seat.me.0 p (is_in-itself h p mine.0 mine.1));
       table = mine.0.table;
       empty = mine.0.empty;
+      settled = mine.0.settled;
       count = omega (arith, m, was, one.1, c.requires.all);
       others = front (λ (q : Pass). IsOf h q × IsIdle q.errand) c.pop.new.self.items p taken;
       idle = one.0;

@@ -1,5 +1,5 @@
 use Rattle.std.proofs.Common.{◌≡◌, ◌+◌, ◌-◌, ◌^◌, List, [], ◌++◌, length, All, vec_len}
-use Rattle.std.specs.Prelude.{min, sum_by}
+use Rattle.std.specs.Prelude.{None, min, sum_by}
 use Rattle.errand_steps.specs.Begins.{IsIdle}
 use Rattle.live_heap.specs.declared.pass.Pass.{Pass}
 use Rattle.live_heap.specs.Endings.{IsIn}
@@ -11,6 +11,7 @@ invariant-loop-pass l = record {
   among : (taken : List Pass) × (l.fn.passes.items ≡ l.passes.items ++ taken) × All (IsIn l.seat.me.0) taken;
   table : l.seat.region ≡ l.self.table.shared.id;
   empty : l.seat.me.1 ≡ [];
+  settled : l.seat.me.0.lays ≡ None;
   count : length l.seat.me.0.callers + length l.passes.items ≡ l.self.layout.callers;
   others : All (λ p. IsOf l.self p × IsIdle p.errand) l.passes.items;
   idle : All (λ x. IsIdle x.errand) l.seat.me.0.callers;

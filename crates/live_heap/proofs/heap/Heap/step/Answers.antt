@@ -1,18 +1,39 @@
 use Rattle.std.proofs.Common.{ap, sym, ◌∙◌, subst}
+use Rattle.atomic_region.specs.Region.{Me}
 use Rattle.word_table.specs.Actions.{name_of}
 use Rattle.word_table.specs.Table.{Exists}
 use Rattle.errand_steps.specs.Errands.{ErrandFields}
 use Rattle.errand_steps.specs.Told.{GivesBack, IsTellable}
 use Rattle.step_machine.proofs.MomentAnswers.{settle-caller}
 use Rattle.live_heap.specs.declared.pass.Pass.{Pass}
+use Rattle.live_heap.specs.declared.view.View.{View}
 use Rattle.live_heap.specs.Answers.{block_need, block_place}
 use Rattle.live_heap.proofs.Begun.{of-laid}
+use Rattle.live_heap.proofs.LayLemmas.{found-from, still-sight}
 use Rattle.live_heap.proofs.Stepped.{of-sight, still-of, took-access, took-step, has-stepped}
 use Rattle.step_machine.proofs.TellLemmas.{moment-tellable}
 use Rattle.live_heap.proofs.heap.Heap.step.Goals as goal
 
+pub make_ready-requires-clause-table : goal.make_ready-requires-clause-table
+make_ready-requires-clause-table c = c.requires.table
+
+pub make_ready-requires-clause-empty : goal.make_ready-requires-clause-empty
+make_ready-requires-clause-empty c = c.requires.empty
+
+pub make_ready-requires-clause-settled : goal.make_ready-requires-clause-settled
+make_ready-requires-clause-settled c = c.requires.settled
+
+pub make_ready-requires-clause-sight : goal.make_ready-requires-clause-sight
+make_ready-requires-clause-sight c = of-sight c.args.self.now c.args.pass.now c.requires
+
+pub act-found-requires-clause-table : goal.act-found-requires-clause-table
+act-found-requires-clause-table c = c.make_ready.ensures.region ∙ c.requires.table
+
 pub act-found-requires-clause-sight : goal.act-found-requires-clause-sight
-act-found-requires-clause-sight c = of-sight c.args.self.now c.args.pass.now c.requires
+act-found-requires-clause-sight c =
+    let h = c.args.self.now in
+    let p = c.args.pass.now in
+    still-sight h.layout p.seat.me c.make_ready.new.seat.me p.errand c.make_ready.ensures.knows (of-sight h p c.requires)
 
 pub act-found-requires-clause-there : goal.act-found-requires-clause-there
 act-found-requires-clause-there c =
@@ -20,7 +41,8 @@ act-found-requires-clause-there c =
 
 pub told-requires : goal.told-requires
 told-requires c =
-    let s = c.act-found.ensures.step in
+    let s = found-from c.args.pass.now.errand c.act-found.result c.args.pass.now.seat.me c.make_ready.new.seat.me c.act-found.new.seat.me.0 c.make_ready.ensures.knows
+    c.requires.settled c.act-found.ensures.step in
     let q : Pass = record { seat = c.act-found.new.seat; errand = c.go_on-progress.new.self } in
     let m = took-step c.args.pass.now q s.0 c.go_on-progress.result (c.go_on-progress.ensures.errand ∙ s.2) (c.go_on-progress.ensures.answer ∙ s.3) s.1 in
     subst (λ o. IsTellable o c.go_on-progress.result) (sym c.offered-offer.ensures) (moment-tellable _ _ _ _ _ m)
@@ -28,18 +50,22 @@ told-requires c =
 pub returns-clause-of : goal.returns-clause-of
 returns-clause-of c =
     let d = c.act-found.ensures in
-    let s = d.step in
+    let s = found-from c.args.pass.now.errand c.act-found.result c.args.pass.now.seat.me c.make_ready.new.seat.me c.act-found.new.seat.me.0 c.make_ready.ensures.knows
+    c.requires.settled c.act-found.ensures.step in
     let q : Pass = record { seat = c.act-found.new.seat; errand = c.go_on-progress.new.self } in
-    still-of c.args.self.now c.args.pass.now q s.0 c.requires d.seat.0 d.seat.1 (c.go_on-progress.ensures.errand ∙ s.2) s.1
+    still-of c.args.self.now c.args.pass.now q s.0 c.requires (d.seat.0 ∙ c.make_ready.ensures.region)
+    (d.seat.1 ∙ ap (λ (m : Me View). m.1) c.make_ready.ensures.knows ∙ sym c.requires.empty) (c.go_on-progress.ensures.errand ∙ s.2) s.1
 
 pub returns-clause-caller : goal.returns-clause-caller
 returns-clause-caller c =
-    let s = c.act-found.ensures.step in
+    let s = found-from c.args.pass.now.errand c.act-found.result c.args.pass.now.seat.me c.make_ready.new.seat.me c.act-found.new.seat.me.0 c.make_ready.ensures.knows
+    c.requires.settled c.act-found.ensures.step in
     ap (λ (e : ErrandFields). e.caller) (c.go_on-progress.ensures.errand ∙ s.2) ∙ settle-caller c.args.pass.now.errand _
 
 pub returns-clause-busy : goal.returns-clause-busy
 returns-clause-busy c =
-    let s = c.act-found.ensures.step in
+    let s = found-from c.args.pass.now.errand c.act-found.result c.args.pass.now.seat.me c.make_ready.new.seat.me c.act-found.new.seat.me.0 c.make_ready.ensures.knows
+    c.requires.settled c.act-found.ensures.step in
     let q : Pass = record { seat = c.act-found.new.seat; errand = c.go_on-progress.new.self } in
     let m = took-step c.args.pass.now q s.0 c.go_on-progress.result (c.go_on-progress.ensures.errand ∙ s.2) (c.go_on-progress.ensures.answer ∙ s.3) s.1 in
     λ busy.

@@ -3,9 +3,10 @@ use Rattle.word_table.specs.declared.action.Action.{Action}
 use Rattle.word_table.specs.Actions.{name_of}
 use Rattle.word_table.specs.Table.{Exists}
 use Rattle.errand_steps.specs.Begins.{IsBusy}
-use Rattle.errand_steps.specs.Errands.{plan_of}
+use Rattle.errand_steps.specs.Errands.{ErrandFields, plan_of}
 use Rattle.errand_steps.proofs.PlanLemmas.{plan-exists}
-use Rattle.live_heap.proofs.WalkLemmas.{planned-at}
+use Rattle.live_heap.specs.Pieces.{IsReady}
+use Rattle.live_heap.proofs.WalkLemmas.{links-none-ready, planned-at}
 use Rattle.live_heap.proofs.heap.Heap.step_at.Goals as goal
 
 pub act-requires-clause-busy : goal.act-requires-clause-busy
@@ -23,3 +24,9 @@ act-requires-clause-there g c =
     let at : Exists c.args.self.now.layout (name_of (plan_of e)) = subst (λ k. Exists k (name_of (plan_of e))) r.sight.laid there in
     subst (λ (a : Action). Exists c.args.self.now.layout (name_of a))
     (ap plan_of r.named ∙ (sym (planned-at c.args._errand.now c.args._at.now c.args._goes.now) ∙ sym c.requires.planned)) at
+
+pub act-requires-clause-ready : goal.act-requires-clause-ready
+act-requires-clause-ready g c =
+    let h = c.args.self.now in
+    subst (λ (e : ErrandFields). IsReady h.layout e.point c.args.seat.now.me.0) (sym c.requires.named)
+    (links-none-ready h.layout c.args._at.now c.args._goes.now c.args.seat.now.me.0 c.requires.links_none)

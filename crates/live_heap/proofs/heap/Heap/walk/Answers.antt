@@ -11,6 +11,9 @@ step_at-requires-clause-rule g c = c.requires.1.rule
 pub step_at-requires-clause-sight : goal.step_at-requires-clause-sight
 step_at-requires-clause-sight g c = of-sight c.args.self.now (stands_at c.args.pass.now c.args.at.now c.args.goes.now) c.requires.1.of
 
+pub step_at-requires-clause-links_none : goal.step_at-requires-clause-links_none
+step_at-requires-clause-links_none g c = c.requires.1.links_none
+
 pub returns : goal.returns
 returns g c =
     record {

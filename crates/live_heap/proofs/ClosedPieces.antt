@@ -1,0 +1,214 @@
+-- Memory with pieces, once no thread shares it any more.
+use Rattle.std.proofs.Common.{ℕ, true, false, ◌≡◌, ◌≢◌, ◌<◌, ◌+◌, ◌-◌, List, length, refl, arith, sym, ap, subst, inl, inr, ◌∙◌, eqb-true, eq-eqb}
+use Rattle.std.specs.Prelude.{◌==◌, slice_index}
+use Rattle.std.proofs.lemmas.Bool.{cases_lt, false≢true}
+use Rattle.std.proofs.lemmas.List.{ext_get_or}
+use mathlib.Core.Option.{some}
+use lib.ListN.{get_elem?, get_or-map}
+use Rattle.heap_geometry.specs.declared.geometry.Geometry.{Geometry}
+use Rattle.heap_geometry.specs.Geometry.{IsChecked}
+use Rattle.word_table.specs.Counts.{arena_words, word_count}
+use Rattle.word_table.specs.Table.{Exists, word_index}
+use Rattle.word_table.specs.declared.name.WordName.{WordName}
+use Rattle.word_table.specs.declared.name.WordName.TheVariants.{Arena}
+use Rattle.word_table.specs.Words.{word_in}
+use Rattle.word_table.proofs.TableLemmas.{word_index-within}
+use Rattle.word_table.proofs.WordLemmas.{word_in-there}
+use Rattle.placed_words.specs.Places.{place, placed_count, words_at}
+use Rattle.placed_words.proofs.KindLemmas.{start-place}
+use Rattle.placed_words.proofs.PlaceLemmas.{place-least, place-within}
+use Rattle.placed_words.proofs.WordsLemmas.{at-words_at, length-words_at}
+use Rattle.plain_words.specs.Places.{Place, laid, number, numbers, place_at, AllHere, IsLaid}
+use Rattle.atomic_region.specs.Region.{Final, Seen}
+use Rattle.errand_steps.specs.Begins.{IsIdle}
+use Rattle.first_uses.specs.Pieces.{piece_count, piece_of, piece_start}
+use Rattle.first_uses.proofs.PieceLemmas.{word-among}
+use Rattle.live_heap.specs.declared.view.Standing.{Standing}
+use Rattle.live_heap.specs.declared.view.View.{View}
+use Rattle.live_heap.specs.Endings.{IsAtRest}
+use Rattle.live_heap.specs.Pieces.{AreLaidOut, AreMarked, PiecesHold, Status, mark_of, mark_place, place_as}
+use Rattle.live_heap.specs.Pieces.Status.{blank, out, used}
+use Rattle.live_heap.specs.Rule.{KeptTable}
+use Rattle.live_heap.proofs.Ending.{IsLast, cover}
+use Rattle.live_heap.proofs.Gathering.{idle-at}
+use Rattle.live_heap.proofs.Laid.{read-number}
+use Rattle.live_heap.proofs.Memory.{arena-or}
+use Rattle.live_heap.proofs.PieceEnds.{all-at_home, nothing-out}
+use Rattle.live_heap.proofs.Shows.{arena-placed, shown-arena, shown-behind, shown-mark, shown-own}
+
+-- the number of a place
+numbers-at : (ps : List Place) (i : ℕ) → slice_index (numbers ps) i ≡ number (place_at ps i)
+numbers-at ps i = get_or-map number ps i _
+
+-- a place that is laid with a number is laid with its own
+laid-itself : (ps : List Place) (i n : ℕ) → place_at ps i ≡ laid n → place_at ps i ≡ laid (slice_index (numbers ps) i)
+laid-itself ps i n is = is ∙ ap laid (read-number ps i n is)
+
+is-laid_itself : (ps : List Place) (i n : ℕ) → place_at ps i ≡ laid n → IsLaid ps i
+is-laid_itself ps i n is = is ∙ ap laid (sym (ap number is))
+
+-- a word of a piece counts as its number, where one of a piece that isn't laid is 0
+counts-as : (st : Status) (n : ℕ) → (st ≢ used → n ≡ 0) → number (place_as st n) ≡ n
+counts-as blank n zero_of = sym (zero_of (λ is. let marks : ◌≡◌ {A = ℕ} 0 2 = ap mark_of is in omega (arith, marks)))
+counts-as out n zero_of = sym (zero_of (λ is. let marks : ◌≡◌ {A = ℕ} 1 2 = ap mark_of is in omega (arith, marks)))
+counts-as used n zero_of = refl
+
+mark-used : (st : Status) → mark_of st ≡ 2 → st ≡ used
+mark-used blank is = absurd (omega (arith, is))
+mark-used out is = absurd (omega (arith, is))
+mark-used used is = refl
+
+module _ (g : Geometry) (words : List ℕ) (places : List Place) (views : List View) (a : AreLaidOut g words places views) where
+  -- a mark is laid with its piece's number
+  mark-laid : (k : ℕ) → k < piece_count g → place_at places (mark_place g k) ≡ laid (mark_of (a.status k))
+  mark-laid k has = a.each (mark_place g k) (omega (arith, a.long, has)) ∙ shown-mark g words a.status k
+
+  mark-is : (k : ℕ) → k < piece_count g → mark_of (a.status k) ≡ slice_index (numbers places) (mark_place g k)
+  mark-is k has = read-number places (mark_place g k) (mark_of (a.status k)) (mark-laid k has)
+
+  arena-shows : (i : ℕ) → i < arena_words g → place_at places i ≡ place_as (a.status (piece_of g i)) (slice_index words i)
+  arena-shows i inside = a.each i (omega (arith, a.long, inside, arena-placed g)) ∙ shown-arena g words a.status i inside
+
+  -- a word of a piece that isn't laid counts as 0
+  unused-zero : (i : ℕ) → i < arena_words g → a.status (piece_of g i) ≢ used → slice_index words i ≡ 0
+  unused-zero i inside unused =
+      let k = piece_of g i in
+      let among = word-among g i inside in
+      let number_is : piece_start g k + (i - piece_start g k) ≡ i = omega (arith, among.1) in
+      subst (λ j. slice_index words j ≡ 0) number_is ((a.spare k among.0 unused).zeros (i - piece_start g k) (omega (arith, among.1, among.2)))
+
+  -- each word is the number of its place
+  same-number : (i : ℕ) → i < placed_count g → slice_index (numbers places) i ≡ slice_index words i
+  same-number i inside =
+      numbers-at places i
+      ∙ elim (cases_lt i (arena_words g)) [
+        | inl arena ↦ ap number (arena-shows i arena) ∙ counts-as (a.status (piece_of g i)) (slice_index words i) (unused-zero i arena)
+        | inr own ↦ ap number (a.each i (omega (arith, a.long, inside)) ∙ shown-own g words a.status i own inside)
+      ]
+
+  same-words : words_at g (numbers places) ≡ words_at g words
+  same-words =
+      let was = length-words_at g words in
+      let now = length-words_at g (numbers places) in
+      ext_get_or 0 (words_at g (numbers places)) (words_at g words) (omega (arith, was, now))
+      (λ i within.
+      let has : i < word_count g = omega (arith, now, within) in
+      at-words_at g (numbers places) i has ∙ (same-number (place g i) (place-within g i has) ∙ sym (at-words_at g words i has)))
+
+  are-marked : AreMarked g places
+  are-marked = record {
+    long = a.long;
+    behind = λ i beyond inside.
+        elim (cases_lt i (placed_count g)) [
+          | inl own ↦ laid-itself places i (slice_index words i) (a.each i inside ∙ shown-own g words a.status i beyond own)
+          | inr behind ↦ laid-itself places i (mark_of (a.status (i - placed_count g))) (a.each i inside ∙ shown-behind g words a.status i behind)
+        ];
+    laid_piece = λ i inside marked.
+        let k = piece_of g i in
+        let is : a.status k ≡ used = mark-used (a.status k) (mark-is k (word-among g i inside).0 ∙ marked) in
+        laid-itself places i (slice_index words i) (arena-shows i inside ∙ ap (λ st. place_as st (slice_index words i)) is);
+    blank_piece = λ i inside unmarked.
+        let k = piece_of g i in
+        same-number i (omega (arith, inside, arena-placed g))
+        ∙ unused-zero i inside (λ is. unmarked (sym (mark-is k (word-among g i inside).0) ∙ ap mark_of is));
+  }
+
+  -- no mark says that its piece is out, so all words are here
+  unmarked-home : ((k : ℕ) → k < piece_count g → place_at places (mark_place g k) ≢ laid 1) → AllHere places
+  unmarked-home none = all-at_home g words places views a (λ k has gone. none k has (mark-laid k has ∙ ap (λ st. laid (mark_of st)) gone))
+
+-- where a view stands for all callers, each in no call, so is each caller of every view
+module _ (g : Geometry) (table : List ℕ) (views : List View) (id : ℕ) (v : View) (h : KeptTable g table views) (at : get_elem? views id ≡ some v)
+    (rest : IsAtRest g v) where
+  idle-everywhere : (i n : ℕ) (u : View) (x : Standing) → get_elem? views i ≡ some u → get_elem? u.callers n ≡ some x → IsIdle x.errand
+  idle-everywhere i n u x there_u there_x =
+      let y = (h.each i u there_u).each n x there_x in
+      let t = cover g table views id v h at rest.all x.errand.caller y.has in
+      let z = (h.each id v at).each t.0 t.1 t.2 in
+      let same : t.1.errand ≡ x.errand = sym z.errand ∙ (ap h.errands t.3 ∙ y.errand) in
+      subst IsIdle same (idle-at v.callers rest.idle t.0 t.1 t.2)
+
+-- then all words of the region are here
+pub rests-home : (g : Geometry) (id : ℕ) (v : View) (ps : List Place) → IsAtRest g v → Final (Seen (PiecesHold g) id v) ps → AllHere ps
+rests-home g id v ps rest f =
+    let s = f.0 in
+    let words = f.1.0.0 in
+    let kept = f.1.0.1.1 in
+    let a = f.1.0.2 in
+    subst AllHere f.2
+    (all-at_home g words s.places s.views a
+    (nothing-out g words s.places s.views a (idle-everywhere g (words_at g words) s.views id v kept f.1.1 rest)))
+
+-- and their numbers are the words at the end
+pub last-words :
+    (g : Geometry) (id : ℕ) (v : View) (ps : List Place) → length v.callers ≡ g.callers → Final (Seen (PiecesHold g) id v) ps
+    → IsLast g (words_at g (numbers ps)) v
+last-words g id v ps all f =
+    let s = f.0 in
+    let words = f.1.0.0 in
+    let same : words_at g words ≡ words_at g (numbers ps) =
+    sym (same-words g words s.places s.views f.1.0.2) ∙ ap (λ (l : List Place). words_at g (numbers l)) f.2 in
+    record { views = s.views; id = id; kept = subst (λ (t : List ℕ). KeptTable g t s.views) same f.1.0.1.1; at = f.1.1; all = all }
+
+pub last-marked : (g : Geometry) (id : ℕ) (v : View) (ps : List Place) → Final (Seen (PiecesHold g) id v) ps → AreMarked g ps
+last-marked g id v ps f = subst (AreMarked g) f.2 (are-marked g f.1.0.0 f.0.places f.0.views f.1.0.2)
+
+-- in the end each mark is laid; and where none says that its piece is out, all words are here
+pub final-mark :
+    (g : Geometry) (ps : List Place) (k : ℕ) → Final (PiecesHold g) ps → k < piece_count g → IsLaid ps (mark_place g k)
+final-mark g ps k f has =
+    let a = f.1.2 in
+    subst (λ (l : List Place). IsLaid l (mark_place g k)) f.2
+    (is-laid_itself f.0.places (mark_place g k) (mark_of (a.status k)) (mark-laid g f.1.0 f.0.places f.0.views a k has))
+
+pub final-home :
+    (g : Geometry) (ps : List Place) → Final (PiecesHold g) ps → ((k : ℕ) → k < piece_count g → place_at ps (mark_place g k) ≢ laid 1) → AllHere ps
+final-home g ps f none =
+    subst AllHere f.2
+    (unmarked-home g f.1.0 f.0.places f.0.views f.1.2
+    (λ k has is. none k has (ap (λ (l : List Place). place_at l (mark_place g k)) (sym f.2) ∙ is)))
+
+-- a word of memory that no thread shares any more
+module _ (g : Geometry) (ps : List Place) (m : AreMarked g ps) where
+  pub mark-there : (k : ℕ) → k < piece_count g → IsLaid ps (mark_place g k)
+  mark-there k has =
+      is-laid_itself ps (mark_place g k) (slice_index (numbers ps) (mark_place g k))
+      (m.behind (mark_place g k) (omega (arith, arena-placed g)) (omega (arith, m.long, has)))
+
+  arena-place : (word : ℕ) → IsChecked g → word < arena_words g → place g (word_index g (Arena word)) ≡ word
+  arena-place word checked inside = sym (start-place g (Arena word) checked inside)
+
+  -- it is laid where its piece's mark says so, or it lies behind the arena
+  pub word-there :
+      (name : WordName) → IsChecked g → Exists g name
+      → ((word : ℕ) → name ≡ Arena word → (slice_index (numbers ps) (mark_place g (piece_of g word)) == 2) ≡ true)
+      → IsLaid ps (place g (word_index g name))
+  word-there name checked is marked =
+      let i = place g (word_index g name) in
+      elim (arena-or g name) [
+        | inl (word, same) ↦
+            let inside : word < arena_words g = subst (Exists g) same is in
+            let there : i ≡ word = ap (λ n. place g (word_index g n)) same ∙ arena-place word checked inside in
+            subst (IsLaid ps) (sym there)
+            (is-laid_itself ps word (slice_index (numbers ps) word)
+            (m.laid_piece word inside (eqb-true (slice_index (numbers ps) (mark_place g (piece_of g word))) 2 (marked word same))))
+        | inr behind ↦
+            let within = place-within g (word_index g name) (word_index-within g name is) in
+            is-laid_itself ps i (slice_index (numbers ps) i)
+            (m.behind i (omega (arith, behind, place-least g (word_index g name))) (omega (arith, within, m.long)))
+      ]
+
+  -- and it is 0 where its piece's mark says that it was never laid
+  pub word-zero :
+      (word : ℕ) → IsChecked g → word < arena_words g → (slice_index (numbers ps) (mark_place g (piece_of g word)) == 2) ≡ false
+      → slice_index (numbers ps) (place g (word_index g (Arena word))) ≡ 0
+  word-zero word checked inside unmarked =
+      ap (slice_index (numbers ps)) (arena-place word checked inside)
+      ∙ m.blank_piece word inside (λ is. false≢true (sym unmarked ∙ eq-eqb (slice_index (numbers ps) (mark_place g (piece_of g word))) 2 is))
+
+-- the word of a name is the number at its place
+pub named-word :
+    (g : Geometry) (placed : List ℕ) (name : WordName) → Exists g name
+    → slice_index placed (place g (word_index g name)) ≡ word_in g (words_at g placed) name
+named-word g placed name is =
+    sym (at-words_at g placed (word_index g name) (word_index-within g name is)) ∙ sym (word_in-there g (words_at g placed) name is)

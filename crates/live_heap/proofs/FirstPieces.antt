@@ -1,0 +1,54 @@
+-- The rule of the region holds of a heap's memory before the first step.
+use Rattle.std.proofs.Common.{ℕ, ◌≡◌, ◌<◌, ◌-◌, List, [], ◌∷◌, length, slice_index, take, arith, sym, ap, ◌∙◌, subst, inl, inr, get_or-take, length-take}
+use Rattle.std.proofs.lemmas.Bool.{cases_lt}
+use Rattle.std.proofs.lemmas.List.{length-map}
+use Rattle.heap_geometry.specs.declared.geometry.Geometry.{Geometry}
+use Rattle.heap_geometry.specs.Geometry.{IsChecked}
+use Rattle.word_table.specs.Counts.{arena_words, word_count}
+use Rattle.errand_steps.specs.Openings.{opening}
+use Rattle.step_machine.specs.Firsts.{IsTable}
+use Rattle.plain_words.specs.Places.{Place, laid, number, number_at, numbers, place_at}
+use Rattle.atomic_region.specs.Region.{opening as opened}
+use Rattle.placed_words.specs.Places.{placed_count, words_at}
+use Rattle.placed_words.proofs.WordsLemmas.{words_at-take}
+use Rattle.live_heap.specs.FirstRoom.{IsFirstRoom}
+use Rattle.live_heap.specs.Pieces.{PiecesHold, mark_place, shown}
+use Rattle.live_heap.specs.Rule.{WordsHold}
+use Rattle.live_heap.specs.Views.{opening_view}
+use Rattle.live_heap.proofs.FirstRoomLemmas.{at-numbers}
+use Rattle.live_heap.proofs.PieceEnds.{all_blank, opens-pieces}
+use Rattle.live_heap.proofs.Seats.{opens, table-opening}
+use Rattle.live_heap.proofs.Shows.{arena-placed, shown-arena, shown-behind, shown-own}
+
+module _ (g : Geometry) (places : List Place) (checked : IsChecked g) (room : IsFirstRoom g places) where
+  abbrev words : List ℕ
+  words = take (placed_count g) (numbers places)
+
+  -- a word counts as what its place shows
+  at-words : (i : ℕ) → i < placed_count g → slice_index words i ≡ number_at places i
+  at-words i below = get_or-take (placed_count g) (numbers places) i 0 below ∙ at-numbers places i
+
+  each-shown : (i : ℕ) → i < length places → place_at places i ≡ shown g words all_blank i
+  each-shown i inside =
+      elim (cases_lt i (arena_words g)) [
+        | inl before ↦ room.behind.arena i before ∙ sym (shown-arena g words all_blank i before)
+        | inr beyond ↦
+            elim (cases_lt i (placed_count g)) [
+              | inl own ↦
+                  room.behind.behind i beyond inside ∙ ap laid (sym (at-words i own)) ∙ sym (shown-own g words all_blank i beyond own)
+              | inr behind ↦
+                  let k : ℕ = i - placed_count g in
+                  let number : mark_place g k ≡ i = omega (arith, behind) in
+                  room.behind.behind i beyond inside
+                  ∙ ap laid (ap (number_at places) (sym number) ∙ room.behind.marks k (omega (arith, inside, behind, room.behind.long)))
+                  ∙ sym (shown-behind g words all_blank i behind)
+            ]
+      ]
+
+  pub first-pieces : PiecesHold g (opened places (opening_view g))
+  first-pieces =
+      let long : length words ≡ placed_count g = omega (arith, length-take (placed_count g) (numbers places), length-map places number, room.behind.long) in
+      let table : IsTable g (opening g) (word_count g) (words_at g words) = subst (IsTable g (opening g) (word_count g)) (sym (words_at-take g (numbers places))) room.words in
+      let kept : WordsHold g words (opening_view g ∷ []) = (long, opens g (words_at g words) checked table.all (table-opening g (words_at g words) table)) in
+      let zeros : (i : ℕ) → i < arena_words g → slice_index words i ≡ 0 = λ i before. at-words i (omega (arith, before, arena-placed g)) ∙ ap number (room.behind.arena i before) in
+      (words, kept, opens-pieces g words places checked table room.behind.long each-shown zeros)

@@ -1,0 +1,128 @@
+-- Which pieces of the arena are laid, and by whom.
+use Rattle.std.specs.Prelude.{ℕ, ◌≡◌, ◌≢◌, ◌<◌, ◌≤◌, ◌+◌, ◌-◌, ◌⊎◌, nat_lt, if◌then◌else◌, List, [], ◌∷◌, length, replicate, slice_index, Option, Some, None}
+use mathlib.Core.Option.{some}
+use lib.ListN.{get_elem?}
+use Rattle.heap_geometry.specs.declared.geometry.Geometry.{Geometry}
+use Rattle.word_table.specs.Counts.{arena_words}
+use Rattle.word_table.specs.Occurs.{occurs}
+use Rattle.word_table.specs.Words.{word_in}
+use Rattle.placed_words.specs.Places.{placed_count, words_at}
+use Rattle.plain_words.specs.Places.{Place, blanks, laid, laids, numbers, place_at}
+use Rattle.atomic_region.specs.Region.{Me, State as RegionState}
+use Rattle.first_uses.specs.Pieces.{piece_count, piece_of, piece_start, piece_words}
+use Rattle.errand_steps.specs.declared.point.Pieces.{Pieces}
+use Rattle.errand_steps.specs.declared.point.Point.{Point}
+use Rattle.errand_steps.specs.Openers.{Opens}
+use Rattle.first_uses.specs.Uses.{IsUnused}
+use Rattle.live_heap.specs.declared.view.Standing.{Standing}
+use Rattle.live_heap.specs.declared.view.View.{View}
+use Rattle.live_heap.specs.Rule.{WordsHold}
+
+-- a caller that the view stands for is about to use the piece first
+abbrev pub IsOpener : Geometry → View → ℕ → Type 0
+IsOpener g v k = (number : ℕ) × (x : Standing) × (get_elem? v.callers number ≡ some x) × Opens g x.errand.point k
+
+-- some pass's caller is about to use the piece first
+abbrev pub IsOpened : Geometry → List View → ℕ → Type 0
+IsOpened g views k = (id : ℕ) × (v : View) × (get_elem? views id ≡ some v) × IsOpener g v k
+
+-- nobody has used the piece: it is unused by the words, or somebody is about to use it first, and its words count as 0
+pub record IsSpare (g : Geometry) (words : List ℕ) (views : List View) (k : ℕ) : Type 0 where
+  pub unused : IsUnused g (word_in g (words_at g words)) k ⊎ IsOpened g views k
+  pub zeros : (j : ℕ) → j < piece_words g k → slice_index words (piece_start g k + j) ≡ 0
+
+-- how far a piece is: never laid, out with a pass that lays it, or laid; and its mark
+pub data Status : Type 0 where
+  blank : Status
+  out : Status
+  used : Status
+
+abbrev pub mark_of : Status → ℕ
+mark_of blank = 0
+mark_of out = 1
+mark_of used = 2
+
+-- a word of a piece, that counts as this number
+abbrev pub place_as : Status → ℕ → Place
+place_as blank n = Some None
+place_as out n = None
+place_as used n = laid n
+
+-- the place of a piece's mark, behind all words
+abbrev pub mark_place : Geometry → ℕ → ℕ
+mark_place g k = placed_count g + k
+
+-- what a place shows: a word of the arena as far as its piece is, any other word, or a mark
+abbrev pub shown : Geometry → List ℕ → (ℕ → Status) → ℕ → Place
+shown g words status i =
+    if nat_lt i (arena_words g) then place_as (status (piece_of g i)) (slice_index words i)
+    else (if nat_lt i (placed_count g) then laid (slice_index words i) else laid (mark_of (status (i - placed_count g))))
+
+-- the places show the words, and each piece as far as it is. A piece that isn't laid is a spare one, and who lays it is its opener
+pub record AreLaidOut (g : Geometry) (words : List ℕ) (places : List Place) (views : List View) : Type 0 where
+  pub status : ℕ → Status
+  pub long : length places ≡ placed_count g + piece_count g
+  pub each : (i : ℕ) → i < length places → place_at places i ≡ shown g words status i
+  pub spare : (k : ℕ) → k < piece_count g → status k ≢ used → IsSpare g words views k
+  pub layer : (k : ℕ) → k < piece_count g → status k ≡ out → (id : ℕ) × (v : View) × (get_elem? views id ≡ some v) × (v.lays ≡ Some k) × IsOpener g v k
+  pub lays : (id : ℕ) (v : View) (k : ℕ) → get_elem? views id ≡ some v → v.lays ≡ Some k → (k < piece_count g) × (status k ≡ out)
+  pub once : (i j : ℕ) (v w : View) (k : ℕ) → get_elem? views i ≡ some v → get_elem? views j ≡ some w → v.lays ≡ Some k → w.lays ≡ Some k → i ≡ j
+  pub ready : (id : ℕ) (v : View) (k : ℕ) → get_elem? views id ≡ some v → 0 < occurs k v.ready → (k < piece_count g) × (status k ≡ used)
+
+-- memory that no thread shares any more: each word behind the arena is laid, and each piece is laid with its mark, or its words count as 0
+pub record AreMarked (g : Geometry) (places : List Place) : Type 0 where
+  pub long : length places ≡ placed_count g + piece_count g
+  pub behind : (i : ℕ) → arena_words g ≤ i → i < length places → place_at places i ≡ laid (slice_index (numbers places) i)
+  pub laid_piece : (i : ℕ) → i < arena_words g → slice_index (numbers places) (mark_place g (piece_of g i)) ≡ 2 → place_at places i ≡ laid (slice_index (numbers places) i)
+  pub blank_piece : (i : ℕ) → i < arena_words g → slice_index (numbers places) (mark_place g (piece_of g i)) ≢ 2 → slice_index (numbers places) i ≡ 0
+
+-- a mark says that its piece is out
+pub record HasOut (g : Geometry) (places : List Place) : Type 0 where
+  pub piece : ℕ
+  pub below : piece < piece_count g
+  pub marked : place_at places (mark_place g piece) ≡ laid (mark_of out)
+
+-- the rule of the region: its places are a table in memory, with holes where no piece was ever used
+abbrev pub PiecesHold : Geometry → RegionState View → Type 0
+PiecesHold g s = (words : List ℕ) × WordsHold g words s.views × AreLaidOut g words s.places s.views
+
+-- a pass that lays this piece and knows these to be laid
+abbrev pub with_pieces : View → Option ℕ → List ℕ → View
+with_pieces v lays ready = record v { lays = lays; ready = ready }
+
+-- what a claim that found n tells: the piece is out with the pass, or it was laid
+abbrev pub Claimed : Geometry → ℕ → View → ℕ → Me View → Type 0
+Claimed g k v n me =
+    (n ≡ 0 → me ≡ (with_pieces v (Some k) v.ready, (piece_start g k, blanks (piece_words g k)) ∷ []))
+    × (n ≢ 0 → me ≡ (with_pieces v v.lays (k ∷ v.ready), []))
+
+-- the words of a piece that is filled with 0
+abbrev pub zeros_of : Geometry → ℕ → List Place
+zeros_of g k = laids (replicate (piece_words g k) 0)
+
+-- a piece that was filled with 0 comes back: it is known to be laid
+abbrev pub HasLaid : ℕ → View → Me View → Type 0
+HasLaid k v me = me ≡ (with_pieces v None (k ∷ v.ready), [])
+
+-- the view's one caller is about to use the piece first
+pub record IsSoleOpener (g : Geometry) (v : View) (k : ℕ) : Type 0 where
+  pub before : Standing
+  pub one : v.callers ≡ before ∷ []
+  pub opens : Opens g before.errand.point k
+  pub below : k < piece_count g
+
+-- all pieces from the first on, so many of them
+abbrev pub EachOf : Pieces → (ℕ → Type 0) → Type 0
+EachOf x P = (k : ℕ) → x.first ≤ k → k < x.first + x.count → P k
+
+-- the pass holds nothing, as before, and knows more pieces to be laid
+abbrev pub KnowsMore : Me View → Me View → Type 0
+KnowsMore v w = w ≡ (with_pieces v.0 None w.0.ready, [])
+
+-- and among them each that a step at this point is the first to use
+abbrev pub IsReady : Geometry → Point → View → Type 0
+IsReady g p v = (k : ℕ) → Opens g p k → 0 < occurs k v.ready
+
+-- numbers of no heap
+abbrev pub no_layout : Geometry
+no_layout = record { frames = 0; heaps = 0; units = 0; callers = 0; turn_limit = 0 }
