@@ -84,35 +84,59 @@ pub struct Command {
     pub geometry: Geometry,
 }
 
-/// The task of this mode.
-fn task_of(mode: &str) -> Option<Task> {
-    match mode {
-        "pairs" => Some(Task::Pairs),
-        "words" => Some(Task::Words),
-        "blocks" => Some(Task::Blocks),
-        "stress" => Some(Task::Stress),
-        _ => None,
-    }
-}
-
 /// The bench of this place and mode.
 fn bench_of(place: &str, mode: &str) -> Option<Bench> {
-    match (place, mode) {
-        ("heap", "bare") => Some(Bench::Atomics),
-        ("heap", "steps") => Some(Bench::Steps(Steps { frees: true })),
-        ("heap", "hold") => Some(Bench::Steps(Steps { frees: false })),
-        ("heap", "script") => Some(Bench::Script),
-        ("heap", mode) => Some(Bench::Heap(task_of(mode)?)),
-        ("cache", mode) => Some(Bench::Cache(task_of(mode)?)),
-        ("store", "pairs") => Some(Bench::Store),
-        ("store", "turns") => Some(Bench::StoreScript(Company::ByTurns)),
-        ("store", "threads") => Some(Bench::StoreScript(Company::OnThreads)),
-        ("machine", "bare") => Some(Bench::Accesses),
-        ("machine", "hold") => Some(Bench::Machine(Mix::Hold)),
-        ("machine", "all") => Some(Bench::Machine(Mix::All)),
-        ("machine", "mingled") => Some(Bench::Machine(Mix::Mingled)),
-        _ => None,
+    let rows = [
+        ("heap", "bare", Bench::Atomics),
+        ("heap", "steps", Bench::Steps(Steps { frees: true })),
+        ("heap", "hold", Bench::Steps(Steps { frees: false })),
+        ("heap", "pairs", Bench::Heap(Task::Pairs)),
+        ("heap", "words", Bench::Heap(Task::Words)),
+        ("heap", "blocks", Bench::Heap(Task::Blocks)),
+        ("heap", "stress", Bench::Heap(Task::Stress)),
+        ("heap", "script", Bench::Script),
+        ("cache", "pairs", Bench::Cache(Task::Pairs)),
+        ("cache", "words", Bench::Cache(Task::Words)),
+        ("cache", "blocks", Bench::Cache(Task::Blocks)),
+        ("cache", "stress", Bench::Cache(Task::Stress)),
+        ("store", "pairs", Bench::Store),
+        ("store", "turns", Bench::StoreScript(Company::ByTurns)),
+        ("store", "threads", Bench::StoreScript(Company::OnThreads)),
+        ("machine", "bare", Bench::Accesses),
+        ("machine", "hold", Bench::Machine(Mix::Hold)),
+        ("machine", "all", Bench::Machine(Mix::All)),
+        ("machine", "mingled", Bench::Machine(Mix::Mingled)),
+    ];
+    for (at, name, bench) in rows {
+        if at == place && name == mode {
+            return Some(bench);
+        }
     }
+    None
+}
+
+/// A number of a heap.
+fn number_of(word: &str) -> Option<u32> {
+    word.parse().ok()
+}
+
+/// A number that a bench counts with.
+fn count_of(word: &str) -> Option<u64> {
+    word.parse().ok()
+}
+
+/// The geometry, where these words are one that a heap can have.
+fn geometry_of(callers: &str, frames: &str, heaps: &str, units: &str) -> Option<Geometry>
+    ensures { IfSome result (λ geometry. IsChecked geometry) }
+{
+    let geometry = Geometry {
+        frames: number_of(frames)?,
+        heaps: number_of(heaps)?,
+        units: number_of(units)?,
+        callers: number_of(callers)?,
+        turn_limit: MAX_TURNS,
+    };
+    geometry.check().ok()
 }
 
 /// The command, where the words are one and its heap exists.
@@ -120,21 +144,17 @@ fn command_of(words: &[String]) -> Option<Command>
     ensures { IfSome result (λ command. IsChecked command.geometry) }
 {
     match words {
-        [place, mode, seed, count, callers, frames, heaps, units] => {
-            let geometry = Geometry {
-                frames: frames.parse().ok()?,
-                heaps: heaps.parse().ok()?,
-                units: units.parse().ok()?,
-                callers: callers.parse().ok()?,
-                turn_limit: MAX_TURNS,
-            };
-            Some(Command {
-                bench: bench_of(place.as_str(), mode.as_str())?,
-                seed: seed.parse().ok()?,
-                count: count.parse().ok()?,
-                geometry: geometry.check().ok()?,
-            })
-        }
+        [place, mode, seed, count, callers, frames, heaps, units] => Some(Command {
+            bench: bench_of(place.as_str(), mode.as_str())?,
+            seed: count_of(seed.as_str())?,
+            count: count_of(count.as_str())?,
+            geometry: geometry_of(
+                callers.as_str(),
+                frames.as_str(),
+                heaps.as_str(),
+                units.as_str(),
+            )?,
+        }),
         _ => None,
     }
 }

@@ -3,6 +3,7 @@
 ghost use Rattle.heap_geometry.specs.Geometry.{IsChecked};
 
 use crate::command::{Command, Steps, Task};
+use crate::counts::print_line;
 use block_cache::cache::Cache;
 use live_heap::pass::Pass;
 use run::Outcome;
@@ -24,16 +25,17 @@ mod tally;
 mod work;
 mod worker;
 
-/// Makes atomic accesses alone, and prints how many they were.
+/// Makes atomic accesses alone, and prints how many they were. None can be wrong.
 pub fn print_accesses<R: Print + Threads + Sync>(
     rt: &R,
     alloc: Global,
     command: Command,
-) -> io::Result<()>
+) -> io::Result<u64>
     requires { IsChecked command.geometry }
 {
     let accesses = bare::access(rt, alloc, command)?;
-    println!(rt; "accesses {accesses}")
+    print_line(rt, &[("accesses", accesses)])?;
+    Ok(0)
 }
 
 /// Makes steps, each thread by its pass, and prints the counts.
@@ -79,21 +81,21 @@ pub fn print_cached<R: Print + Threads + Wait + Sync>(
 /// Prints the counts, and answers how many words were wrong.
 fn print_outcome<R: Print>(rt: &R, outcome: Outcome) -> io::Result<u64> {
     let tally = outcome.tally;
-    println!(rt;
-        "made {} given {} refused {} freed {} put {} taken {} missed {} busy {} cleared {} words {} wrong {} won {} lost {}",
-        tally.made,
-        tally.given,
-        tally.refused,
-        tally.freed,
-        tally.put,
-        tally.taken,
-        tally.missed,
-        tally.busy,
-        tally.cleared,
-        tally.words,
-        tally.wrong,
-        outcome.won,
-        outcome.lost
-    )?;
+    let counts = [
+        ("made", tally.made),
+        ("given", tally.given),
+        ("refused", tally.refused),
+        ("freed", tally.freed),
+        ("put", tally.put),
+        ("taken", tally.taken),
+        ("missed", tally.missed),
+        ("busy", tally.busy),
+        ("cleared", tally.cleared),
+        ("words", tally.words),
+        ("wrong", tally.wrong),
+        ("won", outcome.won),
+        ("lost", outcome.lost),
+    ];
+    print_line(rt, &counts)?;
     Ok(tally.wrong)
 }

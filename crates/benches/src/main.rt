@@ -38,6 +38,7 @@ use std::thread::Threads;
 use std::{env, io};
 
 mod command;
+mod counts;
 mod heap;
 mod machine;
 mod script;
@@ -71,19 +72,16 @@ fn print_counts<R: Print + Threads + Wait + Sync>(
     requires { IsChecked command.geometry }
 {
     match command.bench {
-        Bench::Atomics => heap::print_accesses(rt, alloc, command)?,
-        Bench::Steps(steps) => return heap::print_steps(rt, alloc, steps, command),
-        Bench::Heap(task) => return heap::print_counts(rt, alloc, task, command),
-        Bench::Cache(task) => return heap::print_cached(rt, alloc, task, command),
-        Bench::Script => return script::print_sums(rt, alloc, command),
-        Bench::Store => store::print_sums(rt, alloc, command)?,
-        Bench::StoreScript(company) => {
-            return store_script::print_sums(rt, alloc, company, command);
-        }
-        Bench::Accesses => machine::print_accesses(rt, alloc, command)?,
-        Bench::Machine(mix) => machine::print_counts(rt, alloc, mix, command)?,
+        Bench::Atomics => heap::print_accesses(rt, alloc, command),
+        Bench::Steps(steps) => heap::print_steps(rt, alloc, steps, command),
+        Bench::Heap(task) => heap::print_counts(rt, alloc, task, command),
+        Bench::Cache(task) => heap::print_cached(rt, alloc, task, command),
+        Bench::Script => script::print_sums(rt, alloc, command),
+        Bench::Store => store::print_sums(rt, alloc, command),
+        Bench::StoreScript(company) => store_script::print_sums(rt, alloc, company, command),
+        Bench::Accesses => machine::print_accesses(rt, alloc, command),
+        Bench::Machine(mix) => machine::print_counts(rt, alloc, mix, command),
     }
-    Ok(0)
 }
 
 /// Does what the commands say, up to the first that does not end well, and answers the exit status.

@@ -3,6 +3,7 @@
 ghost use Rattle.heap_geometry.specs.Geometry.{IsChecked};
 
 use crate::command::Command;
+use crate::counts::print_line;
 use heap_geometry::geometry::Geometry;
 use heap_scripts::compare::compare;
 use std::alloc::Global;
@@ -36,20 +37,20 @@ pub fn print_sums<R: Print>(rt: &R, alloc: Global, command: Command) -> io::Resu
         println!(rt; "a caller is in a call still")?;
         return Ok(1);
     };
-    println!(rt;
-        "calls {} given {} refused {} spent {} freed {} busy {} steps {} won {} lost {} cleared {} words {} differed {}",
-        sums.calls,
-        sums.given,
-        sums.refused,
-        sums.spent,
-        sums.freed,
-        sums.busy,
-        sums.steps,
-        sums.won,
-        sums.lost,
-        sums.cleared,
-        sums.words,
-        sums.differed
-    )?;
+    let counts = [
+        ("calls", sums.calls),
+        ("given", sums.given),
+        ("refused", sums.refused),
+        ("spent", sums.spent),
+        ("freed", sums.freed),
+        ("busy", sums.busy),
+        ("steps", sums.steps),
+        ("won", sums.won),
+        ("lost", sums.lost),
+        ("cleared", sums.cleared),
+        ("words", sums.words),
+        ("differed", sums.differed),
+    ];
+    print_line(rt, &counts)?;
     Ok(sums.differed)
 }

@@ -6,6 +6,7 @@ ghost use Rattle.typed_store.specs.declared.store.Pending.TheVariants as pending
 ghost use Rattle.typed_store.specs.Stores.{IsReady, IsUnderWay};
 
 use crate::command::Command;
+use crate::counts::print_line;
 use live_heap::heap::Heap;
 use live_heap::laws::blocks::passes_hold_exactly;
 use std::alloc::{AllocError, Global};
@@ -122,10 +123,11 @@ fn run<R: Wait>(rt: &R, alloc: Global, command: Command) -> Result<Sums, AllocEr
     }
 }
 
-/// Makes the pairs, and prints how many were popped and the sum of their values.
-pub fn print_sums<R: Print + Wait>(rt: &R, alloc: Global, command: Command) -> io::Result<()>
+/// Makes the pairs, and prints how many were popped and the sum of their values. None can be wrong.
+pub fn print_sums<R: Print + Wait>(rt: &R, alloc: Global, command: Command) -> io::Result<u64>
     requires { IsChecked command.geometry }
 {
     let sums = run(rt, alloc, command)?;
-    println!(rt; "popped {} values {}", sums.popped, sums.values)
+    print_line(rt, &[("popped", sums.popped), ("values", sums.values)])?;
+    Ok(0)
 }

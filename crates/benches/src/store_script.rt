@@ -3,6 +3,7 @@
 ghost use Rattle.heap_geometry.specs.Geometry.{IsChecked};
 
 use crate::command::{Command, Company};
+use crate::counts::print_line;
 use std::alloc::{AllocError, Global};
 use std::io;
 use std::io::Print;
@@ -23,21 +24,21 @@ pub fn print_sums<R: Print + Threads + Sync>(
         println!(rt; "there is no second caller")?;
         return Ok(1);
     };
-    println!(rt;
-        "calls {} stored {} taken {} refused {} spent {} busy_pairs {} busy_records {} busy_frees {} resumed {} read {} lost {} differed {}",
-        sums.calls,
-        sums.stored,
-        sums.taken,
-        sums.refused,
-        sums.spent,
-        sums.busy_pairs,
-        sums.busy_records,
-        sums.busy_frees,
-        sums.resumed,
-        sums.read,
-        sums.lost,
-        sums.differed
-    )?;
+    let counts = [
+        ("calls", sums.calls),
+        ("stored", sums.stored),
+        ("taken", sums.taken),
+        ("refused", sums.refused),
+        ("spent", sums.spent),
+        ("busy_pairs", sums.busy_pairs),
+        ("busy_records", sums.busy_records),
+        ("busy_frees", sums.busy_frees),
+        ("resumed", sums.resumed),
+        ("read", sums.read),
+        ("lost", sums.lost),
+        ("differed", sums.differed),
+    ];
+    print_line(rt, &counts)?;
     Ok(sums.differed)
 }
 

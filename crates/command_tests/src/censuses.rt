@@ -1,5 +1,6 @@
 //! Reports with what the closed heap holds.
 
+use crate::texts::{push_allocations, push_frees};
 use command_line::status::REPORTED;
 use edge_io::memory::MemorySink;
 use memory_runs::running::{Left, Told, run_on, writes};
@@ -42,44 +43,40 @@ fn busy_lanes(alloc: Global) -> Result<String, AllocError> {
     let mut trace = String::new(alloc);
     trace.push_str("heap 64 2 8\n")?;
     for lane in 0..8u32 {
-        trace.push_str("lane\n")?;
-        for k in 0..40u32 {
-            let words = 25 * k;
-            write!(trace, "a {k} {words} {k}\n")?;
-        }
-        for k in 0..8u32 {
-            write!(trace, "p {k} {}\n", 8 * lane + k)?;
-        }
-        for k in 8..30u32 {
-            write!(trace, "f {k}\n")?;
-        }
-        trace.push_str("a 40 5000 1\n")?;
+        push_busy_lane(&mut trace, lane)?;
     }
     trace.push_str("end\n")?;
     Ok(trace)
 }
 
-/// The number that stands behind a word in a line; 0 where none does.
-fn number_behind(line: &str, word: &str) -> u64 {
-    let mut fields = line.split_whitespace();
-    while let Some(field) = fields.next() {
-        if field == word {
-            return fields
-                .next()
-                .and_then(|number| number.parse().ok())
-                .unwrap_or(0);
-        }
-    }
-    0
+/// One of them.
+fn push_busy_lane(trace: &mut String, lane: u32) -> Result<(), AllocError> {
+    trace.push_str("lane\n")?;
+    push_allocations(trace, 40, 0, 25)?;
+    push_puts(trace, lane)?;
+    push_frees(trace, 8, 30)?;
+    trace.push_str("a 40 5000 1\n")
 }
 
-/// The sum of the numbers behind a word, in all lines that start so.
-fn sum_of(text: &str, start: &str, word: &str) -> u64 {
-    let mut sum: u64 = 0;
-    for line in text.lines().filter(|line| line.starts_with(start)) {
-        sum = sum.saturating_add(number_behind(line, word));
+/// A lane puts its first eight blocks on shelves of its own.
+fn push_puts(trace: &mut String, lane: u32) -> Result<(), AllocError> {
+    for k in 0..8u32 {
+        let shelf = lane.saturating_mul(8).saturating_add(k);
+        write!(trace, "p {k} {shelf}\n")?;
     }
-    sum
+    Ok(())
+}
+
+/// The number that stands behind a word in a line; 0 where none does.
+fn number_behind(line: &str, word: &str) -> u64 {
+    let mut is_behind = false;
+    for field in line.split_whitespace() {
+        if is_behind {
+            return field.parse().unwrap_or(0);
+        }
+        is_behind = field == word;
+    }
+    0
 }
 
 /// Whether a line of a class adds up.
@@ -90,11 +87,52 @@ fn adds_up(line: &str) -> bool {
     number_behind(line, "blocks") == parts
 }
 
-/// How many lines of a text are those of classes that add up.
-fn classes_that_add_up(text: &str) -> usize {
-    text.lines()
-        .filter(|line| line.starts_with("class ") && adds_up(line))
-        .count()
+/// What the lines of a census come to.
+#[derive(Drop)]
+struct Sums {
+    /// How many classes add up.
+    classes: u32,
+    /// How many blocks are live by the lines of classes.
+    live: u64,
+    /// How many are live by the report.
+    told: u64,
+    /// How many large blocks were given.
+    large: u32,
+}
+
+impl Sums {
+    /// Adds a line of a class.
+    fn add_class(&mut self, line: &str) {
+        if adds_up(line) {
+            self.classes = self.classes.saturating_add(1);
+        }
+        self.live = self.live.saturating_add(number_behind(line, "live"));
+    }
+
+    /// Adds a line.
+    fn add(&mut self, line: &str) {
+        if line.starts_with("class ") {
+            self.add_class(line);
+        } else if line.starts_with("live ") {
+            self.told = self.told.saturating_add(number_behind(line, "live"));
+        } else if line == "given 6143" {
+            self.large = self.large.saturating_add(1);
+        }
+    }
+
+    /// The sums of a census.
+    fn of(text: &str) -> Sums {
+        let mut sums = Sums {
+            classes: 0,
+            live: 0,
+            told: 0,
+            large: 0,
+        };
+        for line in text.lines() {
+            sums.add(line);
+        }
+        sums
+    }
 }
 
 /// How the lanes' run ends, and its census.
@@ -108,10 +146,10 @@ fn run_busy<R: Threads + Wait + Sync>(
 
 /// A census adds up: each class, and what is live, but for two large blocks.
 fn census_adds_up<R: Abort + AllocGlobal>(rt: &R, text: &str) {
-    let large = text.lines().filter(|line| *line == "given 6143").count();
-    assert_eq!(rt; (classes_that_add_up(text), large), (11, 2));
-    let live = sum_of(text, "class ", "live").saturating_add(2);
-    assert_eq!(rt; sum_of(text, "live ", "live"), live);
+    let sums = Sums::of(text);
+    assert!(rt; sums.classes == 11);
+    assert!(rt; sums.large == 2);
+    assert!(rt; sums.told == sums.live.saturating_add(2));
     assert!(rt; text.ends_with("units 2\n"));
 }
 
@@ -119,7 +157,7 @@ fn census_adds_up<R: Abort + AllocGlobal>(rt: &R, text: &str) {
 #[test]
 fn columns_add_up(rt: HostRuntime) -> Result<(), Fail> {
     let (told, sink) = run_busy(&rt, rt.alloc())?;
-    assert_eq!(rt; told, (REPORTED, Left::Shared));
+    assert!(rt; told == (REPORTED, Left::Shared));
     let Ok(text) = str::from_utf8(sink.bytes()) else {
         panic!(rt; "a census is text");
     };

@@ -7,6 +7,8 @@ mod caches;
 #[cfg(test)]
 mod censuses;
 #[cfg(test)]
+mod edges;
+#[cfg(test)]
 mod generated;
 #[cfg(test)]
 mod refusals;
@@ -18,3 +20,7 @@ mod schedules;
 mod statuses;
 #[cfg(test)]
 mod stores;
+#[cfg(test)]
+mod tables;
+#[cfg(test)]
+mod texts;

@@ -4,6 +4,7 @@
 ghost use Rattle.std.specs.Prelude.{◌<◌};
 ghost use Rattle.block_cache.specs.Caches.{Holds, IsCache};
 
+use crate::expect::expect;
 use block_cache::cache::Cache;
 use heap_geometry::limits::SHELVES;
 use heap_scripts::request::{Request, Told};
@@ -12,7 +13,6 @@ use live_heap::block::Block;
 use live_heap::heap::Heap;
 use std::alloc::AllocError;
 use std::process::Abort;
-use std::test::Fail;
 
 /// How often a call may lose an exchange or clear a superblock.
 const TRIES: u32 = 1;
@@ -203,6 +203,14 @@ fn make(
     }
 }
 
+/// Whether an answer is this one.
+fn is_told(answer: Option<Told>, told: Told) -> bool {
+    match answer {
+        Some(found) => found == told,
+        None => false,
+    }
+}
+
 /// These calls, one after the other, come to this, and so many allocations were then given from a magazine.
 pub fn come_to<R: Abort>(
     rt: &R,
@@ -210,16 +218,19 @@ pub fn come_to<R: Abort>(
     cache: &mut Cache,
     held: &mut Vec<Block>,
     rows: &[(Request, Told, u64)],
-) -> Result<(), Fail>
+) -> Result<(), AllocError>
     requires cache { IsCache heap.now cache.old }
     requires holds { Holds cache.old held.old.items }
     ensures cache { IsCache heap.now cache.new }
     ensures holds { Holds cache.new held.new.items }
 {
+    let mut number: u64 = 0;
     for row in rows {
         let (request, told, hits) = *row;
         let answer = make(heap, cache, held, request)?;
-        assert_eq!(rt; (answer, cache.hits()), (Some(told), hits), "{request:?}");
+        expect(rt, is_told(answer, told), number);
+        expect(rt, cache.hits() == hits, number);
+        number = number.saturating_add(1);
     }
     Ok(())
 }

@@ -7,6 +7,7 @@ ghost use Rattle.heap_geometry.specs.declared.limits.TheConstants.{CLASSES, MAX_
 ghost use Rattle.block_cache.specs.Caches.{Holds, IsCache};
 
 use crate::cached::come_to;
+use crate::expect::expect;
 use block_cache::cache::Cache;
 use heap_geometry::limits::CLASSES;
 use heap_scripts::alone::geometry;
@@ -15,6 +16,7 @@ use live_heap::answers::FreeAnswer;
 use live_heap::block::Block;
 use live_heap::heap::Heap;
 use std::alloc::{AllocError, Global};
+use std::process::Abort;
 use std::test::Fail;
 
 /// A heap with one caller, a cache in front of its pass, and no block held. There was no memory where there is
@@ -52,12 +54,65 @@ fn cached(heap: &Heap, cache: &Cache) -> u32
     total
 }
 
+/// A row of calls through a new cache comes to this.
+fn play<R: Abort>(
+    rt: &R,
+    alloc: Global,
+    frames: u32,
+    units: u32,
+    turn_limit: u64,
+    depth: u8,
+    rows: &[(Asked, Told, u64)],
+) -> Result<(), AllocError>
+    requires frames { IsWithin 1 MAX_FRAMES frames }
+    requires units { IsWithin 0 MAX_UNITS units }
+    requires turn_limit { IsWithin 1 MAX_TURNS turn_limit }
+    requires some { 1 ≤ depth }
+    requires few { depth ≤ 64 }
+{
+    match open_cached(alloc, frames, units, turn_limit, depth)? {
+        Some((heap, mut cache, mut held)) => come_to(rt, &heap, &mut cache, &mut held, rows),
+        None => Err(AllocError),
+    }
+}
+
+/// A cache that keeps one block is flushed, and its pass has made one turn and won four exchanges.
+fn flushes<R: Abort>(rt: &R, heap: &Heap, mut cache: Cache)
+    requires { IsCache heap.now cache }
+{
+    if !cache.idle() {
+        panic!(rt; "the caller is in a call");
+    }
+    expect(rt, cached(heap, &cache) == 1, 0);
+    expect(rt, matches!(cache.flush(heap, 1), FreeAnswer::Freed), 1);
+    expect(rt, cached(heap, &cache) == 0, 2);
+    if !cache.idle() {
+        panic!(rt; "the flush goes on");
+    }
+    let pass = cache.close();
+    expect(rt, pass.turns() == 1, 3);
+    expect(rt, pass.won() == 4, 4);
+}
+
+/// A row of calls comes to this, and then the cache is flushed.
+fn play_and_flush<R: Abort>(
+    rt: &R,
+    alloc: Global,
+    rows: &[(Asked, Told, u64)],
+) -> Result<(), AllocError> {
+    match open_cached(alloc, 4, 0, 9, 16)? {
+        Some((heap, mut cache, mut held)) => {
+            come_to(rt, &heap, &mut cache, &mut held, rows)?;
+            flushes(rt, &heap, cache);
+            Ok(())
+        }
+        None => Err(AllocError),
+    }
+}
+
 // What was freed last is given again, and written as any block is.
 #[test]
 fn a_freed_block_is_given_again(rt: HostRuntime) -> Result<(), Fail> {
-    let Some((heap, mut cache, mut held)) = open_cached(rt.alloc(), 4, 0, 9, 16)? else {
-        panic!(rt; "no memory");
-    };
     let rows = [
         (Asked::Alloc(1), Told::Given(0), 0),
         (Asked::Write(0, 0, 5), Told::Wrote, 0),
@@ -67,21 +122,12 @@ fn a_freed_block_is_given_again(rt: HostRuntime) -> Result<(), Fail> {
         (Asked::Read(0, 0), Told::Word(6), 1),
         (Asked::Free(0), Told::FreedAt(0), 1),
     ];
-    come_to(&rt, &heap, &mut cache, &mut held, &rows)?;
-    assert_eq!(rt; (cached(&heap, &cache), cache.idle()), (1, true));
-    assert_eq!(rt; cache.flush(&heap, 1), FreeAnswer::Freed);
-    assert_eq!(rt; (cached(&heap, &cache), cache.idle()), (0, true));
-    let pass = cache.close();
-    assert_eq!(rt; (pass.turns(), pass.won()), (1, 4));
-    Ok(())
+    Ok(play_and_flush(&rt, rt.alloc(), &rows)?)
 }
 
 // A magazine of one block: the first freed one stays there, the second goes to the heap.
 #[test]
 fn a_full_magazine_sends_frees_on(rt: HostRuntime) -> Result<(), Fail> {
-    let Some((heap, mut cache, mut held)) = open_cached(rt.alloc(), 4, 0, 9, 1)? else {
-        panic!(rt; "no memory");
-    };
     let rows = [
         (Asked::Alloc(1), Told::Given(0), 0),
         (Asked::Alloc(1), Told::Given(2), 0),
@@ -91,15 +137,12 @@ fn a_full_magazine_sends_frees_on(rt: HostRuntime) -> Result<(), Fail> {
         (Asked::Alloc(1), Told::Given(2), 1),
         (Asked::Alloc(1), Told::Given(0), 1),
     ];
-    come_to(&rt, &heap, &mut cache, &mut held, &rows)
+    Ok(play(&rt, rt.alloc(), 4, 0, 9, 1, &rows)?)
 }
 
 // A magazine serves also whom the heap would refuse, since no frame is left or no turn.
 #[test]
 fn a_cache_answers_as_its_heap(rt: HostRuntime) -> Result<(), Fail> {
-    let Some((heap, mut cache, mut held)) = open_cached(rt.alloc(), 1, 1, 4, 2)? else {
-        panic!(rt; "no memory");
-    };
     let full = Told::Full {
         place: 1024,
         found: 137,
@@ -119,15 +162,12 @@ fn a_cache_answers_as_its_heap(rt: HostRuntime) -> Result<(), Fail> {
         (Asked::Alloc(1), Told::Spent, 0),
         (Asked::Alloc(1023), Told::Given(1024), 1),
     ];
-    come_to(&rt, &heap, &mut cache, &mut held, &rows)
+    Ok(play(&rt, rt.alloc(), 1, 1, 4, 2, &rows)?)
 }
 
 // As in the row of the heap's own test: behind one kept block the heap stands as there.
 #[test]
 fn an_interrupted_allocation_is_resumed(rt: HostRuntime) -> Result<(), Fail> {
-    let Some((heap, mut cache, mut held)) = open_cached(rt.alloc(), 4, 0, 20, 1)? else {
-        panic!(rt; "no memory");
-    };
     let rows = [
         (Asked::Alloc(2047), Told::Given(0), 0),
         (Asked::Alloc(2047), Told::Given(2048), 0),
@@ -150,5 +190,5 @@ fn an_interrupted_allocation_is_resumed(rt: HostRuntime) -> Result<(), Fail> {
         (Asked::Alloc(2047), Told::Busy, 1),
         (Asked::Resume, Told::Given(0), 1),
     ];
-    come_to(&rt, &heap, &mut cache, &mut held, &rows)
+    Ok(play(&rt, rt.alloc(), 4, 0, 20, 1, &rows)?)
 }

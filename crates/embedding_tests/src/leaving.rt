@@ -4,10 +4,15 @@ ghost use Rattle.std.specs.Prelude.{IfSome};
 ghost use Rattle.live_heap.specs.declared.heap.Heap.{Heap};
 ghost use Rattle.live_heap.specs.Passes.{AreFrom, IsOf};
 
+use crate::expect::expect;
 use heap_geometry::geometry::Geometry;
+use heap_scripts::alone::geometry;
+use live_heap::closed::Closed;
 use live_heap::heap::Heap;
 use live_heap::pass::Pass;
 use shared_heap::shared::SharedHeap;
+use std::alloc::{AllocError, Global};
+use std::process::Abort;
 use std::sync::Arc;
 use std::test::Fail;
 
@@ -20,27 +25,34 @@ fn both(mut passes: Vec<Pass>) -> Option<(Pass, Pass)>
     Some((first, second))
 }
 
-#[test]
-fn the_last_owner_that_goes_closes_the_heap(rt: HostRuntime) -> Result<(), Fail> {
-    let alloc = rt.alloc();
-    let numbers = Geometry {
-        frames: 4,
-        heaps: 1,
-        units: 2,
-        callers: 2,
-        turn_limit: 99,
+/// Whether a heap with these numbers was closed.
+fn is_closed(closed: Option<Closed>, numbers: Geometry) -> bool {
+    match closed {
+        Some(closed) => closed.geometry() == numbers,
+        None => false,
+    }
+}
+
+/// The heap is closed by the second of its two owners, and not by the first.
+fn leave<R: Abort>(rt: &R, alloc: Global) -> Result<(), AllocError> {
+    let numbers = geometry(4, 2, 2, 99);
+    let (heap, passes) = Heap::open(alloc, numbers)?;
+    let Some((first, second)) = both(passes) else {
+        panic!(rt; "there is no pass for each caller");
     };
-    let geometry = numbers.check()?;
-    let (heap, passes) = Heap::open(alloc, geometry)?;
     let (shared, mut dealer) = SharedHeap::new(alloc, heap)?;
     let share = Arc::new(alloc, shared)?;
     let other = Arc::try_clone(&share)?;
     let first_ticket = share.ticket(&mut dealer);
     let second_ticket = share.ticket(&mut dealer);
-    let (first, second) = both(passes).expect(&rt, "a pass for each caller");
     let left = SharedHeap::leave(other, alloc, first_ticket, first);
-    assert!(rt; left.closed.is_none());
+    expect(rt, left.closed.is_none(), 0);
     let left = SharedHeap::leave(share, alloc, second_ticket, second);
-    assert_eq!(rt; left.closed.map(|closed| closed.geometry()), Some(geometry));
+    expect(rt, is_closed(left.closed, numbers), 1);
     Ok(())
+}
+
+#[test]
+fn the_last_owner_that_goes_closes_the_heap(rt: HostRuntime) -> Result<(), Fail> {
+    Ok(leave(&rt, rt.alloc())?)
 }

@@ -13,6 +13,8 @@ mod driver;
 #[cfg(test)]
 mod embedding;
 #[cfg(test)]
+mod expect;
+#[cfg(test)]
 mod leaving;
 #[cfg(test)]
 mod piping;

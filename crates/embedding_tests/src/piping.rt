@@ -1,26 +1,45 @@
 //! Small runs of a pipe. Expected values are worked by hand.
 
-use std::alloc::Global;
+use crate::expect::expect;
+use std::alloc::{AllocError, Global};
 use std::process::Abort;
 use std::sync::Wait;
 use std::test::Fail;
 use worked_programs::pipes::{Ask, Came, Line};
 use worked_programs::relay::relay;
 
-/// What each row asks comes to what it says. The numbers of sender 0 and of no sender at the end: how many
-/// notes were pushed, and how many of them were popped.
-fn logs<R: Abort + Wait>(
+/// Whether an answer is this one.
+fn is_came(answer: Option<Came>, came: Came) -> bool {
+    match answer {
+        Some(found) => found == came,
+        None => false,
+    }
+}
+
+/// What each row asks comes to what it says. Behind that so many notes of sender 0 were pushed and popped, and
+/// none of a sender that there isn't.
+fn come_to<R: Abort + Wait>(
     rt: &R,
     alloc: Global,
     rows: &[(Ask, Came)],
-) -> Result<Option<[u64; 4]>, Fail> {
+    sent: u64,
+    taken: u64,
+) -> Result<(), AllocError> {
     let mut line = Line::open(alloc)?;
+    let mut number: u64 = 0;
     for row in rows {
         let (ask, came) = *row;
-        assert_eq!(rt; line.ask(rt, ask), Some(came), "{ask:?}");
+        expect(rt, is_came(line.ask(rt, ask), came), number);
+        number = number.saturating_add(1);
     }
-    let log = line.close(rt, alloc)?;
-    Ok(log.map(|log| [log.sent(0), log.taken(0), log.sent(3), log.taken(3)]))
+    match line.close(rt, alloc)? {
+        Some(log) => {
+            expect(rt, log.sent(0) == sent && log.taken(0) == taken, number);
+            expect(rt, log.sent(3) == 0 && log.taken(3) == 0, number);
+        }
+        None => panic!(rt; "the line is not closed"),
+    }
+    Ok(())
 }
 
 #[test]
@@ -35,9 +54,7 @@ fn a_full_shelf_keeps_the_next_block_back(rt: HostRuntime) -> Result<(), Fail> {
         (Ask::Send, Came::Sent),
         (Ask::Flush, Came::Flushed(true)),
     ];
-    let log = logs(&rt, rt.alloc(), &rows)?;
-    assert_eq!(&rt; log, Some([2, 1, 0, 0]));
-    Ok(())
+    Ok(come_to(&rt, rt.alloc(), &rows, 2, 1)?)
 }
 
 #[test]
@@ -55,13 +72,14 @@ fn a_block_that_is_taken_without_its_note_leaves_the_notes_in_their_order(
         (Ask::Flush, Came::Flushed(true)),
         (Ask::Receive, Came::Gone(1)),
     ];
-    let log = logs(&rt, rt.alloc(), &rows)?;
-    assert_eq!(&rt; log, Some([2, 2, 0, 0]));
-    Ok(())
+    Ok(come_to(&rt, rt.alloc(), &rows, 2, 2)?)
 }
 
 #[test]
 fn a_word_goes_from_one_thread_to_another(rt: HostRuntime) -> Result<(), Fail> {
-    assert_eq!(&rt; relay(&rt, rt.alloc(), 7)?, Some(7));
+    match relay(&rt, rt.alloc(), 7)? {
+        Some(word) => expect(&rt, word == 7, word),
+        None => panic!(rt; "no word came"),
+    }
     Ok(())
 }

@@ -1,5 +1,6 @@
 //! Random scripts of calls on a store beside plain lists, while another caller of its heap goes on.
 
+use crate::expect::expect;
 use heap_geometry::geometry::Geometry;
 use heap_geometry::limits::MAX_TURNS;
 use std::alloc::{AllocError, Global};
@@ -62,9 +63,9 @@ fn stores_hold_what_plain_lists_do(rt: HostRuntime) -> Result<(), Fail> {
     let Some(sums) = made_by_turns(rt.alloc())? else {
         panic!(rt; "there is no second caller");
     };
-    assert_eq!(rt; sums.differed, 0);
-    assert!(rt; sums.stored > 0 && sums.taken > 0 && sums.read > 0);
-    assert!(rt; sums.refused > 0 && sums.spent > 0 && sums.lost > 0);
+    expect(&rt, sums.differed == 0, sums.differed);
+    expect(&rt, sums.stored > 0 && sums.taken > 0 && sums.read > 0, 1);
+    expect(&rt, sums.refused > 0 && sums.spent > 0 && sums.lost > 0, 2);
     Ok(())
 }
 
@@ -96,7 +97,8 @@ fn calls_that_lose_an_exchange_are_resumed(rt: HostRuntime) -> Result<(), Fail> 
     let Some(sums) = made_on_threads(&rt, rt.alloc())? else {
         panic!(rt; "there is no second caller");
     };
-    assert_eq!(rt; sums.differed, 0);
-    assert!(rt; is_interrupted(sums) && sums.resumed > 0);
+    expect(&rt, sums.differed == 0, sums.differed);
+    expect(&rt, is_interrupted(sums), 1);
+    expect(&rt, sums.resumed > 0, 2);
     Ok(())
 }

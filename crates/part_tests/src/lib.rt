@@ -6,6 +6,8 @@
 #[cfg(test)]
 mod errands;
 #[cfg(test)]
+mod expect;
+#[cfg(test)]
 mod hazards;
 #[cfg(test)]
 mod heaps;

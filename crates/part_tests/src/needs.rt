@@ -1,6 +1,13 @@
 //! Which blocks serve an allocation, and how many usable words they have.
 
+use crate::expect::expect;
 use heap_geometry::need::{Need, class_of, usable};
+
+/// Whether these blocks serve an allocation of so many words, and have so many usable words.
+fn serve(need: u32, blocks: Need, words: u32) -> bool {
+    let found = class_of(need);
+    found == blocks && usable(found) == words
+}
 
 /// Where a class or a run of units ends and the next begins.
 #[test]
@@ -20,7 +27,6 @@ fn needs_at_their_boundaries(rt: HostRuntime) {
         (u32::MAX, Need::TooLarge, 0),
     ];
     for (need, blocks, words) in rows {
-        let found = class_of(need);
-        assert_eq!(rt; (found, usable(found)), (blocks, words), "at {need}");
+        expect(&rt, serve(need, blocks, words), u64::from(need));
     }
 }

@@ -1,5 +1,6 @@
 //! Numbers of packed words, by the table of their fields.
 
+use crate::expect::expect;
 use heap_geometry::need::Need;
 use packed_words::active::ActiveWord;
 use packed_words::anchor::{Anchor, AnchorState};
@@ -7,6 +8,19 @@ use packed_words::head::Head;
 use packed_words::info::Info;
 use packed_words::prefix::{Prefix, link_of};
 use packed_words::shelf::ShelfWord;
+
+/// Whether this anchor is packed into this word, and is unpacked from there.
+fn is_anchor(anchor: Anchor, word: u64) -> bool {
+    anchor.pack() == word && Anchor::unpack(word) == anchor
+}
+
+/// Whether an anchor has these fields.
+fn has_fields(anchor: Anchor, avail: u16, count: u16, state: AnchorState, tag: u64) -> bool {
+    anchor.avail() == avail
+        && anchor.count() == count
+        && anchor.state() == state
+        && anchor.tag() == tag
+}
 
 /// Each code of a state stands in bits 22 and 23.
 #[test]
@@ -20,16 +34,27 @@ fn anchors(rt: HostRuntime) {
         (Anchor::new(0, 0, AnchorState::Empty, 0), 3 << 22),
     ];
     for (anchor, word) in rows {
-        assert_eq!(rt; (anchor.pack(), Anchor::unpack(word)), (word, anchor));
+        expect(&rt, is_anchor(anchor, word), word);
     }
     let again = Anchor::unpack(1_077_803_009);
-    let fields = (again.avail(), again.count(), again.state(), again.tag());
-    assert_eq!(rt; fields, (1, 1983, AnchorState::Active, 64));
+    expect(&rt, has_fields(again, 1, 1983, AnchorState::Active, 64), 0);
+}
+
+/// Whether this active word is packed into this word, and is unpacked from there.
+fn is_active(word: u64, active: ActiveWord) -> bool {
+    match ActiveWord::unpack(word) {
+        Some(found) => found == active && found.pack() == word,
+        None => false,
+    }
+}
+
+/// The active word of a descriptor with so many credits.
+fn held(desc: u16, credits: u8) -> ActiveWord {
+    ActiveWord::Held { desc, credits }
 }
 
 #[test]
 fn active_words(rt: HostRuntime) {
-    let held = |desc, credits| ActiveWord::Held { desc, credits };
     let rows = [
         (0, ActiveWord::Null),
         (64, held(0, 0)),
@@ -37,64 +62,81 @@ fn active_words(rt: HostRuntime) {
         (128, held(1, 0)),
     ];
     for (word, active) in rows {
-        assert_eq!(rt;
-            (active.pack(), ActiveWord::unpack(word)),
-            (word, Some(active))
-        );
+        expect(&rt, is_active(word, active), word);
     }
-    assert_eq!(rt; ActiveWord::unpack(63), None);
+    expect(&rt, ActiveWord::unpack(63).is_none(), 63);
+}
+
+/// Whether a head is packed into this word, and what is unpacked from there has this top and this tag.
+fn is_head(head: Head, word: u64, top: u16, tag: u64) -> bool {
+    let found = Head::unpack(word);
+    head.pack() == word && found.top() == top && found.tag() == tag
 }
 
 #[test]
 fn heads(rt: HostRuntime) {
-    let word = 3 + 5 * 65_536;
-    let head = Head::unpack(word);
-    let told = (Head::new(3, 5).pack(), head.top(), head.tag());
-    assert_eq!(rt; told, (word, 3, 5));
+    expect(&rt, is_head(Head::new(3, 5), 3 + 5 * 65_536, 3, 5), 0);
+}
+
+/// Whether this prefix is packed into this word, and is unpacked from there.
+fn is_prefix(word: u64, prefix: Prefix) -> bool {
+    match Prefix::unpack(word) {
+        Some(found) => found == prefix && found.pack() == word,
+        None => false,
+    }
 }
 
 #[test]
 fn prefixes(rt: HostRuntime) {
-    let rows = [
-        (14, Prefix::Small { desc: 7 }),
-        (129, Prefix::Large { units: 64 }),
-    ];
-    for (word, prefix) in rows {
-        assert_eq!(rt; (prefix.pack(), Prefix::unpack(word)), (word, Some(prefix)));
+    expect(&rt, is_prefix(14, Prefix::Small { desc: 7 }), 14);
+    expect(&rt, is_prefix(129, Prefix::Large { units: 64 }), 129);
+    expect(&rt, Prefix::unpack(1).is_none(), 1);
+    expect(&rt, Prefix::unpack(131).is_none(), 131);
+    expect(&rt, link_of(5 * 2048 + 3) == 3, 3);
+}
+
+/// Whether the information is packed into this word, and is unpacked from there.
+fn is_info(info: Info, word: u64) -> bool {
+    match Info::unpack(word) {
+        Some(found) => found == info && info.pack() == word,
+        None => false,
     }
-    for word in [1, 131] {
-        assert_eq!(rt; Prefix::unpack(word), None);
-    }
-    assert_eq!(rt; link_of(5 * 2048 + 3), 3);
+}
+
+/// Whether the information is of this frame, heap and class.
+fn tells(info: Info, frame: u16, heap: u8, class: u8) -> bool {
+    info.frame() == frame && info.heap() == heap && info.class() == class
 }
 
 #[test]
 fn infos(rt: HostRuntime) {
-    let info = Info::new(4095, 15, 10);
     let word = 4095 + 15 * 65_536 + 10 * 16_777_216;
-    let told = (info.pack(), info.frame(), info.heap(), info.class());
-    assert_eq!(rt; told, (word, 4095, 15, 10));
-    let rows = [(word, Some(info)), (4096, None), (1 << 32, None)];
-    for (word, info) in rows {
-        assert_eq!(rt; Info::unpack(word), info);
+    let info = Info::new(4095, 15, 10);
+    expect(&rt, is_info(info, word), word);
+    expect(&rt, tells(info, 4095, 15, 10), 0);
+    expect(&rt, Info::unpack(4096).is_none(), 4096);
+    expect(&rt, Info::unpack(1 << 32).is_none(), 1 << 32);
+}
+
+/// Whether this shelf is packed into this word, and is unpacked from there.
+fn is_shelf(word: u64, shelf: ShelfWord) -> bool {
+    match ShelfWord::unpack(word) {
+        Some(found) => found == shelf && found.pack() == word,
+        None => false,
     }
+}
+
+/// The shelf on which this block lies.
+fn block(place: u32, need: Need) -> ShelfWord {
+    ShelfWord::Block { place, need }
 }
 
 #[test]
 fn shelf_words(rt: HostRuntime) {
-    let block = |place, need| ShelfWord::Block { place, need };
-    let rows = [
-        (524_434, block(4096, Need::Large(2))),
-        (131, block(0, Need::Small(3))),
-        (0, ShelfWord::Nothing),
-    ];
-    for (word, shelf) in rows {
-        assert_eq!(rt;
-            (shelf.pack(), ShelfWord::unpack(word)),
-            (word, Some(shelf))
-        );
-    }
+    expect(&rt, is_shelf(524_434, block(4096, Need::Large(2))), 524_434);
+    expect(&rt, is_shelf(131, block(0, Need::Small(3))), 131);
+    expect(&rt, is_shelf(0, ShelfWord::Nothing), 0);
     for word in [128 + 16 + 65, 128 + 16 + 1, 128 + 11] {
-        assert_eq!(rt; ShelfWord::unpack(word), None);
+        expect(&rt, ShelfWord::unpack(word).is_none(), word);
     }
 }

@@ -4,26 +4,27 @@ ghost use Rattle.std.specs.Prelude.{◌<◌, ◌≡◌, OnOk};
 ghost use Rattle.heap_geometry.specs.declared.limits.TheConstants.{SHELVES};
 ghost use Rattle.heap_geometry.specs.Geometry.{IsChecked};
 
+use crate::expect::expect;
 use crate::heaps::checked;
 use heap_geometry::geometry::Geometry;
 use heap_geometry::limits::SHELVES;
 use plain_pool::answers::{PlainAlloc, PlainPut, PlainTake};
 use plain_pool::pool::PlainPool;
-use std::alloc::AllocError;
+use std::alloc::{AllocError, Global};
 use std::process::Abort;
-use std::test::Fail;
 
-/// Allocates for caller 0, and puts what it is given on the shelf.
-fn shelve(pool: &mut PlainPool, need: u32, shelf: u8) -> Result<PlainAlloc, AllocError>
+/// Allocates for caller 0, and puts what it is given on the shelf. Answers also whether it lies there.
+fn shelve(pool: &mut PlainPool, need: u32, shelf: u8) -> Result<(PlainAlloc, bool), AllocError>
     requires callers { 0 < pool.old.geometry.callers }
     requires shelf { shelf < SHELVES }
     ensures { OnOk result (0 < pool.new.geometry.callers) }
 {
     let answer = pool.alloc(0, need)?;
     if let PlainAlloc::Given { place, .. } = answer {
-        let _ = pool.put(0, place, shelf)?;
+        let put = pool.put(0, place, shelf)?;
+        return Ok((answer, put == PlainPut::Put));
     }
-    Ok(answer)
+    Ok((answer, false))
 }
 
 /// Takes what lies on the shelf for caller 0, and frees it.
@@ -39,35 +40,19 @@ fn unshelve(pool: &mut PlainPool, shelf: u8) -> Result<PlainTake, AllocError>
     Ok(answer)
 }
 
-/// Allocates for caller 0, writes a word, and answers what it held before and holds after.
-fn write_and_read(
-    pool: &mut PlainPool,
-    need: u32,
-    i: u32,
-    v: u64,
-) -> Result<Option<(u64, u64)>, AllocError>
+/// Allocates for caller 0, writes a word, and answers whether it held 0 before and holds this after.
+fn write_and_read(pool: &mut PlainPool, need: u32, i: u32, v: u64) -> Result<bool, AllocError>
     requires { 0 < pool.old.geometry.callers }
+    ensures { OnOk result (0 < pool.new.geometry.callers) }
 {
     if let PlainAlloc::Given { place, words } = pool.alloc(0, need)? {
         if i < words {
             let before = pool.read(0, place, i);
             pool.write(0, place, i, v)?;
-            return Ok(Some((before, pool.read(0, place, i))));
+            return Ok(before == 0 && pool.read(0, place, i) == v);
         }
     }
-    Ok(None)
-}
-
-/// Allocates for caller 0, and puts two blocks on one shelf.
-fn crowd(pool: &mut PlainPool, shelf: u8) -> Result<Option<PlainPut>, AllocError>
-    requires callers { 0 < pool.old.geometry.callers }
-    requires shelf { shelf < SHELVES }
-{
-    let _ = shelve(pool, 1, shelf)?;
-    match pool.alloc(0, 1)? {
-        PlainAlloc::Given { place, .. } => Ok(Some(pool.put(0, place, shelf)?)),
-        _ => Ok(None),
-    }
+    Ok(false)
 }
 
 /// A heap of one caller and one processor heap of each class.
@@ -85,112 +70,125 @@ fn small_heap<R: Abort>(rt: &R, frames: u32, units: u32) -> Geometry
     checked(rt, geometry)
 }
 
-/// What is asked of a pool: to allocate and put on a shelf, or to take from there and free.
-#[derive(Clone, Copy, Debug)]
-enum Asked {
-    Shelve(u32, u8),
-    Unshelve(u8),
+/// What is asked of a pool, and what it answers.
+#[derive(Clone, Copy)]
+enum Row {
+    /// To allocate and put on a shelf, and whether the block lies there then.
+    Shelve(u32, u8, PlainAlloc, bool),
+    /// To take from there and free.
+    Unshelve(u8, PlainTake),
+    /// To allocate so many words, of which this one keeps what is written to it.
+    Keep(u32, u32, u64),
 }
 
-/// What it answers.
-#[derive(Clone, Copy, Debug, PartialEq, Eq)]
-enum Told {
-    Alloc(PlainAlloc),
-    Take(PlainTake),
-}
-
-/// Makes the calls; `None` where there is no such shelf.
-fn make(pool: &mut PlainPool, asked: Asked) -> Result<Option<Told>, AllocError>
+/// Makes the calls, and answers whether they come to this.
+fn make(pool: &mut PlainPool, row: Row) -> Result<bool, AllocError>
     requires { 0 < pool.old.geometry.callers }
     ensures { OnOk result (0 < pool.new.geometry.callers) }
 {
-    match asked {
-        Asked::Shelve(need, shelf) if shelf < SHELVES => {
-            Ok(Some(Told::Alloc(shelve(pool, need, shelf)?)))
+    match row {
+        Row::Shelve(need, shelf, answer, lies) if shelf < SHELVES => {
+            let (told, put) = shelve(pool, need, shelf)?;
+            Ok(told == answer && put == lies)
         }
-        Asked::Unshelve(shelf) if shelf < SHELVES => {
-            Ok(Some(Told::Take(unshelve(pool, shelf)?)))
-        }
-        _ => Ok(None),
+        Row::Unshelve(shelf, answer) if shelf < SHELVES => Ok(unshelve(pool, shelf)? == answer),
+        Row::Keep(need, i, v) => write_and_read(pool, need, i, v),
+        _ => Ok(false),
     }
 }
 
-/// These calls, one after the other, answer this.
-fn come_to<R: Abort>(rt: &R, pool: &mut PlainPool, rows: &[(Asked, Told)]) -> Result<(), Fail>
-    requires { 0 < pool.old.geometry.callers }
+/// Makes these calls, one after the other, which come to this, and answers how many events there are.
+fn make_all<R: Abort>(
+    rt: &R,
+    alloc: Global,
+    geometry: Geometry,
+    rows: &[Row],
+) -> Result<usize, AllocError>
+    requires checked { IsChecked geometry }
+    requires callers { geometry.callers ≡ 1 }
 {
+    let mut pool = PlainPool::open(alloc, geometry)?;
+    let mut number: u64 = 0;
     for row in rows {
-        let (asked, told) = *row;
-        assert_eq!(rt; make(pool, asked)?, Some(told), "{asked:?}");
+        expect(rt, make(&mut pool, *row)?, number);
+        number = number.saturating_add(1);
     }
-    Ok(())
+    Ok(pool.events().len())
 }
 
-fn given(place: u32, words: u32) -> Told {
-    Told::Alloc(PlainAlloc::Given { place, words })
+/// These calls come to this on a pool of so many frames and units. Answers how many events there are.
+fn come_to<R: Abort>(rt: &R, alloc: Global, frames: u32, units: u32, rows: &[Row]) -> usize {
+    match make_all(rt, alloc, small_heap(rt, frames, units), rows) {
+        Ok(events) => events,
+        Err(_) => panic!(rt; "no memory"),
+    }
 }
 
-fn got(place: u32, words: u32) -> Told {
-    Told::Take(PlainTake::Got { place, words })
+/// The calls are given this block, which then lies on the shelf.
+fn given(need: u32, shelf: u8, place: u32, words: u32) -> Row {
+    Row::Shelve(need, shelf, PlainAlloc::Given { place, words }, true)
+}
+
+/// They are refused.
+fn refused(need: u32, shelf: u8) -> Row {
+    Row::Shelve(need, shelf, PlainAlloc::Refused, false)
+}
+
+/// They find this block.
+fn got(shelf: u8, place: u32, words: u32) -> Row {
+    Row::Unshelve(shelf, PlainTake::Got { place, words })
 }
 
 #[test]
-fn a_full_heap_refuses_and_a_bare_frame_changes_its_class(rt: HostRuntime) -> Result<(), Fail> {
-    let mut pool = PlainPool::open(rt.alloc(), small_heap(&rt, 1, 0))?;
+fn a_full_heap_refuses_and_a_bare_frame_changes_its_class(rt: HostRuntime) {
     let rows = [
-        (Asked::Shelve(2047, 0), given(0, 2047)),
-        (Asked::Shelve(2047, 1), given(2048, 2047)),
-        (Asked::Shelve(2047, 2), Told::Alloc(PlainAlloc::Refused)),
-        (Asked::Shelve(1, 2), Told::Alloc(PlainAlloc::Refused)),
-        (Asked::Unshelve(2), Told::Take(PlainTake::Empty)),
-        (Asked::Unshelve(1), got(2048, 2047)),
-        (Asked::Unshelve(0), got(0, 2047)),
-        (Asked::Shelve(1, 0), given(0, 1)),
+        given(2047, 0, 0, 2047),
+        given(2047, 1, 2048, 2047),
+        refused(2047, 2),
+        refused(1, 2),
+        Row::Unshelve(2, PlainTake::Empty),
+        got(1, 2048, 2047),
+        got(0, 0, 2047),
+        given(1, 0, 0, 1),
     ];
-    come_to(&rt, &mut pool, &rows)?;
-    assert_eq!(rt; pool.events().len(), 15);
-    Ok(())
+    expect(&rt, come_to(&rt, rt.alloc(), 1, 0, &rows) == 15, 15);
 }
 
 #[test]
-fn the_least_free_place_is_given(rt: HostRuntime) -> Result<(), Fail> {
-    let mut pool = PlainPool::open(rt.alloc(), small_heap(&rt, 3, 0))?;
+fn the_least_free_place_is_given(rt: HostRuntime) {
     let rows = [
-        (Asked::Shelve(3, 0), given(0, 3)),
-        (Asked::Shelve(3, 1), given(4, 3)),
-        (Asked::Shelve(7, 2), given(4096, 7)),
-        (Asked::Unshelve(0), got(0, 3)),
-        (Asked::Shelve(2, 0), given(0, 3)),
-        (Asked::Shelve(3, 3), given(8, 3)),
+        given(3, 0, 0, 3),
+        given(3, 1, 4, 3),
+        given(7, 2, 4096, 7),
+        got(0, 0, 3),
+        given(2, 0, 0, 3),
+        given(3, 3, 8, 3),
     ];
-    come_to(&rt, &mut pool, &rows)
+    let _ = come_to(&rt, rt.alloc(), 3, 0, &rows);
 }
 
 #[test]
-fn a_large_need_is_given_the_least_run(rt: HostRuntime) -> Result<(), Fail> {
-    let mut pool = PlainPool::open(rt.alloc(), small_heap(&rt, 1, 5))?;
+fn a_large_need_is_given_the_least_run(rt: HostRuntime) {
     let rows = [
-        (Asked::Shelve(2048, 0), given(4096, 4095)),
-        (Asked::Shelve(4096, 1), given(8192, 6143)),
-        (Asked::Shelve(2048, 2), Told::Alloc(PlainAlloc::Refused)),
-        (Asked::Shelve(131_072, 2), Told::Alloc(PlainAlloc::TooLarge)),
-        (Asked::Unshelve(0), got(4096, 4095)),
-        (Asked::Shelve(4096, 0), Told::Alloc(PlainAlloc::Refused)),
-        (Asked::Shelve(4095, 0), given(4096, 4095)),
+        given(2048, 0, 4096, 4095),
+        given(4096, 1, 8192, 6143),
+        refused(2048, 2),
+        Row::Shelve(131_072, 2, PlainAlloc::TooLarge, false),
+        got(0, 4096, 4095),
+        refused(4096, 0),
+        given(4095, 0, 4096, 4095),
     ];
-    come_to(&rt, &mut pool, &rows)
+    let _ = come_to(&rt, rt.alloc(), 1, 5, &rows);
 }
 
 #[test]
-fn a_word_reads_as_it_was_written(rt: HostRuntime) -> Result<(), Fail> {
-    let mut pool = PlainPool::open(rt.alloc(), small_heap(&rt, 1, 0))?;
-    assert_eq!(rt; write_and_read(&mut pool, 3, 2, 7)?, Some((0, 7)));
-    Ok(())
+fn a_word_reads_as_it_was_written(rt: HostRuntime) {
+    let _ = come_to(&rt, rt.alloc(), 1, 0, &[Row::Keep(3, 2, 7)]);
 }
 
 #[test]
-fn a_full_shelf_takes_no_block(rt: HostRuntime) -> Result<(), Fail> {
-    let mut pool = PlainPool::open(rt.alloc(), small_heap(&rt, 1, 0))?;
-    assert_eq!(rt; crowd(&mut pool, 63)?, Some(PlainPut::Full));
-    Ok(())
+fn a_full_shelf_takes_no_block(rt: HostRuntime) {
+    let second = PlainAlloc::Given { place: 2, words: 1 };
+    let rows = [given(1, 63, 0, 1), Row::Shelve(1, 63, second, false)];
+    let _ = come_to(&rt, rt.alloc(), 1, 0, &rows);
 }

@@ -1,5 +1,6 @@
 //! A walk through the points of one part of the algorithm, each step of which finds a given word.
 
+use crate::expect::expect;
 use hazard_parts::exit::DescExit;
 use hazard_parts::point::{DescPoint, plan_desc, settle_desc};
 use partial_parts::exit::PartialExit;
@@ -10,6 +11,7 @@ use std::process::Abort;
 use superblock_parts::exit::BlockExit;
 use superblock_parts::point::{BlockPoint, plan_block, settle_block};
 use word_table::action::{Action, Found};
+use word_table::name::WordName;
 
 /// A point of one part of the algorithm.
 pub trait Point: Copy {
@@ -74,43 +76,62 @@ impl Point for PartialPoint {
 /// The action of a step, the word that it finds, and whether its exchange is won.
 pub type Row = (Action, u64, bool);
 
+/// A load of a word that is this.
+pub fn load(name: WordName, value: u64) -> Row {
+    (Action::Load(name), value, true)
+}
+
+/// A store, and the word before it.
+pub fn store(name: WordName, value: u64, before: u64) -> Row {
+    (Action::Store(name, value), before, true)
+}
+
+/// An exchange that is won.
+pub fn won(name: WordName, expected: u64, value: u64) -> Row {
+    (Action::Cas(name, expected, value), expected, true)
+}
+
+/// An exchange that is lost, since it finds another word.
+pub fn lost(name: WordName, expected: u64, value: u64, found: u64) -> Row {
+    (Action::Cas(name, expected, value), found, false)
+}
+
+/// Whether two actions are the same.
+fn are_same(one: &Action, other: &Action) -> bool {
+    one == other
+}
+
 /// Goes through these steps, each of which makes the action of its row, and answers how the last one
 /// leaves the part. No other one does.
 fn go<R: Abort, P: Point>(rt: &R, at: &mut P, rows: &[Row]) -> Option<P::Exit> {
     let mut exit = None;
     for row in rows {
         let (action, value, won) = *row;
-        assert!(rt; exit.is_none() && at.plan() == action, "{action:?}");
+        expect(rt, exit.is_none(), value);
+        expect(rt, are_same(&at.plan(), &action), value);
         exit = at.settle(Found { value, won });
     }
     exit
 }
 
 /// The point behind these steps, none of which leaves the part.
-pub fn walk<R: Abort, P: Point>(rt: &R, first: P, rows: &[Row]) -> P {
-    let mut point = first;
+pub fn walk<R: Abort, P: Point>(rt: &R, first: &P, rows: &[Row]) -> P {
+    let mut point = *first;
     let exit = go(rt, &mut point, rows);
-    assert!(rt; exit.is_none());
+    expect(rt, exit.is_none(), 0);
     point
 }
 
 /// How the part is left behind these steps; `None` where it isn't.
-pub fn leave<R: Abort, P: Point>(rt: &R, first: P, rows: &[Row]) -> Option<P::Exit> {
-    let mut point = first;
+pub fn leave<R: Abort, P: Point>(rt: &R, first: &P, rows: &[Row]) -> Option<P::Exit> {
+    let mut point = *first;
     go(rt, &mut point, rows)
 }
 
-/// Whether the plan behind a point, where its word is found to be this, is the same as before.
-fn stays<P: Point>(point: P, value: u64) -> bool {
-    let mut next = point;
+/// Behind this point, where its word is found to be this, the plan is the same as before.
+pub fn stays<R: Abort, P: Point>(rt: &R, point: &P, value: u64) {
+    let mut next = *point;
     let exit = next.settle(Found { value, won: true });
-    exit.is_none() && next.plan() == point.plan()
-}
-
-/// Behind each of these points, where its word is found to be this, the plan is the same as before.
-pub fn stay<R: Abort, P: Point>(rt: &R, rows: &[(P, u64)]) {
-    for row in rows {
-        let (point, value) = *row;
-        assert!(rt; stays(point, value), "at {value}");
-    }
+    expect(rt, exit.is_none(), value);
+    expect(rt, are_same(&next.plan(), &point.plan()), value);
 }

@@ -33,7 +33,7 @@ impl<'a> Gate for Expecting<'a> {
 fn run_at(alloc: Global, gate: &Expecting) -> Result<(), Fail> {
     let trace = trace_of(
         alloc,
-        b"heap 4 1 2\nlane\na 0 1 5\na 0 1 6\nf 0\nf 0\nlane\nc 7\na 1 1 5\norder 0 1\norder 1 1\nend\n",
+        "heap 4 1 2\nlane\na 0 1 5\na 0 1 6\nf 0\nf 0\nlane\nc 7\na 1 1 5\norder 0 1\norder 1 1\nend\n".as_bytes(),
     )?;
     let _told = schedule(alloc, gate, &trace)?;
     Ok(())
@@ -48,7 +48,7 @@ fn each_operation_passes_the_gate(rt: HostRuntime) -> Result<(), Fail> {
         wrong: Cell::new(false),
     };
     run_at(rt.alloc(), &gate)?;
-    let passed = gate.passed.get();
-    assert_eq!(rt; (passed, gate.wrong.get()), (gate.expected.len(), false));
+    assert!(rt; gate.passed.get() == gate.expected.len());
+    assert!(rt; !gate.wrong.get());
     Ok(())
 }

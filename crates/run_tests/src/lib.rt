@@ -6,13 +6,13 @@
 #[cfg(test)]
 mod bounds;
 #[cfg(test)]
-mod caches_and_pipes;
-#[cfg(test)]
 mod contests;
 #[cfg(test)]
 mod gates;
 #[cfg(test)]
 mod handovers;
+#[cfg(test)]
+mod keeping;
 #[cfg(test)]
 mod meetings;
 #[cfg(test)]

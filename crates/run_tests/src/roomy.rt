@@ -1,8 +1,7 @@
 //! Traces with frames and turns to spare have one report each, on threads and in any order of steps.
 
 use command_line::status::REPORTED;
-use edge_io::memory::MemorySink;
-use memory_runs::running::{Left, Told, run_on, writes};
+use memory_runs::running::{Left, run_on, writes};
 use std::alloc::{AllocError, Global};
 use std::process::Abort;
 use std::sync::Wait;
@@ -74,13 +73,12 @@ fn resizing_report(alloc: Global) -> Result<String, AllocError> {
 }
 
 /// Ten runs on threads of these lanes all give this report.
-fn has_one_report<R: Threads + Wait + AllocGlobal + Sync>(
+fn threads_give<R: Threads + Wait + AllocGlobal + Sync>(
     rt: &R,
-    lanes: String,
+    lanes: &str,
     report: &str,
 ) -> Result<(), Fail> {
-    let mut trace = lanes;
-    trace.push_str("end\n")?;
+    let trace = [lanes, "end\n"].join(rt.alloc(), "")?;
     for _ in 0..10u32 {
         let ends = (REPORTED, Left::Shared);
         writes(rt, "replay", trace.as_str(), ends, report)?;
@@ -88,23 +86,15 @@ fn has_one_report<R: Threads + Wait + AllocGlobal + Sync>(
     Ok(())
 }
 
-#[test]
-fn threads_give_one_report(rt: HostRuntime) -> Result<(), Fail> {
-    let alloc = rt.alloc();
-    let report = roomy_report(alloc)?;
-    has_one_report(&rt, roomy_lanes(alloc)?, report.as_str())?;
-    let resizing = resizing_report(alloc)?;
-    has_one_report(&rt, resizing_lanes(alloc)?, resizing.as_str())
-}
-
 /// The next number of a linear congruential generator, the one of MINSTD.
 fn next_number(number: u64) -> u64 {
-    number.wrapping_mul(48_271) % 2_147_483_647
+    number.saturating_mul(48_271) % 2_147_483_647
 }
 
 /// The lanes with a hundred order lines that a number chooses.
-fn shuffled(lanes: String, start: u64) -> Result<String, AllocError> {
-    let mut trace = lanes;
+fn shuffled(alloc: Global, lanes: &str, start: u64) -> Result<String, AllocError> {
+    let mut trace = String::new(alloc);
+    trace.push_str(lanes)?;
     let mut number = start;
     for _ in 0..100u32 {
         number = next_number(number);
@@ -116,42 +106,44 @@ fn shuffled(lanes: String, start: u64) -> Result<String, AllocError> {
     Ok(trace)
 }
 
-/// How the lanes' run in the order that a number chooses ends, and what it writes.
-fn run_shuffled<R: Threads + Wait + Sync>(
-    rt: &R,
-    alloc: Global,
-    lanes: String,
-    start: u64,
-) -> Result<(Told, MemorySink), AllocError> {
-    let trace = shuffled(lanes, start)?;
-    run_on(rt, alloc, "schedule", trace.as_str())
-}
-
 /// The lanes' run in the order that a number chooses gives this report, and tells behind it of the steps.
 fn is_scheduled<R: Threads + Wait + Abort + AllocGlobal + Sync>(
     rt: &R,
-    lanes: String,
+    lanes: &str,
     start: u64,
     report: &str,
 ) -> Result<(), Fail> {
-    let (told, sink) = run_shuffled(rt, rt.alloc(), lanes, start)?;
-    let is_reported = sink.bytes().starts_with(report.as_bytes());
-    assert_eq!(rt;
-        (told, is_reported),
-        ((REPORTED, Left::Machine), true),
-        "{start}"
-    );
+    let trace = shuffled(rt.alloc(), lanes, start)?;
+    let (told, sink) = run_on(rt, rt.alloc(), "schedule", trace.as_str())?;
+    assert!(rt; told == (REPORTED, Left::Machine), "{start}");
+    assert!(rt; sink.bytes().starts_with(report.as_bytes()), "{start}");
+    Ok(())
+}
+
+/// Ten runs of these lanes, each in an order of its own, all give this report.
+fn schedules_give<R: Threads + Wait + Abort + AllocGlobal + Sync>(
+    rt: &R,
+    lanes: &str,
+    report: &str,
+) -> Result<(), Fail> {
+    for start in 1..=10u64 {
+        is_scheduled(rt, lanes, start, report)?;
+    }
     Ok(())
 }
 
 #[test]
-fn schedules_give_one_report(rt: HostRuntime) -> Result<(), Fail> {
-    let alloc = rt.alloc();
-    let report = roomy_report(alloc)?;
-    let resizing = resizing_report(alloc)?;
-    for start in 1..=10u64 {
-        is_scheduled(&rt, roomy_lanes(alloc)?, start, report.as_str())?;
-        is_scheduled(&rt, resizing_lanes(alloc)?, start, resizing.as_str())?;
-    }
-    Ok(())
+fn threads_and_schedules_give_one_report(rt: HostRuntime) -> Result<(), Fail> {
+    let lanes = roomy_lanes(rt.alloc())?;
+    let report = roomy_report(rt.alloc())?;
+    threads_give(&rt, lanes.as_str(), report.as_str())?;
+    schedules_give(&rt, lanes.as_str(), report.as_str())
+}
+
+#[test]
+fn threads_and_schedules_give_one_report_of_resizes(rt: HostRuntime) -> Result<(), Fail> {
+    let lanes = resizing_lanes(rt.alloc())?;
+    let report = resizing_report(rt.alloc())?;
+    threads_give(&rt, lanes.as_str(), report.as_str())?;
+    schedules_give(&rt, lanes.as_str(), report.as_str())
 }

@@ -164,6 +164,7 @@ of-same h k p table layout of =
       begun = of.begun;
       served = subst (λ (g : Geometry). IsServed g p.errand.caller p.errand (seen p)) layout of.served;
       alone = λ one. of.alone (ap (λ (g : Geometry). g.callers) layout ∙ one);
+      settled = of.settled;
     }
 
 pub given-same :

@@ -49,40 +49,44 @@ pub fn words(core: &Core) -> u64 {
 pub fn history(events: &[Event]) -> u64 {
     let mut sum = 0;
     for event in events {
-        for number in numbers(*event) {
-            sum = with(sum, number);
-        }
+        sum = with_event(sum, *event);
     }
     sum
 }
 
-/// The numbers of an event, behind one for its kind.
-fn numbers(event: Event) -> [u64; 5] {
+/// A sum with a number for the kind of an event, its caller and three more.
+fn with_all(sum: u64, kind: u64, caller: u32, first: u32, second: u32, last: u64) -> u64 {
+    let sum = with(with(sum, kind), u64::from(caller));
+    with(with(with(sum, u64::from(first)), u64::from(second)), last)
+}
+
+/// A sum with the numbers of an event.
+fn with_event(sum: u64, event: Event) -> u64 {
     match event {
         Event::Alloc {
             caller,
             need,
             place,
-        } => [1, u64::from(caller), u64::from(need), u64::from(place), 0],
-        Event::Looked { caller, class } => [2, u64::from(caller), u64::from(class), 0, 0],
-        Event::Refuse { caller, need } => [3, u64::from(caller), u64::from(need), 0, 0],
-        Event::Free { caller, place } => [4, u64::from(caller), u64::from(place), 0, 0],
+        } => with_all(sum, 1, caller, need, place, 0),
+        Event::Looked { caller, class } => with_all(sum, 2, caller, u32::from(class), 0, 0),
+        Event::Refuse { caller, need } => with_all(sum, 3, caller, need, 0, 0),
+        Event::Free { caller, place } => with_all(sum, 4, caller, place, 0, 0),
         Event::Write {
             caller,
             place,
             i,
             v,
-        } => [5, u64::from(caller), u64::from(place), u64::from(i), v],
+        } => with_all(sum, 5, caller, place, i, v),
         Event::Put {
             caller,
             place,
             shelf,
-        } => [6, u64::from(caller), u64::from(place), u64::from(shelf), 0],
+        } => with_all(sum, 6, caller, place, u32::from(shelf), 0),
         Event::Take {
             caller,
             shelf,
             place,
-        } => [7, u64::from(caller), u64::from(shelf), u64::from(place), 0],
-        Event::TakeNone { caller, shelf } => [8, u64::from(caller), u64::from(shelf), 0, 0],
+        } => with_all(sum, 7, caller, u32::from(shelf), place, 0),
+        Event::TakeNone { caller, shelf } => with_all(sum, 8, caller, u32::from(shelf), 0, 0),
     }
 }

@@ -1,5 +1,5 @@
 use Rattle.std.proofs.Common.{◌<◌}
-use Rattle.part_tests.proofs.plain_calls.come_to.Given as goal
+use Rattle.part_tests.proofs.plain_calls.make_all.Given as goal
 
 abbrev pub invariant-loop-row : goal.invariant-loop-row
 invariant-loop-row g l = 0 < l.pool.geometry.callers
