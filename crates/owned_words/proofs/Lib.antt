@@ -1,0 +1,2 @@
+pub mod OtherOwners
+pub mod OwnWords
