@@ -166,7 +166,7 @@ pub fn words(table: &Table, number: u64) -> Result<u64, Refusal>
         return Err(Refusal::NoBlock);
     };
     match table.block(index) {
-        Some(block) => Ok(u64::from(block.words())),
+        Some(block) => Ok(u64::from(block.usable_words())),
         None => Err(Refusal::NoBlock),
     }
 }
@@ -193,7 +193,7 @@ pub fn write(
     let Some(block) = table.block(index) else {
         return Err(Refusal::NoBlock);
     };
-    if i >= block.words() {
+    if i >= block.usable_words() {
         return Err(Refusal::NoWord);
     }
     cache.write(heap, block, i, value);
@@ -221,7 +221,7 @@ pub fn read(
     let Some(block) = table.block(index) else {
         return Err(Refusal::NoBlock);
     };
-    if i >= block.words() {
+    if i >= block.usable_words() {
         return Err(Refusal::NoWord);
     }
     Ok(cache.read(heap, block, i))

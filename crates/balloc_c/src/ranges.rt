@@ -125,7 +125,7 @@ fn range_end(block: &Block, from: u32, count: usize) -> Option<u32>
     ensures within { IfSome result (λ end. (end ≡ from + count) × (end ≤ usable_words block.now.need)) }
     ensures lacks { result ≡ None → usable_words block.now.need < from + count }
 {
-    let usable = block.words();
+    let usable = block.usable_words();
     if from <= usable && count <= (usable - from) as usize {
         Some(from + count as u32)
     } else {
@@ -174,7 +174,7 @@ fn fill_words(heap: &Heap, cache: &mut Cache, block: &Block, from: u64)
     ensures holds { (held : List Block) → Holds cache.old held → Holds cache.new held }
     ensures wrote { Asked (λ p q. LeadsBy (CallsOnWord heap.now) p (wrote block.now.place block.now.need from (usable_words block.now.need)) q) cache.old cache.new }
 {
-    for i in 0..block.words() {
+    for i in 0..block.usable_words() {
         cache.write(heap, block, i, from.wrapping_add(u64::from(i)));
     }
 }
@@ -189,7 +189,7 @@ fn sum_words(heap: &Heap, cache: &mut Cache, block: &Block) -> u64
     ensures sums { Asked (λ p q. Sums (CallsOnWord heap.now) p block.now.place block.now.need result q) cache.old cache.new }
 {
     let mut total = 0u64;
-    for i in 0..block.words() {
+    for i in 0..block.usable_words() {
         total = total.wrapping_add(cache.read(heap, block, i));
     }
     total

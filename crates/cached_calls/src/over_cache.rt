@@ -152,7 +152,7 @@ fn fill_words(heap: &Heap, cache: &mut Cache, block: &Block, from: u64)
         (wrote block.now.place block.now.need from (usable_words block.now.need)) cache.new }
 {
     whole_calls_keep_blocks();
-    for i in 0..block.words() {
+    for i in 0..block.usable_words() {
         write_word(heap, cache, block, i, from.wrapping_add(u64::from(i)));
     }
 }
@@ -166,7 +166,7 @@ fn sum_words(heap: &Heap, cache: &mut Cache, block: &Block) -> u64
 {
     whole_calls_keep_blocks();
     let mut total = 0u64;
-    for i in 0..block.words() {
+    for i in 0..block.usable_words() {
         total = total.wrapping_add(read_word(heap, cache, block, i));
     }
     total
@@ -183,7 +183,7 @@ fn read_or_zero(heap: &Heap, cache: &mut Cache, block: &Block, i: u32) -> u64
     ensures keeps { (other : Block) → HoldsAt cache.old other.place other.need → HoldsAt cache.new other.place other.need }
 {
     whole_calls_keep_blocks();
-    if i < block.words() {
+    if i < block.usable_words() {
         read_word(heap, cache, block, i)
     } else {
         0
@@ -199,7 +199,7 @@ fn copy_words(heap: &Heap, cache: &mut Cache, from: &Block, to: &Block)
     ensures copied { Copies (IsCachedCall heap.now) cache.old from.now.place from.now.need to.now.place to.now.need cache.new }
 {
     whole_calls_keep_blocks();
-    for i in 0..to.words() {
+    for i in 0..to.usable_words() {
         let word = read_or_zero(heap, cache, from, i);
         write_word(heap, cache, to, i, word);
     }

@@ -105,7 +105,7 @@ fn write(
     ensures cache { IsCache heap.now cache.new }
     ensures holds { Holds cache.new held.now }
 {
-    if !cache.idle() || number >= held.len() || i >= held[number].words() {
+    if !cache.idle() || number >= held.len() || i >= held[number].usable_words() {
         return None;
     }
     cache.write(heap, &held[number], i, v);
@@ -119,7 +119,7 @@ fn read(heap: &Heap, cache: &mut Cache, held: &[Block], number: usize, i: u32) -
     ensures cache { IsCache heap.now cache.new }
     ensures holds { Holds cache.new held.now }
 {
-    if !cache.idle() || number >= held.len() || i >= held[number].words() {
+    if !cache.idle() || number >= held.len() || i >= held[number].usable_words() {
         return None;
     }
     Some(Told::Word(cache.read(heap, &held[number], i)))

@@ -138,7 +138,7 @@ impl Script {
 
     /// The number of a usable word.
     fn word(&mut self, block: &Block) -> u32 {
-        self.random.below(block.words().max(1))
+        self.random.below(block.usable_words().max(1))
     }
 
     fn shelf(&mut self) -> u8 {

@@ -137,7 +137,7 @@ fn write(
     requires { IsHand heap.now pass.old blocks.now }
     ensures { IsHand heap.now pass.new blocks.now }
 {
-    if !pass.idle() || number >= blocks.len() || i >= blocks[number].words() {
+    if !pass.idle() || number >= blocks.len() || i >= blocks[number].usable_words() {
         return None;
     }
     calls_go_step_by_step();
@@ -160,7 +160,7 @@ fn read(
     requires { IsHand heap.now pass.old blocks.now }
     ensures { IsHand heap.now pass.new blocks.now }
 {
-    if !pass.idle() || number >= blocks.len() || i >= blocks[number].words() {
+    if !pass.idle() || number >= blocks.len() || i >= blocks[number].usable_words() {
         return None;
     }
     calls_go_step_by_step();

@@ -88,7 +88,7 @@ fn write(
     requires hand { IsHand heap.now pass.old blocks.now }
     ensures { IsHand heap.now pass.new blocks.now }
 {
-    if !pass.idle() || number >= blocks.len() || i >= blocks[number].words() {
+    if !pass.idle() || number >= blocks.len() || i >= blocks[number].usable_words() {
         return None;
     }
     hands_give_out_blocks();
@@ -102,7 +102,7 @@ fn read(heap: &Heap, pass: &mut Pass, blocks: &[Block], number: usize, i: u32) -
     requires hand { IsHand heap.now pass.old blocks.now }
     ensures { IsHand heap.now pass.new blocks.now }
 {
-    if !pass.idle() || number >= blocks.len() || i >= blocks[number].words() {
+    if !pass.idle() || number >= blocks.len() || i >= blocks[number].usable_words() {
         return None;
     }
     hands_give_out_blocks();

@@ -83,7 +83,11 @@ fn alloc_by_steps(heap: &Heap, pass: &mut Pass, need: u32) -> Option<(u64, Stepp
 /// After how many steps a block was given, its place and its words; `None` where none was.
 fn given_after(made: (u64, Stepped<Block>)) -> Option<(u64, u32, u32)> {
     match made {
-        (steps, Stepped::Done(Ending::Given(block))) => Some((steps, block.place(), block.words())),
+        (steps, Stepped::Done(Ending::Given(block))) => Some((
+            steps,
+            block.place(),
+            block.usable_words(),
+        )),
         _ => None,
     }
 }
@@ -125,8 +129,8 @@ fn call_by_steps(
     let block = blocks.remove(0);
     match request {
         Request::Free => heap.begin_free(pass, block),
-        Request::Write(i, v) if i < block.words() => heap.begin_write(pass, &block, i, v),
-        Request::Read(i) if i < block.words() => heap.begin_read(pass, &block, i),
+        Request::Write(i, v) if i < block.usable_words() => heap.begin_write(pass, &block, i, v),
+        Request::Read(i) if i < block.usable_words() => heap.begin_read(pass, &block, i),
         Request::Put(shelf) if shelf < SHELVES => heap.begin_put(pass, block, shelf),
         _ => return None,
     }
@@ -174,9 +178,7 @@ fn the_first_block_makes_its_superblock_the_active_one(rt: HostRuntime) -> Resul
     let (heap, mut pass, mut blocks) = open_alone(rt.alloc(), 1, 0, 9)?;
     let rows = [(Asked::Alloc(2047), Told::Given(0))];
     come_to(&heap, &mut pass, &mut blocks, &rows)?;
-    let block = blocks
-        .first()
-        .map(|block| (block.place(), block.words(), block.need()));
+    let block = blocks.first().map(|block| (block.place(), block.usable_words(), block.need()));
     assert_eq!(rt; block, Some((0, 2047, Need::Small(10))));
     let closed = close_alone(rt.alloc(), heap, pass)?;
     let expected = (geometry(1, 0, 1, 9), Some(1), Some(64), 3, 0);

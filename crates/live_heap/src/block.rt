@@ -19,7 +19,7 @@ pub struct Block {
 
 impl Block {
     /// Its usable words, at most 131,071.
-    pub fn words(&self) -> u32
+    pub fn usable_words(&self) -> u32
         ensures { result ≡ usable_words self.now.need }
     {
         usable(self.need)
@@ -46,7 +46,7 @@ impl Token for Block {
     ghost need_of = { λ block. block.need };
 
     fn words(&self) -> u32 {
-        self.words()
+        self.usable_words()
     }
 
     fn need(&self) -> Need {

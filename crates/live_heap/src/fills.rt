@@ -26,7 +26,7 @@ impl Heap {
     {
         let place = block.place;
         let need = block.need;
-        for i in 0..block.words() {
+        for i in 0..block.usable_words() {
             self.write_word(pass, place, need, i, from.wrapping_add(u64::from(i)));
         }
     }
@@ -46,7 +46,7 @@ impl Heap {
         let place = block.place;
         let need = block.need;
         let mut total = 0u64;
-        for i in 0..block.words() {
+        for i in 0..block.usable_words() {
             total = total.wrapping_add(self.read_word(pass, place, need, i));
         }
         total

@@ -80,7 +80,7 @@ fn read_or_zero(heap: &Heap, pass: &mut Pass, block: &Block, i: u32) -> u64
     ensures keeps { (other : Block) → Owns pass.old other → Owns pass.new other }
 {
     whole_calls_keep_blocks();
-    if i < block.words() {
+    if i < block.usable_words() {
         heap.read(pass, block, i)
     } else {
         0
@@ -97,7 +97,7 @@ fn copy_words(heap: &Heap, pass: &mut Pass, from: &Block, to: &Block)
         to.now.place to.now.need pass.new }
 {
     whole_calls_keep_blocks();
-    for i in 0..to.words() {
+    for i in 0..to.usable_words() {
         let word = read_or_zero(heap, pass, from, i);
         heap.write(pass, to, i, word);
     }

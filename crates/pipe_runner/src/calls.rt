@@ -90,7 +90,7 @@ pub(crate) fn fold_block(heap: &Heap, pass: &mut Pass, block: &Block, fold: u64)
     ensures found { (words : List ℕ) × AreThree block.now words
         × LeadsBy MadeByPass pass.old (found_from block.now.place block.now.need 0 words) pass.new × (result ≡ with_found fold words) }
 {
-    if block.words() < 3 {
+    if block.usable_words() < 3 {
         return fold;
     }
     let a = heap.read(pass, block, 0);

@@ -25,7 +25,7 @@ pub(crate) fn write_record(heap: &Heap, pass: &mut Pass, block: &Block, words: &
     ensures record { IsRecord pass.new block.now words.now }
     ensures others { (place : ℕ) → place ≢ block.now.place → owned_in pass.new place ≡ owned_in pass.old place }
 {
-    let _most = block.words();
+    let _most = block.usable_words();
     heap.write(pass, block, 0, words.len() as u64);
     for i in 0..words.len() {
         heap.write(pass, block, i as u32 + 1, words[i]);
@@ -55,7 +55,7 @@ pub(crate) fn read_record(
     ensures words { IfOk result (λ read. (words : List ℕ) → IsRecord pass.old block.now words → read.items ≡ words) }
     ensures found { IfOk result (λ read. LedBy heap.now pass.old (record_reads block.now read.items) pass.new) }
 {
-    let _most = block.words();
+    let _most = block.usable_words();
     let count = heap.read(pass, block, 0) as u32;
     let mut words = Vec::with_capacity(alloc, count as usize)?;
     for i in 0..count {

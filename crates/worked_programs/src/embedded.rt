@@ -105,7 +105,7 @@ fn pick_up(heap: &Heap, pass: &mut Pass) -> Result<Block, Stop>
 {
     match heap.take(pass, SHELF) {
         Taken::Got(block) => {
-            if block.words() > 1 {
+            if block.usable_words() > 1 {
                 Ok(block)
             } else {
                 Err(Stop::Short)

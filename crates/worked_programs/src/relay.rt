@@ -69,7 +69,7 @@ fn take<R: Wait>(
             Received::Nothing | Received::Missed { .. } => {}
             Received::Gone { .. } | Received::Other { .. } => return (receiver, None),
             Received::Got { block, .. } => {
-                if block.words() == 0 {
+                if block.usable_words() == 0 {
                     return (receiver, None);
                 }
                 let word = heap.read(&mut pass, &block, 0);

@@ -15,7 +15,7 @@ pub fn fill<F: Front>(heap: &Heap, front: &mut F, block: &Block, stamp: u64)
     ensures rests { F.rests heap.now front.new }
     ensures keeps { Keeps F.holds front.old front.new }
 {
-    for i in 0..block.words() {
+    for i in 0..block.usable_words() {
         front.write(heap, block, i, stamp);
     }
 }
@@ -28,7 +28,7 @@ pub fn wrong_words<F: Front>(heap: &Heap, front: &mut F, block: &Block, stamp: u
     ensures keeps { Keeps F.holds front.old front.new }
 {
     let mut wrong: u64 = 0;
-    for i in 0..block.words() {
+    for i in 0..block.usable_words() {
         if front.read(heap, block, i) != stamp {
             wrong = wrong.saturating_add(1);
         }
@@ -43,7 +43,7 @@ pub fn first_word<F: Front>(heap: &Heap, front: &mut F, block: &Block) -> u64
     ensures rests { F.rests heap.now front.new }
     ensures keeps { Keeps F.holds front.old front.new }
 {
-    if block.words() == 0 {
+    if block.usable_words() == 0 {
         return 0;
     }
     front.read(heap, block, 0)

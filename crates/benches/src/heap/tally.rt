@@ -62,7 +62,7 @@ impl Tally {
 
     /// Counts the words of a block that was filled or checked.
     pub fn count_words(&mut self, block: &Block) {
-        self.words = self.words.saturating_add(u64::from(block.words()));
+        self.words = self.words.saturating_add(u64::from(block.usable_words()));
     }
 }
 

@@ -33,5 +33,5 @@ returns-clause-answers c =
     let is : block_at t.slots.items c.in-Some.index ≡ Some block = sym c.block.ensures ∙ c.in-Some-block.is in
     let idle : IsIdle s.pass.errand = search rules in
     let names : named t c.args.number ≡ Some block = c.in-Some.ensures.found.2 ∙ is in
-    let has : c.args.i < usable_words block.need = omega (arith, c.if-i-words.false, c.words.ensures) in
+    let has : c.args.i < usable_words block.need = omega (arith, c.if-i-usable_words.false, c.usable_words.ensures) in
     write-answers s t c.args.number c.args.i c.args.value block c.write.new.self idle names has c.write.ensures.called c.write.ensures.keeps

@@ -36,6 +36,6 @@ returns-clause-copied c =
     let h = c.args.heap.now in
     let from = c.args.from.now in
     let to = c.args.to.now in
-    let all : c.loop-i.i ≡ usable_words to.need = omega (arith, c.loop-i.auto.i-end, c.loop-i-test.false, c.words-i-end.ensures) in
+    let all : c.loop-i.i ≡ usable_words to.need = omega (arith, c.loop-i.auto.i-end, c.loop-i-test.false, c.usable_words-i-end.ensures) in
     subst (λ n. CopiesSoFar (IsCachedCall h) c.args.cache.now from.place from.need to.place to.need n c.loop-i.cache) all
     c.loop-i.invariant.copied

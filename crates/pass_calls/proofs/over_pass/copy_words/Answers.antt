@@ -38,7 +38,7 @@ returns-clause-copied c =
     let h = c.args.heap.now in
     let from = c.args.from.now in
     let to = c.args.to.now in
-    let all : c.loop-i.i ≡ usable_words to.need = omega (arith, c.loop-i.auto.i-end, c.loop-i-test.false, c.words-i-end.ensures) in
+    let all : c.loop-i.i ≡ usable_words to.need = omega (arith, c.loop-i.auto.i-end, c.loop-i-test.false, c.usable_words-i-end.ensures) in
     subst
     (λ n. CopiesSoFar (λ p call answer q. IsWhole h p call answer h q) c.args.pass.now from.place from.need to.place to.need n c.loop-i.pass) all
     c.loop-i.invariant.copied

@@ -5,8 +5,8 @@ use Rattle.errand_steps.specs.Calls.{Call, read}
 use Rattle.live_heap.specs.Whole.{by_steps}
 use Rattle.pass_calls.proofs.over_pass.read_or_zero.Goals as goal
 
-pub returns-then-i-words-clause-keeps : goal.returns-then-i-words-clause-keeps
-returns-then-i-words-clause-keeps c =
+pub returns-then-i-usable_words-clause-keeps : goal.returns-then-i-usable_words-clause-keeps
+returns-then-i-usable_words-clause-keeps c =
     let h = c.args.heap.now in
     let block = c.args.block.now in
     let call : Call = read block.place block.need c.args.i in

@@ -4,13 +4,13 @@ use Rattle.pipe_runner.specs.Messages.{with_word}
 use Rattle.pipe_runner.proofs.CallSteps.{keeps-here, keeps-trans, read-keeps, three-long, three-read}
 use Rattle.pipe_runner.proofs.calls.fold_block.Goals as goal
 
-pub returns-then-words-lt3-clause-keeps : goal.returns-then-words-lt3-clause-keeps
-returns-then-words-lt3-clause-keeps c = keeps-here c.args.heap.now c.args.pass.now c.requires.rest
+pub returns-then-usable_words-lt3-clause-keeps : goal.returns-then-usable_words-lt3-clause-keeps
+returns-then-usable_words-lt3-clause-keeps c = keeps-here c.args.heap.now c.args.pass.now c.requires.rest
 
-pub returns-then-words-lt3-clause-folded : goal.returns-then-words-lt3-clause-folded
-returns-then-words-lt3-clause-folded c = λ b there three.
+pub returns-then-usable_words-lt3-clause-folded : goal.returns-then-usable_words-lt3-clause-folded
+returns-then-usable_words-lt3-clause-folded c = λ b there three.
     let long = three-long c.args.heap.now c.args.pass.now c.args.block.now b c.requires.rest.0 c.requires.owned there three in
-    absurd (omega (arith, long, c.words.ensures, c.if-words-lt3.true))
+    absurd (omega (arith, long, c.usable_words.ensures, c.if-usable_words-lt3.true))
 
 pub read-b-requires-clause-owned : goal.read-b-requires-clause-owned
 read-b-requires-clause-owned c =
@@ -45,8 +45,8 @@ returns-clause-folded c = λ b there three.
     c.read-b.result c.read-c.result b c.args.fold c.read-a.ensures.of c.read-b.ensures.of c.read-c.ensures.of c.read-a.ensures.called
     c.read-b.ensures.called c.read-c.ensures.called c.read-a.ensures.contents c.read-b.ensures.contents c.read-c.ensures.contents there three
 
-pub returns-then-words-lt3-clause-found : goal.returns-then-words-lt3-clause-found
-returns-then-words-lt3-clause-found c = ([], inr (omega (arith, c.words.ensures, c.if-words-lt3.true), refl), refl, refl)
+pub returns-then-usable_words-lt3-clause-found : goal.returns-then-usable_words-lt3-clause-found
+returns-then-usable_words-lt3-clause-found c = ([], inr (omega (arith, c.usable_words.ensures, c.if-usable_words-lt3.true), refl), refl, refl)
 
 pub returns-clause-found : goal.returns-clause-found
 returns-clause-found c = (

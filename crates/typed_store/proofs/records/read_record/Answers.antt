@@ -28,7 +28,7 @@ overflow_cast-count c =
     let within = record-within h c.args.pass.now b r.0 c.requires.of c.requires.owned r.1 in
     let many : c.read-count.result ≡ length r.0 =
     read-word h c.args.pass.now c.read-count.new.pass b.place b.need 0 0 c.read-count.result (length r.0) e.of e.called e.contents r.1.counted in
-    omega (arith, within, many, c.words-most.ensures, c.words-most.type_inv)
+    omega (arith, within, many, c.usable_words-most.ensures, c.usable_words-most.type_inv)
 
 pub returns-in_err-words-clause-reads : goal.returns-in_err-words-clause-reads
 returns-in_err-words-clause-reads c =
