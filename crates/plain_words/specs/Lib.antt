@@ -1,3 +1,4 @@
 pub mod Lends
 pub mod Owned
 pub mod Places
+pub mod Written

@@ -4,6 +4,8 @@
 mod block;
 mod plain;
 mod room;
+mod trail;
 
 pub use plain::{PlainWords, Start};
 pub use room::{Backing, Room};
+pub use trail::Trail;
