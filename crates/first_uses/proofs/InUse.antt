@@ -1,8 +1,8 @@
 -- A step is on no word of a piece that nobody uses.
-use Rattle.std.proofs.Common.{ℕ, Bool, true, false, ◌≡◌, ◌<◌, ◌≤◌, ◌+◌, ◌-◌, ◌*◌, ◌%◌, ◌^◌, [], ◌∷◌, refl, arith, ap, sym, subst, inl, inr, ◌∙◌, IsTrue, pow_pos}
+use Rattle.std.proofs.Common.{ℕ, false, ◌≡◌, ◌<◌, ◌≤◌, ◌+◌, ◌-◌, ◌*◌, ◌%◌, ◌^◌, [], ◌∷◌, refl, arith, ap, sym, subst, inl, inr, ◌∙◌, IsTrue, pow_pos}
 use Rattle.std.proofs.lemmas.List.Elements.{All-head}
 use Rattle.sound_state.proofs.Common.{Geometry, Block, Stack, Desc, Partial, Large, Point, State, IsSoundWith, IsSoundWithoutCounts, IsOwned, Lists, IsLive, Site, Need}
-use Rattle.sound_state.proofs.Common.{occurs, holds_of, recalls_of, errand_frames, errand_keeps, waiting, callers_sum, is_bound, info_for, fills_frame, descriptor_count, pool_of, place-found}
+use Rattle.sound_state.proofs.Common.{occurs, occurs-here, holds_of, recalls_of, errand_frames, errand_keeps, waiting, callers_sum, is_bound, info_for, fills_frame, descriptor_count, pool_of, place-found}
 use Rattle.sound_state.proofs.Common.{block_place, block_count_of, frame_of, unit_place, usable_words, frame_of-block_place, block-within, plan_point_of, name_of}
 use Rattle.heap_geometry.specs.declared.need.Need.TheVariants as need
 use Rattle.heap_geometry.specs.declared.limits.TheConstants.{FRAME_WORDS}
@@ -10,14 +10,10 @@ use Rattle.heap_geometry.specs.Need.{IsNeed, block_words_of}
 use Rattle.heap_geometry.specs.Place.{unit_of}
 use Rattle.pool_model.specs.WellFormed.{IsPlaceFor}
 use Rattle.word_table.specs.Counts.{arena_words}
-use Rattle.word_table.specs.declared.name.WordName.{WordName}
 use Rattle.word_table.specs.declared.name.WordName.TheVariants as name
 use Rattle.superblock_parts.specs.declared.point.BlockPoint.TheVariants as block
 use Rattle.large_parts.specs.declared.point.LargePoint.TheVariants as large
-use Rattle.stack_parts.specs.Points.{plan_stack_of}
-use Rattle.hazard_parts.specs.Points.{plan_desc_of}
-use Rattle.partial_parts.specs.Points.{plan_partial_of}
-use Rattle.sound_state.proofs.Common.{StackPoint, DescPoint, PartialPoint}
+use Rattle.sound_state.proofs.shared.ArenaNames.{arena_place, stack-elsewhere, desc-elsewhere, partial-elsewhere, not-arena}
 use Rattle.sound_state.proofs.shared.FrameLemmas.{held-or-filled}
 use Rattle.sound_state.proofs.shared.OverlapLemmas.{formed-at}
 use Rattle.sound_state.proofs.shared.PointLemmas.{fits-at, frees-at, hands-at, recalled-at}
@@ -99,9 +95,6 @@ piece-frame g f j has within =
 piece-unit : (g : Geometry) (first j : ℕ) → piece_of g (unit_place g.frames first + j) ≡ g.frames + unit_of g.frames (unit_place g.frames first + j)
 piece-unit g first j = unit-of g (unit_place g.frames first + j) (omega arith)
 
-occurs-one : (f : ℕ) → occurs f (f ∷ []) ≡ 1
-occurs-one f = grind (arith)
-
 -- a word of a block that a caller owns
 need-in_use :
     (g : Geometry) (s : State) (caller place j : ℕ) (n : Need) → IsSoundWithoutCounts g s → caller < g.callers → IsOwned s caller place n → j < 1 + usable_words n
@@ -151,10 +144,6 @@ piece-block : (g : Geometry) (f class i : ℕ) → f < g.frames → i < block_co
 piece-block g f class i has within =
     piece-frame g f (i * block_words_of class) has (omega (arith, block-within class i within, pow_pos (class + 1)))
 
-abbrev arena_place : WordName → ℕ
-arena_place (name.Arena w) = w
-arena_place n = 0
-
 -- the first word of a block of a superblock at hand
 site-in_use :
     (g : Geometry) (s : State) (l : Lists) (caller i word : ℕ) (at : Site) → IsSoundWith g s l → at.desc < descriptor_count g → at.frame < g.frames
@@ -179,22 +168,6 @@ payload-in_use g s caller place i word n sound has owned within there is =
     let same : place + (1 + i) ≡ word = omega (arith, ap arena_place is, short) in
     subst (λ w. InUse g s caller (piece_of g w)) same (need-in_use g s caller place (1 + i) n sound has owned (omega (arith, within)))
 
-abbrev is_arena_word : WordName → Bool
-is_arena_word (name.Arena w) = true
-is_arena_word n = false
-
-stack-elsewhere : (p : StackPoint) → is_arena_word (name_of (plan_stack_of p)) ≡ false
-stack-elsewhere p = grind (arith)
-
-desc-elsewhere : (p : DescPoint) → is_arena_word (name_of (plan_desc_of p)) ≡ false
-desc-elsewhere p = grind (arith)
-
-partial-elsewhere : (p : PartialPoint) → is_arena_word (name_of (plan_partial_of p)) ≡ false
-partial-elsewhere p = grind (arith)
-
-not-arena : (n : WordName) (word : ℕ) → is_arena_word n ≡ false → n ≡ name.Arena word → ⊥
-not-arena n word elsewhere is = let bad : true ≡ false = sym (ap is_arena_word is) ∙ elsewhere in cc
-
 pub point-in_use :
     (g : Geometry) (s : State) (caller word : ℕ) (p : Point) → IsSoundWithoutCounts g s → caller < g.callers → (s.errand caller).point ≡ p
     → name_of (plan_point_of p) ≡ name.Arena word → InUse g s caller (piece_of g word)
@@ -217,7 +190,7 @@ point-in_use g s caller word (Block (block.StoreLink at i a stored heap) o) soun
 point-in_use g s caller word (Block (block.LinkBlock at i) o) sound has stands is =
     let l = sound.parts.0 in
     let fit = fits-at g s l caller (Block (block.LinkBlock at i) o) sound.parts.1 has stands in
-    let here : occurs at.frame (at.frame ∷ []) ≡ 1 = occurs-one at.frame in
+    let here : occurs at.frame (at.frame ∷ []) ≡ 1 = occurs-here at.frame [] in
     let held : 1 ≤ errand_frames at.frame (s.errand caller) = subst (λ q. 1 ≤ occurs at.frame (holds_of q).frames) (sym stands) (omega (arith, here)) in
     subst (InUse g s caller) (sym (ap (piece_of g) (sym (ap arena_place is)) ∙ piece-block g at.frame at.seat.class i fit.point.site.frame fit.point.index))
     (held-in_use g s l caller at.frame sound.parts.1 fit.point.site.frame has held)

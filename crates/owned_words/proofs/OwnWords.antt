@@ -1,10 +1,10 @@
 -- A step on a usable word of a live block is its owner's read or write of it.
-use Rattle.std.proofs.Common.{ℕ, Bool, true, false, ◌≡◌, ◌<◌, ◌≤◌, ◌+◌, ◌*◌, ◌%◌, ◌^◌, [], ◌∷◌, refl, arith, ap, sym, subst, inl, inr, ◌∙◌, IsTrue, pow_pos}
+use Rattle.std.proofs.Common.{ℕ, false, ◌≡◌, ◌<◌, ◌≤◌, ◌+◌, ◌*◌, ◌%◌, ◌^◌, [], ◌∷◌, refl, arith, ap, sym, subst, inl, inr, ◌∙◌, IsTrue, pow_pos}
 use Rattle.std.proofs.lemmas.Bool.{cases_eq}
 use Rattle.std.proofs.lemmas.List.Elements.{All-head}
 use Rattle.sound_state.proofs.Common.{Geometry, Block, Large, Stack, Desc, Partial, Point, State, IsSoundWith, IsSoundWithoutCounts, IsOwned, IsLocated, Lists, IsLive}
-use Rattle.sound_state.proofs.Common.{StackPoint, DescPoint, PartialPoint, Site, Need, Caller, Continuation}
-use Rattle.sound_state.proofs.Common.{occurs, holds_of, recalls_of, errand_frames, errand_keeps, kept_among, waiting, is_bound, info_for, descriptor_count, pool_of, place-found}
+use Rattle.sound_state.proofs.Common.{Site, Need, Caller, Continuation}
+use Rattle.sound_state.proofs.Common.{occurs, occurs-here, holds_of, recalls_of, errand_frames, errand_keeps, kept_among, waiting, is_bound, info_for, descriptor_count, pool_of, place-found}
 use Rattle.sound_state.proofs.Common.{block_place, block_count_of, frame_of, usable_words, frame_of-block_place, block-within, plan_point_of, name_of}
 use Rattle.heap_geometry.specs.declared.need.Need.TheVariants as need
 use Rattle.heap_geometry.specs.declared.limits.TheConstants.{FRAME_WORDS}
@@ -12,13 +12,10 @@ use Rattle.heap_geometry.proofs.PlaceLemmas.{frame-apart}
 use Rattle.pool_model.specs.Pool.{Block as Live}
 use Rattle.pool_model.specs.WellFormed.{IsPlaceFor}
 use Rattle.word_table.specs.Counts.{arena_words}
-use Rattle.word_table.specs.declared.name.WordName.{WordName}
 use Rattle.word_table.specs.declared.name.WordName.TheVariants as name
 use Rattle.superblock_parts.specs.declared.point.BlockPoint.TheVariants as block
 use Rattle.large_parts.specs.declared.point.LargePoint.TheVariants as large
-use Rattle.stack_parts.specs.Points.{plan_stack_of}
-use Rattle.hazard_parts.specs.Points.{plan_desc_of}
-use Rattle.partial_parts.specs.Points.{plan_partial_of}
+use Rattle.sound_state.proofs.shared.ArenaNames.{arena_place, stack-elsewhere, desc-elsewhere, partial-elsewhere, not-arena}
 use Rattle.sound_state.proofs.shared.FrameLemmas.{in-hand-waits, one-in-frame}
 use Rattle.sound_state.proofs.shared.OverlapLemmas.{formed-at, live-apart}
 use Rattle.sound_state.proofs.shared.PointLemmas.{fits-at, frees-at, hands-at, recalled-at}
@@ -87,10 +84,6 @@ off-grid f class i j k within is =
             | inr behind ↦ omega (arith, behind, is, within)
           ]
     ]
-
-abbrev arena_place : WordName → ℕ
-arena_place (name.Arena w) = w
-arena_place n = 0
 
 -- a block's first word at a frame's place
 first-frame : (f class i : ℕ) → i < block_count_of class → (FRAME_WORDS * f ≤ block_place f class i) × (block_place f class i < FRAME_WORDS * f + FRAME_WORDS)
@@ -194,25 +187,6 @@ word-own g s caller p j word place i n b sound owned within there is usable =
           ]
     ]
 
-abbrev is_arena_word : WordName → Bool
-is_arena_word (name.Arena w) = true
-is_arena_word n = false
-
-stack-elsewhere : (p : StackPoint) → is_arena_word (name_of (plan_stack_of p)) ≡ false
-stack-elsewhere p = grind (arith)
-
-desc-elsewhere : (p : DescPoint) → is_arena_word (name_of (plan_desc_of p)) ≡ false
-desc-elsewhere p = grind (arith)
-
-partial-elsewhere : (p : PartialPoint) → is_arena_word (name_of (plan_partial_of p)) ≡ false
-partial-elsewhere p = grind (arith)
-
-not-arena : (n : WordName) (word : ℕ) → is_arena_word n ≡ false → n ≡ name.Arena word → ⊥
-not-arena n word elsewhere is = let bad : true ≡ false = sym (ap is_arena_word is) ∙ elsewhere in cc
-
-occurs-one : (f : ℕ) → occurs f (f ∷ []) ≡ 1
-occurs-one f = grind (arith)
-
 -- who links the blocks of a frame keeps no superblock that waits
 links-waits : (at : Site) (i d : ℕ) (o : Continuation) → kept_among waiting d (holds_of (Block (block.LinkBlock at i) o)).kept ≡ 0
 unfolding holds_of
@@ -241,7 +215,7 @@ point-owned g s caller word place k b (Block (block.StoreLink at i a stored heap
     (site-off g s i word place k b at b.need sound fit.point.block.site.desc fit.point.block.site.frame fit.point.block.index so.0.0 so.0.1 is usable refl)
 point-owned g s caller word place k b (Block (block.LinkBlock at i) o) sound has stands is usable =
     let fit = fits-at g s sound.parts.0 caller (Block (block.LinkBlock at i) o) sound.parts.1 has stands in
-    let here : occurs at.frame (at.frame ∷ []) ≡ 1 = occurs-one at.frame in
+    let here : occurs at.frame (at.frame ∷ []) ≡ 1 = occurs-here at.frame [] in
     let held : 1 ≤ errand_frames at.frame (s.errand caller) = subst (λ q. 1 ≤ occurs at.frame (holds_of q).frames) (sym stands) (omega (arith, here)) in
     let bare = λ (d : ℕ). subst (λ q. kept_among waiting d (holds_of q).kept ≡ 0) (sym stands) (links-waits at i d o) in
     absurd (hand-off g s caller i word place k at.frame at.seat.class b b.need sound has fit.point.site.frame fit.point.index held bare is usable refl)

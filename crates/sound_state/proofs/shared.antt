@@ -1,5 +1,6 @@
 pub mod ActiveReserves
 pub mod AlikeLemmas
+pub mod ArenaNames
 pub mod BackedRecalls
 pub mod BoundLemmas
 pub mod CallerLemmas

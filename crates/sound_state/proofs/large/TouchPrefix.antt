@@ -13,6 +13,7 @@ use Rattle.large_parts.specs.declared.point.LargePoint.TheVariants as large
 use Rattle.large_parts.specs.Points.{IsRunAt}
 use Rattle.pool_model.specs.Pool.{Block}
 use Rattle.errand_steps.specs.declared.reply.Reply.TheVariants as reply
+use Rattle.sound_state.proofs.shared.ArenaNames.{arena_place}
 use Rattle.sound_state.proofs.shared.ListFacts.{any-one, written-within}
 use Rattle.sound_state.proofs.shared.OverlapLemmas.{live-apart}
 use Rattle.sound_state.proofs.shared.PointLemmas.{fits-at, hands-at}
@@ -23,11 +24,6 @@ use Rattle.sound_state.proofs.shared.TieLemmas.{IsBareHanded, bare-owns, one-liv
 use Rattle.sound_state.proofs.large.TouchTies.{touched-desc}
 use Rattle.sound_state.proofs.shared.KeepsSound.{KeepsSound, silent-sound}
 use Rattle.sound_state.proofs.SoundAfter.{touched-sound}
-
--- the place of the word of the arena that this is
-abbrev pub arena_place : WordName → ℕ
-arena_place (name.Arena p) = p
-arena_place n = 0
 
 -- a block of a frame lies before the units
 pub frame-before : (frames f c i first : ℕ) → f < frames → i < block_count_of c → block_place f c i ≢ unit_place frames first

@@ -13,10 +13,11 @@ use Rattle.large_parts.specs.declared.point.LargePoint.TheVariants as large
 use Rattle.pool_model.specs.declared.owner.Owner.TheVariants.{Shelf}
 use Rattle.pool_model.specs.Pool.{Block, written}
 use Rattle.errand_steps.specs.declared.reply.Reply.TheVariants as reply
+use Rattle.sound_state.proofs.shared.ArenaNames.{arena_place}
 use Rattle.sound_state.proofs.shared.PointLemmas.{fits-at, recalled-at}
 use Rattle.sound_state.proofs.large.TouchEffects.{IsAwayWord, Touches}
 use Rattle.sound_state.proofs.shared.FrameLemmas.{one-in-frame, in-hand-waits}
-use Rattle.sound_state.proofs.large.TouchPrefix.{arena_place, written-usable, words-apart}
+use Rattle.sound_state.proofs.large.TouchPrefix.{written-usable, words-apart}
 use Rattle.sound_state.proofs.large.TouchPrefixes.{KeepsPrefixes, prefixes-stay, info-frame}
 use Rattle.sound_state.proofs.large.TouchShelves.{Changes, changes-places, changed-is, changed-there, changes-from}
 use Rattle.sound_state.proofs.large.TouchSteps.{TouchesAt, idle-aside, idle-bare-handed, idle-recalls, large-aside, leaves-event}
