@@ -1,8 +1,8 @@
 #!/usr/bin/env python3
 """Runs the gate and tells where its time goes, crate by crate.
 
-    tools/gate_times.py [--keep FOLDER] [--on N] [--picture] [WORD..]   runs `rt ci WORD..` at the top of the tree
-    tools/gate_times.py --read LOG SAMPLES [--of PROCESS] [--on N] [--picture]   tells it of a run that has ended
+    tools/gate_times.py [--keep FOLDER] [--on N] [--behind CRATE] [--picture] [WORD..]   runs `rt ci WORD..` at the top of the tree
+    tools/gate_times.py --read LOG SAMPLES [--of PROCESS] [--on N] [--behind CRATE] [--picture]   tells it of a run that has ended
 
 While the gate runs, its checks are looked at twice a second: what each proves and the processor time it has taken. Each
 line of the gate is printed with the clock and the seconds since the start. At the end stands a table in Markdown, in the
@@ -15,6 +15,8 @@ on the one before, and what ran last. A check that ends within half a second is 
 docs/pictures/gate.svg. Of several runs in a file of samples, `--read` takes the one with most checks, or that of PROCESS.
 `--on` tells too how long the same checks would take on N processors, each one in as many seconds as it took of a processor
 in the run, in the order in which `rt ci` takes them; what comes before the first check and behind the last is as in the run.
+`--behind` tells it too of the checks of a crate and of all crates that stand on it, alone: what is left of the gate behind a
+change in that crate, where the kit keeps the others.
 """
 import argparse
 import datetime
@@ -218,11 +220,13 @@ def chain_behind(run, stands_on):
     return behind
 
 
-def seconds_on(run, stands_on, processors):
-    """The seconds that the run's checks would take on so many processors: those with the longest chain behind them first,
-    edits and the proofs before them where no other check is ready."""
+def seconds_on(run, stands_on, processors, crates):
+    """The seconds that the run's checks of these crates would take on so many processors: those with the longest chain
+    behind them first, edits and the proofs before them where no other check is ready."""
     behind, kinds = chain_behind(run, stands_on), {}
     for (crate, kind), work in run.work.items():
+        if crate not in crates:
+            continue
         kinds.setdefault(crate, {})[kind] = work.taken / (work.many if kind == EDITS else 1), work.many if kind == EDITS else 1
     tasks = []
     for crate, found in kinds.items():
@@ -243,6 +247,11 @@ def seconds_on(run, stands_on, processors):
         ended.add(done)
     first = min(work.begin for work in run.work.values())
     return first + now + max(run.seconds - run.last[1], 0)
+
+
+def standing_on(stands_on, crate):
+    """The crate and all that stand on it."""
+    return {other for other in stands_on if other == crate or crate in below(stands_on, other)}
 
 
 def clock(seconds):
@@ -316,13 +325,17 @@ def main():
     parser.add_argument("--read", nargs=2)
     parser.add_argument("--of", type=int)
     parser.add_argument("--on", type=int, action="append", default=[])
+    parser.add_argument("--behind", action="append", default=[])
     parser.add_argument("--picture", action="store_true")
     words, rest = parser.parse_known_args()
     status, run = (0, read(*words.read, words.of)) if words.read else watched(rest, words.keep)
     stands_on = read_crates()
     print(*told(run, stands_on), sep="\n")
     for many in words.on:
-        print(f"The same checks on {many} processors: {clock(seconds_on(run, stands_on, many))}.")
+        print(f"The same checks on {many} processors: {clock(seconds_on(run, stands_on, many, set(stands_on)))}.")
+        for crate in words.behind:
+            crates = standing_on(stands_on, crate)
+            print(f"Those of {crate} and of what stands on it, on {many}: {clock(seconds_on(run, stands_on, many, crates))}.")
     if words.picture:
         draw(run, stands_on)
     return status
