@@ -196,10 +196,10 @@ busy-answers c t words d u idle has ready told =
 
 -- what a call that is gone on with answers, and a take
 pub resumed-answers :
-    (c : Cache) (t : Table) (number : ℕ) (block : Block) (d : Cache) (u : Table) → is_idle c.pass.errand.point ≡ false → NamesOneMore t number block u
-    → GoesOnTo c (resumed.Given block) d → HasResumed c t (Ok (Some number)) d u
-resumed-answers c t number block d u busy gains goes =
-    makes (resume_bar c.pass) (Resumes c t) c t (Ok (Some number)) d u (resume-made c.pass busy) (block, gains, goes)
+    (h : Heap) (c : Cache) (t : Table) (number : ℕ) (block : Block) (d : Cache) (u : Table) → is_idle c.pass.errand.point ≡ false
+    → NamesOneMore t number block u → GoesOnTo h c (resumed.Given block) d → HasResumed h c t (Ok (Some number)) d u
+resumed-answers h c t number block d u busy gains goes =
+    makes (resume_bar c.pass) (Resumes h c t) c t (Ok (Some number)) d u (resume-made c.pass busy) (block, gains, goes)
 
 pub taken-answers :
     (c : Cache) (t : Table) (shelf number : ℕ) (block : Block) (d : Cache) (u : Table) → is_idle c.pass.errand.point ≡ true → shelf < SHELVES

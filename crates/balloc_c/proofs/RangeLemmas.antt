@@ -13,7 +13,7 @@ use Rattle.live_heap.specs.declared.heap.Heap.{Heap}
 use Rattle.live_heap.specs.declared.pass.Pass.{Pass}
 use Rattle.live_heap.specs.Words.{CallsOnWord}
 use Rattle.live_heap.proofs.MadeLemmas.{word-whole}
-use Rattle.live_heap.proofs.WholeLaws.{pass-keeps}
+use Rattle.live_heap.proofs.WholeLaws.{whole-keeps}
 use Rattle.step_machine.specs.Keeping.{LeavesPlace}
 use Rattle.block_cache.specs.declared.cache.Cache.{Cache}
 use Rattle.block_cache.specs.declared.magazines.Magazines.{Magazines}
@@ -30,7 +30,7 @@ pub held-on :
     (h : Heap) (c d : Cache) (block : Block) (call : Call) (answer : Reply) → CallsOnWord h c.pass call answer d.pass → LeavesPlace call block.place
     → KeepsMagazines c d → HoldsBlock c block → HoldsBlock d block
 held-on h c d block call answer one leaves keeps held = (
-  pass-keeps h h c.pass d.pass call answer block.place block.need (word-whole h c.pass d.pass call answer one) leaves held.0,
+  whole-keeps h h c.pass d.pass call answer block.place block.need (word-whole h c.pass d.pass call answer one) leaves held.0,
   subst (λ (m : Magazines). All (λ (other : Block). other.place ≢ block.place) (all_in (stacks_of m.stacks.items))) (sym keeps.magazines) held.1,
 )
 

@@ -140,7 +140,7 @@ pub fn resume(heap: &Heap, cache: &mut Cache, table: &mut Table) -> Result<Optio
     ensures tends { Tends heap.now cache.new (blocks_of table.new.slots.items) }
     ensures packed { IsPacked table.new }
     ensures few { HasOneMoreAtMost table.old table.new }
-    ensures answers { HasResumed cache.old table.old result cache.new table.new }
+    ensures answers { HasResumed heap.now cache.old table.old result cache.new table.new }
 {
     if cache.idle() {
         return Err(Refusal::Idle);

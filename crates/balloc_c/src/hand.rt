@@ -34,7 +34,7 @@ impl Hand {
     ghost use Rattle.balloc_c.specs.Outcomes.{TellsWords, HasAllocated, HasFreed, HasPut, HasRead, HasResumed, HasTaken, HasWritten, Makes, counts_of};
     ghost use Rattle.balloc_c.specs.Closed.{GivesBack, LeavesBlocks, TellsCensus};
     ghost use Rattle.balloc_c.specs.Ranges.{HasFilled, HasReadRange, HasSummed, HasWrittenRange, IsFound};
-    ghost use Rattle.balloc_c.specs.Hands.{IsTended};
+    ghost use Rattle.balloc_c.specs.Hands.{IsTended, heap_of};
 
     /// A pass with no block, and no slot for one.
     pub fn new(alloc: Global, heap: Arc<SharedHeap, Global>, ticket: Ticket, cache: Cache) -> Hand
@@ -106,7 +106,7 @@ impl Hand {
 
     /// Goes on with the call that was interrupted. Answers the number of a block that it got.
     pub fn resume(&mut self) -> Result<Option<u64>, Refusal>
-        ensures { Makes (λ c t. HasResumed c t) self.old result self.new }
+        ensures { Makes (λ c t. HasResumed (heap_of self.old) c t) self.old result self.new }
     {
         self.tended();
         calls::resume(self.heap.heap(), &mut self.cache, &mut self.table)

@@ -23,6 +23,7 @@ ghost use Rattle.balloc_c.specs.declared.hand.Hand.{Hand};
 ghost use Rattle.balloc_c.specs.declared.refusal.Refusal.{Refusal};
 ghost use Rattle.balloc_c.specs.Codes.{code_in, resumed_code, resumed_number, value_in};
 ghost use Rattle.balloc_c.specs.Closed.{Closes, TellsCounts};
+ghost use Rattle.balloc_c.specs.Hands.{heap_of};
 ghost use Rattle.balloc_c.specs.Opened.{Opens, numbers};
 ghost use Rattle.balloc_c.specs.Ranges.{HasFilled, HasReadRange, HasSummed, HasWrittenRange, IsFound};
 ghost use Rattle.balloc_c.specs.Outcomes.{HasAllocated, HasCounted, HasFreed, HasPut, HasRead, HasResumed, HasTaken, HasWritten, Makes, Told};
@@ -193,7 +194,7 @@ pub extern "C" fn balloc_free(pass: &mut PassHandle, id: u64) -> i32
 /// Goes on with a call that was interrupted, and tells the number of the block that it got.
 #[unsafe(no_mangle)]
 pub extern "C" fn balloc_resume(pass: &mut PassHandle, id: &mut u64) -> i32
-    ensures told { Told (Makes (λ c t. HasResumed c t)) pass.old.held.hand
+    ensures told { Told (λ before. Makes (λ c t. HasResumed (heap_of before) c t) before) pass.old.held.hand
         (λ outcome. (result ≡ resumed_code outcome) × (id.new ≡ resumed_number outcome id.old)) pass.new.held.hand }
 {
     answered!(pass, hand => hand.resume(), outcome => code_resumed(outcome, id))

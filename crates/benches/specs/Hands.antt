@@ -1,18 +1,29 @@
 -- What calls leave a pass with, and a hand.
-use Rattle.std.specs.Prelude.{◌≡◌, ◌≢◌, ◌∷◌, Option, Some, None, IfSome, List, [], map}
+use Rattle.std.specs.Prelude.{ℕ, ◌≡◌, ◌≢◌, ◌∷◌, Option, Some, None, IfSome, List, [], map}
 use Rattle.errand_steps.specs.Begins.{IsIdle}
 use Rattle.errand_steps.specs.Calls.{Call}
 use Rattle.step_machine.specs.Keeping.{LeavesPlace}
 use Rattle.live_heap.specs.declared.block.Block.{Block}
 use Rattle.live_heap.specs.declared.heap.Heap.{Heap}
 use Rattle.live_heap.specs.declared.pass.Pass.{Pass}
+use Rattle.live_heap.specs.Answers.{IsTried}
+use Rattle.live_heap.specs.Calls.{IsCalling}
 use Rattle.live_heap.specs.Passes.{IsOf, Owns}
 use Rattle.benches.specs.declared.heap.worker.Held.{Held}
 use Rattle.benches.specs.declared.heap.worker.Worker.{Worker}
 
--- the pass is of this heap, and in no call
+-- the pass is of this heap, in no call, and no block's words are out with it
 abbrev pub Rests : Heap → Pass → Type 0
-Rests h p = IsOf h p × IsIdle p.errand
+Rests h p = IsOf h p × IsIdle p.errand × (p.out ≡ 0)
+
+-- an allocation or a free is under way, which a pass at rest has begun
+pub record IsUnderWay (h : Heap) (p : Pass) : Type 0 where
+  pub first : Pass
+  pub rests : Rests h first
+  pub call : Call
+  pub steps : ℕ
+  pub calling : IsCalling first call steps p
+  pub tried : IsTried call
 
 -- the pass has made this call: it rests again, and owns each block that it owned but the one that the call gave away; and the block that the call got is its own, and none of those that it had
 pub record HasMade (h : Heap) (p : Pass) (call : Call) (got : Option Block) (q : Pass) : Type 0 where

@@ -16,7 +16,7 @@ use Rattle.live_heap.specs.declared.heap.Heap.{Heap}
 use Rattle.live_heap.specs.declared.pass.Pass.{Pass}
 use Rattle.live_heap.specs.Contents.{HasChanged, owned_in}
 use Rattle.live_heap.specs.Holdings.{Holds}
-use Rattle.live_heap.specs.Passes.{IsOf, Owns, seen}
+use Rattle.live_heap.specs.Passes.{IsOf, seen}
 use Rattle.live_heap.specs.Whole.{HasEndedCall, IsWhole, MadeByPass, at_once, by_steps}
 use Rattle.call_events.specs.Ends.{HasEnded}
 use Rattle.pool_model.specs.declared.event.Event.{Event}
@@ -51,7 +51,7 @@ served-gains h c d words block rests is has =
     let p = c.pass in
     let split = top-splits has.class block (stacks_in c) (stacks_in d) has.top in
     let out = holds-out p split.front split.back block (subst (Holds p) split.with_it (rests.0.hand.holds rests.1)) in
-    let owns : Owns p block = out.0 in
+    let owns = out.0.0 in
     let owned : owned_in p block.place ≡ Some owns.0 = ap (if_of p.errand.caller) owns.1 ∙ of-self p.errand.caller owns.0 owns.2 in
     let owned_then : owned_in d.pass block.place ≡ Some owns.0 = ap (λ (q : Pass). owned_in q block.place) has.pass ∙ owned in
     record {
@@ -115,7 +115,7 @@ asked-shows h c d (alloc words) (reply.Given place need) rests is whole keeps ch
     let block = fresh_block c.pass.errand.caller words place in
     let apart =
     holds-all c.pass (λ other. other.place ≢ place)
-    (λ other owns. pass-apart h h c.pass d.pass (alloc words) (reply.Given place need) place other.place need other.need whole (refl, refl) owns)
+    (λ other owns. pass-apart h h c.pass d.pass (alloc words) (reply.Given place need) place other.place need other.need whole (refl, refl) owns.0)
     (cached_in c) (rests.0.hand.holds rests.1) in
     record {
       nothing = none-shown c place changed.nothing;

@@ -84,8 +84,12 @@ together h c held is all =
           let w = all.in_call busy in
           let t =
           so-far-together w.first.errand.caller w.call (stage_of e.point) w.calling.added (held ++ cached_in c) w.had w.tried w.calling.under_way
-          w.began in
-          (t.0, t.1, calling-exact h w.first c.pass w.call w.steps w.had (t.0 ++ (held ++ cached_in c)) is.hand.of w.calling t.2 w.exact)
+          w.began in (
+            t.0,
+            t.1,
+            calling-exact h w.first c.pass w.call w.steps w.had (t.0 ++ (held ++ cached_in c)) (w.of h is.hand.of) is.hand.of w.calling t.2
+                w.exact,
+          )
     ]
 
 -- what was owned at the opening is held
@@ -153,6 +157,7 @@ had-in-call : (p : Pass) (blocks : List Block) (w : HasAllInCall p blocks) (othe
 had-in-call p blocks w others so =
     record {
       first = w.first;
+      of = w.of;
       call = w.call;
       steps = w.steps;
       calling = w.calling;
@@ -207,9 +212,11 @@ find place (b ∷ bs) =
 -- two tokens of owned blocks at one place are one
 same-token : (p : Pass) (a b : Block) → Owns p a → Owns p b → a.place ≡ b.place → a ≡ b
 same-token p a b one other place =
-    let both : Some one.0 ≡ Some other.0 = sym one.1 ∙ ap (λ k. block_at k (pool_of (seen p))) place ∙ other.1 in
-    let same : one.0 ≡ other.0 = cc in
-    block-same a b place (sym one.3 ∙ ap (λ (x : PoolBlock). x.need) same ∙ other.3)
+    let here = one.0 in
+    let there = other.0 in
+    let both : Some here.0 ≡ Some there.0 = sym here.1 ∙ ap (λ k. block_at k (pool_of (seen p))) place ∙ there.1 in
+    let same : here.0 ≡ there.0 = cc in
+    block-same a b place (sym here.3 ∙ ap (λ (x : PoolBlock). x.need) same ∙ there.3)
 
 pub among-held : (h : Heap) (c : Cache) (held : List Block) (block : Block) → IsCache h c → IsIdle c.pass.errand → Holds c held
     → HoldsBlock c block ↔ IsAmong block held
@@ -227,7 +234,7 @@ among-held h c held block is idle all =
                 let same = same-token p block l.block holds.0 out.0 (sym l.here) in
                 (l.before, l.after, l.is ∙ ap (λ (b : Block). l.before ++ b ∷ l.after) (sym same))
             | inr apart ↦
-                let owns = holds.0 in
+                let owns = holds.0.0 in
                 absurd (none-some owns.0
                 (sym (exact.1 block.place (All-append (λ (b : Block). b.place ≢ block.place) held cached apart holds.1))
                 ∙ (ap (if_of p.errand.caller) owns.1 ∙ of-self p.errand.caller owns.0 owns.2)))

@@ -10,7 +10,6 @@ use Rattle.errand_steps.specs.declared.reply.Reply.{Reply}
 use Rattle.errand_steps.specs.declared.reply.Reply.TheVariants as reply
 use Rattle.errand_steps.specs.Begins.{IsIdle}
 use Rattle.errand_steps.specs.Calls.{Call, alloc, free, put, read, take, write}
-use Rattle.step_machine.specs.Cores.{OwnsAfter}
 use Rattle.step_machine.specs.Keeping.{Hands, LeavesPlace}
 use Rattle.live_heap.specs.declared.answers.AllocAnswer.{AllocAnswer}
 use Rattle.live_heap.specs.declared.answers.AllocAnswer.TheVariants as answer
@@ -19,11 +18,12 @@ use Rattle.live_heap.specs.declared.block.Block.{Block}
 use Rattle.live_heap.specs.declared.heap.Heap.{Heap}
 use Rattle.live_heap.specs.declared.pass.Pass.{Pass}
 use Rattle.live_heap.specs.Answers.{AllocTells, FreeTells}
-use Rattle.live_heap.specs.Passes.{seen}
-use Rattle.live_heap.specs.Whole.{HasEndedCall, MadeByPass, OwnsFor, at_once, by_steps}
+use Rattle.live_heap.specs.Passes.{IsHome, IsOf, OwnsAt}
+use Rattle.live_heap.specs.Whole.{HasEndedCall, IsWhole, MadeByPass, OwnsFor, at_once, by_steps}
 use Rattle.live_heap.proofs.Holding.{all-in, all-out, holds-all, holds-out}
 use Rattle.live_heap.specs.Holdings.{Holds}
-use Rattle.live_heap.proofs.WholeLaws.{pass-apart, pass-hands, pass-keeps}
+use Rattle.live_heap.proofs.LawsKept.{given-home, got-home}
+use Rattle.live_heap.proofs.WholeLaws.{pass-apart, pass-hands, whole-keeps as pass-keeps}
 use Rattle.block_cache.specs.declared.cache.Cache.{Cache}
 use Rattle.block_cache.specs.declared.magazines.Magazines.{Magazines}
 use Rattle.block_cache.specs.Magazines.{AreMagazines, all_in, stack_at, stacks_of}
@@ -149,13 +149,10 @@ free-whole h c d block tries rests is holds if_room if_not =
           made-whole h c d (free block.place block.need) reply.Freed rests is (none, holds) (by_steps (k.0.steps, k.0.called)) k.1
     ]
 
--- a pass owns the block at this place, which serves this need; what the caller of a cache holds it holds through a whole call that leaves it
-abbrev OwnsAt : Pass → ℕ → Need → Type 0
-OwnsAt p place need = OwnsAfter (seen p) p.errand.caller place need
-
 pub same-cached : (c d : Cache) → KeepsMagazines c d → cached_in d ≡ cached_in c
 same-cached c d keeps = ap (λ (m : Magazines). all_in (stacks_of m.stacks.items)) keeps.magazines
 
+-- what the caller of a cache holds it holds through a whole call that leaves it
 pub whole-keeps : (h : Heap) (c d : Cache) (call : Call) (ended : Reply) (place : ℕ) (need : Need) → IsWholeCall h c call ended d
     → LeavesPlace call place → HoldsAt c place need → HoldsAt d place need
 whole-keeps h c d call ended place need w leaves holds =
@@ -181,6 +178,19 @@ whole-keeps h c d call ended place need w leaves holds =
       )
     ]
 
+-- the words of a block that a whole call hands out are home
+handed-home :
+    (h : Heap) (p q : Pass) (call : Call) (ended : Reply) (place : ℕ) (need : Need) → IsOf h p → IsWhole h p call ended h q → Hands ended place need
+    → IsHome q place
+handed-home h p q call (reply.Given at n) place need was (by_steps made, may, same, is) hands =
+    subst (IsHome q) hands.0 (given-home h p q call made.0 at n was is.0 made.1)
+handed-home h p q call (reply.Got at n) place need was (by_steps made, may, same, is) hands =
+    subst (IsHome q) hands.0 (got-home h p q call made.0 at n was is.0 made.1)
+handed-home h p q call ended place need was (by_steps made, may, same, is) hands = absurd hands
+handed-home h p q call (reply.Given at n) place need was (at_once words is_alloc spent once, may, same, is) hands = absurd (cc)
+handed-home h p q call (reply.Got at n) place need was (at_once words is_alloc spent once, may, same, is) hands = absurd (cc)
+handed-home h p q call ended place need was (at_once words is_alloc spent once, may, same, is) hands = absurd hands
+
 pub whole-hands : (h : Heap) (c d : Cache) (call : Call) (ended : Reply) (place : ℕ) (need : Need) → IsWholeCall h c call ended d
     → Hands ended place need → HoldsAt d place need
 whole-hands h c d call ended place need w hands =
@@ -197,10 +207,13 @@ whole-hands h c d call ended place need w hands =
           ))
       | kept block is_free is_freed held room has ↦ absurd (subst (λ (r : Reply). Hands r place need) is_freed hands)
       | asked asks whole keeps ↦ (
-        pass-hands h h c.pass d.pass call ended place need whole hands,
+        (
+          pass-hands h h c.pass d.pass call ended place need whole hands,
+          handed-home h c.pass d.pass call ended place need w.before.0.hand.of whole hands,
+        ),
         subst (All (λ (other : Block). other.place ≢ place)) (sym (same-cached c d keeps))
             (holds-all c.pass (λ other. other.place ≢ place)
-            (λ other owns. pass-apart h h c.pass d.pass call ended place other.place need other.need whole hands owns) (cached_in c) hand),
+            (λ other owns. pass-apart h h c.pass d.pass call ended place other.place need other.need whole hands owns.0) (cached_in c) hand),
       )
     ]
 
@@ -216,5 +229,5 @@ whole-apart h c d call ended place other need had w hands holds =
           (subst (All (λ (b : Block). b.place ≢ other)) split.with_it holds.1)).0 in
           λ same. ne (is.0 ∙ sym same)
       | kept block is_free is_freed held room has ↦ absurd (subst (λ (r : Reply). Hands r place need) is_freed hands)
-      | asked asks whole keeps ↦ pass-apart h h c.pass d.pass call ended place other need had whole hands holds.0
+      | asked asks whole keeps ↦ pass-apart h h c.pass d.pass call ended place other need had whole hands holds.0.0
     ]

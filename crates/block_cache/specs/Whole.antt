@@ -6,12 +6,11 @@ use Rattle.errand_steps.specs.declared.reply.Reply.{Reply}
 use Rattle.errand_steps.specs.declared.reply.Reply.TheVariants as reply
 use Rattle.errand_steps.specs.Begins.{IsIdle}
 use Rattle.errand_steps.specs.Calls.{Call, alloc, free, put, read, take, write}
-use Rattle.step_machine.specs.Cores.{OwnsAfter}
 use Rattle.live_heap.specs.declared.answers.AllocAnswer.{AllocAnswer}
 use Rattle.live_heap.specs.declared.answers.AllocAnswer.TheVariants as answer
 use Rattle.live_heap.specs.declared.block.Block.{Block}
 use Rattle.live_heap.specs.declared.heap.Heap.{Heap}
-use Rattle.live_heap.specs.Passes.{seen}
+use Rattle.live_heap.specs.Passes.{OwnsAt}
 use Rattle.live_heap.specs.Whole.{IsWhole}
 use Rattle.block_cache.specs.declared.cache.Cache.{Cache}
 use Rattle.block_cache.specs.Caches.{HasFor, HasKept, HasRoom, HasServed, IsCache, KeepsMagazines, cached_in}
@@ -22,7 +21,7 @@ RestsAt h c = IsCache h c × IsIdle c.pass.errand
 
 -- a cache's caller holds the block at the place, which serves this need
 abbrev pub HoldsAt : Cache → ℕ → Need → Type 0
-HoldsAt c place need = OwnsAfter (seen c.pass) c.pass.errand.caller place need × All (λ other. other.place ≢ place) (cached_in c)
+HoldsAt c place need = OwnsAt c.pass place need × All (λ other. other.place ≢ place) (cached_in c)
 
 -- a call that is the heap's: an allocation for which no magazine has a block, a free for which none has room, and each other call; a block that it is about is held
 abbrev pub Asks : Cache → Call → Type 0

@@ -157,7 +157,7 @@ impl Cache {
         requires tries { 0 < tries }
         ensures cache { IsCache heap.now self.new }
         ensures grows { Begins (seen self.old.pass) (seen self.new.pass) }
-        ensures tells { (first : Pass) (call : Call) (made : ℕ) → IsCalling first call made self.old.pass
+        ensures tells { (first : Pass) (call : Call) (made : ℕ) → IsOf heap.now first → IsCalling first call made self.old.pass
             → ResumeTells first call made self.old.pass tries result self.new.pass }
         ensures keeps { KeepsMagazines self.old self.new }
         ensures holds { (held : List Block) → Holds self.old held → Holds self.new (resumed_by result ++ held) }

@@ -10,6 +10,7 @@ use Rattle.live_heap.specs.declared.answers.Resumed.{Resumed}
 use Rattle.live_heap.specs.declared.block.Block.{Block}
 use Rattle.live_heap.specs.declared.heap.Heap.{Heap}
 use Rattle.live_heap.specs.declared.pass.Pass.{Pass}
+use Rattle.live_heap.specs.Passes.{IsOf}
 use Rattle.live_heap.specs.Whole.{ResumesTo}
 use Rattle.block_cache.specs.declared.cache.Cache.{Cache}
 use Rattle.block_cache.specs.declared.magazines.Magazines.{Magazines}
@@ -90,6 +91,11 @@ empties-stopped h c now mid d tries told so stopped hits keeps rests resumes =
           (leads-on h c.pass now.pass d.pass (frees_of so.freed) (frees_of all) so.frees these);
       hits = keeps.hits ∙ (hits ∙ so.hits);
     }
+
+-- the pass that has freed them is of the heap, as it was
+pub frees-of : (h : Heap) (p q : Pass) (blocks : List Block) (tries : ℕ) → IsOf h p → Frees h p blocks tries q → IsOf h q
+frees-of h p q [] tries was frees = subst (IsOf h) (sym frees) was
+frees-of h p q (block ∷ blocks) tries was (next, of, tells, frees) = frees-of h next q blocks tries of frees
 
 -- the pass that has freed them is in no call, if it was in none
 pub frees-idle : (h : Heap) (p q : Pass) (blocks : List Block) (tries : ℕ) → IsIdle p.errand → Frees h p blocks tries q → IsIdle q.errand

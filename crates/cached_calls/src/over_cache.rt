@@ -9,6 +9,7 @@ ghost use Rattle.call_events.specs.Made.{LeadsBy, Sums, wrote};
 ghost use Rattle.live_heap.specs.declared.pass.Pass.{Pass};
 ghost use Rattle.live_heap.specs.Answers.{IsResumable};
 ghost use Rattle.live_heap.specs.Calls.{IsCalling};
+ghost use Rattle.live_heap.specs.Passes.{IsOf};
 ghost use Rattle.live_heap.specs.Whole.{ResumesTo};
 ghost use Rattle.lane_engine.specs.Whole.{Copies, allocated_as};
 ghost use Rattle.block_cache.specs.Caches.{IsCache, KeepsMagazines};
@@ -63,7 +64,7 @@ fn go_on<R: Wait>(rt: &R, heap: &Heap, cache: &mut Cache, last: &mut u64) -> Res
     requires under_way { IsResumable cache.old.pass }
     ensures rests { RestsAt heap.now cache.new }
     ensures keeps { KeepsMagazines cache.old cache.new }
-    ensures ended { (first : Pass) (call : Call) (made : ℕ) → IsCalling first call made cache.old.pass
+    ensures ended { (first : Pass) (call : Call) (made : ℕ) → IsOf heap.now first → IsCalling first call made cache.old.pass
         → ResumesTo first call result cache.new.pass }
 {
     for _ in rt.forever() {

@@ -18,6 +18,7 @@ use Rattle.live_heap.specs.declared.pass.Pass.{Pass}
 use Rattle.live_heap.specs.Contents.{owned_in}
 use Rattle.live_heap.specs.Passes.{seen}
 use Rattle.live_heap.proofs.Changes.{called-changes}
+use Rattle.live_heap.proofs.LawsKept.{stays-home}
 use Rattle.trace_text.specs.declared.trace.Op.{Op}
 use Rattle.trace_text.specs.declared.trace.Op.TheVariants as op
 use Rattle.lane_engine.specs.Whole.{copied}
@@ -75,7 +76,7 @@ module _ (h : Heap) where
       let asked = plain-call h c d call answer one (λ tried. tried) in
       let made = steps-of c.pass d.pass call answer (λ words is. cc) asked.0.0 in
       let same = called-changes h c.pass d.pass call made.0 answer asked.0.2.0 made.1 in (
-        owns-still c.pass d.pass at had (same at) held.0,
+        (owns-still c.pass d.pass at had (same at) held.0.0, stays-home c.pass d.pass at made.1.lent held.0.1),
         subst (All (λ (other : Block). other.place ≢ at)) (sym (same-cached c d asked.1)) held.1,
       )
 

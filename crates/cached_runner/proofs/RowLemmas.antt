@@ -203,7 +203,7 @@ module _ (h : Heap) (c d : Cache) (base : Position) (st : IsBetween h c base) wh
 
   pub owns-it : (r : ℕ) (held : Held) → held_in base.registers r ≡ Some held → OwnsIt held
   owns-it r held full =
-      let owned = (st.holds.owned r held full).0 in (
+      let owned = (st.holds.owned r held full).0.0 in (
         owned.0,
         owned.1,
         owns-found c.pass held.place held.need owned,

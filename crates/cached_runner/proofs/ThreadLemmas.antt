@@ -1,21 +1,36 @@
 -- Lanes through caches on threads: how they are run and taken back.
-use Rattle.std.proofs.Common.{ℕ, zero, suc, ◌≡◌, ◌<◌, ◌+◌, List, [], ◌∷◌, ◌++◌, Vec, Global, length, map, max, get_or, refl, sym, ap, ◌∙◌, subst, arith}
+use Rattle.std.proofs.Common.{ℕ, zero, suc, ◌≡◌, ◌<◌, ◌+◌, List, [], ◌∷◌, ◌++◌, Option, None, Vec, Global, length, map, max, get_or, replicate, refl, sym, ap, ◌∙◌, subst, arith}
 use Rattle.std.specs.Prelude.{All}
 use Rattle.std.proofs.lemmas.List.{length-map}
 use Rattle.std.proofs.lemmas.List.Elements.{All-cons, All-nil}
 use Rattle.crossbeam_utils.specs.declared.cache_padded.CachePadded.{CachePadded}
 use Rattle.crossbeam_utils.specs.Padded.{padded_value}
+use Rattle.errand_steps.specs.declared.reply.Reply.{Reply}
 use Rattle.errand_steps.specs.Begins.{IsIdle}
+use Rattle.errand_steps.specs.Calls.{Call}
+use Rattle.call_events.specs.Made.{LeadsBy, Made}
+use Rattle.trace_text.specs.declared.limits.TheConstants.{REGISTERS}
+use Rattle.trace_text.specs.declared.trace.Op.{Op}
 use Rattle.trace_text.specs.declared.trace.Trace.{Trace}
 use Rattle.trace_text.specs.Traces.{IsTrace}
 use Rattle.lane_outcomes.specs.declared.outcome.Outcome.{Outcome}
+use Rattle.lane_outcomes.specs.declared.registers.Held.{Held}
+use Rattle.lane_outcomes.specs.Lane.{registers_after}
 use Rattle.lane_outcomes.specs.Passed.{AllPassed}
+use Rattle.live_heap.specs.declared.block.Block.{Block}
 use Rattle.live_heap.specs.declared.heap.Heap.{Heap}
 use Rattle.live_heap.specs.declared.pass.Pass.{Pass}
-use Rattle.live_heap.specs.Passes.{AreFrom, IsOf}
+use Rattle.live_heap.specs.Passes.{AreFrom, IsOf, view}
+use Rattle.trace_lane.specs.Made.{AllMade}
 use Rattle.trace_lane.specs.Paths.{FirstPassed}
 use Rattle.lane_runner.specs.Running.{operations_in}
+use Rattle.lane_runner.proofs.HomeLemmas.{made-lent}
 use Rattle.lane_runner.proofs.ThreadLemmas.{all-gone, down-done, down-find, from-at}
+use Rattle.block_cache.specs.declared.cache.Cache.{Cache}
+use Rattle.block_cache.specs.Caches.{stacks_in}
+use Rattle.block_cache.specs.Magazines.{leaving}
+use Rattle.block_cache.specs.Whole.{asked, kept, served}
+use Rattle.cached_calls.specs.Calls.{HasEndedAt, IsCachedCall, frees_of}
 use Rattle.cached_runner.specs.declared.run_cached.CacheThread.{CacheThread}
 use Rattle.cached_runner.specs.Threads.{AreDone, AreEnded, AreReady, HasEndedThrough, HasEndedWith, HasRunOn, HaveRunThrough, IsDone, IsPaired, IsReady}
 
@@ -105,6 +120,54 @@ ended-idle trace h depth k (p ∷ ps) (o ∷ os) (n ∷ ns) all =
     All-cons (λ p. IsOf h p × IsIdle p.errand) p ps (subst (λ (q : Pass). IsOf h q × IsIdle q.errand) (sym e.pass) stands)
     (ended-idle trace h depth (suc k) ps os ns all.1)
 ended-idle trace h depth k ps os ns all = absurd all
+
+-- whole calls through a cache leave the words of the same blocks out
+call-lent :
+    (h : Heap) (c d : Cache) (call : Call) (answer : Reply) → IsCachedCall h c call answer d → (view d.pass).lent ≡ (view c.pass).lent
+call-lent h c d call answer (whole, deep) =
+    elim whole.made [
+      | served words block is_alloc is_given has ↦ ap (λ (p : Pass). (view p).lent) has.pass
+      | kept block is_free is_freed held room has ↦ ap (λ (p : Pass). (view p).lent) has.pass
+      | asked asks made keeps ↦ made-lent c.pass call answer d.pass made.0
+    ]
+
+leads-lent : (h : Heap) (c d : Cache) (made : List Made) → LeadsBy (IsCachedCall h) c made d → (view d.pass).lent ≡ (view c.pass).lent
+leads-lent h c d [] leads = ap (λ (x : Cache). (view x.pass).lent) leads
+leads-lent h c d (m ∷ made) (t, one, leads) = leads-lent h t d made leads ∙ call-lent h c t m.call m.answer one
+
+lent-kept :
+    (h : Heap) (registers : List (Option Held)) (left : List Op) (outs : List Outcome) (c d : Cache)
+    → AllMade (IsCachedCall h) registers left outs c d → (view d.pass).lent ≡ (view c.pass).lent
+lent-kept h registers left [] c d same = ap (λ (x : Cache). (view x.pass).lent) same
+lent-kept h registers [] (r ∷ outs) c d all = absurd all
+lent-kept h registers (o ∷ left) (r ∷ outs) c d (t, (made, for, leads), all) =
+    lent-kept h (registers_after registers o r) left outs t d all ∙ leads-lent h c t made leads
+
+frees-lent : (h : Heap) (blocks : List Block) (p q : Pass) → LeadsBy (HasEndedAt h) p (frees_of blocks) q → (view q).lent ≡ (view p).lent
+frees-lent h [] p q same = ap (λ (x : Pass). (view x).lent) same
+frees-lent h (block ∷ blocks) p q (t, ((steps, called), ends), leads) = frees-lent h blocks t q leads ∙ called.lent
+
+-- a lane that has ended through its cache has no block's words out
+through-home :
+    (h : Heap) (depth : ℕ) (operations : List Op) (lane : ℕ) (outcomes : List Outcome) (c : Cache)
+    → HasEndedThrough h depth operations lane outcomes c → c.pass.out ≡ 0
+through-home h depth operations lane outcomes c e =
+    let first = e.first in
+    let ran = e.through.ran in
+    let same : (view c.pass).lent ≡ (view first.pass).lent =
+    frees-lent h (leaving (stacks_in ran)) ran.pass c.pass e.through.emptied.frees
+    ∙ lent-kept h (replicate REGISTERS None) operations outcomes first ran e.through.made in
+    sym e.through.rests.0.hand.of.counted ∙ ap length same ∙ e.opened.fresh.of.counted ∙ e.opened.fresh.home
+
+pub ended-home :
+    (trace : Trace) (h : Heap) (depth k : ℕ) (ps : List Pass) (os : List (Vec Outcome Global)) (ns : List ℕ) → AreEnded trace h depth k ps os ns
+    → All (λ p. p.out ≡ 0) ps
+ended-home trace h depth k [] [] [] all = All-nil (λ (p : Pass). p.out ≡ 0)
+ended-home trace h depth k (p ∷ ps) (o ∷ os) (n ∷ ns) all =
+    let e = all.0 in
+    let home = through-home h depth (operations_in trace k) k o.items e.cache e.ended in
+    All-cons (λ (p : Pass). p.out ≡ 0) p ps (subst (λ (q : Pass). q.out ≡ 0) (sym e.pass) home) (ended-home trace h depth (suc k) ps os ns all.1)
+ended-home trace h depth k ps os ns all = absurd all
 
 -- the lanes of a trace have run
 one-each : (n : ℕ) → 0 < n → max 1 n ≡ n

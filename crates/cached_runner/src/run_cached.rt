@@ -201,7 +201,8 @@ fn open_threads(
 }
 
 /// The lanes of a trace have run to their ends: the outcomes of each, how many of its allocations its
-/// magazines have served, and the passes in the order of their numbers, each in no call.
+/// magazines have served, and the passes in the order of their numbers, each in no call and with no block's
+/// words out.
 #[derive(Drop)]
 pub struct CachedRun {
     pub outcomes: Vec<Vec<Outcome>>,
@@ -268,6 +269,7 @@ pub fn run_through_caches<R: Threads + Wait + Sync, G: Gate + Sync>(
     requires few { depth ≤ 64 }
     ensures ran { IfOk result (λ run. HaveRunThrough trace.now heap.now depth run.passes.items (map (λ lane. lane.items) run.outcomes.items) run.hits.items) }
     ensures idle { IfOk result (λ run. AreAllIdle heap.now run.passes.items) }
+    ensures home { IfOk result (λ run. All (λ pass. pass.out ≡ 0) run.passes.items) }
     ensures passed { OnOk result (AllPassed (G.passed gate.now) trace.now.lanes) }
 {
     if trace.lanes.is_empty() {

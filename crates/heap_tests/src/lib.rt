@@ -8,3 +8,5 @@ mod both_ways;
 mod calls;
 #[cfg(test)]
 mod machine_calls;
+#[cfg(test)]
+mod memory;

@@ -1,5 +1,6 @@
 pub mod ClosedFits
 pub mod DrivenLemmas
+pub mod HomeLemmas
 pub mod OrderLemmas
 pub mod RunLanes
 pub mod RunLemmas

@@ -104,6 +104,10 @@ from-idle h k [] all = All-nil (λ p. IsOf h p × IsIdle p.errand)
 from-idle h k (p ∷ ps) all =
     All-cons (λ p. IsOf h p × IsIdle p.errand) p ps (all.0.of, fresh-idle h p all.0) (from-idle h (suc k) ps all.2)
 
+pub from-home : (h : Heap) (k : ℕ) (ps : List Pass) → AreFrom h k ps → All (λ p. p.out ≡ 0) ps
+from-home h k [] all = All-nil (λ (p : Pass). p.out ≡ 0)
+from-home h k (p ∷ ps) all = All-cons (λ (p : Pass). p.out ≡ 0) p ps all.0.home (from-home h (suc k) ps all.2)
+
 -- a new lane with the pass of its caller
 pub ready :
     (trace : Trace) (h : Heap) (k : ℕ) (p : Pass) (lane : LaneState Block) → k < length trace.lanes → IsFresh h p → p.errand.caller ≡ k
@@ -113,6 +117,7 @@ ready trace h k p lane has fresh caller new = record {
   has = has;
   over = record {
     of = fresh.of;
+    home = fresh.home;
     caller = new.caller_is ∙ sym caller;
     stands =
         lane-new (heap_at h p) k (operations_in trace k) lane new
@@ -230,6 +235,7 @@ done-ended trace h k t done =
     let registers = held_blocks (λ (block : Block). block.place) (λ (block : Block). block.need) t.lane.registers.items in
     record {
       of = o.of;
+      home = o.home;
       caller = sym o.caller ∙ done.number;
       registers = registers;
       rule =
@@ -288,6 +294,14 @@ ended-idle trace h k (p ∷ ps) (o ∷ os) all =
       (lane-between h.layout k (seen p) p.errand (operations_in trace k) e.registers o.items stage.Between e.rule refl).0,
     )
     (ended-idle trace h (suc k) ps os all.1)
+
+pub ended-home :
+    (trace : Trace) (h : Heap) (k : ℕ) (ps : List Pass) (os : List (Vec Outcome Global)) → AreEnded trace h k ps os → All (λ p. p.out ≡ 0) ps
+ended-home trace h k [] [] all = All-nil (λ (p : Pass). p.out ≡ 0)
+ended-home trace h k [] (o ∷ os) all = absurd all
+ended-home trace h k (p ∷ ps) [] all = absurd all
+ended-home trace h k (p ∷ ps) (o ∷ os) all =
+    All-cons (λ (p : Pass). p.out ≡ 0) p ps all.0.home (ended-home trace h (suc k) ps os all.1)
 
 -- a trace that isn't without a lane has one
 pub some-lane : (lanes : List (List Op)) (empty : Bool) → IsTrue empty ↔ (lanes ≡ []) → empty ≡ false → 0 < length lanes

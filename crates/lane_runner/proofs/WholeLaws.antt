@@ -18,7 +18,7 @@ use Rattle.live_heap.specs.declared.heap.Heap.{Heap}
 use Rattle.live_heap.specs.declared.pass.Pass.{Pass}
 use Rattle.live_heap.specs.Answers.{IsSpentAtOnce}
 use Rattle.live_heap.specs.Calls.{HasCalled}
-use Rattle.live_heap.specs.Passes.{seen}
+use Rattle.live_heap.specs.Passes.{OwnsAt, seen}
 use Rattle.live_heap.specs.Whole.{IsAtRest, MadeByPass, by_steps, at_once}
 use Rattle.trace_text.specs.declared.limits.TheConstants.{REGISTERS}
 use Rattle.trace_text.specs.declared.trace.Op.{Op}
@@ -46,6 +46,7 @@ use Rattle.live_heap.specs.declared.block.Block.{Block}
 use Rattle.trace_lane.specs.Scripts.{registers_from}
 use Rattle.trace_lane.proofs.BeginLemmas.{IsSkipped, begin-alloc, begin-check, begin-fill, begin-skips, owned-words}
 use Rattle.trace_lane.proofs.LaneAnswers.{alloc-given_so, held-here}
+use Rattle.lane_runner.proofs.HomeLemmas.{all-home, lent-kept}
 use Rattle.lane_runner.proofs.WholeOps.{HasNeed, StandsAt, begun, begun-at, free-stands, last-in, put-stands, put_full-stands, refused-stands, served-last, serves-held, spent-stands, spent_at_once-stands, step-of, to-pass}
 use Rattle.lane_runner.proofs.WholeResize.{kept-stands, resized-stands, respent-stands, respent_at_once-stands, unresized-stands}
 use Rattle.lane_runner.proofs.WholeSteps.{alloc-started, doing-in, need_in, place_in}
@@ -57,7 +58,7 @@ pub leads-pass :
     → (f.heap.now ≡ h) × LeadsBy (WholeAt h) e.pass.now made f.pass.now
 leads-pass h e f [] here leads =
     (ap (λ (x : PassCalls). x.heap.now) leads ∙ here, ap (λ (x : PassCalls). x.pass.now) leads)
-leads-pass h e f (m ∷ made) here (g, (one, owned, same, rests), leads) =
+leads-pass h e f (m ∷ made) here (g, (of, (one, owned, same, rests)), leads) =
     let there : g.heap.now ≡ h = same ∙ here in
     let more = leads-pass h g f made there leads in
     (more.0, (g.pass.now, (one, owned, subst (λ k. IsAtRest k g.pass.now) there rests), more.1))
@@ -185,10 +186,10 @@ module _ (h : Heap) (operations rest : List Op) (results : List Outcome) (regist
       let so : LeadsBy (WholeAt h) p (wrote held.place need v (suc some.0)) q =
       subst (λ n. LeadsBy (WholeAt h) p (wrote held.place need v n) q) (sym some.1) leads in
       let call = write held.place need 0 ((v + 0) % 2 ^ 64) in
-      let serves = serves-held h p held need rests so.1.1 words in
+      let serves = serves-held h p held need rests so.1.1.0 words in
       fill-walk h operations rest results registers held need words r full lane.size within v some.0 0 p q next (from-zero (suc some.0) held.words some.1) rests
       (begin-fill h.layout (seen p) p.errand (begun_by p.errand call) operations registers results rest lane rests.0.served r v held need next full
-      serves (begun-at h p call rests so.1.1)) so
+      serves (begun-at h p call rests so.1.1.0)) so
 
   checked : (r total : ℕ) (held : Held) (need : Need) (words : List ℕ) → drop (length results) operations ≡ op.Check r ∷ rest
       → held_in registers r ≡ Some held → r < REGISTERS → HasNeed held need → length words ≡ held.words → total ≡ sum words % 2 ^ 64
@@ -197,10 +198,10 @@ module _ (h : Heap) (operations rest : List Op) (results : List Outcome) (regist
       let some = some-words r held full in absurd (omega (arith, all, some.1))
   checked r total held need (w ∷ words) next full within words_are all total_is leads =
       let call = read held.place need 0 in
-      let serves = serves-held h p held need rests leads.1.1 words_are in
+      let serves = serves-held h p held need rests leads.1.1.0 words_are in
       let walk = check-walk h operations rest results registers held need words_are r full lane.size within words w 0 0 p q next (from-zero (length (w ∷ words)) held.words all) rests
       (begin-check h.layout (seen p) p.errand (begun_by p.errand call) operations registers results rest lane rests.0.served r held need next full
-      serves (begun-at h p call rests leads.1.1)) leads in
+      serves (begun-at h p call rests leads.1.1.0)) leads in
       let none : 0 + sum (w ∷ words) ≡ sum (w ∷ words) = omega arith in
       subst (λ s. StandsAt h q operations registers (results ++ outcome.Sum s ∷ [])) (ap (λ n. n % 2 ^ 64) none ∙ sym total_is) walk
 
@@ -363,7 +364,7 @@ pub whole-run :
     (passed : ℕ → ℕ → Type 0) (h : Heap) (operations : List Op) (e f : PassCalls) (p : Pass) (old new : LaneState Block) → All IsOp operations
     → StandsOver h operations p old → old.stage ≡ stage.Between → e.pass.now ≡ p → e.heap.now ≡ h → IsAtRest f.heap.now f.pass.now
     → HoldsBlocks (λ (block : Block). block.place) (λ (block : Block). block.need)
-    (λ place need. OwnsAfter (seen f.pass.now) f.pass.now.errand.caller place need) new.registers.items
+    (OwnsAt f.pass.now) new.registers.items
     → HasRun (λ (block : Block). block.place) (λ (block : Block). block.need) pass_maker.called operations e f old new
     → length new.outcomes.items ≡ length operations
     → (FirstPassed passed old.caller (length old.outcomes.items) → FirstPassed passed old.caller (length operations))
@@ -394,13 +395,15 @@ whole-run passed h operations e f p old new ops over between same_pass same_heap
     record {
       over = record {
         of = stood.0.0;
+        home =
+            sym stood.0.0.counted ∙ ap length (lent-kept h regs left ran.results p f.pass.now all_made) ∙ over.of.counted ∙ over.home;
         caller = same_caller;
         stands = record {
           stands =
               subst (IsLane h.layout new.caller (seen f.pass.now) f.pass.now.errand operations (held_blocks place_of block_need new.registers.items)
               new.outcomes.items) (sym still) by_new;
           owned = λ r block full.
-              subst (λ c. OwnsAfter (seen f.pass.now) c block.place block.need) (sym same_caller) (holds.owned r block full);
+              subst (λ c. OwnsAfter (seen f.pass.now) c block.place block.need) (sym same_caller) (holds.owned r block full).0;
           room = subst (λ n. length operations ≤ n) (sym ran.room) over.stands.room;
         };
       };
@@ -419,16 +422,17 @@ whole-run passed h operations e f p old new ops over between same_pass same_heap
 -- what a lane that stands holds
 pub whole-holds :
     (h : Heap) (operations : List Op) (p : Pass) (lane : LaneState Block) → StandsOver h operations p lane
-    → HoldsBlocks (λ (block : Block). block.place) (λ (block : Block). block.need) (λ place need. OwnsAfter (seen p) p.errand.caller place need)
-    lane.registers.items
+    → HoldsBlocks (λ (block : Block). block.place) (λ (block : Block). block.need) (OwnsAt p) lane.registers.items
 whole-holds h operations p lane over =
     let place_of = λ (block : Block). block.place in
     let block_need = λ (block : Block). block.need in
     let stands = over.stands.stands in
     record {
       size = sym (blocks-size place_of block_need lane.registers.items) ∙ stands.size;
-      owned = λ r block full.
-          subst (λ c. OwnsAfter (seen p) c block.place block.need) over.caller (over.stands.owned r block full);
+      owned = λ r block full. (
+        subst (λ c. OwnsAfter (seen p) c block.place block.need) over.caller (over.stands.owned r block full),
+        all-home h p block.place over.of over.home,
+      );
       once = λ r q block other one two differ.
           stands.holds.once r q (held_by place_of block_need block) (held_by place_of block_need other)
           (slot-full place_of block_need lane.registers.items r block one) (slot-full place_of block_need lane.registers.items q other two) differ;

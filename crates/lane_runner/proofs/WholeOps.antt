@@ -116,7 +116,7 @@ free-stands h operations rest results registers r held need p q steps next rests
     let now = slice_set registers r None in
     let served = rests.0.served in
     let lane0 = begin-free h.layout (seen p) p.errand (begun_by p.errand call) operations registers results rest lane served r held need next full
-    (serves-held h p held need rests owned words) (begun h operations (op.Free r) rest results next p q rests of call steps reply.Freed owned called) in
+    (serves-held h p held need rests owned.0 words) (begun h operations (op.Free r) rest results next p q rests of call steps reply.Freed owned called) in
     let i = last-in h operations (op.Free r) rest results next p q rests of call steps reply.Freed owned called now stage.Calling lane0 in
     let so = free-ends_so place_in need_in h.layout called.last q.errand called.sight (seen q) operations now results i.heap
     (served-last h operations (op.Free r) rest results next p q rests of call steps reply.Freed owned called) rest r stage.Calling i.lane next
@@ -138,7 +138,7 @@ put-stands h operations rest results registers r shelf held need p q steps next 
     let now = slice_set registers r None in
     let served = rests.0.served in
     let lane0 = begin-put h.layout (seen p) p.errand (begun_by p.errand call) operations registers results rest lane served r shelf held need next full
-    (serves-held h p held need rests owned words) (begun h operations o rest results next p q rests of call steps reply.Put owned called) in
+    (serves-held h p held need rests owned.0 words) (begun h operations o rest results next p q rests of call steps reply.Put owned called) in
     let i = last-in h operations o rest results next p q rests of call steps reply.Put owned called now stage.Calling lane0 in
     let so = put-puts place_in need_in h.layout called.last q.errand called.sight (seen q) operations now results i.heap
     (served-last h operations o rest results next p q rests of call steps reply.Put owned called).legal rest r shelf stage.Calling i.lane next
@@ -167,7 +167,7 @@ put_full-stands h operations rest results registers r shelf found held need p q 
     let served = rests.0.served in
     let started = begun h operations o rest results next p q rests of call steps answer owned called in
     let lane0 = begin-put h.layout (seen p) p.errand (begun_by p.errand call) operations registers results rest lane served r shelf held need next full
-    (serves-held h p held need rests owned words) started in
+    (serves-held h p held need rests owned.0 words) started in
     let i = last-in h operations o rest results next p q rests of call steps answer owned called now stage.Calling lane0 in
     let block : Offer = record { place = held.place; need = need } in
     let way = steps-under steps (begun_by p.errand call) called.last (seen p) called.sight call []

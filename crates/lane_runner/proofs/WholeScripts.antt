@@ -103,7 +103,7 @@ module _ (h : Heap) (operations rest : List Op) (results : List Outcome) (regist
       let some = some-words h operations rest results registers p q rests lane r held is in
       let so : LeadsBy (WholeAt h) p (wrote held.place need v (suc some.0)) q =
       subst (λ n. LeadsBy (WholeAt h) p (wrote held.place need v n) q) (sym some.1) (subst (λ ms. LeadsBy (WholeAt h) p ms q) calls leads) in
-      on-held r held need (λ held need. writes_of held need v) made is (serves-held h p held need rests so.1.1 words)
+      on-held r held need (λ held need. writes_of held need v) made is (serves-held h p held need rests so.1.1.0 words)
       (ap calls_made calls ∙ wrote-script held need v)
 
   checked-script :
@@ -114,7 +114,7 @@ module _ (h : Heap) (operations rest : List Op) (results : List Outcome) (regist
       let some = some-words h operations rest results registers p q rests lane r held is in absurd (omega (arith, all, some.1))
   checked-script r held need (word ∷ words) made is words_are all calls leads =
       let so = subst (λ ms. LeadsBy (WholeAt h) p ms q) calls leads in
-      on-held r held need reads_of made is (serves-held h p held need rests so.1.1 words_are)
+      on-held r held need reads_of made is (serves-held h p held need rests so.1.1.0 words_are)
       (ap calls_made calls ∙ found-calls held.place need 0 (word ∷ words)
       ∙ ap (λ n. map (λ i. read held.place need i) (range_with_len 0 n)) all)
 
@@ -162,18 +162,18 @@ module _ (h : Heap) (operations rest : List Op) (results : List Outcome) (regist
   op-script (op.Alloc r need v) outcome.Spent None made is calls leads = ap calls_made calls
   op-script (op.Free r) outcome.Freed (Some held) made is (words, calls) leads =
       let so = subst (λ ms. LeadsBy (WholeAt h) p ms q) calls leads in
-      one-script r held held.need (λ held need. free held.place need) reply.Freed made is (serves-held h p held held.need rests so.1.1 (words, refl)) calls
+      one-script r held held.need (λ held need. free held.place need) reply.Freed made is (serves-held h p held held.need rests so.1.1.0 (words, refl)) calls
   op-script (op.Fill r v) outcome.Filled (Some held) made is (words, calls) leads = filled-script r v held held.need made is (words, refl) calls leads
   op-script (op.Check r) (outcome.Sum total) (Some held) made is (words_are, (words, all, total_is, calls)) leads =
       checked-script r held held.need words made is (words_are, refl) all calls leads
   op-script (op.Put r shelf) outcome.Put (Some held) made is (words, calls) leads =
       let so = subst (λ ms. LeadsBy (WholeAt h) p ms q) calls leads in
       one-script r held held.need (λ held need. put held.place need shelf) reply.Put made is
-      (serves-held h p held held.need rests so.1.1 (words, refl)) calls
+      (serves-held h p held held.need rests so.1.1.0 (words, refl)) calls
   op-script (op.Put r shelf) outcome.ShelfFull (Some held) made is (words, (found, calls)) leads =
       let so = subst (λ ms. LeadsBy (WholeAt h) p ms q) calls leads in
       one-script r held held.need (λ held need. put held.place need shelf) (reply.Full found) made is
-      (serves-held h p held held.need rests so.1.1 (words, refl)) calls
+      (serves-held h p held held.need rests so.1.1.0 (words, refl)) calls
   op-script (op.Take r shelf) (outcome.Took words place need) None made is (misses, are, words_are, calls) leads =
       (length misses, ap calls_made calls ∙ misses-script shelf misses (reply.Got place need) are)
   op-script (op.Take r shelf) outcome.ShelfEmpty None made is (misses, are, calls) leads =

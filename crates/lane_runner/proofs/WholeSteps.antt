@@ -142,10 +142,10 @@ alloc-started e words idle busy =
 -- a call of a pass may begin
 pub may-call : (p : Pass) (call : Call) → IsIdle p.errand → OwnsFor p call → IsBusy (begun_by p.errand call) → MayCall p.errand (seen p) call
 may-call p (alloc words) idle owned busy = alloc-started p.errand words idle busy
-may-call p (free place need) idle owned busy = owned
-may-call p (write place need i value) idle owned busy = owned
-may-call p (read place need i) idle owned busy = owned
-may-call p (put place need shelf) idle owned busy = owned
+may-call p (free place need) idle owned busy = owned.0
+may-call p (write place need i value) idle owned busy = owned.0
+may-call p (read place need i) idle owned busy = owned.0
+may-call p (put place need shelf) idle owned busy = owned.0
 may-call p (take shelf) idle owned busy = tt
 
 -- a call of a pass that has ended has begun

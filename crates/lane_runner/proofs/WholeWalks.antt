@@ -171,9 +171,9 @@ module _ (h : Heap) (operations rest : List Op) (results : List Outcome) (regist
         let doing = doing-in h.layout operations o rest results next made.1.last made.1.sight registers at inn in
         let same : held ≡ doing.0 = some-same held doing.0 (held_in registers r) full doing.2 in
         let inside : i + 1 < doing.0.words = subst (λ (x : Held). i + 1 < x.words) same (omega (arith, left)) in
-        let serves : IsOfNeed doing.0 need = subst (λ (x : Held). IsOfNeed x need) same (serves-held h t held need one.2 leads.1.1 words_are) in
+        let serves : IsOfNeed doing.0 need = subst (λ (x : Held). IsOfNeed x need) same (serves-held h t held need one.2 leads.1.1.0 words_are) in
         let starts = subst (λ (x : Held). HasBegun t.errand (begun_by t.errand then) (write x.place need (i + 1) ((v + (i + 1)) % 2 ^ 64))) same
-        (begun-at h t then one.2 leads.1.1) in
+        (begun-at h t then one.2 leads.1.1.0) in
         let so = fill-goes_so place_in need_in h.layout made.1.last t.errand made.1.sight (seen t) operations registers results inn.heap
         (served-last h operations o rest results next p t rests one.2.0 call made.0 reply.Wrote one.1 made.1) rest (begun_by t.errand then) r v i need
         inn.lane next doing
@@ -229,9 +229,9 @@ module _ (h : Heap) (operations rest : List Op) (results : List Outcome) (regist
         let later : suc i ≡ i + 1 = omega arith in
         let leads_so : LeadsBy (WholeAt h) t (found_from held.place need (i + 1) (w2 ∷ words)) q =
         subst (λ k. LeadsBy (WholeAt h) t (found_from held.place need k (w2 ∷ words)) q) later leads in
-        let serves : IsOfNeed doing.0 need = subst (λ (x : Held). IsOfNeed x need) same (serves-held h t held need one.2 leads_so.1.1 words_are) in
+        let serves : IsOfNeed doing.0 need = subst (λ (x : Held). IsOfNeed x need) same (serves-held h t held need one.2 leads_so.1.1.0 words_are) in
         let starts = subst (λ (x : Held). HasBegun t.errand (begun_by t.errand then) (read x.place need (i + 1))) same
-        (begun-at h t then one.2 leads_so.1.1) in
+        (begun-at h t then one.2 leads_so.1.1.0) in
         let so = check-on_lane h.layout made.1.last t.errand made.1.sight (seen t) operations registers results i total inn.lane inn.heap
         (served-last h operations o rest results next p t rests one.2.0 call made.0 answer one.1 made.1).legal rest r next doing w found need
         (begun_by t.errand then) serves inside starts in
@@ -280,9 +280,9 @@ module _ (h : Heap) (operations rest : List Op) (results : List Outcome) (regist
         let doing = doing-in h.layout operations o rest results next made.1.last made.1.sight registers at inn in
         let same : held ≡ doing.0 = given-same inn.lane.position.registers doing.0 doing.2 in
         let inside : i + 1 < doing.0.words = subst (λ (x : Held). i + 1 < x.words) same (omega (arith, left)) in
-        let serves : IsOfNeed doing.0 need = subst (λ (x : Held). IsOfNeed x need) same (serves-held h t held need one.2 leads.1.1 words_are) in
+        let serves : IsOfNeed doing.0 need = subst (λ (x : Held). IsOfNeed x need) same (serves-held h t held need one.2 leads.1.1.0 words_are) in
         let starts = subst (λ (x : Held). HasBegun t.errand (begun_by t.errand then) (write x.place need (i + 1) ((v + (i + 1)) % 2 ^ 64))) same
-        (begun-at h t then one.2 leads.1.1) in
+        (begun-at h t then one.2 leads.1.1.0) in
         let so = alloc-goes_so place_in need_in h.layout made.1.last t.errand made.1.sight (seen t) operations registers results inn.heap
         (served-last h operations o rest results next p t rests one.2.0 call made.0 reply.Wrote one.1 made.1) rest (begun_by t.errand then) r asked v i need
         inn.lane next doing

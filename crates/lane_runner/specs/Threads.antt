@@ -38,9 +38,10 @@ pub record HasMadeCalls (h : Heap) (operations : List Op) (lane : ℕ) (outcomes
   pub caller : first.errand.caller ≡ lane
   pub made : AllMade (WholeAt h) (replicate REGISTERS None) operations outcomes first p
 
--- a pass whose lane has ended with these outcomes
+-- a pass whose lane has ended with these outcomes; it has no block's words out
 pub record HasEndedOver (h : Heap) (operations : List Op) (lane : ℕ) (p : Pass) (outcomes : List Outcome) : Type 0 where
   pub of : IsOf h p
+  pub home : p.out ≡ 0
   pub caller : p.errand.caller ≡ lane
   pub registers : List (Option Held)
   pub rule : IsLane h.layout lane (seen p) p.errand operations registers outcomes stage.Between
@@ -57,9 +58,10 @@ pub record HaveRun (trace : Trace) (h : Heap) (passes : List Pass) (outcomes : L
   pub rest :
       (k : ℕ) (p : Pass) → length trace.lanes ≤ k → k < length passes → p ≡ slice_index_or passes k p → IsFresh h p × (p.errand.caller ≡ k)
 
--- a lane of these operations stands by its rule over what the pass of its caller has seen
+-- a lane of these operations stands by its rule over what the pass of its caller has seen; the pass has no block's words out
 pub record StandsOver (h : Heap) (operations : List Op) (p : Pass) (lane : LaneState Block) : Type 0 where
   pub of : IsOf h p
+  pub home : p.out ≡ 0
   pub caller : lane.caller ≡ p.errand.caller
   pub stands : IsLaneOf (heap_at h p) operations lane
 

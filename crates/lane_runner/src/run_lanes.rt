@@ -188,7 +188,7 @@ fn take_back(
 }
 
 /// The lanes of a trace have run to their ends: the outcomes of each, and the passes in the order of
-/// their numbers, each in no call.
+/// their numbers, each in no call and with no block's words out.
 #[derive(Drop)]
 pub struct LanesRun {
     pub outcomes: Vec<Vec<Outcome>>,
@@ -219,6 +219,7 @@ pub fn run_lanes<R: Threads + Wait + Sync, G: Gate + Sync>(
     requires passes { AreFrom heap.now 0 passes.items × (length passes.items ≡ trace.now.heap.callers) }
     ensures ran { IfOk result (λ run. HaveRun trace.now heap.now run.passes.items (map (λ lane. lane.items) run.outcomes.items)) }
     ensures idle { IfOk result (λ run. AreAllIdle heap.now run.passes.items) }
+    ensures home { IfOk result (λ run. All (λ pass. pass.out ≡ 0) run.passes.items) }
     ensures passed { OnOk result (AllPassed (G.passed gate.now) trace.now.lanes) }
     ensures refused { IfErr result (λ refused. refused.passes.items ≡ passes.items) }
 {

@@ -16,11 +16,11 @@ use Rattle.errand_steps.specs.Errands.{ErrandFields, plan_of}
 use Rattle.live_heap.specs.declared.view.Standing.{Standing}
 use Rattle.live_heap.specs.declared.view.View.{View}
 use Rattle.live_heap.specs.Pieces.{IsReady, PiecesHold}
-use Rattle.live_heap.specs.Sights.{IsBegun, Saw}
+use Rattle.live_heap.specs.Sights.{AreApart, IsBegun, Saw}
 use Rattle.live_heap.proofs.Memory.{may-memory}
 
 module _ (key g : Geometry) (size id : ℕ) (me : region.Me View) (before : Standing) (e f : ErrandFields) (w : WordName) (index : ℕ)
-    (same : key ≡ g) (named : f ≡ e) (checked : IsChecked g) (one : me.0.callers ≡ before ∷ []) (b : IsBegun me.0.seen before.errand f) (busy : IsBusy f)
+    (same : key ≡ g) (named : f ≡ e) (checked : IsChecked g) (one : me.0.callers ≡ before ∷ []) (apart : AreApart me.0 f) (b : IsBegun me.0.seen before.errand f) (busy : IsBusy f)
     (ready : IsReady g f.point me.0) (there : index ≡ place g (word_index g w)) where
   may : (a : Action) → name_of a ≡ w → plan_of f ≡ a → region.Allows (PiecesHold key) size id me index (after_action a) (λ n. Saw e n me)
   may a on is =
@@ -30,7 +30,7 @@ module _ (key g : Geometry) (size id : ℕ) (me : region.Me View) (before : Stan
       subst K (sym same)
       (subst I (ap (λ (n : WordName). place g (word_index g n)) on ∙ sym there)
       (subst A (ap plan_of (sym named) ∙ is)
-      (may-memory g size id me before e checked one (subst (IsBegun me.0.seen before.errand) named b) (subst IsBusy named busy)
+      (may-memory g size id me before e checked one (subst (AreApart me.0) named apart) (subst (IsBegun me.0.seen before.errand) named b) (subst IsBusy named busy)
       (subst (λ (x : ErrandFields). IsReady g x.point me.0) named ready))))
 
   pub may-load : plan_of f ≡ Load w → region.Allows (PiecesHold key) size id me index (λ n. n) (λ n. Saw e n me)

@@ -14,7 +14,9 @@ use Rattle.live_heap.specs.declared.answers.AllocAnswer.TheVariants as alloc_ans
 use Rattle.live_heap.specs.declared.block.Block.{Block}
 use Rattle.live_heap.specs.declared.pass.Pass.{Pass}
 use Rattle.live_heap.specs.Answers.{AllocTells, alloc_answer_in, reply_in}
+use Rattle.live_heap.specs.declared.heap.Heap.{Heap}
 use Rattle.live_heap.specs.Calls.{GoesOn, IsCalling}
+use Rattle.live_heap.specs.Passes.{IsOf}
 use Rattle.live_heap.specs.Going.{in_call, stands_at}
 use Rattle.live_heap.proofs.CallsAnswers.{alloc-tells, ended-not_too_large, ends-since, interrupted-since}
 use Rattle.live_heap.proofs.CallsGrow.{alloc-calling}
@@ -23,7 +25,7 @@ use Rattle.live_heap.proofs.CallsGrow.{alloc-calling}
 pub allocs-from :
     (p : Pass) (words class : ℕ) (first : BlockPoint) (e : ErrandFields) → need_of words ≡ Small class → is_spent p.errand ≡ false
     → first ≡ LoadActive (seat_of p.errand class) → e ≡ record p.errand { turns = one_more p.errand.turns }
-    → stands_at (record { seat = p.seat; errand = e }) first (Alloc words) ≡ in_call p (alloc words)
+    → stands_at (record { seat = p.seat; errand = e; out = p.out }) first (Alloc words) ≡ in_call p (alloc words)
 unfolding alloc_begun
 allocs-from p words class first e small left is turned = rw (is, turned, small, left) refl
 
@@ -33,17 +35,17 @@ alloc-started e words class small left = rw (small, left) refl
 pub alloc-call : (p : Pass) (words class : ℕ) → IsIdle p.errand → need_of words ≡ Small class → is_spent p.errand ≡ false
     → IsCalling p (alloc words) 0 (in_call p (alloc words))
 alloc-call p words class idle small left =
-    alloc-calling p (in_call p (alloc words)) words (record { seat = refl; errand = refl }) idle (alloc-started p.errand words class small left)
+    alloc-calling p (in_call p (alloc words)) words (record { seat = refl; errand = refl; out = refl }) idle (alloc-started p.errand words class small left)
 
 -- what an allocation tells where it has gone on so since it began
 pub alloc-answers :
-    (p : Pass) (words tries : ℕ) (told : Option (Ending Block)) (q : Pass)
+    (h : Heap) (p : Pass) (words tries : ℕ) (told : Option (Ending Block)) (q : Pass) → IsOf h p → IsOf h q
     → GoesOn p (alloc words) 0 (in_call p (alloc words)) tries (reply_in told) q → AllocTells p words tries (alloc_answer_in told) q
-alloc-answers p words tries None q over =
-    interrupted-since p (in_call p (alloc words)) (alloc words) tries q (record { seat = refl; errand = refl }) over
-alloc-answers p words tries (Some told) q ends =
-    alloc-tells p words tries told q
-    (ends-since p (in_call p (alloc words)) (alloc words) tries q (record { seat = refl; errand = refl }) _ ends)
+alloc-answers h p words tries None q was of over =
+    interrupted-since p (in_call p (alloc words)) (alloc words) tries q (record { seat = refl; errand = refl; out = refl }) over
+alloc-answers h p words tries (Some told) q was of ends =
+    alloc-tells h p words tries told q was of
+    (ends-since p (in_call p (alloc words)) (alloc words) tries q (record { seat = refl; errand = refl; out = refl }) _ ends)
 
 pub answer-fits : (told : Option (Ending Block)) → alloc_answer_in told ≢ alloc_answers.TooLarge
 answer-fits None is = grind (arith)

@@ -1,5 +1,8 @@
 -- What a call that begins makes of a pass.
-use Rattle.std.proofs.Common.{ℕ, ◌≡◌, inl, inr, List, sym, ap, ◌∙◌, subst, arith}
+use Rattle.std.proofs.Common.{ℕ, ◌≡◌, inl, inr, List, sym, ap, ◌∙◌, subst, arith, refl}
+use Rattle.std.specs.Prelude.{Contains}
+use Rattle.heap_geometry.specs.declared.geometry.Geometry.{Geometry}
+use Rattle.pool_model.specs.Legal.{IsLegal}
 use Rattle.pool_model.specs.declared.event.Event.{Event}
 use Rattle.heap_geometry.specs.declared.need.Need.{Need}
 use Rattle.pool_model.specs.Pool.{pool_of}
@@ -8,7 +11,8 @@ use Rattle.pool_model.proofs.HistoryLemmas.{legal-weaker}
 use Rattle.pool_model.proofs.PoolLemmas.{every-each, place-found}
 use Rattle.pool_model.proofs.WellFormedLemmas.{sound-of}
 use Rattle.errand_steps.specs.Begins.{IsIdle, IsHeapBlock, alloc_begun, free_begun, write_begun, read_begun, put_begun, take_begun}
-use Rattle.errand_steps.specs.Calls.{Call, begun_by}
+use Rattle.errand_steps.specs.Calls.{Call, alloc, free, put, read, take, write, begun_by}
+use Rattle.call_events.specs.UnderWay.{IsAboutBlock}
 use Rattle.errand_steps.specs.Errands.{ErrandFields, IsErrand}
 use Rattle.sound_state.specs.Runs.{MayBegin}
 use Rattle.step_machine.specs.Cores.{OwnsAfter}
@@ -16,10 +20,12 @@ use Rattle.step_machine.specs.Moments.{IsServed}
 use Rattle.live_heap.specs.declared.block.Block.{Block}
 use Rattle.live_heap.specs.declared.heap.Heap.{Heap}
 use Rattle.live_heap.specs.declared.pass.Pass.{Pass}
-use Rattle.live_heap.specs.Passes.{IsOf, Owns, seen}
+use Rattle.owned_words.specs.Leaving.{IsAbout, concerned}
+use Rattle.owned_words.proofs.Concerned.{begins-concerned}
+use Rattle.live_heap.specs.Passes.{IsHome, IsOf, Owns, seen}
 use Rattle.live_heap.specs.Sights.{IsBegun, after_events}
-use Rattle.live_heap.proofs.LawsServed.{begun-lost, call-served}
-use Rattle.live_heap.proofs.Moves.{is_begun-caller}
+use Rattle.live_heap.proofs.LawsServed.{begun-lost, call-served, owned-here}
+use Rattle.live_heap.proofs.Moves.{begun-caller, is_begun-caller}
 
 -- a call that has begun nothing left the errand
 pub begun-idle : (e : ErrandFields) (call : Call) → IsIdle e → IsIdle (begun_by e call) → begun_by e call ≡ e
@@ -47,11 +53,26 @@ of-laid h p of = of.served.own_errand.geometry
 pub of-caller : (h : Heap) (p : Pass) (of : IsOf h p) → p.errand.caller ≡ of.before.errand.caller
 of-caller h p of = is_begun-caller (seen p) of.before.errand p.errand of.begun
 
+-- the block that a call is about is home
+abbrev pub CallsHome : Pass → Call → Type 0
+CallsHome p call = (place : ℕ) → IsAbout call place → IsHome p place
+
+-- a call that a caller may begin is about a block of the heap
+may-about : (g : Geometry) (events : List Event) (caller : ℕ) (call : Call) → IsLegal g events → MayBegin (after_events events) caller call → IsAboutBlock g call
+may-about g events caller (alloc words) legal may = tt
+may-about g events caller (free place need) legal may = owned-here g events caller place need legal may
+may-about g events caller (write place need i value) legal may = owned-here g events caller place need legal may.0
+may-about g events caller (read place need i) legal may = owned-here g events caller place need legal may.0
+may-about g events caller (put place need shelf) legal may = owned-here g events caller place need legal may.0
+may-about g events caller (take shelf) legal may = tt
+
 -- a pass that begins a call stays one of its heap
 pub begins-of :
-    (h : Heap) (p q : Pass) (call : Call) → IsOf h p → IsIdle p.errand → MayBegin (after_events (seen p)) p.errand.caller call
-    → q.seat ≡ p.seat → q.errand ≡ begun_by p.errand call → IsOf h q
-begins-of h p q call of idle may seat is =
+    (h : Heap) (p q : Pass) (call : Call) → IsOf h p → IsIdle p.errand → MayBegin (after_events (seen p)) p.errand.caller call → CallsHome p call
+    → q.seat ≡ p.seat → q.out ≡ p.out → q.errand ≡ begun_by p.errand call → IsOf h q
+begins-of h p q call of idle may home seat out is =
+    let number : q.errand.caller ≡ p.errand.caller = ap (λ (e : ErrandFields). e.caller) is ∙ begun-caller p.errand call in
+    let about = subst (λ g. IsAboutBlock g call) (sym (of-laid h p of)) (may-about h.layout (seen p) p.errand.caller call of.served.legal may) in
     rw seat
     (record {
       table = of.table;
@@ -63,6 +84,11 @@ begins-of h p q call of idle may seat is =
       served = subst (λ (e : ErrandFields). IsServed h.layout e.caller e (seen p)) (sym is) (call-served h.layout p.errand (seen p) call of.served idle may);
       alone = λ one. ap (λ (e : ErrandFields). e.lost) is ∙ begun-lost p.errand call ∙ of.alone one;
       settled = of.settled;
+      counted = of.counted ∙ sym out;
+      mine = λ n b found. subst (λ c. OwnsAfter (seen p) c b.place b.need) (sym number) (of.mine n b found);
+      apart = λ n b found concerns.
+          home b.place (begins-concerned p.errand call b.place idle about (subst (λ (e : ErrandFields). Contains (concerned e.point) b.place) is concerns)) n b found refl;
+      once = of.once;
     })
 
 -- a block that a pass owns is one of its heap
@@ -80,7 +106,7 @@ heap-at h p place need of owned =
     (subst (λ q. IsHeapBlock h.layout q b.need) at (formed.need, formed.place)))
 
 pub heap-block : (h : Heap) (p : Pass) (block : Block) → IsOf h p → Owns p block → IsHeapBlock p.errand.geometry block.place block.need
-heap-block h p block = heap-at h p block.place block.need
+heap-block h p block of owned = heap-at h p block.place block.need of owned.0
 
 -- the pass's errand keeps its rule
 pub of-rule : (h : Heap) (p : Pass) → IsOf h p → IsErrand p.errand

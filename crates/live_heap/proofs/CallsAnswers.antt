@@ -21,15 +21,18 @@ use Rattle.errand_steps.specs.Errands.{ErrandFields}
 use Rattle.errand_steps.proofs.SpentLemmas.{begins-at_limit}
 use Rattle.call_events.specs.Ends.{end_of}
 use Rattle.call_events.proofs.BeginsLemmas.{too_large-stays, spent-begins}
+use Rattle.step_machine.specs.Cores.{OwnsAfter}
 use Rattle.step_machine.specs.Moments.{IsMoment}
 use Rattle.step_machine.proofs.MomentAnswers.{moment-geometry, moment-given, moment-got, moment-meant}
 use Rattle.live_heap.specs.declared.answers.AllocAnswer.TheVariants as alloc_answers
 use Rattle.live_heap.specs.declared.block.Block.{Block}
+use Rattle.live_heap.specs.declared.heap.Heap.{Heap}
 use Rattle.live_heap.specs.declared.pass.Pass.{Pass}
 use Rattle.live_heap.specs.Answers.{AllocTells, FreeTells, HasBegun, HasStepped, IsAllocEnding, IsSpentAtOnce, IsTried, IsTriedEnding, ResumeTells, alloc_ended, progress_of, reply_of, resumed_ended}
 use Rattle.live_heap.specs.declared.answers.FreeAnswer.TheVariants as free_answers
 use Rattle.live_heap.specs.Calls.{EndsInTime, HasCalled, IsInterrupted, tries_of}
-use Rattle.live_heap.specs.Passes.{Owns, seen}
+use Rattle.live_heap.specs.Passes.{IsOf, Owns, seen}
+use Rattle.live_heap.proofs.LawsKept.{given-home, got-home}
 
 -- the moment of a step that came to this
 pub step-moment :
@@ -38,13 +41,22 @@ step-moment p q told same is stepped = subst (λ t. IsMoment p.errand q.errand (
 
 -- what a call that has ended so has come to
 module _ (first : Pass) (call : Call) (steps : ℕ) (q : Pass) where
-  pub given-owns : (block : Block) → HasCalled first call steps (reply.Given block.place block.need) q → Owns q block
-  given-owns block called =
-      moment-given called.last q.errand called.sight (seen q) (progress.Done (reply.Given block.place block.need)) called.moment block.place block.need refl
+  pub given-owns :
+      (h : Heap) → IsOf h first → IsOf h q → (block : Block) → HasCalled first call steps (reply.Given block.place block.need) q → Owns q block
+  given-owns h was of block called = (
+    moment-given called.last q.errand called.sight (seen q) (progress.Done (reply.Given block.place block.need)) called.moment block.place block.need refl,
+    given-home h first q call steps block.place block.need was of called,
+  )
 
-  pub got-owns : (block : Block) → HasCalled first call steps (reply.Got block.place block.need) q → Owns q block
-  got-owns block called =
+  pub got-has : (block : Block) → HasCalled first call steps (reply.Got block.place block.need) q → OwnsAfter (seen q) q.errand.caller block.place block.need
+  got-has block called =
       moment-got called.last q.errand called.sight (seen q) (progress.Done (reply.Got block.place block.need)) called.moment block.place block.need refl
+
+  pub got-owns : (h : Heap) → IsOf h first → IsOf h q → (block : Block) → HasCalled first call steps (reply.Got block.place block.need) q → Owns q block
+  got-owns h was of block called = (
+    got-has block called,
+    got-home h first q call steps block.place block.need was of called,
+  )
 
   pub spent-limit : HasCalled first call steps reply.Spent q → q.errand.turns ≡ q.errand.geometry.turn_limit
   spent-limit called =
@@ -114,12 +126,12 @@ module _ (p b : Pass) (call : Call) (tries : ℕ) (q : Pass) (since : HasBegun p
 
 -- what an allocation that has ended in time tells
 pub alloc-tells :
-    (p : Pass) (words tries : ℕ) (told : Ending Block) (q : Pass) → EndsInTime p (alloc words) 0 p tries (reply_of told) q
-    → AllocTells p words tries (alloc_ended told) q
-alloc-tells p words tries (ending.Given block) q ends = (ends, given-owns p (alloc words) ends.steps q block ends.called)
-alloc-tells p words tries ending.Refused q ends = ends
-alloc-tells p words tries ending.Spent q ends = inr (ends, spent-limit p (alloc words) ends.steps q ends.called)
-alloc-tells p words tries told q ends =
+    (h : Heap) (p : Pass) (words tries : ℕ) (told : Ending Block) (q : Pass) → IsOf h p → IsOf h q
+    → EndsInTime p (alloc words) 0 p tries (reply_of told) q → AllocTells p words tries (alloc_ended told) q
+alloc-tells h p words tries (ending.Given block) q was of ends = (ends, given-owns p (alloc words) ends.steps q h was of block ends.called)
+alloc-tells h p words tries ending.Refused q was of ends = ends
+alloc-tells h p words tries ending.Spent q was of ends = inr (ends, spent-limit p (alloc words) ends.steps q ends.called)
+alloc-tells h p words tries told q was of ends =
     absurd (let all = ends.called.ended.ended in ending-of_alloc words told all.0 all.1)
 
 -- what a free that has ended in time tells
@@ -133,13 +145,13 @@ free-tells p block tries told q ends =
 
 -- what a call that was resumed and has ended in time tells
 pub resume-tells :
-    (first : Pass) (call : Call) (made : ℕ) (p : Pass) (tries : ℕ) (told : Ending Block) (q : Pass) → IsTriedEnding told
-    → EndsInTime first call made p tries (reply_of told) q → ResumeTells first call made p tries (resumed_ended told) q
-resume-tells first call made p tries (ending.Given block) q tried ends = (ends, given-owns first call ends.steps q block ends.called)
-resume-tells first call made p tries ending.Freed q tried ends = ends
-resume-tells first call made p tries ending.Refused q tried ends = ends
-resume-tells first call made p tries ending.Spent q tried ends = (ends, spent-limit first call ends.steps q ends.called)
-resume-tells first call made p tries told q tried ends = absurd tried
+    (h : Heap) (first : Pass) (call : Call) (made : ℕ) (p : Pass) (tries : ℕ) (told : Ending Block) (q : Pass) → IsOf h first → IsOf h q
+    → IsTriedEnding told → EndsInTime first call made p tries (reply_of told) q → ResumeTells first call made p tries (resumed_ended told) q
+resume-tells h first call made p tries (ending.Given block) q was of tried ends = (ends, given-owns first call ends.steps q h was of block ends.called)
+resume-tells h first call made p tries ending.Freed q was of tried ends = ends
+resume-tells h first call made p tries ending.Refused q was of tried ends = ends
+resume-tells h first call made p tries ending.Spent q was of tried ends = (ends, spent-limit first call ends.steps q ends.called)
+resume-tells h first call made p tries told q was of tried ends = absurd tried
 
 -- where a need is too large no block has so many words
 need-too_large : (words : ℕ) → need_of words ≡ TooLarge → LARGE_MOST < words
@@ -165,11 +177,11 @@ pub too_large-begins : (e : ErrandFields) (words : ℕ) → LARGE_MOST < words �
 too_large-begins e words more = ap (begins_with e) (sym (need_of-is words TooLarge more))
 
 -- an allocation that has begun nothing leaves the pass
-pass-same : (p q : Pass) → q.seat ≡ p.seat → q.errand ≡ p.errand → q ≡ p
-pass-same p q seat errand = λ i. record { seat = seat i; errand = errand i }
+pass-same : (p q : Pass) → q.seat ≡ p.seat → q.errand ≡ p.errand → q.out ≡ p.out → q ≡ p
+pass-same p q seat errand out = λ i. record { seat = seat i; errand = errand i; out = out i }
 
 pub too_large-same : (p q : Pass) (words : ℕ) → alloc_answer p.errand words ≡ begun.TooLarge → HasBegun p (alloc words) q → q ≡ p
-too_large-same p q words is since = pass-same p q since.seat (since.errand ∙ too_large-stays p.errand words is)
+too_large-same p q words is since = pass-same p q since.seat (since.errand ∙ too_large-stays p.errand words is) since.out
 
 spent-small : (e : ErrandFields) (n : Need) → begins_with e n ≡ begun.Spent → (class : ℕ) × (n ≡ Small class)
 spent-small e (Small class) is = (class, refl)
@@ -180,7 +192,7 @@ pub spent-at_once :
     (p q : Pass) (words : ℕ) → alloc_answer p.errand words ≡ begun.Spent → HasBegun p (alloc words) q → IsSpentAtOnce p words q
 spent-at_once p q words is since =
     record {
-      same = pass-same p q since.seat (since.errand ∙ (spent-begins p.errand words is).0);
+      same = pass-same p q since.seat (since.errand ∙ (spent-begins p.errand words is).0) since.out;
       small = spent-small p.errand (need_of words) is;
       over = begins-at_limit p.errand words is;
     }

@@ -21,7 +21,7 @@ use Rattle.live_heap.specs.declared.heap.Heap.{Heap}
 use Rattle.live_heap.specs.declared.pass.Pass.{Pass}
 use Rattle.live_heap.specs.Calls.{EndsInTime, IsCalling, IsInterrupted, IsTry, tries_of}
 use Rattle.live_heap.specs.Going.{IsGoing}
-use Rattle.live_heap.specs.Passes.{IsOf, accesses, seen}
+use Rattle.live_heap.specs.Passes.{IsOf, IsOneStep, seen}
 use Rattle.live_heap.proofs.Begun.{of-laid}
 use Rattle.live_heap.proofs.Growing.{starts-on, starts-self}
 use Rattle.live_heap.proofs.LawsKept.{moment-grows}
@@ -186,7 +186,7 @@ module _ (h : Heap) (p : Pass) (tries left : ℕ) (q r : Pass) (of : IsOf h q) (
   further-less m =
       subst (λ g. steps_left g r.errand.point < steps_left g q.errand.point) heap (goes-further q.errand r.errand (seen q) (seen r) m).fewer
 
-  pub going-further : IsMoment q.errand r.errand (seen q) (seen r) More → accesses r ≡ suc (accesses q) → IsGoing h p tries left r
+  pub going-further : IsMoment q.errand r.errand (seen q) (seen r) More → IsOneStep q r → IsGoing h p tries left r
   going-further m access =
       let goes = goes-further q.errand r.errand (seen q) (seen r) m in
       let less = further-less m in
@@ -210,7 +210,7 @@ module _ (h : Heap) (p : Pass) (tries left : ℕ) (q r : Pass) (of : IsOf h q) (
 
   pub going-again :
       (answer : Progress) (rest : ℕ) → rest + 1 ≡ left → IsMoment q.errand r.errand (seen q) (seen r) answer
-      → accesses r ≡ suc (accesses q) → IsTry answer → GoesAgain q.errand r.errand → IsGoing h p tries rest r
+      → IsOneStep q r → IsTry answer → GoesAgain q.errand r.errand → IsGoing h p tries rest r
   going-again answer rest one m access tried goes =
       let short = again-short goes in
       let more : r.errand.lost < 2 ^ 64 - 1 → tries_of r.errand + rest ≡ tries_of p.errand + tries =
@@ -240,7 +240,7 @@ module _ (h : Heap) (p : Pass) (tries left : ℕ) (q r : Pass) (of : IsOf h q) (
 
   -- the step that ends the call ends it in time
   pub going-ends :
-      (a : Reply) → IsMoment q.errand r.errand (seen q) (seen r) (Done a) → accesses r ≡ suc (accesses q)
+      (a : Reply) → IsMoment q.errand r.errand (seen q) (seen r) (Done a) → IsOneStep q r
       → (first : Pass) (call : Call) (made : ℕ) → IsCalling first call made p → EndsInTime first call made p tries a r
   going-ends a m access first call made c =
       let g = i.calls first call made c in

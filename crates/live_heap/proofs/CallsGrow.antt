@@ -37,7 +37,7 @@ use Rattle.live_heap.specs.declared.pass.Pass.{Pass}
 use Rattle.live_heap.specs.declared.view.View.{View}
 use Rattle.live_heap.specs.Answers.{HasBegun}
 use Rattle.live_heap.specs.Calls.{HasCalled, IsCalling}
-use Rattle.live_heap.specs.Passes.{accesses, accesses_of, seen}
+use Rattle.live_heap.specs.Passes.{IsOneStep, accesses_of, seen}
 use Rattle.live_heap.proofs.Growing.{own-more}
 use Rattle.live_heap.proofs.Moves.{begun-caller}
 
@@ -123,6 +123,7 @@ begins-calling p q call since idle about busy =
       caller = ap (λ (e : ErrandFields). e.caller) since.errand ∙ begun-caller p.errand call;
       on = (since.errand, sees);
       accesses = omega (arith, ap (λ (s : Seat View). accesses_of s.me.0.callers) since.seat);
+      lent = ap (λ (s : Seat View). s.me.0.lent) since.seat;
       busy = busy;
       added = [];
       events = ap (own p.errand.caller) sees ∙ sym (append-nil (own p.errand.caller (seen p)));
@@ -147,7 +148,7 @@ other-calling p q call since idle about other =
 -- a step of a pass that is in a call
 module _
     (first : Pass) (call : Call) (steps : ℕ) (p q : Pass) (answer : Progress) (m : IsMoment p.errand q.errand (seen p) (seen q) answer)
-    (one : accesses q ≡ suc (accesses p)) (c : IsCalling first call steps p) where
+    (one : IsOneStep p q) (c : IsCalling first call steps p) where
   abbrev s : IsSettled p.errand q.errand (seen p) (seen q) answer
   s = settled-of p.errand q.errand (seen p) (seen q) answer m
 
@@ -179,7 +180,8 @@ module _
         record {
           caller = same_caller;
           on = (p.errand, seen p, answer, c.on, m, still);
-          accesses = omega (arith, one, c.accesses);
+          accesses = omega (arith, one.0, c.accesses);
+          lent = one.1 ∙ c.lent;
           busy = still;
           added = all;
           events = grown;
@@ -205,7 +207,8 @@ module _
       sight = seen p;
       on = c.on;
       moment = subst (IsMoment p.errand q.errand (seen p) (seen q)) is m;
-      accesses = omega (arith, one, c.accesses);
+      accesses = omega (arith, one.0, c.accesses);
+      lent = one.1 ∙ c.lent;
       added = all;
       events = grown;
       ended =

@@ -50,8 +50,9 @@ use Rattle.live_heap.specs.declared.block.Block.{Block}
 use Rattle.live_heap.specs.declared.pass.Pass.{Pass}
 use Rattle.live_heap.specs.Answers.{HasBegun, HasStepped, IsContents, LiesOn, PutTellsFull, progress_of, reply_of, with_lost}
 use Rattle.live_heap.specs.Calls.{HasCalled, IsCalling}
-use Rattle.live_heap.specs.Passes.{Owns, seen}
+use Rattle.live_heap.specs.Passes.{IsHome, Owns, seen}
 use Rattle.live_heap.proofs.CallsAnswers.{step-moment}
+use Rattle.live_heap.proofs.LawsKept.{stays-home}
 use Rattle.live_heap.proofs.CallsCounts.{goes-further, more-undone}
 use Rattle.live_heap.proofs.CallsGrow.{IsSettled, settled-of, calls-go_on, calls-end}
 
@@ -112,7 +113,7 @@ pub ends-one :
     (first : Pass) (call : Call) (steps : ℕ) (p q : Pass) (told : Stepped Block) (end : Ending Block) → told ≡ step.Done end → HasStepped p q told
     → IsCalling first call steps p → HasCalled first call steps (reply_of end) q
 ends-one first call steps p q told end is stepped calling =
-    (calls-end first call steps p q (progress.Done (reply_of end)) (step-moment p q told (step.Done end) is stepped) stepped.accesses calling (reply_of end) refl).0
+    (calls-end first call steps p q (progress.Done (reply_of end)) (step-moment p q told (step.Done end) is stepped) (stepped.accesses, stepped.lent) calling (reply_of end) refl).0
 
 -- a step that leads to an end tells the ending
 ends-told :
@@ -304,9 +305,9 @@ full-found b q place need shelf o told block found is at stepped =
 -- a put that found a full shelf has its block back, still the pass's; and another one lies on the shelf
 pub full-tells :
     (p b q : Pass) (place : ℕ) (need : Need) (shelf steps : ℕ) (told : Stepped Block) (block : Block) (found : ℕ) → told ≡ step.Done (ending.Full block found)
-    → HasStepped b q told → IsCalling p (put place need shelf) steps b
+    → HasStepped b q told → IsCalling p (put place need shelf) steps b → IsHome b place
     → (block.place ≡ place) × (block.need ≡ need) × Owns q block × LiesOn q shelf found × (found ≢ 0)
-full-tells p b q place need shelf steps told block found is stepped calling =
+full-tells p b q place need shelf steps told block found is stepped calling home =
     let r : Reply = reply.Full found in
     let s : HasStepped b q (step.Done (ending.Full block found)) = subst (HasStepped b q) is stepped in
     let says = moment-meant b.errand q.errand (seen b) (seen q) (progress.Done r) s.moment r refl in
@@ -324,7 +325,10 @@ full-tells p b q place need shelf steps told block found is stepped calling =
     let holds = says.5 in (
       place_is,
       need_is,
-      subst (O block.place) (sym need_is) (subst (λ k. O k need) (sym place_is) mine),
+      (
+        subst (O block.place) (sym need_is) (subst (λ k. O k need) (sym place_is) mine),
+        stays-home b q block.place stepped.lent (subst (IsHome b) (sym place_is) home),
+      ),
       (
         holds.0,
         subst (λ h. block_at holds.0.place (pool_of h) ≡ Some holds.0) s.moment.now holds.1,
@@ -336,9 +340,10 @@ full-tells p b q place need shelf steps told block found is stepped calling =
 
 pub put-full :
     (p b q : Pass) (block : Block) (shelf : ℕ) (told : Stepped Block) (full : Full) → told ≡ step.Done (ending.Full full.block full.found)
-    → HasStepped b q told → IsCalling p (put block.place block.need shelf) 0 b → PutTellsFull p block shelf full q
-put-full p b q block shelf told full is stepped calling =
-    let tells = full-tells p b q block.place block.need shelf 0 told full.block full.found is stepped calling in
+    → HasStepped b q told → IsCalling p (put block.place block.need shelf) 0 b → IsHome p block.place → PutTellsFull p block shelf full q
+put-full p b q block shelf told full is stepped calling home =
+    let tells = full-tells p b q block.place block.need shelf 0 told full.block full.found is stepped calling
+    (stays-home p b block.place calling.lent home) in
     record {
       called = ends-one p (put block.place block.need shelf) 0 b q told (ending.Full full.block full.found) is stepped calling;
       same = block-same full.block block tells.0 tells.1;
@@ -411,7 +416,7 @@ pub take-goes_on :
 take-goes_on p b a shelf told since stepped calling =
     let more = first-more p b a shelf told since stepped in
     let m = step-moment b a told step.More more stepped in
-    let on = calls-go_on p (take shelf) 0 b a progress.More m stepped.accesses calling more-undone in
+    let on = calls-go_on p (take shelf) 0 b a progress.More m (stepped.accesses, stepped.lent) calling more-undone in
     (on, second-stands p.errand.caller shelf p.errand b.errand a.errand (seen b) (seen a) on.added progress.More since.errand m on.under_way)
 
 -- how a take has ended

@@ -1,7 +1,7 @@
 -- The two steps by which a piece is laid: its mark is claimed, which takes its words out where they were never laid; and they come back as zeros.
-use Rattle.std.proofs.Common.{ℕ, zero, suc, ◌≡◌, ◌≢◌, ◌<◌, ◌≤◌, ◌+◌, ◌-◌, ◌⊎◌, Option, Some, None, List, [], ◌∷◌, length, replicate, eqb, refl, arith, sym, ap, subst, inl, inr, ◌∙◌, ⊎_elim, get_or-set_same, get_or-set_other, length-set, ne_eqb}
+use Rattle.std.proofs.Common.{ℕ, zero, suc, ◌≡◌, ◌≢◌, ◌<◌, ◌≤◌, ◌+◌, ◌-◌, Option, Some, None, List, [], ◌∷◌, length, replicate, eqb, refl, arith, sym, ap, subst, inl, inr, ◌∙◌, ⊎_elim, get_or-set_same, get_or-set_other, length-set, ne_eqb}
 use Rattle.std.specs.Prelude.{slice_index, slice_set}
-use Rattle.std.proofs.lemmas.Bool.{cases_eq}
+use Rattle.std.proofs.lemmas.Bool.{cases_eq, cases_lt}
 use Rattle.std.proofs.lemmas.List.{length-map, length-replicate, get_or-replicate}
 use mathlib.Core.Option.{some, some-injective}
 use lib.ListN.{get_elem?}
@@ -21,12 +21,15 @@ use Rattle.errand_steps.specs.Openers.{Opens}
 use Rattle.first_uses.proofs.Opened.{opened-by_one}
 use Rattle.first_uses.proofs.PieceLemmas.{word-inside}
 use Rattle.step_machine.proofs.CoreLemmas.{run-sound}
+use Rattle.pool_model.specs.declared.event.Event.{Event}
+use Rattle.live_heap.specs.declared.view.Lent.{Lent}
 use Rattle.live_heap.specs.declared.view.Standing.{Standing}
 use Rattle.live_heap.specs.declared.view.View.{View}
-use Rattle.live_heap.specs.Pieces.{AreLaidOut, Claimed, IsOpened, IsOpener, IsSpare, PiecesHold, Status, mark_of, mark_place, place_as, shown, with_pieces, zeros_of}
+use Rattle.live_heap.specs.Pieces.{AreLaidOut, AreLent, Claimed, IsLent, IsOpened, IsOpener, IsOut, IsSpare, PiecesHold, Status, caller_mark, mark_of, mark_place, place_as, shown, with_pieces, zeros_of}
 use Rattle.live_heap.specs.Pieces.Status.{blank, out, used}
 use Rattle.live_heap.specs.Rule.{KeptTable, Stands, state_with}
-use Rattle.live_heap.proofs.PutPlaces.{run-all}
+use Rattle.live_heap.proofs.LentPlaces.{home-behind, lent-laid, out-still, put-alike, set-alike}
+use Rattle.live_heap.proofs.PutPlaces.{at-put_before, at-put_behind, run-all}
 use Rattle.live_heap.proofs.Shows.{arena-placed, piece-end, relaid, shown-arena, shown-mark, status-else, status-here, with_status}
 
 -- the rule of the machine speaks of no piece
@@ -83,6 +86,11 @@ one-opener g words views i j k u v kept at_u at_v (n, x, at_x, opens_x) (m, y, a
     (subst (λ e. Opens g e.point k) (sym a.errand) opens_x) (subst (λ e. Opens g e.point k) (sym b.errand) opens_y) in
     ap (λ (p : ℕ × ℕ). p.0) (sym a.at_place ∙ ap kept.place same ∙ b.at_place)
 
+in-views : (l : List View) (i : ℕ) (a : View) → get_elem? l i ≡ some a → i < length l
+in-views [] i a e = absurd (let no : ⊥ = cc in no)
+in-views (x ∷ xs) zero a e = omega arith
+in-views (x ∷ xs) (suc i) a e = omega (arith, in-views xs i a e)
+
 pub unlike : (j : ℕ) → Some j ≡ None → ⊥
 unlike j is = let e : ◌≡◌ {A = Option ℕ} (Some j) None = is in cc
 
@@ -111,12 +119,7 @@ module _ (g : Geometry) (words : List ℕ) (views : List View) (id k : ℕ) (v :
   opener = (0, before, ap (λ (l : List Standing). get_elem? l 0) one, opens)
 
   there : id < length views
-  there = get-within views id v at
-    where
-      get-within : (l : List View) (i : ℕ) (a : View) → get_elem? l i ≡ some a → i < length l
-      get-within [] i a e = absurd (let no : ⊥ = cc in no)
-      get-within (x ∷ xs) zero a e = omega arith
-      get-within (x ∷ xs) (suc i) a e = omega (arith, get-within xs i a e)
+  there = in-views views id v at
 
   -- an opener is one still
   opened-still : (j : ℕ) → IsOpened g views j → IsOpened g views_now j
@@ -345,30 +348,139 @@ published-laid g words places views id k v before one opens below at laying a =
           (at_set views id i w u there_is);
     }
 
+-- a piece's mark is no caller's
+mark-apart : (g : Geometry) (k : ℕ) → k < piece_count g → (caller : ℕ) → mark_place g (caller_mark g caller) ≢ mark_place g k
+mark-apart g k below caller same = omega (arith, same, below)
+
+-- what is out with passes is so still where a piece's mark is set, its words are put anew that weren't laid, and a pass knows so
+module _ (g : Geometry) (events : List Event) (words : List ℕ) (whole places : List Place) (views : List View) (id k : ℕ) (v : View) (at : get_elem? views id ≡ some v)
+    (below : k < piece_count g) (a : AreLaidOut g words whole views) (l : AreLent g events whole places views) (lays : Option ℕ) (ready : List ℕ) where
+  abbrev m : ℕ
+  m = mark_place g k
+
+  marked-within : m < length places
+  marked-within = omega (arith, l.long, a.long, below)
+
+  still-lent : (i : ℕ) → IsLent views i → IsLent (slice_set views id (with_pieces v lays ready)) i
+  still-lent i (j, u, n, b, there, found, above, under) =
+      elim (cases_eq j id) [
+        | inr other ↦ (j, u, n, b, set_else views id j (with_pieces v lays ready) other ∙ there, found, above, under)
+        | inl same ↦
+            let mine : u ≡ v = some-injective u v (sym there ∙ ap (get_elem? views) same ∙ at) in
+            (id, with_pieces v lays ready, n, b, set_here views id (with_pieces v lays ready) (in-views views id v at), ap (λ (z : View). get_elem? z.lent n) (sym mine) ∙ found, above, under)
+      ]
+
+  still-out :
+      (now : List Place) → ((i x : ℕ) → i ≢ m → place_at whole i ≡ laid x → place_at now i ≡ laid x) → (j n : ℕ) (u : View) (b : Lent)
+      → get_elem? (slice_set views id (with_pieces v lays ready)) j ≡ some u → get_elem? u.lent n ≡ some b → IsOut g events now u b
+  still-out now still j n u b there found = ⊎_elim
+      (λ (t : (j ≡ id) × (with_pieces v lays ready ≡ u)).
+      subst (λ (z : View). IsOut g events now z b) t.1
+      (out-still g events whole now v (with_pieces v lays ready) b m (omega (arith, arena-placed g)) (mark-apart g k below) still refl
+      (l.blocks id n v b at (ap (λ (z : View). get_elem? z.lent n) t.1 ∙ found))))
+      (λ (t : (j ≢ id) × (get_elem? views j ≡ some u)).
+      out-still g events whole now u u b m (omega (arith, arena-placed g)) (mark-apart g k below) still refl (l.blocks j n u b t.1 found))
+      (at_set views id j (with_pieces v lays ready) u there)
+
+  abbrev marked : List Place → ℕ → List Place
+  marked ps x = slice_set ps m (laid x)
+
+  mark-lent : (x : ℕ) → AreLent g events (marked whole x) (marked places x) (slice_set views id (with_pieces v lays ready))
+  mark-lent x = record {
+    long = length-set places m (laid x) ∙ l.long ∙ sym (length-set whole m (laid x));
+    home = λ i inside free.
+        set-alike places whole m i (laid x) marked-within (sym l.long)
+        (λ other. l.home i (omega (arith, inside, length-set places m (laid x))) (λ lent. free (still-lent i lent)));
+    blocks = still-out (marked whole x) (λ i y other is. get_or-set_other whole m i (laid x) None other ∙ is);
+  }
+
+  -- the words of the piece aren't laid
+  module _ (st : Status) (is : a.status k ≡ st) (no : (x n : ℕ) → place_as st n ≡ laid x → ⊥) (qs : List Place) (size : length qs ≡ piece_words g k) (x : ℕ) where
+    abbrev relaid_now : List Place → List Place
+    relaid_now ps = put (marked ps x) (piece_start g k) qs
+
+    within-places : piece_start g k + length qs ≤ length (marked places x)
+    within-places = omega (arith, size, piece-end g k below, arena-placed g, l.long, a.long, length-set places m (laid x))
+
+    within-whole : piece_start g k + length qs ≤ length (marked whole x)
+    within-whole = omega (arith, size, piece-end g k below, arena-placed g, a.long, length-set whole m (laid x))
+
+    -- a word that is laid lies outside
+    outside : (i y : ℕ) → place_at whole i ≡ laid y → piece_start g k ≤ i → i < piece_start g k + length qs → ⊥
+    outside i y laid_is from to =
+        let j : ℕ = i - piece_start g k in
+        let number : piece_start g k + j ≡ i = omega (arith, from) in
+        let there = word-inside g k j below (omega (arith, to, from, size)) in
+        no y (slice_index words (piece_start g k + j))
+        (ap (λ (s : Status). place_as s (slice_index words (piece_start g k + j))) (sym (ap a.status there.1 ∙ is))
+        ∙ sym (a.each (piece_start g k + j) (omega (arith, there.0, arena-placed g, a.long)) ∙ shown-arena g words a.status (piece_start g k + j) there.0)
+        ∙ ap (place_at whole) number ∙ laid_is)
+
+    relaid-lent : AreLent g events (relaid_now whole) (relaid_now places) (slice_set views id (with_pieces v lays ready))
+    relaid-lent = record {
+      long = put-long places qs m (piece_start g k) (laid x) within-places ∙ l.long ∙ sym (put-long whole qs m (piece_start g k) (laid x) within-whole);
+      home = λ i inside free.
+          let alike : place_at (marked places x) i ≡ place_at (marked whole x) i =
+          set-alike places whole m i (laid x) marked-within (sym l.long)
+          (λ other. l.home i (omega (arith, inside, put-long places qs m (piece_start g k) (laid x) within-places)) (λ lent. free (still-lent i lent))) in
+          put-alike (marked places x) (marked whole x) qs (piece_start g k) i within-places
+          (length-set whole m (laid x) ∙ sym l.long ∙ sym (length-set places m (laid x))) (λ before. alike) (λ behind. alike);
+      blocks = still-out (relaid_now whole)
+          (λ i y other is.
+          let same : place_at (marked whole x) i ≡ laid y = get_or-set_other whole m i (laid x) None other ∙ is in
+          elim (cases_lt i (piece_start g k)) [
+            | inl before ↦ at-put_before (marked whole x) qs (piece_start g k) i within-whole before ∙ same
+            | inr from ↦
+                elim (cases_lt i (piece_start g k + length qs)) [
+                  | inl to ↦ absurd (outside i y is from to)
+                  | inr behind ↦ at-put_behind (marked whole x) qs (piece_start g k) i within-whole behind ∙ same
+                ]
+          ]);
+    }
+
+never-blank : (x n : ℕ) → place_as blank n ≡ laid x → ⊥
+never-blank x n same = let no : ◌≡◌ {A = Place} (Some None) (laid x) = same in cc
+
+never-out : (x n : ℕ) → place_as out n ≡ laid x → ⊥
+never-out x n same = let no : ◌≡◌ {A = Place} None (laid x) = same in cc
+
 module _ (g : Geometry) (size id k : ℕ) (v : View) (before : Standing) (one : v.callers ≡ before ∷ []) (opens : Opens g before.errand.point k)
     (below : k < piece_count g) where
   abbrev p : ℕ
   p = mark_place g k
 
   -- what the mark says
-  at-mark : (words : List ℕ) (places : List Place) (views : List View) → (a : AreLaidOut g words places views) → place_at places p ≡ laid (mark_of (a.status k))
-  at-mark words places views a = a.each p (omega (arith, a.long, below)) ∙ shown-mark g words a.status k
+  at-mark :
+      (events : List Event) (words : List ℕ) (whole places : List Place) (views : List View) (a : AreLaidOut g words whole views) → AreLent g events whole places views
+      → place_at places p ≡ laid (mark_of (a.status k))
+  at-mark events words whole places views a l =
+      home-behind g events whole places views p l (omega (arith, arena-placed g)) (omega (arith, l.long, a.long, below))
+      ∙ a.each p (omega (arith, a.long, below)) ∙ shown-mark g words a.status k
 
   pub claim : v.lays ≡ None → region.Allows (PiecesHold g) size id (v, []) p (λ n. either (eqb n 0) 1 n) (λ n. Claimed g k v n)
+  unfolding kept-pieces
   claim settled s good long at =
       let words : List ℕ = good.0 in
       let h = good.1 in
-      let a = good.2 in
-      let mark = at-mark words s.places s.views a in
+      let whole : List Place = good.2 in
+      let a = good.3 in
+      let l = good.4 in
+      let mark = at-mark h.1.events words whole s.places s.views a l in
       let is : number_at s.places p ≡ mark_of (a.status k) = ap number mark in
       let F : ℕ → Type 0 = λ x. Goes (PiecesHold g) s (with_number s.places p (either (eqb x 0) 1 x)) id (v, []) (Claimed g k v x) in
       let goes : (st : Status) → a.status k ≡ st → F (mark_of st) = λ st. elim st as (λ x. a.status k ≡ x → F (mark_of x)) [
         | blank ↦ λ found. (
           with_pieces v (Some k) v.ready,
           takes (piece_start g k) (piece_words g k),
-          omega (arith, piece-end g k below, arena-placed g, a.long, length-set s.places p (laid 1)),
-          (words, (h.0, kept-pieces g (words_at g words) s.views id v (Some k) v.ready at h.1), claimed-laid g words s.places s.views id k v before one opens below at settled a found),
-          ((λ zero_is. ap (λ (l : List Place). let r : region.Me View = (with_pieces v (Some k) v.ready, (piece_start g k, l) ∷ []) in r) (blank-run words s.places s.views a found)), (λ some. absurd (some refl))),
+          omega (arith, piece-end g k below, arena-placed g, l.long, a.long, length-set s.places p (laid 1)),
+          (
+            words,
+            (h.0, kept-pieces g (words_at g words) s.views id v (Some k) v.ready at h.1),
+            put (slice_set whole p (laid 1)) (piece_start g k) (outs (piece_words g k)),
+            claimed-laid g words whole s.views id k v before one opens below at settled a found,
+            relaid-lent g h.1.events words whole s.places s.views id k v at below a l (Some k) v.ready blank found never-blank (outs (piece_words g k)) (length-replicate (piece_words g k) None) 1,
+          ),
+          ((λ zero_is. ap (λ (r : List Place). let x : region.Me View = (with_pieces v (Some k) v.ready, (piece_start g k, r) ∷ []) in x) (blank-run h.1.events words whole s.places s.views a l found)), (λ some. absurd (some refl))),
         )
         | out ↦ λ found.
             let by = a.layer k below found in
@@ -379,39 +491,61 @@ module _ (g : Geometry) (size id k : ℕ) (v : View) (before : Standing) (one : 
           with_pieces v v.lays (k ∷ v.ready),
           keeps,
           tt,
-          (words, (h.0, kept-pieces g (words_at g words) s.views id v v.lays (k ∷ v.ready) at h.1), known-laid g words s.places s.views id k v before one opens below at a found),
+          (
+            words,
+            (h.0, kept-pieces g (words_at g words) s.views id v v.lays (k ∷ v.ready) at h.1),
+            slice_set whole p (laid 2),
+            known-laid g words whole s.views id k v before one opens below at a found,
+            mark-lent g h.1.events words whole s.places s.views id k v at below a l v.lays (k ∷ v.ready) 2,
+          ),
           ((λ zero_is. absurd (let no : ⊥ = omega (arith, zero_is) in no)), (λ some. refl)),
         )
       ] in
       (mark ∙ ap laid (sym is), λ small. subst F (sym is) (goes (a.status k) refl))
     where
       blank-run :
-          (ws : List ℕ) (ps : List Place) (us : List View) (a : AreLaidOut g ws ps us) → a.status k ≡ blank
+          (es : List Event) (ws : List ℕ) (rs ps : List Place) (us : List View) (a : AreLaidOut g ws rs us) → AreLent g es rs ps us → a.status k ≡ blank
           → run (slice_set ps p (laid 1)) (piece_start g k) (piece_words g k) ≡ blanks (piece_words g k)
-      blank-run ws ps us a found =
+      blank-run es ws rs ps us a l found =
           run-all (slice_set ps p (laid 1)) (piece_start g k) (piece_words g k) (Some None)
-          (omega (arith, length-set ps p (laid 1), a.long, piece-end g k below, arena-placed g))
+          (omega (arith, length-set ps p (laid 1), l.long, a.long, piece-end g k below, arena-placed g))
           (λ j short.
           let inside = word-inside g k j below short in
           let i : ℕ = piece_start g k + j in
           let apart : i ≢ p = λ same. omega (arith, same, inside.0, arena-placed g) in
-          get_or-set_other ps p i (laid 1) None apart ∙ a.each i (omega (arith, inside.0, arena-placed g, a.long))
+          let free : IsLent us i → ⊥ = λ lent.
+          let bad = (lent-laid g es rs ps us i l lent).1 in
+          never-blank bad.0 (slice_index ws i)
+          (ap (λ x. place_as x (slice_index ws i)) (sym (ap a.status inside.1 ∙ found))
+          ∙ sym (a.each i (omega (arith, inside.0, arena-placed g, a.long)) ∙ shown-arena g ws a.status i inside.0) ∙ bad.1) in
+          get_or-set_other ps p i (laid 1) None apart ∙ l.home i (omega (arith, inside.0, arena-placed g, l.long, a.long)) free
+          ∙ a.each i (omega (arith, inside.0, arena-placed g, a.long))
           ∙ shown-arena g ws a.status i inside.0 ∙ ap (λ x. place_as x (slice_index ws i)) (ap a.status inside.1 ∙ found))
 
   pub publish :
       v.lays ≡ Some k
       → region.Allows (PiecesHold g) size id (v, (piece_start g k, zeros_of g k) ∷ []) p (λ _. 2) (λ _ me. me ≡ (with_pieces v None (k ∷ v.ready), []))
+  unfolding kept-pieces
   publish laying s good long at =
       let words : List ℕ = good.0 in
       let h = good.1 in
-      let a = good.2 in
-      let mark = at-mark words s.places s.views a in (
+      let whole : List Place = good.2 in
+      let a = good.3 in
+      let l = good.4 in
+      let mark = at-mark h.1.events words whole s.places s.views a l in (
         mark ∙ ap laid (sym (ap number mark)),
         λ small. (
           with_pieces v None (k ∷ v.ready),
           gives,
           tt,
-          (words, (h.0, kept-pieces g (words_at g words) s.views id v None (k ∷ v.ready) at h.1), published-laid g words s.places s.views id k v before one opens below at laying a),
+          (
+            words,
+            (h.0, kept-pieces g (words_at g words) s.views id v None (k ∷ v.ready) at h.1),
+            put (slice_set whole p (laid 2)) (piece_start g k) (zeros_of g k),
+            published-laid g words whole s.views id k v before one opens below at laying a,
+            relaid-lent g h.1.events words whole s.places s.views id k v at below a l None (k ∷ v.ready) out (a.lays id v k at laying).1 never-out (zeros_of g k)
+                (length-map (replicate (piece_words g k) 0) laid ∙ length-replicate (piece_words g k) 0) 2,
+          ),
           refl,
         ),
       )

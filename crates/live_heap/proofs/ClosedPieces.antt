@@ -1,9 +1,9 @@
 -- Memory with pieces, once no thread shares it any more.
-use Rattle.std.proofs.Common.{ℕ, true, false, ◌≡◌, ◌≢◌, ◌<◌, ◌+◌, ◌-◌, List, length, refl, arith, sym, ap, subst, inl, inr, ◌∙◌, eqb-true, eq-eqb}
-use Rattle.std.specs.Prelude.{◌==◌, slice_index}
+use Rattle.std.proofs.Common.{ℕ, true, false, ◌≡◌, ◌≢◌, ◌<◌, ◌+◌, ◌-◌, List, refl, arith, sym, ap, subst, inl, inr, ◌∙◌, eqb-true, eq-eqb}
+use Rattle.std.specs.Prelude.{◌==◌, None, slice_index}
 use Rattle.std.proofs.lemmas.Bool.{cases_lt, false≢true}
 use Rattle.std.proofs.lemmas.List.{ext_get_or}
-use mathlib.Core.Option.{some}
+use mathlib.Core.Option.{some, some-injective}
 use lib.ListN.{get_elem?, get_or-map}
 use Rattle.heap_geometry.specs.declared.geometry.Geometry.{Geometry}
 use Rattle.heap_geometry.specs.Geometry.{IsChecked}
@@ -19,19 +19,22 @@ use Rattle.placed_words.proofs.KindLemmas.{start-place}
 use Rattle.placed_words.proofs.PlaceLemmas.{place-least, place-within}
 use Rattle.placed_words.proofs.WordsLemmas.{at-words_at, length-words_at}
 use Rattle.plain_words.specs.Places.{Place, laid, number, numbers, place_at, AllHere, IsLaid}
-use Rattle.atomic_region.specs.Region.{Final, Seen}
+use Rattle.atomic_region.specs.Region.{Final, Seen, State}
 use Rattle.errand_steps.specs.Begins.{IsIdle}
 use Rattle.first_uses.specs.Pieces.{piece_count, piece_of, piece_start}
 use Rattle.first_uses.proofs.PieceLemmas.{word-among}
+use Rattle.pool_model.specs.declared.event.Event.{Event}
+use Rattle.live_heap.specs.declared.view.Lent.{Lent}
 use Rattle.live_heap.specs.declared.view.Standing.{Standing}
 use Rattle.live_heap.specs.declared.view.View.{View}
 use Rattle.live_heap.specs.Endings.{IsAtRest}
-use Rattle.live_heap.specs.Pieces.{AreLaidOut, AreMarked, PiecesHold, Status, mark_of, mark_place, place_as}
+use Rattle.live_heap.specs.Pieces.{AreLaidOut, AreLent, AreMarked, PiecesHold, Status, caller_mark, mark_count, mark_of, mark_place, place_as}
 use Rattle.live_heap.specs.Pieces.Status.{blank, out, used}
-use Rattle.live_heap.specs.Rule.{KeptTable}
+use Rattle.live_heap.specs.Rule.{KeptTable, WordsHold}
 use Rattle.live_heap.proofs.Ending.{IsLast, cover}
 use Rattle.live_heap.proofs.Gathering.{idle-at}
 use Rattle.live_heap.proofs.Laid.{read-number}
+use Rattle.live_heap.proofs.LentPlaces.{home-behind, none-out}
 use Rattle.live_heap.proofs.Memory.{arena-or}
 use Rattle.live_heap.proofs.PieceEnds.{all-at_home, nothing-out}
 use Rattle.live_heap.proofs.Shows.{arena-placed, shown-arena, shown-behind, shown-mark, shown-own}
@@ -60,11 +63,11 @@ mark-used used is = refl
 
 module _ (g : Geometry) (words : List ℕ) (places : List Place) (views : List View) (a : AreLaidOut g words places views) where
   -- a mark is laid with its piece's number
-  mark-laid : (k : ℕ) → k < piece_count g → place_at places (mark_place g k) ≡ laid (mark_of (a.status k))
+  mark-laid : (k : ℕ) → k < mark_count g → place_at places (mark_place g k) ≡ laid (mark_of (a.status k))
   mark-laid k has = a.each (mark_place g k) (omega (arith, a.long, has)) ∙ shown-mark g words a.status k
 
   mark-is : (k : ℕ) → k < piece_count g → mark_of (a.status k) ≡ slice_index (numbers places) (mark_place g k)
-  mark-is k has = read-number places (mark_place g k) (mark_of (a.status k)) (mark-laid k has)
+  mark-is k has = read-number places (mark_place g k) (mark_of (a.status k)) (mark-laid k (omega (arith, has)))
 
   arena-shows : (i : ℕ) → i < arena_words g → place_at places i ≡ place_as (a.status (piece_of g i)) (slice_index words i)
   arena-shows i inside = a.each i (omega (arith, a.long, inside, arena-placed g)) ∙ shown-arena g words a.status i inside
@@ -115,7 +118,7 @@ module _ (g : Geometry) (words : List ℕ) (places : List Place) (views : List V
 
   -- no mark says that its piece is out, so all words are here
   unmarked-home : ((k : ℕ) → k < piece_count g → place_at places (mark_place g k) ≢ laid 1) → AllHere places
-  unmarked-home none = all-at_home g words places views a (λ k has gone. none k has (mark-laid k has ∙ ap (λ st. laid (mark_of st)) gone))
+  unmarked-home none = all-at_home g words places views a (λ k has gone. none k has (mark-laid k (omega (arith, has)) ∙ ap (λ st. laid (mark_of st)) gone))
 
 -- where a view stands for all callers, each in no call, so is each caller of every view
 module _ (g : Geometry) (table : List ℕ) (views : List View) (id : ℕ) (v : View) (h : KeptTable g table views) (at : get_elem? views id ≡ some v)
@@ -128,45 +131,89 @@ module _ (g : Geometry) (table : List ℕ) (views : List View) (id : ℕ) (v : V
       let same : t.1.errand ≡ x.errand = sym z.errand ∙ (ap h.errands t.3 ∙ y.errand) in
       subst IsIdle same (idle-at v.callers rest.idle t.0 t.1 t.2)
 
+-- where no block is out the places are as they would be
+same-whole :
+    (g : Geometry) (events : List Event) (whole places : List Place) (views : List View) → AreLent g events whole places views
+    → ((id n : ℕ) (v : View) (b : Lent) → get_elem? views id ≡ some v → get_elem? v.lent n ≡ some b → ⊥) → whole ≡ places
+same-whole g events whole places views l none =
+    ext_get_or None whole places (sym l.long)
+    (λ i within. sym (l.home i (omega (arith, l.long, within)) (λ (id, v, n, b, there, found, above, under). none id n v b there found)))
+
+-- the places of a region are a table's, where nothing is out of it
+abbrev LaidHold : Geometry → State View → Type 0
+LaidHold g s = (words : List ℕ) × WordsHold g words s.views × AreLaidOut g words s.places s.views
+
+home-laid :
+    (g : Geometry) (s : State View) → PiecesHold g s → ((id n : ℕ) (v : View) (b : Lent) → get_elem? s.views id ≡ some v → get_elem? v.lent n ≡ some b → ⊥) → LaidHold g s
+home-laid g s (words, h, whole, a, l) none =
+    (words, h, subst (λ (ps : List Place). AreLaidOut g words ps s.views) (same-whole g h.1.events whole s.places s.views l none) a)
+
+-- a view that stands for all callers and has nothing out leaves none out
+rests-laid : (g : Geometry) (id : ℕ) (v : View) (s : State View) → IsAtRest g v → Seen (PiecesHold g) id v s → LaidHold g s
+rests-laid g id v s rest ((words, h, whole, a, l), at) =
+    home-laid g s (words, h, whole, a, l)
+    (λ j n u b there found.
+    let o = l.blocks j n u b there found in
+    let y = (h.1.each j u there).each o.number o.owner o.stands in
+    let t = cover g (words_at g words) s.views id v h.1 at rest.all o.owner.errand.caller y.has in
+    let z = (h.1.each id v at).each t.0 t.1 t.2 in
+    let place_is : (j, o.number) ≡ (id, t.0) = sym y.at_place ∙ ap h.1.place (sym t.3) ∙ z.at_place in
+    let mine : u ≡ v = some-injective u v (sym there ∙ ap (get_elem? s.views) (ap (λ (q : ℕ × ℕ). q.0) place_is) ∙ at) in
+    none-out v n b rest.home (ap (λ (w : View). get_elem? w.lent n) (sym mine) ∙ found))
+
 -- then all words of the region are here
 pub rests-home : (g : Geometry) (id : ℕ) (v : View) (ps : List Place) → IsAtRest g v → Final (Seen (PiecesHold g) id v) ps → AllHere ps
 rests-home g id v ps rest f =
     let s = f.0 in
-    let words = f.1.0.0 in
-    let kept = f.1.0.1.1 in
-    let a = f.1.0.2 in
+    let r = rests-laid g id v s rest f.1 in
     subst AllHere f.2
-    (all-at_home g words s.places s.views a
-    (nothing-out g words s.places s.views a (idle-everywhere g (words_at g words) s.views id v kept f.1.1 rest)))
+    (all-at_home g r.0 s.places s.views r.2
+    (nothing-out g r.0 s.places s.views r.2 (idle-everywhere g (words_at g r.0) s.views id v r.1.1 f.1.1 rest)))
 
 -- and their numbers are the words at the end
 pub last-words :
-    (g : Geometry) (id : ℕ) (v : View) (ps : List Place) → length v.callers ≡ g.callers → Final (Seen (PiecesHold g) id v) ps
+    (g : Geometry) (id : ℕ) (v : View) (ps : List Place) → IsAtRest g v → Final (Seen (PiecesHold g) id v) ps
     → IsLast g (words_at g (numbers ps)) v
-last-words g id v ps all f =
+last-words g id v ps rest f =
     let s = f.0 in
-    let words = f.1.0.0 in
-    let same : words_at g words ≡ words_at g (numbers ps) =
-    sym (same-words g words s.places s.views f.1.0.2) ∙ ap (λ (l : List Place). words_at g (numbers l)) f.2 in
-    record { views = s.views; id = id; kept = subst (λ (t : List ℕ). KeptTable g t s.views) same f.1.0.1.1; at = f.1.1; all = all }
+    let r = rests-laid g id v s rest f.1 in
+    let same : words_at g r.0 ≡ words_at g (numbers ps) =
+    sym (same-words g r.0 s.places s.views r.2) ∙ ap (λ (l : List Place). words_at g (numbers l)) f.2 in
+    record { views = s.views; id = id; kept = subst (λ (t : List ℕ). KeptTable g t s.views) same r.1.1; at = f.1.1; all = rest.all }
 
-pub last-marked : (g : Geometry) (id : ℕ) (v : View) (ps : List Place) → Final (Seen (PiecesHold g) id v) ps → AreMarked g ps
-last-marked g id v ps f = subst (AreMarked g) f.2 (are-marked g f.1.0.0 f.0.places f.0.views f.1.0.2)
+pub last-marked : (g : Geometry) (id : ℕ) (v : View) (ps : List Place) → IsAtRest g v → Final (Seen (PiecesHold g) id v) ps → AreMarked g ps
+last-marked g id v ps rest f = let r = rests-laid g id v f.0 rest f.1 in subst (AreMarked g) f.2 (are-marked g r.0 f.0.places f.0.views r.2)
 
--- in the end each mark is laid; and where none says that its piece is out, all words are here
+-- in the end each mark is laid; and where none says that something is out, all words are here
+marks-laid :
+    (g : Geometry) (s : State View) (good : PiecesHold g s) (k : ℕ) → k < mark_count g
+    → place_at s.places (mark_place g k) ≡ place_at good.2 (mark_place g k)
+marks-laid g s (words, h, whole, a, l) k has =
+    home-behind g h.1.events whole s.places s.views (mark_place g k) l (omega (arith, arena-placed g)) (omega (arith, l.long, a.long, has))
+
 pub final-mark :
-    (g : Geometry) (ps : List Place) (k : ℕ) → Final (PiecesHold g) ps → k < piece_count g → IsLaid ps (mark_place g k)
+    (g : Geometry) (ps : List Place) (k : ℕ) → Final (PiecesHold g) ps → k < mark_count g → IsLaid ps (mark_place g k)
 final-mark g ps k f has =
-    let a = f.1.2 in
+    let a = f.1.3 in
     subst (λ (l : List Place). IsLaid l (mark_place g k)) f.2
-    (is-laid_itself f.0.places (mark_place g k) (mark_of (a.status k)) (mark-laid g f.1.0 f.0.places f.0.views a k has))
+    (is-laid_itself f.0.places (mark_place g k) (mark_of (a.status k)) (marks-laid g f.0 f.1 k has ∙ mark-laid g f.1.0 f.1.2 f.0.views a k has))
 
 pub final-home :
-    (g : Geometry) (ps : List Place) → Final (PiecesHold g) ps → ((k : ℕ) → k < piece_count g → place_at ps (mark_place g k) ≢ laid 1) → AllHere ps
+    (g : Geometry) (ps : List Place) → Final (PiecesHold g) ps → ((k : ℕ) → k < mark_count g → place_at ps (mark_place g k) ≢ laid 1) → AllHere ps
 final-home g ps f none =
-    subst AllHere f.2
-    (unmarked-home g f.1.0 f.0.places f.0.views f.1.2
-    (λ k has is. none k has (ap (λ (l : List Place). place_at l (mark_place g k)) (sym f.2) ∙ is)))
+    let s = f.0 in
+    let h = f.1.1 in
+    let whole : List Place = f.1.2 in
+    let unmarked : (k : ℕ) → k < mark_count g → place_at s.places (mark_place g k) ≢ laid 1 =
+    λ k has is. none k has (ap (λ (l : List Place). place_at l (mark_place g k)) (sym f.2) ∙ is) in
+    let r =
+    home-laid g s f.1
+    (λ j n u b there found.
+    let o = f.1.4.blocks j n u b there found in
+    let has = ((h.1.each j u there).each o.number o.owner o.stands).has in
+    let below : caller_mark g o.owner.errand.caller < mark_count g = omega (arith, has) in
+    unmarked (caller_mark g o.owner.errand.caller) below (marks-laid g s f.1 (caller_mark g o.owner.errand.caller) below ∙ o.marked)) in
+    subst AllHere f.2 (unmarked-home g r.0 s.places s.views r.2 (λ k has. unmarked k (omega (arith, has))))
 
 -- a word of memory that no thread shares any more
 module _ (g : Geometry) (ps : List Place) (m : AreMarked g ps) where

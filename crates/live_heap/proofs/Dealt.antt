@@ -1,5 +1,5 @@
 -- The passes of a new heap.
-use Rattle.std.proofs.Common.{ℕ, zero, suc, ◌≡◌, ◌<◌, ◌+◌, ◌-◌, inl, List, [], ◌∷◌, ◌++◌, length, refl, sym, ap, subst, arith}
+use Rattle.std.proofs.Common.{ℕ, zero, suc, ◌≡◌, ◌<◌, ◌+◌, ◌-◌, inl, List, [], ◌∷◌, ◌++◌, length, refl, sym, ap, subst, arith, ◌∙◌}
 use Rattle.std.specs.Prelude.{if◌then◌else◌}
 use Rattle.atomic_region.specs.Region.{Me}
 use Rattle.heap_geometry.specs.declared.geometry.Geometry.{Geometry}
@@ -16,7 +16,8 @@ use Rattle.step_machine.proofs.MomentLemmas.{reached-served}
 use Rattle.live_heap.specs.declared.heap.Heap.{Heap}
 use Rattle.live_heap.specs.declared.pass.Pass.{Pass}
 use Rattle.live_heap.specs.declared.view.View.{View}
-use Rattle.live_heap.specs.Passes.{IsFresh, AreFrom, accesses_of, seen}
+use Rattle.live_heap.specs.Passes.{IsFresh, AreFrom, accesses_of, seen, view}
+use Rattle.live_heap.proofs.LentPlaces.{none-out}
 use Rattle.live_heap.specs.Rule.{first_errands}
 use Rattle.live_heap.specs.Views.{idle_standing, idles_from, idle_view}
 use Rattle.live_heap.proofs.Seats.{first-there}
@@ -51,10 +52,11 @@ first-served g caller checked has =
 
 pub fresh :
     (h : Heap) (p : Pass) (caller : ℕ) → caller < h.layout.callers → p.seat.region ≡ h.table.shared.id
-    → p.seat.me ≡ (idle_view h.layout caller 1, []) → p.errand ≡ open_errand caller h.layout → IsFresh h p
-fresh h p caller has table me errand =
+    → p.seat.me ≡ (idle_view h.layout caller 1, []) → p.out ≡ 0 → p.errand ≡ open_errand caller h.layout → IsFresh h p
+fresh h p caller has table me out errand =
     let g = h.layout in
     let nothing : p.seat.me.0.seen ≡ [] = ap (λ (m : Me View). m.0.seen) me in
+    let home : (view p).lent ≡ [] = ap (λ (m : Me View). m.0.lent) me in
     let number : p.errand.caller ≡ caller = ap (λ (e : ErrandFields). e.caller) errand in
     record {
       of = record {
@@ -67,9 +69,14 @@ fresh h p caller has table me errand =
         served = subst (λ (e : ErrandFields). IsServed g e.caller e (seen p)) (sym errand) (subst (λ (l : List Event). IsServed g caller (open_errand caller g) l) (sym nothing) (first-served g caller h.checked has));
         alone = λ one. ap (λ (e : ErrandFields). e.lost) errand;
         settled = ap (λ (m : Me View). m.0.lays) me;
+        counted = ap length home ∙ sym out;
+        mine = λ n b found. absurd (none-out (view p) n b home found);
+        apart = λ n b found concerns. none-out (view p) n b home found;
+        once = λ m n a b found other same. absurd (none-out (view p) m a home found);
       };
       errand = subst (λ n. p.errand ≡ open_errand n g) (sym number) errand;
       nothing_seen = nothing;
+      home = out;
       none_made = ap (λ (m : Me View). accesses_of m.0.callers) me;
     }
 

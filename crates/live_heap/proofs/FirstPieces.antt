@@ -1,7 +1,9 @@
 -- The rule of the region holds of a heap's memory before the first step.
-use Rattle.std.proofs.Common.{ℕ, ◌≡◌, ◌<◌, ◌-◌, List, [], ◌∷◌, length, slice_index, take, arith, sym, ap, ◌∙◌, subst, inl, inr, get_or-take, length-take}
+use Rattle.std.proofs.Common.{ℕ, ◌≡◌, ◌<◌, ◌-◌, List, [], ◌∷◌, length, slice_index, take, refl, zero, suc, arith, sym, ap, ◌∙◌, subst, inl, inr, get_or-take, length-take}
 use Rattle.std.proofs.lemmas.Bool.{cases_lt}
 use Rattle.std.proofs.lemmas.List.{length-map}
+use mathlib.Core.Option.{some, some-injective}
+use lib.ListN.{get_elem?}
 use Rattle.heap_geometry.specs.declared.geometry.Geometry.{Geometry}
 use Rattle.heap_geometry.specs.Geometry.{IsChecked}
 use Rattle.word_table.specs.Counts.{arena_words, word_count}
@@ -12,13 +14,25 @@ use Rattle.atomic_region.specs.Region.{opening as opened}
 use Rattle.placed_words.specs.Places.{placed_count, words_at}
 use Rattle.placed_words.proofs.WordsLemmas.{words_at-take}
 use Rattle.live_heap.specs.FirstRoom.{IsFirstRoom}
-use Rattle.live_heap.specs.Pieces.{PiecesHold, mark_place, shown}
+use Rattle.pool_model.specs.declared.event.Event.{Event}
+use Rattle.live_heap.specs.declared.view.Lent.{Lent}
+use Rattle.live_heap.specs.declared.view.View.{View}
+use Rattle.live_heap.specs.Pieces.{AreLent, PiecesHold, mark_place, shown}
 use Rattle.live_heap.specs.Rule.{WordsHold}
 use Rattle.live_heap.specs.Views.{opening_view}
 use Rattle.live_heap.proofs.FirstRoomLemmas.{at-numbers}
+use Rattle.live_heap.proofs.LentPlaces.{none-out}
 use Rattle.live_heap.proofs.PieceEnds.{all_blank, opens-pieces}
 use Rattle.live_heap.proofs.Seats.{opens, table-opening}
 use Rattle.live_heap.proofs.Shows.{arena-placed, shown-arena, shown-behind, shown-own}
+
+-- at opening no block is out
+nothing-lent : (g : Geometry) (events : List Event) (places : List Place) → AreLent g events places places (opening_view g ∷ [])
+nothing-lent g events places = record { long = refl; home = λ i inside free. refl; blocks = λ id n v b there found. absurd (none id n v b there found) }
+  where
+    none : (id n : ℕ) (v : View) (b : Lent) → get_elem? (opening_view g ∷ []) id ≡ some v → get_elem? v.lent n ≡ some b → ⊥
+    none zero n v b there found = none-out (opening_view g) n b refl (ap (λ (z : View). get_elem? z.lent n) (some-injective (opening_view g) v there) ∙ found)
+    none (suc id) n v b there found = let no : ⊥ = cc in no
 
 module _ (g : Geometry) (places : List Place) (checked : IsChecked g) (room : IsFirstRoom g places) where
   abbrev words : List ℕ
@@ -51,4 +65,4 @@ module _ (g : Geometry) (places : List Place) (checked : IsChecked g) (room : Is
       let table : IsTable g (opening g) (word_count g) (words_at g words) = subst (IsTable g (opening g) (word_count g)) (sym (words_at-take g (numbers places))) room.words in
       let kept : WordsHold g words (opening_view g ∷ []) = (long, opens g (words_at g words) checked table.all (table-opening g (words_at g words) table)) in
       let zeros : (i : ℕ) → i < arena_words g → slice_index words i ≡ 0 = λ i before. at-words i (omega (arith, before, arena-placed g)) ∙ ap number (room.behind.arena i before) in
-      (words, kept, opens-pieces g words places checked table room.behind.long each-shown zeros)
+      (words, kept, places, opens-pieces g words places checked table room.behind.long each-shown zeros, nothing-lent g kept.1.events places)

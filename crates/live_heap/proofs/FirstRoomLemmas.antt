@@ -15,10 +15,9 @@ use Rattle.placed_words.specs.Starts.{place_of}
 use Rattle.placed_words.specs.Writes.{Wrote}
 use Rattle.placed_words.proofs.PlaceLemmas.{place-least, place-within}
 use Rattle.placed_words.proofs.WordsLemmas.{wrote}
-use Rattle.first_uses.specs.Pieces.{piece_count}
 use Rattle.live_heap.specs.FirstRoom.{HasWritten, IsBlankRoom, IsLaidBehind}
 use Rattle.live_heap.specs.Linked.{AreLinked}
-use Rattle.live_heap.specs.Pieces.{mark_place}
+use Rattle.live_heap.specs.Pieces.{mark_count, mark_place}
 use Rattle.live_heap.proofs.Linked.{none-linked}
 
 -- a number of the list is that of its place
@@ -86,7 +85,7 @@ module _ (first all : ℕ) (within : first ≤ all) where
       ]
 
   -- where the first are those of the arena, the room is a blank one
-  pub is-blank : (g : Geometry) → first ≡ arena_words g → all ≡ placed_count g + piece_count g → IsBlankRoom g (half_laid first all)
+  pub is-blank : (g : Geometry) → first ≡ arena_words g → all ≡ placed_count g + mark_count g → IsBlankRoom g (half_laid first all)
   is-blank g is_first is_all = record {
     behind = record {
       long = half-long ∙ is_all;

@@ -26,7 +26,7 @@ frees-from p place class first is = rw is refl
 pub free-calling : (p : Pass) (place class : ℕ) → IsIdle p.errand → IsHeapBlock p.errand.geometry place (Small class)
     → IsCalling p (free place (Small class)) 0 (in_call p (free place (Small class)))
 free-calling p place class idle block =
-    other-calling p (in_call p (free place (Small class))) (free place (Small class)) (record { seat = refl; errand = refl }) idle block (λ words is. cc)
+    other-calling p (in_call p (free place (Small class))) (free place (Small class)) (record { seat = refl; errand = refl; out = refl }) idle block (λ words is. cc)
 
 -- what a free tells where it has gone on so since it began
 pub free-answers :
@@ -34,7 +34,7 @@ pub free-answers :
     → GoesOn p (free block.place block.need) 0 (in_call p (free block.place block.need)) tries (reply_in told) q
     → FreeTells p block tries (free_answer_in told) q
 free-answers p block tries None q over =
-    interrupted-since p (in_call p (free block.place block.need)) (free block.place block.need) tries q (record { seat = refl; errand = refl }) over
+    interrupted-since p (in_call p (free block.place block.need)) (free block.place block.need) tries q (record { seat = refl; errand = refl; out = refl }) over
 free-answers p block tries (Some told) q ends =
     free-tells p block tries told q
-    (ends-since p (in_call p (free block.place block.need)) (free block.place block.need) tries q (record { seat = refl; errand = refl }) _ ends)
+    (ends-since p (in_call p (free block.place block.need)) (free block.place block.need) tries q (record { seat = refl; errand = refl; out = refl }) _ ends)

@@ -1,6 +1,8 @@
 -- Passes that are taken in one after another.
-use Rattle.std.proofs.Common.{ℕ, zero, suc, ◌≡◌, ◌+◌, inl, inr, List, [], ◌∷◌, ◌++◌, length, All, refl, sym, ap, ◌∙◌, subst, arith}
-use Rattle.std.specs.Prelude.{sum_by}
+use Rattle.std.proofs.Common.{ℕ, zero, suc, Bool, true, false, ◌≡◌, ◌<◌, ◌+◌, inl, inr, List, [], ◌∷◌, ◌++◌, length, All, refl, sym, ap, ◌∙◌, subst, arith}
+use Rattle.std.specs.List.{list_all}
+use Rattle.std.specs.Prelude.{Any, sum_by, ◌==◌, ◌&&◌}
+use Rattle.std.proofs.lemmas.Bool.{and_parts, cases_eq, eq-eqb, ne_eqb, true≢false}
 use Rattle.std.proofs.lemmas.List.Elements.{All-append}
 use Rattle.std.proofs.lemmas.List.Sums.{sum_by-cons}
 use mathlib.Core.Option.{some, some-injective, some-ne-none}
@@ -11,6 +13,7 @@ use Rattle.errand_steps.specs.Begins.{IsIdle}
 use Rattle.errand_steps.specs.Errands.{ErrandFields}
 use Rattle.live_heap.specs.declared.heap.Heap.{Heap}
 use Rattle.live_heap.specs.declared.pass.Pass.{Pass}
+use Rattle.live_heap.specs.declared.view.Lent.{Lent}
 use Rattle.live_heap.specs.declared.view.Standing.{Standing}
 use Rattle.live_heap.specs.declared.view.View.{View}
 use Rattle.live_heap.specs.Endings.{IsIn}
@@ -33,6 +36,37 @@ module _ {X : Type 0} (P : X → Type 0) where
 pub before-idle : (log : List Event) (before e : ErrandFields) → IsBegun log before e → IsIdle e → before ≡ e
 before-idle log before e (inl same) idle = sym same
 before-idle log before e (inr (call, was, may, begun)) idle = sym (begun ∙ begun-idle before call was (subst IsIdle begun idle))
+
+-- the test that no block's words are out, with one pass after the other
+abbrev counts_none : Pass → Bool
+counts_none p = p.out == 0
+
+out-none : (p : Pass) → counts_none p ≡ true → p.out ≡ 0
+out-none p is = elim (cases_eq p.out 0) [ inl none ↦ none | inr more ↦ absurd (true≢false (sym is ∙ ne_eqb p.out 0 more)) ]
+
+pub are-home : (ps : List Pass) → list_all counts_none ps ≡ true → All (λ (p : Pass). p.out ≡ 0) ps
+are-home [] is k d within = absurd (omega arith)
+are-home (p ∷ ps) is zero d within = out-none p (and_parts (counts_none p) (list_all counts_none ps) is).0
+are-home (p ∷ ps) is (suc k) d within = are-home ps (and_parts (counts_none p) (list_all counts_none ps) is).1 k d (omega arith)
+
+one-more : (p : Pass) (ps : List Pass) → Any (λ (q : Pass). 0 < q.out) ps → Any (λ (q : Pass). 0 < q.out) (p ∷ ps)
+one-more p ps (k, q, within, is, more) = (suc k, q, omega (arith, within), is, more)
+
+pub one-out : (ps : List Pass) → list_all counts_none ps ≡ false → Any (λ (p : Pass). 0 < p.out) ps
+one-out [] is = absurd (true≢false is)
+one-out (p ∷ ps) is =
+    elim (cases_eq p.out 0) [
+      | inl none ↦ one-more p ps (one-out ps (sym (ap (λ b. b && list_all counts_none ps) (eq-eqb p.out 0 none)) ∙ is))
+      | inr more ↦ (0, p, omega arith, refl, omega (arith, more))
+    ]
+
+-- no block's words are out with a pass that counts none
+no-blocks : (blocks : List Lent) → length blocks ≡ 0 → blocks ≡ []
+no-blocks [] none = refl
+no-blocks (b ∷ bs) none = absurd (omega (arith, none))
+
+pub nothing-out : (h : Heap) (p : Pass) → IsOf h p → p.out ≡ 0 → p.seat.me.0.lent ≡ []
+nothing-out h p of none = no-blocks p.seat.me.0.lent (of.counted ∙ none)
 
 -- the callers of a view that stands for one idle caller
 pub one-idle :

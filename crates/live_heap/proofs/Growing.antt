@@ -57,7 +57,7 @@ own-between caller xs ys zs a b e =
     let nb : own caller b.0 ≡ [] = none_left _ (omega arith) in
     sym (ap (own caller) b.1 ∙ own-more caller ys b.0 nb)
 
-own-gone : (caller : ℕ) (event : Event) → caller ≢ caller_of event → own caller (event ∷ []) ≡ []
+pub own-gone : (caller : ℕ) (event : Event) → caller ≢ caller_of event → own caller (event ∷ []) ≡ []
 own-gone caller event differ = rw (ne_eqb (caller_of event) caller (λ same. differ (sym same))) refl
 
 pub own-kept : (event : Event) → own (caller_of event) (event ∷ []) ≡ event ∷ []

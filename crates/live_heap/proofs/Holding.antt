@@ -208,10 +208,10 @@ resume-hand h first p q blocks call made tries resumed.Busy of of_new tells trie
 -- a resumed call that was waiting: what it was given is in the hand
 pub waiting-hand :
     (h : Heap) (p q : Pass) (blocks : List Block) (tries : ℕ) (answer : Resumed) → IsWaiting h p blocks → IsOf h q
-    → ((first : Pass) (call : Call) (made : ℕ) → IsCalling first call made p → ResumeTells first call made p tries answer q)
+    → ((first : Pass) (call : Call) (made : ℕ) → IsOf h first → IsCalling first call made p → ResumeTells first call made p tries answer q)
     → IsHand h q (blocks ++ resumed_by answer)
 waiting-hand h p q blocks tries answer w of_new tells =
-    resume-hand h w.first p q blocks w.call w.steps tries answer w.of of_new (tells w.first w.call w.steps w.calling) w.tried w.leaves w.holds
+    resume-hand h w.first p q blocks w.call w.steps tries answer w.of of_new (tells w.first w.call w.steps w.of w.calling) w.tried w.leaves w.holds
 
 -- the hand of an idle pass that has changed in nothing
 same-hand : (h : Heap) (p q : Pass) (blocks : List Block) → q ≡ p → IsIdle p.errand → IsOf h q → Holds p blocks → IsHand h q (blocks ++ [])

@@ -1,5 +1,5 @@
 -- A call that was made without an errand, and goes on by it.
-use Rattle.std.proofs.Common.{ℕ, suc, ◌≡◌, ◌<◌, ◌-◌, inl, inr, Option, None, Some, refl, sym, ap, ◌∙◌, subst, arith}
+use Rattle.std.proofs.Common.{ℕ, ◌≡◌, ◌<◌, ◌-◌, inl, inr, Option, None, Some, refl, sym, ap, ◌∙◌, subst, arith}
 use Rattle.word_table.specs.declared.action.Found.{Found as Find}
 use Rattle.superblock_parts.specs.declared.point.BlockPoint.{BlockPoint}
 use Rattle.errand_steps.specs.declared.continuation.Continuation.{Continuation}
@@ -15,7 +15,7 @@ use Rattle.step_machine.specs.Moments.{IsMoment}
 use Rattle.live_heap.specs.declared.block.Block.{Block}
 use Rattle.live_heap.specs.declared.heap.Heap.{Heap}
 use Rattle.live_heap.specs.declared.pass.Pass.{Pass}
-use Rattle.live_heap.specs.Passes.{IsOf, accesses, seen, view}
+use Rattle.live_heap.specs.Passes.{IsOf, IsOneStep, seen, view}
 use Rattle.live_heap.specs.Sights.{TakesStep, found_in}
 use Rattle.live_heap.specs.Answers.{reply_of}
 use Rattle.live_heap.specs.Going.{HasGone, HasWalked, IsGoing, Rejoins, at_block, stands_at}
@@ -26,10 +26,10 @@ use Rattle.step_machine.proofs.TellLemmas.{moment-tellable}
 -- the errand of a call whose seat has made the step stands where the step began
 pub rejoins :
     (h : Heap) (start : Pass) (tries : ℕ) (p : BlockPoint) (o : Continuation) (x : Find) (r : Pass) → HasWalked h start tries p o x r
-    → (f : ErrandFields) → f ≡ at_block r.errand p o → Rejoins h start tries x (record { seat = r.seat; errand = f })
+    → (f : ErrandFields) → f ≡ at_block r.errand p o → Rejoins h start tries x (record { seat = r.seat; errand = f; out = r.out })
 rejoins h start tries p o x r w f is =
     record {
-      last = stands_at (record { seat = w.seat; errand = r.errand }) p o;
+      last = stands_at (record { seat = w.seat; errand = r.errand; out = r.out }) p o;
       of = w.walks.of;
       going = w.walks.going;
       stands = is;
@@ -37,12 +37,13 @@ rejoins h start tries p o x r w f is =
       has = w.has;
       table = w.table;
       empty = w.empty;
+      out = refl;
     }
 
 -- the pass whose errand has caught up with the step of its seat
 module _
     (h : Heap) (start : Pass) (tries : ℕ) (found : Find) (p : Pass) (j : Rejoins h start tries found p) (q : Pass)
-    (answer : Progress) (seat : q.seat ≡ p.seat) (is : q.errand ≡ settle_of p.errand found) (told : answer ≡ answer_of p.errand found) where
+    (answer : Progress) (seat : q.seat ≡ p.seat) (out : q.out ≡ p.out) (is : q.errand ≡ settle_of p.errand found) (told : answer ≡ answer_of p.errand found) where
   abbrev last : Pass
   last = j.last
 
@@ -57,12 +58,12 @@ module _
 
   pub joins-of : IsOf h q
   joins-of =
-      still-of h last q j.has.0 j.of (ap (λ s. s.region) seat ∙ j.table) (ap (λ s. s.me.1) seat ∙ j.empty) settled stepped
+      still-of h last q j.has.0 j.of (ap (λ s. s.region) seat ∙ j.table) (ap (λ s. s.me.1) seat ∙ j.empty) (out ∙ j.out) settled stepped
 
   pub joins-moment : IsMoment last.errand q.errand (seen last) (seen q) answer
   joins-moment = took-step last q j.has.0 answer settled answered stepped
 
-  joins-access : accesses q ≡ suc (accesses last)
+  joins-access : IsOneStep last q
   joins-access = took-access last.errand last q j.has.0 stepped
 
   -- how the call's tries stand behind that step, by what it came to

@@ -1,6 +1,7 @@
 -- What a pass owns, it keeps through its calls.
 use Rattle.std.proofs.Common.{ℕ, zero, suc, true, false, eqb, ◌≡◌, ◌≢◌, inl, inr, List, [], ◌∷◌, ◌++◌, Option, Some, refl, sym, ap, ◌∙◌, subst, append_assoc}
 use Rattle.std.specs.Prelude.{IfSome}
+use lib.ListN.{get_elem?}
 use Rattle.std.proofs.lemmas.Bool.{cases_Bool}
 use Rattle.std.proofs.lemmas.Option.{none-some}
 use Rattle.heap_geometry.specs.declared.geometry.Geometry.{Geometry}
@@ -33,8 +34,9 @@ use Rattle.step_machine.proofs.SpareLemmas.{so_far-spares, events-spare}
 use Rattle.live_heap.specs.declared.block.Block.{Block}
 use Rattle.live_heap.specs.declared.heap.Heap.{Heap}
 use Rattle.live_heap.specs.declared.pass.Pass.{Pass}
+use Rattle.live_heap.specs.declared.view.Lent.{Lent}
 use Rattle.live_heap.specs.Calls.{HasCalled, IsCalling, StepsOn}
-use Rattle.live_heap.specs.Passes.{IsOf, Owns, seen}
+use Rattle.live_heap.specs.Passes.{IsHome, IsOf, Owns, seen, view}
 use Rattle.live_heap.proofs.Growing.{starts-self, starts-on, starts-event}
 
 -- what is seen only grows at a step, and over several
@@ -116,22 +118,30 @@ ended-spares caller place call answer added leaves h =
     events-spare place caller h.ended.0 added
     (subst (λ (o : Option Ended). IfSome o (λ end. LeavesAtEnd end place)) h.ended.1 (leaves-some call answer place leaves)) h.ended.2
 
+-- where the same blocks' words are out, the others' are home
+pub stays-home : (p q : Pass) (place : ℕ) → (view q).lent ≡ (view p).lent → IsHome p place → IsHome q place
+stays-home p q place same home = λ n b found. home n b (ap (λ (l : List Lent). get_elem? l n) (sym same) ∙ found)
+
 -- a pass keeps its blocks through a call, but for the one that a free or a put is about
 pub called-keeps :
     (h : Heap) (p q : Pass) (call : Call) (steps : ℕ) (answer : Reply) (block : Block) → IsOf h p → IsOf h q → HasCalled p call steps answer q
     → LeavesPlace call block.place → Owns p block → Owns q block
-called-keeps h p q call steps answer block was of called leaves owns =
-    subst (λ c. OwnsAfter (seen q) c block.place block.need) (sym called.caller)
-    (owns-on h.layout p.errand.caller block.place block.need (seen p) (seen q) called.added of.served.legal (called-adds p q call steps answer called)
-    (ended-spares p.errand.caller block.place call answer called.added leaves called.ended) owns)
+called-keeps h p q call steps answer block was of called leaves owns = (
+  subst (λ c. OwnsAfter (seen q) c block.place block.need) (sym called.caller)
+      (owns-on h.layout p.errand.caller block.place block.need (seen p) (seen q) called.added of.served.legal (called-adds p q call steps answer called)
+      (ended-spares p.errand.caller block.place call answer called.added leaves called.ended) owns.0),
+  stays-home p q block.place called.lent owns.1,
+)
 
 pub calling-keeps :
     (h : Heap) (p q : Pass) (call : Call) (steps : ℕ) (block : Block) → IsOf h p → IsOf h q → IsCalling p call steps q → LeavesPlace call block.place
     → Owns p block → Owns q block
-calling-keeps h p q call steps block was of calling leaves owns =
-    subst (λ c. OwnsAfter (seen q) c block.place block.need) (sym calling.caller)
-    (owns-on h.layout p.errand.caller block.place block.need (seen p) (seen q) calling.added of.served.legal (calling-adds p q call steps calling)
-    (so_far-spares block.place p.errand.caller call (stage_of q.errand.point) calling.added leaves calling.under_way) owns)
+calling-keeps h p q call steps block was of calling leaves owns = (
+  subst (λ c. OwnsAfter (seen q) c block.place block.need) (sym calling.caller)
+      (owns-on h.layout p.errand.caller block.place block.need (seen p) (seen q) calling.added of.served.legal (calling-adds p q call steps calling)
+      (so_far-spares block.place p.errand.caller call (stage_of q.errand.point) calling.added leaves calling.under_way) owns.0),
+  stays-home p q block.place calling.lent owns.1,
+)
 
 -- the event stands in the list, and behind these events of the caller
 abbrev pub Splits : ℕ → List Event → List Event → Event → Type 0
@@ -182,14 +192,14 @@ own-split caller (x ∷ xs) (f ∷ fs) event e =
     ]
 
 -- at the last event that the caller adds the block is still its own
-abbrev OwnsAt : Geometry → ℕ → ℕ → Need → Event → Type 0
-OwnsAt g caller place need event =
+abbrev OwnsUntil : Geometry → ℕ → ℕ → Need → Event → Type 0
+OwnsUntil g caller place need event =
     (before : List Event) × IsAllowed g before event × OwnsAfter before caller place need
 
 owns-at :
     (g : Geometry) (caller place : ℕ) (need : Need) (before after front : List Event) (event : Event) → IsLegal g after
     → Adds caller before after (front ++ event ∷ []) → AllSpare place front → OwnsAfter before caller place need
-    → OwnsAt g caller place need event
+    → OwnsUntil g caller place need event
 owns-at g caller place need before after front event legal adds spares owns =
     let t = own-split caller adds.0 front event adds.2 in
     let whole : after ≡ (before ++ t.0) ++ event ∷ t.1 =
@@ -253,11 +263,26 @@ pub called-given :
     → HasCalled p call steps (reply.Given place need) q → Owns p block → block.place ≢ place
 called-given h p q call steps place need block was of called owns =
     given-apart h.layout p.errand.caller place block.place block.need need call (seen p) (seen q) called.added of.served.legal
-    (called-adds p q call steps (reply.Given place need) called) called.ended owns
+    (called-adds p q call steps (reply.Given place need) called) called.ended owns.0
 
 pub called-got :
     (h : Heap) (p q : Pass) (call : Call) (steps place : ℕ) (need : Need) (block : Block) → IsOf h p → IsOf h q
     → HasCalled p call steps (reply.Got place need) q → Owns p block → block.place ≢ place
 called-got h p q call steps place need block was of called owns =
     got-apart h.layout p.errand.caller place block.place block.need need call (seen p) (seen q) called.added of.served.legal
-    (called-adds p q call steps (reply.Got place need) called) called.ended owns
+    (called-adds p q call steps (reply.Got place need) called) called.ended owns.0
+
+-- the words of such a block are home, since only those of blocks that the pass owned were out
+pub given-home :
+    (h : Heap) (p q : Pass) (call : Call) (steps place : ℕ) (need : Need) → IsOf h p → IsOf h q → HasCalled p call steps (reply.Given place need) q
+    → IsHome q place
+given-home h p q call steps place need was of called = λ n b found.
+    given-apart h.layout p.errand.caller place b.place b.need need call (seen p) (seen q) called.added of.served.legal
+    (called-adds p q call steps (reply.Given place need) called) called.ended (was.mine n b (ap (λ (l : List Lent). get_elem? l n) (sym called.lent) ∙ found))
+
+pub got-home :
+    (h : Heap) (p q : Pass) (call : Call) (steps place : ℕ) (need : Need) → IsOf h p → IsOf h q → HasCalled p call steps (reply.Got place need) q
+    → IsHome q place
+got-home h p q call steps place need was of called = λ n b found.
+    got-apart h.layout p.errand.caller place b.place b.need need call (seen p) (seen q) called.added of.served.legal
+    (called-adds p q call steps (reply.Got place need) called) called.ended (was.mine n b (ap (λ (l : List Lent). get_elem? l n) (sym called.lent) ∙ found))

@@ -66,7 +66,7 @@ begun-takes e (put place need shelf) rule idle = record { turns = omega arith; d
 begun-takes e (take shelf) rule idle = record { turns = omega arith; discards = refl }
 
 -- a block that a caller owns is one of the heap's
-owned-here :
+pub owned-here :
     (g : Geometry) (events : List Event) (caller place : ℕ) (need : Need) → IsLegal g events → IsOwned (after_events events) caller place need
     → IsHeapBlock g place need
 owned-here g events caller place need legal owned =

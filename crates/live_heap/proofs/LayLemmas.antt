@@ -17,7 +17,7 @@ use Rattle.word_table.specs.Occurs.{occurs}
 use Rattle.word_table.specs.declared.action.Found.{Found as Find}
 use Rattle.live_heap.specs.declared.view.View.{View}
 use Rattle.live_heap.specs.Going.{HasFound}
-use Rattle.live_heap.specs.Pieces.{Claimed, EachOf, HasLaid, IsSoleOpener, KnowsMore, PiecesHold, mark_place, with_pieces, zeros_of}
+use Rattle.live_heap.specs.Pieces.{Claimed, EachOf, HasLaid, IsSoleOpener, KnowsMore, PiecesHold, mark_count, mark_place, with_pieces, zeros_of}
 use Rattle.live_heap.specs.Sights.{IsSightOf, TakesStep}
 use Rattle.live_heap.proofs.Claiming.{claim, publish}
 use Rattle.live_heap.proofs.Moves.{opens-since}
@@ -26,7 +26,7 @@ use Rattle.live_heap.proofs.Shows.{arena-placed, piece-end}
 -- a pass that knows more pieces to be laid may make the same step
 pub still-sight : (g : Geometry) (v w : Me View) (e : ErrandFields) → KnowsMore v w → IsSightOf g v.0 e → IsSightOf g w.0 e
 still-sight g v w e knows s =
-    subst (λ (u : Me View). IsSightOf g u.0 e) (sym knows) (record { before = s.before; one = s.one; begun = s.begun; laid = s.laid })
+    subst (λ (u : Me View). IsSightOf g u.0 e) (sym knows) (record { before = s.before; one = s.one; begun = s.begun; laid = s.laid; apart = s.apart })
 
 -- and its step is one of the pass as it was before
 took-from : (e : ErrandFields) (n : ℕ) (v u : View) (ready : List ℕ) → v.lays ≡ None → TakesStep e n (with_pieces v None ready) u → TakesStep e n v u
@@ -43,6 +43,8 @@ took-from e n v u ready settled s = record {
   served = s.served;
   alone = s.alone;
   lays = s.lays ∙ sym settled;
+  lent = s.lent;
+  mine = s.mine;
 }
 
 pub found-from : (e : ErrandFields) (x : Find) (v w : Me View) (u : View) → KnowsMore v w → v.0.lays ≡ None → HasFound e x w.0 u → HasFound e x v.0 u
@@ -97,10 +99,10 @@ nothing_out : (me : Me View) → me.1 ≡ [] → me ≡ (me.0, [])
 nothing_out me empty = λ i. (me.0, empty i)
 
 -- the mark lies in the region, and so do the piece's words
-pub mark-within : (g : Geometry) (size k place : ℕ) → size ≡ placed_count g + piece_count g → place ≡ mark_place g k → k < piece_count g → place < size
+pub mark-within : (g : Geometry) (size k place : ℕ) → size ≡ placed_count g + mark_count g → place ≡ mark_place g k → k < piece_count g → place < size
 mark-within g size k place long at below = omega (arith, long, at, below)
 
-pub piece-within : (g : Geometry) (size k : ℕ) → size ≡ placed_count g + piece_count g → k < piece_count g → piece_start g k + piece_words g k ≤ size
+pub piece-within : (g : Geometry) (size k : ℕ) → size ≡ placed_count g + mark_count g → k < piece_count g → piece_start g k + piece_words g k ≤ size
 piece-within g size k long below = omega (arith, long, piece-end g k below, arena-placed g)
 
 -- the piece may be claimed at its mark

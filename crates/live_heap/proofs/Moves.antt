@@ -1,6 +1,6 @@
 -- Each step of a pass keeps the rule.
-use Rattle.std.proofs.Common.{ℕ, zero, suc, Bool, true, false, ◌≡◌, ◌≢◌, ◌<◌, ◌≤◌, ◌⊎◌, inl, inr, List, [], ◌∷◌, ◌++◌, length, Option, Some, refl, sym, ap, ◌∙◌, subst, ⊎_elim, arith, length-set, eq-eqb, ne_eqb}
-use Rattle.std.specs.Prelude.{slice_index, slice_set, count_by, ◌==◌, if◌then◌else◌, option_to_list}
+use Rattle.std.proofs.Common.{ℕ, zero, suc, Bool, true, false, ◌≡◌, ◌≢◌, ◌<◌, ◌≤◌, ◌+◌, ◌⊎◌, inl, inr, List, [], ◌∷◌, ◌++◌, length, Option, Some, None, refl, sym, ap, ◌∙◌, subst, ⊎_elim, arith, length-set, eq-eqb, ne_eqb}
+use Rattle.std.specs.Prelude.{Contains, slice_index, slice_set, count_by, ◌==◌, if◌then◌else◌, option_to_list}
 use mathlib.Core.Option.{some, some-injective, some-ne-none}
 use lib.ListN.{get_elem?}
 use Rattle.atomic_table.proofs.Lists.{at_set}
@@ -15,12 +15,13 @@ use Rattle.word_table.specs.Table.{Exists, word_index}
 use Rattle.word_table.specs.Words.{word_in}
 use Rattle.word_table.proofs.WordLemmas.{Writes-set, word_in-there}
 use Rattle.pool_model.specs.declared.event.Event.{Event}
-use Rattle.pool_model.specs.Histories.{own}
-use Rattle.pool_model.specs.Legal.{IsLegal}
-use Rattle.pool_model.specs.Pool.{block_at, pool_of}
+use Rattle.pool_model.specs.Histories.{caller_of, own}
+use Rattle.pool_model.specs.Legal.{IsLegal, IsLegalWithoutCounts}
+use Rattle.pool_model.specs.declared.owner.Owner.TheVariants.{Caller}
+use Rattle.pool_model.specs.Pool.{Block as PoolBlock, block_at, pool_of}
 use Rattle.pool_model.proofs.HistoryLemmas.{legal-weaker}
 use Rattle.pool_model.proofs.OwnerLemmas.{others-keep_all}
-use Rattle.heap_geometry.specs.Need.{need_of}
+use Rattle.heap_geometry.specs.Need.{need_of, usable_words}
 use Rattle.errand_steps.specs.Begins.{IsBusy, IsIdle, begins_alloc, free_point, alloc_begun, free_begun, write_begun, read_begun, put_begun, take_begun}
 use Rattle.errand_steps.specs.Points.{is_idle}
 use Rattle.errand_steps.specs.declared.point.Point.{Point}
@@ -38,14 +39,22 @@ use Rattle.sound_state.specs.Moves.{is_step_of}
 use Rattle.sound_state.specs.Runs.{MayBegin, BeginsCall, Move, begins, steps}
 use Rattle.sound_state.specs.Sound.{IsSound, IsOwnErrand}
 use Rattle.call_bounds.specs.Wins.{Win, Wins, win_list_after, win_at}
-use Rattle.step_machine.specs.Cores.{IsLonger, IsReached, made_with, no_errand}
+use Rattle.owned_words.specs.Accesses.{AccessesWord}
+use Rattle.owned_words.specs.Leaving.{concerned}
+use Rattle.owned_words.proofs.GivenAway.{stays-unconcerned}
+use Rattle.owned_words.proofs.OwnWords.{point-owned}
+use Rattle.step_machine.specs.Cores.{IsLonger, IsReached, OwnsAfter, made_with, no_errand}
+use Rattle.step_machine.specs.Keeping.{AllSpare}
+use Rattle.step_machine.proofs.KeepLemmas.{owns-rest}
 use Rattle.step_machine.specs.Moments.{IsServed}
 use Rattle.step_machine.proofs.CoreLemmas.{run-sound, run-longer}
 use Rattle.step_machine.proofs.MomentAnswers.{settle-caller}
 use Rattle.step_machine.proofs.MomentLemmas.{reached-served}
+use Rattle.live_heap.specs.declared.view.Lent.{Lent}
 use Rattle.live_heap.specs.declared.view.Standing.{Standing}
 use Rattle.live_heap.specs.declared.view.View.{View}
 use Rattle.live_heap.specs.Rule.{IsStanding, Stands, KeptTable, state_with}
+use Rattle.live_heap.specs.Lending.{with_lent}
 use Rattle.live_heap.specs.Sights.{IsBegun, TakesStep, after_events, found_in}
 use Rattle.sound_state.proofs.CountedLemmas.{without-counts}
 use Rattle.first_uses.specs.Pieces.{piece_of}
@@ -54,7 +63,7 @@ use Rattle.first_uses.specs.Uses.{IsUnused}
 use Rattle.first_uses.proofs.InUse.{InUse, point-in_use}
 use Rattle.first_uses.proofs.Leaving.{unused-stays}
 use Rattle.live_heap.proofs.Alone.{reached-alone}
-use Rattle.live_heap.proofs.Growing.{IsBy, begin-uncounted, own-between, own-others, rest-none, starts-event, starts-more, starts-self, step-counted, steps-others, wins-others}
+use Rattle.live_heap.proofs.Growing.{IsBy, begin-uncounted, own-between, own-gone, own-others, rest-none, starts-event, starts-more, starts-self, step-counted, steps-others, wins-others}
 
 -- the errands with another one for one caller
 abbrev pub moved : (ℕ → ErrandFields) → ℕ → ErrandFields → ℕ → ErrandFields
@@ -244,6 +253,14 @@ only : {A : Type 0} (x y : A) (k : ℕ) → get_elem? (x ∷ []) k ≡ some y �
 only x y zero e = (refl, some-injective x y e)
 only x y (suc k) e = absurd (some-ne-none y (sym e))
 
+-- a caller's block is its own behind another caller's event
+own-still :
+    (g : Geometry) (log : List Event) (event : Option Event) (caller place : ℕ) (need : Need) → IsLegalWithoutCounts g (with_event log event)
+    → ((e : Event) → event ≡ Some e → caller_of e ≢ caller) → OwnsAfter log caller place need → OwnsAfter (with_event log event) caller place need
+own-still g log None caller place need legal apart owns = owns
+own-still g log (Some e) caller place need legal apart owns =
+    owns-rest g log (e ∷ []) caller place need legal (subst (AllSpare place) (sym (own-gone caller e (λ same. apart e refl (sym same)))) tt) owns
+
 module _ (g : Geometry) (words : List ℕ) (views : List View) (id : ℕ) (v : View) (before : Standing) (e : ErrandFields) (k : KeptTable g words views)
     (at : get_elem? views id ≡ some v) (one : v.callers ≡ before ∷ []) (b : IsBegun v.seen before.errand e) (busy : IsBusy e) where
   abbrev pub caller : ℕ
@@ -259,7 +276,7 @@ module _ (g : Geometry) (words : List ℕ) (views : List View) (id : ℕ) (v : V
   abbrev pub after : ErrandFields
   after = settle_of e (found_in e number)
 
-  abbrev event : Option Event
+  abbrev pub event : Option Event
   event = event_of caller e.point (found_in e number)
 
   mine : Stands g k.errands k.events k.run.wins.list k.run.moves k.place id v
@@ -316,7 +333,7 @@ module _ (g : Geometry) (words : List ℕ) (views : List View) (id : ℕ) (v : V
   abbrev errands_then : ℕ → ErrandFields
   errands_then = moved begun.started caller after
 
-  abbrev events_now : List Event
+  abbrev pub events_now : List Event
   events_now = with_event k.events event
 
   abbrev next : State
@@ -367,7 +384,7 @@ module _ (g : Geometry) (words : List ℕ) (views : List View) (id : ℕ) (v : V
   standing_then = record { errand = after; seen = events_now; accesses = suc before.accesses }
 
   abbrev pub view_then : View
-  view_then = record { callers = standing_then ∷ []; seen = events_now; wins = list_now; lays = v.lays; ready = v.ready }
+  view_then = record { callers = standing_then ∷ []; seen = events_now; wins = list_now; lays = v.lays; ready = v.ready; lent = v.lent }
 
   now_mine : errands_then caller ≡ after
   now_mine = (moves-moved begun.started caller after).here
@@ -449,6 +466,10 @@ module _ (g : Geometry) (words : List ℕ) (views : List View) (id : ℕ) (v : V
         (subst (λ l. Stands g errands_then events_now l moves_now k.place j u) (sym list_is) (each_then j u is));
   }
 
+  pub events_then : kept_then.events ≡ events_now
+  unfolding kept_then
+  events_then = refl
+
   served_then : IsServed e.geometry caller after events_now
   served_then =
       subst (λ h. IsServed h caller after events_now) (sym own_errand.geometry)
@@ -459,8 +480,18 @@ module _ (g : Geometry) (words : List ℕ) (views : List View) (id : ℕ) (v : V
       let one_caller : g.callers ≡ 1 = ap (λ (h : Geometry). h.callers) (sym own_errand.geometry) ∙ is in
       ap (λ (x : ErrandFields). x.lost) (sym now_mine) ∙ reached-alone g next made_now caller run_now has one_caller
 
-  pub steps_then : TakesStep e number v view_then
-  steps_then = record {
+  -- behind the step the caller owns each of its blocks that its call isn't about
+  pub mine-own : (place : ℕ) (need : Need) → ¬ Contains (concerned e.point) place → OwnsAfter k.events caller place need → OwnsAfter events_now caller place need
+  mine-own place need spared owns =
+      let kept = stays-unconcerned g state caller place next owns.0 (without-counts g state sound) has step owns.1 owns.2
+      (subst (λ (f : ErrandFields). ¬ Contains (concerned f.point) place) (sym begun.moves.here) spared) in
+      (kept.0, kept.1, kept.2, kept.3 ∙ owns.3)
+
+  -- what the pass sees of the step, whichever blocks' words are out with it that the call isn't about
+  pub steps_then :
+      (blocks : List Lent) → ((n : ℕ) (x : Lent) → get_elem? blocks n ≡ some x → OwnsAfter k.events caller x.place x.need)
+      → ((n : ℕ) (x : Lent) → get_elem? blocks n ≡ some x → ¬ Contains (concerned e.point) x.place) → TakesStep e number (with_lent v blocks) (with_lent view_then blocks)
+  steps_then blocks owned apart = record {
     before = before;
     after = standing_then;
     was = one;
@@ -488,6 +519,8 @@ module _ (g : Geometry) (words : List ℕ) (views : List View) (id : ℕ) (v : V
     served = served_then;
     alone = alone_then;
     lays = refl;
+    lent = refl;
+    mine = λ n x found. mine-own x.place x.need (apart n x found) (owned n x found);
   }
 
   -- a piece that nobody uses stays so, but where the caller is about to use it first
@@ -526,6 +559,28 @@ module _ (g : Geometry) (words : List ℕ) (views : List View) (id : ℕ) (v : V
             (sym at_x ∙ ap (λ (q : List Standing × ℕ). get_elem? q.0 q.1) (let both : (u.callers, n) ≡ (v.callers, 0) = (λ j. (ap (λ (z : View). z.callers) u_is j, n_is j)) in both)
             ∙ ap (λ (l : List Standing). get_elem? l 0) one),
       )
+
+  -- a caller's view is this one
+  pub view-mine : (j : ℕ) (u : View) (n : ℕ) (x : Standing) → get_elem? views j ≡ some u → get_elem? u.callers n ≡ some x → x.errand.caller ≡ caller → u ≡ v
+  view-mine j u n x at_u at_x is =
+      let y = (k.each j u at_u).each n x at_x in
+      let place_is : (j, n) ≡ (id, 0) = sym y.at_place ∙ ap k.place (is ∙ same_caller) ∙ first.at_place in
+      some-injective u v (sym at_u ∙ ap (get_elem? views) (ap (λ (q : ℕ × ℕ). q.0) place_is) ∙ at)
+
+  -- where the step is on a usable word of a live block, the caller owns the block, and the step is a read or a write of the word
+  pub word-mine :
+      (word place i : ℕ) (x : PoolBlock) → name_of (plan_of e) ≡ Arena word → block_at place (pool_of k.events) ≡ Some x → word ≡ place + 1 + i
+      → i < usable_words x.need → (x.owner ≡ Caller caller) × AccessesWord e.point place i
+  word-mine word place i x is live at_word within =
+      let so = point-owned g state caller word place i x (state.errand caller).point (without-counts g state sound) has refl
+      (ap (λ (f : ErrandFields). name_of (plan_of f)) begun.moves.here ∙ is) (record { live = live; at = at_word; within = within }) in
+      (so.0, subst (λ (f : ErrandFields). AccessesWord f.point place i) begun.moves.here so.1)
+
+  -- behind the step another caller's block is its own still
+  pub others-own :
+      (other place : ℕ) (need : Need) → other ≢ caller → OwnsAfter k.events other place need → OwnsAfter events_now other place need
+  others-own other place need apart owns =
+      own-still g k.events event other place need (legal-weaker g events_now (run-sound g next made_now run_now).legal) (λ e is same. apart (sym same ∙ by_me e is)) owns
 
   -- who is about to use a piece first stands there already
   pub opens-before : (piece : ℕ) → Opens g before.errand.point piece → Opens g e.point piece

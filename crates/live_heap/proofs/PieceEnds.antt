@@ -18,7 +18,7 @@ use Rattle.first_uses.proofs.Opening.{unused-first}
 use Rattle.first_uses.proofs.PieceLemmas.{word-among, word-inside}
 use Rattle.live_heap.specs.declared.view.Standing.{Standing}
 use Rattle.live_heap.specs.declared.view.View.{View}
-use Rattle.live_heap.specs.Pieces.{AreLaidOut, Status, mark_of, place_as, shown}
+use Rattle.live_heap.specs.Pieces.{AreLaidOut, Status, mark_count, mark_of, place_as, shown}
 use Rattle.live_heap.specs.Pieces.Status.{blank, out, used}
 use Rattle.live_heap.specs.Rule.{first_errands, state_with}
 use Rattle.live_heap.specs.Views.{opening_view}
@@ -34,7 +34,7 @@ all_blank k = blank
 -- at opening the arena is blank, and every other word is laid as at opening, and each mark with 0
 pub opens-pieces :
     (g : Geometry) (words : List ℕ) (places : List Place) → IsChecked g → IsTable g (opening g) (word_count g) (words_at g words)
-    → length places ≡ placed_count g + piece_count g → ((i : ℕ) → i < length places → place_at places i ≡ shown g words all_blank i)
+    → length places ≡ placed_count g + mark_count g → ((i : ℕ) → i < length places → place_at places i ≡ shown g words all_blank i)
     → ((i : ℕ) → i < arena_words g → slice_index words i ≡ 0) → AreLaidOut g words places (opening_view g ∷ [])
 opens-pieces g words places checked table long each zeros = record {
   status = all_blank;

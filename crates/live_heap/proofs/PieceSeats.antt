@@ -6,19 +6,21 @@ use mathlib.Core.Option.{some, some-injective}
 use lib.ListN.{get_elem?}
 use Rattle.atomic_table.proofs.Lists.{at_longer, at_set, at_snoc, set_else, set_here}
 use Rattle.heap_geometry.specs.declared.geometry.Geometry.{Geometry}
-use Rattle.heap_geometry.specs.Geometry.{IsChecked}
 use Rattle.word_table.specs.Occurs.{occurs}
 use Rattle.placed_words.specs.Places.{words_at}
 use Rattle.plain_words.specs.Places.{Place, laid, number, place_at, IsLaid}
 use Rattle.atomic_region.specs.Region as region
 use Rattle.errand_steps.specs.Openers.{Opens}
+use Rattle.pool_model.specs.declared.event.Event.{Event}
+use Rattle.live_heap.specs.declared.view.Lent.{Lent}
 use Rattle.live_heap.specs.declared.view.Standing.{Standing}
 use Rattle.live_heap.specs.declared.view.View.{View}
-use Rattle.live_heap.specs.Pieces.{AreLaidOut, IsOpened, PiecesHold, mark_of, mark_place}
+use Rattle.live_heap.specs.Pieces.{AreLaidOut, AreLent, IsLent, IsOpened, PiecesHold, mark_of, mark_place}
 use Rattle.live_heap.specs.Views.{first_caller, first_part, gathered, other_callers, other_part, spent_view}
 use Rattle.live_heap.proofs.Claiming.{unlike}
-use Rattle.live_heap.proofs.Seats.{joins, splits}
-use Rattle.live_heap.proofs.Shows.{shown-mark}
+use Rattle.live_heap.proofs.LentPlaces.{home-behind, none-out}
+use Rattle.live_heap.proofs.Seats.{joins, joins-events, splits, splits-events}
+use Rattle.live_heap.proofs.Shows.{arena-placed, shown-mark}
 
 in-list : {A : Type 0} (l : List A) (i : ℕ) (a : A) → get_elem? l i ≡ some a → i < length l
 in-list [] i a e = absurd (let no : ⊥ = cc in no)
@@ -31,9 +33,13 @@ at-behind (x ∷ xs) m i a e = let number : suc (length xs) + i ≡ suc (length 
 
 -- the mark of the first piece is laid, whatever the region is
 first-mark :
-    (g : Geometry) (words : List ℕ) (places : List Place) (views : List View) → IsChecked g → AreLaidOut g words places views → IsLaid places (mark_place g 0)
-first-mark g words places views checked a =
-    let is : place_at places (mark_place g 0) ≡ laid (mark_of (a.status 0)) = a.each (mark_place g 0) (omega (arith, a.long, checked.frames.0)) ∙ shown-mark g words a.status 0 in
+    (g : Geometry) (events : List Event) (words : List ℕ) (whole places : List Place) (views : List View) → AreLaidOut g words whole views
+    → AreLent g events whole places views → IsLaid places (mark_place g 0)
+first-mark g events words whole places views a l =
+    let within : mark_place g 0 < length whole = omega (arith, a.long) in
+    let is : place_at places (mark_place g 0) ≡ laid (mark_of (a.status 0)) =
+    home-behind g events whole places views (mark_place g 0) l (omega (arith, arena-placed g)) (omega (arith, within, l.long))
+    ∙ a.each (mark_place g 0) within ∙ shown-mark g words a.status 0 in
     is ∙ ap laid (sym (ap number is))
 
 -- the callers of a pass that is cut stand in one of its parts
@@ -111,18 +117,49 @@ module _ (g : Geometry) (words : List ℕ) (places : List Place) (views : List V
         (from i u there);
   }
 
--- a pass that lays nothing may be cut in two
+  -- what is out is so still, where the pass has nothing out
+  module _ (home : v.lent ≡ []) where
+    lends-nothing : (u : View) (n : ℕ) (b : Lent) → (first_part v ≡ u) ⊎ (other_part v ≡ u) → get_elem? u.lent n ≡ some b → ⊥
+    lends-nothing u n b (inl first) found = none-out v n b home (ap (λ (z : View). get_elem? z.lent n) first ∙ found)
+    lends-nothing u n b (inr second) found = none-out (other_part v) n b refl (ap (λ (z : View). get_elem? z.lent n) second ∙ found)
+
+    parted-lent : (events : List Event) (now : List Place) → AreLent g events places now views → AreLent g events places now parted
+    parted-lent events now l = record {
+      long = l.long;
+      home = λ i inside free. l.home i inside (λ lent. free (still i lent));
+      blocks = λ i n u b there found. ⊎_elim
+          (λ (t : (i ≢ id) × (get_elem? views i ≡ some u)). l.blocks i n u b t.1 found)
+          (λ part. absurd (lends-nothing u n b part found))
+          (from i u there);
+    }
+      where
+        still : (i : ℕ) → IsLent views i → IsLent parted i
+        still i (j, u, n, b, there, found, above, under) =
+            elim (cases_eq j id) [
+              | inr other ↦ (j, u, n, b, elsewhere j u other there, found, above, under)
+              | inl same ↦
+                  let mine : u ≡ v = some-injective u v (sym there ∙ ap (get_elem? views) same ∙ at) in
+                  absurd (none-out v n b home (ap (λ (z : View). get_elem? z.lent n) (sym mine) ∙ found))
+            ]
+
+-- a pass that lays nothing and has nothing out may be cut in two
 pub splits-pieces :
-    (g : Geometry) (size id : ℕ) (v : View) → IsChecked g → v.lays ≡ None
+    (g : Geometry) (size id : ℕ) (v : View) → v.lays ≡ None → v.lent ≡ []
     → region.Splits (PiecesHold g) size (mark_place g 0) id v (first_part v) (other_part v)
-splits-pieces g size id v checked settled s good long at =
+splits-pieces g size id v settled home s good long at =
     let words : List ℕ = good.0 in
-    let h = good.1 in (
-      first-mark g words s.places s.views checked good.2,
+    let h = good.1 in
+    let whole : List Place = good.2 in
+    let kept = splits {S = ℕ} g id v (record { words = words_at g words; homes = []; views = s.views }) h.1 at in (
+      first-mark g h.1.events words whole s.places s.views good.3 good.4,
       (
         words,
-        (h.0, splits {S = ℕ} g id v (record { words = words_at g words; homes = []; views = s.views }) h.1 at),
-        parted-laid g words s.places s.views id v at settled good.2,
+        (h.0, kept),
+        whole,
+        parted-laid g words whole s.views id v at settled good.3,
+        subst (λ (events : List Event). AreLent g events whole s.places (slice_set s.views id (first_part v) ++ other_part v ∷ []))
+            (sym (splits-events {S = ℕ} g id v (record { words = words_at g words; homes = []; views = s.views }) h.1 at))
+            (parted-lent g words whole s.views id v at settled good.3 home h.1.events s.places good.4),
       ),
     )
 
@@ -209,18 +246,54 @@ module _ (g : Geometry) (words : List ℕ) (places : List Place) (views : List V
         (came i u there);
   }
 
--- a pass that lays nothing may be taken in by another such one
+  -- what is out is so still, where neither has anything out
+  module _ (home : v.lent ≡ []) (home_other : w.lent ≡ []) where
+    none-lent : (u : View) (n : ℕ) (b : Lent) → (both ≡ u) ⊎ (spent_view ≡ u) → get_elem? u.lent n ≡ some b → ⊥
+    none-lent u n b (inl first) found = none-out v n b home (ap (λ (z : View). get_elem? z.lent n) first ∙ found)
+    none-lent u n b (inr second) found = none-out spent_view n b refl (ap (λ (z : View). get_elem? z.lent n) second ∙ found)
+
+    joined-lent : (events : List Event) (now : List Place) → AreLent g events places now views → AreLent g events places now joined
+    joined-lent events now l = record {
+      long = l.long;
+      home = λ i inside free. l.home i inside (λ lent. free (still i lent));
+      blocks = λ i n u b there found. ⊎_elim
+          (λ (t : (i ≢ id) × (i ≢ other) × (get_elem? views i ≡ some u)). l.blocks i n u b t.2 found)
+          (λ one_of. absurd (none-lent u n b one_of found))
+          (came i u there);
+    }
+      where
+        still : (i : ℕ) → IsLent views i → IsLent joined i
+        still i (j, u, n, b, there, found, above, under) =
+            elim (cases_eq j id) [
+              | inl same ↦
+                  let mine : u ≡ v = some-injective u v (sym there ∙ ap (get_elem? views) same ∙ at) in
+                  absurd (none-out v n b home (ap (λ (z : View). get_elem? z.lent n) (sym mine) ∙ found))
+              | inr no_id ↦ elim (cases_eq j other) [
+                | inl same ↦
+                    let theirs : u ≡ w = some-injective u w (sym there ∙ ap (get_elem? views) same ∙ at_other) in
+                    absurd (none-out w n b home_other (ap (λ (z : View). get_elem? z.lent n) (sym theirs) ∙ found))
+                | inr no_other ↦ (j, u, n, b, aside j u no_id no_other there, found, above, under)
+              ]
+            ]
+
+-- a pass that lays nothing and has nothing out may be taken in by another such one
 pub joins-pieces :
-    (g : Geometry) (size id : ℕ) (v : View) (other : ℕ) (w : View) → IsChecked g → v.lays ≡ None → w.lays ≡ None
+    (g : Geometry) (size id : ℕ) (v : View) (other : ℕ) (w : View) → v.lays ≡ None → w.lays ≡ None → v.lent ≡ [] → w.lent ≡ []
     → region.Joins (PiecesHold g) size (mark_place g 0) id v other w (gathered v w) spent_view
-joins-pieces g size id v other w checked settled settled_other s good long =
+joins-pieces g size id v other w settled settled_other home home_other s good long =
     let words : List ℕ = good.0 in
-    let h = good.1 in (
-      first-mark g words s.places s.views checked good.2,
+    let h = good.1 in
+    let whole : List Place = good.2 in (
+      first-mark g h.1.events words whole s.places s.views good.3 good.4,
       λ at apart there.
-          let at_other : get_elem? s.views other ≡ some w = sym (set_else s.views id other (gathered v w) apart) ∙ there in (
+          let at_other : get_elem? s.views other ≡ some w = sym (set_else s.views id other (gathered v w) apart) ∙ there in
+          let kept = joins {S = ℕ} g id v other w (record { words = words_at g words; homes = []; views = s.views }) h.1 at apart there in (
             words,
-            (h.0, joins {S = ℕ} g id v other w (record { words = words_at g words; homes = []; views = s.views }) h.1 at apart there),
-            joined-laid g words s.places s.views id other v w at apart at_other settled settled_other good.2,
+            (h.0, kept),
+            whole,
+            joined-laid g words whole s.views id other v w at apart at_other settled settled_other good.3,
+            subst (λ (events : List Event). AreLent g events whole s.places (slice_set (slice_set s.views id (gathered v w)) other spent_view))
+                (sym (joins-events {S = ℕ} g id v other w (record { words = words_at g words; homes = []; views = s.views }) h.1 at apart there))
+                (joined-lent g words whole s.views id other v w at apart at_other settled settled_other good.3 home home_other h.1.events s.places good.4),
           ),
     )

@@ -4,7 +4,7 @@ use Rattle.std.specs.Prelude.{◌==◌, nat_lt, if◌then◌else◌, slice_set}
 use Rattle.std.proofs.lemmas.Bool.{cases_Bool, cond-true, cond-false, false≢true}
 use mathlib.Core.Option.{some, some-injective, some-ne-none}
 use lib.ListN.{get_elem?}
-use Rattle.atomic_table.specs.Table.{Splits, Joins}
+use Rattle.atomic_table.specs.Table.{Joins, Splits, State}
 use Rattle.atomic_table.proofs.Lists.{at_set, set_else}
 use Rattle.heap_geometry.specs.declared.geometry.Geometry.{Geometry}
 use Rattle.heap_geometry.specs.Geometry.{IsChecked}
@@ -346,3 +346,16 @@ joins g id v from w s h at apart there = record {
                 counted = y.counted;
               };
         }
+
+-- neither changes the events
+pub splits-events :
+    {S : Type 0} (g : Geometry) (id : ℕ) (v : View) (s : State S View) (h : TableHolds g s) (at : get_elem? s.views id ≡ some v)
+    → (splits {S = S} g id v s h at).events ≡ h.events
+unfolding splits
+splits-events g id v s h at = refl
+
+pub joins-events :
+    {S : Type 0} (g : Geometry) (id : ℕ) (v : View) (from : ℕ) (w : View) (s : State S View) (h : TableHolds g s) (at : get_elem? s.views id ≡ some v) (apart : ¬ (from ≡ id))
+    (there : get_elem? (slice_set s.views id (gathered v w)) from ≡ some w) → (joins {S = S} g id v from w s h at apart there).events ≡ h.events
+unfolding joins
+joins-events g id v from w s h at apart there = refl

@@ -9,7 +9,7 @@ use Rattle.placed_words.proofs.PlaceLemmas.{place-least}
 use Rattle.plain_words.specs.Places.{Place, laid, place_at, put}
 use Rattle.first_uses.specs.Pieces.{piece_count, piece_of, piece_start, piece_words}
 use Rattle.first_uses.proofs.PieceLemmas.{below-true, beyond-false, word-inside, word-among}
-use Rattle.live_heap.specs.Pieces.{Status, mark_of, place_as, mark_place, shown}
+use Rattle.live_heap.specs.Pieces.{Status, mark_count, mark_of, place_as, mark_place, shown}
 use Rattle.live_heap.proofs.PutPlaces.{at-put_before, at-put_in, at-put_behind}
 
 pub arena-placed : (g : Geometry) → arena_words g ≤ placed_count g
@@ -72,7 +72,7 @@ piece-end g k has = let some = piece-some g k in let last = word-inside g k (pie
 -- the places where a piece's words are put as far as this, and its mark says so
 pub relaid :
     (g : Geometry) (words : List ℕ) (places qs : List Place) (status : ℕ → Status) (k : ℕ) (st : Status) → k < piece_count g
-    → length places ≡ placed_count g + piece_count g → ((i : ℕ) → i < length places → place_at places i ≡ shown g words status i)
+    → length places ≡ placed_count g + mark_count g → ((i : ℕ) → i < length places → place_at places i ≡ shown g words status i)
     → length qs ≡ piece_words g k → ((j : ℕ) → j < piece_words g k → place_at qs j ≡ place_as st (slice_index words (piece_start g k + j)))
     → (i : ℕ) → i < length places
     → place_at (put (slice_set places (mark_place g k) (laid (mark_of st))) (piece_start g k) qs) i ≡ shown g words (with_status status k st) i

@@ -7,6 +7,14 @@ use Rattle.errand_steps.specs.declared.reply.Reply.TheVariants as reply
 use Rattle.errand_steps.specs.Begins.{alloc_answer, IsIdle, put_begun, read_begun, take_begun, write_begun}
 use Rattle.errand_steps.specs.Calls.{Call, alloc, begun_by, free, write, read, put, take}
 use Rattle.errand_steps.specs.Errands.{ErrandFields}
+use Rattle.errand_steps.specs.tables.CallStage.{StageOfCall, putting}
+use Rattle.call_events.specs.Stages.{stage_of}
+use Rattle.call_events.specs.UnderWay.{SoFar}
+use Rattle.owned_words.specs.Leaving.{concerned, concerned_at}
+use Rattle.owned_words.proofs.Concerned.{the-one}
+use Rattle.heap_geometry.specs.declared.need.Need.{Need}
+use Rattle.pool_model.specs.declared.event.Event.{Event}
+use Rattle.std.specs.Prelude.{Contains, List, [], ◌∷◌}
 use Rattle.step_machine.proofs.MomentAnswers.{moment-meant}
 use Rattle.errand_steps.specs.declared.reply.Begun.{Begun}
 use Rattle.errand_steps.specs.declared.reply.Begun.TheVariants as begun
@@ -20,7 +28,7 @@ use Rattle.live_heap.specs.declared.heap.Heap.{Heap}
 use Rattle.live_heap.specs.declared.pass.Pass.{Pass}
 use Rattle.live_heap.specs.Answers.{HasBegun, HasStepped, progress_of, reply_of, with_lost}
 use Rattle.live_heap.specs.Calls.{HasCalled, IsCalling}
-use Rattle.live_heap.specs.Passes.{IsOf, seen}
+use Rattle.live_heap.specs.Passes.{IsHome, IsOf, seen}
 use Rattle.live_heap.specs.Steps.{EndTells, HasStarted, IsDone, IsLastStep}
 use Rattle.live_heap.specs.Whole.{OwnsFor}
 use Rattle.live_heap.proofs.Begun.{heap-at}
@@ -33,13 +41,13 @@ pub begun-calling :
     (h : Heap) (p q : Pass) (call : Call) → IsOf h p → IsIdle p.errand → OwnsFor p call → HasStarted p call → HasBegun p call q → IsCalling p call 0 q
 begun-calling h p q (alloc words) of idle owns started since = alloc-calling p q words since idle started
 begun-calling h p q (free place need) of idle owns started since =
-    other-calling p q (free place need) since idle (heap-at h p place need of owns) (λ words is. cc)
+    other-calling p q (free place need) since idle (heap-at h p place need of owns.0) (λ words is. cc)
 begun-calling h p q (write place need i v) of idle owns started since =
-    other-calling p q (write place need i v) since idle (heap-at h p place need of owns) (λ words is. cc)
+    other-calling p q (write place need i v) since idle (heap-at h p place need of owns.0) (λ words is. cc)
 begun-calling h p q (read place need i) of idle owns started since =
-    other-calling p q (read place need i) since idle (heap-at h p place need of owns) (λ words is. cc)
+    other-calling p q (read place need i) since idle (heap-at h p place need of owns.0) (λ words is. cc)
 begun-calling h p q (put place need shelf) of idle owns started since =
-    other-calling p q (put place need shelf) since idle (heap-at h p place need of owns) (λ words is. cc)
+    other-calling p q (put place need shelf) since idle (heap-at h p place need of owns.0) (λ words is. cc)
 begun-calling h p q (take shelf) of idle owns started since = other-calling p q (take shelf) since idle tt (λ words is. cc)
 
 -- a call goes on behind each step that doesn't end it
@@ -50,7 +58,7 @@ pub steps-on :
     (first : Pass) (call : Call) (steps : ℕ) (p q : Pass) (told : Stepped Block) → IsCalling first call steps p → HasStepped p q told → ¬ IsDone told
     → IsCalling first call (suc steps) q
 steps-on first call steps p q told calling stepped undone =
-    calls-go_on first call steps p q (progress_of told) stepped.moment stepped.accesses calling (not-done told undone)
+    calls-go_on first call steps p q (progress_of told) stepped.moment (stepped.accesses, stepped.lent) calling (not-done told undone)
 
 pub steps-end :
     (first : Pass) (call : Call) (steps : ℕ) (p q : Pass) (end : Ending Block) → IsCalling first call steps p → HasStepped p q (step.Done end)
@@ -63,21 +71,35 @@ missed-differ :
 missed-differ p q expected found stepped =
     (moment-meant p.errand q.errand (seen p) (seen q) (progress.Done (reply.Missed expected found)) stepped.moment (reply.Missed expected found) refl).2
 
+-- a put is about its block as long as it is under way
+about-put :
+    (caller place shelf : ℕ) (need : Need) (at : StageOfCall) (es : List Event) → SoFar caller (put place need shelf) at es → Contains (concerned_at at) place
+about-put caller place shelf need (putting p n s) es so = subst (λ k. Contains (p ∷ []) k) so.0 (the-one p)
+about-put caller place shelf need at es so = absurd so
+
+put-home :
+    (h : Heap) (first p : Pass) (steps place : ℕ) (need : Need) (shelf : ℕ) → IsOf h p → IsCalling first (put place need shelf) steps p → IsHome p place
+put-home h first p steps place need shelf of calling = λ n b found there.
+    of.apart n b found
+    (subst (Contains (concerned p.errand.point)) (sym there)
+    (about-put first.errand.caller place shelf need (stage_of p.errand.point) calling.added calling.under_way))
+
 pub steps-tell :
-    (first : Pass) (call : Call) (steps : ℕ) (p q : Pass) (end : Ending Block) → IsCalling first call steps p → HasStepped p q (step.Done end)
-    → EndTells call end q
-steps-tell first call steps p q (ending.Given block) calling stepped =
-    given-owns first call steps q block (steps-end first call steps p q (ending.Given block) calling stepped)
-steps-tell first call steps p q ending.Spent calling stepped =
+    (h : Heap) (first : Pass) (call : Call) (steps : ℕ) (p q : Pass) (end : Ending Block) → IsOf h first → IsOf h p → IsOf h q
+    → IsCalling first call steps p → HasStepped p q (step.Done end) → EndTells call end q
+steps-tell h first call steps p q (ending.Given block) was at still calling stepped =
+    given-owns first call steps q h was still block (steps-end first call steps p q (ending.Given block) calling stepped)
+steps-tell h first call steps p q ending.Spent was at still calling stepped =
     spent-limit first call steps q (steps-end first call steps p q ending.Spent calling stepped)
-steps-tell first (read place need i) steps p q (ending.Word word) calling stepped =
+steps-tell h first (read place need i) steps p q (ending.Word word) was at still calling stepped =
     read-contents first p q place need i word steps (step.Done (ending.Word word)) refl stepped calling
-steps-tell first (put place need shelf) steps p q (ending.Full block found) calling stepped =
+steps-tell h first (put place need shelf) steps p q (ending.Full block found) was at still calling stepped =
     full-tells first p q place need shelf steps (step.Done (ending.Full block found)) block found refl stepped calling
-steps-tell first call steps p q (ending.Got block) calling stepped =
-    got-owns first call steps q block (steps-end first call steps p q (ending.Got block) calling stepped)
-steps-tell first call steps p q (ending.Missed expected found) calling stepped = missed-differ p q expected found stepped
-steps-tell first call steps p q end calling stepped = tt
+    (put-home h first p steps place need shelf at calling)
+steps-tell h first call steps p q (ending.Got block) was at still calling stepped =
+    got-owns first call steps q h was still block (steps-end first call steps p q (ending.Got block) calling stepped)
+steps-tell h first call steps p q (ending.Missed expected found) was at still calling stepped = missed-differ p q expected found stepped
+steps-tell h first call steps p q end was at still calling stepped = tt
 
 next-done : (p q : Pass) (told : Stepped Block) → EndsNext p.errand.point → HasStepped p q told → IsDone told
 next-done p q told ends stepped =

@@ -44,12 +44,12 @@ module _ (h : Heap) (p q : Pass) (blocks : List Block) (of : IsOf h p) (held : H
       (call : Call) (steps : ℕ) (end : Ending Block) → All (λ block. LeavesPlace call block.place) blocks → HasCalled p call steps (reply_of end) q
       → EndTells call end q → IsHand h q (blocks ++ brought_by end)
   done-hand call steps (ending.Given block) leaves called tells =
-      brought-hand h q blocks block called.idle (given-owns p call steps q block called)
+      brought-hand h q blocks block called.idle (given-owns p call steps q h of still block called)
       (holds-all p (λ other. other.place ≢ block.place)
       (λ other owns. called-given h p q call steps block.place block.need other of still called owns) blocks held)
       (ended-hand h p q blocks call steps (reply.Given block.place block.need) of still called leaves held)
   done-hand call steps (ending.Got block) leaves called tells =
-      brought-hand h q blocks block called.idle (got-owns p call steps q block called)
+      brought-hand h q blocks block called.idle (got-owns p call steps q h of still block called)
       (holds-all p (λ other. other.place ≢ block.place)
       (λ other owns. called-got h p q call steps block.place block.need other of still called owns) blocks held)
       (ended-hand h p q blocks call steps (reply.Got block.place block.need) of still called leaves held)
@@ -93,7 +93,7 @@ module _ (h : Heap) (p q : Pass) (blocks : List Block) (hand : IsHand h p blocks
   stepped-hand (step.Done end) stepped =
       let w = hand.waits busy in
       done-hand h w.first q blocks w.of w.holds still w.call w.steps end w.leaves
-      (steps-end w.first w.call w.steps p q end w.calling stepped) (steps-tell w.first w.call w.steps p q end w.calling stepped)
+      (steps-end w.first w.call w.steps p q end w.calling stepped) (steps-tell h w.first w.call w.steps p q end w.of hand.of still w.calling stepped)
   stepped-hand step.Idle stepped = plus-nothing h q blocks (waits-on step.Idle stepped (λ (end, is). absurd (let e : step.Idle ≡ step.Done end = is in cc)))
   stepped-hand step.More stepped = plus-nothing h q blocks (waits-on step.More stepped (λ (end, is). absurd (let e : step.More ≡ step.Done end = is in cc)))
   stepped-hand step.Lost stepped = plus-nothing h q blocks (waits-on step.Lost stepped (λ (end, is). absurd (let e : step.Lost ≡ step.Done end = is in cc)))

@@ -1,5 +1,5 @@
 -- Calls on usable words, which are one step each.
-use Rattle.std.proofs.Common.{ℕ, ◌≡◌, ◌≢◌, ◌<◌, ◌+◌, ◌^◌, refl, sym, ap, arith}
+use Rattle.std.proofs.Common.{ℕ, ◌≡◌, ◌≢◌, ◌<◌, ◌≤◌, ◌+◌, ◌^◌, refl, sym, ap, arith, pow_pos}
 use Rattle.heap_geometry.specs.declared.geometry.Geometry.{Geometry}
 use Rattle.heap_geometry.specs.declared.need.Need.{Need}
 use Rattle.heap_geometry.specs.declared.need.Need.TheVariants.{Small, Large, TooLarge}
@@ -39,7 +39,7 @@ use Rattle.live_heap.specs.declared.view.View.{View}
 use Rattle.live_heap.specs.Pieces.{IsReady}
 use Rattle.live_heap.specs.Passes.{IsOf, seen, view}
 use Rattle.live_heap.specs.Sights.{IsSightOf, TakesStep, after_events, found_in}
-use Rattle.live_heap.proofs.Begun.{begins-of}
+use Rattle.live_heap.proofs.Begun.{CallsHome, begins-of}
 use Rattle.live_heap.proofs.CallsGrow.{other-calling}
 use Rattle.live_heap.proofs.CallsOne.{end-answers, ends-one, store-ends, load-ends}
 use Rattle.live_heap.proofs.Stepped.{of-sight, still-of, took-access, took-step}
@@ -50,6 +50,13 @@ payload-within g place (Small class) i (needs, (frame, index, has, within, is)) 
     omega (arith, block-within class index within, is, has, below)
 payload-within g place (Large units) i (needs, (unit, within, is)) below = omega (arith, is, within, below)
 payload-within g place TooLarge i (needs, nowhere) below = absurd nowhere
+
+-- a block's usable words end within the arena
+pub payload-end : (g : Geometry) (place : ℕ) (n : Need) → IsHeapBlock g place n → place + 1 + usable_words n ≤ arena_words g
+payload-end g place (Small class) (needs, (frame, index, has, within, is)) =
+    omega (arith, block-within class index within, is, has, pow_pos (class + 1))
+payload-end g place (Large units) (needs, (unit, within, is)) = omega (arith, is, within, needs.0)
+payload-end g place TooLarge (needs, nowhere) = absurd nowhere
 
 -- the arena is within the table, and its words are no more than a number of 32 bits says
 pub arena-within : (g : Geometry) (k : ℕ) → k < arena_words g → k < word_count g
@@ -120,26 +127,27 @@ read-answers e place n i x =
 
 -- a pass in no call may make the step of a call that it may begin
 pub call-sight :
-    (h : Heap) (p : Pass) (call : Call) → IsOf h p → IsIdle p.errand → MayBegin (after_events (seen p)) p.errand.caller call
+    (h : Heap) (p : Pass) (call : Call) → IsOf h p → IsIdle p.errand → MayBegin (after_events (seen p)) p.errand.caller call → CallsHome p call
     → IsSightOf h.layout (view p) (begun_by p.errand call)
-call-sight h p call of idle may = of-sight h (in_call p call) (begins-of h p (in_call p call) call of idle may refl refl)
+call-sight h p call of idle may home = of-sight h (in_call p call) (begins-of h p (in_call p call) call of idle may home refl refl refl)
 
 -- a call that ends with its one step
 module _
     (h : Heap) (p q : Pass) (call : Call) (n : ℕ) (end : Ending Block) (of : IsOf h p) (idle : IsIdle p.errand)
-    (may : MayBegin (after_events (seen p)) p.errand.caller call)
+    (may : MayBegin (after_events (seen p)) p.errand.caller call) (home : CallsHome p call)
     (is : q.errand ≡ settle_of (begun_by p.errand call) (found_in (begun_by p.errand call) n))
     (s : TakesStep (begun_by p.errand call) n (view p) (view q)) where
-  pub one-of : q.seat.region ≡ p.seat.region → q.seat.me.1 ≡ p.seat.me.1 → IsOf h q
-  one-of table empty = still-of h (in_call p call) q n (begins-of h p (in_call p call) call of idle may refl refl) table empty is s
+  pub one-of : q.seat.region ≡ p.seat.region → q.seat.me.1 ≡ p.seat.me.1 → q.out ≡ p.out → IsOf h q
+  one-of table empty out = still-of h (in_call p call) q n (begins-of h p (in_call p call) call of idle may home refl refl refl) table empty out is s
 
   pub one-stepped :
       Done (reply_of end) ≡ answer_of (begun_by p.errand call) (found_in (begun_by p.errand call) n)
       → GivesBack block_place block_need (offered_at (begun_by p.errand call).point) (step.Done end) → HasStepped (in_call p call) q (step.Done end)
   one-stepped answers back = record {
     moment = took-step (in_call p call) q n (Done (reply_of end)) is answers s;
-    accesses = took-access (begun_by p.errand call) (in_call p call) q n s;
+    accesses = (took-access (begun_by p.errand call) (in_call p call) q n s).0;
     back = back;
+    lent = s.lent;
   }
 
 -- a call has ended with its one step in this ending, and its pass is of the heap still
@@ -151,16 +159,16 @@ pub record EndsAtOnce (h : Heap) (p : Pass) (call : Call) (end : Ending Block) (
 
 pub ends-at_once :
     (h : Heap) (p q : Pass) (call : Call) (n : ℕ) (end : Ending Block) → IsOf h p → IsIdle p.errand
-    → MayBegin (after_events (seen p)) p.errand.caller call → IsAboutBlock p.errand.geometry call → ((words : ℕ) → call ≢ alloc words)
+    → MayBegin (after_events (seen p)) p.errand.caller call → CallsHome p call → IsAboutBlock p.errand.geometry call → ((words : ℕ) → call ≢ alloc words)
     → q.errand ≡ settle_of (begun_by p.errand call) (found_in (begun_by p.errand call) n)
     → Done (reply_of end) ≡ answer_of (begun_by p.errand call) (found_in (begun_by p.errand call) n)
     → GivesBack block_place block_need (offered_at (begun_by p.errand call).point) (step.Done end) → TakesStep (begun_by p.errand call) n (view p) (view q)
-    → q.seat.region ≡ p.seat.region → q.seat.me.1 ≡ p.seat.me.1 → EndsAtOnce h p call end q
-ends-at_once h p q call n end of idle may about other is answers back s table empty =
-    let stepped = one-stepped h p q call n end of idle may is s answers back in
-    let calling = other-calling p (in_call p call) call (record { seat = refl; errand = refl }) idle about other in
+    → q.seat.region ≡ p.seat.region → q.seat.me.1 ≡ p.seat.me.1 → q.out ≡ p.out → EndsAtOnce h p call end q
+ends-at_once h p q call n end of idle may home about other is answers back s table empty out =
+    let stepped = one-stepped h p q call n end of idle may home is s answers back in
+    let calling = other-calling p (in_call p call) call (record { seat = refl; errand = refl; out = refl }) idle about other in
     record {
-      of = one-of h p q call n end of idle may is s table empty;
+      of = one-of h p q call n end of idle may home is s table empty out;
       calling = calling;
       stepped = stepped;
       called = ends-one p call 0 (in_call p call) q (step.Done end) end refl stepped calling;

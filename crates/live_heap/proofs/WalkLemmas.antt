@@ -37,7 +37,7 @@ use Rattle.live_heap.specs.declared.view.View.{View}
 use Rattle.live_heap.specs.Pieces.{IsReady}
 use Rattle.live_heap.specs.Passes.{IsOf, seen}
 use Rattle.live_heap.specs.Sights.{after_events, found_in}
-use Rattle.live_heap.proofs.Begun.{begins-of}
+use Rattle.live_heap.proofs.Begun.{CallsHome, begins-of}
 use Rattle.live_heap.proofs.CallsCounts.{going-ends, going-first, going-further, going-grows}
 use Rattle.live_heap.proofs.Stepped.{still-of, took-access, took-step}
 
@@ -113,22 +113,22 @@ module _
     (h : Heap) (start : Pass) (tries : ℕ) (p : BlockPoint) (o : Continuation) (x : Find) (r : Pass)
     (w : HasWalked h start tries p o x r) where
   abbrev before : Pass
-  before = stands_at (record { seat = w.seat; errand = r.errand }) p o
+  before = stands_at (record { seat = w.seat; errand = r.errand; out = r.out }) p o
 
   abbrev n : ℕ
   n = w.has.0
 
   pub strides :
       x.won ≡ true → exit_by (settle_block_of p x) ≡ None → (q : BlockPoint) → q ≡ point_by p (settle_block_of p x) → (f : ErrandFields)
-      → f ≡ counted r.errand p x → IsWalking h start tries q o (record { seat = r.seat; errand = f })
+      → f ≡ counted r.errand p x → IsWalking h start tries q o (record { seat = r.seat; errand = f; out = r.out })
   strides won inside q is f counts =
       let at : ErrandFields = counted r.errand p x in
-      let after : Pass = stands_at (record { seat = r.seat; errand = at }) q o in
+      let after : Pass = stands_at (record { seat = r.seat; errand = at; out = r.out }) q o in
       let settled : after.errand ≡ settle_of before.errand (found_in before.errand n) = sym (stays-errand r.errand p q o x is inside won) ∙ w.has.2 in
       let told : More ≡ answer_of before.errand (found_in before.errand n) = stays-answer r.errand p o x inside won ∙ w.has.3 in
-      let goes : IsWalking h start tries q o (record { seat = r.seat; errand = at }) =
+      let goes : IsWalking h start tries q o (record { seat = r.seat; errand = at; out = r.out }) =
       record {
-        of = still-of h before after n w.walks.of w.table w.empty settled w.has.1;
+        of = still-of h before after n w.walks.of w.table w.empty refl settled w.has.1;
         going = going-further h start tries tries before after w.walks.of w.walks.some w.walks.going (took-step before after n More settled told w.has.1)
             (took-access before.errand before after n w.has.1);
         idle = w.walks.idle;
@@ -136,13 +136,13 @@ module _
         some = w.walks.some;
         links_none = subst LinksNone (sym is) (stays-apart p x w.walks.links_none);
       } in
-      subst (λ d. IsWalking h start tries q o (record { seat = r.seat; errand = d })) (sym counts) goes
+      subst (λ d. IsWalking h start tries q o (record { seat = r.seat; errand = d; out = r.out })) (sym counts) goes
 
   pub finishes :
       x.won ≡ true → (ending : Ending Block) → EndsBy (exit_by (settle_block_of p x)) ending → (f : ErrandFields) → f ≡ counted r.errand p x
-      → HasGone h start tries (Some ending) (record { seat = r.seat; errand = f })
+      → HasGone h start tries (Some ending) (record { seat = r.seat; errand = f; out = r.out })
   finishes won ending by f counts =
-      let after : Pass = record { seat = r.seat; errand = f } in
+      let after : Pass = record { seat = r.seat; errand = f; out = r.out } in
       let at : ErrandFields = counted r.errand p x in
       let ends = ends-next p o x ending by in
       let idle : at ≡ record at { point = point.Idle } = ap (λ (i : Point). record at { point = i }) (idle-is r.errand.point w.walks.idle) in
@@ -155,7 +155,7 @@ module _
       sym (ended_answer before.errand x (reply_of ending) ends) ∙ w.has.3 in
       let moment = took-step before after n (Done (reply_of ending)) settled told w.has.1 in
       record {
-        of = still-of h before after n w.walks.of w.table w.empty settled w.has.1;
+        of = still-of h before after n w.walks.of w.table w.empty refl settled w.has.1;
         grows = going-grows h start tries tries before after w.walks.of w.walks.some w.walks.going (Done (reply_of ending)) moment;
         goes = going-ends h start tries tries before after w.walks.of w.walks.some w.walks.going (reply_of ending) moment
             (took-access before.errand before after n w.has.1);
@@ -165,10 +165,10 @@ module _
 module _
     (p : Pass) (call : Call) (q : Pass) (first : BlockPoint) (o : Continuation) (same : stands_at q first o ≡ in_call p call) where
   pub walk-begins :
-      (h : Heap) (tries : ℕ) → IsOf h p → IsIdle p.errand → MayBegin (after_events (seen p)) p.errand.caller call → IsIdle q.errand
+      (h : Heap) (tries : ℕ) → IsOf h p → IsIdle p.errand → MayBegin (after_events (seen p)) p.errand.caller call → CallsHome p call → IsIdle q.errand
       → IsErrand (in_call p call).errand → 0 < tries → LinksNone first → IsWalking h (stands_at q first o) tries first o q
-  walk-begins h tries of idle may idle_then rule some links_none =
-      let still : IsOf h (stands_at q first o) = subst (IsOf h) (sym same) (begins-of h p (in_call p call) call of idle may refl refl) in
+  walk-begins h tries of idle may home idle_then rule some links_none =
+      let still : IsOf h (stands_at q first o) = subst (IsOf h) (sym same) (begins-of h p (in_call p call) call of idle may home refl refl refl) in
       record {
         of = still;
         going = going-first h (stands_at q first o) tries still refl some;

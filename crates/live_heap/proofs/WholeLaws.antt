@@ -11,37 +11,46 @@ use Rattle.step_machine.specs.Keeping.{Hands, LeavesPlace}
 use Rattle.step_machine.proofs.MomentAnswers.{moment-meant, moment-owns}
 use Rattle.live_heap.specs.declared.heap.Heap.{Heap}
 use Rattle.live_heap.specs.declared.pass.Pass.{Pass}
-use Rattle.live_heap.specs.Passes.{seen}
-use Rattle.live_heap.proofs.LawsKept.{called-adds, ended-spares, given-apart, got-apart, owns-on}
+use Rattle.live_heap.specs.Passes.{OwnsAt, seen}
+use Rattle.live_heap.proofs.LawsKept.{called-adds, ended-spares, given-apart, got-apart, owns-on, stays-home}
 use Rattle.live_heap.specs.Whole.{IsWhole, by_steps, at_once}
 
-abbrev OwnsAt : Pass → ℕ → Need → Type 0
-OwnsAt p place need = OwnsAfter (seen p) p.errand.caller place need
+abbrev HasAt : Pass → ℕ → Need → Type 0
+HasAt p place need = OwnsAfter (seen p) p.errand.caller place need
 
 pub pass-keeps :
     (h k : Heap) (p q : Pass) (call : Call) (answer : Reply) (place : ℕ) (need : Need)
-    → IsWhole h p call answer k q → LeavesPlace call place → OwnsAt p place need → OwnsAt q place need
+    → IsWhole h p call answer k q → LeavesPlace call place → HasAt p place need → HasAt q place need
 pass-keeps h k p q call answer place need (by_steps ended, may, same, is) leaves owns =
     let called = ended.1 in
     subst (λ c. OwnsAfter (seen q) c place need) (sym called.caller)
     (owns-on k.layout p.errand.caller place need (seen p) (seen q) called.added is.0.served.legal (called-adds p q call ended.0 answer called)
     (ended-spares p.errand.caller place call answer called.added leaves called.ended) owns)
 pass-keeps h k p q call answer place need (at_once words is_alloc spent once, may, same, is) leaves owns =
+    subst (λ (r : Pass). HasAt r place need) (sym once.same) owns
+
+-- and its words stay home
+pub whole-keeps :
+    (h k : Heap) (p q : Pass) (call : Call) (answer : Reply) (place : ℕ) (need : Need)
+    → IsWhole h p call answer k q → LeavesPlace call place → OwnsAt p place need → OwnsAt q place need
+whole-keeps h k p q call answer place need (by_steps ended, may, same, is) leaves owns =
+    (pass-keeps h k p q call answer place need (by_steps ended, may, same, is) leaves owns.0, stays-home p q place ended.1.lent owns.1)
+whole-keeps h k p q call answer place need (at_once words is_alloc spent once, may, same, is) leaves owns =
     subst (λ (r : Pass). OwnsAt r place need) (sym once.same) owns
 
 pub pass-hands :
     (h k : Heap) (p q : Pass) (call : Call) (answer : Reply) (place : ℕ) (need : Need)
-    → IsWhole h p call answer k q → Hands answer place need → OwnsAt q place need
+    → IsWhole h p call answer k q → Hands answer place need → HasAt q place need
 pass-hands h k p q call (reply.Given at n) place need (by_steps ended, may, same, is) hands =
     let called = ended.1 in
     let r : Reply = reply.Given at n in
-    subst (λ m. OwnsAt q place m) hands.1 (subst (λ k. OwnsAt q k n) hands.0
+    subst (λ m. HasAt q place m) hands.1 (subst (λ k. HasAt q k n) hands.0
     (moment-owns called.last q.errand called.sight (seen q) (progress.Done r) called.moment at n
     (moment-meant called.last q.errand called.sight (seen q) (progress.Done r) called.moment r refl).3))
 pass-hands h k p q call (reply.Got at n) place need (by_steps ended, may, same, is) hands =
     let called = ended.1 in
     let r : Reply = reply.Got at n in
-    subst (λ m. OwnsAt q place m) hands.1 (subst (λ k. OwnsAt q k n) hands.0
+    subst (λ m. HasAt q place m) hands.1 (subst (λ k. HasAt q k n) hands.0
     (moment-owns called.last q.errand called.sight (seen q) (progress.Done r) called.moment at n
     (moment-meant called.last q.errand called.sight (seen q) (progress.Done r) called.moment r refl).2))
 pass-hands h k p q call answer place need (by_steps ended, may, same, is) hands = absurd hands
@@ -51,7 +60,7 @@ pass-hands h k p q call answer place need (at_once words is_alloc spent once, ma
 
 pub pass-apart :
     (h k : Heap) (p q : Pass) (call : Call) (answer : Reply) (place other : ℕ) (need had : Need)
-    → IsWhole h p call answer k q → Hands answer place need → OwnsAt p other had → other ≢ place
+    → IsWhole h p call answer k q → Hands answer place need → HasAt p other had → other ≢ place
 pass-apart h k p q call (reply.Given at n) place other need had (by_steps ended, may, same, is) hands owns =
     subst (λ k. other ≢ k) hands.0 (given-apart k.layout p.errand.caller at other had n call (seen p) (seen q) ended.1.added is.0.served.legal
     (called-adds p q call ended.0 (reply.Given at n) ended.1) ended.1.ended owns)

@@ -30,7 +30,7 @@ use Rattle.live_heap.specs.declared.answers.Taken.TheVariants as taken
 use Rattle.live_heap.specs.declared.block.Block.{Block}
 use Rattle.live_heap.specs.declared.pass.Pass.{Pass}
 use Rattle.live_heap.specs.Calls.{HasCalled, IsCalling, EndsInTime, IsInterrupted}
-use Rattle.live_heap.specs.Passes.{Owns, accesses, seen}
+use Rattle.live_heap.specs.Passes.{Owns, accesses, seen, view}
 
 -- the place of a block, and what it serves
 abbrev pub block_place : Block → ℕ
@@ -51,11 +51,13 @@ pub record HasStepped (p q : Pass) (told : Stepped Block) : Type 0 where
   pub moment : IsMoment p.errand q.errand (seen p) (seen q) (progress_of told)
   pub accesses : accesses q ≡ suc (accesses p)
   pub back : GivesBack block_place block_need (offered_at p.errand.point) told
+  pub lent : (view q).lent ≡ (view p).lent
 
 -- the pass has begun a call, and made no step
 pub record HasBegun (p : Pass) (call : Call) (q : Pass) : Type 0 where
   pub seat : q.seat ≡ p.seat
   pub errand : q.errand ≡ begun_by p.errand call
+  pub out : q.out ≡ p.out
 
 -- an allocation that took no turn, since its caller had none left: nothing has happened
 pub record IsSpentAtOnce (p : Pass) (words : ℕ) (q : Pass) : Type 0 where

@@ -13,7 +13,7 @@ use Rattle.call_events.specs.Ends.{HasEnded}
 use Rattle.call_events.specs.UnderWay.{IsUnderWay}
 use Rattle.step_machine.specs.Moments.{IsMoment}
 use Rattle.live_heap.specs.declared.pass.Pass.{Pass}
-use Rattle.live_heap.specs.Passes.{accesses, seen}
+use Rattle.live_heap.specs.Passes.{accesses, seen, view}
 
 -- from the errand e, and from these events that were seen, so many steps of a pass led to f and to those, and its call went on after each
 abbrev pub StepsOn : ErrandFields → List Event → ℕ → ErrandFields → List Event → Type 0
@@ -31,6 +31,7 @@ pub record IsCalling (first : Pass) (call : Call) (steps : ℕ) (p : Pass) : Typ
   pub added : List Event
   pub events : own first.errand.caller (seen p) ≡ own first.errand.caller (seen first) ++ added
   pub under_way : IsUnderWay first.errand.caller call p.errand.point added
+  pub lent : (view p).lent ≡ (view first).lent
 
 -- one step and one access more have ended the call with this reply, and all events that its caller has added since are those of a call that ends so
 pub record HasCalled (first : Pass) (call : Call) (steps : ℕ) (reply : Reply) (q : Pass) : Type 0 where
@@ -44,6 +45,7 @@ pub record HasCalled (first : Pass) (call : Call) (steps : ℕ) (reply : Reply) 
   pub added : List Event
   pub events : own first.errand.caller (seen q) ≡ own first.errand.caller (seen first) ++ added
   pub ended : HasEnded first.errand.caller call reply added
+  pub lent : (view q).lent ≡ (view first).lent
 
 -- how many exchanges a caller lost and how many empty superblocks it cleared, together
 abbrev pub tries_of : ErrandFields → ℕ

@@ -62,9 +62,10 @@ pub record HasTakenIn (c : ClosedFields) (p : Pass) : Type 0 where
   pub seen_before : Begins (seen p) c.events
   pub events : own p.errand.caller c.events ≡ own p.errand.caller (seen p)
 
--- the view stands for all callers, each of them in no call
+-- the view stands for all callers, each of them in no call, and no block's words are out with it
 pub record IsAtRest (g : Geometry) (v : View) : Type 0 where
   pub all : length v.callers ≡ g.callers
+  pub home : v.lent ≡ []
   pub idle : All (λ x. IsIdle x.errand) v.callers
 
 -- these are all passes of the heap, each in no call
@@ -104,5 +105,6 @@ pub record IsGathered (h : Heap) (passes : List Pass) (seat : Seat View) (won lo
   pub each : All (IsIn seat.me.0) passes
   pub all : length seat.me.0.callers ≡ h.layout.callers
   pub idle : All (λ x. IsIdle x.errand) seat.me.0.callers
+  pub home : seat.me.0.lent ≡ []
   pub won_is : won ≡ min (sum_by (λ x. x.errand.won) seat.me.0.callers) (2 ^ 64 - 1)
   pub lost_is : lost ≡ min (sum_by (λ x. x.errand.lost) seat.me.0.callers) (2 ^ 64 - 1)

@@ -9,15 +9,14 @@ use Rattle.step_machine.specs.Firsts.{IsTable}
 use Rattle.plain_words.specs.Places.{Place, laid, number_at, numbers, place_at}
 use Rattle.placed_words.specs.Places.{placed_count, words_at}
 use Rattle.placed_words.specs.Writes.{Wrote}
-use Rattle.first_uses.specs.Pieces.{piece_count}
-use Rattle.live_heap.specs.Pieces.{mark_place}
+use Rattle.live_heap.specs.Pieces.{mark_count, mark_place}
 
--- the arena is blank, every place behind it is laid, and each mark says that its piece was never laid
+-- the arena is blank, every place behind it is laid, and each mark is 0
 pub record IsLaidBehind (g : Geometry) (places : List Place) : Type 0 where
-  pub long : length places ≡ placed_count g + piece_count g
+  pub long : length places ≡ placed_count g + mark_count g
   pub arena : (i : ℕ) → i < arena_words g → place_at places i ≡ Some None
   pub behind : (i : ℕ) → arena_words g ≤ i → i < length places → place_at places i ≡ laid (number_at places i)
-  pub marks : (k : ℕ) → k < piece_count g → number_at places (mark_place g k) ≡ 0
+  pub marks : (k : ℕ) → k < mark_count g → number_at places (mark_place g k) ≡ 0
 
 -- and every word is 0
 pub record IsBlankRoom (g : Geometry) (places : List Place) : Type 0 where

@@ -30,7 +30,7 @@ use Rattle.live_heap.specs.Sights.{TakesStep, found_in}
 
 -- a pass as it would stand in a call that it has begun
 abbrev pub in_call : Pass → Call → Pass
-in_call p call = record { seat = p.seat; errand = begun_by p.errand call }
+in_call p call = record { seat = p.seat; errand = begun_by p.errand call; out = p.out }
 
 -- the step of an errand found this, and saw this view become that one
 abbrev pub HasFound : ErrandFields → Find → View → View → Type 0
@@ -68,7 +68,7 @@ abbrev pub at_block : ErrandFields → BlockPoint → Continuation → ErrandFie
 at_block e p o = record e { point = point.Block p o }
 
 abbrev pub stands_at : Pass → BlockPoint → Continuation → Pass
-stands_at q p o = record { seat = q.seat; errand = at_block q.errand p o }
+stands_at q p o = record { seat = q.seat; errand = at_block q.errand p o; out = q.out }
 
 -- the step at this point links no block of a new superblock, so it is the first to use no piece
 abbrev pub LinksNone : BlockPoint → Type 0
@@ -87,7 +87,7 @@ pub record IsWalking (h : Heap) (start : Pass) (tries : ℕ) (p : BlockPoint) (o
 -- a walking call's seat has made the step from its point and found this; the pass's errand stands still
 pub record HasWalked (h : Heap) (start : Pass) (tries : ℕ) (p : BlockPoint) (o : Continuation) (x : Find) (q : Pass) : Type 0 where
   pub seat : Seat View
-  pub walks : IsWalking h start tries p o (record { seat = seat; errand = q.errand })
+  pub walks : IsWalking h start tries p o (record { seat = seat; errand = q.errand; out = q.out })
   pub has : HasFound (at_block q.errand p o) x seat.me.0 (view q)
   pub table : q.seat.region ≡ seat.region
   pub empty : q.seat.me.1 ≡ seat.me.1
@@ -102,6 +102,7 @@ pub record Rejoins (h : Heap) (start : Pass) (tries : ℕ) (x : Find) (q : Pass)
   pub has : HasFound last.errand x (view last) (view q)
   pub table : q.seat.region ≡ last.seat.region
   pub empty : q.seat.me.1 ≡ last.seat.me.1
+  pub out : q.out ≡ last.out
 
 -- a call that leaves a superblock by this exit ends so, wherever it goes on
 abbrev pub EndsBy : Option BlockExit → Ending Block → Type 0

@@ -6,7 +6,9 @@ pub mod FirstRoom
 pub mod Going
 pub mod Hands
 pub mod Holdings
+pub mod Lending
 pub mod Linked
+pub mod Memory
 pub mod Passes
 pub mod Pieces
 pub mod Refusals

@@ -1,5 +1,5 @@
 -- Which pieces of the arena are laid, and by whom.
-use Rattle.std.specs.Prelude.{ℕ, ◌≡◌, ◌≢◌, ◌<◌, ◌≤◌, ◌+◌, ◌-◌, ◌⊎◌, nat_lt, if◌then◌else◌, List, [], ◌∷◌, length, replicate, slice_index, Option, Some, None}
+use Rattle.std.specs.Prelude.{ℕ, ◌≡◌, ◌≢◌, ◌<◌, ◌≤◌, ◌+◌, ◌-◌, ◌*◌, ◌⊎◌, nat_lt, if◌then◌else◌, List, [], ◌∷◌, length, replicate, slice_index, Option, Some, None}
 use mathlib.Core.Option.{some}
 use lib.ListN.{get_elem?}
 use Rattle.heap_geometry.specs.declared.geometry.Geometry.{Geometry}
@@ -14,6 +14,11 @@ use Rattle.errand_steps.specs.declared.point.Pieces.{Pieces}
 use Rattle.errand_steps.specs.declared.point.Point.{Point}
 use Rattle.errand_steps.specs.Openers.{Opens}
 use Rattle.first_uses.specs.Uses.{IsUnused}
+use Rattle.heap_geometry.specs.Need.{usable_words}
+use Rattle.placed_words.specs.declared.placement.TheConstants.{APART}
+use Rattle.pool_model.specs.declared.event.Event.{Event}
+use Rattle.step_machine.specs.Cores.{OwnsAfter}
+use Rattle.live_heap.specs.declared.view.Lent.{Lent}
 use Rattle.live_heap.specs.declared.view.Standing.{Standing}
 use Rattle.live_heap.specs.declared.view.View.{View}
 use Rattle.live_heap.specs.Rule.{WordsHold}
@@ -48,7 +53,14 @@ place_as blank n = Some None
 place_as out n = None
 place_as used n = laid n
 
--- the place of a piece's mark, behind all words
+-- how many marks a heap has: one for each piece, and behind them, each apart from the others, one for each caller, which says whether a block's words are out with its pass
+abbrev pub mark_count : Geometry → ℕ
+mark_count g = piece_count g + APART * (g.callers + 1)
+
+abbrev pub caller_mark : Geometry → ℕ → ℕ
+caller_mark g caller = piece_count g + APART * (caller + 1)
+
+-- the place of a mark, behind all words
 abbrev pub mark_place : Geometry → ℕ → ℕ
 mark_place g k = placed_count g + k
 
@@ -61,7 +73,7 @@ shown g words status i =
 -- the places show the words, and each piece as far as it is. A piece that isn't laid is a spare one, and who lays it is its opener
 pub record AreLaidOut (g : Geometry) (words : List ℕ) (places : List Place) (views : List View) : Type 0 where
   pub status : ℕ → Status
-  pub long : length places ≡ placed_count g + piece_count g
+  pub long : length places ≡ placed_count g + mark_count g
   pub each : (i : ℕ) → i < length places → place_at places i ≡ shown g words status i
   pub spare : (k : ℕ) → k < piece_count g → status k ≢ used → IsSpare g words views k
   pub layer : (k : ℕ) → k < piece_count g → status k ≡ out → (id : ℕ) × (v : View) × (get_elem? views id ≡ some v) × (v.lays ≡ Some k) × IsOpener g v k
@@ -71,20 +83,45 @@ pub record AreLaidOut (g : Geometry) (words : List ℕ) (places : List Place) (v
 
 -- memory that no thread shares any more: each word behind the arena is laid, and each piece is laid with its mark, or its words count as 0
 pub record AreMarked (g : Geometry) (places : List Place) : Type 0 where
-  pub long : length places ≡ placed_count g + piece_count g
+  pub long : length places ≡ placed_count g + mark_count g
   pub behind : (i : ℕ) → arena_words g ≤ i → i < length places → place_at places i ≡ laid (slice_index (numbers places) i)
   pub laid_piece : (i : ℕ) → i < arena_words g → slice_index (numbers places) (mark_place g (piece_of g i)) ≡ 2 → place_at places i ≡ laid (slice_index (numbers places) i)
   pub blank_piece : (i : ℕ) → i < arena_words g → slice_index (numbers places) (mark_place g (piece_of g i)) ≢ 2 → slice_index (numbers places) i ≡ 0
 
--- a mark says that its piece is out
+-- a mark says that its piece is out, or that a block's words are out with its caller's pass
 pub record HasOut (g : Geometry) (places : List Place) : Type 0 where
-  pub piece : ℕ
-  pub below : piece < piece_count g
-  pub marked : place_at places (mark_place g piece) ≡ laid (mark_of out)
+  pub mark : ℕ
+  pub below : mark < mark_count g
+  pub marked : place_at places (mark_place g mark) ≡ laid (mark_of out)
 
--- the rule of the region: its places are a table in memory, with holes where no piece was ever used
+-- some pass has this word out, as one of the usable words of a block
+abbrev pub IsLent : List View → ℕ → Type 0
+IsLent views i =
+    (id : ℕ) × (v : View) × (n : ℕ) × (b : Lent) × (get_elem? views id ≡ some v) × (get_elem? v.lent n ≡ some b)
+    × (b.place < i) × (i < b.place + 1 + usable_words b.need)
+
+-- a block is out with a pass: a caller that the pass stands for owns it, and has its mark set; and its usable words, were they home, would be laid with its numbers
+pub record IsOut (g : Geometry) (events : List Event) (whole : List Place) (v : View) (b : Lent) : Type 0 where
+  pub number : ℕ
+  pub owner : Standing
+  pub stands : get_elem? v.callers number ≡ some owner
+  pub owned : OwnsAfter events owner.errand.caller b.place b.need
+  pub within : b.place + 1 + usable_words b.need ≤ arena_words g
+  pub marked : place_at whole (mark_place g (caller_mark g owner.errand.caller)) ≡ laid (mark_of out)
+  pub long : length b.numbers ≡ usable_words b.need
+  pub words : (i : ℕ) → i < usable_words b.need → place_at whole (b.place + 1 + i) ≡ laid (slice_index b.numbers i)
+
+-- the places are those of `whole`, but for the words that are out with passes
+pub record AreLent (g : Geometry) (events : List Event) (whole places : List Place) (views : List View) : Type 0 where
+  pub long : length places ≡ length whole
+  pub home : (i : ℕ) → i < length places → ¬ IsLent views i → place_at places i ≡ place_at whole i
+  pub blocks : (id n : ℕ) (v : View) (b : Lent) → get_elem? views id ≡ some v → get_elem? v.lent n ≡ some b → IsOut g events whole v b
+
+-- the rule of the region: its places, and the words that are out with passes, are a table in memory, with holes where no piece was ever used
 abbrev pub PiecesHold : Geometry → RegionState View → Type 0
-PiecesHold g s = (words : List ℕ) × WordsHold g words s.views × AreLaidOut g words s.places s.views
+PiecesHold g s =
+    (words : List ℕ) × (h : WordsHold g words s.views) × (whole : List Place) × AreLaidOut g words whole s.views
+    × AreLent g h.1.events whole s.places s.views
 
 -- a pass that lays this piece and knows these to be laid
 abbrev pub with_pieces : View → Option ℕ → List ℕ → View

@@ -16,7 +16,7 @@ idles_from g caller (suc more) = idle_standing g caller ∷ idles_from g (suc ca
 
 -- the view of a pass that stands for so many callers from a number on, and has seen nothing yet
 abbrev pub idle_view : Geometry → ℕ → ℕ → View
-idle_view g caller more = record { callers = idles_from g caller more; seen = []; wins = []; lays = None; ready = [] }
+idle_view g caller more = record { callers = idles_from g caller more; seen = []; wins = []; lays = None; ready = []; lent = [] }
 
 -- the view of the first pass, which stands for all callers
 abbrev pub opening_view : Geometry → View
@@ -33,10 +33,10 @@ other_callers (x ∷ xs) = xs
 
 -- the two parts of a pass that is cut: its first caller stays, and the others go
 abbrev pub first_part : View → View
-first_part v = record { callers = first_caller v.callers; seen = v.seen; wins = v.wins; lays = v.lays; ready = v.ready }
+first_part v = record { callers = first_caller v.callers; seen = v.seen; wins = v.wins; lays = v.lays; ready = v.ready; lent = v.lent }
 
 abbrev pub other_part : View → View
-other_part v = record { callers = other_callers v.callers; seen = v.seen; wins = v.wins; lays = None; ready = [] }
+other_part v = record { callers = other_callers v.callers; seen = v.seen; wins = v.wins; lays = None; ready = []; lent = [] }
 
 -- the longer of two lists
 abbrev pub longer : {A : Type 0} → List A → List A → List A
@@ -44,8 +44,8 @@ longer xs ys = if nat_lt (length xs) (length ys) then ys else xs
 
 -- a pass that takes another one in stands for the callers of both, and has seen what either saw
 abbrev pub gathered : View → View → View
-gathered v w = record { callers = v.callers ++ w.callers; seen = longer v.seen w.seen; wins = longer v.wins w.wins; lays = v.lays; ready = v.ready }
+gathered v w = record { callers = v.callers ++ w.callers; seen = longer v.seen w.seen; wins = longer v.wins w.wins; lays = v.lays; ready = v.ready; lent = v.lent }
 
 -- the view that is left of a pass that was taken in
 abbrev pub spent_view : View
-spent_view = record { callers = []; seen = []; wins = []; lays = None; ready = [] }
+spent_view = record { callers = []; seen = []; wins = []; lays = None; ready = []; lent = [] }

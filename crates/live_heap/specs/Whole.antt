@@ -4,14 +4,13 @@ use Rattle.errand_steps.specs.declared.reply.Reply.{Reply}
 use Rattle.errand_steps.specs.declared.reply.Reply.TheVariants as reply
 use Rattle.errand_steps.specs.Begins.{IsIdle}
 use Rattle.errand_steps.specs.Calls.{Call, alloc, free, write, read, put, take}
-use Rattle.step_machine.specs.Cores.{OwnsAfter}
 use Rattle.live_heap.specs.declared.answers.Resumed.{Resumed}
 use Rattle.live_heap.specs.declared.answers.Resumed.TheVariants as resumed
 use Rattle.live_heap.specs.declared.heap.Heap.{Heap}
 use Rattle.live_heap.specs.declared.pass.Pass.{Pass}
 use Rattle.live_heap.specs.Answers.{IsSpentAtOnce}
 use Rattle.live_heap.specs.Calls.{HasCalled}
-use Rattle.live_heap.specs.Passes.{IsOf, seen}
+use Rattle.live_heap.specs.Passes.{IsOf, OwnsAt}
 
 -- a pass of this heap that is in no call
 abbrev pub IsAtRest : Heap → Pass → Type 0
@@ -38,10 +37,10 @@ ResumesTo first call resumed.Busy q = ⊥
 abbrev pub OwnsFor : Pass → Call → Type 0
 OwnsFor p (alloc words) = Unit {0}
 OwnsFor p (take shelf) = Unit {0}
-OwnsFor p (free place need) = OwnsAfter (seen p) p.errand.caller place need
-OwnsFor p (write place need i value) = OwnsAfter (seen p) p.errand.caller place need
-OwnsFor p (read place need i) = OwnsAfter (seen p) p.errand.caller place need
-OwnsFor p (put place need shelf) = OwnsAfter (seen p) p.errand.caller place need
+OwnsFor p (free place need) = OwnsAt p place need
+OwnsFor p (write place need i value) = OwnsAt p place need
+OwnsFor p (read place need i) = OwnsAt p place need
+OwnsFor p (put place need shelf) = OwnsAt p place need
 
 -- a whole call of a pass of this heap, which leaves it in no call
 abbrev pub IsWhole : Heap → Pass → Call → Reply → Heap → Pass → Type 0

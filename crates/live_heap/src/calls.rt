@@ -106,7 +106,7 @@ impl Heap {
         requires tries { 0 < tries }
         ensures of { IsOf self.now pass.new }
         ensures grows { Begins (seen pass.old) (seen pass.new) }
-        ensures tells { (first : Pass) (call : Call) (made : ℕ) → IsCalling first call made pass.old
+        ensures tells { (first : Pass) (call : Call) (made : ℕ) → IsOf self.now first → IsCalling first call made pass.old
             → ResumeTells first call made pass.old tries result pass.new }
     {
         match self.go_on(pass, tries) {

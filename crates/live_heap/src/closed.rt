@@ -1,6 +1,7 @@
 //! How a heap closes, and what is left of it.
 
-ghost use Rattle.std.specs.Prelude.{ℕ, ◌≡◌, ◌==◌, ◌<◌, ◌≤◌, ◌-◌, ◌*◌, ◌^◌, min, sum_by, length, slice_index, All, IfOk};
+ghost use Rattle.std.specs.Prelude.{ℕ, ◌≡◌, ◌==◌, ◌<◌, ◌≤◌, ◌-◌, ◌*◌, ◌^◌, min, sum_by, length, slice_index, All, Any, IfOk};
+ghost use Rattle.std.specs.List.{list_all};
 ghost use Rattle.std.specs.Result.{IfErr};
 ghost use Rattle.word_table.specs.Table.{Exists};
 ghost use Rattle.word_table.specs.Words.{word_in};
@@ -51,7 +52,7 @@ impl Model for Closed {
     ghost invariant = { λ s. record { marked : AreMarked s.layout s.room.plain.places; rests : IsResting (closed_with s.layout (words_at s.layout (numbers s.room.plain.places)) s.last.value.me.0); counts : IsCounted (closed_with s.layout (words_at s.layout (numbers s.room.plain.places)) s.last.value.me.0) s.won s.lost } };
 }
 
-/// What is refused where there is no memory for closing: nothing has changed.
+/// What is refused where a block's words are out with a pass: nothing has changed.
 #[derive(Drop)]
 pub struct CloseRefused {
     pub heap: Heap,
@@ -66,15 +67,19 @@ struct Gathered {
 }
 
 impl Heap {
-    /// Takes all passes in, each in no call, and ends the sharing. Blocks that are still held stay live.
-    /// It takes no memory, so it always closes.
+    /// Takes all passes in, each in no call, and ends the sharing. Blocks that are still held stay live. It takes no
+    /// memory; it is refused only where a block's words are out with one of the passes.
     pub fn close(self, _alloc: Global, passes: Vec<Pass>) -> Result<Closed, CloseRefused>
         requires { AreAllIdle self passes.items }
         ensures closed { IfOk result (λ closed. HasClosed self passes.items closed) }
         ensures rests { IfOk result (λ closed. IsResting closed) }
         ensures accesses { IfOk result (λ closed. HasAccesses closed passes.items) }
-        ensures always { IfErr result (λ refused. ⊥) }
+        ensures always { All (λ pass. pass.out ≡ 0) passes.items → IfErr result (λ refused. ⊥) }
+        ensures kept { IfErr result (λ refused. (refused.heap ≡ self) × (refused.passes.items ≡ passes.items) × Any (λ pass. 0 < pass.out) passes.items) }
     {
+        if !are_home(&passes) {
+            return Err(CloseRefused { heap: self, passes });
+        }
         let Gathered { seat, won, lost } = self.gather(passes);
         let last = Snapshot::of(&seat);
         let (room, layout) = self.end(seat);
@@ -89,19 +94,25 @@ impl Heap {
 
     /// The seat that takes all passes in, and their counts.
     fn gather(&self, mut passes: Vec<Pass>) -> Gathered
-        requires { AreAllIdle self.now passes.items }
+        requires idle { AreAllIdle self.now passes.items }
+        requires home { All (λ pass. pass.out ≡ 0) passes.items }
         ensures { IsGathered self.now passes.items result.seat result.won result.lost }
     {
         let shared = &self.table.shared;
         let start = self.table.start();
         let mark = self.first_mark();
-        let Pass { mut seat, errand } = passes.pop().unwrap();
+        let Pass {
+            mut seat,
+            errand,
+            out: _,
+        } = passes.pop().unwrap();
         let mut won = errand.won();
         let mut lost = errand.lost();
         while let Some(pass) = passes.pop() {
             let Pass {
                 seat: other,
                 errand,
+                out: _,
             } = pass;
             won = won.saturating_add(errand.won());
             lost = lost.saturating_add(errand.lost());
@@ -150,6 +161,13 @@ impl Closed {
     {
         self.lost
     }
+}
+
+/// Whether no block's words are out with any of the passes.
+fn are_home(passes: &[Pass]) -> bool
+    ensures { result ≡ list_all (λ pass. pass.out == 0) passes.now }
+{
+    passes.iter().all(|pass| pass.out == 0)
 }
 
 /// Whether a piece was laid, by its mark.

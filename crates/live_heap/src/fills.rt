@@ -5,12 +5,16 @@ ghost use Rattle.heap_geometry.specs.Need.{usable_words};
 ghost use Rattle.errand_steps.specs.Begins.{IsIdle};
 ghost use Rattle.live_heap.specs.declared.block.Block.{Block};
 ghost use Rattle.call_events.specs.Made.{LeadsBy, Sums, wrote};
-ghost use Rattle.live_heap.specs.Passes.{IsOf, Owns, accesses};
+ghost use Rattle.live_heap.specs.Passes.{IsOf, Owns, OwnsAt, accesses, view};
 ghost use Rattle.live_heap.specs.Words.{CallsOnWord};
 
 use crate::block::Block;
 use crate::heap::Heap;
 use crate::pass::Pass;
+use heap_geometry::need::{Need, usable};
+
+/// Fewer words are filled one by one: what takes words out and gives them back costs as much as two writes or three.
+const FEW_WORDS: u32 = 3;
 
 impl Heap {
     /// Fills the pass's block: word i with from + i, modulo 2^64.
@@ -21,12 +25,25 @@ impl Heap {
         ensures of { IsOf self.now pass.new }
         ensures idle { IsIdle pass.new.errand }
         ensures keeps { (other : Block) → Owns pass.old other → Owns pass.new other }
+        ensures lent { (view pass.new).lent ≡ (view pass.old).lent }
         ensures wrote { LeadsBy (CallsOnWord self.now) pass.old (wrote block.now.place block.now.need from (usable_words block.now.need)) pass.new }
         ensures accesses { accesses pass.new ≡ usable_words block.now.need + accesses pass.old }
     {
-        let place = block.place;
-        let need = block.need;
-        for i in 0..block.usable_words() {
+        if block.usable_words() < FEW_WORDS {
+            self.fill_by_words(pass, block.place, block.need, from);
+        } else {
+            self.fill_plainly(pass, block.place, block.need, from);
+        }
+    }
+
+    /// Fills the usable words of the block that lies at this place and serves this need, one write after the other.
+    fn fill_by_words(&self, pass: &mut Pass, place: u32, need: Need, from: u64)
+        requires of { IsOf self.now pass.old }
+        requires idle { IsIdle pass.old.errand }
+        requires owned { OwnsAt pass.old place need }
+        ensures { LeadsBy (CallsOnWord self.now) pass.old (wrote place need from (usable_words need)) pass.new }
+    {
+        for i in 0..usable(need) {
             self.write_word(pass, place, need, i, from.wrapping_add(u64::from(i)));
         }
     }
@@ -40,6 +57,7 @@ impl Heap {
         ensures of { IsOf self.now pass.new }
         ensures idle { IsIdle pass.new.errand }
         ensures keeps { (other : Block) → Owns pass.old other → Owns pass.new other }
+        ensures lent { (view pass.new).lent ≡ (view pass.old).lent }
         ensures sums { Sums (CallsOnWord self.now) pass.old block.now.place block.now.need result pass.new }
         ensures accesses { accesses pass.new ≡ usable_words block.now.need + accesses pass.old }
     {

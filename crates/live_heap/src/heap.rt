@@ -2,15 +2,14 @@
 
 ghost use Rattle.std.specs.Prelude.{ℕ, true, false, ◌≡◌, ◌<◌, ◌+◌, ◌≤◌, [], length, vec_capacity, IfOk};
 ghost use Rattle.heap_geometry.specs.Geometry.{IsChecked};
-ghost use Rattle.first_uses.specs.Pieces.{piece_count};
-ghost use Rattle.live_heap.specs.Pieces.{HasOut, PiecesHold, mark_place};
+ghost use Rattle.live_heap.specs.Pieces.{HasOut, PiecesHold, mark_count, mark_place};
 ghost use Rattle.placed_words.specs.Places.{place, placed_count};
 ghost use Rattle.plain_words.specs.Places.{AllHere};
 ghost use Rattle.atomic_region.specs.Region.{Final, Seen};
 ghost use Rattle.word_table.specs.Counts.{word_count};
 ghost use Rattle.word_table.specs.Table.{Exists, word_index};
 
-use crate::laying::OUT;
+use crate::laying::{OUT, mark_count};
 use crate::opened::first_room;
 use crate::pass::Pass;
 use crate::plays::{Peels, Reachable};
@@ -30,7 +29,7 @@ use word_table::name::WordName;
 pub struct Heap {
     pub(crate) table: Region<View, Geometry, Reachable, Global>,
     pub(crate) layout: Placement,
-    ghost laid: { (table.shared.id.words ≡ placed_count layout + piece_count layout) × (table.shared.key ≡ layout) },
+    ghost laid: { (table.shared.id.words ≡ placed_count layout + mark_count layout) × (table.shared.key ≡ layout) },
     ghost checked: { IsChecked layout },
 }
 
@@ -52,6 +51,7 @@ impl Heap {
         passes.push_reserved(Pass {
             seat,
             errand: Errand::open(geometry.callers - 1, geometry),
+            out: 0,
         });
         Ok((heap, passes))
     }
@@ -87,6 +87,7 @@ impl Heap {
             passes.push_reserved(Pass {
                 seat: rest,
                 errand: Errand::open(caller, geometry),
+                out: 0,
             });
             rest = next;
         }
@@ -121,7 +122,7 @@ impl Heap {
     }
 
     /// All memory as it is in the end, where the seat has this view: all callers' views in one, and each caller in no
-    /// call. So no piece is out.
+    /// call. So nothing is out.
     pub(crate) fn end(self, seat: Seat<View>) -> (Room<Global>, Placement)
         requires table { seat.region ≡ self.table.shared.id }
         requires rests { IsAtRest self.layout seat.me.0 }
@@ -134,8 +135,8 @@ impl Heap {
 }
 
 impl Drop for Heap {
-    /// All memory goes back. Where a pass was stopped while it laid a piece, so that the piece is out, the memory stays
-    /// allocated.
+    /// All memory goes back. Where a pass was stopped while it laid a piece or filled a block, so that words are out, the
+    /// memory stays allocated.
     fn drop(self) {
         let Self { table, layout } = self;
         let closed = table.close();
@@ -145,16 +146,15 @@ impl Drop for Heap {
     }
 }
 
-/// Whether each mark says that its piece is no pass's, which lays it.
+/// Whether each mark says that nothing is out: no piece with a pass that lays it, and no block with a pass that fills it.
 fn all_at_home(closed: &Closed<Global>, layout: &Placement) -> bool
     requires { Final (PiecesHold layout.now) closed.now.plain.places }
     ensures home { result ≡ true → AllHere closed.now.plain.places }
     ensures out { result ≡ false → HasOut layout.now closed.now.plain.places }
 {
     let marks = layout.count() as usize;
-    let geometry = layout.geometry();
-    for piece in 0..(geometry.frames + geometry.units) as usize {
-        if closed.word(marks + piece) == OUT {
+    for mark in 0..mark_count(layout) as usize {
+        if closed.word(marks + mark) == OUT {
             return false;
         }
     }

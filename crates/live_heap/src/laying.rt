@@ -3,7 +3,7 @@
 ghost use Rattle.std.specs.Prelude.{ℕ, ◌≡◌, ◌<◌, ◌≤◌, ◌+◌, [], None};
 ghost use Rattle.word_table.specs.Counts.{arena_words};
 ghost use Rattle.first_uses.specs.Pieces.{piece_count, piece_of, piece_start, piece_words};
-ghost use Rattle.live_heap.specs.Pieces.{EachOf, HasLaid, IsReady, IsSoleOpener, KnowsMore};
+ghost use Rattle.live_heap.specs.Pieces.{EachOf, HasLaid, IsReady, IsSoleOpener, KnowsMore, mark_count};
 ghost use Rattle.live_heap.specs.Sights.{IsSightOf};
 ghost use Rattle.word_table.specs.Occurs.{occurs};
 
@@ -15,13 +15,13 @@ use errand_steps::errand::Errand;
 use errand_steps::point::Pieces;
 use heap_geometry::limits::{FRAME_WORDS, UNIT_WORDS};
 use heap_geometry::place::{place_of_unit, unit_of};
-use placed_words::placement::Placement;
+use placed_words::placement::{APART, Placement};
 use std::marker::Brand;
 
-/// The mark of a piece that was never laid.
-const BLANK: u64 = 0;
+/// The mark of a piece that was never laid, and of a caller whose pass has no block's words out.
+pub(crate) const BLANK: u64 = 0;
 
-/// The mark of a piece that a pass has out, to lay it.
+/// The mark of a piece that a pass has out, to lay it, and of a caller whose pass has a block's words out.
 pub(crate) const OUT: u64 = 1;
 
 /// The mark of a piece that is laid.
@@ -125,4 +125,12 @@ fn piece_words(layout: &Placement, piece: u32) -> u32
     } else {
         UNIT_WORDS
     }
+}
+
+/// How many marks a heap has: one for each piece, and behind them, each apart from the others, one for each caller.
+pub(crate) fn mark_count(layout: &Placement) -> u32
+    ensures { result ≡ mark_count layout.now }
+{
+    let geometry = layout.geometry();
+    geometry.frames + geometry.units + APART * (geometry.callers + 1)
 }

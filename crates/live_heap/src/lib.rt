@@ -8,6 +8,9 @@
 //! The table lies in a region of memory whose arena isn't written at opening. A frame or a unit is filled
 //! with 0 by the pass that is the first to use it (laying.rt); until then its words count as 0 for the
 //! machine, and no step is on one of them.
+//!
+//! A fill takes a block's usable words out of the region, writes them as plain memory and gives them back
+//! (lending.rt). For the machine each is written as they come back.
 #![tactic(auto)]
 
 pub mod answers;
@@ -19,8 +22,10 @@ mod fills;
 pub mod heap;
 pub mod laws;
 mod laying;
+mod lending;
 mod opened;
 pub mod pass;
+pub mod plain;
 mod plays;
 mod small;
 mod steps;

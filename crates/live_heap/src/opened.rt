@@ -3,6 +3,7 @@
 ghost use Rattle.std.specs.Prelude.{IfOk};
 ghost use Rattle.live_heap.specs.FirstRoom.{HasWritten, IsBlankRoom, IsFirstRoom, IsLaidBehind, IsOwn};
 
+use crate::laying::mark_count;
 use placed_words::placement::Placement;
 use plain_words::Room;
 use std::alloc::{AllocError, Global};
@@ -10,7 +11,7 @@ use step_machine::first::opening;
 use word_table::name::WordName;
 
 /// The memory at opening. The arena isn't written. Behind it lie the heap's own words, of which all are 0 but those of
-/// the two stacks, and the marks of the pieces, all 0.
+/// the two stacks, and the marks, all 0.
 pub(crate) fn first_room(alloc: Global, layout: &Placement) -> Result<Room<Global>, AllocError>
     ensures { IfOk result (λ room. IsFirstRoom layout.now room.plain.places) }
 {
@@ -33,10 +34,8 @@ pub(crate) fn first_room(alloc: Global, layout: &Placement) -> Result<Room<Globa
 fn blank_room(alloc: Global, layout: &Placement) -> Result<Room<Global>, AllocError>
     ensures { IfOk result (λ room. IsBlankRoom layout.now room.plain.places) }
 {
-    let geometry = layout.geometry();
     let arena_words = layout.arena_words() as usize;
-    let pieces = geometry.frames + geometry.units;
-    let words = layout.count() as usize + pieces as usize;
+    let words = layout.count() as usize + mark_count(layout) as usize;
     let (all, backing) = Room::new(alloc, words)?.into_parts();
     let (arena, mut own) = all.split(arena_words);
     own.fill(backing.start, arena_words, words, 0);

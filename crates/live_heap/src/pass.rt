@@ -13,6 +13,8 @@ use errand_steps::errand::Errand;
 pub struct Pass {
     pub(crate) seat: Seat<View>,
     pub(crate) errand: Errand,
+    /// How many blocks' words are out with it.
+    pub(crate) out: u32,
 }
 
 impl Pass {

@@ -14,7 +14,7 @@ ghost use Rattle.live_heap.specs.declared.answers.AllocAnswer.{AllocAnswer};
 ghost use Rattle.live_heap.specs.Answers.{AllocTells, FreeTells};
 ghost use Rattle.live_heap.specs.Calls.{IsCalling};
 ghost use Rattle.live_heap.specs.Going.{HasAllocated, HasFreed, HasGone, IsWalking, Rejoins};
-ghost use Rattle.live_heap.specs.Passes.{IsOf, seen};
+ghost use Rattle.live_heap.specs.Passes.{IsHome, IsOf, seen};
 ghost use Rattle.live_heap.specs.Sights.{after_events};
 
 use crate::answers::{AllocAnswer, FreeAnswer};
@@ -42,6 +42,7 @@ impl Heap {
         requires small { block.need ≡ Small class }
         requires may { MayBegin (after_events (seen pass.old)) pass.old.errand.caller (free block.place (Small class)) }
         requires block { IsHeapBlock pass.old.errand.geometry block.place (Small class) }
+        requires home { IsHome pass.old block.place }
         requires tries { 0 < tries }
         ensures of { IsOf self.now pass.new }
         ensures tells { FreeTells pass.old block tries result pass.new }

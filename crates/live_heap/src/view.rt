@@ -1,13 +1,15 @@
 //! What a pass knows. Proofs alone speak of it; no value of it is made.
 
 use errand_steps::errand::Errand;
+use heap_geometry::need::Need;
 use pool_model::event::Event;
 use std::collections::LinkedList;
 use std::marker::Model;
 use word_table::name::WordName;
 
-/// How many steps a caller has made, each one access to a shared word; what lays a piece is no step. Its
-/// number has no end, as it is for proofs alone.
+/// How many steps a caller has made, each one access to a shared word, or a word of a fill that is written
+/// while it is out; what lays a piece is no step, nor what takes words out. Its number has no end, as it is
+/// for proofs alone.
 pub struct Accesses {
     made: LinkedList<()>,
 }
@@ -43,12 +45,21 @@ impl Model for Won {
     ghost view = { λ w. record { caller = w.caller; word = w.word; install = w.install } };
 }
 
+/// A block whose usable words are out with the pass of its owner: where it lies, what it serves, and the numbers that
+/// count for its words.
+pub struct Lent {
+    pub place: u32,
+    pub need: Need,
+    pub numbers: LinkedList<u64>,
+}
+
 /// The callers that a pass stands for, the events and the wins that it has seen, the piece of the arena that is out
-/// with it, and the pieces that it knows to be laid.
+/// with it, the pieces that it knows to be laid, and the blocks whose usable words are out with it.
 pub struct View {
     pub callers: LinkedList<Standing>,
     pub seen: LinkedList<Event>,
     pub wins: LinkedList<Won>,
     pub lays: Option<u32>,
     pub ready: LinkedList<u32>,
+    pub lent: LinkedList<Lent>,
 }

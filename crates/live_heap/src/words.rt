@@ -6,8 +6,7 @@ ghost use Rattle.word_table.specs.Counts.{arena_words};
 ghost use Rattle.errand_steps.specs.declared.reply.Reply.TheVariants as reply;
 ghost use Rattle.errand_steps.specs.Begins.{IsIdle};
 ghost use Rattle.errand_steps.specs.Calls.{begun_by, write, read};
-ghost use Rattle.step_machine.specs.Cores.{OwnsAfter};
-ghost use Rattle.live_heap.specs.Passes.{IsOf, seen};
+ghost use Rattle.live_heap.specs.Passes.{IsOf, OwnsAt};
 ghost use Rattle.live_heap.specs.Sights.{IsSightOf, TakesStep};
 ghost use Rattle.live_heap.specs.Words.{CallsOnWord};
 
@@ -26,7 +25,7 @@ impl Heap {
     pub(crate) fn write_word(&self, pass: &mut Pass, place: u32, need: Need, i: u32, v: u64)
         requires of { IsOf self.now pass.old }
         requires idle { IsIdle pass.old.errand }
-        requires owned { OwnsAfter (seen pass.old) pass.old.errand.caller place need }
+        requires owned { OwnsAt pass.old place need }
         requires word { i < usable_words need }
         ensures { CallsOnWord self.now pass.old (write place need i v) reply.Wrote pass.new }
     {
@@ -37,7 +36,7 @@ impl Heap {
     pub(crate) fn read_word(&self, pass: &mut Pass, place: u32, need: Need, i: u32) -> u64
         requires of { IsOf self.now pass.old }
         requires idle { IsIdle pass.old.errand }
-        requires owned { OwnsAfter (seen pass.old) pass.old.errand.caller place need }
+        requires owned { OwnsAt pass.old place need }
         requires word { i < usable_words need }
         ensures { CallsOnWord self.now pass.old (read place need i) (reply.Word result) pass.new }
     {

@@ -1,6 +1,7 @@
 -- A call of a pass that was interrupted, and goes on to its end.
-use Rattle.std.proofs.Common.{ℕ, ◌≡◌, ◌∷◌, List, [], inl, inr, refl, sym, ap, subst}
+use Rattle.std.proofs.Common.{ℕ, ◌≡◌, ◌≢◌, ◌∷◌, List, [], inl, inr, refl, sym, ap, subst, ◌∙◌}
 use Rattle.std.proofs.lemmas.Option.{none-some}
+use lib.ListN.{get_elem?}
 use Rattle.heap_geometry.specs.declared.need.Need.{Need}
 use Rattle.errand_steps.specs.declared.reply.Reply.{Reply}
 use Rattle.errand_steps.specs.declared.reply.Reply.TheVariants as reply
@@ -9,21 +10,27 @@ use Rattle.errand_steps.specs.Calls.{Call, alloc, free}
 use Rattle.live_heap.specs.declared.answers.Resumed.{Resumed}
 use Rattle.live_heap.specs.declared.answers.Resumed.TheVariants as resumed
 use Rattle.live_heap.specs.declared.block.Block.{Block}
+use Rattle.live_heap.specs.declared.heap.Heap.{Heap}
 use Rattle.live_heap.specs.declared.pass.Pass.{Pass}
+use Rattle.live_heap.specs.declared.view.Lent.{Lent}
 use Rattle.live_heap.specs.Answers.{AllocTells, IsResumable, ResumeTells}
 use Rattle.live_heap.specs.declared.answers.AllocAnswer.TheVariants as answer
 use Rattle.live_heap.specs.Calls.{IsCalling}
+use Rattle.live_heap.specs.Passes.{IsHome, IsOf, seen, view}
 use Rattle.call_events.specs.Made.{LeadsBy, Made}
+use Rattle.step_machine.specs.Cores.{OwnsAfter}
 use Rattle.live_heap.specs.Whole.{HasEndedCall, IsWhole, MadeByPass, by_steps, at_once, ResumesTo}
 use Rattle.live_heap.specs.Words.{CallsOnWord}
 use Rattle.pass_calls.specs.declared.over_pass.PassCalls.{PassCalls}
+use Rattle.pass_calls.specs.Passes.{pass_maker}
 
 -- an interrupted call can still be resumed when it has made more steps
 pub resumable-on :
-    (p q : Pass) → IsResumable p
-    → ((first : Pass) (call : Call) (made : ℕ) → IsCalling first call made p → (steps : ℕ) × IsCalling first call steps q) → IsResumable q
-resumable-on p q r on =
-    let n = on r.first r.call r.steps r.calling in record { first = r.first; call = r.call; steps = n.0; calling = n.1; tried = r.tried }
+    (h : Heap) (p q : Pass) (r : IsResumable p) → IsOf h r.first
+    → ((first : Pass) (call : Call) (made : ℕ) → IsOf h first → IsCalling first call made p → (steps : ℕ) × IsCalling first call steps q)
+    → IsResumable q
+resumable-on h p q r of on =
+    let n = on r.first r.call r.steps of r.calling in record { first = r.first; call = r.call; steps = n.0; calling = n.1; tried = r.tried }
 
 -- a resumed call that isn't told to be busy has ended
 pub resume-ended :
@@ -72,21 +79,34 @@ pub made-idle : (p : Pass) (call : Call) (answer : Reply) (q : Pass) → IsIdle 
 made-idle p call answer q idle (by_steps ended) = ended.1.idle
 made-idle p call answer q idle (at_once words is_alloc spent once) = subst (λ (r : Pass). IsIdle r.errand) (sym once.same) idle
 
+-- a whole call leaves the words of the same blocks out
+pub made-lent : (p : Pass) (call : Call) (answer : Reply) (q : Pass) → MadeByPass p call answer q → (view q).lent ≡ (view p).lent
+made-lent p call answer q (by_steps ended) = ended.1.lent
+made-lent p call answer q (at_once words is_alloc spent once) = ap (λ (x : Pass). (view x).lent) once.same
+
+-- the words of a block that a call has handed out are home: those that are out are of blocks that the pass owned before
+pub handed-home :
+    (h : Heap) (p q : Pass) (place : ℕ) → IsOf h p → (view q).lent ≡ (view p).lent
+    → ((other : ℕ) (had : Need) → OwnsAfter (seen p) p.errand.caller other had → other ≢ place) → IsHome q place
+handed-home h p q place of same apart =
+    λ n b found. apart b.place b.need (of.mine n b (ap (λ (l : List Lent). get_elem? l n) (sym same) ∙ found))
+
 -- the struct with its pass in this state
 abbrev pub with_pass : PassCalls → Pass → PassCalls
 with_pass e p = record e { pass = record e.pass { now = p } }
 
 -- calls of a pass on words are whole calls of the struct that has it
 pub words-lead :
-    (e : PassCalls) (p q : Pass) (made : List Made) → LeadsBy (CallsOnWord e.heap.now) p made q
-    → LeadsBy (λ f call answer g. IsWhole f.heap.now f.pass.now call answer g.heap.now g.pass.now) (with_pass e p) made (with_pass e q)
-words-lead e p q [] leads = ap (with_pass e) leads
-words-lead e p q (m ∷ made) (t, one, leads) =
-    (with_pass e t, (by_steps (0, one.called), one.owned, refl, (one.of, one.called.idle)), words-lead e t q made leads)
+    (e : PassCalls) (p q : Pass) (made : List Made) → IsOf e.heap.now p → LeadsBy (CallsOnWord e.heap.now) p made q
+    → LeadsBy pass_maker.called (with_pass e p) made (with_pass e q)
+words-lead e p q [] of leads = ap (with_pass e) leads
+words-lead e p q (m ∷ made) of (t, one, leads) =
+    (with_pass e t, (of, (by_steps (0, one.called), one.owned, refl, (one.of, one.called.idle))), words-lead e t q made one.of leads)
 
 -- whole calls of a pass are whole calls of the struct that has it
 pub passes-lead :
-    (e : PassCalls) (p q : Pass) (made : List Made) → LeadsBy (λ p call answer q. IsWhole e.heap.now p call answer e.heap.now q) p made q
-    → LeadsBy (λ f call answer g. IsWhole f.heap.now f.pass.now call answer g.heap.now g.pass.now) (with_pass e p) made (with_pass e q)
-passes-lead e p q [] leads = ap (with_pass e) leads
-passes-lead e p q (m ∷ made) (t, one, leads) = (with_pass e t, one, passes-lead e t q made leads)
+    (e : PassCalls) (p q : Pass) (made : List Made) → IsOf e.heap.now p
+    → LeadsBy (λ p call answer q. IsWhole e.heap.now p call answer e.heap.now q) p made q
+    → LeadsBy pass_maker.called (with_pass e p) made (with_pass e q)
+passes-lead e p q [] of leads = ap (with_pass e) leads
+passes-lead e p q (m ∷ made) of (t, one, leads) = (with_pass e t, (of, one), passes-lead e t q made one.3.0 leads)

@@ -1,10 +1,9 @@
 -- A pass of a heap as a lane sees it.
 use Rattle.std.specs.Prelude.{ℕ}
-use Rattle.step_machine.specs.Cores.{OwnsAfter}
 use Rattle.live_heap.specs.declared.block.Block.{Block}
 use Rattle.live_heap.specs.declared.heap.Heap.{Heap}
 use Rattle.live_heap.specs.declared.pass.Pass.{Pass}
-use Rattle.live_heap.specs.Passes.{seen}
+use Rattle.live_heap.specs.Passes.{IsOf, OwnsAt, seen}
 use Rattle.live_heap.specs.Whole.{IsAtRest, IsWhole}
 use Rattle.lane_engine.specs.Engines.{Engine}
 use Rattle.lane_engine.specs.Whole.{Maker}
@@ -21,13 +20,13 @@ heap_at h p =
       errand = p.errand;
     }
 
--- a pass of a heap, by its whole calls
+-- a pass of a heap, by its whole calls; a block is its caller's where the block's words are home
 abbrev pub pass_maker : Maker PassCalls
 pass_maker =
     record {
       stands = λ e. IsAtRest e.heap.now e.pass.now;
-      owns = λ e place need. OwnsAfter (seen e.pass.now) e.pass.now.errand.caller place need;
+      owns = λ e place need. OwnsAt e.pass.now place need;
       Base = ℕ × Heap;
       runs_on = λ e. (e.pass.ghost_name, e.heap.now);
-      called = λ e call answer f. IsWhole e.heap.now e.pass.now call answer f.heap.now f.pass.now;
+      called = λ e call answer f. IsOf e.heap.now e.pass.now × IsWhole e.heap.now e.pass.now call answer f.heap.now f.pass.now;
     }

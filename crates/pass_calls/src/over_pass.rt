@@ -55,9 +55,10 @@ fn tries(pass: &Pass, last: &mut u64) -> u32
 /// Goes on with an allocation or a free that was interrupted, to its end.
 fn go_on<R: Wait>(rt: &R, heap: &Heap, pass: &mut Pass, last: &mut u64) -> Resumed
     requires of { IsOf heap.now pass.old }
-    requires under_way { IsResumable pass.old }
+    requires under_way { (r : IsResumable pass.old) × IsOf heap.now r.first }
     ensures rests { IsAtRest heap.now pass.new }
-    ensures ended { (first : Pass) (call : Call) (made : ℕ) → IsCalling first call made pass.old → ResumesTo first call result pass.new }
+    ensures ended { (first : Pass) (call : Call) (made : ℕ) → IsOf heap.now first → IsCalling first call made pass.old
+        → ResumesTo first call result pass.new }
 {
     for _ in rt.forever() {
         let tries = tries(pass, last);

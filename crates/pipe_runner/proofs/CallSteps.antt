@@ -30,11 +30,12 @@ use Rattle.live_heap.specs.declared.answers.Taken.TheVariants as taken
 use Rattle.live_heap.specs.Calls.{HasCalled}
 use Rattle.live_heap.specs.Contents.{OwnsSame, owned_in}
 use Rattle.live_heap.specs.Holdings.{ChangesHand}
-use Rattle.live_heap.specs.Passes.{IsOf, Owns, seen}
-use Rattle.live_heap.specs.Whole.{IsAtRest, IsWhole, OwnsFor, by_steps}
+use Rattle.live_heap.specs.Passes.{IsHome, IsOf, Owns, seen, view}
+use Rattle.live_heap.specs.Whole.{IsAtRest, IsWhole, OwnsFor, at_once, by_steps}
 use Rattle.live_heap.proofs.Changes.{called-changes, whole-changes}
 use Rattle.live_heap.proofs.Exact.{whole-exact}
-use Rattle.live_heap.proofs.WholeLaws.{pass-hands, pass-keeps, pass-serves}
+use Rattle.live_heap.proofs.LawsKept.{given-home, stays-home}
+use Rattle.live_heap.proofs.WholeLaws.{pass-hands, pass-serves, whole-keeps}
 use Rattle.pipe_runner.specs.Messages.{HasThreeWords, three_from, with_word, with_words}
 use Rattle.block_pipe.specs.declared.pipe.Pipe.{Pipe}
 use Rattle.block_pipe.specs.declared.sender.Sender.{Sender}
@@ -46,13 +47,14 @@ use Rattle.pipe_runner.proofs.MoveLemmas.{goes-here, goes-trans, whole-goes}
 
 -- a block that a pass owns is there, with its words
 pub owned-there : (p : Pass) (block : Block) → Owns p block → (b : PoolBlock) × (owned_in p block.place ≡ Some b) × (b.need ≡ block.need)
-owned-there p block owns = (owns.0, ap (if_of p.errand.caller) owns.1 ∙ of-self p.errand.caller owns.0 owns.2, owns.3)
+owned-there p block owns =
+    let after = owns.0 in (after.0, ap (if_of p.errand.caller) after.1 ∙ of-self p.errand.caller after.0 after.2, after.3)
 
-pub same-owns : (p q : Pass) → OwnsSame p q → (block : Block) → Owns p block → Owns q block
-same-owns p q same block owns =
+pub same-owns : (p q : Pass) → (view q).lent ≡ (view p).lent → OwnsSame p q → (block : Block) → Owns p block → Owns q block
+same-owns p q lent same block owns =
     let there = owned-there p block owns in
     let found = owned-found q.errand.caller (block_at block.place (pool_of (seen q))) there.0 (same block.place ∙ there.1) in
-    (there.0, found.0, found.1, there.2)
+    ((there.0, found.0, found.1, there.2), stays-home p q block.place lent owns.1)
 
 pub keeps-here : (h : Heap) (p : Pass) → IsAtRest h p → KeepsBlocks h p p
 keeps-here h p rest = record {
@@ -69,31 +71,37 @@ keeps-trans h p q r a b = record {
 }
 
 pub keeps-whole :
-    (h : Heap) (p q : Pass) (call : Call) (answer : Reply) (end : Ended) → IsWhole h p call answer h q → end_of call answer ≡ Some end
+    (h : Heap) (p q : Pass) (call : Call) (answer : Reply) (end : Ended) → IsOf h p → IsWhole h p call answer h q → end_of call answer ≡ Some end
     → HandsNothingOver end → ((place : ℕ) → LeavesPlace call place) → ((blocks : List Block) → ChangesHand call answer blocks blocks)
     → KeepsBlocks h p q
-keeps-whole h p q call answer end whole is home leaves hand =
+keeps-whole h p q call answer end was whole is home leaves hand =
     let (made, may, same, rest) = whole in record {
       moves = record { goes = whole-goes h p q call answer end whole is home; rest = rest };
-      owns = λ block owned. pass-keeps h h p q call answer block.place block.need whole (leaves block.place) owned;
-      holds = λ blocks held. whole-exact h h p q call answer blocks blocks whole (hand blocks) held;
+      owns = λ block owned. whole-keeps h h p q call answer block.place block.need whole (leaves block.place) owned;
+      holds = λ blocks held. whole-exact h h p q call answer blocks blocks was whole (hand blocks) held;
     }
 
 -- an allocation that was not given a block
 pub not-given :
-    (h : Heap) (p q : Pass) (told : Allocated Block) → ((block : Block) → told ≡ allocated.Given block → ⊥)
+    (h : Heap) (p q : Pass) (told : Allocated Block) → IsOf h p → ((block : Block) → told ≡ allocated.Given block → ⊥)
     → IsWhole h p (alloc 3) (allocated_as (λ (block : Block). block.place) (λ (block : Block). block.need) told) h q → KeepsBlocks h p q
-not-given h p q (allocated.Given block) other whole = absurd (other block refl)
-not-given h p q allocated.Refused other whole =
-    keeps-whole h p q (alloc 3) reply.Refused (ended.alloc_refused 3) whole refl tt (λ place. tt) (λ blocks. refl)
-not-given h p q allocated.Spent other whole =
-    keeps-whole h p q (alloc 3) reply.Spent (ended.alloc_spent 3) whole refl tt (λ place. tt) (λ blocks. refl)
+not-given h p q (allocated.Given block) was other whole = absurd (other block refl)
+not-given h p q allocated.Refused was other whole =
+    keeps-whole h p q (alloc 3) reply.Refused (ended.alloc_refused 3) was whole refl tt (λ place. tt) (λ blocks. refl)
+not-given h p q allocated.Spent was other whole =
+    keeps-whole h p q (alloc 3) reply.Spent (ended.alloc_spent 3) was whole refl tt (λ place. tt) (λ blocks. refl)
 
 abbrev pub fresh : ℕ → Block → PoolBlock
 fresh c block = fresh_block c 3 block.place
 
 given-serves : (h : Heap) (p q : Pass) (block : Block) → IsWhole h p (alloc 3) (reply.Given block.place block.need) h q → block.need ≡ need_of 3
 given-serves h p q block whole = pass-serves h h p q 3 block.place block.need whole
+
+-- the words of a block that was given are home
+given-words :
+    (h : Heap) (p q : Pass) (block : Block) → IsOf h p → IsWhole h p (alloc 3) (reply.Given block.place block.need) h q → IsHome q block.place
+given-words h p q block was (by_steps made, may, same, rest) = given-home h p q (alloc 3) made.0 block.place block.need was rest.0 made.1
+given-words h p q block was (at_once words is_alloc spent once, may, same, rest) = absurd (cc)
 
 -- an allocation that was given a block, behind others that were not
 pub has-allocated :
@@ -112,9 +120,9 @@ has-allocated h p q r block before refused whole =
       refused = refused;
       gives = made;
       given = subst (λ (c : ℕ). owned_in r block.place ≡ Some (fresh c block)) before.moves.goes.caller changed.given.here;
-      owned = pass-hands h h q r (alloc 3) answer block.place block.need whole (refl, refl);
+      owned = (pass-hands h h q r (alloc 3) answer block.place block.need whole (refl, refl), given-words h q r block before.moves.rest.0 whole);
       serves = given-serves h q r block whole;
-      holds = λ none. whole-exact h h q r (alloc 3) answer [] (block ∷ []) whole (block, refl, refl, refl) (before.holds [] none);
+      holds = λ none. whole-exact h h q r (alloc 3) answer [] (block ∷ []) before.moves.rest.0 whole (block, refl, refl, refl) (before.holds [] none);
     }
 
 -- a call of one step on a word of a block that the pass owns
@@ -123,17 +131,17 @@ one-step :
 one-step h p q call answer of called owned = (by_steps (0, called), owned, refl, (of, called.idle))
 
 pub wrote-keeps :
-    (h : Heap) (p q : Pass) (block : Block) (i v : ℕ) → IsOf h q → Owns p block
+    (h : Heap) (p q : Pass) (block : Block) (i v : ℕ) → IsOf h p → IsOf h q → Owns p block
     → HasCalled p (write block.place block.need i v) 0 reply.Wrote q → KeepsBlocks h p q
-wrote-keeps h p q block i v of owned called =
-    keeps-whole h p q (write block.place block.need i v) reply.Wrote (ended.wrote block.place i v)
+wrote-keeps h p q block i v was of owned called =
+    keeps-whole h p q (write block.place block.need i v) reply.Wrote (ended.wrote block.place i v) was
     (one-step h p q (write block.place block.need i v) reply.Wrote of called owned) refl tt (λ place. tt) (λ blocks. refl)
 
 pub read-keeps :
-    (h : Heap) (p q : Pass) (block : Block) (i word : ℕ) → IsOf h q → Owns p block
+    (h : Heap) (p q : Pass) (block : Block) (i word : ℕ) → IsOf h p → IsOf h q → Owns p block
     → HasCalled p (read block.place block.need i) 0 (reply.Word word) q → KeepsBlocks h p q
-read-keeps h p q block i word of owned called =
-    keeps-whole h p q (read block.place block.need i) (reply.Word word) ended.read
+read-keeps h p q block i word was of owned called =
+    keeps-whole h p q (read block.place block.need i) (reply.Word word) ended.read was
     (one-step h p q (read block.place block.need i) (reply.Word word) of called owned) refl tt (λ place. tt) (λ blocks. refl)
 
 -- the block has one word more behind a write
@@ -201,7 +209,7 @@ three-long h p block b of owned there (u, v, w, is) =
     let both : Some b ≡ Some has.0 = sym there ∙ has.1 in
     let same : b ≡ has.0 = cc in
     let sound = sound-of h.layout (seen p) (legal-weaker h.layout (seen p) of.served.legal) in
-    let full = (every-each (IsWellFormed h.layout) (pool_of (seen p)) sound.each block.place has.0 owned.1).full in
+    let full = (every-each (IsWellFormed h.layout) (pool_of (seen p)) sound.each block.place has.0 owned.0.1).full in
     sym (ap usable_words has.2) ∙ sym full ∙ ap (λ (x : PoolBlock). length x.contents) (sym same) ∙ ap (λ (l : List (Option ℕ)). length l) is
 
 -- a put that finds the shelf full
@@ -209,27 +217,29 @@ pub full-same : (h : Heap) (p q : Pass) (block : Block) (shelf : ℕ) (full : Fu
 full-same h p q block shelf full of tells =
     called-changes h p q (put block.place block.need shelf) 0 (reply.Full full.found) of tells.called
 
-pub full-keeps : (h : Heap) (p q : Pass) (block : Block) (shelf : ℕ) (full : Full) → IsOf h q → Owns p block → PutTellsFull p block shelf full q → KeepsBlocks h p q
-full-keeps h p q block shelf full of owned tells =
+pub full-keeps :
+    (h : Heap) (p q : Pass) (block : Block) (shelf : ℕ) (full : Full) → IsOf h p → IsOf h q → Owns p block → PutTellsFull p block shelf full q
+    → KeepsBlocks h p q
+full-keeps h p q block shelf full was of owned tells =
     let whole = one-step h p q (put block.place block.need shelf) (reply.Full full.found) of tells.called owned in record {
       moves = record {
         goes = whole-goes h p q (put block.place block.need shelf) (reply.Full full.found) ended.put_full whole refl tt;
         rest = (of, tells.called.idle);
       };
-      owns = same-owns p q (full-same h p q block shelf full of tells);
-      holds = λ blocks held. whole-exact h h p q (put block.place block.need shelf) (reply.Full full.found) blocks blocks whole refl held;
+      owns = same-owns p q tells.called.lent (full-same h p q block shelf full of tells);
+      holds = λ blocks held. whole-exact h h p q (put block.place block.need shelf) (reply.Full full.found) blocks blocks was whole refl held;
     }
 
 -- a take that gets nothing
-pub empty-keeps : (h : Heap) (p q : Pass) (shelf : ℕ) → IsOf h q → TakeTells p shelf taken.Empty q → KeepsBlocks h p q
-empty-keeps h p q shelf of tells =
-    keeps-whole h p q (take shelf) reply.Empty (ended.take_empty shelf) (by_steps (1, tells), tt, refl, (of, tells.idle)) refl tt (λ place. tt)
+pub empty-keeps : (h : Heap) (p q : Pass) (shelf : ℕ) → IsOf h p → IsOf h q → TakeTells p shelf taken.Empty q → KeepsBlocks h p q
+empty-keeps h p q shelf was of tells =
+    keeps-whole h p q (take shelf) reply.Empty (ended.take_empty shelf) was (by_steps (1, tells), tt, refl, (of, tells.idle)) refl tt (λ place. tt)
     (λ blocks. refl)
 
 pub missed-keeps :
-    (h : Heap) (p q : Pass) (shelf expected found : ℕ) → IsOf h q → TakeTells p shelf (taken.Missed expected found) q → KeepsBlocks h p q
-missed-keeps h p q shelf expected found of tells =
-    keeps-whole h p q (take shelf) (reply.Missed expected found) ended.take_missed (by_steps (1, tells.0), tt, refl, (of, tells.0.idle)) refl tt
+    (h : Heap) (p q : Pass) (shelf expected found : ℕ) → IsOf h p → IsOf h q → TakeTells p shelf (taken.Missed expected found) q → KeepsBlocks h p q
+missed-keeps h p q shelf expected found was of tells =
+    keeps-whole h p q (take shelf) (reply.Missed expected found) ended.take_missed was (by_steps (1, tells.0), tt, refl, (of, tells.0.idle)) refl tt
     (λ place. tt) (λ blocks. refl)
 
 -- a block that serves three words has them

@@ -48,6 +48,6 @@ sent-step passed h senders start count shelf first p a w q block below has gate 
       rest = over.rest;
       quiet = subst (λ (k : ℕ). IsQuiet senders 8 (own k (seen q))) (sym caller) now.quiet;
       within = subst (λ (k : ℕ). All (PutsWithin senders) (own k (seen q))) (sym caller) now.within;
-      nothing = called-exact h last q (put block.place block.need shelf) 0 reply.Put (block ∷ []) [] over.rest.0 over.called (block, refl, refl) held;
+      nothing = called-exact h last q (put block.place block.need shelf) 0 reply.Put (block ∷ []) [] over.keeps.moves.rest.0 over.rest.0 over.called (block, refl, refl) held;
     } in
     sent-ends passed h senders start (count + 1) c q caller between now

@@ -61,14 +61,14 @@ taken-step h n s shelf fold counts folds counts_now folds_now p t f q block call
     let (made, may, same, at_rest) = whole in
     let held : HoldsExactly last [] = off.keeps.holds [] has.between.nothing in
     let taken_held : HoldsExactly t (block ∷ []) =
-    called-exact h last t (take shelf) 1 (reply.Got block.place block.need) [] (block ∷ []) off.rest.0 off.called (block, refl, refl, refl) held in
+    called-exact h last t (take shelf) 1 (reply.Got block.place block.need) [] (block ∷ []) off.keeps.moves.rest.0 off.rest.0 off.called (block, refl, refl, refl) held in
     let between : IsBetween h n q = record {
       rest = at_rest;
       quiet = subst (λ (k : ℕ). IsQuiet n 8 (own k (seen q))) (sym q_is)
           (goes-quiet n 8 t q rest (subst (λ (k : ℕ). IsQuiet n 8 (own k (seen t))) (sym t_is) now.quiet));
       within = subst (λ (k : ℕ). All (PutsWithin n) (own k (seen q))) (sym q_is)
           (goes-within n t q rest (subst (λ (k : ℕ). All (PutsWithin n) (own k (seen t))) (sym t_is) now.within));
-      nothing = whole-exact h h f q (free block.place block.need) reply.Freed (block ∷ []) [] whole (block, refl, refl) (keeps.holds (block ∷ []) taken_held);
+      nothing = whole-exact h h f q (free block.place block.need) reply.Freed (block ∷ []) [] keeps.moves.rest.0 whole (block, refl, refl) (keeps.holds (block ∷ []) taken_held);
     } in
     (taken-ends h n counts_now folds_now t q now t_is rest between, q_is ∙ t_is)
 

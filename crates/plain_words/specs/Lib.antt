@@ -1,4 +1,3 @@
 pub mod Lends
 pub mod Owned
 pub mod Places
-pub mod Written

@@ -4,8 +4,6 @@
 mod block;
 mod plain;
 mod room;
-mod trail;
 
 pub use plain::{PlainWords, Start};
 pub use room::{Backing, Room};
-pub use trail::Trail;

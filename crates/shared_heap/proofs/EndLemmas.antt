@@ -165,6 +165,10 @@ of-same h k p table layout of =
       served = subst (λ (g : Geometry). IsServed g p.errand.caller p.errand (seen p)) layout of.served;
       alone = λ one. of.alone (ap (λ (g : Geometry). g.callers) layout ∙ one);
       settled = of.settled;
+      counted = of.counted;
+      mine = of.mine;
+      apart = of.apart;
+      once = of.once;
     }
 
 pub given-same :

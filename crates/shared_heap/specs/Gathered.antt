@@ -1,5 +1,5 @@
 -- What comes of a shared heap at its end.
-use Rattle.std.specs.Prelude.{ℕ, ◌≡◌, ◌≢◌, ◌<◌, ◌≤◌, Option, Some, None, List, ◌++◌, [], ◌∷◌, length, slice_index, slice_index_or}
+use Rattle.std.specs.Prelude.{Any, ℕ, ◌≡◌, ◌≢◌, ◌<◌, ◌≤◌, Option, Some, None, List, ◌++◌, [], ◌∷◌, length, slice_index, slice_index_or}
 use mathlib.Core.Option.{some}
 use lib.ListN.{get_elem?}
 use Rattle.heap_geometry.specs.declared.limits.TheConstants.{MAX_CALLERS}
@@ -50,6 +50,15 @@ pub record IsClosedWhole (h : Heap) (own : Pass) (c : ClosedFields) : Type 0 whe
   pub closed : HasClosed h passes c
   pub rests : IsResting c
   pub accesses : HasAccesses c passes
+
+-- a pass of each caller lay in the places, each given back in no call, and a block's words are out with one of them
+pub record HasWordsOut (h : Heap) (own : Pass) : Type 0 where
+  pub passes : List Pass
+  pub state : PlaceState
+  pub stood : StoodWith h own state
+  pub lie : LieIn h state passes
+  pub all : AreAllIdle h passes
+  pub out : Any (λ p. 0 < p.out) passes
 
 -- no pass lay in some caller's place
 pub record Lacks (h : Heap) (own : Pass) : Type 0 where

@@ -7,7 +7,7 @@ ghost use Rattle.heap_geometry.specs.declared.limits.TheConstants.{MAX_CALLERS};
 ghost use Rattle.live_heap.specs.declared.pass.Pass.{Pass};
 ghost use Rattle.live_heap.specs.Passes.{IsOf};
 ghost use Rattle.shared_heap.specs.declared.places.Stand.TheVariants as stand;
-ghost use Rattle.shared_heap.specs.Gathered.{HasGathered, IsClosedWhole, Lacks, PushesNext};
+ghost use Rattle.shared_heap.specs.Gathered.{HasGathered, HasWordsOut, IsClosedWhole, Lacks, PushesNext};
 
 use crate::places::{Deals, GivenBack, Lays, Stand, Takes};
 use atomic_table::{Seat, Table};
@@ -74,6 +74,8 @@ pub enum Unclosed {
     NoMemory,
     /// Not all of its passes were given back.
     Missing,
+    /// A block's words are out with one of its passes.
+    WordsOut,
 }
 
 impl SharedHeap {
@@ -127,7 +129,7 @@ impl SharedHeap {
     }
 
     /// Gives a pass back, and lets a share in the heap go. Where that was the last one, and all passes were given
-    /// back, the heap closes.
+    /// back, with no block's words out, the heap closes.
     pub fn leave(share: Arc<SharedHeap, Global>, alloc: Global, ticket: Ticket, pass: Pass) -> Left
         requires of { IsOf (arc_value share).heap pass }
         requires ticket { IsTicketOf (arc_value share) ticket.caller ticket }
@@ -144,12 +146,13 @@ impl SharedHeap {
         Left { receipt, closed }
     }
 
-    /// Closes the heap, where all its passes were given back, this one among them. Where some weren't, or there is
-    /// no memory for a list of them, it is let go.
+    /// Closes the heap, where all its passes were given back, this one among them. Where some weren't, or a block's words
+    /// are out with one of them, or there is no memory for a list of them, it is let go.
     pub fn close(self, alloc: Global, receipt: Receipt) -> Result<Closed, Unclosed>
         requires { (own : Pass) × IsReceiptFor self own receipt }
         ensures whole { IfOk result (λ closed. (own : Pass) → IsReceiptFor self own receipt → IsClosedWhole self.heap own closed) }
         ensures missing { result ≡ Err Unclosed.Missing → (own : Pass) → IsReceiptFor self own receipt → Lacks self.heap own }
+        ensures words_out { result ≡ Err Unclosed.WordsOut → (own : Pass) → IsReceiptFor self own receipt → HasWordsOut self.heap own }
     {
         let SharedHeap { heap, places } = self;
         let Receipt { seat } = receipt;
@@ -161,7 +164,7 @@ impl SharedHeap {
         }
         match heap.close(alloc, passes) {
             Ok(closed) => Ok(closed),
-            Err(_) => Err(Unclosed::NoMemory),
+            Err(_) => Err(Unclosed::WordsOut),
         }
     }
 }

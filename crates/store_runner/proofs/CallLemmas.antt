@@ -146,28 +146,28 @@ answer-counts h p q words tries (block, given, tells, rests) =
 
 -- a store's call that waited goes on, whatever it waited for
 pub busy-goes :
-    (h : Heap) (waits : Pending) (p q : Pass) (tries : ℕ) → IsResumedAnswer h waits p tries stored.Busy q → GoesOnTo p tries resumed.Busy q
+    (h : Heap) (waits : Pending) (p q : Pass) (tries : ℕ) → IsResumedAnswer h waits p tries stored.Busy q → GoesOnTo h p tries resumed.Busy q
 busy-goes h pending.Nothing p q tries is = is
 busy-goes h (pending.Pair key value) p q tries is = is
 busy-goes h (pending.Record words) p q tries is = is
 busy-goes h pending.Free p q tries is = is
 
 refused-goes :
-    (h : Heap) (waits : Pending) (p q : Pass) (tries : ℕ) → IsResumedAnswer h waits p tries stored.Refused q → GoesOnTo p tries resumed.Refused q
+    (h : Heap) (waits : Pending) (p q : Pass) (tries : ℕ) → IsResumedAnswer h waits p tries stored.Refused q → GoesOnTo h p tries resumed.Refused q
 refused-goes h pending.Nothing p q tries is = is
 refused-goes h (pending.Pair key value) p q tries is = is
 refused-goes h (pending.Record words) p q tries is = is
 refused-goes h pending.Free p q tries is = is
 
 spent-goes :
-    (h : Heap) (waits : Pending) (p q : Pass) (tries : ℕ) → IsResumedAnswer h waits p tries stored.Spent q → GoesOnTo p tries resumed.Spent q
+    (h : Heap) (waits : Pending) (p q : Pass) (tries : ℕ) → IsResumedAnswer h waits p tries stored.Spent q → GoesOnTo h p tries resumed.Spent q
 spent-goes h pending.Nothing p q tries is = is
 spent-goes h (pending.Pair key value) p q tries is = is
 spent-goes h (pending.Record words) p q tries is = is
 spent-goes h pending.Free p q tries is = is
 
 abbrev IsGivenThen : Heap → Pass → ℕ → Pass → Type 0
-IsGivenThen h p tries q = (block : Block) × (given : Pass) × GoesOnTo p tries (resumed.Given block) given × Rests h given q
+IsGivenThen h p tries q = (block : Block) × (given : Pass) × GoesOnTo h p tries (resumed.Given block) given × Rests h given q
 
 done-goes :
     (h : Heap) (waits : Pending) (p q : Pass) (tries : ℕ) → waits ≢ pending.Free → IsResumedAnswer h waits p tries stored.Done q → IsGivenThen h p tries q
@@ -178,24 +178,24 @@ done-goes h pending.Free p q tries adds is = absurd (adds refl)
 
 pub resumed-done :
     (h : Heap) (waits : Pending) (first p q : Pass) (tries asked made : ℕ) → waits ≢ pending.Free → IsResumedAnswer h waits p tries stored.Done q
-    → IsCalling first (alloc asked) made p → CountsBlocks 1 0 first q
-resumed-done h waits first p q tries asked made adds is calling =
+    → IsOf h first → IsCalling first (alloc asked) made p → CountsBlocks 1 0 first q
+resumed-done h waits first p q tries asked made adds is was calling =
     let g = done-goes h waits p q tries adds is in
-    let tells = g.2 first (alloc asked) made calling in
+    let tells = g.2 first (alloc asked) made was calling in
     counts-then 1 0 0 0 first g.1 q (given-counts first g.1 asked tells.0.steps g.0.place g.0.need tells.0.called) (rests-count h g.1 q g.3)
 
 pub resumed-refused :
     (h : Heap) (waits : Pending) (first p q : Pass) (tries asked made : ℕ) → IsResumedAnswer h waits p tries stored.Refused q
-    → IsCalling first (alloc asked) made p → CountsBlocks 0 0 first q
-resumed-refused h waits first p q tries asked made is calling =
-    let tells = refused-goes h waits p q tries is first (alloc asked) made calling in
+    → IsOf h first → IsCalling first (alloc asked) made p → CountsBlocks 0 0 first q
+resumed-refused h waits first p q tries asked made is was calling =
+    let tells = refused-goes h waits p q tries is first (alloc asked) made was calling in
     refused-counts first q asked tells.steps tells.called
 
 pub resumed-spent :
     (h : Heap) (waits : Pending) (first p q : Pass) (tries asked made : ℕ) → IsResumedAnswer h waits p tries stored.Spent q
-    → IsCalling first (alloc asked) made p → CountsBlocks 0 0 first q
-resumed-spent h waits first p q tries asked made is calling =
-    let tells = spent-goes h waits p q tries is first (alloc asked) made calling in
+    → IsOf h first → IsCalling first (alloc asked) made p → CountsBlocks 0 0 first q
+resumed-spent h waits first p q tries asked made is was calling =
+    let tells = spent-goes h waits p q tries is first (alloc asked) made was calling in
     spent-counts first q asked tells.0.steps tells.0.called
 
 -- the pairs that a store holds stay while its call waits

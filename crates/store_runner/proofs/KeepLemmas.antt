@@ -20,7 +20,7 @@ use Rattle.store_runner.specs.Ends.{AreOwned, IsSpelled, ReadsBack}
 
 holds-owned : (p : Pass) (blocks : List Block) → Holds p blocks → AreOwned (owned_in p) blocks
 holds-owned p [] holds = tt
-holds-owned p (b ∷ bs) holds = ((holds.0.0, owned-token p b holds.0), holds.1, holds-owned p bs holds.2)
+holds-owned p (b ∷ bs) holds = ((holds.0.0.0, owned-token p b holds.0), holds.1, holds-owned p bs holds.2)
 
 -- the one record's block
 one-record :

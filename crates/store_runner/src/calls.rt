@@ -4,6 +4,7 @@ ghost use Rattle.std.specs.Prelude.{ℕ, ◌≡◌, ◌≢◌, ◌≤◌, ◌+�
 ghost use Rattle.errand_steps.specs.Calls.{alloc};
 ghost use Rattle.live_heap.specs.declared.pass.Pass.{Pass};
 ghost use Rattle.live_heap.specs.Calls.{IsCalling};
+ghost use Rattle.live_heap.specs.Passes.{IsOf};
 ghost use Rattle.store_runner.specs.Counts.{CountsBlocks, given_by};
 ghost use Rattle.typed_store.specs.declared.store.Pending.TheVariants as pending;
 ghost use Rattle.typed_store.specs.Nodes.{without_first};
@@ -42,7 +43,7 @@ fn go_on<R: Wait>(rt: &R, heap: &Heap, store: &mut Store, words: &[u64]) -> Stor
     ensures list { (pairs : List (ℕ × ℕ)) → HasList store.old pairs → HasList store.new (pairs_after store.old.pending result pairs) }
     ensures records { (records : List (List ℕ)) → HasRecords store.old records
         → HasRecords store.new (records_after store.old.pending words.now result records) }
-    ensures counts { (first : Pass) (asked made : ℕ) → IsCalling first (alloc asked) made store.old.pass
+    ensures counts { (first : Pass) (asked made : ℕ) → IsOf heap.now first → IsCalling first (alloc asked) made store.old.pass
         → CountsBlocks (given_by result) 0 first store.new.pass }
 {
     for _ in rt.forever() {

@@ -28,28 +28,28 @@ pub record IsGivenTo (p : Pass) (words : ℕ) (hand : List Block) (block : Block
   pub same : SameFor p q hand
 
 pub given-to :
-    (h : Heap) (p q : Pass) (words steps : ℕ) (hand : List Block) (block : Block) → IsOf h q
+    (h : Heap) (p q : Pass) (words steps : ℕ) (hand : List Block) (block : Block) → IsOf h p → IsOf h q
     → HasCalled p (alloc words) steps (reply.Given block.place block.need) q → HoldsExactly p hand → IsGivenTo p words hand block q
-given-to h p q words steps hand block of called held =
+given-to h p q words steps hand block was of called held =
     let answer = reply.Given block.place block.need in
     let changes = called-changes h p q (alloc words) steps answer of called in
     record {
-      exactly = called-exact h p q (alloc words) steps answer hand (block ∷ hand) of called (block, refl, refl, refl) held;
+      exactly = called-exact h p q (alloc words) steps answer hand (block ∷ hand) was of called (block, refl, refl, refl) held;
       enough = given-enough p q words steps block.place block.need called;
       blank = changes.given.here ∙ ap (λ k. Some (fresh_block k words block.place)) (sym called.caller);
       same = given-same h p q words steps block.place block.need hand of called held.0;
     }
 
 -- where no block is given all is as before
-pub refused-stays : (h : Heap) (p q : Pass) (words steps : ℕ) → IsOf h q → HasCalled p (alloc words) steps reply.Refused q → StaysSame h p q
-refused-stays h p q words steps of called =
-    called-stays h p q (alloc words) steps reply.Refused of called (λ blocks. refl) (called-changes h p q (alloc words) steps reply.Refused of called)
+pub refused-stays : (h : Heap) (p q : Pass) (words steps : ℕ) → IsOf h p → IsOf h q → HasCalled p (alloc words) steps reply.Refused q → StaysSame h p q
+refused-stays h p q words steps was of called =
+    called-stays h p q (alloc words) steps reply.Refused was of called (λ blocks. refl) (called-changes h p q (alloc words) steps reply.Refused of called)
 
-pub spent-called-stays : (h : Heap) (p q : Pass) (words steps : ℕ) → IsOf h q → HasCalled p (alloc words) steps reply.Spent q → StaysSame h p q
-spent-called-stays h p q words steps of called =
-    called-stays h p q (alloc words) steps reply.Spent of called (λ blocks. refl) (called-changes h p q (alloc words) steps reply.Spent of called)
+pub spent-called-stays : (h : Heap) (p q : Pass) (words steps : ℕ) → IsOf h p → IsOf h q → HasCalled p (alloc words) steps reply.Spent q → StaysSame h p q
+spent-called-stays h p q words steps was of called =
+    called-stays h p q (alloc words) steps reply.Spent was of called (λ blocks. refl) (called-changes h p q (alloc words) steps reply.Spent of called)
 
 pub spent-stays :
     (h : Heap) (p q : Pass) (words tries : ℕ) → IsOf h p → IsIdle p.errand → IsOf h q → AllocTells p words tries alloc_answer.Spent q → StaysSame h p q
 spent-stays h p q words tries of_p idle of (inl once) = subst (StaysSame h p) (sym once.same) (reads-stay h p p (reads-self h p of_p idle))
-spent-stays h p q words tries of_p idle of (inr ended) = spent-called-stays h p q words ended.0.steps of ended.0.called
+spent-stays h p q words tries of_p idle of (inr ended) = spent-called-stays h p q words ended.0.steps of_p of ended.0.called

@@ -23,10 +23,11 @@ use Rattle.live_heap.specs.declared.pass.Pass.{Pass}
 use Rattle.live_heap.specs.Calls.{HasCalled}
 use Rattle.live_heap.specs.Contents.{OwnsBut, OwnsSame, owned_in, word_in, word_of}
 use Rattle.live_heap.specs.Holdings.{ChangesHand, HoldsExactly}
-use Rattle.live_heap.specs.Passes.{IsOf, Owns, seen}
+use Rattle.live_heap.specs.Passes.{IsOf, Owns, seen, view}
 use Rattle.live_heap.specs.Whole.{OwnsFor}
 use Rattle.live_heap.proofs.Changes.{called-changes}
 use Rattle.live_heap.proofs.Exact.{called-exact}
+use Rattle.live_heap.proofs.LawsKept.{stays-home}
 use Rattle.typed_store.specs.Nodes.{node_at, node_of}
 use Rattle.call_events.specs.Ends.{HasEnded}
 use Rattle.pool_model.specs.declared.event.Event.{Event}
@@ -47,12 +48,12 @@ reads-stay h p q reads = record { of = reads.rests.of; idle = reads.rests.idle; 
 
 -- a call that leaves the hand and what is owned leaves the pass at rest
 pub called-stays :
-    (h : Heap) (p q : Pass) (call : Call) (steps : ℕ) (answer : Reply) → IsOf h q → HasCalled p call steps answer q
+    (h : Heap) (p q : Pass) (call : Call) (steps : ℕ) (answer : Reply) → IsOf h p → IsOf h q → HasCalled p call steps answer q
     → ((blocks : List Block) → ChangesHand call answer blocks blocks) → OwnsSame p q → StaysSame h p q
-called-stays h p q call steps answer of called same owned = record {
+called-stays h p q call steps answer was of called same owned = record {
   of = of;
   idle = called.idle;
-  hand = λ blocks holds. called-exact h p q call steps answer blocks blocks of called (same blocks) holds;
+  hand = λ blocks holds. called-exact h p q call steps answer blocks blocks was of called (same blocks) holds;
   same = owned;
 }
 
@@ -75,13 +76,14 @@ IsCalm k call answer = (added : List Event) → HasEnded k call answer added →
 
 -- a read or a write of a word leaves the pass at rest
 called-rests :
-    (h : Heap) (p q : Pass) (call : Call) (answer : Reply) → OwnsFor p call → IsOf h q → HasCalled p call 0 answer q
+    (h : Heap) (p q : Pass) (call : Call) (answer : Reply) → IsOf h p → OwnsFor p call → IsOf h q → HasCalled p call 0 answer q
     → ((blocks : List Block) → ChangesHand call answer blocks blocks) → IsCalm p.errand.caller call answer → IsOnWord (answered call answer) → Rests h p q
-called-rests h p q call answer owns of called same calm on = record {
+called-rests h p q call answer was owns of called same calm on = record {
   of = of;
   idle = called.idle;
   caller = called.caller;
-  hand = λ blocks holds. called-exact h p q call 0 answer blocks blocks of called (same blocks) holds;
+  hand = λ blocks holds. called-exact h p q call 0 answer blocks blocks was of called (same blocks) holds;
+  lent = called.lent;
   given = omega (arith, counts-on is_alloc 0 p q call 0 answer (λ added has. (calm added has).0) called);
   freed = omega (arith, counts-on is_free 0 p q call 0 answer (λ added has. (calm added has).1) called);
   made = answered call answer ∷ [];
@@ -90,12 +92,12 @@ called-rests h p q call answer owns of called same calm on = record {
 }
 
 pub read-reads :
-    (h : Heap) (p q : Pass) (place i word : ℕ) (need : Need) → OwnsFor p (read place need i) → IsOf h q
+    (h : Heap) (p q : Pass) (place i word : ℕ) (need : Need) → IsOf h p → OwnsFor p (read place need i) → IsOf h q
     → HasCalled p (read place need i) 0 (reply.Word word) q → KeepsWords h p q
 unfolding called-rests
-read-reads h p q place i word need owns of called = record {
+read-reads h p q place i word need was owns of called = record {
   rests =
-      called-rests h p q (read place need i) (reply.Word word) owns of called (λ blocks. refl)
+      called-rests h p q (read place need i) (reply.Word word) was owns of called (λ blocks. refl)
       (λ added has. (reads-none is_alloc p.errand.caller place i word need added has, reads-none is_free p.errand.caller place i word need added has))
       (inl (place, need, i, word, refl));
   same = called-changes h p q (read place need i) 0 (reply.Word word) of called;
@@ -104,10 +106,10 @@ read-reads h p q place i word need owns of called = record {
 }
 
 pub write-rests :
-    (h : Heap) (p q : Pass) (place i v : ℕ) (need : Need) → OwnsFor p (write place need i v) → IsOf h q
+    (h : Heap) (p q : Pass) (place i v : ℕ) (need : Need) → IsOf h p → OwnsFor p (write place need i v) → IsOf h q
     → HasCalled p (write place need i v) 0 reply.Wrote q → Rests h p q
-write-rests h p q place i v need owns of called =
-    called-rests h p q (write place need i v) reply.Wrote owns of called (λ blocks. refl)
+write-rests h p q place i v need was owns of called =
+    called-rests h p q (write place need i v) reply.Wrote was owns of called (λ blocks. refl)
     (λ added has. (
       writes-none is_alloc p.errand.caller place i v need added allocs-blind has,
       writes-none is_free p.errand.caller place i v need added frees-blind has,
@@ -125,6 +127,7 @@ rests-on h p q r a b = record {
   idle = b.idle;
   caller = b.caller ∙ a.caller;
   hand = λ blocks holds. b.hand blocks (a.hand blocks holds);
+  lent = b.lent ∙ a.lent;
   given = b.given ∙ a.given;
   freed = b.freed ∙ a.freed;
   made = a.made ++ b.made;
@@ -147,6 +150,7 @@ reads-self h p of idle = record {
     idle = idle;
     caller = refl;
     hand = λ blocks holds. holds;
+    lent = refl;
     given = refl;
     freed = refl;
     made = [];
@@ -158,25 +162,26 @@ reads-self h p of idle = record {
 }
 
 -- a token that is owned has its block at its place
-pub owned-token : (p : Pass) (token : Block) → (owns : Owns p token) → owned_in p token.place ≡ Some owns.0
-owned-token p token owns = ap (if_of p.errand.caller) owns.1 ∙ of-self p.errand.caller owns.0 owns.2
+pub owned-token : (p : Pass) (token : Block) → (owns : Owns p token) → owned_in p token.place ≡ Some owns.0.0
+owned-token p token (owns, home) = ap (if_of p.errand.caller) owns.1 ∙ of-self p.errand.caller owns.0 owns.2
 
 -- what is owned after a write or a read is owned still
 pub owned-owns :
     (p q : Pass) (token : Block) (now : PoolBlock) → q.errand.caller ≡ p.errand.caller → owned_in q token.place ≡ Some now
-    → now.need ≡ token.need → Owns q token
-owned-owns p q token now caller owned need =
+    → now.need ≡ token.need → (view q).lent ≡ (view p).lent → Owns p token → Owns q token
+owned-owns p q token now caller owned need lent owns =
     let found = owned-found q.errand.caller (block_at token.place (pool_of (seen q))) now owned in
-    (now, found.0, found.1, need)
+    ((now, found.0, found.1, need), stays-home p q token.place lent owns.1)
 
-pub same-owns : (p q : Pass) (token : Block) → OwnsSame p q → q.errand.caller ≡ p.errand.caller → Owns p token → Owns q token
-same-owns p q token same caller owns = owned-owns p q token owns.0 caller (same token.place ∙ owned-token p token owns) owns.3
+pub same-owns :
+    (p q : Pass) (token : Block) → OwnsSame p q → q.errand.caller ≡ p.errand.caller → (view q).lent ≡ (view p).lent → Owns p token → Owns q token
+same-owns p q token same caller lent owns = owned-owns p q token owns.0.0 caller (same token.place ∙ owned-token p token owns) owns.0.3 lent owns
 
 pub wrote-owns :
     (p q : Pass) (token : Block) (i v : ℕ) → OwnsBut p q token.place (option_map (written i v) (owned_in p token.place))
-    → q.errand.caller ≡ p.errand.caller → Owns p token → Owns q token
-wrote-owns p q token i v changes caller owns =
-    owned-owns p q token (written i v owns.0) caller (changes.here ∙ ap (option_map (written i v)) (owned-token p token owns)) owns.3
+    → q.errand.caller ≡ p.errand.caller → (view q).lent ≡ (view p).lent → Owns p token → Owns q token
+wrote-owns p q token i v changes caller lent owns =
+    owned-owns p q token (written i v owns.0.0) caller (changes.here ∙ ap (option_map (written i v)) (owned-token p token owns)) owns.0.3 lent owns
 
 -- a word that is written is one of the block's
 index-within : (words : List (Option ℕ)) (i v : ℕ) → slice_index_or words i None ≡ Some v → i < length words
@@ -189,11 +194,11 @@ pub word-within :
 word-within h p token i v of owns is =
     let formed =
     every-each (IsWellFormed h.layout) (pool_of (seen p)) (sound-of h.layout (seen p) (legal-weaker h.layout (seen p) of.served.legal)).each
-    token.place owns.0 owns.1 in
-    let written_there : slice_index_or owns.0.contents i None ≡ Some v =
+    token.place owns.0.0 owns.0.1 in
+    let written_there : slice_index_or owns.0.0.contents i None ≡ Some v =
     sym (ap (λ (o : Option PoolBlock). word_of o i) (owned-token p token owns)) ∙ is in
-    let within : i < length owns.0.contents = index-within owns.0.contents i v written_there in
-    subst (λ n. i < n) (formed.full ∙ ap usable_words owns.3) within
+    let within : i < length owns.0.0.contents = index-within owns.0.0.contents i v written_there in
+    subst (λ n. i < n) (formed.full ∙ ap usable_words owns.0.3) within
 
 -- the three words of a node
 node-of-words :

@@ -26,24 +26,24 @@ led-more h p q r b made i word owns of called led =
 
 -- the three reads of a node
 module _
-    (h : Heap) (p q r s : Pass) (b : Block) (x y z : ℕ) (owns : Owns p b)
+    (h : Heap) (p q r s : Pass) (b : Block) (x y z : ℕ) (was : IsOf h p) (owns : Owns p b)
     (of_q : IsOf h q) (first : HasCalled p (read b.place b.need 0) 0 (reply.Word x) q)
     (of_r : IsOf h r) (second : HasCalled q (read b.place b.need 1) 0 (reply.Word y) r)
     (of_s : IsOf h s) (third : HasCalled r (read b.place b.need 2) 0 (reply.Word z) s) where
   one : KeepsWords h p q
-  one = read-reads h p q b.place 0 x b.need owns of_q first
+  one = read-reads h p q b.place 0 x b.need was owns of_q first
 
   owns-one : Owns q b
-  owns-one = same-owns p q b one.same one.rests.caller owns
+  owns-one = same-owns p q b one.same one.rests.caller one.rests.lent owns
 
   two : KeepsWords h p r
-  two = reads-on h p q r one (read-reads h q r b.place 1 y b.need owns-one of_r second)
+  two = reads-on h p q r one (read-reads h q r b.place 1 y b.need of_q owns-one of_r second)
 
   owns-two : Owns r b
-  owns-two = same-owns p r b two.same two.rests.caller owns
+  owns-two = same-owns p r b two.same two.rests.caller two.rests.lent owns
 
   pub reads-three : KeepsWords h p s
-  reads-three = reads-on h p r s two (read-reads h r s b.place 2 z b.need owns-two of_s third)
+  reads-three = reads-on h p r s two (read-reads h r s b.place 2 z b.need of_r owns-two of_s third)
 
   pub led-three : LedBy h p (node_reads b x (y, z)) s
   led-three =
@@ -53,15 +53,15 @@ module _
 
 -- the three writes of a node
 pub writes-three :
-    (h : Heap) (p q r s : Pass) (b : Block) (x y z : ℕ) → Owns p b
+    (h : Heap) (p q r s : Pass) (b : Block) (x y z : ℕ) → IsOf h p → Owns p b
     → IsOf h q → HasCalled p (write b.place b.need 0 x) 0 reply.Wrote q
     → IsOf h r → HasCalled q (write b.place b.need 1 y) 0 reply.Wrote r
     → IsOf h s → HasCalled r (write b.place b.need 2 z) 0 reply.Wrote s → Rests h p s
-writes-three h p q r s b x y z owns of_q first of_r second of_s third =
-    let owns_one = wrote-owns p q b 0 x (write-changes h p q b.place 0 x b.need of_q first) first.caller owns in
-    let owns_two = wrote-owns q r b 1 y (write-changes h q r b.place 1 y b.need of_r second) second.caller owns_one in
-    rests-on h p q s (write-rests h p q b.place 0 x b.need owns of_q first)
-    (rests-on h q r s (write-rests h q r b.place 1 y b.need owns_one of_r second) (write-rests h r s b.place 2 z b.need owns_two of_s third))
+writes-three h p q r s b x y z was owns of_q first of_r second of_s third =
+    let owns_one = wrote-owns p q b 0 x (write-changes h p q b.place 0 x b.need of_q first) first.caller first.lent owns in
+    let owns_two = wrote-owns q r b 1 y (write-changes h q r b.place 1 y b.need of_r second) second.caller second.lent owns_one in
+    rests-on h p q s (write-rests h p q b.place 0 x b.need was owns of_q first)
+    (rests-on h q r s (write-rests h q r b.place 1 y b.need of_q owns_one of_r second) (write-rests h r s b.place 2 z b.need of_r owns_two of_s third))
 
 -- reads along a chain go on by those of one node more
 pub along-more :

@@ -26,18 +26,20 @@ use Rattle.typed_store.proofs.StayLemmas.{SameFor, calling-alloc-same, calling-f
 use Rattle.typed_store.proofs.StoreLemmas.{built-stays}
 
 -- the store waits for a block of so many words
-pub record AsksFor (s : Store) (words : ℕ) : Type 0 where
+pub record AsksFor (h : Heap) (s : Store) (words : ℕ) : Type 0 where
   pub first : Pass
+  pub was : IsOf h first
   pub steps : ℕ
   pub calling : IsCalling first (alloc words) steps s.pass
   pub exactly : HoldsExactly first (blocks_of s)
 
 pub asks-pair :
-    (h : Heap) (s : Store) (key value : ℕ) → IsUnderWay h s → s.pending ≡ Pair key value → AsksFor s 3 × (s.unused ≢ 0)
+    (h : Heap) (s : Store) (key value : ℕ) → IsUnderWay h s → s.pending ≡ Pair key value → AsksFor h s 3 × (s.unused ≢ 0)
 asks-pair h s key value u is =
     let w : IsWaitingFor s u.first u.call (Pair key value) = subst (IsWaitingFor s u.first u.call) is u.waits in (
       record {
         first = u.first;
+        was = u.was;
         steps = u.steps;
         calling = subst (λ k. IsCalling u.first k u.steps s.pass) w.0 u.calling;
         exactly = w.1;
@@ -47,11 +49,12 @@ asks-pair h s key value u is =
 
 pub asks-record :
     (h : Heap) (s : Store) (many : ℕ) → IsUnderWay h s → s.pending ≡ Record many
-    → AsksFor s (many + 1) × (vec_len s.records < vec_capacity s.records) × (s.recorded < 1000000)
+    → AsksFor h s (many + 1) × (vec_len s.records < vec_capacity s.records) × (s.recorded < 1000000)
 asks-record h s many u is =
     let w : IsWaitingFor s u.first u.call (Record many) = subst (IsWaitingFor s u.first u.call) is u.waits in (
       record {
         first = u.first;
+        was = u.was;
         steps = u.steps;
         calling = subst (λ k. IsCalling u.first k u.steps s.pass) w.0 u.calling;
         exactly = w.1;
@@ -69,11 +72,11 @@ pub record GivenNow (s : Store) (words : ℕ) (block : Block) (q : Pass) : Type 
   pub same : SameFor s.pass q (blocks_of s)
 
 pub resumed-given :
-    (h : Heap) (s : Store) (words tries : ℕ) (block : Block) (q : Pass) → (a : AsksFor s words) → IsOf h s.pass → IsOf h q
+    (h : Heap) (s : Store) (words tries : ℕ) (block : Block) (q : Pass) → (a : AsksFor h s words) → IsOf h s.pass → IsOf h q
     → ResumeTells a.first (alloc words) a.steps s.pass tries (resumed.Given block) q → GivenNow s words block q
 resumed-given h s words tries block q a of_s of tells =
     let called = tells.0.called in
-    let g = given-to h a.first q words tells.0.steps (blocks_of s) block of called a.exactly in
+    let g = given-to h a.first q words tells.0.steps (blocks_of s) block a.was of called a.exactly in
     record {
       idle = called.idle;
       exactly = g.exactly;
@@ -87,7 +90,7 @@ pub record IsOver (h : Heap) (s : Store) (q : Pass) : Type 0 where
   pub ready : IsReady h (record s { pass = q })
   pub same : SameFor s.pass q (blocks_of s)
 
-over : (h : Heap) (s : Store) (words : ℕ) (q : Pass) → (a : AsksFor s words) → IsOf h s.pass → StaysSame h a.first q → IsBuilt s → IsOver h s q
+over : (h : Heap) (s : Store) (words : ℕ) (q : Pass) → (a : AsksFor h s words) → IsOf h s.pass → StaysSame h a.first q → IsBuilt s → IsOver h s q
 over h s words q a of_s stays built =
     let same =
     same-since a.first s.pass q (blocks_of s) (calling-alloc-same h a.first s.pass words a.steps (blocks_of s) of_s a.calling a.exactly.0)
@@ -103,19 +106,19 @@ over h s words q a of_s stays built =
     }
 
 pub resumed-refused :
-    (h : Heap) (s : Store) (words tries : ℕ) (q : Pass) → (a : AsksFor s words) → IsOf h s.pass → IsOf h q → IsBuilt s
+    (h : Heap) (s : Store) (words tries : ℕ) (q : Pass) → (a : AsksFor h s words) → IsOf h s.pass → IsOf h q → IsBuilt s
     → ResumeTells a.first (alloc words) a.steps s.pass tries resumed.Refused q → IsOver h s q
 resumed-refused h s words tries q a of_s of built tells =
-    over h s words q a of_s (refused-stays h a.first q words tells.steps of tells.called) built
+    over h s words q a of_s (refused-stays h a.first q words tells.steps a.was of tells.called) built
 
 pub resumed-spent :
-    (h : Heap) (s : Store) (words tries : ℕ) (q : Pass) → (a : AsksFor s words) → IsOf h s.pass → IsOf h q → IsBuilt s
+    (h : Heap) (s : Store) (words tries : ℕ) (q : Pass) → (a : AsksFor h s words) → IsOf h s.pass → IsOf h q → IsBuilt s
     → ResumeTells a.first (alloc words) a.steps s.pass tries resumed.Spent q → IsOver h s q
 resumed-spent h s words tries q a of_s of built tells =
-    over h s words q a of_s (spent-called-stays h a.first q words tells.0.steps of tells.0.called) built
+    over h s words q a of_s (spent-called-stays h a.first q words tells.0.steps a.was of tells.0.called) built
 
 pub asked-again :
-    (h : Heap) (s : Store) (words tries : ℕ) (q : Pass) → (a : AsksFor s words) → IsOf h s.pass → IsOf h q
+    (h : Heap) (s : Store) (words tries : ℕ) (q : Pass) → (a : AsksFor h s words) → IsOf h s.pass → IsOf h q
     → IsInterrupted a.first (alloc words) a.steps s.pass tries q → SameFor s.pass q (blocks_of s)
 asked-again h s words tries q a of_s of tells =
     same-since a.first s.pass q (blocks_of s) (calling-alloc-same h a.first s.pass words a.steps (blocks_of s) of_s a.calling a.exactly.0)
@@ -128,6 +131,7 @@ pub busy-on :
 busy-on h s tries q u same of tells = record {
   of = of;
   first = u.first;
+  was = u.was;
   call = u.call;
   steps = suc tells.steps;
   calling = tells.calling;
@@ -141,18 +145,20 @@ pub never : (p q : Pass) (call : Call) (steps : ℕ) (answer : Rattle.errand_ste
 never p q call steps answer none called = none-some called.ended.ended.0 (sym none ∙ called.ended.ended.1)
 
 -- the store waits for the free of a block
-pub record FreesNow (s : Store) : Type 0 where
+pub record FreesNow (h : Heap) (s : Store) : Type 0 where
   pub first : Pass
+  pub was : IsOf h first
   pub block : Block
   pub steps : ℕ
   pub calling : IsCalling first (free block.place block.need) steps s.pass
   pub exactly : HoldsExactly first (block ∷ blocks_of s)
 
-pub frees : (h : Heap) (s : Store) → IsUnderWay h s → s.pending ≡ Free → FreesNow s
+pub frees : (h : Heap) (s : Store) → IsUnderWay h s → s.pending ≡ Free → FreesNow h s
 frees h s u is =
     let w : IsWaitingFor s u.first u.call Free = subst (IsWaitingFor s u.first u.call) is u.waits in
     record {
       first = u.first;
+      was = u.was;
       block = w.0;
       steps = u.steps;
       calling = subst (λ k. IsCalling u.first k u.steps s.pass) w.1 u.calling;
@@ -160,7 +166,7 @@ frees h s u is =
     }
 
 pub resumed-freed :
-    (h : Heap) (s : Store) (tries : ℕ) (q : Pass) → (f : FreesNow s) → IsOf h s.pass → IsOf h q → IsBuilt s
+    (h : Heap) (s : Store) (tries : ℕ) (q : Pass) → (f : FreesNow h s) → IsOf h s.pass → IsOf h q → IsBuilt s
     → ResumeTells f.first (free f.block.place f.block.need) f.steps s.pass tries resumed.Freed q → IsOver h s q
 resumed-freed h s tries q f of_s of built tells =
     let called = tells.called in
@@ -172,7 +178,7 @@ resumed-freed h s tries q f of_s of built tells =
         of = of;
         idle = called.idle;
         exactly =
-            called-exact h f.first q (free f.block.place f.block.need) tells.steps reply.Freed (f.block ∷ blocks_of s) (blocks_of s) of called
+            called-exact h f.first q (free f.block.place f.block.need) tells.steps reply.Freed (f.block ∷ blocks_of s) (blocks_of s) f.was of called
             (f.block, refl, refl) f.exactly;
         built = built-stays s q s.pending same built;
       };
@@ -180,7 +186,7 @@ resumed-freed h s tries q f of_s of built tells =
     }
 
 pub freed-again :
-    (h : Heap) (s : Store) (tries : ℕ) (q : Pass) → (f : FreesNow s) → IsOf h s.pass → IsOf h q
+    (h : Heap) (s : Store) (tries : ℕ) (q : Pass) → (f : FreesNow h s) → IsOf h s.pass → IsOf h q
     → IsInterrupted f.first (free f.block.place f.block.need) f.steps s.pass tries q → SameFor s.pass q (blocks_of s)
 freed-again h s tries q f of_s of tells =
     same-since f.first s.pass q (blocks_of s) (calling-free-same h f.first s.pass f.block f.steps (blocks_of s) of_s f.calling f.exactly.0.1)

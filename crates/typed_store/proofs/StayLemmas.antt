@@ -67,7 +67,7 @@ pub same-given :
     → (blocks : List Block) → Holds p blocks → SameFor p q blocks
 same-given p q place nothing others [] held = tt
 same-given p q place nothing others (b ∷ bs) held =
-    let away : b.place ≢ place = λ same. none-some held.0.0 (sym nothing ∙ (ap (owned_in p) (sym same) ∙ owned-token p b held.0)) in
+    let away : b.place ≢ place = λ same. none-some held.0.0.0 (sym nothing ∙ (ap (owned_in p) (sym same) ∙ owned-token p b held.0)) in
     (others b.place away, same-given p q place nothing others bs held.2)
 
 -- blocks that are held stay through an allocation, and through a free of another block

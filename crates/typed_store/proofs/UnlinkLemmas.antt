@@ -115,27 +115,28 @@ taken-out h s r slots unused head block sought before after ready stands rests l
 
 -- the store is ready once the block that is out of it is freed
 pub freed-ready :
-    (h : Heap) (t : Store) (block : Block) (tries : ℕ) (q : Pass) → HoldsExactly t.pass (block ∷ blocks_of t) → IsBuilt t → IsOf h q
+    (h : Heap) (t : Store) (block : Block) (tries : ℕ) (q : Pass) → IsOf h t.pass → HoldsExactly t.pass (block ∷ blocks_of t) → IsBuilt t → IsOf h q
     → FreeTells t.pass block tries free_answer.Freed q → IsReady h (record t { pass = q })
-freed-ready h t block tries q held built of tells =
+freed-ready h t block tries q was held built of tells =
     let called = tells.called in
     let same = freed-same h t.pass q block tells.steps (blocks_of t) of called held.0.1 in
     record {
       of = of;
       idle = called.idle;
       exactly =
-          called-exact h t.pass q (free block.place block.need) tells.steps reply.Freed (block ∷ blocks_of t) (blocks_of t) of called
+          called-exact h t.pass q (free block.place block.need) tells.steps reply.Freed (block ∷ blocks_of t) (blocks_of t) was of called
           (block, refl, refl) held;
       built = built-stays t q t.pending same built;
     }
 
 -- the store is under way where the free of the block that is out of it is interrupted
 pub free-under-way :
-    (h : Heap) (t : Store) (block : Block) (tries : ℕ) (q : Pass) → HoldsExactly t.pass (block ∷ blocks_of t) → IsBuilt t → IsOf h q
+    (h : Heap) (t : Store) (block : Block) (tries : ℕ) (q : Pass) → IsOf h t.pass → HoldsExactly t.pass (block ∷ blocks_of t) → IsBuilt t → IsOf h q
     → FreeTells t.pass block tries free_answer.Busy q → IsUnderWay h (record t { pass = q; pending = Free })
-free-under-way h t block tries q held built of tells = record {
+free-under-way h t block tries q was held built of tells = record {
   of = of;
   first = t.pass;
+  was = was;
   call = free block.place block.need;
   steps = suc tells.steps;
   calling = tells.calling;

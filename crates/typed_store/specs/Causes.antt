@@ -11,6 +11,7 @@ use Rattle.live_heap.specs.declared.heap.Heap.{Heap}
 use Rattle.live_heap.specs.declared.pass.Pass.{Pass}
 use Rattle.live_heap.specs.Answers.{AllocTells, FreeTells, ResumeTells}
 use Rattle.live_heap.specs.Calls.{IsCalling}
+use Rattle.live_heap.specs.Passes.{IsOf}
 use Rattle.typed_store.specs.declared.slot.Slot.TheVariants.{Node}
 use Rattle.typed_store.specs.declared.store.Pending.{Pending}
 use Rattle.typed_store.specs.declared.store.Pending.TheVariants.{Free}
@@ -30,18 +31,18 @@ IsAnswerOf h p words tries Spent q = AllocTells p words tries alloc_answer.Spent
 IsAnswerOf h p words tries Busy q = AllocTells p words tries alloc_answer.Busy q
 
 -- the call that was under way has gone on to this answer
-abbrev pub GoesOnTo : Pass → ℕ → Resumed → Pass → Type 0
-GoesOnTo p tries answer q =
-    (first : Pass) (call : Call) (made : ℕ) → IsCalling first call made p → ResumeTells first call made p tries answer q
+abbrev pub GoesOnTo : Heap → Pass → ℕ → Resumed → Pass → Type 0
+GoesOnTo h p tries answer q =
+    (first : Pass) (call : Call) (made : ℕ) → IsOf h first → IsCalling first call made p → ResumeTells first call made p tries answer q
 
 -- what a call of a store that goes on came to, of a free or of an allocation
 abbrev pub IsResumedAnswer : Heap → Pending → Pass → ℕ → Stored → Pass → Type 0
-IsResumedAnswer h Free p tries Done q = GoesOnTo p tries resumed.Freed q
+IsResumedAnswer h Free p tries Done q = GoesOnTo h p tries resumed.Freed q
 IsResumedAnswer h pending p tries Done q =
-    (block : Block) × (given : Pass) × GoesOnTo p tries (resumed.Given block) given × Rests h given q
-IsResumedAnswer h pending p tries Refused q = GoesOnTo p tries resumed.Refused q
-IsResumedAnswer h pending p tries Spent q = GoesOnTo p tries resumed.Spent q
-IsResumedAnswer h pending p tries Busy q = GoesOnTo p tries resumed.Busy q
+    (block : Block) × (given : Pass) × GoesOnTo h p tries (resumed.Given block) given × Rests h given q
+IsResumedAnswer h pending p tries Refused q = GoesOnTo h p tries resumed.Refused q
+IsResumedAnswer h pending p tries Spent q = GoesOnTo h p tries resumed.Spent q
+IsResumedAnswer h pending p tries Busy q = GoesOnTo h p tries resumed.Busy q
 
 -- whether a free has ended
 abbrev pub free_answer_of : Bool → FreeAnswer

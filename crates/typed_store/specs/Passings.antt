@@ -9,7 +9,7 @@ use Rattle.live_heap.specs.declared.heap.Heap.{Heap}
 use Rattle.live_heap.specs.declared.pass.Pass.{Pass}
 use Rattle.live_heap.specs.Contents.{OwnsSame}
 use Rattle.live_heap.specs.Holdings.{HoldsExactly}
-use Rattle.live_heap.specs.Passes.{IsOf, seen}
+use Rattle.live_heap.specs.Passes.{IsOf, seen, view}
 use Rattle.typed_store.specs.declared.seeking.Sought.{Sought}
 use Rattle.typed_store.specs.Links.{Leads}
 use Rattle.typed_store.specs.Nodes.{first_with}
@@ -22,12 +22,13 @@ given_in p = count_by is_alloc (own p.errand.caller (seen p))
 abbrev pub freed_in : Pass → ℕ
 freed_in p = count_by is_free (own p.errand.caller (seen p))
 
--- the pass is in no call, holds the blocks that it held, and was given and has freed none since: all that led to it are reads and writes of words, one access each
+-- the pass is in no call, holds the blocks that it held, has the same blocks' words out, and was given and has freed none since: all that led to it are reads and writes of words, one access each
 pub record Rests (h : Heap) (p q : Pass) : Type 0 where
   pub of : IsOf h q
   pub idle : IsIdle q.errand
   pub caller : q.errand.caller ≡ p.errand.caller
   pub hand : (blocks : List Block) → HoldsExactly p blocks → HoldsExactly q blocks
+  pub lent : (view q).lent ≡ (view p).lent
   pub given : given_in q ≡ given_in p
   pub freed : freed_in q ≡ freed_in p
   pub made : List Made

@@ -66,6 +66,7 @@ IsWaitingFor s first call Free = (block : Block) × (call ≡ free block.place b
 pub record IsUnderWay (h : Heap) (s : Store) : Type 0 where
   pub of : IsOf h s.pass
   pub first : Pass
+  pub was : IsOf h first
   pub call : Call
   pub steps : ℕ
   pub calling : IsCalling first call steps s.pass

@@ -1,5 +1,5 @@
 -- The program's calls are whole calls, one after the other, and its blocks stay its own meanwhile.
-use Rattle.std.proofs.Common.{ℕ, ◌≡◌, ◌≢◌, ◌≤◌, List, [], ◌∷◌, ◌++◌, Result, Ok, Err, IfErr, IsErrAnd, refl, sym, subst}
+use Rattle.std.proofs.Common.{ℕ, ◌≡◌, ◌≢◌, ◌≤◌, List, [], ◌∷◌, ◌++◌, Result, Ok, Err, IfErr, IsErrAnd, refl, sym, ◌∙◌, subst}
 use Rattle.heap_geometry.specs.declared.need.Need.{Need}
 use Rattle.heap_geometry.specs.Need.{usable_words}
 use Rattle.errand_steps.specs.declared.reply.Reply.{Reply}
@@ -14,33 +14,34 @@ use Rattle.live_heap.specs.declared.heap.Heap.{Heap}
 use Rattle.live_heap.specs.declared.pass.Pass.{Pass}
 use Rattle.live_heap.specs.Answers.{IsContents}
 use Rattle.live_heap.specs.Calls.{HasCalled}
-use Rattle.live_heap.specs.Passes.{IsFresh, IsOf, seen}
+use Rattle.live_heap.specs.Passes.{IsFresh, IsOf, OwnsAt, seen}
 use Rattle.live_heap.specs.Whole.{IsAtRest, IsWhole, OwnsFor, by_steps}
 use Rattle.live_heap.specs.Words.{TellsContents}
 use Rattle.worked_programs.specs.declared.embedded.Stop.{Stop}
 use Rattle.worked_programs.specs.Embedded.{HasStopped, Makes, Stops}
 use Rattle.worked_programs.proofs.EmbeddedCounts.{called-of}
 use Rattle.worked_programs.proofs.EmbeddedWays.{HasEnough}
+use Rattle.worked_programs.proofs.HomeLemmas.{home-where, whole-out}
 
--- the caller of the pass owns the block that lies there
-abbrev pub OwnsAt : Pass → ℕ → Need → Type 0
-OwnsAt p place need = OwnsAfter (seen p) p.errand.caller place need
+-- the caller of the pass owns the block that lies there, whether or not its words are home
+abbrev pub OwnsThere : Pass → ℕ → Need → Type 0
+OwnsThere p place need = OwnsAfter (seen p) p.errand.caller place need
 
 -- the laws of whole calls on which these lemmas stand
 abbrev pub KeepsBlocks : Type 0
 KeepsBlocks =
     (h k : Heap) (p q : Pass) (call : Call) (answer : Reply) (place : ℕ) (need : Need) → IsWhole h p call answer k q → LeavesPlace call place
-    → OwnsAt p place need → OwnsAt q place need
+    → OwnsThere p place need → OwnsThere q place need
 
 abbrev pub HandsBlocks : Type 0
 HandsBlocks =
     (h k : Heap) (p q : Pass) (call : Call) (answer : Reply) (place : ℕ) (need : Need) → IsWhole h p call answer k q → Hands answer place need
-    → OwnsAt q place need
+    → OwnsThere q place need
 
 abbrev pub HandsOthers : Type 0
 HandsOthers =
     (h k : Heap) (p q : Pass) (call : Call) (answer : Reply) (place other : ℕ) (need had : Need) → IsWhole h p call answer k q
-    → Hands answer place need → OwnsAt p other had → other ≢ place
+    → Hands answer place need → OwnsThere p other had → other ≢ place
 
 pub rest-of : (h : Heap) (p q : Pass) (call : Call) (answer : Reply) → Makes h p call answer q → IsAtRest h q
 rest-of h p q call answer made = let (whole, tells) = made in let (by, owned, same, rest) = whole in rest
@@ -59,9 +60,30 @@ given-words h p q words place need enough made =
     let called = called-of p q (alloc words) (reply.Given place need) made.0.0 (λ (e : reply.Given place need ≡ reply.Spent). cc) in
     enough p q words called.0 place need called.1
 
+-- no block's words are out behind a call where none were before
+pub none-out : (h : Heap) (p q : Pass) (call : Call) (answer : Reply) → IsOf h p → p.out ≡ 0 → Makes h p call answer q → q.out ≡ 0
+none-out h p q call answer of out made = whole-out h p q call answer of made.0 ∙ out
+
+-- so a block that a call hands out, and one that it leaves, is the pass's, and its words are home
+handed-owned :
+    (h : Heap) (p q : Pass) (call : Call) (answer : Reply) (place : ℕ) (need : Need) → HandsBlocks → IsOf h p → p.out ≡ 0 → Makes h p call answer q
+    → Hands answer place need → OwnsAt q place need
+handed-owned h p q call answer place need hands of out made is =
+    (hands h h p q call answer place need made.0 is, home-where h q place (rest-of h p q call answer made).0 (none-out h p q call answer of out made))
+
+kept-owned :
+    (h : Heap) (p q : Pass) (call : Call) (answer : Reply) (place : ℕ) (need : Need) → KeepsBlocks → IsOf h p → p.out ≡ 0 → Makes h p call answer q
+    → LeavesPlace call place → OwnsAt p place need → OwnsAt q place need
+kept-owned h p q call answer place need keeps of out made leaves owned = (
+  keeps h h p q call answer place need made.0 leaves owned.0,
+  home-where h q place (rest-of h p q call answer made).0 (none-out h p q call answer of out made),
+)
+
 pub given-owned :
-    (h : Heap) (p q : Pass) (words place : ℕ) (need : Need) → HandsBlocks → Makes h p (alloc words) (reply.Given place need) q → OwnsAt q place need
-given-owned h p q words place need hands made = hands h h p q (alloc words) (reply.Given place need) place need made.0 (refl, refl)
+    (h : Heap) (p q : Pass) (words place : ℕ) (need : Need) → HandsBlocks → IsOf h p → p.out ≡ 0
+    → Makes h p (alloc words) (reply.Given place need) q → OwnsAt q place need
+given-owned h p q words place need hands of out made =
+    handed-owned h p q (alloc words) (reply.Given place need) place need hands of out made (refl, refl)
 
 push :
     (h : Heap) (p q r : Pass) (calls : List Made) (call : Call) (answer : Reply) → LeadsBy (Makes h) p calls q → Makes h q call answer r
@@ -70,10 +92,11 @@ push h p q r [] call answer is made = (r, subst (λ (x : Pass). Makes h x call a
 push h p q r (first ∷ calls) call answer leads made =
     let (next, m, rest) = leads in (next, m, push h next q r calls call answer rest made)
 
--- a pass has made these calls since it stood as `from`, is in none, and owns the block that lies there
+-- a pass has made these calls since it stood as `from`, is in none, has no block's words out, and owns the block that lies there
 pub record Has (h : Heap) (from : Pass) (calls : List Made) (p : Pass) (place : ℕ) (need : Need) : Type 0 where
   pub made : LeadsBy (Makes h) from calls p
   pub rest : IsAtRest h p
+  pub out : p.out ≡ 0
   pub owned : OwnsAt p place need
 
 -- a call more, which leaves the block
@@ -83,21 +106,25 @@ pub has-more :
 has-more h from p q calls place need call answer keeps has leaves made = record {
   made = push h from p q calls call answer has.made made;
   rest = rest-of h p q call answer made;
-  owned = keeps h h p q call answer place need made.0 leaves has.owned;
+  out = none-out h p q call answer has.rest.0 has.out made;
+  owned = kept-owned h p q call answer place need keeps has.rest.0 has.out made leaves has.owned;
 }
 
 -- an allocation and a write of its block
 pub has-written :
-    (h : Heap) (p q r : Pass) (words place : ℕ) (need : Need) (i v : ℕ) → KeepsBlocks → HandsBlocks
+    (h : Heap) (p q r : Pass) (words place : ℕ) (need : Need) (i v : ℕ) → KeepsBlocks → HandsBlocks → IsOf h p → p.out ≡ 0
     → Makes h p (alloc words) (reply.Given place need) q → HasCalled q (write place need i v) 0 reply.Wrote r → IsOf h r
     → Has h p (answered (alloc words) (reply.Given place need) ∷ answered (write place need i v) reply.Wrote ∷ []) r place need
-has-written h p q r words place need i v keeps hands made wrote of =
-    let owned = given-owned h p q words place need hands made in
+has-written h p q r words place need i v keeps hands was none made wrote of =
+    let owned = given-owned h p q words place need hands was none made in
+    let still = (rest-of h p q (alloc words) (reply.Given place need) made).0 in
+    let out = none-out h p q (alloc words) (reply.Given place need) was none made in
     let m2 = makes-of h q r (write place need i v) reply.Wrote 0 wrote owned of tt in
     record {
       made = (q, made, (r, m2, refl));
       rest = (of, wrote.idle);
-      owned = keeps h h q r (write place need i v) reply.Wrote place need m2.0 tt owned;
+      out = none-out h q r (write place need i v) reply.Wrote still out m2;
+      owned = kept-owned h q r (write place need i v) reply.Wrote place need keeps still out m2 tt owned;
     }
 
 -- behind a first block another one is given and written, and the first one stays
@@ -108,17 +135,18 @@ pub has-both :
     → Has h from ((calls ++ answered (alloc words) (reply.Given other wide) ∷ []) ++ answered (write other wide i v) reply.Wrote ∷ []) r place need
 has-both h from p q r calls place words other need wide i v keeps hands has made wrote of =
     let given = has-more h from p q calls place need (alloc words) (reply.Given other wide) keeps has tt made in
-    let m = makes-of h q r (write other wide i v) reply.Wrote 0 wrote (given-owned h p q words other wide hands made) of tt in
+    let m = makes-of h q r (write other wide i v) reply.Wrote 0 wrote (given-owned h p q words other wide hands has.rest.0 has.out made) of tt in
     has-more h from q r (calls ++ answered (alloc words) (reply.Given other wide) ∷ []) place need (write other wide i v) reply.Wrote keeps given tt m
 
 -- a block that is taken from the shelf
 pub has-taken :
-    (h : Heap) (p q : Pass) (shelf place : ℕ) (need : Need) → HandsBlocks → Makes h p (take shelf) (reply.Got place need) q
-    → Has h p (answered (take shelf) (reply.Got place need) ∷ []) q place need
-has-taken h p q shelf place need hands made = record {
+    (h : Heap) (p q : Pass) (shelf place : ℕ) (need : Need) → HandsBlocks → IsOf h p → p.out ≡ 0
+    → Makes h p (take shelf) (reply.Got place need) q → Has h p (answered (take shelf) (reply.Got place need) ∷ []) q place need
+has-taken h p q shelf place need hands of out made = record {
   made = (q, made, refl);
   rest = rest-of h p q (take shelf) (reply.Got place need) made;
-  owned = hands h h p q (take shelf) (reply.Got place need) place need made.0 (refl, refl);
+  out = none-out h p q (take shelf) (reply.Got place need) of out made;
+  owned = handed-owned h p q (take shelf) (reply.Got place need) place need hands of out made (refl, refl);
 }
 
 -- one more read of the block

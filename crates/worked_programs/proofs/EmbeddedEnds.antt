@@ -1,6 +1,6 @@
 -- How the program's passes come from the opening and go into the closing, and what it prints.
 use Rattle.std.proofs.Common.{ℕ, ◌≡◌, ◌-◌, ◌^◌, List, [], ◌∷◌, ◌++◌, All, length, min, take, drop, slice_index_or, codes, count_by, refl, sym, ◌∙◌, ap, subst, arith}
-use Rattle.std.proofs.lemmas.List.Elements.{All-push}
+use Rattle.std.proofs.lemmas.List.Elements.{All-cons, All-nil, All-push}
 use Rattle.std.specs.Fmt.{digits}
 use Rattle.heap_geometry.specs.declared.limits.TheConstants.{CLASSES}
 use Rattle.heap_census.specs.Census.{is_class}
@@ -11,11 +11,12 @@ use Rattle.sound_state.specs.Sums.{sum_below}
 use Rattle.live_heap.specs.declared.heap.Heap.{Heap}
 use Rattle.live_heap.specs.declared.pass.Pass.{Pass}
 use Rattle.live_heap.specs.Endings.{AreAllIdle, ClosedFields}
-use Rattle.live_heap.specs.Passes.{AreFrom}
+use Rattle.live_heap.specs.Passes.{AreFrom, IsFresh}
 use Rattle.live_heap.specs.Whole.{IsAtRest}
 use Rattle.worked_programs.specs.declared.embedded.TheConstants.{SHELF}
-use Rattle.worked_programs.specs.Embedded.{Fetches, Keeps, lines_of, live_in}
+use Rattle.worked_programs.specs.Embedded.{Fetches, Keeps, first_calls, lines_of, live_in, second_calls}
 use Rattle.worked_programs.proofs.EmbeddedCalls.{rest-of}
+use Rattle.worked_programs.proofs.HomeLemmas.{leads-out}
 
 -- the two passes of a new heap, the second one taken out first
 pub two-passes :
@@ -66,6 +67,17 @@ all-idle h first second p q kept handed last passes one keeps fetches none with_
       record { all = ap length both ∙ sym callers; each = subst (λ (l : List Pass). All Rests l) (sym both) rests },
       both,
     )
+
+-- no block's words are out with the two passes
+pub both-home :
+    (h : Heap) (first second p q : Pass) (kept handed : ℕ) → IsFresh h first → IsFresh h second → Keeps h first kept p → Fetches h second handed q
+    → All (λ (x : Pass). x.out ≡ 0) (p ∷ q ∷ [])
+both-home h first second p q kept handed one two keeps fetches =
+    let Home : Pass → Type 0 = λ x. x.out ≡ 0 in
+    let calls = first_calls keeps.place keeps.need keeps.other keeps.wide kept in
+    let mine : Home p = leads-out h first p calls one.of keeps.made ∙ one.home in
+    let other : Home q = leads-out h second q (second_calls fetches.place fetches.need handed) two.of fetches.made ∙ two.home in
+    All-cons Home p (q ∷ []) mine (All-cons Home q [] other (All-nil Home))
 
 -- no block of a class is live where nothing is
 pub none-live : (c : ClosedFields) → pool_of c.events ≡ [] → min (sum_below CLASSES (live_in c)) (2 ^ 64 - 1) ≡ 0

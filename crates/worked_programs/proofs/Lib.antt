@@ -3,6 +3,8 @@ pub mod EmbeddedCounts
 pub mod EmbeddedEnds
 pub mod EmbeddedHands
 pub mod EmbeddedWays
+pub mod HomeLemmas
 pub mod ReuseCalls
 pub mod ReuseEnds
+pub mod ReuseHome
 pub mod ReuseRounds

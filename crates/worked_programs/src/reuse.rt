@@ -154,6 +154,7 @@ fn close(alloc: Global, heap: Heap, cache: Cache, sum: u64) -> Result<Reused, Al
     requires alone { heap.layout.callers ≡ 1 }
     requires rests { RestsAt heap cache }
     requires empty { cached_in cache ≡ [] }
+    requires home { cache.pass.out ≡ 0 }
     ensures closed { IfOk result (λ reused. HasClosed heap (cache.pass ∷ []) reused.closed) }
     ensures at_rest { IfOk result (λ reused. IsResting reused.closed) }
     ensures counts { IfOk result (λ reused. (reused.sum ≡ sum) × (reused.hits ≡ cache.hits) × (reused.turns ≡ cache.pass.errand.turns)

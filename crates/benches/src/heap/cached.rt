@@ -7,6 +7,7 @@ ghost use Rattle.live_heap.specs.declared.block.Block.{Block};
 ghost use Rattle.live_heap.specs.declared.pass.Pass.{Pass};
 ghost use Rattle.live_heap.specs.Calls.{IsCalling};
 ghost use Rattle.live_heap.specs.Hands.{resumed_by};
+ghost use Rattle.live_heap.specs.Passes.{IsOf};
 ghost use Rattle.live_heap.specs.Whole.{ResumesTo};
 ghost use Rattle.block_cache.specs.Caches.{Holds, IsCache};
 ghost use Rattle.block_cache.specs.Whole.{RestsAt};
@@ -35,7 +36,7 @@ fn go_on<R: Wait>(rt: &R, heap: &Heap, cache: &mut Cache, tries: u32, tally: &mu
     requires tries { 0 < tries }
     ensures rests { RestsAt heap.now cache.new }
     ensures holds { (held : List Block) → Holds cache.old held → Holds cache.new (resumed_by result ++ held) }
-    ensures ended { (first : Pass) (call : Call) (made : ℕ) → IsCalling first call made cache.old.pass
+    ensures ended { (first : Pass) (call : Call) (made : ℕ) → IsOf heap.now first → IsCalling first call made cache.old.pass
         → ResumesTo first call result cache.new.pass }
 {
     for _ in rt.forever() {
@@ -64,14 +65,14 @@ fn given(answer: Resumed, tally: &mut Tally) -> Option<Block>
 }
 
 impl Front for Cache {
-    ghost use Rattle.std.specs.Prelude.{◌++◌, ◌∷◌, ◌↔◌, List};
+    ghost use Rattle.std.specs.Prelude.{◌≡◌, ◌++◌, ◌∷◌, ◌↔◌, List};
     ghost use Rattle.live_heap.specs.declared.block.Block.{Block};
     ghost use Rattle.live_heap.specs.declared.heap.Heap.{Heap};
     ghost use Rattle.block_cache.specs.declared.cache.Cache.{Cache};
     ghost use Rattle.block_cache.specs.Caches.{Holds};
     ghost use Rattle.block_cache.specs.Whole.{RestsAt};
 
-    ghost rests = { λ h c. RestsAt h c };
+    ghost rests = { λ h c. RestsAt h c × (c.pass.out ≡ 0) };
 
     ghost holds = { λ c blocks. Holds c blocks };
 

@@ -4,10 +4,9 @@ ghost use Rattle.std.specs.Prelude.{ℕ, ◌≡◌, ◌<◌, None};
 ghost use Rattle.heap_geometry.specs.declared.limits.TheConstants.{SHELVES};
 ghost use Rattle.errand_steps.specs.Calls.{Call, alloc, free, put, take};
 ghost use Rattle.live_heap.specs.declared.pass.Pass.{Pass};
-ghost use Rattle.live_heap.specs.Answers.{IsResumable};
 ghost use Rattle.live_heap.specs.Calls.{IsCalling};
 ghost use Rattle.live_heap.specs.Passes.{IsOf, Owns};
-ghost use Rattle.benches.specs.Hands.{HasMade, Rests};
+ghost use Rattle.benches.specs.Hands.{HasMade, IsUnderWay, Rests};
 
 use crate::heap::tally::{Tally, count};
 use live_heap::answers::{AllocAnswer, FreeAnswer, Resumed, Taken};
@@ -88,9 +87,9 @@ fn finish<R: Wait>(
     tally: &mut Tally,
 ) -> Option<Block>
     requires of { IsOf heap.now pass.old }
-    requires under_way { IsResumable pass.old }
+    requires under_way { IsUnderWay heap.now pass.old }
     requires tries { 0 < tries }
-    ensures { (first : Pass) (call : Call) (made : ℕ) → IsOf heap.now first → IsCalling first call made pass.old
+    ensures { (first : Pass) (call : Call) (made : ℕ) → Rests heap.now first → IsCalling first call made pass.old
         → HasMade heap.now first call result pass.new }
 {
     passes_keep_their_blocks();

@@ -19,7 +19,7 @@ use std::sync::Wait;
 
 /// Whole calls of one caller, which are gone on with until they have ended, with so many tries each time.
 pub trait Front: Drop {
-    /// It is of this heap, and in no call.
+    /// It is of this heap, in no call, and no block's words are out with it.
     ghost rests: { Heap → Self → Type 0 };
 
     /// Its caller holds these blocks, each once.

@@ -1,6 +1,9 @@
 //! Steps in a row.
 
-ghost use Rattle.live_heap.specs.Passes.{IsOf};
+ghost use Rattle.std.specs.Prelude.{◌≡◌};
+ghost use Rattle.errand_steps.specs.Begins.{IsIdle};
+ghost use Rattle.live_heap.specs.declared.block.Block.{Block};
+ghost use Rattle.live_heap.specs.Passes.{IsOf, Owns};
 ghost use Rattle.benches.specs.Hands.{IsReady, Rests};
 
 use crate::command::Steps;
@@ -8,6 +11,7 @@ use crate::heap::tally::{Tally, count};
 use crate::heap::work::Work;
 use crate::heap::worker::Worker;
 use errand_steps::told::{Ending, Stepped};
+use live_heap::block::Block;
 use live_heap::heap::Heap;
 use live_heap::pass::Pass;
 use std::sync::Wait;
@@ -39,11 +43,13 @@ pub fn make_steps<R: Wait>(
 
 /// Makes one step; where it is given a block that is to be freed, the free begins.
 fn make_step(heap: &Heap, pass: &mut Pass, frees: bool, tally: &mut Tally)
-    requires { IsOf heap.now pass.old }
-    ensures { IsOf heap.now pass.new }
+    requires of { IsOf heap.now pass.old }
+    requires home { pass.old.out ≡ 0 }
+    ensures of { IsOf heap.now pass.new }
+    ensures home { pass.new.out ≡ 0 }
 {
     count(&mut tally.made);
-    match heap.step(pass) {
+    match step_home(heap, pass) {
         Stepped::Done(Ending::Given(block)) => {
             count(&mut tally.given);
             if frees {
@@ -54,6 +60,17 @@ fn make_step(heap: &Heap, pass: &mut Pass, frees: bool, tally: &mut Tally)
         Stepped::Done(Ending::Refused) => count(&mut tally.refused),
         _ => {}
     }
+}
+
+/// A step of a pass that has no block's words out, which takes none out.
+fn step_home(heap: &Heap, pass: &mut Pass) -> Stepped<Block>
+    requires of { IsOf heap.now pass.old }
+    requires home { pass.old.out ≡ 0 }
+    ensures of { IsOf heap.now pass.new }
+    ensures home { pass.new.out ≡ 0 }
+    ensures given { (block : Block) → result ≡ Stepped.Done (Ending.Given block) → IsIdle pass.new.errand × Owns pass.new block }
+{
+    heap.step(pass)
 }
 
 impl Work<Pass> for Steps {

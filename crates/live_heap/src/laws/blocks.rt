@@ -50,15 +50,17 @@ pub fn calls_change_their_block()
 {}
 
 /// The blocks in a pass's hand are all that its caller owns, each once: nothing at first, and then what each
-/// call makes of it, one that is under way too. Their order means nothing.
+/// call makes of it, one that is under way too; and then the words of no block are out. Their order means nothing.
 pub fn passes_hold_exactly()
     ensures fresh { (h : Heap) (p : Pass) → IsFresh h p → HoldsExactly p [] }
-    ensures called { (h : Heap) (p q : Pass) (call : Call) (steps : ℕ) (answer : Reply) (had has : List Block) → IsOf h q
+    ensures called { (h : Heap) (p q : Pass) (call : Call) (steps : ℕ) (answer : Reply) (had has : List Block) → IsOf h p → IsOf h q
         → HasCalled p call steps answer q → ChangesHand call answer had has → HoldsExactly p had → HoldsExactly q has }
-    ensures whole { (h k : Heap) (p q : Pass) (call : Call) (answer : Reply) (had has : List Block) → IsWhole h p call answer k q
-        → ChangesHand call answer had has → HoldsExactly p had → HoldsExactly q has }
-    ensures calling { (h : Heap) (p q : Pass) (call : Call) (steps : ℕ) (had has : List Block) → IsOf h q → IsCalling p call steps q
+    ensures whole { (h k : Heap) (p q : Pass) (call : Call) (answer : Reply) (had has : List Block) → IsOf h p
+        → IsWhole h p call answer k q → ChangesHand call answer had has → HoldsExactly p had → HoldsExactly q has }
+    ensures calling { (h : Heap) (p q : Pass) (call : Call) (steps : ℕ) (had has : List Block) → IsOf h p → IsOf h q
+        → IsCalling p call steps q
         → ChangesHandSoFar call (stage_of q.errand.point) had has → HoldsExactly p had → HoldsExactly q has }
+    ensures home { (h : Heap) (p : Pass) (blocks : List Block) → IsOf h p → HoldsExactly p blocks → p.out ≡ 0 }
     ensures order { (p : Pass) (before after : List Block) (block : Block)
         → HoldsExactly p (before ++ block ∷ after) ↔ HoldsExactly p (block ∷ before ++ after) }
 {}

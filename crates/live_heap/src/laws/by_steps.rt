@@ -28,8 +28,8 @@ pub fn calls_go_step_by_step()
         → HasStepped p q told → ¬ IsDone told → IsCalling first call (suc steps) q }
     ensures ends { (first : Pass) (call : Call) (steps : ℕ) (p q : Pass) (end : Ending Block) → IsCalling first call steps p
         → HasStepped p q (step.Done end) → HasCalled first call steps (reply_of end) q }
-    ensures tells { (first : Pass) (call : Call) (steps : ℕ) (p q : Pass) (end : Ending Block) → IsCalling first call steps p
-        → HasStepped p q (step.Done end) → EndTells call end q }
+    ensures tells { (h : Heap) (first : Pass) (call : Call) (steps : ℕ) (p q : Pass) (end : Ending Block) → IsOf h first → IsOf h p
+        → IsOf h q → IsCalling first call steps p → HasStepped p q (step.Done end) → EndTells call end q }
     ensures last { (first : Pass) (call : Call) (steps : ℕ) (p q : Pass) (told : Stepped Block) → IsCalling first call steps p
         → IsLastStep call steps → HasStepped p q told → IsDone told }
     ensures take { (first p q : Pass) (shelf : ℕ) (told : Stepped Block) → IsCalling first (take shelf) 0 p → HasStepped p q told → told ≡ step.More }

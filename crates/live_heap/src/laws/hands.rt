@@ -41,7 +41,7 @@ pub fn hands_go_through_calls()
         → Holds p (block ∷ blocks) → IsOf h q → FreeTells p block tries answer q → IsHand h q blocks }
     ensures resumed { (h : Heap) (p q : Pass) (blocks : List Block) (tries : ℕ) (answer : Resumed) → IsHand h p blocks
         → IsBusy p.errand → IsOf h q
-        → ((first : Pass) (call : Call) (made : ℕ) → IsCalling first call made p → ResumeTells first call made p tries answer q)
+        → ((first : Pass) (call : Call) (made : ℕ) → IsOf h first → IsCalling first call made p → ResumeTells first call made p tries answer q)
         → IsHand h q (blocks ++ resumed_by answer) }
     ensures put { (h : Heap) (p q : Pass) (block : Block) (blocks : List Block) (shelf : ℕ) (answer : Result (Unit {0}) Full) → IsOf h p
         → Holds p (block ∷ blocks) → IsOf h q → IfOk answer (λ _. HasCalled p (put block.place block.need shelf) 0 reply.Put q)

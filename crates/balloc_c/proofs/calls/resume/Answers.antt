@@ -43,7 +43,7 @@ returns-in-Given-clause-answers c =
     let t = c.args.table.now in
     let u = c.fill.new.self in
     let busy : is_idle s.pass.errand.point ≡ false = search rules in
-    resumed-answers s t c.fill.result c.in-Given.block c.resume.new.self u busy
+    resumed-answers c.args.heap.now s t c.fill.result c.in-Given.block c.resume.new.self u busy
     (gains-behind t c.vacant.new.self c.fill.result c.in-Given.block u c.vacant.ensures.keeps c.fill.ensures.gains) (c.in-Given.ensures.tells, c.resume.ensures.keeps)
 
 pub returns-in-Given-clause-few : goal.returns-in-Given-clause-few

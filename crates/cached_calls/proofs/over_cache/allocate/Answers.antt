@@ -13,7 +13,8 @@ unreachable-requires-in_default g c =
     let asks = busy-asks before c.args.need c.alloc.new.self c.alloc.result c.in-Busy.is c.alloc.ensures.served in
     let over = (c.in-Busy.ensures.asked asks).0 in
     let p = before.pass in
-    alloc-resumes p c.args.need c.go_on.result c.go_on.new.cache.pass (c.go_on.ensures.ended p (alloc c.args.need) (suc over.steps) over.calling)
+    alloc-resumes p c.args.need c.go_on.result c.go_on.new.cache.pass (c.go_on.ensures.ended p (alloc c.args.need) (suc over.steps)
+    c.requires.rests.0.hand.of over.calling)
     c.in_default.not-Given c.in_default.not-Refused c.in_default.not-Spent
 
 pub returns-in-Given : goal.returns-in-Given
@@ -52,7 +53,8 @@ returns-in-Given-go_on g c =
     let keeps = keeps-on before c.alloc.new.self after told.1 c.go_on.ensures.keeps in
     let b = c.in-Given-go_on.block in (
       c.ended_calls_are_whole.ensures.asked c.args.heap.now before after (alloc c.args.need) (reply.Given b.place b.need) c.requires.rests
-          c.go_on.ensures.rests.0 asks (c.in-Given-go_on.ensures.ended before.pass (alloc c.args.need) (suc over.steps) over.calling) keeps,
+          c.go_on.ensures.rests.0 asks (c.in-Given-go_on.ensures.ended before.pass (alloc c.args.need) (suc over.steps)
+          c.requires.rests.0.hand.of over.calling) keeps,
       keeps-depth before after keeps,
     )
 
@@ -65,7 +67,8 @@ returns-in-Refused-go_on g c =
     let over = told.0 in
     let keeps = keeps-on before c.alloc.new.self after told.1 c.go_on.ensures.keeps in (
       c.ended_calls_are_whole.ensures.asked c.args.heap.now before after (alloc c.args.need) reply.Refused c.requires.rests c.go_on.ensures.rests.0
-          asks (c.in-Refused-go_on.ensures.ended before.pass (alloc c.args.need) (suc over.steps) over.calling) keeps,
+          asks (c.in-Refused-go_on.ensures.ended before.pass (alloc c.args.need) (suc over.steps)
+          c.requires.rests.0.hand.of over.calling) keeps,
       keeps-depth before after keeps,
     )
 
@@ -78,6 +81,7 @@ returns-in-Spent-go_on g c =
     let over = told.0 in
     let keeps = keeps-on before c.alloc.new.self after told.1 c.go_on.ensures.keeps in (
       c.ended_calls_are_whole.ensures.asked c.args.heap.now before after (alloc c.args.need) reply.Spent c.requires.rests c.go_on.ensures.rests.0
-          asks (c.in-Spent-go_on.ensures.ended before.pass (alloc c.args.need) (suc over.steps) over.calling) keeps,
+          asks (c.in-Spent-go_on.ensures.ended before.pass (alloc c.args.need) (suc over.steps)
+          c.requires.rests.0.hand.of over.calling) keeps,
       keeps-depth before after keeps,
     )

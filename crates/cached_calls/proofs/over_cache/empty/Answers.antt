@@ -1,6 +1,6 @@
 use Rattle.std.proofs.Common.{suc, refl}
 use Rattle.errand_steps.specs.Calls.{Call, free}
-use Rattle.cached_calls.proofs.FlushLemmas.{empties-all, empties-none, empties-stopped, frees-idle}
+use Rattle.cached_calls.proofs.FlushLemmas.{empties-all, empties-none, empties-stopped, frees-idle, frees-of}
 use Rattle.block_cache.specs.Caches.{stacks_in}
 use Rattle.block_cache.specs.Magazines.{leaving}
 use Rattle.cached_calls.proofs.over_cache.empty.Goals as goal
@@ -34,7 +34,9 @@ loop-preserved g c =
       so_far =
           empties-stopped c.args.heap.now c.args.cache.now c.loop.cache c.flush.new.self c.go_on.new.cache c.tries-tries.result c.go_on.result
           c.loop.invariant.so_far stopped c.flush.ensures.hits c.go_on.ensures.keeps c.go_on.ensures.rests
-          (c.go_on.ensures.ended stopped.next call (suc stopped.busy.steps) stopped.busy.calling);
+          (c.go_on.ensures.ended stopped.next call (suc stopped.busy.steps)
+          (frees-of c.args.heap.now c.loop.cache.pass stopped.next stopped.freed c.tries-tries.result c.loop.invariant.rests.0.hand.of stopped.frees)
+          stopped.busy.calling);
     }
 
 pub returns-in-Freed : goal.returns-in-Freed

@@ -31,7 +31,8 @@ returns-in-Busy g c =
     let call : Call = free b.place b.need in (
       c.ended_calls_are_whole.ensures.asked c.args.heap.now before after call reply.Freed c.requires.rests c.go_on.ensures.rests.0
           (asks, c.requires.held)
-          (free-resumes before.pass b.place b.need c.go_on.result after.pass (c.go_on.ensures.ended before.pass call (suc over.steps) over.calling))
+          (free-resumes before.pass b.place b.need c.go_on.result after.pass (c.go_on.ensures.ended before.pass call (suc over.steps) c.requires.rests.0.hand.of
+          over.calling))
           keeps,
       keeps-depth before after keeps,
     )

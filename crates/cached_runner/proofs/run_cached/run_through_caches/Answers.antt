@@ -1,7 +1,7 @@
 use Rattle.std.proofs.Common.{◌∙◌, sym, ap}
 use Rattle.heap_geometry.specs.declared.geometry.Geometry.{Geometry}
 use Rattle.lane_runner.proofs.ThreadLemmas.{some-lane}
-use Rattle.cached_runner.proofs.ThreadLemmas.{ended-idle, have-run}
+use Rattle.cached_runner.proofs.ThreadLemmas.{ended-home, ended-idle, have-run}
 use Rattle.cached_runner.proofs.run_cached.run_through_caches.Goals as goal
 
 pub returns-clause-ran : goal.returns-clause-ran
@@ -26,3 +26,8 @@ returns-clause-idle g c =
           ∙ sym (ap (λ (g : Geometry). g.callers) c.requires.heap);
       each = ended-idle trace h depth 0 run.passes.items run.outcomes.items run.hits.items back.1;
     }
+
+pub returns-clause-home : goal.returns-clause-home
+returns-clause-home g c =
+    let run = c.take_back.new.run in
+    ended-home c.args.trace.now c.args.heap.now c.args.depth 0 run.passes.items run.outcomes.items run.hits.items c.take_back.ensures.1

@@ -32,4 +32,4 @@ returns c =
     subst (IsHand c.args.heap.now q) (sym c.take_step.ensures)
     (subst (λ (told : Stepped Block). IsHand c.args.heap.now q (rest ++ brought_in told)) (sym done.1)
     (c.hands_go_through_calls.ensures.ended c.args.heap.now p q rest call 0 done.0 c.requires.of out.2 c.step.ensures.of out.1
-    (law.ends p call 0 b q done.0 calling stepped) (law.tells p call 0 b q done.0 calling stepped)))
+    (law.ends p call 0 b q done.0 calling stepped) (law.tells c.args.heap.now p call 0 b q done.0 c.requires.of c.begin_put.ensures.of c.step.ensures.of calling stepped)))

@@ -28,4 +28,4 @@ returns c =
     (sym (c.take_step.ensures ∙ ap (λ (l : List Block). l ++ brought_in c.step-2.result) c.reserve.ensures.items))
     (subst (λ (told : Stepped Block). IsHand c.args.heap.now q (blocks ++ brought_in told)) (sym done.1)
     (c.hands_go_through_calls.ensures.ended c.args.heap.now p q blocks call 1 done.0 c.requires.of (c.requires.holds idle) c.step-2.ensures.of
-    (λ k d within. tt) (law.ends p call 1 a q done.0 on stepped) (law.tells p call 1 a q done.0 on stepped)))
+    (λ k d within. tt) (law.ends p call 1 a q done.0 on stepped) (law.tells c.args.heap.now p call 1 a q done.0 c.requires.of c.step.ensures.of c.step-2.ensures.of on stepped)))

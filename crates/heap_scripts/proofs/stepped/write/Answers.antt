@@ -34,4 +34,4 @@ returns c =
     subst (IsHand c.args.heap.now q) (append-nil c.args.blocks.now)
     (subst (λ (l : List Block). IsHand c.args.heap.now q (c.args.blocks.now ++ l)) none
     (c.hands_go_through_calls.ensures.ended c.args.heap.now p q c.args.blocks.now call 0 done.0 c.requires.of held c.step.ensures.of
-    (λ k d within. tt) called (law.tells p call 0 b q done.0 calling stepped)))
+    (λ k d within. tt) called (law.tells c.args.heap.now p call 0 b q done.0 c.requires.of c.begin_write.ensures.of c.step.ensures.of calling stepped)))

@@ -1,9 +1,8 @@
 use Rattle.std.proofs.Common.{rules, ℕ, ◌∙◌, sym, ap, subst}
-use Rattle.step_machine.specs.Cores.{OwnsAfter}
 use Rattle.live_heap.specs.declared.block.Block.{Block}
 use Rattle.live_heap.specs.declared.heap.Heap.{Heap}
 use Rattle.live_heap.specs.declared.pass.Pass.{Pass}
-use Rattle.live_heap.specs.Passes.{seen}
+use Rattle.live_heap.specs.Passes.{OwnsAt}
 use Rattle.trace_lane.specs.Made.{HoldsBlocks}
 use Rattle.lane_runner.proofs.WholeLaws.{whole-holds, whole-run}
 use Rattle.lane_runner.proofs.run_lanes.run_lane.Goals as goal
@@ -11,8 +10,8 @@ use Rattle.lane_runner.proofs.run_lanes.run_lane.Goals as goal
 pub run-requires-clause-holds : goal.run-requires-clause-holds
 run-requires-clause-holds g c =
     subst
-    (λ (x : Pass). HoldsBlocks (λ (block : Block). block.place) (λ (block : Block). block.need)
-    (λ place need. OwnsAfter (seen x) x.errand.caller place need) c.args.lane.now.registers.items) (sym c.new-calls.ensures.pass)
+    (λ (x : Pass). HoldsBlocks (λ (block : Block). block.place) (λ (block : Block). block.need) (OwnsAt x) c.args.lane.now.registers.items)
+    (sym c.new-calls.ensures.pass)
     (whole-holds c.args.heap.now c.args.operations.now c.args.pass.now c.args.lane.now c.requires.stands)
 
 pub returns : goal.returns

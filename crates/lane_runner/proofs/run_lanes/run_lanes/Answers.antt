@@ -1,6 +1,6 @@
 use Rattle.std.proofs.Common.{◌∙◌, sym, ap}
 use Rattle.heap_geometry.specs.declared.geometry.Geometry.{Geometry}
-use Rattle.lane_runner.proofs.ThreadLemmas.{ended-idle, have-run, some-lane}
+use Rattle.lane_runner.proofs.ThreadLemmas.{ended-home, ended-idle, have-run, some-lane}
 use Rattle.lane_runner.proofs.run_lanes.run_lanes.Goals as goal
 
 pub returns-clause-ran : goal.returns-clause-ran
@@ -23,3 +23,7 @@ returns-clause-idle g c =
           ∙ sym (ap (λ (g : Geometry). g.callers) c.requires.heap);
       each = ended-idle trace h 0 ps c.take_back.new.outcomes.items back.1;
     }
+
+pub returns-clause-home : goal.returns-clause-home
+returns-clause-home g c =
+    ended-home c.args.trace.now c.args.heap.now 0 c.take_back.new.passes.items c.take_back.new.outcomes.items c.take_back.ensures.1

@@ -1,24 +1,23 @@
 use Rattle.std.proofs.Common.{ℕ, ◌≡◌, ◌≤◌, ◌+◌, ◌-◌, List, ◌++◌, length, take, drop, replicate, ap, ◌∙◌, sym, subst, arith}
 use Rattle.std.specs.Prelude.{Some, None}
 use Rattle.std.proofs.lemmas.List.{drop-replicate, length-replicate}
-use Rattle.heap_geometry.specs.declared.geometry.Geometry.{Geometry}
 use Rattle.plain_words.specs.Places.{AllHere, Place, blanks, laids}
 use Rattle.placed_words.specs.Places.{placed_count}
-use Rattle.first_uses.specs.Pieces.{piece_count}
 use Rattle.live_heap.specs.FirstRoom.{IsBlankRoom}
+use Rattle.live_heap.specs.Pieces.{mark_count}
 use Rattle.live_heap.proofs.FirstRoomLemmas.{blank-here, first-many, half-here, half-long, half_laid, is-blank, others-many}
 use Rattle.live_heap.proofs.Shows.{arena-placed}
 use Rattle.live_heap.proofs.opened.blank_room.Goals as goal
 
 pub split-arena-requires : goal.split-arena-requires
 split-arena-requires c =
-    let words : ℕ = c.count.result + (c.geometry-geometry.result.frames + c.geometry-geometry.result.units) in
+    let words : ℕ = c.count.result + c.mark_count.result in
     let long : length c.into_parts-all.result.0.places ≡ words = rw (c.into_parts-all.ensures.0) (ap length c.in_ok-new.ensures ∙ length-replicate words (Some None)) in
     omega (arith, long, c.arena_words-arena_words.ensures, c.count.ensures, arena-placed c.args.layout.now)
 
 pub fill-requires : goal.fill-requires
 fill-requires c =
-    let words : ℕ = c.count.result + (c.geometry-geometry.result.frames + c.geometry-geometry.result.units) in
+    let words : ℕ = c.count.result + c.mark_count.result in
     let arena : ℕ = c.arena_words-arena_words.result in
     let within : arena ≤ words = omega (arith, c.arena_words-arena_words.ensures, c.count.ensures, arena-placed c.args.layout.now) in
     let all : c.into_parts-all.result.0.places ≡ blanks words = rw (c.into_parts-all.ensures.0) c.in_ok-new.ensures in
@@ -33,7 +32,7 @@ fill-requires c =
 
 pub join-requires : goal.join-requires
 join-requires c =
-    let words : ℕ = c.count.result + (c.geometry-geometry.result.frames + c.geometry-geometry.result.units) in
+    let words : ℕ = c.count.result + c.mark_count.result in
     let arena : ℕ = c.arena_words-arena_words.result in
     let within : arena ≤ words = omega (arith, c.arena_words-arena_words.ensures, c.count.ensures, arena-placed c.args.layout.now) in
     let all : c.into_parts-all.result.0.places ≡ blanks words = rw (c.into_parts-all.ensures.0) c.in_ok-new.ensures in
@@ -44,7 +43,7 @@ join-requires c =
 
 pub invariant_of-result : goal.invariant_of-result
 invariant_of-result c =
-    let words : ℕ = c.count.result + (c.geometry-geometry.result.frames + c.geometry-geometry.result.units) in
+    let words : ℕ = c.count.result + c.mark_count.result in
     let arena : ℕ = c.arena_words-arena_words.result in
     let within : arena ≤ words = omega (arith, c.arena_words-arena_words.ensures, c.count.ensures, arena-placed c.args.layout.now) in
     let all : c.into_parts-all.result.0.places ≡ blanks words = rw (c.into_parts-all.ensures.0) c.in_ok-new.ensures in
@@ -66,13 +65,12 @@ invariant_of-result c =
 pub returns : goal.returns
 returns c =
     let g = c.args.layout.now in
-    let words : ℕ = c.count.result + (c.geometry-geometry.result.frames + c.geometry-geometry.result.units) in
+    let words : ℕ = c.count.result + c.mark_count.result in
     let arena : ℕ = c.arena_words-arena_words.result in
     let within : arena ≤ words = omega (arith, c.arena_words-arena_words.ensures, c.count.ensures, arena-placed g) in
     let all : c.into_parts-all.result.0.places ≡ blanks words = rw (c.into_parts-all.ensures.0) c.in_ok-new.ensures in
     let own : c.fill.new.self.places ≡ laids (replicate (length (drop arena (blanks words))) 0) =
     c.fill.ensures.2 ∙ ap (λ (l : List Place). laids (replicate (length l) 0)) (c.split-arena.ensures.others.2 ∙ ap (drop arena) all) in
     let are : c.join.result.places ≡ half_laid arena words = c.join.ensures.2 ∙ (λ i. (c.split-arena.ensures.first.2 ∙ ap (take arena) all) i ++ own i) in
-    let count : words ≡ placed_count g + piece_count g =
-    omega (arith, c.count.ensures, ap (λ (h : Geometry). h.frames) c.geometry-geometry.ensures.value, ap (λ (h : Geometry). h.units) c.geometry-geometry.ensures.value) in
+    let count : words ≡ placed_count g + mark_count g = omega (arith, c.count.ensures, c.mark_count.ensures) in
     subst (IsBlankRoom g) (sym are) (is-blank arena words within g c.arena_words-arena_words.ensures count)

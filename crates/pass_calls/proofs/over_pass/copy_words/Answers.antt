@@ -4,6 +4,7 @@ use Rattle.errand_steps.specs.declared.reply.Reply.TheVariants as reply
 use Rattle.errand_steps.specs.Calls.{Call, write}
 use Rattle.live_heap.specs.Whole.{IsWhole, by_steps}
 use Rattle.lane_engine.proofs.CopyLemmas.{CopiesSoFar, copies-more}
+use Rattle.live_heap.proofs.LawsKept.{stays-home}
 use Rattle.pass_calls.proofs.over_pass.copy_words.Goals as goal
 
 pub write-requires-clause-owned : goal.write-requires-clause-owned
@@ -26,8 +27,14 @@ loop-i-preserved c =
     let keeps = c.whole_calls_keep_blocks.ensures.keeps in
     record {
       rests = (c.write.ensures.of, c.write.ensures.called.idle);
-      owned = keeps h h p q call reply.Wrote from.place from.need one tt (read.ensures.keeps from inv.owned);
-      owned_too = keeps h h p q call reply.Wrote to.place to.need one tt mine;
+      owned = (
+        keeps h h p q call reply.Wrote from.place from.need one tt (read.ensures.keeps from inv.owned).0,
+        stays-home p q from.place c.write.ensures.called.lent (read.ensures.keeps from inv.owned).1,
+      );
+      owned_too = (
+        keeps h h p q call reply.Wrote to.place to.need one tt mine.0,
+        stays-home p q to.place c.write.ensures.called.lent mine.1,
+      );
       copied =
           copies-more (λ p call answer q. IsWhole h p call answer h q) from.place from.need to.place to.need c.args.pass.now i read.result
           c.loop-i.pass p q inv.copied read.ensures.read read.ensures.past one;

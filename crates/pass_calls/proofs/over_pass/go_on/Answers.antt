@@ -2,21 +2,23 @@ use Rattle.std.proofs.Common.{ℕ, suc}
 use Rattle.errand_steps.specs.Calls.{Call}
 use Rattle.live_heap.specs.declared.pass.Pass.{Pass}
 use Rattle.live_heap.specs.Calls.{IsCalling}
+use Rattle.live_heap.specs.Passes.{IsOf}
 use Rattle.live_heap.specs.Whole.{ResumesTo}
 use Rattle.pass_calls.proofs.WholeLemmas.{resumable-on, resume-ended, resumes-idle}
 use Rattle.pass_calls.proofs.over_pass.go_on.Goals as goal
 
 pub resume-requires-clause-under_way : goal.resume-requires-clause-under_way
-resume-requires-clause-under_way g c = resumable-on c.args.pass.now c.loop.pass c.requires.under_way c.loop.invariant.calls
+resume-requires-clause-under_way g c =
+    resumable-on c.args.heap.now c.args.pass.now c.loop.pass c.requires.under_way.0 c.requires.under_way.1 c.loop.invariant.calls
 
 pub loop-preserved : goal.loop-preserved
 loop-preserved g c = record {
   can_next = tt;
   is_finite = tt;
   of = c.resume.ensures.of;
-  calls = λ first call made was.
-      let i = c.loop.invariant.calls first call made was in
-      let over = c.in-Busy.ensures.tells first call i.0 i.1 in
+  calls = λ first call made of was.
+      let i = c.loop.invariant.calls first call made of was in
+      let over = c.in-Busy.ensures.tells first call i.0 of i.1 in
       (suc over.steps, over.calling);
 }
 
@@ -26,12 +28,13 @@ returns-in_default g c =
     let calls = c.loop.invariant.calls in
     let told = c.resume.result in
     let q = c.resume.new.pass in
-    let ends : (first : Pass) (call : Call) (made : ℕ) → IsCalling first call made c.args.pass.now → ResumesTo first call told q =
-    λ first call made was.
-    let i = calls first call made was in
-    resume-ended first call i.0 c.loop.pass c.tries-tries.result told q c.in_default.not-Busy (tells first call i.0 i.1) in
-    let r = c.requires.under_way in
+    let ends : (first : Pass) (call : Call) (made : ℕ) → IsOf c.args.heap.now first → IsCalling first call made c.args.pass.now
+    → ResumesTo first call told q =
+    λ first call made of was.
+    let i = calls first call made of was in
+    resume-ended first call i.0 c.loop.pass c.tries-tries.result told q c.in_default.not-Busy (tells first call i.0 of i.1) in
+    let r = c.requires.under_way.0 in
     record {
-      rests = (c.resume.ensures.of, resumes-idle r.first r.call told q (ends r.first r.call r.steps r.calling));
+      rests = (c.resume.ensures.of, resumes-idle r.first r.call told q (ends r.first r.call r.steps c.requires.under_way.1 r.calling));
       ended = ends;
     }

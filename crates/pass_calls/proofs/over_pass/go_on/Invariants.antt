@@ -10,5 +10,7 @@ invariant-loop g l = record {
   can_next : (goal.iterator-loop g).can_next l.iterator';
   is_finite : (goal.iterator-loop g).is_finite l.iterator';
   of : IsOf l.heap l.pass;
-  calls : (first : Pass) (call : Call) (made : ℕ) → IsCalling first call made l.initial.pass → (steps : ℕ) × IsCalling first call steps l.pass;
+  calls :
+      (first : Pass) (call : Call) (made : ℕ) → IsOf l.heap first → IsCalling first call made l.initial.pass
+      → (steps : ℕ) × IsCalling first call steps l.pass;
 }

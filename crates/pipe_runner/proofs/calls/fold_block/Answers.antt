@@ -14,27 +14,27 @@ returns-then-usable_words-lt3-clause-folded c = λ b there three.
 
 pub read-b-requires-clause-owned : goal.read-b-requires-clause-owned
 read-b-requires-clause-owned c =
-    (read-keeps c.args.heap.now c.args.pass.now c.read-a.new.pass c.args.block.now 0 c.read-a.result c.read-a.ensures.of c.requires.owned c.read-a.ensures.called).owns
+    (read-keeps c.args.heap.now c.args.pass.now c.read-a.new.pass c.args.block.now 0 c.read-a.result c.requires.rest.0 c.read-a.ensures.of c.requires.owned c.read-a.ensures.called).owns
     c.args.block.now c.requires.owned
 
 pub read-c-requires-clause-owned : goal.read-c-requires-clause-owned
 read-c-requires-clause-owned c =
     let h = c.args.heap.now in
     let b = c.args.block.now in
-    let one = read-keeps h c.args.pass.now c.read-a.new.pass b 0 c.read-a.result c.read-a.ensures.of c.requires.owned c.read-a.ensures.called in
+    let one = read-keeps h c.args.pass.now c.read-a.new.pass b 0 c.read-a.result c.requires.rest.0 c.read-a.ensures.of c.requires.owned c.read-a.ensures.called in
     let owned = one.owns b c.requires.owned in
-    (read-keeps h c.read-a.new.pass c.read-b.new.pass b 1 c.read-b.result c.read-b.ensures.of owned c.read-b.ensures.called).owns b owned
+    (read-keeps h c.read-a.new.pass c.read-b.new.pass b 1 c.read-b.result c.read-a.ensures.of c.read-b.ensures.of owned c.read-b.ensures.called).owns b owned
 
 pub returns-clause-keeps : goal.returns-clause-keeps
 returns-clause-keeps c =
     let h = c.args.heap.now in
     let b = c.args.block.now in
     let p = c.args.pass.now in
-    let one = read-keeps h p c.read-a.new.pass b 0 c.read-a.result c.read-a.ensures.of c.requires.owned c.read-a.ensures.called in
+    let one = read-keeps h p c.read-a.new.pass b 0 c.read-a.result c.requires.rest.0 c.read-a.ensures.of c.requires.owned c.read-a.ensures.called in
     let owned = one.owns b c.requires.owned in
-    let two = read-keeps h c.read-a.new.pass c.read-b.new.pass b 1 c.read-b.result c.read-b.ensures.of owned c.read-b.ensures.called in
+    let two = read-keeps h c.read-a.new.pass c.read-b.new.pass b 1 c.read-b.result c.read-a.ensures.of c.read-b.ensures.of owned c.read-b.ensures.called in
     let three =
-    read-keeps h c.read-b.new.pass c.read-c.new.pass b 2 c.read-c.result c.read-c.ensures.of (two.owns b owned) c.read-c.ensures.called in
+    read-keeps h c.read-b.new.pass c.read-c.new.pass b 2 c.read-c.result c.read-b.ensures.of c.read-c.ensures.of (two.owns b owned) c.read-c.ensures.called in
     keeps-trans h p c.read-b.new.pass c.read-c.new.pass (keeps-trans h p c.read-a.new.pass c.read-b.new.pass one two) three
 
 pub returns-clause-folded : goal.returns-clause-folded

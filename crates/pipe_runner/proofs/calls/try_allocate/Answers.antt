@@ -20,7 +20,7 @@ returns-in_default g c =
     let n = c.new-calls.ensures in
     let base = c.allocate.ensures.base in
     let answer : Reply = allocated_as (λ (block : Block). block.place) (λ (block : Block). block.need) c.allocate.result in
-    let (made, owned, heap, rest) = c.allocate.ensures.called in
+    let (made, owned, heap, rest) = c.allocate.ensures.called.1 in
     let whole : IsWhole h p (alloc 3) answer h q = (
       subst (λ (x : Pass). MadeByPass x (alloc 3) answer q) n.pass made,
       tt,
@@ -28,6 +28,6 @@ returns-in_default g c =
       subst (λ (k : Heap). IsAtRest k q) (ap (λ (x : ℕ × Heap). x.1) base ∙ n.heap) rest,
     ) in
     let kept : KeepsBlocks h p q × HasTried (GaveNone 3) p q =
-    (not-given h p q c.allocate.result c.in_default.not-Given whole, none-given h p q c.allocate.result c.in_default.not-Given whole) in
+    (not-given h p q c.allocate.result c.requires.rest.0 c.in_default.not-Given whole, none-given h p q c.allocate.result c.in_default.not-Given whole) in
     let name = ap (λ (x : ℕ × Heap). x.0) base ∙ n.same in
     search rules

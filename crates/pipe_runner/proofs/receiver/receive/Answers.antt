@@ -81,7 +81,7 @@ returns-in-Gone-clause-got g c =
     let (serves, none, empty, last) = c.in-Gone.ensures.tells in
     let come = comes-to c.args.pipe.now c.args.end.now c.loop.end c.recv.new.self note i.come serves.comes in
     let t = c.take_until-block.ensures in
-    let before = keeps-trans h p c.loop.pass c.recv.new.pass i.keeps (empty-keeps h c.loop.pass c.recv.new.pass note.shelf c.recv.ensures.of empty) in
+    let before = keeps-trans h p c.loop.pass c.recv.new.pass i.keeps (empty-keeps h c.loop.pass c.recv.new.pass note.shelf i.keeps.moves.rest.0 c.recv.ensures.of empty) in
     record {
       note = note;
       next = come.1;
@@ -112,7 +112,7 @@ loop-preserved g c =
       of = c.recv.ensures.receiver;
       come = inr (note, record { kept = kept; popped = come.0; next = come.1 });
       keeps = keeps-trans h c.args.pass.now c.loop.pass c.recv.new.pass i.keeps
-          (missed-keeps h c.loop.pass c.recv.new.pass note.shelf c.in-Missed.expected c.in-Missed.found c.recv.ensures.of missed);
+          (missed-keeps h c.loop.pass c.recv.new.pass note.shelf c.in-Missed.expected c.in-Missed.found i.keeps.moves.rest.0 c.recv.ensures.of missed);
       tried = subst (λ (k : Option Note). HasTriedFor k c.args.pass.now c.recv.new.pass) (sym kept)
           (tried-on (GotNone note.shelf) c.args.pass.now c.loop.pass c.recv.new.pass
           (tried-for c.args.pipe.now c.loop.end c.recv.new.self note c.args.pass.now c.loop.pass i.tried serves.comes)

@@ -34,7 +34,7 @@ loop-preserved-in-Empty g c = record {
   can_next = tt;
   is_finite = tt;
   keeps = keeps-trans c.args.heap.now c.args.pass.now c.loop.pass c.take.new.pass c.loop.invariant.keeps
-      (empty-keeps c.args.heap.now c.loop.pass c.take.new.pass c.args.shelf c.take.ensures.of c.in-Empty.ensures.tells);
+      (empty-keeps c.args.heap.now c.loop.pass c.take.new.pass c.args.shelf c.loop.invariant.keeps.moves.rest.0 c.take.ensures.of c.in-Empty.ensures.tells);
   missed = tried-on (GotNone c.args.shelf) c.args.pass.now c.loop.pass c.take.new.pass c.loop.invariant.missed
       (empty-tried c.loop.pass c.take.new.pass c.args.shelf c.in-Empty.ensures.tells);
 }
@@ -44,7 +44,8 @@ loop-preserved g c = record {
   can_next = tt;
   is_finite = tt;
   keeps = keeps-trans c.args.heap.now c.args.pass.now c.loop.pass c.take.new.pass c.loop.invariant.keeps
-      (missed-keeps c.args.heap.now c.loop.pass c.take.new.pass c.args.shelf c.in-Missed.expected c.in-Missed.found c.take.ensures.of c.in-Missed.ensures.tells);
+      (missed-keeps c.args.heap.now c.loop.pass c.take.new.pass c.args.shelf c.in-Missed.expected c.in-Missed.found c.loop.invariant.keeps.moves.rest.0
+      c.take.ensures.of c.in-Missed.ensures.tells);
   missed = tried-on (GotNone c.args.shelf) c.args.pass.now c.loop.pass c.take.new.pass c.loop.invariant.missed
       (missed-tried c.loop.pass c.take.new.pass c.args.shelf c.in-Missed.expected c.in-Missed.found c.in-Missed.ensures.tells);
 }

@@ -22,6 +22,11 @@ loop-init g c = record {
   full = tried-none (FoundFull c.args.block (shelf_for c.args.pipe.now.shelves c.args.end.now.number c.args.end.now.sent)) c.args.pass.now;
 }
 
+pub send-requires-clause-owned : goal.send-requires-clause-owned
+send-requires-clause-owned g c =
+    let i = c.loop.invariant in
+    i.keeps.owns c.loop.left (subst (Owns c.args.pass.now) (sym i.left) c.requires.owned)
+
 pub returns-in-Sent-clause-pushed : goal.returns-in-Sent-clause-pushed
 returns-in-Sent-clause-pushed g c =
     let i = c.loop.invariant in
@@ -67,7 +72,7 @@ loop-preserved g c =
       is_finite = tt;
       end = tells.1 ∙ i.end;
       left = tells.0.same ∙ i.left;
-      keeps = keeps-trans h c.args.pass.now p q i.keeps (full-keeps h p q left shelf _ c.send.ensures.of owned tells.0);
+      keeps = keeps-trans h c.args.pass.now p q i.keeps (full-keeps h p q left shelf _ i.keeps.moves.rest.0 c.send.ensures.of owned tells.0);
       same = λ place. full-same h p q left shelf _ c.send.ensures.of tells.0 place ∙ i.same place;
       full = tried-on (FoundFull c.args.block at) c.args.pass.now p q i.full
           (full-tried p q left c.args.block shelf at _ tells.0 i.left (ap (λ (s : Sender). shelf_for c.args.pipe.now.shelves s.number s.sent) i.end));

@@ -2,6 +2,7 @@ use Rattle.std.proofs.Common.{ℕ, ◌≡◌, List}
 use Rattle.errand_steps.specs.Calls.{alloc}
 use Rattle.live_heap.specs.declared.pass.Pass.{Pass}
 use Rattle.live_heap.specs.Calls.{IsCalling}
+use Rattle.live_heap.specs.Passes.{IsOf}
 use Rattle.typed_store.specs.Stores.{HasList, HasRecords, IsUnderWay}
 use Rattle.store_runner.proofs.calls.go_on.Given as goal
 
@@ -15,6 +16,6 @@ invariant-loop g l = record {
   list : (pairs : List (ℕ × ℕ)) → HasList l.initial.store pairs → HasList l.store pairs;
   records : (records : List (List ℕ)) → HasRecords l.initial.store records → HasRecords l.store records;
   calls :
-      (first : Pass) (asked made : ℕ) → IsCalling first (alloc asked) made l.initial.store.pass
+      (first : Pass) (asked made : ℕ) → IsOf l.heap first → IsCalling first (alloc asked) made l.initial.store.pass
       → (steps : ℕ) × IsCalling first (alloc asked) steps l.store.pass;
 }

@@ -10,7 +10,7 @@ returns-in-Busy-clause-counts g c =
     let q = c.add_record.new.self.pass in
     let words = length c.args.words.now + 1 in
     let e = subst (λ (x : Stored). IsAnswerOf c.args.heap.now p words 1000 x q) c.in-Busy.is c.in_ok-stored.ensures.cause in
-    c.go_on.ensures.counts p words (suc e.steps) e.calling
+    c.go_on.ensures.counts p words (suc e.steps) c.requires.ready.of e.calling
 
 pub returns-in-Refused-clause-counts : goal.returns-in-Refused-clause-counts
 returns-in-Refused-clause-counts g c =

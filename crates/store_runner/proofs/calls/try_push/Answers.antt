@@ -9,7 +9,7 @@ returns-in-Busy-clause-counts g c =
     let p = c.args.store.now.pass in
     let q = c.push_front.new.self.pass in
     let e = subst (λ (x : Stored). IsAnswerOf c.args.heap.now p 3 1000 x q) c.in-Busy.is c.in_ok-stored.ensures.cause in
-    c.go_on.ensures.counts p 3 (suc e.steps) e.calling
+    c.go_on.ensures.counts p 3 (suc e.steps) c.requires.ready.of e.calling
 
 pub returns-in-Done-clause-counts : goal.returns-in-Done-clause-counts
 returns-in-Done-clause-counts g c =

@@ -23,28 +23,28 @@ read-value-requires-clause-word c =
 pub read-key-requires-clause-owned : goal.read-key-requires-clause-owned
 read-key-requires-clause-owned c =
     let b = c.args.block.now in
-    let r = read-reads c.args.heap.now c.args.pass.now c.read-next.new.pass b.place 0 c.read-next.result b.need c.requires.owned c.read-next.ensures.of c.read-next.ensures.called in
-    same-owns c.args.pass.now c.read-next.new.pass b r.same r.rests.caller c.requires.owned
+    let r = read-reads c.args.heap.now c.args.pass.now c.read-next.new.pass b.place 0 c.read-next.result b.need c.requires.of c.requires.owned c.read-next.ensures.of c.read-next.ensures.called in
+    same-owns c.args.pass.now c.read-next.new.pass b r.same r.rests.caller r.rests.lent c.requires.owned
 
 pub read-value-requires-clause-owned : goal.read-value-requires-clause-owned
 read-value-requires-clause-owned c =
     let b = c.args.block.now in
     let h = c.args.heap.now in
-    let r = read-reads h c.args.pass.now c.read-next.new.pass b.place 0 c.read-next.result b.need c.requires.owned c.read-next.ensures.of c.read-next.ensures.called in
-    let s = read-reads h c.read-next.new.pass c.read-key.new.pass b.place 1 c.read-key.result b.need (same-owns c.args.pass.now c.read-next.new.pass b r.same r.rests.caller c.requires.owned) c.read-key.ensures.of c.read-key.ensures.called in
+    let r = read-reads h c.args.pass.now c.read-next.new.pass b.place 0 c.read-next.result b.need c.requires.of c.requires.owned c.read-next.ensures.of c.read-next.ensures.called in
+    let s = read-reads h c.read-next.new.pass c.read-key.new.pass b.place 1 c.read-key.result b.need c.read-next.ensures.of (same-owns c.args.pass.now c.read-next.new.pass b r.same r.rests.caller r.rests.lent c.requires.owned) c.read-key.ensures.of c.read-key.ensures.called in
     let on = reads-on h c.args.pass.now c.read-next.new.pass c.read-key.new.pass r s in
-    same-owns c.args.pass.now c.read-key.new.pass b on.same on.rests.caller c.requires.owned
+    same-owns c.args.pass.now c.read-key.new.pass b on.same on.rests.caller on.rests.lent c.requires.owned
 
 pub returns-clause-reads : goal.returns-clause-reads
 returns-clause-reads c =
     reads-three c.args.heap.now c.args.pass.now c.read-next.new.pass c.read-key.new.pass c.read-value.new.pass c.args.block.now c.read-next.result
-    c.read-key.result c.read-value.result c.requires.owned c.read-next.ensures.of c.read-next.ensures.called c.read-key.ensures.of
+    c.read-key.result c.read-value.result c.requires.of c.requires.owned c.read-next.ensures.of c.read-next.ensures.called c.read-key.ensures.of
     c.read-key.ensures.called c.read-value.ensures.of c.read-value.ensures.called
 
 pub returns-clause-found : goal.returns-clause-found
 returns-clause-found c =
     led-three c.args.heap.now c.args.pass.now c.read-next.new.pass c.read-key.new.pass c.read-value.new.pass c.args.block.now c.read-next.result
-    c.read-key.result c.read-value.result c.requires.owned c.read-next.ensures.of c.read-next.ensures.called c.read-key.ensures.of
+    c.read-key.result c.read-value.result c.requires.of c.requires.owned c.read-next.ensures.of c.read-next.ensures.called c.read-key.ensures.of
     c.read-key.ensures.called c.read-value.ensures.of c.read-value.ensures.called
 
 pub returns-clause-node : goal.returns-clause-node
@@ -52,8 +52,8 @@ returns-clause-node c =
     let b = c.args.block.now in
     let h = c.args.heap.now in
     let p = c.args.pass.now in
-    let r = read-reads h p c.read-next.new.pass b.place 0 c.read-next.result b.need c.requires.owned c.read-next.ensures.of c.read-next.ensures.called in
-    let s = read-reads h c.read-next.new.pass c.read-key.new.pass b.place 1 c.read-key.result b.need (same-owns c.args.pass.now c.read-next.new.pass b r.same r.rests.caller c.requires.owned) c.read-key.ensures.of c.read-key.ensures.called in
+    let r = read-reads h p c.read-next.new.pass b.place 0 c.read-next.result b.need c.requires.of c.requires.owned c.read-next.ensures.of c.read-next.ensures.called in
+    let s = read-reads h c.read-next.new.pass c.read-key.new.pass b.place 1 c.read-key.result b.need c.read-next.ensures.of (same-owns c.args.pass.now c.read-next.new.pass b r.same r.rests.caller r.rests.lent c.requires.owned) c.read-key.ensures.of c.read-key.ensures.called in
     let on = reads-on h p c.read-next.new.pass c.read-key.new.pass r s in
     let n = c.requires.node in
     let words = node-words (owned_in p b.place) n.0 n.1 n.2 in

@@ -12,7 +12,7 @@ write-requires-clause-word c =
 pub returns-clause-rests : goal.returns-clause-rests
 returns-clause-rests c =
     let b = c.args.block.now in
-    write-rests c.args.heap.now c.args.pass.now c.write.new.pass b.place 0 c.args.next b.need c.requires.owned c.write.ensures.of c.write.ensures.called
+    write-rests c.args.heap.now c.args.pass.now c.write.new.pass b.place 0 c.args.next b.need c.requires.of c.requires.owned c.write.ensures.of c.write.ensures.called
 
 pub returns-clause-node : goal.returns-clause-node
 returns-clause-node c = λ was pair is.

@@ -11,7 +11,7 @@ pub write-requires-2-clause-owned : goal.write-requires-2-clause-owned
 write-requires-2-clause-owned c =
     let b = c.args.block.now in
     let w = write-changes c.args.heap.now c.args.pass.now c.write.new.pass b.place 0 c.args.node.next b.need c.write.ensures.of c.write.ensures.called in
-    wrote-owns c.args.pass.now c.write.new.pass b 0 c.args.node.next w c.write.ensures.called.caller c.requires.owned
+    wrote-owns c.args.pass.now c.write.new.pass b 0 c.args.node.next w c.write.ensures.called.caller c.write.ensures.called.lent c.requires.owned
 
 pub write-requires-3-clause-owned : goal.write-requires-3-clause-owned
 write-requires-3-clause-owned c =
@@ -19,14 +19,14 @@ write-requires-3-clause-owned c =
     let h = c.args.heap.now in
     let w = write-changes h c.args.pass.now c.write.new.pass b.place 0 c.args.node.next b.need c.write.ensures.of c.write.ensures.called in
     let x = write-changes h c.write.new.pass c.write-2.new.pass b.place 1 c.args.node.key b.need c.write-2.ensures.of c.write-2.ensures.called in
-    wrote-owns c.write.new.pass c.write-2.new.pass b 1 c.args.node.key x c.write-2.ensures.called.caller
-    (wrote-owns c.args.pass.now c.write.new.pass b 0 c.args.node.next w c.write.ensures.called.caller c.requires.owned)
+    wrote-owns c.write.new.pass c.write-2.new.pass b 1 c.args.node.key x c.write-2.ensures.called.caller c.write-2.ensures.called.lent
+    (wrote-owns c.args.pass.now c.write.new.pass b 0 c.args.node.next w c.write.ensures.called.caller c.write.ensures.called.lent c.requires.owned)
 
 pub returns-clause-rests : goal.returns-clause-rests
 returns-clause-rests c =
     let n = c.args.node in
     writes-three c.args.heap.now c.args.pass.now c.write.new.pass c.write-2.new.pass c.write-3.new.pass c.args.block.now n.next n.key n.value
-    c.requires.owned c.write.ensures.of c.write.ensures.called c.write-2.ensures.of c.write-2.ensures.called c.write-3.ensures.of
+    c.requires.of c.requires.owned c.write.ensures.of c.write.ensures.called c.write-2.ensures.of c.write-2.ensures.called c.write-3.ensures.of
     c.write-3.ensures.called
 
 pub returns-clause-node : goal.returns-clause-node

@@ -33,7 +33,7 @@ overflow_cast-count c =
 pub returns-in_err-words-clause-reads : goal.returns-in_err-words-clause-reads
 returns-in_err-words-clause-reads c =
     let b = c.args.block.now in
-    read-reads c.args.heap.now c.args.pass.now c.read-count.new.pass b.place 0 c.read-count.result b.need c.requires.owned c.read-count.ensures.of c.read-count.ensures.called
+    read-reads c.args.heap.now c.args.pass.now c.read-count.new.pass b.place 0 c.read-count.result b.need c.requires.of c.requires.owned c.read-count.ensures.of c.read-count.ensures.called
 
 pub loop-i-init : goal.loop-i-init
 loop-i-init c =
@@ -41,7 +41,7 @@ loop-i-init c =
     let h = c.args.heap.now in
     let e = c.read-count.ensures in
     record {
-      reads = read-reads h c.args.pass.now c.read-count.new.pass b.place 0 c.read-count.result b.need c.requires.owned e.of e.called;
+      reads = read-reads h c.args.pass.now c.read-count.new.pass b.place 0 c.read-count.result b.need c.requires.of c.requires.owned e.of e.called;
       found =
           subst (λ (ws : List ℕ). LedBy h c.args.pass.now (found_from b.place b.need 0 (c.read-count.result ∷ ws)) c.read-count.new.pass)
           (sym c.in_ok-words.ensures.items)
@@ -57,7 +57,7 @@ loop-i-init c =
 pub read-requires-clause-owned : goal.read-requires-clause-owned
 read-requires-clause-owned c =
     let l = c.loop-i in
-    same-owns c.args.pass.now l.pass c.args.block.now l.invariant.reads.same l.invariant.reads.rests.caller c.requires.owned
+    same-owns c.args.pass.now l.pass c.args.block.now l.invariant.reads.same l.invariant.reads.rests.caller l.invariant.reads.rests.lent c.requires.owned
 
 pub read-requires-clause-word : goal.read-requires-clause-word
 read-requires-clause-word c =
@@ -74,7 +74,7 @@ loop-i-preserved c =
     let q = c.read.new.pass in
     let e = c.read.ensures in
     let word = c.read.result in
-    let owns = same-owns p l.pass b l.invariant.reads.same l.invariant.reads.rests.caller c.requires.owned in
+    let owns = same-owns p l.pass b l.invariant.reads.same l.invariant.reads.rests.caller l.invariant.reads.rests.lent c.requires.owned in
     let old = l.words.items in
     let items = c.push_reserved.ensures.items in
     let at : l.i + 1 ≡ 1 + length old = omega (arith, l.invariant.long) in
@@ -85,7 +85,7 @@ loop-i-preserved c =
     (subst (λ (ms : List Made). LedBy h p (count ∷ ms) q) (sym listed)
     (led-more h p l.pass q b (found_from b.place b.need 0 (c.read-count.result ∷ old)) (l.i + 1) word owns e.of e.called l.invariant.found)) in
     record {
-      reads = reads-on h p l.pass q l.invariant.reads (read-reads h l.pass q b.place (l.i + 1) word b.need owns e.of e.called);
+      reads = reads-on h p l.pass q l.invariant.reads (read-reads h l.pass q b.place (l.i + 1) word b.need l.invariant.reads.rests.of owns e.of e.called);
       found = more;
       room = (omega (arith, c.push_reserved.ensures.len, l.invariant.room.0), c.push_reserved.ensures.capacity ∙ l.invariant.room.1);
       long = ap (λ x. length x) items ∙ (length-append old (word ∷ []) ∙ ap (λ n. n + 1) l.invariant.long);

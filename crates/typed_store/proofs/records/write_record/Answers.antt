@@ -20,8 +20,8 @@ loop-i-init c =
     let many = length c.args.words.now in
     let w = write-changes h p q b.place 0 many b.need e.of e.called in
     record {
-      rests = write-rests h p q b.place 0 many b.need c.requires.owned e.of e.called;
-      owned = wrote-owns p q b 0 many w e.called.caller c.requires.owned;
+      rests = write-rests h p q b.place 0 many b.need c.requires.of c.requires.owned e.of e.called;
+      owned = wrote-owns p q b 0 many w e.called.caller e.called.lent c.requires.owned;
       counted = wrote-word h p q b.place b.need 0 many 0 e.of e.called;
       each = λ j none. absurd (omega (arith, none));
       others = w.others;
@@ -40,8 +40,8 @@ loop-i-preserved c =
     let w = write-changes h p q b.place (l.i + 1) v b.need e.of e.called in
     let call = write b.place b.need (l.i + 1) v in
     record {
-      rests = rests-on h c.args.pass.now p q l.invariant.rests (write-rests h p q b.place (l.i + 1) v b.need l.invariant.owned e.of e.called);
-      owned = wrote-owns p q b (l.i + 1) v w e.called.caller l.invariant.owned;
+      rests = rests-on h c.args.pass.now p q l.invariant.rests (write-rests h p q b.place (l.i + 1) v b.need l.invariant.rests.of l.invariant.owned e.of e.called);
+      owned = wrote-owns p q b (l.i + 1) v w e.called.caller e.called.lent l.invariant.owned;
       counted = called-word h p q call 0 reply.Wrote b.place 0 (length words) e.of e.called (inr (λ none. absurd (omega (arith, none)))) l.invariant.counted;
       each = λ j few. elim (cases_eq j l.i) [
         | inl here ↦

@@ -46,7 +46,7 @@ read_node-node-requires-clause-owned c =
     let l = c.loop-passed in
     let block = c.token.result.now in
     let held = c.requires.held in
-    same-owns c.args.pass.now l.pass block l.invariant.reads.same l.invariant.reads.rests.caller
+    same-owns c.args.pass.now l.pass block l.invariant.reads.same l.invariant.reads.rests.caller l.invariant.reads.rests.lent
     (token-out c.args.pass.now c.args.slots.now.items held.0 (l.here - 1) block held.1 c.token.ensures)
 
 pub read_node-node-requires-clause-node : goal.read_node-node-requires-clause-node

@@ -28,7 +28,8 @@ read-handed-requires-clause-owned c =
     let h = c.args.heap.now in
     let p = c.args.pass.now in
     let b = c.in_ok-block.block in
-    let one = has-taken h p c.pick_up.new.pass SHELF b.place b.need c.whole_calls_keep_blocks.ensures.hands c.in_ok-block.ensures.got in
+    let one = has-taken h p c.pick_up.new.pass SHELF b.place b.need c.whole_calls_keep_blocks.ensures.hands c.requires.of c.requires.home
+    c.in_ok-block.ensures.got in
     one.owned
 
 pub give_back-requires-clause-owned : goal.give_back-requires-clause-owned
@@ -36,7 +37,8 @@ give_back-requires-clause-owned c =
     let h = c.args.heap.now in
     let p = c.args.pass.now in
     let b = c.in_ok-block.block in
-    let one = has-taken h p c.pick_up.new.pass SHELF b.place b.need c.whole_calls_keep_blocks.ensures.hands c.in_ok-block.ensures.got in
+    let one = has-taken h p c.pick_up.new.pass SHELF b.place b.need c.whole_calls_keep_blocks.ensures.hands c.requires.of c.requires.home
+    c.in_ok-block.ensures.got in
     let two =
     has-read h p c.pick_up.new.pass c.read-handed.new.pass _ b.place b.need 1 c.read-handed.result c.whole_calls_keep_blocks.ensures.keeps one c.read-handed.ensures.called
     c.read-handed.ensures.of c.read-handed.ensures.contents in
@@ -47,7 +49,8 @@ returns-in_err-give_back-clause-stopped c =
     let h = c.args.heap.now in
     let p = c.args.pass.now in
     let b = c.in_ok-block.block in
-    let one = has-taken h p c.pick_up.new.pass SHELF b.place b.need c.whole_calls_keep_blocks.ensures.hands c.in_ok-block.ensures.got in
+    let one = has-taken h p c.pick_up.new.pass SHELF b.place b.need c.whole_calls_keep_blocks.ensures.hands c.requires.of c.requires.home
+    c.in_ok-block.ensures.got in
     let two =
     has-read h p c.pick_up.new.pass c.read-handed.new.pass _ b.place b.need 1 c.read-handed.result c.whole_calls_keep_blocks.ensures.keeps one c.read-handed.ensures.called
     c.read-handed.ensures.of c.read-handed.ensures.contents in
@@ -60,7 +63,8 @@ returns-clause-fetched c =
     let h = c.args.heap.now in
     let p = c.args.pass.now in
     let b = c.in_ok-block.block in
-    let one = has-taken h p c.pick_up.new.pass SHELF b.place b.need c.whole_calls_keep_blocks.ensures.hands c.in_ok-block.ensures.got in
+    let one = has-taken h p c.pick_up.new.pass SHELF b.place b.need c.whole_calls_keep_blocks.ensures.hands c.requires.of c.requires.home
+    c.in_ok-block.ensures.got in
     let two =
     has-read h p c.pick_up.new.pass c.read-handed.new.pass _ b.place b.need 1 c.read-handed.result c.whole_calls_keep_blocks.ensures.keeps one c.read-handed.ensures.called
     c.read-handed.ensures.of c.read-handed.ensures.contents in

@@ -27,7 +27,8 @@ returns-in_err-block-clause-stopped c =
 pub write-requires-clause-owned : goal.write-requires-clause-owned
 write-requires-clause-owned c =
     let b = c.in_ok-block.block in
-    given-owned c.args.heap.now c.args.pass.now c.allocate.new.pass 3 b.place b.need c.whole_calls_keep_blocks.ensures.hands c.in_ok-block.ensures.given
+    given-owned c.args.heap.now c.args.pass.now c.allocate.new.pass 3 b.place b.need c.whole_calls_keep_blocks.ensures.hands c.requires.of c.requires.home
+    c.in_ok-block.ensures.given
 
 pub write-requires-clause-word : goal.write-requires-clause-word
 write-requires-clause-word c =
@@ -42,16 +43,23 @@ returns-in_err-other-clause-stopped c =
     let p = c.args.pass.now in
     let b = c.in_ok-block.block in
     let two =
-    has-written h p c.allocate.new.pass c.write.new.pass 3 b.place b.need 1 7 c.whole_calls_keep_blocks.ensures.keeps c.whole_calls_keep_blocks.ensures.hands c.in_ok-block.ensures.given
-    c.write.ensures.called c.write.ensures.of in
+    has-written h p c.allocate.new.pass c.write.new.pass 3 b.place b.need 1 7 c.whole_calls_keep_blocks.ensures.keeps c.whole_calls_keep_blocks.ensures.hands
+    c.requires.of c.requires.home c.in_ok-block.ensures.given c.write.ensures.called c.write.ensures.of in
     err-as c.from_residual-in_err-other.result c.in_err-other.field-0.0 (HasStopped h p IsNextOfFirst) c.from_residual-in_err-other.ensures.1
     (stops-behind h p c.write.new.pass c.allocate-2.new.pass _ b.place b.need IsNextOfFirst (alloc 5) _ two
     (b.place, b.need, 0, TooLarge, 0, reply.Given 0 TooLarge, drop 3 (first_calls b.place b.need 0 TooLarge 0), refl) c.in_err-other.ensures.stopped)
 
 pub write-requires-2-clause-owned : goal.write-requires-2-clause-owned
 write-requires-2-clause-owned c =
+    let h = c.args.heap.now in
+    let p = c.args.pass.now in
+    let b = c.in_ok-block.block in
     let o = c.in_ok-other.other in
-    given-owned c.args.heap.now c.write.new.pass c.allocate-2.new.pass 5 o.place o.need c.whole_calls_keep_blocks.ensures.hands c.in_ok-other.ensures.given
+    let two =
+    has-written h p c.allocate.new.pass c.write.new.pass 3 b.place b.need 1 7 c.whole_calls_keep_blocks.ensures.keeps c.whole_calls_keep_blocks.ensures.hands
+    c.requires.of c.requires.home c.in_ok-block.ensures.given c.write.ensures.called c.write.ensures.of in
+    given-owned h c.write.new.pass c.allocate-2.new.pass 5 o.place o.need c.whole_calls_keep_blocks.ensures.hands c.write.ensures.of two.out
+    c.in_ok-other.ensures.given
 
 pub write-requires-2-clause-word : goal.write-requires-2-clause-word
 write-requires-2-clause-word c =
@@ -63,9 +71,15 @@ write-requires-2-clause-word c =
 
 pub give_back-requires-clause-owned : goal.give_back-requires-clause-owned
 give_back-requires-clause-owned c =
+    let h = c.args.heap.now in
+    let p = c.args.pass.now in
+    let b = c.in_ok-block.block in
     let o = c.in_ok-other.other in
-    (has-written c.args.heap.now c.write.new.pass c.allocate-2.new.pass c.write-2.new.pass 5 o.place o.need 1 8 c.whole_calls_keep_blocks.ensures.keeps
-    c.whole_calls_keep_blocks.ensures.hands c.in_ok-other.ensures.given c.write-2.ensures.called c.write-2.ensures.of).owned
+    let two =
+    has-written h p c.allocate.new.pass c.write.new.pass 3 b.place b.need 1 7 c.whole_calls_keep_blocks.ensures.keeps c.whole_calls_keep_blocks.ensures.hands
+    c.requires.of c.requires.home c.in_ok-block.ensures.given c.write.ensures.called c.write.ensures.of in
+    (has-written h c.write.new.pass c.allocate-2.new.pass c.write-2.new.pass 5 o.place o.need 1 8 c.whole_calls_keep_blocks.ensures.keeps
+    c.whole_calls_keep_blocks.ensures.hands c.write.ensures.of two.out c.in_ok-other.ensures.given c.write-2.ensures.called c.write-2.ensures.of).owned
 
 pub returns-in_err-give_back-clause-stopped : goal.returns-in_err-give_back-clause-stopped
 returns-in_err-give_back-clause-stopped c =
@@ -74,8 +88,8 @@ returns-in_err-give_back-clause-stopped c =
     let b = c.in_ok-block.block in
     let o = c.in_ok-other.other in
     let two =
-    has-written h p c.allocate.new.pass c.write.new.pass 3 b.place b.need 1 7 c.whole_calls_keep_blocks.ensures.keeps c.whole_calls_keep_blocks.ensures.hands c.in_ok-block.ensures.given
-    c.write.ensures.called c.write.ensures.of in
+    has-written h p c.allocate.new.pass c.write.new.pass 3 b.place b.need 1 7 c.whole_calls_keep_blocks.ensures.keeps c.whole_calls_keep_blocks.ensures.hands
+    c.requires.of c.requires.home c.in_ok-block.ensures.given c.write.ensures.called c.write.ensures.of in
     let four =
     has-both h p c.write.new.pass c.allocate-2.new.pass c.write-2.new.pass _ b.place 5 o.place b.need o.need 1 8 c.whole_calls_keep_blocks.ensures.keeps c.whole_calls_keep_blocks.ensures.hands two
     c.in_ok-other.ensures.given c.write-2.ensures.called c.write-2.ensures.of in
@@ -90,14 +104,14 @@ read-kept-requires-clause-owned c =
     let b = c.in_ok-block.block in
     let o = c.in_ok-other.other in
     let two =
-    has-written h p c.allocate.new.pass c.write.new.pass 3 b.place b.need 1 7 c.whole_calls_keep_blocks.ensures.keeps c.whole_calls_keep_blocks.ensures.hands c.in_ok-block.ensures.given
-    c.write.ensures.called c.write.ensures.of in
+    has-written h p c.allocate.new.pass c.write.new.pass 3 b.place b.need 1 7 c.whole_calls_keep_blocks.ensures.keeps c.whole_calls_keep_blocks.ensures.hands
+    c.requires.of c.requires.home c.in_ok-block.ensures.given c.write.ensures.called c.write.ensures.of in
     let four =
     has-both h p c.write.new.pass c.allocate-2.new.pass c.write-2.new.pass _ b.place 5 o.place b.need o.need 1 8 c.whole_calls_keep_blocks.ensures.keeps c.whole_calls_keep_blocks.ensures.hands two
     c.in_ok-other.ensures.given c.write-2.ensures.called c.write-2.ensures.of in
     let apart =
     c.whole_calls_keep_blocks.ensures.apart h h c.write.new.pass c.allocate-2.new.pass (alloc 5) (reply.Given o.place o.need) o.place b.place o.need
-    b.need c.in_ok-other.ensures.given.0 (refl, refl) two.owned in
+    b.need c.in_ok-other.ensures.given.0 (refl, refl) two.owned.0 in
     let five =
     has-more h p c.write-2.new.pass c.give_back.new.pass _ b.place b.need (free o.place o.need) reply.Freed c.whole_calls_keep_blocks.ensures.keeps four apart
     c.in_ok-give_back.ensures.freed in
@@ -117,14 +131,14 @@ hand_over-requires-clause-owned c =
     let b = c.in_ok-block.block in
     let o = c.in_ok-other.other in
     let two =
-    has-written h p c.allocate.new.pass c.write.new.pass 3 b.place b.need 1 7 c.whole_calls_keep_blocks.ensures.keeps c.whole_calls_keep_blocks.ensures.hands c.in_ok-block.ensures.given
-    c.write.ensures.called c.write.ensures.of in
+    has-written h p c.allocate.new.pass c.write.new.pass 3 b.place b.need 1 7 c.whole_calls_keep_blocks.ensures.keeps c.whole_calls_keep_blocks.ensures.hands
+    c.requires.of c.requires.home c.in_ok-block.ensures.given c.write.ensures.called c.write.ensures.of in
     let four =
     has-both h p c.write.new.pass c.allocate-2.new.pass c.write-2.new.pass _ b.place 5 o.place b.need o.need 1 8 c.whole_calls_keep_blocks.ensures.keeps c.whole_calls_keep_blocks.ensures.hands two
     c.in_ok-other.ensures.given c.write-2.ensures.called c.write-2.ensures.of in
     let apart =
     c.whole_calls_keep_blocks.ensures.apart h h c.write.new.pass c.allocate-2.new.pass (alloc 5) (reply.Given o.place o.need) o.place b.place o.need
-    b.need c.in_ok-other.ensures.given.0 (refl, refl) two.owned in
+    b.need c.in_ok-other.ensures.given.0 (refl, refl) two.owned.0 in
     let five =
     has-more h p c.write-2.new.pass c.give_back.new.pass _ b.place b.need (free o.place o.need) reply.Freed c.whole_calls_keep_blocks.ensures.keeps four apart
     c.in_ok-give_back.ensures.freed in
@@ -140,14 +154,14 @@ returns-in_err-hand_over-clause-stopped c =
     let b = c.in_ok-block.block in
     let o = c.in_ok-other.other in
     let two =
-    has-written h p c.allocate.new.pass c.write.new.pass 3 b.place b.need 1 7 c.whole_calls_keep_blocks.ensures.keeps c.whole_calls_keep_blocks.ensures.hands c.in_ok-block.ensures.given
-    c.write.ensures.called c.write.ensures.of in
+    has-written h p c.allocate.new.pass c.write.new.pass 3 b.place b.need 1 7 c.whole_calls_keep_blocks.ensures.keeps c.whole_calls_keep_blocks.ensures.hands
+    c.requires.of c.requires.home c.in_ok-block.ensures.given c.write.ensures.called c.write.ensures.of in
     let four =
     has-both h p c.write.new.pass c.allocate-2.new.pass c.write-2.new.pass _ b.place 5 o.place b.need o.need 1 8 c.whole_calls_keep_blocks.ensures.keeps c.whole_calls_keep_blocks.ensures.hands two
     c.in_ok-other.ensures.given c.write-2.ensures.called c.write-2.ensures.of in
     let apart =
     c.whole_calls_keep_blocks.ensures.apart h h c.write.new.pass c.allocate-2.new.pass (alloc 5) (reply.Given o.place o.need) o.place b.place o.need
-    b.need c.in_ok-other.ensures.given.0 (refl, refl) two.owned in
+    b.need c.in_ok-other.ensures.given.0 (refl, refl) two.owned.0 in
     let five =
     has-more h p c.write-2.new.pass c.give_back.new.pass _ b.place b.need (free o.place o.need) reply.Freed c.whole_calls_keep_blocks.ensures.keeps four apart
     c.in_ok-give_back.ensures.freed in
@@ -165,14 +179,14 @@ returns-clause-kept c =
     let b = c.in_ok-block.block in
     let o = c.in_ok-other.other in
     let two =
-    has-written h p c.allocate.new.pass c.write.new.pass 3 b.place b.need 1 7 c.whole_calls_keep_blocks.ensures.keeps c.whole_calls_keep_blocks.ensures.hands c.in_ok-block.ensures.given
-    c.write.ensures.called c.write.ensures.of in
+    has-written h p c.allocate.new.pass c.write.new.pass 3 b.place b.need 1 7 c.whole_calls_keep_blocks.ensures.keeps c.whole_calls_keep_blocks.ensures.hands
+    c.requires.of c.requires.home c.in_ok-block.ensures.given c.write.ensures.called c.write.ensures.of in
     let four =
     has-both h p c.write.new.pass c.allocate-2.new.pass c.write-2.new.pass _ b.place 5 o.place b.need o.need 1 8 c.whole_calls_keep_blocks.ensures.keeps c.whole_calls_keep_blocks.ensures.hands two
     c.in_ok-other.ensures.given c.write-2.ensures.called c.write-2.ensures.of in
     let apart =
     c.whole_calls_keep_blocks.ensures.apart h h c.write.new.pass c.allocate-2.new.pass (alloc 5) (reply.Given o.place o.need) o.place b.place o.need
-    b.need c.in_ok-other.ensures.given.0 (refl, refl) two.owned in
+    b.need c.in_ok-other.ensures.given.0 (refl, refl) two.owned.0 in
     let five =
     has-more h p c.write-2.new.pass c.give_back.new.pass _ b.place b.need (free o.place o.need) reply.Freed c.whole_calls_keep_blocks.ensures.keeps four apart
     c.in_ok-give_back.ensures.freed in

@@ -1,8 +1,8 @@
-use Rattle.std.proofs.Common.{◌≡◌, ◌∙◌, List, ap, inl, inr, subst}
+use Rattle.std.proofs.Common.{◌≡◌, ◌∙◌, All, List, ap, inl, inr, subst, sym}
 use Rattle.heap_geometry.specs.declared.geometry.Geometry.{Geometry}
 use Rattle.live_heap.specs.declared.pass.Pass.{Pass}
 use Rattle.live_heap.specs.Endings.{HasClosed}
-use Rattle.worked_programs.proofs.EmbeddedEnds.{all-idle, none-live, two-passes}
+use Rattle.worked_programs.proofs.EmbeddedEnds.{all-idle, both-home, none-live, two-passes}
 use Rattle.worked_programs.proofs.EmbeddedWays.{closed-tells}
 use Rattle.worked_programs.proofs.embedded.run.Goals as goal
 
@@ -58,6 +58,28 @@ close-requires c =
     c.push_reserved.new.self.items c.in-Ok.ensures.kept c.in-Ok-fetch.ensures.fetched two.1 c.push_reserved.ensures.items
     c.push_reserved-2.ensures.items callers in
     idle.0
+
+pub unreachable-requires : goal.unreachable-requires
+unreachable-requires c =
+    let h = c.in_ok-heap.heap in
+    let first = c.remove-first.result in
+    let second = c.remove-second.result in
+    let two =
+    two-passes h c.in_ok-heap.passes.items c.remove-second.new.self.items c.remove-first.new.self.items first second c.in_ok-heap.ensures.passes.0
+    (c.in_ok-heap.ensures.passes.1 ∙ c.four_frames.ensures.callers) c.remove-second.ensures.value c.remove-second.ensures.by_index.2
+    c.remove-first.ensures.value c.remove-first.ensures.by_index.2 in
+    let callers : h.layout.callers ≡ 2 = ap (λ (g : Geometry). g.callers) c.in_ok-heap.ensures.heap ∙ c.four_frames.ensures.callers in
+    let p = c.keep.new.pass in
+    let q = c.fetch.new.pass in
+    let idle =
+    all-idle h first second p q c.in-Ok.kept c.in-Ok-fetch.handed c.remove-first.new.self.items c.push_reserved-2.new.self.items
+    c.push_reserved.new.self.items c.in-Ok.ensures.kept c.in-Ok-fetch.ensures.fetched two.1 c.push_reserved.ensures.items
+    c.push_reserved-2.ensures.items callers in
+    let (fresh_first, zero_is, others) = two.0 in
+    let (fresh_second, one_is, none) = others in
+    c.in-Err-close.ensures.always
+    (subst (λ (passes : List Pass). All (λ (x : Pass). x.out ≡ 0) passes) (sym idle.1)
+    (both-home h first second p q c.in-Ok.kept c.in-Ok-fetch.handed fresh_first fresh_second c.in-Ok.ensures.kept c.in-Ok-fetch.ensures.fetched))
 
 pub returns-clause-ran : goal.returns-clause-ran
 returns-clause-ran c =

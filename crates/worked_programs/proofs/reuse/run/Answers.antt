@@ -2,7 +2,11 @@ use Rattle.std.proofs.Common.{ℕ, ◌∙◌, subst, sym}
 use Rattle.worked_programs.specs.Reuse.{HasWorked}
 use Rattle.worked_programs.proofs.EmbeddedEnds.{none-live}
 use Rattle.worked_programs.proofs.ReuseEnds.{worked-hits, worked-nothing, worked-turns}
+use Rattle.worked_programs.proofs.ReuseHome.{worked-out}
 use Rattle.worked_programs.proofs.reuse.run.Goals as goal
+
+pub close-requires-clause-home : goal.close-requires-clause-home
+close-requires-clause-home c = worked-out c.in_ok-heap.heap c.in_ok-heap.cache c.in-Ok.sum c.work.new.cache c.in_ok-heap.ensures c.in-Ok.ensures.worked
 
 pub returns-in_ok-close-in-Ok-clause-ran : goal.returns-in_ok-close-in-Ok-clause-ran
 returns-in_ok-close-in-Ok-clause-ran c =

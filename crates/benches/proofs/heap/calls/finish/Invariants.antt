@@ -1,9 +1,9 @@
 use Rattle.std.proofs.Common.{ℕ}
 use Rattle.errand_steps.specs.Calls.{Call}
 use Rattle.live_heap.specs.declared.pass.Pass.{Pass}
-use Rattle.live_heap.specs.Answers.{IsResumable}
 use Rattle.live_heap.specs.Calls.{IsCalling}
 use Rattle.live_heap.specs.Passes.{IsOf}
+use Rattle.benches.specs.Hands.{IsUnderWay}
 use Rattle.benches.proofs.heap.calls.finish.Given as goal
 
 abbrev pub invariant-loop : goal.invariant-loop
@@ -11,6 +11,7 @@ invariant-loop g l = record {
   can_next : (goal.iterator-loop g).can_next l.iterator';
   is_finite : (goal.iterator-loop g).is_finite l.iterator';
   of : IsOf l.heap l.pass;
-  under_way : IsResumable l.pass;
-  goes : (first : Pass) (call : Call) (made : ℕ) → IsCalling first call made l.fn.pass → (steps : ℕ) × IsCalling first call steps l.pass;
+  under_way : IsUnderWay l.heap l.pass;
+  goes : (first : Pass) (call : Call) (made : ℕ) → IsOf l.heap first → IsCalling first call made l.fn.pass
+      → (steps : ℕ) × IsCalling first call steps l.pass;
 }

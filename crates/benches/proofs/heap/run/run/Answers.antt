@@ -30,5 +30,8 @@ close-requires g c =
     let opened = c.in_ok-heap.ensures in
     record {
       all = c.in_ok-passes.ensures.1 ∙ (whole ∙ (same ∙ (c.in_ok-workers.ensures.1 ∙ (opened.passes.1 ∙ ap (λ (geometry : Geometry). geometry.callers) (sym opened.heap)))));
-      each = c.in_ok-passes.ensures.0;
+      each = λ k d within. let rests = c.in_ok-passes.ensures.0 k d within in (rests.0, rests.1);
     }
+
+pub unreachable-requires : goal.unreachable-requires
+unreachable-requires g c = c.in-Err.ensures.always (λ k d within. (c.in_ok-passes.ensures.0 k d within).2)

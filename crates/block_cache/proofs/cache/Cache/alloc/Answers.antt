@@ -27,5 +27,5 @@ pub returns-clause-holds : goal.returns-clause-holds
 returns-clause-holds c held holds =
     let s = c.args.self.now in
     regroup c.alloc.new.pass (given_by c.alloc.result) held (cached_in s)
-    (alloc-all c.args.heap.now s.pass c.alloc.new.pass (held ++ cached_in s) c.args.need c.args.tries c.alloc.result c.requires.idle c.alloc.ensures.of
-    c.alloc.ensures.tells holds)
+    (alloc-all c.args.heap.now s.pass c.alloc.new.pass (held ++ cached_in s) c.args.need c.args.tries c.alloc.result c.requires.idle
+    c.requires.cache.hand.of c.alloc.ensures.of c.alloc.ensures.tells holds)

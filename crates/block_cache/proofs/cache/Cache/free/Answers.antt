@@ -20,5 +20,5 @@ returns-clause-cache c =
 pub returns-clause-holds : goal.returns-clause-holds
 returns-clause-holds c held holds =
     let s = c.args.self.now in
-    free-all c.args.heap.now s.pass c.free.new.pass c.args.block (held ++ cached_in s) c.args.tries c.free.result c.requires.idle c.free.ensures.of
-    c.free.ensures.tells holds
+    free-all c.args.heap.now s.pass c.free.new.pass c.args.block (held ++ cached_in s) c.args.tries c.free.result c.requires.idle
+    c.requires.cache.hand.of c.free.ensures.of c.free.ensures.tells holds

@@ -41,5 +41,5 @@ returns-clause-holds c held holds =
     let top = c.in_ok-block.ensures.top in
     let split = top-splits top.0 b (stacks_in s) (stacks_of m.stacks.items) top.1 in
     free-all c.args.heap.now s.pass c.free.new.pass b (held ++ all_in (stacks_of m.stacks.items)) c.args.tries c.free.result c.requires.idle
-    c.free.ensures.of c.free.ensures.tells
+    c.requires.cache.hand.of c.free.ensures.of c.free.ensures.tells
     (leaves-all s.pass held (cached_in s) (all_in (stacks_of m.stacks.items)) b split c.requires.idle holds)

@@ -20,5 +20,5 @@ pub returns-clause-holds : goal.returns-clause-holds
 returns-clause-holds c held holds =
     let s = c.args.self.now in
     regroup c.put.new.pass (returned_by c.put.result) held (cached_in s)
-    (put-all c.args.heap.now s.pass c.put.new.pass c.args.block (held ++ cached_in s) c.args.shelf c.put.result c.requires.idle c.put.ensures.of
-    c.put.ensures.put c.put.ensures.full holds)
+    (put-all c.args.heap.now s.pass c.put.new.pass c.args.block (held ++ cached_in s) c.args.shelf c.put.result c.requires.idle
+    c.requires.cache.hand.of c.put.ensures.of c.put.ensures.put c.put.ensures.full holds)

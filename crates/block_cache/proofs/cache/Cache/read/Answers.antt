@@ -21,4 +21,4 @@ returns-clause-holds c held holds =
     let s = c.args.self.now in
     let all = held ++ cached_in s in
     ended-all c.args.heap.now s.pass c.read.new.pass (read c.args.block.now.place c.args.block.now.need c.args.i) 0 (reply.Word c.read.result) all all
-    c.read.ensures.of c.read.ensures.called refl (holds.at_rest c.requires.idle)
+    c.requires.cache.hand.of c.read.ensures.of c.read.ensures.called refl (holds.at_rest c.requires.idle)

@@ -23,5 +23,5 @@ pub returns-clause-holds : goal.returns-clause-holds
 returns-clause-holds c held holds =
     let s = c.args.self.now in
     regroup c.resume.new.pass (resumed_by c.resume.result) held (cached_in s)
-    (waiting-all c.args.heap.now s.pass c.resume.new.pass (held ++ cached_in s) c.args.tries c.resume.result c.requires.under_way c.resume.ensures.of
-    c.resume.ensures.tells holds)
+    (waiting-all c.args.heap.now s.pass c.resume.new.pass (held ++ cached_in s) c.args.tries c.resume.result c.requires.under_way
+    c.requires.cache.hand.of c.resume.ensures.of c.resume.ensures.tells holds)

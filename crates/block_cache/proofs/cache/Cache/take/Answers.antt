@@ -20,5 +20,5 @@ pub returns-clause-holds : goal.returns-clause-holds
 returns-clause-holds c held holds =
     let s = c.args.self.now in
     regroup c.take.new.pass (taken_by c.take.result) held (cached_in s)
-    (take-all c.args.heap.now s.pass c.take.new.pass (held ++ cached_in s) c.args.shelf c.take.result c.requires.idle c.take.ensures.of
-    c.take.ensures.tells holds)
+    (take-all c.args.heap.now s.pass c.take.new.pass (held ++ cached_in s) c.args.shelf c.take.result c.requires.idle
+    c.requires.cache.hand.of c.take.ensures.of c.take.ensures.tells holds)

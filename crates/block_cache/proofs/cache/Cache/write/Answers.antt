@@ -21,4 +21,4 @@ returns-clause-holds c held holds =
     let s = c.args.self.now in
     let all = held ++ cached_in s in
     ended-all c.args.heap.now s.pass c.write.new.pass (write c.args.block.now.place c.args.block.now.need c.args.i c.args.v) 0 reply.Wrote all all
-    c.write.ensures.of c.write.ensures.called refl (holds.at_rest c.requires.idle)
+    c.requires.cache.hand.of c.write.ensures.of c.write.ensures.called refl (holds.at_rest c.requires.idle)

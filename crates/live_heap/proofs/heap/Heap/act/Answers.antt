@@ -19,7 +19,7 @@ load-value-requires g c =
       c.start-start.ensures,
       c.index.ensures.within,
       may-load h.table.shared.key h.layout h.table.shared.id.words c.args.seat.now.id c.args.seat.now.me r.sight.before g.E.Doing.errand g.E.Doing.errand c.in-Load.name
-          c.index.result h.laid.1 refl h.checked r.sight.one r.sight.begun r.busy r.ready c.index.ensures.place (sym r.planned ∙ c.in-Load.is),
+          c.index.result h.laid.1 refl h.checked r.sight.one r.sight.apart r.sight.begun r.busy r.ready c.index.ensures.place (sym r.planned ∙ c.in-Load.is),
     )
 
 pub index-requires-in-Store : goal.index-requires-in-Store
@@ -33,7 +33,7 @@ store-requires g c =
       c.start-start.ensures,
       c.index-in-Store.ensures.within,
       may-store h.table.shared.key h.layout h.table.shared.id.words c.args.seat.now.id c.args.seat.now.me r.sight.before g.E.Doing.errand g.E.Doing.errand c.in-Store.name
-          c.index-in-Store.result h.laid.1 refl h.checked r.sight.one r.sight.begun r.busy r.ready c.index-in-Store.ensures.place c.in-Store.new (sym r.planned ∙ c.in-Store.is),
+          c.index-in-Store.result h.laid.1 refl h.checked r.sight.one r.sight.apart r.sight.begun r.busy r.ready c.index-in-Store.ensures.place c.in-Store.new (sym r.planned ∙ c.in-Store.is),
     )
 
 pub index-requires-in-Cas : goal.index-requires-in-Cas
@@ -47,7 +47,7 @@ compare_exchange-value-requires g c =
       c.start-start.ensures,
       c.index-in-Cas.ensures.within,
       may-exchange h.table.shared.key h.layout h.table.shared.id.words c.args.seat.now.id c.args.seat.now.me r.sight.before g.E.Doing.errand g.E.Doing.errand c.in-Cas.name
-          c.index-in-Cas.result h.laid.1 refl h.checked r.sight.one r.sight.begun r.busy r.ready c.index-in-Cas.ensures.place c.in-Cas.expected c.in-Cas.new (sym r.planned ∙ c.in-Cas.is),
+          c.index-in-Cas.result h.laid.1 refl h.checked r.sight.one r.sight.apart r.sight.begun r.busy r.ready c.index-in-Cas.ensures.place c.in-Cas.expected c.in-Cas.new (sym r.planned ∙ c.in-Cas.is),
     )
 
 pub index-requires-in-Swap : goal.index-requires-in-Swap
@@ -61,7 +61,7 @@ swap-value-requires g c =
       c.start-start.ensures,
       c.index-in-Swap.ensures.within,
       may-swap h.table.shared.key h.layout h.table.shared.id.words c.args.seat.now.id c.args.seat.now.me r.sight.before g.E.Doing.errand g.E.Doing.errand c.in-Swap.name
-          c.index-in-Swap.result h.laid.1 refl h.checked r.sight.one r.sight.begun r.busy r.ready c.index-in-Swap.ensures.place c.in-Swap.new (sym r.planned ∙ c.in-Swap.is),
+          c.index-in-Swap.result h.laid.1 refl h.checked r.sight.one r.sight.apart r.sight.begun r.busy r.ready c.index-in-Swap.ensures.place c.in-Swap.new (sym r.planned ∙ c.in-Swap.is),
     )
 
 pub index-requires-in-And : goal.index-requires-in-And
@@ -75,7 +75,7 @@ fetch_and-value-requires g c =
       c.start-start.ensures,
       c.index-in-And.ensures.within,
       may-and h.table.shared.key h.layout h.table.shared.id.words c.args.seat.now.id c.args.seat.now.me r.sight.before g.E.Doing.errand g.E.Doing.errand c.in-And.name
-          c.index-in-And.result h.laid.1 refl h.checked r.sight.one r.sight.begun r.busy r.ready c.index-in-And.ensures.place c.in-And.mask (sym r.planned ∙ c.in-And.is),
+          c.index-in-And.result h.laid.1 refl h.checked r.sight.one r.sight.apart r.sight.begun r.busy r.ready c.index-in-And.ensures.place c.in-And.mask (sym r.planned ∙ c.in-And.is),
     )
 
 pub returns-in-Store-clause-step : goal.returns-in-Store-clause-step

@@ -60,7 +60,7 @@ returns-in-Some-clause-tells c =
     let ends : G (Some c.in-Some.ending) = subst G c.in-Some.is (c.go_on.ensures.goes p (alloc c.args.need) 0 calling) in
     let T : AllocAnswer → Type 0 = λ a. AllocTells p c.args.need c.args.tries a q in
     subst T (sym c.alloc_ended.ensures)
-    (alloc-tells p c.args.need c.args.tries c.in-Some.ending q
+    (alloc-tells c.args.self.now p c.args.need c.args.tries c.in-Some.ending q c.requires.of c.go_on.ensures.of
     (ends-since p c.begin_alloc.new.pass (alloc c.args.need) c.args.tries q b.begun _ ends))
 
 pub returns-in-None-clause-too_large : goal.returns-in-None-clause-too_large

@@ -17,11 +17,11 @@ alloc_on-requires c =
     let r = c.requires in
     let p = c.args.pass.now in
     let call : Call = alloc c.args.need in
-    let q : Pass = record { seat = p.seat; errand = c.take_turn.new.self } in
+    let q : Pass = record { seat = p.seat; errand = c.take_turn.new.self; out = p.out } in
     let active = c.alloc_from-active.result in
     let same = allocs-from p c.args.need c.args.class active q.errand r.class r.left c.alloc_from-active.ensures c.take_turn.ensures in
     let rule = alloc-errand p.errand c.args.need (of-rule c.args.self.now p r.of) r.idle in (
-      walk-begins p call q active (Alloc c.args.need) same c.args.self.now c.args.tries r.of r.idle tt (subst IsIdle (sym c.take_turn.ensures) r.idle) rule r.tries (subst LinksNone (sym c.alloc_from-active.ensures) tt),
+      walk-begins p call q active (Alloc c.args.need) same c.args.self.now c.args.tries r.of r.idle tt (λ place about. absurd about) (subst IsIdle (sym c.take_turn.ensures) r.idle) rule r.tries (subst LinksNone (sym c.alloc_from-active.ensures) tt),
       (p, subst (IsCalling p call 0) (sym same) (alloc-call p c.args.need c.args.class r.idle r.class r.left)),
     )
 
@@ -36,12 +36,12 @@ returns-clause-tells c =
     let r = c.requires in
     let p = c.args.pass.now in
     let call : Call = alloc c.args.need in
-    let q : Pass = record { seat = p.seat; errand = c.take_turn.new.self } in
+    let q : Pass = record { seat = p.seat; errand = c.take_turn.new.self; out = p.out } in
     let end = c.alloc_on.new.pass in
     let active = c.alloc_from-active.result in
     let same = allocs-from p c.args.need c.args.class active q.errand r.class r.left c.alloc_from-active.ensures c.take_turn.ensures in
     let (told, gone, answers) = c.alloc_on.ensures in
     subst (λ a. AllocTells p c.args.need c.args.tries a end) (sym answers)
-    (alloc-answers p c.args.need c.args.tries told end
+    (alloc-answers c.args.self.now p c.args.need c.args.tries told end r.of gone.of
     (walk-goes p call q active (Alloc c.args.need) same c.args.self.now c.args.tries told end
     (alloc-call p c.args.need c.args.class r.idle r.class r.left) gone))

@@ -1,5 +1,6 @@
-use Rattle.std.proofs.Common.{refl}
+use Rattle.std.proofs.Common.{refl, subst}
 use Rattle.errand_steps.specs.Calls.{put}
+use Rattle.live_heap.specs.Passes.{IsHome}
 use Rattle.live_heap.proofs.Begun.{begins-of, heap-block}
 use Rattle.live_heap.proofs.heap.Heap.begin_put.Goals as goal
 
@@ -8,5 +9,5 @@ begin_put-requires-clause-block c = heap-block c.args.self.now c.args.pass.now c
 
 pub returns-clause-of : goal.returns-clause-of
 returns-clause-of c =
-    begins-of c.args.self.now c.args.pass.now (record { seat = c.args.pass.now.seat; errand = c.begin_put.new.self })
-    (put c.args.block.place c.args.block.need c.args.shelf) c.requires.of c.requires.idle (record { block = c.requires.owned }, c.requires.shelf) refl c.begin_put.ensures
+    begins-of c.args.self.now c.args.pass.now (record { seat = c.args.pass.now.seat; errand = c.begin_put.new.self; out = c.args.pass.now.out })
+    (put c.args.block.place c.args.block.need c.args.shelf) c.requires.of c.requires.idle (record { block = c.requires.owned.0 }, c.requires.shelf) (λ place about. subst (IsHome c.args.pass.now) about c.requires.owned.1) refl refl c.begin_put.ensures

@@ -1,5 +1,6 @@
-use Rattle.std.proofs.Common.{refl}
+use Rattle.std.proofs.Common.{subst, refl}
 use Rattle.errand_steps.specs.Calls.{read}
+use Rattle.live_heap.specs.Passes.{IsHome}
 use Rattle.live_heap.proofs.Begun.{begins-of, heap-block}
 use Rattle.live_heap.proofs.heap.Heap.begin_read.Goals as goal
 
@@ -8,5 +9,5 @@ begin_read-requires-clause-block c = heap-block c.args.self.now c.args.pass.now 
 
 pub returns-clause-of : goal.returns-clause-of
 returns-clause-of c =
-    begins-of c.args.self.now c.args.pass.now (record { seat = c.args.pass.now.seat; errand = c.begin_read.new.self })
-    (read c.args.block.now.place c.args.block.now.need c.args.i) c.requires.of c.requires.idle (record { block = c.requires.owned }, c.requires.word) refl c.begin_read.ensures
+    begins-of c.args.self.now c.args.pass.now (record { seat = c.args.pass.now.seat; errand = c.begin_read.new.self; out = c.args.pass.now.out })
+    (read c.args.block.now.place c.args.block.now.need c.args.i) c.requires.of c.requires.idle (record { block = c.requires.owned.0 }, c.requires.word) (λ place about. subst (IsHome c.args.pass.now) about c.requires.owned.1) refl refl c.begin_read.ensures

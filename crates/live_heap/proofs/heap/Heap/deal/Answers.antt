@@ -1,7 +1,6 @@
-use Rattle.std.proofs.Common.{◌≡◌, ℕ, ◌+◌, ◌-◌, ◌<◌, List, [], ◌∷◌, length, sym, ap, ◌∙◌, subst, arith, rules}
+use Rattle.std.proofs.Common.{◌≡◌, ℕ, ◌+◌, ◌-◌, ◌<◌, List, [], ◌∷◌, length, sym, ap, ◌∙◌, subst, arith, rules, refl}
 use Rattle.std.specs.Prelude.{None}
 use Rattle.heap_geometry.specs.declared.geometry.Geometry.{Geometry}
-use Rattle.heap_geometry.specs.Geometry.{IsChecked}
 use Rattle.atomic_region.specs.Region.{Me, Splits}
 use Rattle.errand_steps.specs.Errands.{ErrandFields, open_errand}
 use Rattle.live_heap.specs.declared.pass.Pass.{Pass}
@@ -19,13 +18,13 @@ split_seat-next-requires c =
     let h = c.args.self.now in
     let v = c.loop-caller.rest.me.0 in
     let lays : v.lays ≡ None = ap (λ (m : Me View). m.0.lays) c.loop-caller.invariant.me in
-    let at : IsChecked h.table.shared.key = subst IsChecked (sym h.laid.1) h.checked in
+    let home : v.lent ≡ [] = ap (λ (m : Me View). m.0.lent) c.loop-caller.invariant.me in
     let S : ℕ → Type 0 = λ place. Splits (PiecesHold h.table.shared.key) h.table.shared.id.words place c.loop-caller.rest.id v (first_part v) (other_part v) in (
       c.loop-caller.invariant.table,
       c.start-start.ensures,
       c.first_mark-mark.ensures.within,
       subst S (ap (λ (g : Geometry). mark_place g 0) h.laid.1 ∙ sym c.first_mark-mark.ensures.place)
-          (splits-pieces h.table.shared.key h.table.shared.id.words c.loop-caller.rest.id v at lays),
+          (splits-pieces h.table.shared.key h.table.shared.id.words c.loop-caller.rest.id v lays home),
     )
 
 pub loop-caller-preserved : goal.loop-caller-preserved
@@ -41,13 +40,13 @@ loop-caller-preserved c =
     let some_left : 0 < left = omega (arith, many, c.loop-caller-test.true) in
     let more = idles-more g n left some_left in
     let one_less : left - 1 ≡ g.callers - (n + 1) = omega arith in
-    let V : List Standing → Me View = λ l. (record { callers = l; seen = []; wins = []; lays = None; ready = [] }, []) in
+    let V : List Standing → Me View = λ l. (record { callers = l; seen = []; wins = []; lays = None; ready = []; lent = [] }, []) in
     let now : c.loop-caller.rest.me ≡ V (idle_standing g n ∷ idles_from g (n + 1) (g.callers - (n + 1))) =
     i.me ∙ ap V (more ∙ ap (λ (k : ℕ). idle_standing g n ∷ idles_from g (n + 1) k) one_less) in
-    let p : Pass = record { seat = c.split_seat-next.new.seat; errand = c.open.result } in
+    let p : Pass = record { seat = c.split_seat-next.new.seat; errand = c.open.result; out = 0 } in
     let errand : c.open.result ≡ open_errand n g = c.open.ensures ∙ ap (open_errand n) same in
     let has : n < g.callers = omega (arith, some_left) in
-    let is_fresh = fresh h p n has (s.old.0 ∙ i.table) (s.old.2 ∙ ap (λ (m : Me View). (first_part m.0, m.1)) now) errand in
+    let is_fresh = fresh h p n has (s.old.0 ∙ i.table) (s.old.2 ∙ ap (λ (m : Me View). (first_part m.0, m.1)) now) refl errand in
     let number : c.open.result.caller ≡ 0 + length c.loop-caller.passes.items = ap (λ (e : ErrandFields). e.caller) errand ∙ omega (arith, i.len) in
     record {
       table = s.new.0 ∙ i.table;

@@ -28,7 +28,7 @@ loop-left-preserved-in-More g c =
       of = c.step.ensures.of;
       going =
           going-further c.args.self.now g.start c.args._tries c.loop-left.left c.loop-left.pass c.step.new.pass i.of c.loop-left-test.true
-          i.going m (c.step.ensures.busy i.going.busy).accesses;
+          i.going m ((c.step.ensures.busy i.going.busy).accesses, (c.step.ensures.busy i.going.busy).lent);
     }
 
 pub loop-left-smaller-in-Lost : goal.loop-left-smaller-in-Lost
@@ -47,7 +47,7 @@ loop-left-preserved-in-Lost g c =
       of = c.step.ensures.of;
       going =
           going-again c.args.self.now g.start c.args._tries c.loop-left.left c.loop-left.pass c.step.new.pass i.of c.loop-left-test.true
-          i.going Lost (c.loop-left.left - 1) (omega (arith, c.loop-left-test.true)) m (c.step.ensures.busy i.going.busy).accesses (inl refl) goes;
+          i.going Lost (c.loop-left.left - 1) (omega (arith, c.loop-left-test.true)) m ((c.step.ensures.busy i.going.busy).accesses, (c.step.ensures.busy i.going.busy).lent) (inl refl) goes;
     }
 
 pub loop-left-smaller : goal.loop-left-smaller
@@ -66,7 +66,7 @@ loop-left-preserved g c =
       of = c.step.ensures.of;
       going =
           going-again c.args.self.now g.start c.args._tries c.loop-left.left c.loop-left.pass c.step.new.pass i.of c.loop-left-test.true
-          i.going Cleared (c.loop-left.left - 1) (omega (arith, c.loop-left-test.true)) m (c.step.ensures.busy i.going.busy).accesses (inr refl) goes;
+          i.going Cleared (c.loop-left.left - 1) (omega (arith, c.loop-left-test.true)) m ((c.step.ensures.busy i.going.busy).accesses, (c.step.ensures.busy i.going.busy).lent) (inr refl) goes;
     }
 
 pub returns-in-Done : goal.returns-in-Done
@@ -79,7 +79,7 @@ returns-in-Done g c =
       grows = going-grows c.args.self.now g.start c.args._tries left.left left.pass c.step.new.pass i.of c.loop-left-test.true i.going _ m;
       goes =
           going-ends c.args.self.now g.start c.args._tries c.loop-left.left c.loop-left.pass c.step.new.pass i.of c.loop-left-test.true i.going
-          (reply_of c.in-Done.ending) m (c.step.ensures.busy i.going.busy).accesses;
+          (reply_of c.in-Done.ending) m ((c.step.ensures.busy i.going.busy).accesses, (c.step.ensures.busy i.going.busy).lent);
     }
 
 pub returns : goal.returns

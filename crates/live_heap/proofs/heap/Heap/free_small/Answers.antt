@@ -7,6 +7,7 @@ use Rattle.errand_steps.proofs.BegunErrands.{free-errand}
 use Rattle.live_heap.specs.Answers.{FreeTells, reply_in}
 use Rattle.live_heap.specs.Calls.{GoesOn}
 use Rattle.live_heap.specs.Going.{LinksNone, in_call}
+use Rattle.live_heap.specs.Passes.{IsHome}
 use Rattle.live_heap.proofs.Begun.{of-rule}
 use Rattle.live_heap.proofs.FreeLemmas.{free-answers, free-calling, frees-from}
 use Rattle.live_heap.proofs.WalkLemmas.{walk-begins, walk-goes}
@@ -20,7 +21,7 @@ free_on-requires c =
     let call : Call = free place (Small c.args.class) in
     let same = frees-from p place c.args.class c.free_from-prefix.result c.free_from-prefix.ensures in
     let rule = free-errand p.errand place (Small c.args.class) r.block (of-rule c.args.self.now p r.of) r.idle in
-    walk-begins p call p c.free_from-prefix.result Free same c.args.self.now c.args.tries r.of r.idle r.may r.idle rule r.tries (subst LinksNone (sym c.free_from-prefix.ensures) tt)
+    walk-begins p call p c.free_from-prefix.result Free same c.args.self.now c.args.tries r.of r.idle r.may (λ at same. subst (IsHome p) same r.home) r.idle rule r.tries (subst LinksNone (sym c.free_from-prefix.ensures) tt)
 
 pub returns-clause-of : goal.returns-clause-of
 returns-clause-of c = c.free_on.ensures.1.of

@@ -12,8 +12,9 @@ invariant-loop-pass l = record {
   table : l.seat.region ≡ l.self.table.shared.id;
   empty : l.seat.me.1 ≡ [];
   settled : l.seat.me.0.lays ≡ None;
+  home : l.seat.me.0.lent ≡ [];
   count : length l.seat.me.0.callers + length l.passes.items ≡ l.self.layout.callers;
-  others : All (λ p. IsOf l.self p × IsIdle p.errand) l.passes.items;
+  others : All (λ p. IsOf l.self p × IsIdle p.errand × (p.out ≡ 0)) l.passes.items;
   idle : All (λ x. IsIdle x.errand) l.seat.me.0.callers;
   won_is : l.won ≡ min (sum_by (λ x. x.errand.won) l.seat.me.0.callers) (2 ^ 64 - 1);
   lost_is : l.lost ≡ min (sum_by (λ x. x.errand.lost) l.seat.me.0.callers) (2 ^ 64 - 1);

@@ -3,7 +3,7 @@ use Rattle.word_table.specs.declared.name.WordName.TheVariants.{Arena}
 use Rattle.placed_words.proofs.KindLemmas.{start-place}
 use Rattle.errand_steps.specs.Calls.{begun_by, read}
 use Rattle.errand_steps.specs.Errands.{ErrandFields}
-use Rattle.live_heap.specs.Sights.{IsBegun}
+use Rattle.live_heap.specs.Sights.{AreApart, IsBegun}
 use Rattle.live_heap.proofs.Actions.{may-load}
 use Rattle.live_heap.proofs.Straight.{arena-short, read-busy, read-plan, read-ready}
 use Rattle.live_heap.proofs.heap.Heap.load_word.Goals as goal
@@ -17,5 +17,5 @@ load-requires g c =
       c.start-start.ensures,
       c.payload-word.ensures.within,
       may-load h.table.shared.key h.layout h.table.shared.id.words c.args.seat.now.id c.args.seat.now.me r.sight.before g.E.Doing.errand e (Arena (c.args.place + 1 + c.args.i))
-          c.payload-word.result h.laid.1 (sym r.named) h.checked r.sight.one (subst (λ (f : ErrandFields). IsBegun c.args.seat.now.me.0.seen r.sight.before.errand f) r.named r.sight.begun) (read-busy c.args._errand.now c.args.place c.args._need c.args.i) (read-ready h.layout c.args._errand.now c.args.place c.args._need c.args.i c.args.seat.now.me.0) (c.payload-word.ensures.place ∙ start-place h.layout (Arena (c.args.place + 1 + c.args.i)) h.checked r.inside) (read-plan c.args._errand.now c.args.place c.args._need c.args.i (arena-short h.layout _ h.checked r.inside)),
+          c.payload-word.result h.laid.1 (sym r.named) h.checked r.sight.one (subst (AreApart c.args.seat.now.me.0) r.named r.sight.apart) (subst (λ (f : ErrandFields). IsBegun c.args.seat.now.me.0.seen r.sight.before.errand f) r.named r.sight.begun) (read-busy c.args._errand.now c.args.place c.args._need c.args.i) (read-ready h.layout c.args._errand.now c.args.place c.args._need c.args.i c.args.seat.now.me.0) (c.payload-word.ensures.place ∙ start-place h.layout (Arena (c.args.place + 1 + c.args.i)) h.checked r.inside) (read-plan c.args._errand.now c.args.place c.args._need c.args.i (arena-short h.layout _ h.checked r.inside)),
     )

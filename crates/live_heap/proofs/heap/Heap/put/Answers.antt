@@ -51,7 +51,7 @@ returns-in-Done-Full-clause-full c =
     other-calling p b call c.begin_put.ensures.begun c.requires.idle (heap-block c.args.self.now p block c.requires.of c.requires.owned) (λ words is. cc) in
     let end = c.in-Done-Full in
     put-full p b c.step.new.pass block c.args.shelf c.step.result (record { block = end.block; found = end.found })
-    (end.is ∙ ap Done end.field-0-is) (c.step.ensures.busy calling.busy) calling
+    (end.is ∙ ap Done end.field-0-is) (c.step.ensures.busy calling.busy) calling c.requires.owned.1
 
 pub returns-in-Done-Full-clause-put : goal.returns-in-Done-Full-clause-put
 returns-in-Done-Full-clause-put c = search rules

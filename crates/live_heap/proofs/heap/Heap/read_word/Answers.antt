@@ -5,6 +5,7 @@ use Rattle.errand_steps.specs.declared.told.Stepped.TheVariants as step
 use Rattle.errand_steps.specs.Calls.{Call, begun_by, read}
 use Rattle.live_heap.specs.declared.pass.Pass.{Pass}
 use Rattle.live_heap.specs.Going.{in_call}
+use Rattle.live_heap.specs.Passes.{IsHome}
 use Rattle.live_heap.specs.Sights.{found_in}
 use Rattle.live_heap.proofs.Begun.{heap-at, of-laid}
 use Rattle.live_heap.proofs.CallsOne.{read-contents}
@@ -16,12 +17,12 @@ load_word-requires-clause-inside c =
     let h = c.args.self.now in
     let p = c.args.pass.now in
     subst (λ g. c.args.place + 1 + c.args.i < arena_words g) (of-laid h p c.requires.of)
-    (payload-within p.errand.geometry c.args.place c.args.need c.args.i (heap-at h p c.args.place c.args.need c.requires.of c.requires.owned) c.requires.word)
+    (payload-within p.errand.geometry c.args.place c.args.need c.args.i (heap-at h p c.args.place c.args.need c.requires.of c.requires.owned.0) c.requires.word)
 
 pub load_word-requires-clause-sight : goal.load_word-requires-clause-sight
 load_word-requires-clause-sight c =
     call-sight c.args.self.now c.args.pass.now (read c.args.place c.args.need c.args.i) c.requires.of c.requires.idle
-    (record { block = c.requires.owned }, c.requires.word)
+    (record { block = c.requires.owned.0 }, c.requires.word) (λ at same. subst (IsHome c.args.pass.now) same c.requires.owned.1)
 
 pub returns : goal.returns
 returns c =
@@ -30,14 +31,14 @@ returns c =
     let place = c.args.place in
     let need = c.args.need in
     let call : Call = read place need c.args.i in
-    let q : Pass = record { seat = c.load_word.new.seat; errand = p.errand } in
+    let q : Pass = record { seat = c.load_word.new.seat; errand = p.errand; out = p.out } in
     let e = c.load_word.ensures in
     let word = c.load_word.result in
     let x = found_in (begun_by p.errand call) word in
     let w =
-    ends-at_once h p q call word (ending.Word word) c.requires.of c.requires.idle (record { block = c.requires.owned }, c.requires.word)
-    (heap-at h p place need c.requires.of c.requires.owned) (λ words is. cc) (read-settles p.errand place need c.args.i x c.requires.idle)
-    (read-answers p.errand place need c.args.i x) tt e.step e.seat.0 e.seat.1 in
+    ends-at_once h p q call word (ending.Word word) c.requires.of c.requires.idle (record { block = c.requires.owned.0 }, c.requires.word)
+    (λ at same. subst (IsHome p) same c.requires.owned.1) (heap-at h p place need c.requires.of c.requires.owned.0) (λ words is. cc) (read-settles p.errand place need c.args.i x c.requires.idle)
+    (read-answers p.errand place need c.args.i x) tt e.step e.seat.0 e.seat.1 refl in
     record {
       called = w.called;
       owned = c.requires.owned;

@@ -12,42 +12,42 @@ go_on-requires-clause-busy g c = let j = c.requires.1 in subst IsBusy (sym j.sta
 
 pub unreachable-requires : goal.unreachable-requires
 unreachable-requires g c =
-    let q : Pass = record { seat = c.args.pass.now.seat; errand = c.go_on.new.self } in
+    let q : Pass = record { seat = c.args.pass.now.seat; errand = c.go_on.new.self; out = c.args.pass.now.out } in
     let t = c.go_on.ensures in
-    joins-never c.args.self.now g.start c.args.tries _ c.args.pass.now c.requires.1 q c.go_on.result refl t.errand t.answer c.in-Idle.is
+    joins-never c.args.self.now g.start c.args.tries _ c.args.pass.now c.requires.1 q c.go_on.result refl refl t.errand t.answer c.in-Idle.is
 
 pub drive-requires : goal.drive-requires
 drive-requires g c =
-    let q : Pass = record { seat = c.args.pass.now.seat; errand = c.go_on.new.self } in
+    let q : Pass = record { seat = c.args.pass.now.seat; errand = c.go_on.new.self; out = c.args.pass.now.out } in
     let t = c.go_on.ensures in (
-      joins-of c.args.self.now g.start c.args.tries _ c.args.pass.now c.requires.1 q c.go_on.result refl t.errand t.answer,
-      joins-more c.args.self.now g.start c.args.tries _ c.args.pass.now c.requires.1 q c.go_on.result refl t.errand t.answer c.requires.0 c.in-More.is,
+      joins-of c.args.self.now g.start c.args.tries _ c.args.pass.now c.requires.1 q c.go_on.result refl refl t.errand t.answer,
+      joins-more c.args.self.now g.start c.args.tries _ c.args.pass.now c.requires.1 q c.go_on.result refl refl t.errand t.answer c.requires.0 c.in-More.is,
     )
 
 pub drive-requires-in-Lost : goal.drive-requires-in-Lost
 drive-requires-in-Lost g c =
-    let q : Pass = record { seat = c.args.pass.now.seat; errand = c.go_on.new.self } in
+    let q : Pass = record { seat = c.args.pass.now.seat; errand = c.go_on.new.self; out = c.args.pass.now.out } in
     let t = c.go_on.ensures in (
-      joins-of c.args.self.now g.start c.args.tries _ c.args.pass.now c.requires.1 q c.go_on.result refl t.errand t.answer,
-      joins-lost c.args.self.now g.start c.args.tries _ c.args.pass.now c.requires.1 q c.go_on.result refl t.errand t.answer c.requires.0 c.in-Lost.is,
+      joins-of c.args.self.now g.start c.args.tries _ c.args.pass.now c.requires.1 q c.go_on.result refl refl t.errand t.answer,
+      joins-lost c.args.self.now g.start c.args.tries _ c.args.pass.now c.requires.1 q c.go_on.result refl refl t.errand t.answer c.requires.0 c.in-Lost.is,
     )
 
 pub drive-requires-in-Cleared : goal.drive-requires-in-Cleared
 drive-requires-in-Cleared g c =
-    let q : Pass = record { seat = c.args.pass.now.seat; errand = c.go_on.new.self } in
+    let q : Pass = record { seat = c.args.pass.now.seat; errand = c.go_on.new.self; out = c.args.pass.now.out } in
     let t = c.go_on.ensures in (
-      joins-of c.args.self.now g.start c.args.tries _ c.args.pass.now c.requires.1 q c.go_on.result refl t.errand t.answer,
-      joins-cleared c.args.self.now g.start c.args.tries _ c.args.pass.now c.requires.1 q c.go_on.result refl t.errand t.answer c.requires.0 c.in-Cleared.is,
+      joins-of c.args.self.now g.start c.args.tries _ c.args.pass.now c.requires.1 q c.go_on.result refl refl t.errand t.answer,
+      joins-cleared c.args.self.now g.start c.args.tries _ c.args.pass.now c.requires.1 q c.go_on.result refl refl t.errand t.answer c.requires.0 c.in-Cleared.is,
     )
 
 pub ended-requires : goal.ended-requires
 ended-requires g c =
-    let q : Pass = record { seat = c.args.pass.now.seat; errand = c.go_on.new.self } in
+    let q : Pass = record { seat = c.args.pass.now.seat; errand = c.go_on.new.self; out = c.args.pass.now.out } in
     let t = c.go_on.ensures in
-    joins-tellable c.args.self.now g.start c.args.tries _ c.args.pass.now c.requires.1 q c.go_on.result refl t.errand t.answer c.in-Done.reply c.in-Done.is
+    joins-tellable c.args.self.now g.start c.args.tries _ c.args.pass.now c.requires.1 q c.go_on.result refl refl t.errand t.answer c.in-Done.reply c.in-Done.is
 
 pub returns-in-Done : goal.returns-in-Done
 returns-in-Done g c =
-    let q : Pass = record { seat = c.args.pass.now.seat; errand = c.go_on.new.self } in
+    let q : Pass = record { seat = c.args.pass.now.seat; errand = c.go_on.new.self; out = c.args.pass.now.out } in
     let t = c.go_on.ensures in
-    joins-ends c.args.self.now g.start c.args.tries _ c.args.pass.now c.requires.1 q c.go_on.result refl t.errand t.answer c.requires.0 c.in-Done.reply c.in-Done.is c.ended.result c.ended.ensures.reply
+    joins-ends c.args.self.now g.start c.args.tries _ c.args.pass.now c.requires.1 q c.go_on.result refl refl t.errand t.answer c.requires.0 c.in-Done.reply c.in-Done.is c.ended.result c.ended.ensures.reply

@@ -27,8 +27,8 @@ returns-in-Some-clause-tells c =
     subst (G r.first r.call r.steps) c.in-Some.is (c.go_on.ensures.goes r.first r.call r.steps r.calling) in
     let all = ends.called.ended.ended in
     let tried = ending-of_tried r.call c.in-Some.ending all.0 r.tried all.1 in
-    λ first call made calling.
+    λ first call made was calling.
     let T : Resumed → Type 0 = λ a. ResumeTells first call made p c.args.tries a q in
     subst T (sym c.resumed_ended.ensures)
-    (resume-tells first call made p c.args.tries c.in-Some.ending q tried
+    (resume-tells c.args.self.now first call made p c.args.tries c.in-Some.ending q was c.go_on.ensures.of tried
     (subst (G first call made) c.in-Some.is (c.go_on.ensures.goes first call made calling)))

@@ -1,4 +1,4 @@
-use Rattle.std.proofs.Common.{ap, sym, ◌∙◌, subst}
+use Rattle.std.proofs.Common.{ap, sym, ◌∙◌, subst, refl}
 use Rattle.atomic_region.specs.Region.{Me}
 use Rattle.word_table.specs.Actions.{name_of}
 use Rattle.word_table.specs.Table.{Exists}
@@ -43,7 +43,7 @@ pub told-requires : goal.told-requires
 told-requires c =
     let s = found-from c.args.pass.now.errand c.act-found.result c.args.pass.now.seat.me c.make_ready.new.seat.me c.act-found.new.seat.me.0 c.make_ready.ensures.knows
     c.requires.settled c.act-found.ensures.step in
-    let q : Pass = record { seat = c.act-found.new.seat; errand = c.go_on-progress.new.self } in
+    let q : Pass = record { seat = c.act-found.new.seat; errand = c.go_on-progress.new.self; out = c.args.pass.now.out } in
     let m = took-step c.args.pass.now q s.0 c.go_on-progress.result (c.go_on-progress.ensures.errand ∙ s.2) (c.go_on-progress.ensures.answer ∙ s.3) s.1 in
     subst (λ o. IsTellable o c.go_on-progress.result) (sym c.offered-offer.ensures) (moment-tellable _ _ _ _ _ m)
 
@@ -52,9 +52,9 @@ returns-clause-of c =
     let d = c.act-found.ensures in
     let s = found-from c.args.pass.now.errand c.act-found.result c.args.pass.now.seat.me c.make_ready.new.seat.me c.act-found.new.seat.me.0 c.make_ready.ensures.knows
     c.requires.settled c.act-found.ensures.step in
-    let q : Pass = record { seat = c.act-found.new.seat; errand = c.go_on-progress.new.self } in
+    let q : Pass = record { seat = c.act-found.new.seat; errand = c.go_on-progress.new.self; out = c.args.pass.now.out } in
     still-of c.args.self.now c.args.pass.now q s.0 c.requires (d.seat.0 ∙ c.make_ready.ensures.region)
-    (d.seat.1 ∙ ap (λ (m : Me View). m.1) c.make_ready.ensures.knows ∙ sym c.requires.empty) (c.go_on-progress.ensures.errand ∙ s.2) s.1
+    (d.seat.1 ∙ ap (λ (m : Me View). m.1) c.make_ready.ensures.knows ∙ sym c.requires.empty) refl (c.go_on-progress.ensures.errand ∙ s.2) s.1
 
 pub returns-clause-caller : goal.returns-clause-caller
 returns-clause-caller c =
@@ -66,7 +66,7 @@ pub returns-clause-busy : goal.returns-clause-busy
 returns-clause-busy c =
     let s = found-from c.args.pass.now.errand c.act-found.result c.args.pass.now.seat.me c.make_ready.new.seat.me c.act-found.new.seat.me.0 c.make_ready.ensures.knows
     c.requires.settled c.act-found.ensures.step in
-    let q : Pass = record { seat = c.act-found.new.seat; errand = c.go_on-progress.new.self } in
+    let q : Pass = record { seat = c.act-found.new.seat; errand = c.go_on-progress.new.self; out = c.args.pass.now.out } in
     let m = took-step c.args.pass.now q s.0 c.go_on-progress.result (c.go_on-progress.ensures.errand ∙ s.2) (c.go_on-progress.ensures.answer ∙ s.3) s.1 in
     λ busy.
     has-stepped c.args.pass.now q c.go_on-progress.result c.told.result m (took-access c.args.pass.now.errand c.args.pass.now q s.0 s.1) c.told.ensures.progress

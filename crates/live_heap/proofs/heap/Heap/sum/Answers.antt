@@ -6,7 +6,7 @@ use Rattle.call_events.specs.Made.{LeadsBy, found_from}
 use Rattle.live_heap.specs.Words.{CallsOnWord}
 use Rattle.call_events.proofs.MadeLemmas.{found-more, leads-more, sum-one}
 use Rattle.live_heap.proofs.MadeLemmas.{word-whole}
-use Rattle.live_heap.proofs.WholeLaws.{pass-keeps}
+use Rattle.live_heap.proofs.WholeLaws.{whole-keeps}
 use Rattle.live_heap.proofs.heap.Heap.sum.Goals as goal
 
 pub read_word-total-requires-clause-owned : goal.read_word-total-requires-clause-owned
@@ -29,7 +29,8 @@ loop-i-preserved c =
       of = one.of;
       idle = one.called.idle;
       keeps = λ other owned.
-          pass-keeps h h p q call answer other.place other.need (word-whole h p q call answer one) tt (c.loop-i.invariant.keeps other owned);
+          whole-keeps h h p q call answer other.place other.need (word-whole h p q call answer one) tt (c.loop-i.invariant.keeps other owned);
+      lent = one.called.lent ∙ c.loop-i.invariant.lent;
       accesses = omega (arith, one.called.accesses, c.loop-i.invariant.accesses);
       sums = (
         sums.0 ++ word ∷ [],

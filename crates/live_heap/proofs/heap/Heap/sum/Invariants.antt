@@ -3,7 +3,7 @@ use Rattle.std.specs.Prelude.{sum}
 use Rattle.errand_steps.specs.Begins.{IsIdle}
 use Rattle.live_heap.specs.declared.block.Block.{Block}
 use Rattle.call_events.specs.Made.{LeadsBy, found_from}
-use Rattle.live_heap.specs.Passes.{IsOf, Owns, accesses}
+use Rattle.live_heap.specs.Passes.{IsOf, Owns, accesses, view}
 use Rattle.live_heap.specs.Words.{CallsOnWord}
 use Rattle.live_heap.proofs.heap.Heap.sum.Given as goal
 
@@ -12,6 +12,7 @@ invariant-loop-i l = record {
   of : IsOf l.self l.pass;
   idle : IsIdle l.pass.errand;
   keeps : (other : Block) → Owns l.fn.pass other → Owns l.pass other;
+  lent : (view l.pass).lent ≡ (view l.fn.pass).lent;
   accesses : accesses l.pass ≡ l.i + accesses l.fn.pass;
   sums :
       (words : List ℕ) × (length words ≡ l.i) × (l.total ≡ sum words % 2 ^ 64)

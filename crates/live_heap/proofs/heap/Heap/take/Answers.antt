@@ -54,7 +54,7 @@ returns-in-Done-Got-clause-tells c =
     let on = take-goes_on p b a c.args.shelf c.step.result begun (c.step.ensures.busy calling.busy) calling in
     let end = c.in-Done-Got in
     let called = ends-one p call 1 a q c.step-2.result (Got end.block) (end.is ∙ ap Done end.field-0-is) (c.step-2.ensures.busy on.0.busy) on.0 in
-    (called, got-owns p call 1 q end.block called)
+    (called, got-owns p call 1 q c.args.self.now c.requires.of c.step-2.ensures.of end.block called)
 
 pub returns-in-Done-Empty-clause-tells : goal.returns-in-Done-Empty-clause-tells
 returns-in-Done-Empty-clause-tells c =

@@ -8,5 +8,9 @@ returns-clause-called c =
     let e = c.args.self.now in
     let from = c.args.from.now in
     let to = c.args.to.now in
-    let copies = c.copy_words.ensures.copied in
-    (copies.0, copies.1, passes-lead e e.pass.now c.copy_words.new.pass (copied from.place from.need to.place to.need copies.0 (usable_words to.need)) copies.2)
+    let copies = c.copy_words.ensures.copied in (
+      copies.0,
+      copies.1,
+      passes-lead e e.pass.now c.copy_words.new.pass (copied from.place from.need to.place to.need copies.0 (usable_words to.need))
+          c.requires.stands.0 copies.2,
+    )

@@ -7,4 +7,4 @@ pub returns-clause-called : goal.returns-clause-called
 returns-clause-called c =
     let e = c.args.self.now in
     let b = c.args.held.now in
-    words-lead e e.pass.now c.fill.new.pass (wrote b.place b.need c.args.from (usable_words b.need)) c.fill.ensures.wrote
+    words-lead e e.pass.now c.fill.new.pass (wrote b.place b.need c.args.from (usable_words b.need)) c.requires.stands.0 c.fill.ensures.wrote

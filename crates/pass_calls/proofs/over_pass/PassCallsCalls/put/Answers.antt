@@ -11,5 +11,5 @@ returns-in-Err-clause-called c =
       ap (λ (b : Block). b.need) full.same,
       subst (Owns c.put.new.pass) full.same full.owned,
       c.in-Err.full.found,
-      (by_steps (0, full.called), c.requires.owned, refl, (c.put.ensures.of, full.called.idle)),
+      (c.requires.stands.0, (by_steps (0, full.called), c.requires.owned, refl, (c.put.ensures.of, full.called.idle))),
     )

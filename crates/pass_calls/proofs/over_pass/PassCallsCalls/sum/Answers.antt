@@ -7,4 +7,4 @@ returns-clause-called c =
     let e = c.args.self.now in
     let b = c.args.held.now in
     let sums = c.sum.ensures.sums in
-    (sums.0, sums.1, sums.2, words-lead e e.pass.now c.sum.new.pass (found_from b.place b.need 0 sums.0) sums.3)
+    (sums.0, sums.1, sums.2, words-lead e e.pass.now c.sum.new.pass (found_from b.place b.need 0 sums.0) c.requires.stands.0 sums.3)

@@ -43,3 +43,20 @@ returns-then-len-geometry-clause-missing c is own receipt =
     let found : HasGathered h own passes =
     gathered-same c.args.self.places.shared.key h own passes c.args.self.table c.args.self.layout (c.in-Ok.ensures own receipt.laid) in
     lacks-one h own passes found (receipt.given.0.served.checked.callers.1) (λ same. c.if-len-geometry.true (omega (arith, many, c.len.ensures, same)))
+
+pub returns-clause-words_out : goal.returns-clause-words_out
+returns-clause-words_out c is own receipt =
+    let many = ap (λ (g : Geometry). g.callers) c.geometry.ensures.value in
+    let h = c.args.self.heap in
+    let passes = c.in-Ok.passes.items in
+    let found : HasGathered h own passes =
+    gathered-same c.args.self.places.shared.key h own passes c.args.self.table c.args.self.layout (c.in-Ok.ensures own receipt.laid) in
+    let all : length passes ≡ h.layout.callers = omega (arith, many, c.len.ensures, c.if-len-geometry.false) in
+    record {
+      passes = passes;
+      state = found.state;
+      stood = found.stood;
+      lie = found.lie;
+      all = all-idle h own passes found all;
+      out = c.in-Err.ensures.kept.2;
+    }

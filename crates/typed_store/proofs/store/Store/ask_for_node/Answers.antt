@@ -11,26 +11,26 @@ pub link-requires-clause-exactly : goal.link-requires-clause-exactly
 link-requires-clause-exactly c =
     let s = c.args.self.now in
     let e = c.in-Given.ensures in
-    (given-to c.args.heap.now s.pass c.alloc.new.pass 3 e.tells.0.steps (blocks_of s) c.in-Given.block e.of e.tells.0.called c.requires.ready.exactly).exactly
+    (given-to c.args.heap.now s.pass c.alloc.new.pass 3 e.tells.0.steps (blocks_of s) c.in-Given.block c.requires.ready.of e.of e.tells.0.called c.requires.ready.exactly).exactly
 
 pub link-requires-clause-words : goal.link-requires-clause-words
 link-requires-clause-words c =
     let s = c.args.self.now in
     let e = c.in-Given.ensures in
-    (given-to c.args.heap.now s.pass c.alloc.new.pass 3 e.tells.0.steps (blocks_of s) c.in-Given.block e.of e.tells.0.called c.requires.ready.exactly).enough
+    (given-to c.args.heap.now s.pass c.alloc.new.pass 3 e.tells.0.steps (blocks_of s) c.in-Given.block c.requires.ready.of e.of e.tells.0.called c.requires.ready.exactly).enough
 
 pub link-requires-clause-blank : goal.link-requires-clause-blank
 link-requires-clause-blank c =
     let s = c.args.self.now in
     let e = c.in-Given.ensures in
-    (given-to c.args.heap.now s.pass c.alloc.new.pass 3 e.tells.0.steps (blocks_of s) c.in-Given.block e.of e.tells.0.called c.requires.ready.exactly).blank
+    (given-to c.args.heap.now s.pass c.alloc.new.pass 3 e.tells.0.steps (blocks_of s) c.in-Given.block c.requires.ready.of e.of e.tells.0.called c.requires.ready.exactly).blank
 
 pub link-requires-clause-built : goal.link-requires-clause-built
 link-requires-clause-built c =
     let s = c.args.self.now in
     let e = c.in-Given.ensures in
     let g =
-    given-to c.args.heap.now s.pass c.alloc.new.pass 3 e.tells.0.steps (blocks_of s) c.in-Given.block e.of e.tells.0.called c.requires.ready.exactly in
+    given-to c.args.heap.now s.pass c.alloc.new.pass 3 e.tells.0.steps (blocks_of s) c.in-Given.block c.requires.ready.of e.of e.tells.0.called c.requires.ready.exactly in
     built-stays s c.alloc.new.pass s.pending g.same c.requires.ready.built
 
 pub returns-in-Given-clause-list : goal.returns-in-Given-clause-list
@@ -38,7 +38,7 @@ returns-in-Given-clause-list c = λ pairs has.
     let s = c.args.self.now in
     let e = c.in-Given.ensures in
     let g =
-    given-to c.args.heap.now s.pass c.alloc.new.pass 3 e.tells.0.steps (blocks_of s) c.in-Given.block e.of e.tells.0.called c.requires.ready.exactly in
+    given-to c.args.heap.now s.pass c.alloc.new.pass 3 e.tells.0.steps (blocks_of s) c.in-Given.block c.requires.ready.of e.of e.tells.0.called c.requires.ready.exactly in
     c.link.ensures.list pairs (list-stays s c.alloc.new.pass pairs g.same has)
 
 pub returns-in-Given-clause-records : goal.returns-in-Given-clause-records
@@ -46,7 +46,7 @@ returns-in-Given-clause-records c = λ records has.
     let s = c.args.self.now in
     let e = c.in-Given.ensures in
     let g =
-    given-to c.args.heap.now s.pass c.alloc.new.pass 3 e.tells.0.steps (blocks_of s) c.in-Given.block e.of e.tells.0.called c.requires.ready.exactly in
+    given-to c.args.heap.now s.pass c.alloc.new.pass 3 e.tells.0.steps (blocks_of s) c.in-Given.block c.requires.ready.of e.of e.tells.0.called c.requires.ready.exactly in
     c.link.ensures.records records (words-stay s c.alloc.new.pass records g.same has)
 
 pub returns-in-Refused-clause-left : goal.returns-in-Refused-clause-left
@@ -54,20 +54,20 @@ returns-in-Refused-clause-left c =
     let s = c.args.self.now in
     let e = c.in-Refused.ensures in
     ready-stays c.args.heap.now s c.alloc.new.pass c.requires.ready
-    (refused-stays c.args.heap.now s.pass c.alloc.new.pass 3 e.tells.steps e.of e.tells.called)
+    (refused-stays c.args.heap.now s.pass c.alloc.new.pass 3 e.tells.steps c.requires.ready.of e.of e.tells.called)
 
 pub returns-in-Refused-clause-list : goal.returns-in-Refused-clause-list
 returns-in-Refused-clause-list c = λ pairs has.
     let s = c.args.self.now in
     let e = c.in-Refused.ensures in
-    let r = refused-stays c.args.heap.now s.pass c.alloc.new.pass 3 e.tells.steps e.of e.tells.called in
+    let r = refused-stays c.args.heap.now s.pass c.alloc.new.pass 3 e.tells.steps c.requires.ready.of e.of e.tells.called in
     list-stays s c.alloc.new.pass pairs (same-all s.pass c.alloc.new.pass r.same (blocks_of s)) has
 
 pub returns-in-Refused-clause-records : goal.returns-in-Refused-clause-records
 returns-in-Refused-clause-records c = λ records has.
     let s = c.args.self.now in
     let e = c.in-Refused.ensures in
-    let r = refused-stays c.args.heap.now s.pass c.alloc.new.pass 3 e.tells.steps e.of e.tells.called in
+    let r = refused-stays c.args.heap.now s.pass c.alloc.new.pass 3 e.tells.steps c.requires.ready.of e.of e.tells.called in
     words-stay s c.alloc.new.pass records (same-all s.pass c.alloc.new.pass r.same (blocks_of s)) has
 
 pub returns-in-Spent-clause-left : goal.returns-in-Spent-clause-left
@@ -101,6 +101,7 @@ returns-in-Busy-clause-left c =
       record {
         of = e.of;
         first = s.pass;
+        was = ready.of;
         call = alloc 3;
         steps = suc e.tells.steps;
         calling = e.tells.calling;

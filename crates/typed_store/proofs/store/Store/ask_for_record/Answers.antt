@@ -11,13 +11,13 @@ pub file-requires-clause-exactly : goal.file-requires-clause-exactly
 file-requires-clause-exactly c =
     let s = c.args.self.now in
     let e = c.in-Given.ensures in
-    (given-to c.args.heap.now s.pass c.alloc.new.pass (length c.args.words.now + 1) e.tells.0.steps (blocks_of s) c.in-Given.block e.of e.tells.0.called c.requires.ready.exactly).exactly
+    (given-to c.args.heap.now s.pass c.alloc.new.pass (length c.args.words.now + 1) e.tells.0.steps (blocks_of s) c.in-Given.block c.requires.ready.of e.of e.tells.0.called c.requires.ready.exactly).exactly
 
 pub file-requires-clause-words : goal.file-requires-clause-words
 file-requires-clause-words c =
     let s = c.args.self.now in
     let e = c.in-Given.ensures in
-    let g = given-to c.args.heap.now s.pass c.alloc.new.pass (length c.args.words.now + 1) e.tells.0.steps (blocks_of s) c.in-Given.block e.of e.tells.0.called c.requires.ready.exactly in
+    let g = given-to c.args.heap.now s.pass c.alloc.new.pass (length c.args.words.now + 1) e.tells.0.steps (blocks_of s) c.in-Given.block c.requires.ready.of e.of e.tells.0.called c.requires.ready.exactly in
     omega (arith, g.enough)
 
 pub file-requires-clause-built : goal.file-requires-clause-built
@@ -25,7 +25,7 @@ file-requires-clause-built c =
     let s = c.args.self.now in
     let e = c.in-Given.ensures in
     let g =
-    given-to c.args.heap.now s.pass c.alloc.new.pass (length c.args.words.now + 1) e.tells.0.steps (blocks_of s) c.in-Given.block e.of e.tells.0.called c.requires.ready.exactly in
+    given-to c.args.heap.now s.pass c.alloc.new.pass (length c.args.words.now + 1) e.tells.0.steps (blocks_of s) c.in-Given.block c.requires.ready.of e.of e.tells.0.called c.requires.ready.exactly in
     built-stays s c.alloc.new.pass s.pending g.same c.requires.ready.built
 
 pub returns-in-Given-clause-list : goal.returns-in-Given-clause-list
@@ -33,7 +33,7 @@ returns-in-Given-clause-list c = λ pairs has.
     let s = c.args.self.now in
     let e = c.in-Given.ensures in
     let g =
-    given-to c.args.heap.now s.pass c.alloc.new.pass (length c.args.words.now + 1) e.tells.0.steps (blocks_of s) c.in-Given.block e.of e.tells.0.called c.requires.ready.exactly in
+    given-to c.args.heap.now s.pass c.alloc.new.pass (length c.args.words.now + 1) e.tells.0.steps (blocks_of s) c.in-Given.block c.requires.ready.of e.of e.tells.0.called c.requires.ready.exactly in
     c.file.ensures.list pairs (list-stays s c.alloc.new.pass pairs g.same has)
 
 pub returns-in-Given-clause-records : goal.returns-in-Given-clause-records
@@ -41,7 +41,7 @@ returns-in-Given-clause-records c = λ records has.
     let s = c.args.self.now in
     let e = c.in-Given.ensures in
     let g =
-    given-to c.args.heap.now s.pass c.alloc.new.pass (length c.args.words.now + 1) e.tells.0.steps (blocks_of s) c.in-Given.block e.of e.tells.0.called c.requires.ready.exactly in
+    given-to c.args.heap.now s.pass c.alloc.new.pass (length c.args.words.now + 1) e.tells.0.steps (blocks_of s) c.in-Given.block c.requires.ready.of e.of e.tells.0.called c.requires.ready.exactly in
     c.file.ensures.records records (words-stay s c.alloc.new.pass records g.same has)
 
 pub returns-in-Refused-clause-left : goal.returns-in-Refused-clause-left
@@ -49,20 +49,20 @@ returns-in-Refused-clause-left c =
     let s = c.args.self.now in
     let e = c.in-Refused.ensures in
     ready-stays c.args.heap.now s c.alloc.new.pass c.requires.ready
-    (refused-stays c.args.heap.now s.pass c.alloc.new.pass (length c.args.words.now + 1) e.tells.steps e.of e.tells.called)
+    (refused-stays c.args.heap.now s.pass c.alloc.new.pass (length c.args.words.now + 1) e.tells.steps c.requires.ready.of e.of e.tells.called)
 
 pub returns-in-Refused-clause-list : goal.returns-in-Refused-clause-list
 returns-in-Refused-clause-list c = λ pairs has.
     let s = c.args.self.now in
     let e = c.in-Refused.ensures in
-    let r = refused-stays c.args.heap.now s.pass c.alloc.new.pass (length c.args.words.now + 1) e.tells.steps e.of e.tells.called in
+    let r = refused-stays c.args.heap.now s.pass c.alloc.new.pass (length c.args.words.now + 1) e.tells.steps c.requires.ready.of e.of e.tells.called in
     list-stays s c.alloc.new.pass pairs (same-all s.pass c.alloc.new.pass r.same (blocks_of s)) has
 
 pub returns-in-Refused-clause-records : goal.returns-in-Refused-clause-records
 returns-in-Refused-clause-records c = λ records has.
     let s = c.args.self.now in
     let e = c.in-Refused.ensures in
-    let r = refused-stays c.args.heap.now s.pass c.alloc.new.pass (length c.args.words.now + 1) e.tells.steps e.of e.tells.called in
+    let r = refused-stays c.args.heap.now s.pass c.alloc.new.pass (length c.args.words.now + 1) e.tells.steps c.requires.ready.of e.of e.tells.called in
     words-stay s c.alloc.new.pass records (same-all s.pass c.alloc.new.pass r.same (blocks_of s)) has
 
 pub returns-in-Spent-clause-left : goal.returns-in-Spent-clause-left
@@ -96,6 +96,7 @@ returns-in-Busy-clause-left c =
       record {
         of = e.of;
         first = s.pass;
+        was = ready.of;
         call = alloc (length c.args.words.now + 1);
         steps = suc e.tells.steps;
         calling = e.tells.calling;

@@ -10,7 +10,7 @@ unreachable-requires c =
     let s = c.args.self.now in
     let u = c.requires.under_way in
     let f = frees c.args.heap.now s u c.requires.pending in
-    let t = c.in-Given.ensures.tells f.first (free f.block.place f.block.need) f.steps f.calling in
+    let t = c.in-Given.ensures.tells f.first (free f.block.place f.block.need) f.steps f.was f.calling in
     never f.first c.resume.new.pass (free f.block.place f.block.need) t.0.steps (reply.Given c.in-Given.field-0.place c.in-Given.field-0.need) refl t.0.called
 
 pub unreachable-requires-in-Refused : goal.unreachable-requires-in-Refused
@@ -18,7 +18,7 @@ unreachable-requires-in-Refused c =
     let s = c.args.self.now in
     let u = c.requires.under_way in
     let f = frees c.args.heap.now s u c.requires.pending in
-    let t = c.in-Refused.ensures.tells f.first (free f.block.place f.block.need) f.steps f.calling in
+    let t = c.in-Refused.ensures.tells f.first (free f.block.place f.block.need) f.steps f.was f.calling in
     never f.first c.resume.new.pass (free f.block.place f.block.need) t.steps (reply.Refused) refl t.called
 
 pub unreachable-requires-in-Spent : goal.unreachable-requires-in-Spent
@@ -26,7 +26,7 @@ unreachable-requires-in-Spent c =
     let s = c.args.self.now in
     let u = c.requires.under_way in
     let f = frees c.args.heap.now s u c.requires.pending in
-    let t = c.in-Spent.ensures.tells f.first (free f.block.place f.block.need) f.steps f.calling in
+    let t = c.in-Spent.ensures.tells f.first (free f.block.place f.block.need) f.steps f.was f.calling in
     never f.first c.resume.new.pass (free f.block.place f.block.need) t.0.steps (reply.Spent) refl t.0.called
 
 pub returns-in-Freed-clause-left : goal.returns-in-Freed-clause-left
@@ -35,7 +35,7 @@ returns-in-Freed-clause-left c =
     let u = c.requires.under_way in
     let f = frees c.args.heap.now s u c.requires.pending in
     let e = c.in-Freed.ensures in
-    let o = resumed-freed c.args.heap.now s c.args.tries c.resume.new.pass f u.of e.of u.built (e.tells f.first (free f.block.place f.block.need) f.steps f.calling) in
+    let o = resumed-freed c.args.heap.now s c.args.tries c.resume.new.pass f u.of e.of u.built (e.tells f.first (free f.block.place f.block.need) f.steps f.was f.calling) in
     o.ready
 
 pub returns-in-Freed-clause-list : goal.returns-in-Freed-clause-list
@@ -44,7 +44,7 @@ returns-in-Freed-clause-list c = λ pairs has.
     let u = c.requires.under_way in
     let f = frees c.args.heap.now s u c.requires.pending in
     let e = c.in-Freed.ensures in
-    let o = resumed-freed c.args.heap.now s c.args.tries c.resume.new.pass f u.of e.of u.built (e.tells f.first (free f.block.place f.block.need) f.steps f.calling) in
+    let o = resumed-freed c.args.heap.now s c.args.tries c.resume.new.pass f u.of e.of u.built (e.tells f.first (free f.block.place f.block.need) f.steps f.was f.calling) in
     list-stays s c.resume.new.pass pairs o.same has
 
 pub returns-in-Freed-clause-records : goal.returns-in-Freed-clause-records
@@ -53,7 +53,7 @@ returns-in-Freed-clause-records c = λ records has.
     let u = c.requires.under_way in
     let f = frees c.args.heap.now s u c.requires.pending in
     let e = c.in-Freed.ensures in
-    let o = resumed-freed c.args.heap.now s c.args.tries c.resume.new.pass f u.of e.of u.built (e.tells f.first (free f.block.place f.block.need) f.steps f.calling) in
+    let o = resumed-freed c.args.heap.now s c.args.tries c.resume.new.pass f u.of e.of u.built (e.tells f.first (free f.block.place f.block.need) f.steps f.was f.calling) in
     words-stay s c.resume.new.pass records o.same has
 
 pub returns-in-Busy-clause-left : goal.returns-in-Busy-clause-left
@@ -62,8 +62,8 @@ returns-in-Busy-clause-left c =
     let u = c.requires.under_way in
     let f = frees c.args.heap.now s u c.requires.pending in
     let e = c.in-Busy.ensures in
-    let same = freed-again c.args.heap.now s c.args.tries c.resume.new.pass f u.of e.of (e.tells f.first (free f.block.place f.block.need) f.steps f.calling) in
-    (busy-on c.args.heap.now s c.args.tries c.resume.new.pass u same e.of (e.tells u.first u.call u.steps u.calling), c.requires.pending)
+    let same = freed-again c.args.heap.now s c.args.tries c.resume.new.pass f u.of e.of (e.tells f.first (free f.block.place f.block.need) f.steps f.was f.calling) in
+    (busy-on c.args.heap.now s c.args.tries c.resume.new.pass u same e.of (e.tells u.first u.call u.steps u.was u.calling), c.requires.pending)
 
 pub returns-in-Busy-clause-list : goal.returns-in-Busy-clause-list
 returns-in-Busy-clause-list c = λ pairs has.
@@ -71,7 +71,7 @@ returns-in-Busy-clause-list c = λ pairs has.
     let u = c.requires.under_way in
     let f = frees c.args.heap.now s u c.requires.pending in
     let e = c.in-Busy.ensures in
-    let same = freed-again c.args.heap.now s c.args.tries c.resume.new.pass f u.of e.of (e.tells f.first (free f.block.place f.block.need) f.steps f.calling) in
+    let same = freed-again c.args.heap.now s c.args.tries c.resume.new.pass f u.of e.of (e.tells f.first (free f.block.place f.block.need) f.steps f.was f.calling) in
     list-stays s c.resume.new.pass pairs same has
 
 pub returns-in-Busy-clause-records : goal.returns-in-Busy-clause-records
@@ -80,5 +80,5 @@ returns-in-Busy-clause-records c = λ records has.
     let u = c.requires.under_way in
     let f = frees c.args.heap.now s u c.requires.pending in
     let e = c.in-Busy.ensures in
-    let same = freed-again c.args.heap.now s c.args.tries c.resume.new.pass f u.of e.of (e.tells f.first (free f.block.place f.block.need) f.steps f.calling) in
+    let same = freed-again c.args.heap.now s c.args.tries c.resume.new.pass f u.of e.of (e.tells f.first (free f.block.place f.block.need) f.steps f.was f.calling) in
     words-stay s c.resume.new.pass records same has

@@ -11,7 +11,7 @@ link-requires-clause-idle c =
     let u = c.requires.under_way in
     let a = (asks-pair c.args.heap.now s c.args.key c.args.value u c.requires.pending).0 in
     let e = c.in-Given.ensures in
-    let g = resumed-given c.args.heap.now s 3 c.args.tries c.in-Given.block c.resume.new.pass a u.of e.of (e.tells a.first (alloc 3) a.steps a.calling) in
+    let g = resumed-given c.args.heap.now s 3 c.args.tries c.in-Given.block c.resume.new.pass a u.of e.of (e.tells a.first (alloc 3) a.steps a.was a.calling) in
     g.idle
 
 pub link-requires-clause-exactly : goal.link-requires-clause-exactly
@@ -20,7 +20,7 @@ link-requires-clause-exactly c =
     let u = c.requires.under_way in
     let a = (asks-pair c.args.heap.now s c.args.key c.args.value u c.requires.pending).0 in
     let e = c.in-Given.ensures in
-    let g = resumed-given c.args.heap.now s 3 c.args.tries c.in-Given.block c.resume.new.pass a u.of e.of (e.tells a.first (alloc 3) a.steps a.calling) in
+    let g = resumed-given c.args.heap.now s 3 c.args.tries c.in-Given.block c.resume.new.pass a u.of e.of (e.tells a.first (alloc 3) a.steps a.was a.calling) in
     g.exactly
 
 pub link-requires-clause-words : goal.link-requires-clause-words
@@ -29,7 +29,7 @@ link-requires-clause-words c =
     let u = c.requires.under_way in
     let a = (asks-pair c.args.heap.now s c.args.key c.args.value u c.requires.pending).0 in
     let e = c.in-Given.ensures in
-    let g = resumed-given c.args.heap.now s 3 c.args.tries c.in-Given.block c.resume.new.pass a u.of e.of (e.tells a.first (alloc 3) a.steps a.calling) in
+    let g = resumed-given c.args.heap.now s 3 c.args.tries c.in-Given.block c.resume.new.pass a u.of e.of (e.tells a.first (alloc 3) a.steps a.was a.calling) in
     g.enough
 
 pub link-requires-clause-blank : goal.link-requires-clause-blank
@@ -38,7 +38,7 @@ link-requires-clause-blank c =
     let u = c.requires.under_way in
     let a = (asks-pair c.args.heap.now s c.args.key c.args.value u c.requires.pending).0 in
     let e = c.in-Given.ensures in
-    let g = resumed-given c.args.heap.now s 3 c.args.tries c.in-Given.block c.resume.new.pass a u.of e.of (e.tells a.first (alloc 3) a.steps a.calling) in
+    let g = resumed-given c.args.heap.now s 3 c.args.tries c.in-Given.block c.resume.new.pass a u.of e.of (e.tells a.first (alloc 3) a.steps a.was a.calling) in
     g.blank
 
 pub link-requires-clause-built : goal.link-requires-clause-built
@@ -47,7 +47,7 @@ link-requires-clause-built c =
     let u = c.requires.under_way in
     let a = (asks-pair c.args.heap.now s c.args.key c.args.value u c.requires.pending).0 in
     let e = c.in-Given.ensures in
-    let g = resumed-given c.args.heap.now s 3 c.args.tries c.in-Given.block c.resume.new.pass a u.of e.of (e.tells a.first (alloc 3) a.steps a.calling) in
+    let g = resumed-given c.args.heap.now s 3 c.args.tries c.in-Given.block c.resume.new.pass a u.of e.of (e.tells a.first (alloc 3) a.steps a.was a.calling) in
     built-stays s c.resume.new.pass s.pending g.same u.built
 
 pub link-requires-clause-room : goal.link-requires-clause-room
@@ -60,7 +60,7 @@ unreachable-requires c =
     let u = c.requires.under_way in
     let a = (asks-pair c.args.heap.now s c.args.key c.args.value u c.requires.pending).0 in
     let e = c.in-Freed.ensures in
-    let t = e.tells a.first (alloc 3) a.steps a.calling in
+    let t = e.tells a.first (alloc 3) a.steps a.was a.calling in
     never a.first c.resume.new.pass (alloc 3) t.steps reply.Freed refl t.called
 
 pub returns-in-Given-clause-list : goal.returns-in-Given-clause-list
@@ -69,7 +69,7 @@ returns-in-Given-clause-list c = λ pairs has.
     let u = c.requires.under_way in
     let a = (asks-pair c.args.heap.now s c.args.key c.args.value u c.requires.pending).0 in
     let e = c.in-Given.ensures in
-    let g = resumed-given c.args.heap.now s 3 c.args.tries c.in-Given.block c.resume.new.pass a u.of e.of (e.tells a.first (alloc 3) a.steps a.calling) in
+    let g = resumed-given c.args.heap.now s 3 c.args.tries c.in-Given.block c.resume.new.pass a u.of e.of (e.tells a.first (alloc 3) a.steps a.was a.calling) in
     c.link.ensures.list pairs (list-stays s c.resume.new.pass pairs g.same has)
 
 pub returns-in-Given-clause-records : goal.returns-in-Given-clause-records
@@ -78,7 +78,7 @@ returns-in-Given-clause-records c = λ records has.
     let u = c.requires.under_way in
     let a = (asks-pair c.args.heap.now s c.args.key c.args.value u c.requires.pending).0 in
     let e = c.in-Given.ensures in
-    let g = resumed-given c.args.heap.now s 3 c.args.tries c.in-Given.block c.resume.new.pass a u.of e.of (e.tells a.first (alloc 3) a.steps a.calling) in
+    let g = resumed-given c.args.heap.now s 3 c.args.tries c.in-Given.block c.resume.new.pass a u.of e.of (e.tells a.first (alloc 3) a.steps a.was a.calling) in
     c.link.ensures.records records (words-stay s c.resume.new.pass records g.same has)
 
 pub returns-in-Given-clause-cause : goal.returns-in-Given-clause-cause
@@ -91,7 +91,7 @@ returns-in-Refused-clause-left c =
     let u = c.requires.under_way in
     let a = (asks-pair c.args.heap.now s c.args.key c.args.value u c.requires.pending).0 in
     let e = c.in-Refused.ensures in
-    let o = resumed-refused c.args.heap.now s 3 c.args.tries c.resume.new.pass a u.of e.of u.built (e.tells a.first (alloc 3) a.steps a.calling) in
+    let o = resumed-refused c.args.heap.now s 3 c.args.tries c.resume.new.pass a u.of e.of u.built (e.tells a.first (alloc 3) a.steps a.was a.calling) in
     o.ready
 
 pub returns-in-Refused-clause-list : goal.returns-in-Refused-clause-list
@@ -100,7 +100,7 @@ returns-in-Refused-clause-list c = λ pairs has.
     let u = c.requires.under_way in
     let a = (asks-pair c.args.heap.now s c.args.key c.args.value u c.requires.pending).0 in
     let e = c.in-Refused.ensures in
-    let o = resumed-refused c.args.heap.now s 3 c.args.tries c.resume.new.pass a u.of e.of u.built (e.tells a.first (alloc 3) a.steps a.calling) in
+    let o = resumed-refused c.args.heap.now s 3 c.args.tries c.resume.new.pass a u.of e.of u.built (e.tells a.first (alloc 3) a.steps a.was a.calling) in
     list-stays s c.resume.new.pass pairs o.same has
 
 pub returns-in-Refused-clause-records : goal.returns-in-Refused-clause-records
@@ -109,7 +109,7 @@ returns-in-Refused-clause-records c = λ records has.
     let u = c.requires.under_way in
     let a = (asks-pair c.args.heap.now s c.args.key c.args.value u c.requires.pending).0 in
     let e = c.in-Refused.ensures in
-    let o = resumed-refused c.args.heap.now s 3 c.args.tries c.resume.new.pass a u.of e.of u.built (e.tells a.first (alloc 3) a.steps a.calling) in
+    let o = resumed-refused c.args.heap.now s 3 c.args.tries c.resume.new.pass a u.of e.of u.built (e.tells a.first (alloc 3) a.steps a.was a.calling) in
     words-stay s c.resume.new.pass records o.same has
 
 pub returns-in-Spent-clause-left : goal.returns-in-Spent-clause-left
@@ -118,7 +118,7 @@ returns-in-Spent-clause-left c =
     let u = c.requires.under_way in
     let a = (asks-pair c.args.heap.now s c.args.key c.args.value u c.requires.pending).0 in
     let e = c.in-Spent.ensures in
-    let o = resumed-spent c.args.heap.now s 3 c.args.tries c.resume.new.pass a u.of e.of u.built (e.tells a.first (alloc 3) a.steps a.calling) in
+    let o = resumed-spent c.args.heap.now s 3 c.args.tries c.resume.new.pass a u.of e.of u.built (e.tells a.first (alloc 3) a.steps a.was a.calling) in
     o.ready
 
 pub returns-in-Spent-clause-list : goal.returns-in-Spent-clause-list
@@ -127,7 +127,7 @@ returns-in-Spent-clause-list c = λ pairs has.
     let u = c.requires.under_way in
     let a = (asks-pair c.args.heap.now s c.args.key c.args.value u c.requires.pending).0 in
     let e = c.in-Spent.ensures in
-    let o = resumed-spent c.args.heap.now s 3 c.args.tries c.resume.new.pass a u.of e.of u.built (e.tells a.first (alloc 3) a.steps a.calling) in
+    let o = resumed-spent c.args.heap.now s 3 c.args.tries c.resume.new.pass a u.of e.of u.built (e.tells a.first (alloc 3) a.steps a.was a.calling) in
     list-stays s c.resume.new.pass pairs o.same has
 
 pub returns-in-Spent-clause-records : goal.returns-in-Spent-clause-records
@@ -136,7 +136,7 @@ returns-in-Spent-clause-records c = λ records has.
     let u = c.requires.under_way in
     let a = (asks-pair c.args.heap.now s c.args.key c.args.value u c.requires.pending).0 in
     let e = c.in-Spent.ensures in
-    let o = resumed-spent c.args.heap.now s 3 c.args.tries c.resume.new.pass a u.of e.of u.built (e.tells a.first (alloc 3) a.steps a.calling) in
+    let o = resumed-spent c.args.heap.now s 3 c.args.tries c.resume.new.pass a u.of e.of u.built (e.tells a.first (alloc 3) a.steps a.was a.calling) in
     words-stay s c.resume.new.pass records o.same has
 
 pub returns-in-Busy-clause-left : goal.returns-in-Busy-clause-left
@@ -145,8 +145,8 @@ returns-in-Busy-clause-left c =
     let u = c.requires.under_way in
     let a = (asks-pair c.args.heap.now s c.args.key c.args.value u c.requires.pending).0 in
     let e = c.in-Busy.ensures in
-    let same = asked-again c.args.heap.now s 3 c.args.tries c.resume.new.pass a u.of e.of (e.tells a.first (alloc 3) a.steps a.calling) in
-    (busy-on c.args.heap.now s c.args.tries c.resume.new.pass u same e.of (e.tells u.first u.call u.steps u.calling), c.requires.pending)
+    let same = asked-again c.args.heap.now s 3 c.args.tries c.resume.new.pass a u.of e.of (e.tells a.first (alloc 3) a.steps a.was a.calling) in
+    (busy-on c.args.heap.now s c.args.tries c.resume.new.pass u same e.of (e.tells u.first u.call u.steps u.was u.calling), c.requires.pending)
 
 pub returns-in-Busy-clause-list : goal.returns-in-Busy-clause-list
 returns-in-Busy-clause-list c = λ pairs has.
@@ -154,7 +154,7 @@ returns-in-Busy-clause-list c = λ pairs has.
     let u = c.requires.under_way in
     let a = (asks-pair c.args.heap.now s c.args.key c.args.value u c.requires.pending).0 in
     let e = c.in-Busy.ensures in
-    let same = asked-again c.args.heap.now s 3 c.args.tries c.resume.new.pass a u.of e.of (e.tells a.first (alloc 3) a.steps a.calling) in
+    let same = asked-again c.args.heap.now s 3 c.args.tries c.resume.new.pass a u.of e.of (e.tells a.first (alloc 3) a.steps a.was a.calling) in
     list-stays s c.resume.new.pass pairs same has
 
 pub returns-in-Busy-clause-records : goal.returns-in-Busy-clause-records
@@ -163,5 +163,5 @@ returns-in-Busy-clause-records c = λ records has.
     let u = c.requires.under_way in
     let a = (asks-pair c.args.heap.now s c.args.key c.args.value u c.requires.pending).0 in
     let e = c.in-Busy.ensures in
-    let same = asked-again c.args.heap.now s 3 c.args.tries c.resume.new.pass a u.of e.of (e.tells a.first (alloc 3) a.steps a.calling) in
+    let same = asked-again c.args.heap.now s 3 c.args.tries c.resume.new.pass a u.of e.of (e.tells a.first (alloc 3) a.steps a.was a.calling) in
     words-stay s c.resume.new.pass records same has

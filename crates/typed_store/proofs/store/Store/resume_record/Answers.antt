@@ -11,7 +11,7 @@ file-requires-clause-idle c =
     let u = c.requires.under_way in
     let a = (asks-record c.args.heap.now s (length c.args.words.now) u c.requires.pending).0 in
     let e = c.in-Given.ensures in
-    let g = resumed-given c.args.heap.now s (length c.args.words.now + 1) c.args.tries c.in-Given.block c.resume.new.pass a u.of e.of (e.tells a.first (alloc (length c.args.words.now + 1)) a.steps a.calling) in
+    let g = resumed-given c.args.heap.now s (length c.args.words.now + 1) c.args.tries c.in-Given.block c.resume.new.pass a u.of e.of (e.tells a.first (alloc (length c.args.words.now + 1)) a.steps a.was a.calling) in
     g.idle
 
 pub file-requires-clause-exactly : goal.file-requires-clause-exactly
@@ -20,7 +20,7 @@ file-requires-clause-exactly c =
     let u = c.requires.under_way in
     let a = (asks-record c.args.heap.now s (length c.args.words.now) u c.requires.pending).0 in
     let e = c.in-Given.ensures in
-    let g = resumed-given c.args.heap.now s (length c.args.words.now + 1) c.args.tries c.in-Given.block c.resume.new.pass a u.of e.of (e.tells a.first (alloc (length c.args.words.now + 1)) a.steps a.calling) in
+    let g = resumed-given c.args.heap.now s (length c.args.words.now + 1) c.args.tries c.in-Given.block c.resume.new.pass a u.of e.of (e.tells a.first (alloc (length c.args.words.now + 1)) a.steps a.was a.calling) in
     g.exactly
 
 pub file-requires-clause-words : goal.file-requires-clause-words
@@ -29,7 +29,7 @@ file-requires-clause-words c =
     let u = c.requires.under_way in
     let a = (asks-record c.args.heap.now s (length c.args.words.now) u c.requires.pending).0 in
     let e = c.in-Given.ensures in
-    let g = resumed-given c.args.heap.now s (length c.args.words.now + 1) c.args.tries c.in-Given.block c.resume.new.pass a u.of e.of (e.tells a.first (alloc (length c.args.words.now + 1)) a.steps a.calling) in
+    let g = resumed-given c.args.heap.now s (length c.args.words.now + 1) c.args.tries c.in-Given.block c.resume.new.pass a u.of e.of (e.tells a.first (alloc (length c.args.words.now + 1)) a.steps a.was a.calling) in
     omega (arith, g.enough)
 
 pub file-requires-clause-built : goal.file-requires-clause-built
@@ -38,7 +38,7 @@ file-requires-clause-built c =
     let u = c.requires.under_way in
     let a = (asks-record c.args.heap.now s (length c.args.words.now) u c.requires.pending).0 in
     let e = c.in-Given.ensures in
-    let g = resumed-given c.args.heap.now s (length c.args.words.now + 1) c.args.tries c.in-Given.block c.resume.new.pass a u.of e.of (e.tells a.first (alloc (length c.args.words.now + 1)) a.steps a.calling) in
+    let g = resumed-given c.args.heap.now s (length c.args.words.now + 1) c.args.tries c.in-Given.block c.resume.new.pass a u.of e.of (e.tells a.first (alloc (length c.args.words.now + 1)) a.steps a.was a.calling) in
     built-stays s c.resume.new.pass s.pending g.same u.built
 
 pub file-requires-clause-reserved : goal.file-requires-clause-reserved
@@ -55,7 +55,7 @@ unreachable-requires c =
     let u = c.requires.under_way in
     let a = (asks-record c.args.heap.now s (length c.args.words.now) u c.requires.pending).0 in
     let e = c.in-Freed.ensures in
-    let t = e.tells a.first (alloc (length c.args.words.now + 1)) a.steps a.calling in
+    let t = e.tells a.first (alloc (length c.args.words.now + 1)) a.steps a.was a.calling in
     never a.first c.resume.new.pass (alloc (length c.args.words.now + 1)) t.steps reply.Freed refl t.called
 
 pub returns-in-Given-clause-list : goal.returns-in-Given-clause-list
@@ -64,7 +64,7 @@ returns-in-Given-clause-list c = λ pairs has.
     let u = c.requires.under_way in
     let a = (asks-record c.args.heap.now s (length c.args.words.now) u c.requires.pending).0 in
     let e = c.in-Given.ensures in
-    let g = resumed-given c.args.heap.now s (length c.args.words.now + 1) c.args.tries c.in-Given.block c.resume.new.pass a u.of e.of (e.tells a.first (alloc (length c.args.words.now + 1)) a.steps a.calling) in
+    let g = resumed-given c.args.heap.now s (length c.args.words.now + 1) c.args.tries c.in-Given.block c.resume.new.pass a u.of e.of (e.tells a.first (alloc (length c.args.words.now + 1)) a.steps a.was a.calling) in
     c.file.ensures.list pairs (list-stays s c.resume.new.pass pairs g.same has)
 
 pub returns-in-Given-clause-records : goal.returns-in-Given-clause-records
@@ -73,7 +73,7 @@ returns-in-Given-clause-records c = λ records has.
     let u = c.requires.under_way in
     let a = (asks-record c.args.heap.now s (length c.args.words.now) u c.requires.pending).0 in
     let e = c.in-Given.ensures in
-    let g = resumed-given c.args.heap.now s (length c.args.words.now + 1) c.args.tries c.in-Given.block c.resume.new.pass a u.of e.of (e.tells a.first (alloc (length c.args.words.now + 1)) a.steps a.calling) in
+    let g = resumed-given c.args.heap.now s (length c.args.words.now + 1) c.args.tries c.in-Given.block c.resume.new.pass a u.of e.of (e.tells a.first (alloc (length c.args.words.now + 1)) a.steps a.was a.calling) in
     c.file.ensures.records records (words-stay s c.resume.new.pass records g.same has)
 
 pub returns-in-Given-clause-cause : goal.returns-in-Given-clause-cause
@@ -86,7 +86,7 @@ returns-in-Refused-clause-left c =
     let u = c.requires.under_way in
     let a = (asks-record c.args.heap.now s (length c.args.words.now) u c.requires.pending).0 in
     let e = c.in-Refused.ensures in
-    let o = resumed-refused c.args.heap.now s (length c.args.words.now + 1) c.args.tries c.resume.new.pass a u.of e.of u.built (e.tells a.first (alloc (length c.args.words.now + 1)) a.steps a.calling) in
+    let o = resumed-refused c.args.heap.now s (length c.args.words.now + 1) c.args.tries c.resume.new.pass a u.of e.of u.built (e.tells a.first (alloc (length c.args.words.now + 1)) a.steps a.was a.calling) in
     o.ready
 
 pub returns-in-Refused-clause-list : goal.returns-in-Refused-clause-list
@@ -95,7 +95,7 @@ returns-in-Refused-clause-list c = λ pairs has.
     let u = c.requires.under_way in
     let a = (asks-record c.args.heap.now s (length c.args.words.now) u c.requires.pending).0 in
     let e = c.in-Refused.ensures in
-    let o = resumed-refused c.args.heap.now s (length c.args.words.now + 1) c.args.tries c.resume.new.pass a u.of e.of u.built (e.tells a.first (alloc (length c.args.words.now + 1)) a.steps a.calling) in
+    let o = resumed-refused c.args.heap.now s (length c.args.words.now + 1) c.args.tries c.resume.new.pass a u.of e.of u.built (e.tells a.first (alloc (length c.args.words.now + 1)) a.steps a.was a.calling) in
     list-stays s c.resume.new.pass pairs o.same has
 
 pub returns-in-Refused-clause-records : goal.returns-in-Refused-clause-records
@@ -104,7 +104,7 @@ returns-in-Refused-clause-records c = λ records has.
     let u = c.requires.under_way in
     let a = (asks-record c.args.heap.now s (length c.args.words.now) u c.requires.pending).0 in
     let e = c.in-Refused.ensures in
-    let o = resumed-refused c.args.heap.now s (length c.args.words.now + 1) c.args.tries c.resume.new.pass a u.of e.of u.built (e.tells a.first (alloc (length c.args.words.now + 1)) a.steps a.calling) in
+    let o = resumed-refused c.args.heap.now s (length c.args.words.now + 1) c.args.tries c.resume.new.pass a u.of e.of u.built (e.tells a.first (alloc (length c.args.words.now + 1)) a.steps a.was a.calling) in
     words-stay s c.resume.new.pass records o.same has
 
 pub returns-in-Spent-clause-left : goal.returns-in-Spent-clause-left
@@ -113,7 +113,7 @@ returns-in-Spent-clause-left c =
     let u = c.requires.under_way in
     let a = (asks-record c.args.heap.now s (length c.args.words.now) u c.requires.pending).0 in
     let e = c.in-Spent.ensures in
-    let o = resumed-spent c.args.heap.now s (length c.args.words.now + 1) c.args.tries c.resume.new.pass a u.of e.of u.built (e.tells a.first (alloc (length c.args.words.now + 1)) a.steps a.calling) in
+    let o = resumed-spent c.args.heap.now s (length c.args.words.now + 1) c.args.tries c.resume.new.pass a u.of e.of u.built (e.tells a.first (alloc (length c.args.words.now + 1)) a.steps a.was a.calling) in
     o.ready
 
 pub returns-in-Spent-clause-list : goal.returns-in-Spent-clause-list
@@ -122,7 +122,7 @@ returns-in-Spent-clause-list c = λ pairs has.
     let u = c.requires.under_way in
     let a = (asks-record c.args.heap.now s (length c.args.words.now) u c.requires.pending).0 in
     let e = c.in-Spent.ensures in
-    let o = resumed-spent c.args.heap.now s (length c.args.words.now + 1) c.args.tries c.resume.new.pass a u.of e.of u.built (e.tells a.first (alloc (length c.args.words.now + 1)) a.steps a.calling) in
+    let o = resumed-spent c.args.heap.now s (length c.args.words.now + 1) c.args.tries c.resume.new.pass a u.of e.of u.built (e.tells a.first (alloc (length c.args.words.now + 1)) a.steps a.was a.calling) in
     list-stays s c.resume.new.pass pairs o.same has
 
 pub returns-in-Spent-clause-records : goal.returns-in-Spent-clause-records
@@ -131,7 +131,7 @@ returns-in-Spent-clause-records c = λ records has.
     let u = c.requires.under_way in
     let a = (asks-record c.args.heap.now s (length c.args.words.now) u c.requires.pending).0 in
     let e = c.in-Spent.ensures in
-    let o = resumed-spent c.args.heap.now s (length c.args.words.now + 1) c.args.tries c.resume.new.pass a u.of e.of u.built (e.tells a.first (alloc (length c.args.words.now + 1)) a.steps a.calling) in
+    let o = resumed-spent c.args.heap.now s (length c.args.words.now + 1) c.args.tries c.resume.new.pass a u.of e.of u.built (e.tells a.first (alloc (length c.args.words.now + 1)) a.steps a.was a.calling) in
     words-stay s c.resume.new.pass records o.same has
 
 pub returns-in-Busy-clause-left : goal.returns-in-Busy-clause-left
@@ -140,8 +140,8 @@ returns-in-Busy-clause-left c =
     let u = c.requires.under_way in
     let a = (asks-record c.args.heap.now s (length c.args.words.now) u c.requires.pending).0 in
     let e = c.in-Busy.ensures in
-    let same = asked-again c.args.heap.now s (length c.args.words.now + 1) c.args.tries c.resume.new.pass a u.of e.of (e.tells a.first (alloc (length c.args.words.now + 1)) a.steps a.calling) in
-    (busy-on c.args.heap.now s c.args.tries c.resume.new.pass u same e.of (e.tells u.first u.call u.steps u.calling), c.requires.pending)
+    let same = asked-again c.args.heap.now s (length c.args.words.now + 1) c.args.tries c.resume.new.pass a u.of e.of (e.tells a.first (alloc (length c.args.words.now + 1)) a.steps a.was a.calling) in
+    (busy-on c.args.heap.now s c.args.tries c.resume.new.pass u same e.of (e.tells u.first u.call u.steps u.was u.calling), c.requires.pending)
 
 pub returns-in-Busy-clause-list : goal.returns-in-Busy-clause-list
 returns-in-Busy-clause-list c = λ pairs has.
@@ -149,7 +149,7 @@ returns-in-Busy-clause-list c = λ pairs has.
     let u = c.requires.under_way in
     let a = (asks-record c.args.heap.now s (length c.args.words.now) u c.requires.pending).0 in
     let e = c.in-Busy.ensures in
-    let same = asked-again c.args.heap.now s (length c.args.words.now + 1) c.args.tries c.resume.new.pass a u.of e.of (e.tells a.first (alloc (length c.args.words.now + 1)) a.steps a.calling) in
+    let same = asked-again c.args.heap.now s (length c.args.words.now + 1) c.args.tries c.resume.new.pass a u.of e.of (e.tells a.first (alloc (length c.args.words.now + 1)) a.steps a.was a.calling) in
     list-stays s c.resume.new.pass pairs same has
 
 pub returns-in-Busy-clause-records : goal.returns-in-Busy-clause-records
@@ -158,5 +158,5 @@ returns-in-Busy-clause-records c = λ records has.
     let u = c.requires.under_way in
     let a = (asks-record c.args.heap.now s (length c.args.words.now) u c.requires.pending).0 in
     let e = c.in-Busy.ensures in
-    let same = asked-again c.args.heap.now s (length c.args.words.now + 1) c.args.tries c.resume.new.pass a u.of e.of (e.tells a.first (alloc (length c.args.words.now + 1)) a.steps a.calling) in
+    let same = asked-again c.args.heap.now s (length c.args.words.now + 1) c.args.tries c.resume.new.pass a u.of e.of (e.tells a.first (alloc (length c.args.words.now + 1)) a.steps a.was a.calling) in
     words-stay s c.resume.new.pass records same has

@@ -53,7 +53,7 @@ returns-in-Freed-clause-left c =
     let t : Store =
     record s { pass = c.relink.new.pass; slots = c.take_out-block.new.slots; unused = c.take_out-block.new.unused; head = c.relink.new.head; count = s.count - 1 } in
     let e = c.in-Freed.ensures in
-    freed-ready c.args.heap.now t c.take_out-block.result c.args.tries c.free.new.pass o.exactly o.built e.of e.tells
+    freed-ready c.args.heap.now t c.take_out-block.result c.args.tries c.free.new.pass c.relink.ensures.rests.of o.exactly o.built e.of e.tells
 
 pub returns-in-Freed-clause-list : goal.returns-in-Freed-clause-list
 returns-in-Freed-clause-list c = λ before after stands.
@@ -94,7 +94,7 @@ returns-in-Busy-clause-left c =
     let t : Store =
     record s { pass = c.relink.new.pass; slots = c.take_out-block.new.slots; unused = c.take_out-block.new.unused; head = c.relink.new.head; count = s.count - 1 } in
     let e = c.in-Busy.ensures in
-    (free-under-way c.args.heap.now t c.take_out-block.result c.args.tries c.free.new.pass o.exactly o.built e.of e.tells, refl)
+    (free-under-way c.args.heap.now t c.take_out-block.result c.args.tries c.free.new.pass c.relink.ensures.rests.of o.exactly o.built e.of e.tells, refl)
 
 pub returns-in-Busy-clause-list : goal.returns-in-Busy-clause-list
 returns-in-Busy-clause-list c = λ before after stands.

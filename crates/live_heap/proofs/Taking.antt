@@ -1,0 +1,276 @@
+-- The words of a block go out with a pass, and come back: what the pass is meanwhile and after.
+use Rattle.std.proofs.Common.{ℕ, zero, suc, ◌≡◌, ◌≢◌, ◌<◌, ◌+◌, ◌-◌, ◌^◌, List, [], ◌∷◌, ◌++◌, length, slice_index, refl, sym, ap, ◌∙◌, subst, arith}
+use Rattle.std.proofs.lemmas.List.{length-map}
+use mathlib.Core.Option.{some, some-injective}
+use lib.ListN.{get_elem?}
+use Rattle.heap_geometry.specs.declared.need.Need.{Need}
+use Rattle.heap_geometry.specs.Need.{usable_words}
+use Rattle.plain_words.specs.Places.{Place, laid, laids, numbers}
+use Rattle.atomic_region.specs.Region.{Me, Range, rest}
+use Rattle.atomic_region.specs.declared.shared.Seat.{Seat}
+use Rattle.errand_steps.specs.Begins.{IsIdle}
+use Rattle.call_events.specs.Made.{LeadsBy}
+use Rattle.owned_words.proofs.Concerned.{idle-concerned}
+use Rattle.step_machine.specs.Cores.{OwnsAfter}
+use Rattle.live_heap.specs.declared.heap.Heap.{Heap}
+use Rattle.live_heap.specs.declared.pass.Pass.{Pass}
+use Rattle.live_heap.specs.declared.view.Lent.{Lent}
+use Rattle.live_heap.specs.declared.view.View.{View}
+use Rattle.live_heap.specs.Lending.{HasLent, HasReturned, MayLend, MayReturn, TellsWritten, lent_block, with_lent}
+use Rattle.live_heap.specs.Memory.{IsTaken, all_but, before_taking, writes_from}
+use Rattle.live_heap.specs.Passes.{IsOf, OwnsAt, accesses, seen, view}
+use Rattle.live_heap.specs.Words.{CallsOnWord}
+use Rattle.live_heap.proofs.Gathering.{before-idle}
+use Rattle.live_heap.proofs.LayLemmas.{range-is}
+use Rattle.live_heap.proofs.OutBlocks.{all-but-first, all-but-is, cut-at, here-at, one-less, skip, skip-at, skip-once, skip-other, still-at}
+use Rattle.live_heap.proofs.WholeFill.{has-written, writes-lead}
+
+-- a pass in no call may take the words of its block out
+pub lends-own :
+    (h : Heap) (p : Pass) (place : ℕ) (need : Need) → IsOf h p → IsIdle p.errand → OwnsAt p place need → MayLend (view p) p.errand place need
+lends-own h p place need of idle owned = record {
+  before = of.before;
+  one = of.one;
+  stands = before-idle (seen p) of.before.errand p.errand of.begun idle;
+  idle = idle;
+  owned = owned.0;
+  home = owned.1;
+}
+
+-- the numbers of words that are laid with them
+pub numbers-laids : (ns : List ℕ) → numbers (laids ns) ≡ ns
+numbers-laids [] = refl
+numbers-laids (n ∷ ns) = ap (λ (l : List ℕ). n ∷ l) (numbers-laids ns)
+
+-- the words have gone out with the seat, and are lifted from it
+module _ (p : Pass) (place : ℕ) (need : Need) (me : Me View) (lent : HasLent place need (view p) me) (first : ℕ) (places : List Place)
+    (lifts : me.1 ≡ (first, places) ∷ rest me.1) where
+  range : ◌≡◌ {A = Range} (first, places) (place + 1, laids lent.0)
+  range = range-is me (place + 1) first (laids lent.0) places (ap (λ (m : Me View). m.1) lent.3) lifts
+
+  pub first-lent : first ≡ place + 1
+  first-lent = ap (λ (r : Range). r.0) range
+
+  pub words-lent : places ≡ laids lent.0
+  words-lent = ap (λ (r : Range). r.1) range
+
+  pub long-lent : length places ≡ usable_words need
+  long-lent = ap length words-lent ∙ length-map lent.0 laid ∙ lent.1
+
+  pub told-lent : TellsWritten (seen p) place (numbers places)
+  told-lent = subst (TellsWritten (seen p) place) (sym (ap numbers words-lent ∙ numbers-laids lent.0)) lent.2
+
+  pub view-lent : ◌≡◌ {A = Me View} (me.0, rest me.1) (with_lent (view p) (lent_block place need lent.0 ∷ (view p).lent), [])
+  view-lent = ap (λ (m : Me View). let x : Me View = (m.0, rest m.1) in x) lent.3
+
+-- the pass that took the words of a block out
+abbrev pub taken_by : Pass → ℕ → Need → List ℕ → Pass
+taken_by p place need numbers = record {
+  seat = record p.seat { me = (with_lent (view p) (lent_block place need numbers ∷ (view p).lent), []) };
+  errand = p.errand;
+  out = p.out + 1;
+}
+
+-- it is that of a seat that has this view
+pub taken-is :
+    (p : Pass) (place : ℕ) (need : Need) (numbers : List ℕ) (seat : Seat View) → seat.region ≡ p.seat.region → seat.id ≡ p.seat.id
+    → seat.me ≡ (with_lent (view p) (lent_block place need numbers ∷ (view p).lent), [])
+    → taken_by p place need numbers ≡ record { seat = seat; errand = p.errand; out = p.out + 1 }
+taken-is p place need numbers seat region id me =
+    λ i. record { seat = record seat { region = sym region i; id = sym id i; me = sym me i }; errand = p.errand; out = p.out + 1 }
+
+module _ (h : Heap) (p : Pass) (place : ℕ) (need : Need) (old : List ℕ) (of : IsOf h p) (idle : IsIdle p.errand) (owned : OwnsAt p place need) where
+  block : Lent
+  block = lent_block place need old
+
+  -- it is of its heap still
+  pub of-taken : IsOf h (taken_by p place need old)
+  of-taken = record {
+    table = of.table;
+    empty = refl;
+    before = of.before;
+    one = of.one;
+    sight = of.sight;
+    begun = of.begun;
+    served = of.served;
+    alone = of.alone;
+    settled = of.settled;
+    counted = omega (arith, of.counted);
+    mine = mine_now;
+    apart = λ n b at. idle-concerned p.errand b.place idle;
+    once = once_now;
+  }
+    where
+      mine_now : (n : ℕ) (b : Lent) → get_elem? (lent_block place need old ∷ (view p).lent) n ≡ some b → OwnsAfter (seen p) p.errand.caller b.place b.need
+      mine_now zero b at = subst (λ (l : Lent). OwnsAfter (seen p) p.errand.caller l.place l.need) (some-injective (lent_block place need old) b at) owned.0
+      mine_now (suc n) b at = of.mine n b at
+
+      once_now :
+          (m n : ℕ) (a b : Lent) → get_elem? (lent_block place need old ∷ (view p).lent) m ≡ some a
+          → get_elem? (lent_block place need old ∷ (view p).lent) n ≡ some b → a.place ≡ b.place → m ≡ n
+      once_now zero zero a b at-a at-b same = refl
+      once_now zero (suc n) a b at-a at-b same =
+          absurd (owned.1 n b at-b (sym same ∙ ap (λ (l : Lent). l.place) (sym (some-injective (lent_block place need old) a at-a))))
+      once_now (suc m) zero a b at-a at-b same =
+          absurd (owned.1 m a at-a (same ∙ ap (λ (l : Lent). l.place) (sym (some-injective (lent_block place need old) b at-b))))
+      once_now (suc m) (suc n) a b at-a at-b same = ap suc (of.once m n a b at-a at-b same)
+
+  -- it owns what it owned beside the block
+  pub owns-else : (other : ℕ) (had : Need) → OwnsAt p other had → other ≢ place → OwnsAt (taken_by p place need old) other had
+  owns-else other had (mine, home) else = (mine, home_now)
+    where
+      home_now : (n : ℕ) (b : Lent) → get_elem? (lent_block place need old ∷ (view p).lent) n ≡ some b → b.place ≢ other
+      home_now zero b at same = else (sym same ∙ ap (λ (l : Lent). l.place) (sym (some-injective (lent_block place need old) b at)))
+      home_now (suc n) b at same = home n b at same
+
+  -- before it took the block's words out it was as it was
+  pub was-before : before_taking (taken_by p place need old) place ≡ p
+  was-before =
+      let few : p.out + 1 - 1 ≡ p.out = omega arith in
+      let kept = all-but-first place (lent_block place need old) (view p).lent refl in
+      λ i. record { seat = record p.seat { me = (with_lent (view p) (kept i), sym of.empty i) }; errand = p.errand; out = few i }
+
+-- the pass with these blocks' words out, one less
+abbrev pub parted : Pass → List Lent → Pass
+parted p blocks = record { seat = record p.seat { me = (with_lent (view p) blocks, []) }; errand = p.errand; out = p.out - 1 }
+
+-- a pass of a heap, in no call, which has a block's words out
+module _ (h : Heap) (p : Pass) (of : IsOf h p) (front : List Lent) (b : Lent) (back : List Lent) (split : (view p).lent ≡ front ++ b ∷ back) where
+  stood : (m : ℕ) (x : Lent) → get_elem? (front ++ back) m ≡ some x → get_elem? (view p).lent (skip (length front) m) ≡ some x
+  stood m x at = subst (λ (l : List Lent). get_elem? l (skip (length front) m) ≡ some x) (sym split) (skip-at front b back m x at)
+
+  stands : get_elem? (view p).lent (length front) ≡ some b
+  stands = subst (λ (l : List Lent). get_elem? l (length front) ≡ some b) (sym split) (here-at front b back)
+
+  -- the others lie elsewhere
+  pub others-else : (m : ℕ) (x : Lent) → get_elem? (front ++ back) m ≡ some x → x.place ≢ b.place
+  others-else m x at same = skip-other (length front) m (of.once (skip (length front) m) (length front) x b (stood m x at) stands same)
+
+  pub counts-more : p.out ≡ suc (length (front ++ back))
+  counts-more = sym of.counted ∙ ap length split ∙ one-less front b back
+
+  pub of-parted : IsOf h (parted p (front ++ back))
+  of-parted = record {
+    table = of.table;
+    empty = refl;
+    before = of.before;
+    one = of.one;
+    sight = of.sight;
+    begun = of.begun;
+    served = of.served;
+    alone = of.alone;
+    settled = of.settled;
+    counted = let e = counts-more in omega arith;
+    mine = λ m x at. of.mine (skip (length front) m) x (stood m x at);
+    apart = λ m x at. of.apart (skip (length front) m) x (stood m x at);
+    once = λ m n x y at-x at-y same.
+        skip-once (length front) m n (of.once (skip (length front) m) (skip (length front) n) x y (stood m x at-x) (stood n y at-y) same);
+  }
+
+  pub owns-parted : OwnsAt (parted p (front ++ back)) b.place b.need
+  owns-parted = (of.mine (length front) b stands, others-else)
+
+  -- it owns what it owned
+  pub keeps-parted : (other : ℕ) (had : Need) → OwnsAt p other had → OwnsAt (parted p (front ++ back)) other had
+  keeps-parted other had (mine, home) = (mine, λ m x at. home (skip (length front) m) x (stood m x at))
+
+  -- who had its words out, and isn't the block, has them out still
+  pub stays-out :
+      (n : ℕ) (x : Lent) → get_elem? (view p).lent n ≡ some x → x.place ≢ b.place → (m : ℕ) × (get_elem? (front ++ back) m ≡ some x)
+  stays-out n x at else = still-at front b back n x (subst (λ (l : List Lent). get_elem? l n ≡ some x) split at) else
+
+  -- it is the pass as it would stand had it never taken the words out
+  pub parted-before : before_taking p b.place ≡ parted p (front ++ back)
+  parted-before =
+      ap (parted p) (ap (all_but b.place) split ∙ all-but-is b.place front b back refl others-else)
+
+  -- its words may come back
+  pub returns-own :
+      IsIdle p.errand → (numbers : List ℕ) → length numbers ≡ usable_words b.need
+      → ((i : ℕ) → i < usable_words b.need → slice_index numbers i < 2 ^ 64)
+      → MayReturn (view p, (b.place + 1, laids numbers) ∷ []) p.errand b.place b.need numbers
+  returns-own idle numbers long small = record {
+    before = of.before;
+    one = of.one;
+    stands = before-idle (seen p) of.before.errand p.errand of.begun idle;
+    idle = idle;
+    owned = of.mine (length front) b stands;
+    front = front;
+    back = back;
+    old = b.numbers;
+    lent = split;
+    others = others-else;
+    ranges = refl;
+    long = long;
+    small = small;
+  }
+
+-- the pass owns a block whose words are out with it
+pub taken-owned : (h : Heap) (p : Pass) (place : ℕ) (need : Need) → IsOf h p → IsTaken p place need → OwnsAfter (seen p) p.errand.caller place need
+taken-owned h p place need of (n, b, at, is-place, is-need) =
+    subst (λ m. OwnsAfter (seen p) p.errand.caller place m) is-need
+    (subst (λ k. OwnsAfter (seen p) p.errand.caller k b.need) is-place (of.mine n b at))
+
+-- the numbers in the words that a seat carries
+abbrev pub carried : Me View → List ℕ
+carried me = carried_in me.1
+  where
+    carried_in : List Range → List ℕ
+    carried_in [] = []
+    carried_in (x ∷ xs) = numbers x.1
+
+-- a seat that carries the words of a block that is out with its pass may give them back
+pub may-return :
+    (h : Heap) (p : Pass) (place : ℕ) (need : Need) (ns : List ℕ) (me : Me View) → IsOf h p → IsIdle p.errand → IsTaken p place need
+    → length ns ≡ usable_words need → ((i : ℕ) → i < usable_words need → slice_index ns i < 2 ^ 64)
+    → me ≡ (view p, (place + 1, laids ns) ∷ []) → MayReturn me p.errand place need ns
+may-return h p place need ns me of idle (n, b, at, is-place, is-need) long small is =
+    let cut = cut-at (view p).lent n b at in
+    let M : ℕ → Need → Type 0 = λ k m.
+    length ns ≡ usable_words m → ((i : ℕ) → i < usable_words m → slice_index ns i < 2 ^ 64) → MayReturn (view p, (k + 1, laids ns) ∷ []) p.errand k m ns in
+    let own : M b.place b.need = returns-own h p of cut.0 b cut.1 cut.2 idle ns in
+    let there : M place need = subst (λ m. M place m) is-need (subst (λ k. M k b.need) is-place own) in
+    subst (λ (m : Me View). MayReturn m p.errand place need ns) (sym is) (there long small)
+
+-- the seat has another view, and nothing out
+seat-at : (s t : Seat View) → t.region ≡ s.region → t.id ≡ s.id → t.me.1 ≡ [] → record s { me = (t.me.0, []) } ≡ t
+seat-at s t region id empty = λ i. record s { region = sym region i; id = sym id i; me = (t.me.0, sym empty i) }
+
+-- a pass has the words of a block home again
+pub record IsBack (h : Heap) (p : Pass) (place : ℕ) (need : Need) (numbers : List ℕ) (q : Pass) : Type 0 where
+  pub of : IsOf h q
+  pub idle : IsIdle q.errand
+  pub owned : OwnsAt q place need
+  pub keeps : (other : ℕ) (had : Need) → OwnsAt p other had → OwnsAt q other had
+  pub others :
+      (n : ℕ) (x : Lent) → get_elem? (view p).lent n ≡ some x → x.place ≢ place → (m : ℕ) × (get_elem? (view q).lent m ≡ some x)
+  pub wrote : LeadsBy (CallsOnWord h) (before_taking p place) (writes_from place need 0 numbers) q
+  pub accesses : accesses q ≡ usable_words need + accesses p
+
+pub comes-back :
+    (h : Heap) (p : Pass) (place : ℕ) (need : Need) (numbers : List ℕ) (seat : Seat View) → IsOf h p → IsIdle p.errand
+    → HasReturned p.errand place need numbers (view p) seat.me → length numbers ≡ usable_words need
+    → ((i : ℕ) → i < usable_words need → slice_index numbers i < 2 ^ 64) → seat.region ≡ p.seat.region → seat.id ≡ p.seat.id
+    → IsBack h p place need numbers (record { seat = seat; errand = p.errand; out = p.out - 1 })
+comes-back h p place need numbers seat of idle (front, old, back, split, on, empty) long small region id =
+    let b = lent_block place need old in
+    let q : Pass = record { seat = seat; errand = p.errand; out = p.out - 1 } in
+    let now = parted p (front ++ back) in
+    let own = owns-parted h p of front b back split in
+    let was = of-parted h p of front b back split in
+    let leads : LeadsBy (CallsOnWord h) now (writes_from place need 0 numbers) q =
+    subst (λ (s : Seat View). LeadsBy (CallsOnWord h) now (writes_from place need 0 numbers) (record { seat = s; errand = p.errand; out = p.out - 1 }))
+    (seat-at p.seat seat region id empty)
+    (writes-lead h now place need 0 numbers seat.me.0 was idle own (omega (arith, long)) (λ k has. small k (omega (arith, has, long))) on) in
+    let has = has-written h now q place need 0 numbers was idle leads in
+    record {
+      of = has.of;
+      idle = has.idle;
+      owned = has.keeps place need own;
+      keeps = λ other had owns. has.keeps other had (keeps-parted h p of front b back split other had owns);
+      others = λ n x at else.
+          let t = stays-out h p of front b back split n x at else in
+          (t.0, subst (λ (l : List Lent). get_elem? l t.0 ≡ some x) (sym has.lent) t.1);
+      wrote = subst (λ (r : Pass). LeadsBy (CallsOnWord h) r (writes_from place need 0 numbers) q) (sym (parted-before h p of front b back split)) leads;
+      accesses = has.accesses ∙ ap (λ n. n + accesses p) long;
+    }

@@ -1,0 +1,25 @@
+use Rattle.std.proofs.Common.{ℕ, sym, subst}
+use Rattle.heap_geometry.specs.declared.geometry.Geometry.{Geometry}
+use Rattle.atomic_region.specs.Region as region
+use Rattle.live_heap.specs.Lending.{HasReturned}
+use Rattle.live_heap.specs.Pieces.{PiecesHold}
+use Rattle.live_heap.proofs.ComesBack.{may-return_last}
+use Rattle.live_heap.proofs.heap.Heap.return_last.Goals as goal
+
+pub store-requires : goal.store-requires
+store-requires g c =
+    let h = c.args.self.now in
+    let r = c.requires in
+    let id = h.table.shared.id in
+    let seat = c.args.seat.now in
+    let block = g.L.Lending.block in
+    let Returns : Geometry → ℕ → Type 0 = λ key mark.
+    region.Allows (PiecesHold key) id.words seat.id seat.me mark (λ _. 0)
+    (λ _ after. HasReturned g.L.Lending.owner block.place block.need block.numbers seat.me.0 after) in (
+      r.table,
+      c.start-start.ensures,
+      r.within,
+      subst (λ key. Returns key c.args.mark) (sym h.laid.1)
+          (subst (Returns h.layout) (sym r.mark)
+          (may-return_last h.layout id.words seat.id seat.me g.L.Lending.owner block.place block.need block.numbers h.checked r.may.0 r.may.1)),
+    )

@@ -1,0 +1,59 @@
+-- The usable words of a block that are out with a pass, as plain memory, and how the pass stands.
+use Rattle.std.specs.Prelude.{ℕ, suc, eqb, if◌then◌else◌, ◌≡◌, ◌+◌, ◌-◌, List, [], ◌∷◌, length}
+use Rattle.std.specs.Borrow.{Fml, MutBor, Array, Lends, u64}
+use mathlib.Core.Option.{some}
+use lib.ListN.{get_elem?}
+use Rattle.heap_geometry.specs.declared.need.Need.{Need}
+use Rattle.heap_geometry.specs.Need.{usable_words}
+use Rattle.plain_words.specs.Lends.{with_words}
+use Rattle.plain_words.specs.Places.{laids}
+use Rattle.errand_steps.specs.declared.reply.Reply.TheVariants as reply
+use Rattle.errand_steps.specs.Calls.{write}
+use Rattle.call_events.specs.Made.{Made, answered}
+use Rattle.live_heap.specs.declared.heap.Heap.{Heap}
+use Rattle.live_heap.specs.declared.plain.Memory.{Memory}
+use Rattle.live_heap.specs.declared.pass.Pass.{Pass}
+use Rattle.live_heap.specs.declared.view.Lent.{Lent}
+use Rattle.live_heap.specs.contracts.plain.Memory.{the_row}
+use Rattle.live_heap.specs.Lending.{with_lent}
+use Rattle.live_heap.specs.Passes.{view}
+
+-- the words are all the usable words of the block, in this heap's memory, and each is laid
+pub record IsMemoryOf (h : Heap) (m : Memory) : Type 0 where
+  pub at : m.words.at ≡ h.table.shared.id.at
+  pub first : m.words.first ≡ m.block.place + 1
+  pub long : length m.words.places ≡ usable_words m.block.need
+  pub laid : (ns : List ℕ) × (m.words.places ≡ laids ns)
+
+-- the same block, whose words are laid with ws
+abbrev pub with_numbers : Memory → List ℕ → Memory
+with_numbers m ws = record { block = m.block; words = with_words m.words ws }
+
+-- what it ends as, once a `&mut` slice of its words has ended
+abbrev pub lends_memory : MutBor Memory → MutBor (List ℕ) → Fml
+lends_memory m r = Lends the_row (Array u64 0) m r (with_numbers m.now)
+
+-- the words of the block at the place, that serves the need, are out with the pass; and those of this block are
+abbrev pub IsTaken : Pass → ℕ → Need → Type 0
+IsTaken p place need = (n : ℕ) × (b : Lent) × (get_elem? (view p).lent n ≡ some b) × (b.place ≡ place) × (b.need ≡ need)
+
+abbrev pub HasTaken : Pass → Memory → Type 0
+HasTaken p m = IsTaken p m.block.place m.block.need
+
+-- the blocks but for the first of them that lies at the place
+abbrev pub all_but : ℕ → List Lent → List Lent
+all_but place [] = []
+all_but place (b ∷ bs) = if eqb b.place place then bs else b ∷ all_but place bs
+
+-- the pass as it would stand had it never taken the words of the block at the place out
+abbrev pub before_taking : Pass → ℕ → Pass
+before_taking p place = record {
+  seat = record p.seat { me = (with_lent (view p) (all_but place (view p).lent), []) };
+  errand = p.errand;
+  out = p.out - 1;
+}
+
+-- a write of each number to the block, the first of them to word i
+abbrev pub writes_from : ℕ → Need → ℕ → List ℕ → List Made
+writes_from place need i [] = []
+writes_from place need i (x ∷ xs) = answered (write place need i x) reply.Wrote ∷ writes_from place need (suc i) xs

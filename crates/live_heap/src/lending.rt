@@ -1,0 +1,268 @@
+//! How the usable words of a block go out with its owner's pass, as plain memory, and come back.
+
+ghost use Rattle.std.specs.Prelude.{◌≡◌, ◌≢◌, ◌<◌, ◌+◌, [], ◌++◌, length};
+ghost use Rattle.heap_geometry.specs.Need.{usable_words};
+ghost use Rattle.plain_words.specs.Places.{numbers};
+ghost use Rattle.errand_steps.specs.Begins.{IsIdle};
+ghost use Rattle.call_events.specs.Made.{LeadsBy, wrote};
+ghost use Rattle.live_heap.specs.declared.block.Block.{Block};
+ghost use Rattle.live_heap.specs.declared.plain.Memory.{Memory};
+ghost use Rattle.live_heap.specs.Lending.{HasLent, HasReturned, MayLend, MayReturn, TellsWritten, numbers_from};
+ghost use Rattle.live_heap.specs.Memory.{HasTaken, IsMemoryOf, before_taking, writes_from};
+ghost use Rattle.live_heap.specs.Passes.{IsOf, Owns, OwnsAt, accesses, seen};
+ghost use Rattle.live_heap.specs.Pieces.{caller_mark, mark_place};
+ghost use Rattle.live_heap.specs.Words.{CallsOnWord};
+
+use crate::block::Block;
+use crate::heap::Heap;
+use crate::laying::{BLANK, OUT};
+use crate::pass::Pass;
+use crate::plain::{Memory, are_small};
+use crate::plays::{Lending, Lends, Returns};
+use crate::view::View;
+use atomic_region::Seat;
+use errand_steps::errand::Errand;
+use heap_geometry::need::Need;
+use placed_words::placement::APART;
+use std::marker::Brand;
+
+impl Heap {
+    /// Takes the usable words of the pass's block out: from now on they are plain memory, of whoever has what this returns,
+    /// on any thread. The pass makes its other calls as before; it can free the block or put it on a shelf, and write or
+    /// read its words by a call, once the words are home again.
+    pub fn take_out(&self, pass: &mut Pass, block: Block) -> Memory
+        requires of { IsOf self.now pass.old }
+        requires idle { IsIdle pass.old.errand }
+        requires owned { Owns pass.old block }
+        ensures of { IsOf self.now pass.new }
+        ensures idle { IsIdle pass.new.errand }
+        ensures memory { IsMemoryOf self.now result }
+        ensures block { result.block ≡ block }
+        ensures taken { HasTaken pass.new result }
+        ensures before { before_taking pass.new block.place ≡ pass.old }
+        ensures keeps { (other : Block) → Owns pass.old other → other.place ≢ block.place → Owns pass.new other }
+        ensures others { (other : Memory) → HasTaken pass.old other → HasTaken pass.new other }
+        ensures seen { seen pass.new ≡ seen pass.old }
+        ensures told { TellsWritten (seen pass.old) block.place (numbers result.words.places) }
+        ensures accesses { accesses pass.new ≡ accesses pass.old }
+    {
+        let mark = self.caller_mark(pass.errand.caller());
+        self.lend::<Brand>(
+            &mut pass.seat,
+            &pass.errand,
+            mark,
+            pass.out,
+            block.place,
+            block.need,
+        );
+        pass.out += 1;
+        let words = pass.seat.lift();
+        Memory { block, words }
+    }
+
+    /// Gives the usable words of a block back, which the pass has out: each is written, in their order, with the number
+    /// that is in it. The block is home again.
+    pub fn bring_home(&self, pass: &mut Pass, memory: Memory) -> Block
+        requires of { IsOf self.now pass.old }
+        requires idle { IsIdle pass.old.errand }
+        requires memory { IsMemoryOf self.now memory }
+        requires taken { HasTaken pass.old memory }
+        ensures of { IsOf self.now pass.new }
+        ensures idle { IsIdle pass.new.errand }
+        ensures block { result ≡ memory.block }
+        ensures owned { Owns pass.new result }
+        ensures keeps { (other : Block) → Owns pass.old other → Owns pass.new other }
+        ensures others { (other : Memory) → HasTaken pass.old other → other.block.place ≢ memory.block.place → HasTaken pass.new other }
+        ensures wrote { LeadsBy (CallsOnWord self.now) (before_taking pass.old memory.block.place) (writes_from memory.block.place memory.block.need 0 (numbers memory.words.places)) pass.new }
+        ensures accesses { accesses pass.new ≡ usable_words memory.block.need + accesses pass.old }
+    {
+        let mark = self.caller_mark(pass.errand.caller());
+        are_small(memory.words(self));
+        let Memory { block, words } = memory;
+        pass.seat.carry(words);
+        self.take_back::<Brand>(
+            &mut pass.seat,
+            &pass.errand,
+            mark,
+            pass.out,
+            block.place,
+            block.need,
+        );
+        pass.out -= 1;
+        block
+    }
+
+    /// Fills the usable words of the block that lies at this place and serves this need, as plain memory: word i with
+    /// from + i, modulo 2^64. They go out with the pass and come back within the call.
+    pub(crate) fn fill_plainly(&self, pass: &mut Pass, place: u32, need: Need, from: u64)
+        requires of { IsOf self.now pass.old }
+        requires idle { IsIdle pass.old.errand }
+        requires owned { OwnsAt pass.old place need }
+        ensures { LeadsBy (CallsOnWord self.now) pass.old (wrote place need from (usable_words need)) pass.new }
+    {
+        let mut memory = self.take_out(pass, Block { place, need });
+        count_from(memory.words_mut(self), from);
+        let _ = self.bring_home(pass, memory);
+    }
+
+    /// Takes out the usable words of the block that `L` names for the proof, beside the blocks that are out already. The
+    /// caller's mark says from now on that words are out, and said so before where some were.
+    fn lend<L: Lending>(
+        &self,
+        seat: &mut Seat<View>,
+        errand: &Errand,
+        mark: usize,
+        out: u32,
+        place: u32,
+        need: Need,
+    )
+        requires table { seat.old.region ≡ self.now.table.shared.id }
+        requires empty { seat.old.me.1 ≡ [] }
+        requires mark { mark ≡ mark_place self.now.layout (caller_mark self.now.layout L.owner.caller) }
+        requires within { mark < self.now.table.shared.id.words }
+        requires counted { length seat.old.me.0.lent ≡ out }
+        requires may { MayLend seat.old.me.0 L.owner L.block.place L.block.need }
+        ensures seat { (seat.new.region ≡ seat.old.region) × (seat.new.id ≡ seat.old.id) }
+        ensures lent { HasLent L.block.place L.block.need seat.old.me.0 seat.new.me }
+    {
+        if out == 0 {
+            self.lend_first::<L>(seat, errand, mark, place, need);
+        } else {
+            self.lend_more::<L>(seat, errand, mark, place, need);
+        }
+    }
+
+    /// Takes out the usable words of the block that `L` names for the proof, where no block's words are out with the
+    /// pass. The caller's mark says from now on that some are.
+    fn lend_first<L: Lending>(
+        &self,
+        seat: &mut Seat<View>,
+        _errand: &Errand,
+        mark: usize,
+        _place: u32,
+        _need: Need,
+    )
+        requires table { seat.old.region ≡ self.now.table.shared.id }
+        requires empty { seat.old.me.1 ≡ [] }
+        requires mark { mark ≡ mark_place self.now.layout (caller_mark self.now.layout L.owner.caller) }
+        requires within { mark < self.now.table.shared.id.words }
+        requires may { MayLend seat.old.me.0 L.owner L.block.place L.block.need }
+        requires first { seat.old.me.0.lent ≡ [] }
+        ensures seat { (seat.new.region ≡ seat.old.region) × (seat.new.id ≡ seat.old.id) }
+        ensures lent { HasLent L.block.place L.block.need seat.old.me.0 seat.new.me }
+    {
+        let start = self.table.start();
+        self.table.shared.store::<Lends<L>>(seat, start, mark, OUT);
+    }
+
+    /// Takes them out where another block's words are out already, and the caller's mark says so.
+    fn lend_more<L: Lending>(
+        &self,
+        seat: &mut Seat<View>,
+        _errand: &Errand,
+        mark: usize,
+        _place: u32,
+        _need: Need,
+    )
+        requires table { seat.old.region ≡ self.now.table.shared.id }
+        requires empty { seat.old.me.1 ≡ [] }
+        requires mark { mark ≡ mark_place self.now.layout (caller_mark self.now.layout L.owner.caller) }
+        requires within { mark < self.now.table.shared.id.words }
+        requires may { MayLend seat.old.me.0 L.owner L.block.place L.block.need }
+        requires more { 0 < length seat.old.me.0.lent }
+        ensures seat { (seat.new.region ≡ seat.old.region) × (seat.new.id ≡ seat.old.id) }
+        ensures lent { HasLent L.block.place L.block.need seat.old.me.0 seat.new.me }
+    {
+        let start = self.table.start();
+        self.table.shared.load::<Lends<L>>(seat, start, mark);
+    }
+
+    /// Gives back the usable words of the block that `L` names for the proof: each is written with the number that is in
+    /// it. Where no other block's words are out, the caller's mark says so from now on.
+    fn take_back<L: Lending>(
+        &self,
+        seat: &mut Seat<View>,
+        errand: &Errand,
+        mark: usize,
+        out: u32,
+        place: u32,
+        need: Need,
+    )
+        requires table { seat.old.region ≡ self.now.table.shared.id }
+        requires mark { mark ≡ mark_place self.now.layout (caller_mark self.now.layout L.owner.caller) }
+        requires within { mark < self.now.table.shared.id.words }
+        requires counted { length seat.old.me.0.lent ≡ out }
+        requires may { MayReturn seat.old.me L.owner L.block.place L.block.need L.block.numbers }
+        ensures seat { (seat.new.region ≡ seat.old.region) × (seat.new.id ≡ seat.old.id) }
+        ensures returned { HasReturned L.owner L.block.place L.block.need L.block.numbers seat.old.me.0 seat.new.me }
+    {
+        if out == 1 {
+            self.return_last::<L>(seat, errand, mark, place, need);
+        } else {
+            self.return_one::<L>(seat, errand, mark, place, need);
+        }
+    }
+
+    /// Gives back the usable words of the block that `L` names for the proof, the last that the pass has out: each is
+    /// written with the number that is in it. The caller's mark says that nothing is out any more.
+    fn return_last<L: Lending>(
+        &self,
+        seat: &mut Seat<View>,
+        _errand: &Errand,
+        mark: usize,
+        _place: u32,
+        _need: Need,
+    )
+        requires table { seat.old.region ≡ self.now.table.shared.id }
+        requires mark { mark ≡ mark_place self.now.layout (caller_mark self.now.layout L.owner.caller) }
+        requires within { mark < self.now.table.shared.id.words }
+        requires may { (m : MayReturn seat.old.me L.owner L.block.place L.block.need L.block.numbers) × (m.front ++ m.back ≡ []) }
+        ensures seat { (seat.new.region ≡ seat.old.region) × (seat.new.id ≡ seat.old.id) }
+        ensures returned { HasReturned L.owner L.block.place L.block.need L.block.numbers seat.old.me.0 seat.new.me }
+    {
+        let start = self.table.start();
+        self.table
+            .shared
+            .store::<Returns<L>>(seat, start, mark, BLANK);
+    }
+
+    /// Gives back the usable words of the block that `L` names for the proof, one of several that the pass has out: each
+    /// is written with the number that is in it. The caller's mark stays as it is.
+    fn return_one<L: Lending>(
+        &self,
+        seat: &mut Seat<View>,
+        _errand: &Errand,
+        mark: usize,
+        _place: u32,
+        _need: Need,
+    )
+        requires table { seat.old.region ≡ self.now.table.shared.id }
+        requires mark { mark ≡ mark_place self.now.layout (caller_mark self.now.layout L.owner.caller) }
+        requires within { mark < self.now.table.shared.id.words }
+        requires may { (m : MayReturn seat.old.me L.owner L.block.place L.block.need L.block.numbers) × (0 < length (m.front ++ m.back)) }
+        ensures seat { (seat.new.region ≡ seat.old.region) × (seat.new.id ≡ seat.old.id) }
+        ensures returned { HasReturned L.owner L.block.place L.block.need L.block.numbers seat.old.me.0 seat.new.me }
+    {
+        let start = self.table.start();
+        self.table.shared.load::<Returns<L>>(seat, start, mark);
+    }
+
+    /// The place of the caller's mark. It is counted from the end of the memory, where it takes the least.
+    fn caller_mark(&self, caller: u32) -> usize
+        requires { caller < self.now.layout.callers }
+        ensures place { result ≡ mark_place self.now.layout (caller_mark self.now.layout caller) }
+        ensures within { result < self.now.table.shared.id.words }
+    {
+        let behind = APART * (self.layout.geometry().callers - caller);
+        self.table.count() - behind as usize
+    }
+}
+
+/// Fills a slice: word i with from + i, modulo 2^64.
+fn count_from(words: &mut [u64], from: u64)
+    ensures { words.new ≡ numbers_from from (length words.old) }
+{
+    for i in 0..words.len() {
+        words[i] = from.wrapping_add(i as u64);
+    }
+}
