@@ -1,7 +1,7 @@
 #!/usr/bin/env python3
 """Runs the gate and tells where its time goes, crate by crate.
 
-    tools/gate_times.py [--keep FOLDER] [--on N] [--behind CRATE] [--picture] [WORD..]   runs `rt ci WORD..` at the top of the tree
+    tools/gate_times.py [--apart] [--keep FOLDER] [--on N] [--behind CRATE] [--picture] [WORD..]   runs `rt ci WORD..` at the top of the tree
     tools/gate_times.py --read LOG SAMPLES [--of PROCESS] [--on N] [--behind CRATE] [--picture]   tells it of a run that has ended
 
 While the gate runs, its checks are looked at twice a second: what each proves and the processor time it has taken. Each
@@ -11,6 +11,8 @@ edits begin and end with, and of its edits; when by the clock the first two bega
 the one below it that was proved last. Then come the longest chain of proofs by processor time, each of a crate that stands
 on the one before, and what ran last. A check that ends within half a second is not seen.
 
+`--apart` keeps rt's own threads on one processor and its checks on all: the threads read texts by turns, and on several
+processors each turn waits for the one before, so that they read a sixth as much (docs/TESTING.md). It changes nothing else.
 `--keep` writes what was read, the lines as `log` and a line of JSON for each check as `samples`. `--picture` draws
 docs/pictures/gate.svg. Of several runs in a file of samples, `--read` takes the one with most checks, or that of PROCESS.
 `--on` tells too how long the same checks would take on N processors, each one in as many seconds as it took of a processor
@@ -41,13 +43,15 @@ EVERY = 0.5
 class Watch(threading.Thread):
     """Looks at the checks of the gate while it runs, and writes what each took once it has ended."""
 
-    def __init__(self, write):
+    def __init__(self, write, apart=None):
         super().__init__(daemon=True)
-        self.write, self.seen, self.done = write, {}, threading.Event()
+        self.write, self.apart, self.seen, self.done = write, apart, {}, threading.Event()
 
     def run(self):
         while not self.done.wait(EVERY):
             self.look()
+            if self.apart:
+                keep_apart(self.apart)
         for check in self.seen.values():
             self.write(check)
 
@@ -79,6 +83,27 @@ def check_of(process):
     return (process, fields[19]), sum(map(int, fields[11:15])) / TICKS, first
 
 
+def keep_apart(gate):
+    """Keeps the threads of this process on one processor, and those of all that it has started on all."""
+    everywhere = os.sched_getaffinity(0)
+    parents = {}
+    for process in filter(str.isdigit, os.listdir("/proc")):
+        try:
+            with open(f"/proc/{process}/stat") as file:
+                parents[int(process)] = int(file.read().rsplit(")", 1)[1].split()[1])
+        except (OSError, IndexError, ValueError):
+            continue
+    started = {gate}
+    while more := {it for it, parent in parents.items() if parent in started} - started:
+        started |= more
+    for process in started:
+        try:
+            for thread in os.listdir(f"/proc/{process}/task"):
+                os.sched_setaffinity(int(thread), {max(everywhere)} if process == gate else everywhere)
+        except OSError:
+            continue
+
+
 def busy_seconds():
     """The seconds that all processors of the machine have worked since it started, but what a host took."""
     with open("/proc/stat") as file:
@@ -86,11 +111,11 @@ def busy_seconds():
     return (sum(counts) - counts[3] - counts[4]) / TICKS
 
 
-def watched(words, keep):
+def watched(words, keep, apart):
     """Runs the gate; its status, its lines with their seconds, its checks, and the seconds that others worked meanwhile."""
     checks, lines, start, busy = [], [], time.time(), busy_seconds()
     gate = subprocess.Popen(["rt", "ci", *words], cwd=TOP, stdout=subprocess.PIPE, stderr=subprocess.STDOUT, text=True)
-    watch = Watch(checks.append)
+    watch = Watch(checks.append, gate.pid if apart else None)
     watch.start()
     for line in gate.stdout:
         lines.append((time.time() - start, line.rstrip("\n")))
@@ -321,6 +346,7 @@ def draw(run, stands_on):
 
 def main():
     parser = argparse.ArgumentParser(usage=__doc__)
+    parser.add_argument("--apart", action="store_true")
     parser.add_argument("--keep")
     parser.add_argument("--read", nargs=2)
     parser.add_argument("--of", type=int)
@@ -328,7 +354,7 @@ def main():
     parser.add_argument("--behind", action="append", default=[])
     parser.add_argument("--picture", action="store_true")
     words, rest = parser.parse_known_args()
-    status, run = (0, read(*words.read, words.of)) if words.read else watched(rest, words.keep)
+    status, run = (0, read(*words.read, words.of)) if words.read else watched(rest, words.keep, words.apart)
     stands_on = read_crates()
     print(*told(run, stands_on), sep="\n")
     for many in words.on:
