@@ -12,7 +12,7 @@ the one below it that was proved last. Then come the longest chain of proofs by 
 on the one before, and what ran last. A check that ends within half a second is not seen.
 
 `--apart` keeps rt's own threads on one processor and its checks on all: the threads read texts by turns, and on several
-processors each turn waits for the one before, so that they read a sixth as much (docs/TESTING.md). It changes nothing else.
+processors each turn waits for the one before (docs/TESTING.md has how much that took). It changes nothing else.
 `--keep` writes what was read, the lines as `log` and a line of JSON for each check as `samples`. `--picture` draws
 docs/pictures/gate.svg. Of several runs in a file of samples, `--read` takes the one with most checks, or that of PROCESS.
 `--on` tells too how long the same checks would take on N processors, each one in as many seconds as it took of a processor
