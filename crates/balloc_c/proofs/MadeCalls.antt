@@ -12,7 +12,7 @@ use Rattle.live_heap.specs.declared.answers.Full.{Full}
 use Rattle.live_heap.specs.declared.answers.Resumed.TheVariants as resumed
 use Rattle.live_heap.specs.declared.answers.Taken.TheVariants as taken
 use Rattle.live_heap.specs.declared.block.Block.{Block}
-use Rattle.live_heap.specs.declared.heap.Heap.{Heap}
+use Rattle.live_heap.specs.Heaps.{HeapFields}
 use Rattle.live_heap.specs.Answers.{IsContents, PutTellsFull, TakeTells}
 use Rattle.live_heap.specs.Calls.{HasCalled}
 use Rattle.live_heap.specs.Passes.{IsOf}
@@ -33,12 +33,12 @@ use Rattle.balloc_c.proofs.Numbers.{keeps-set, loses-set}
 use Rattle.balloc_c.proofs.Slots.{placed, taken-out, vacant-set}
 
 -- the cache tends the blocks of a table that has the same blocks
-pub same-tends : (h : Heap) (d : Cache) (had : List Block) (slots : List Slot) → IsCache h d → Holds d had → blocks_of slots ≡ had → Tends h d (blocks_of slots)
+pub same-tends : (h : HeapFields) (d : Cache) (had : List Block) (slots : List Slot) → IsCache h d → Holds d had → blocks_of slots ≡ had → Tends h d (blocks_of slots)
 same-tends h d had slots cache held same = record { cache = cache; holds = subst (Holds d) (sym same) held }
 
 -- the cache tends a table where a block comes into a vacant slot
 pub filled-tends :
-    (h : Heap) (d : Cache) (had : List Block) (slots after : List Slot) (i : ℕ) (block : Block) → IsCache h d → Holds d (block ∷ had)
+    (h : HeapFields) (d : Cache) (had : List Block) (slots after : List Slot) (i : ℕ) (block : Block) → IsCache h d → Holds d (block ∷ had)
     → blocks_of slots ≡ had → IsVacant slots i → after ≡ set_block slots i (Some block) → Tends h d (blocks_of after)
 filled-tends h d had slots after i block cache held same vacant set =
     record {
@@ -49,7 +49,7 @@ filled-tends h d had slots after i block cache held same vacant set =
 
 -- the cache tends a table where a block leaves its slot
 pub gone-tends :
-    (h : Heap) (c d : Cache) (slots middle after : List Slot) (i : ℕ) (block : Block) → Tends h c (blocks_of slots) → i < length slots
+    (h : HeapFields) (c d : Cache) (slots middle after : List Slot) (i : ℕ) (block : Block) → Tends h c (blocks_of slots) → i < length slots
     → block_at slots i ≡ Some block → middle ≡ set_block slots i None → blocks_of after ≡ blocks_of middle → IsCache h d
     → ((held : List Block) → Holds c (block ∷ held) → Holds d held) → Tends h d (blocks_of after)
 gone-tends h c d slots middle after i block tends within is set same cache holds =
@@ -61,7 +61,7 @@ gone-tends h c d slots middle after i block tends within is set same cache holds
 
 -- the cache tends a table where a block comes back into its slot
 pub back-tends :
-    (h : Heap) (c d : Cache) (slots middle after : List Slot) (i : ℕ) (block back : Block) → Tends h c (blocks_of slots) → i < length slots
+    (h : HeapFields) (c d : Cache) (slots middle after : List Slot) (i : ℕ) (block back : Block) → Tends h c (blocks_of slots) → i < length slots
     → block_at slots i ≡ Some block → middle ≡ set_block slots i None → after ≡ set_block middle i (Some back) → IsCache h d
     → ((held : List Block) → Holds c (block ∷ held) → Holds d (back ∷ held)) → Tends h d (blocks_of after)
 back-tends h c d slots middle after i block back tends within is out_is back_is cache holds =
@@ -88,7 +88,7 @@ write-answers c t number i value block d idle names has called keeps =
 
 -- what calls on words in a row answer
 pub writes-answers :
-    (h : Heap) (c : Cache) (t : Table) (number from : ℕ) (words : List ℕ) (block : Block) (d : Cache) → is_idle c.pass.errand.point ≡ true
+    (h : HeapFields) (c : Cache) (t : Table) (number from : ℕ) (words : List ℕ) (block : Block) (d : Cache) → is_idle c.pass.errand.point ≡ true
     → named t number ≡ Some block → from + length words ≤ usable_words block.need → IsOf h c.pass
     → Asked (λ p q. LeadsBy (CallsOnWord h) p (wrote_from block.place block.need from words) q) c d → HasWrittenRange c t number from words (Ok tt) d t
 writes-answers h c t number from words block d idle names has of leads =
@@ -96,7 +96,7 @@ writes-answers h c t number from words block d idle names has of leads =
     (range-made c.pass t number from (length words) block idle names has) ((block, names, (h, of, leads)), refl)
 
 pub reads-answers :
-    (h : Heap) (c : Cache) (t : Table) (number from : ℕ) (before after : List ℕ) (block : Block) (d : Cache) → is_idle c.pass.errand.point ≡ true
+    (h : HeapFields) (c : Cache) (t : Table) (number from : ℕ) (before after : List ℕ) (block : Block) (d : Cache) → is_idle c.pass.errand.point ≡ true
     → named t number ≡ Some block → from + length before ≤ usable_words block.need → IsOf h c.pass
     → Asked (λ p q. LeadsBy (CallsOnWord h) p (found_from block.place block.need from after) q) c d
     → HasReadRange c t number from before after (Ok tt) d t
@@ -105,7 +105,7 @@ reads-answers h c t number from before after block d idle names has of leads =
     (range-made c.pass t number from (length before) block idle names has) ((block, names, (h, of, leads)), refl)
 
 pub fill-answers :
-    (h : Heap) (c : Cache) (t : Table) (number from : ℕ) (block : Block) (d : Cache) → is_idle c.pass.errand.point ≡ true → named t number ≡ Some block
+    (h : HeapFields) (c : Cache) (t : Table) (number from : ℕ) (block : Block) (d : Cache) → is_idle c.pass.errand.point ≡ true → named t number ≡ Some block
     → IsOf h c.pass → Asked (λ p q. LeadsBy (CallsOnWord h) p (wrote block.place block.need from (usable_words block.need)) q) c d
     → HasFilled c t number from (Ok tt) d t
 fill-answers h c t number from block d idle names of leads =
@@ -113,7 +113,7 @@ fill-answers h c t number from block d idle names of leads =
     ((block, names, (h, of, leads)), refl)
 
 pub sum-answers :
-    (h : Heap) (c : Cache) (t : Table) (number total : ℕ) (block : Block) (d : Cache) → is_idle c.pass.errand.point ≡ true → named t number ≡ Some block
+    (h : HeapFields) (c : Cache) (t : Table) (number total : ℕ) (block : Block) (d : Cache) → is_idle c.pass.errand.point ≡ true → named t number ≡ Some block
     → IsOf h c.pass → Asked (λ p q. Sums (CallsOnWord h) p block.place block.need total q) c d → HasSummed c t number (Ok total) d t
 sum-answers h c t number total block d idle names of sums =
     makes (free_bar c.pass t number) (Adds c t number) c t (Ok total) d t (free-made c.pass t number block idle names)
@@ -196,7 +196,7 @@ busy-answers c t words d u idle has ready told =
 
 -- what a call that is gone on with answers, and a take
 pub resumed-answers :
-    (h : Heap) (c : Cache) (t : Table) (number : ℕ) (block : Block) (d : Cache) (u : Table) → is_idle c.pass.errand.point ≡ false
+    (h : HeapFields) (c : Cache) (t : Table) (number : ℕ) (block : Block) (d : Cache) (u : Table) → is_idle c.pass.errand.point ≡ false
     → NamesOneMore t number block u → GoesOnTo h c (resumed.Given block) d → HasResumed h c t (Ok (Some number)) d u
 resumed-answers h c t number block d u busy gains goes =
     makes (resume_bar c.pass) (Resumes h c t) c t (Ok (Some number)) d u (resume-made c.pass busy) (block, gains, goes)

@@ -4,7 +4,7 @@ use Rattle.std.specs.Prelude.{IsSomeAnd, is_some, slice_set}
 use Rattle.std.proofs.lemmas.Bool.{false≢true}
 use Rattle.std.proofs.lemmas.Bool.Decides.{eqb_tells, leb_tells}
 use Rattle.std.proofs.lemmas.List.{length-set}
-use Rattle.live_heap.specs.declared.heap.Heap.{Heap}
+use Rattle.live_heap.specs.Heaps.{HeapFields}
 use Rattle.balloc_c.specs.declared.hand.Hand.{Hand}
 use Rattle.balloc_c.specs.declared.handle.PassHandle.{PassHandle}
 use Rattle.balloc_c.specs.Opened.{AreEmpty, HoldNew, IsNew, held_at}
@@ -79,7 +79,7 @@ emptied-one handles i x within none each k low =
 
 -- the first handles hold new passes, and one more that is given one
 pub given-one :
-    (h : Heap) (depth : ℕ) (handles : List PassHandle) (i : ℕ) (x y : PassHandle) (hand : Hand) → i < length handles → y.held.hand ≡ Some hand
+    (h : HeapFields) (depth : ℕ) (handles : List PassHandle) (i : ℕ) (x y : PassHandle) (hand : Hand) → i < length handles → y.held.hand ≡ Some hand
     → IsNew h i depth hand → HoldNew h depth i handles → HoldNew h depth (i + 1) (slice_set (slice_set handles i x) i y)
 given-one h depth handles i x y hand within holds new each k low =
     let middle = slice_set handles i x in

@@ -9,7 +9,7 @@ use Rattle.errand_steps.specs.Calls.{Call, write, read}
 use Rattle.call_events.specs.Made.{LeadsBy, answered, found_from}
 use Rattle.call_events.proofs.MadeLemmas.{found-more, leads-more}
 use Rattle.live_heap.specs.declared.block.Block.{Block}
-use Rattle.live_heap.specs.declared.heap.Heap.{Heap}
+use Rattle.live_heap.specs.Heaps.{HeapFields}
 use Rattle.live_heap.specs.declared.pass.Pass.{Pass}
 use Rattle.live_heap.specs.Words.{CallsOnWord}
 use Rattle.live_heap.proofs.MadeLemmas.{word-whole}
@@ -27,7 +27,7 @@ keeps-on c d e one other = record { magazines = other.magazines ∙ one.magazine
 
 -- a block that is held still is behind a call on a word
 pub held-on :
-    (h : Heap) (c d : Cache) (block : Block) (call : Call) (answer : Reply) → CallsOnWord h c.pass call answer d.pass → LeavesPlace call block.place
+    (h : HeapFields) (c d : Cache) (block : Block) (call : Call) (answer : Reply) → CallsOnWord h c.pass call answer d.pass → LeavesPlace call block.place
     → KeepsMagazines c d → HoldsBlock c block → HoldsBlock d block
 held-on h c d block call answer one leaves keeps held = (
   whole-keeps h h c.pass d.pass call answer block.place block.need (word-whole h c.pass d.pass call answer one) leaves held.0,
@@ -51,7 +51,7 @@ next-end from i low = omega (arith, low)
 
 -- a row of writes, with one word of the range more
 pub writes-more :
-    (h : Heap) (first p q : Pass) (block : Block) (from i : ℕ) (words : List ℕ) → from ≤ i → i - from < length words
+    (h : HeapFields) (first p q : Pass) (block : Block) (from i : ℕ) (words : List ℕ) → from ≤ i → i - from < length words
     → LeadsBy (CallsOnWord h) first (wrote_from block.place block.need from (take (i - from) words)) p
     → CallsOnWord h p (write block.place block.need i (get_or words (i - from) 0)) reply.Wrote q
     → LeadsBy (CallsOnWord h) first (wrote_from block.place block.need from (take (i + 1 - from) words)) q
@@ -66,7 +66,7 @@ writes-more h first p q block from i words low within leads one =
 
 -- a row of reads, with one word of the range more
 pub reads-more :
-    (h : Heap) (first p q : Pass) (block : Block) (from i : ℕ) (words : List ℕ) (word : ℕ) → from ≤ i → i - from < length words
+    (h : HeapFields) (first p q : Pass) (block : Block) (from i : ℕ) (words : List ℕ) (word : ℕ) → from ≤ i → i - from < length words
     → LeadsBy (CallsOnWord h) first (found_from block.place block.need from (take (i - from) words)) p
     → CallsOnWord h p (read block.place block.need i) (reply.Word word) q
     → (after : List ℕ) → take (i - from + 1) after ≡ take (i - from) words ++ word ∷ []

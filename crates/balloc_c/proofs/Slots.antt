@@ -4,7 +4,7 @@ use Rattle.std.specs.Prelude.{slice_set}
 use Rattle.std.proofs.lemmas.Bool.Decides.{eqb_tells}
 use Rattle.std.proofs.lemmas.List.{take-append-drop, drop_more, take-set, drop-set, get_or_read, get_or-set_same, get_or-set_other}
 use Rattle.live_heap.specs.declared.block.Block.{Block}
-use Rattle.live_heap.specs.declared.heap.Heap.{Heap}
+use Rattle.live_heap.specs.Heaps.{HeapFields}
 use Rattle.errand_steps.specs.Begins.{IsIdle}
 use Rattle.block_cache.specs.declared.cache.Cache.{Cache}
 use Rattle.block_cache.specs.Caches.{Holds, HoldsBlock}
@@ -92,7 +92,7 @@ placed c slots i block vacant held =
 
 -- the caller of the cache holds the block in a slot
 pub held-at :
-    (h : Heap) (c : Cache) (slots : List Slot) (i : ℕ) (block : Block) → Tends h c (blocks_of slots) → IsIdle c.pass.errand → i < length slots
+    (h : HeapFields) (c : Cache) (slots : List Slot) (i : ℕ) (block : Block) → Tends h c (blocks_of slots) → IsIdle c.pass.errand → i < length slots
     → block_at slots i ≡ Some block → HoldsBlock c block
 held-at h c slots i block tends idle within is =
     (among-held h c (blocks_of slots) block tends.cache idle tends.holds).1

@@ -1,6 +1,6 @@
 -- What is so of a hand.
 use Rattle.std.specs.Arc.{arc_value}
-use Rattle.live_heap.specs.declared.heap.Heap.{Heap}
+use Rattle.live_heap.specs.Heaps.{HeapFields}
 use Rattle.balloc_c.specs.Slots.{blocks_of}
 use Rattle.balloc_c.specs.Packed.{IsPacked}
 use Rattle.balloc_c.specs.Tended.{Tends}
@@ -8,7 +8,7 @@ use Rattle.shared_heap.specs.Shares.{IsTicketOf}
 use Rattle.balloc_c.specs.declared.hand.Hand.{Hand}
 
 -- the heap that the hand has a share in
-abbrev pub heap_of : Hand → Heap
+abbrev pub heap_of : Hand → HeapFields
 heap_of hand = (arc_value hand.heap).heap
 
 -- the cache is one in front of the heap that the hand has a share in, and its caller holds the blocks of the table; no slot is lost, and the ticket is one for a pass of that heap

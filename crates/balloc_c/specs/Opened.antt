@@ -2,7 +2,7 @@
 use Rattle.std.specs.Prelude.{ℕ, zero, suc, ◌≡◌, ◌<◌, ◌≤◌, Option, None, IsSomeAnd, Result, Ok, Err, List, [], ◌∷◌, min}
 use Rattle.heap_geometry.specs.declared.geometry.Geometry.{Geometry}
 use Rattle.heap_geometry.specs.Geometry.{IsChecked}
-use Rattle.live_heap.specs.declared.heap.Heap.{Heap}
+use Rattle.live_heap.specs.Heaps.{HeapFields}
 use Rattle.live_heap.specs.Passes.{IsFresh}
 use Rattle.block_cache.specs.Caches.{cached_in}
 use Rattle.balloc_c.specs.declared.hand.Hand.{Hand}
@@ -32,7 +32,7 @@ abbrev pub Fit : Geometry → ℕ → Type 0
 Fit g depth = IsChecked g × (depth ≤ 64)
 
 -- the pass of this caller of the heap, with the ticket for it, which has made no step, and has no block and no slot for one; its magazines are empty, and have room for so many each
-pub record IsNew (h : Heap) (number depth : ℕ) (hand : Hand) : Type 0 where
+pub record IsNew (h : HeapFields) (number depth : ℕ) (hand : Hand) : Type 0 where
   pub heap : heap_of hand ≡ h
   pub fresh : IsFresh h hand.cache.pass
   pub caller : hand.cache.pass.errand.caller ≡ number
@@ -44,14 +44,14 @@ pub record IsNew (h : Heap) (number depth : ℕ) (hand : Hand) : Type 0 where
   pub hits : hand.cache.hits ≡ 0
 
 -- the first handles hold the passes of the first callers of the heap
-abbrev pub HoldNew : Heap → ℕ → ℕ → List PassHandle → Type 0
+abbrev pub HoldNew : HeapFields → ℕ → ℕ → List PassHandle → Type 0
 HoldNew h depth count handles = (number : ℕ) → number < count → IsSomeAnd (held_at handles number) (IsNew h number depth)
 
 -- a heap with these numbers is opened for handles that were empty, and each handle holds a pass of it
 pub record HasOpened (before : List PassHandle) (g : Geometry) (depth : ℕ) (after : List PassHandle) : Type 0 where
   pub empty : AreEmpty before
   pub fit : Fit g depth
-  pub heap : Heap
+  pub heap : HeapFields
   pub layout : heap.layout ≡ g
   pub new : HoldNew heap depth g.callers after
 

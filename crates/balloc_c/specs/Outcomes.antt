@@ -11,7 +11,7 @@ use Rattle.live_heap.specs.declared.answers.Resumed.{Resumed}
 use Rattle.live_heap.specs.declared.answers.Resumed.TheVariants as resumed
 use Rattle.live_heap.specs.declared.answers.Taken.TheVariants as taken
 use Rattle.live_heap.specs.declared.block.Block.{Block}
-use Rattle.live_heap.specs.declared.heap.Heap.{Heap}
+use Rattle.live_heap.specs.Heaps.{HeapFields}
 use Rattle.live_heap.specs.declared.pass.Pass.{Pass}
 use Rattle.live_heap.specs.Answers.{IsContents, PutTellsFull, ResumeTells, TakeTells}
 use Rattle.live_heap.specs.Calls.{HasCalled, IsCalling}
@@ -121,12 +121,12 @@ Takes c t shelf (Err refusal.NoMemory) d u = Stays c t d u
 Takes c t shelf (Err cause) d u = ⊥
 
 -- the call that is under way in this heap has come to this answer
-abbrev pub GoesOnTo : Heap → Cache → Resumed → Cache → Type 0
+abbrev pub GoesOnTo : HeapFields → Cache → Resumed → Cache → Type 0
 GoesOnTo h c answer d =
     Asked (λ p q. (first : Pass) (call : Call) (made : ℕ) → IsOf h first → IsCalling first call made p → ResumeTells first call made p TRIES answer q) c d
 
 -- a call is gone on with: a block that it gets has the number that is told
-abbrev pub Resumes : Heap → Cache → Table → Result (Option ℕ) Refusal → Cache → Table → Type 0
+abbrev pub Resumes : HeapFields → Cache → Table → Result (Option ℕ) Refusal → Cache → Table → Type 0
 Resumes h c t (Ok (Some number)) d u = (block : Block) × NamesOneMore t number block u × GoesOnTo h c (resumed.Given block) d
 Resumes h c t (Ok None) d u = HasSlotReady t u × GoesOnTo h c resumed.Freed d
 Resumes h c t (Err refusal.Exhausted) d u = HasSlotReady t u × GoesOnTo h c resumed.Refused d
@@ -154,7 +154,7 @@ HasPut c t number shelf = Answers (put_bar c.pass t number shelf) (Puts c t numb
 abbrev pub HasTaken : Cache → Table → ℕ → Result ℕ Refusal → Cache → Table → Type 0
 HasTaken c t shelf = Answers (take_bar c.pass shelf) (Takes c t shelf) c t
 
-abbrev pub HasResumed : Heap → Cache → Table → Result (Option ℕ) Refusal → Cache → Table → Type 0
+abbrev pub HasResumed : HeapFields → Cache → Table → Result (Option ℕ) Refusal → Cache → Table → Type 0
 HasResumed h c t = Answers (resume_bar c.pass) (Resumes h c t) c t
 
 -- the usable words of the block of this number are told; nothing has happened, and a call may be under way

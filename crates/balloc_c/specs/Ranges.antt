@@ -6,7 +6,7 @@ use Rattle.errand_steps.specs.declared.reply.Reply.TheVariants as reply
 use Rattle.errand_steps.specs.Calls.{write}
 use Rattle.call_events.specs.Made.{LeadsBy, Made, Sums, answered, found_from, wrote}
 use Rattle.live_heap.specs.declared.block.Block.{Block}
-use Rattle.live_heap.specs.declared.heap.Heap.{Heap}
+use Rattle.live_heap.specs.Heaps.{HeapFields}
 use Rattle.live_heap.specs.declared.pass.Pass.{Pass}
 use Rattle.live_heap.specs.Passes.{IsOf}
 use Rattle.live_heap.specs.Words.{CallsOnWord}
@@ -36,7 +36,7 @@ range_bar pass table number from count =
 
 -- a pass made these calls on words, one after the other, each of one step
 abbrev pub MadeLead : Cache → List Made → Cache → Type 0
-MadeLead c made d = (h : Heap) × IsOf h c.pass × Asked (λ p q. LeadsBy (CallsOnWord h) p made q) c d
+MadeLead c made d = (h : HeapFields) × IsOf h c.pass × Asked (λ p q. LeadsBy (CallsOnWord h) p made q) c d
 
 -- each word of the range was written, in their order
 abbrev pub WritesRange : Cache → Table → ℕ → ℕ → List ℕ → Result (Unit {0}) Refusal → Cache → Table → Type 0
@@ -57,7 +57,7 @@ Fills c t number from (Err cause) d u = ⊥
 -- each usable word of the block was read, and they add up to this, modulo 2^64
 abbrev pub Adds : Cache → Table → ℕ → Result ℕ Refusal → Cache → Table → Type 0
 Adds c t number (Ok total) d u =
-    Of t number (λ block. (h : Heap) × IsOf h c.pass × Asked (λ p q. Sums (CallsOnWord h) p block.place block.need total q) c d) × (u ≡ t)
+    Of t number (λ block. (h : HeapFields) × IsOf h c.pass × Asked (λ p q. Sums (CallsOnWord h) p block.place block.need total q) c d) × (u ≡ t)
 Adds c t number (Err cause) d u = ⊥
 
 -- what lies where the words go: what was found, or what lay there before

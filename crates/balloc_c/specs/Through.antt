@@ -6,7 +6,7 @@ use Rattle.live_heap.specs.declared.answers.AllocAnswer.TheVariants as alloc_ans
 use Rattle.live_heap.specs.declared.answers.FreeAnswer.{FreeAnswer}
 use Rattle.live_heap.specs.declared.answers.FreeAnswer.TheVariants as free_answer
 use Rattle.live_heap.specs.declared.block.Block.{Block}
-use Rattle.live_heap.specs.declared.heap.Heap.{Heap}
+use Rattle.live_heap.specs.Heaps.{HeapFields}
 use Rattle.live_heap.specs.declared.pass.Pass.{Pass}
 use Rattle.live_heap.specs.Answers.{AllocTells, FreeTells}
 use Rattle.live_heap.specs.Passes.{IsOf}
@@ -33,7 +33,7 @@ pub record IsFree (c : Cache) (block : Block) (answer : FreeAnswer) (d : Cache) 
 
 -- the blocks of all magazines are freed by the heap; or the free of one is interrupted, and the blocks behind it stay
 pub record IsFlush (c : Cache) (answer : FreeAnswer) (d : Cache) : Type 0 where
-  pub heap : Heap
+  pub heap : HeapFields
   pub of : IsOf heap c.pass
   pub tells : FlushTells heap c TRIES answer d
   pub depth : d.magazines.depth ≡ c.magazines.depth

@@ -1,7 +1,7 @@
 //! How a heap opens for C.
 
 ghost use Rattle.std.specs.Prelude.{◌≡◌, ◌≤◌, [], IfOk, IfSome, None, false, length, min, true};
-ghost use Rattle.live_heap.specs.declared.heap.Heap.{Heap};
+ghost use Rattle.live_heap.specs.Heaps.{HeapFields};
 ghost use Rattle.live_heap.specs.Passes.{IsFresh};
 ghost use Rattle.block_cache.specs.Caches.{cached_in};
 ghost use Rattle.balloc_c.specs.Opened.{AreEmpty, Fit, HoldNew, Opens};
@@ -93,7 +93,7 @@ fn give_all(
 ) -> Result<(), AllocError>
     requires fit { Fit geometry depth }
     requires callers { geometry.callers ≡ length passes.old }
-    ensures { IfOk result (λ _. (h : Heap) × (h.layout ≡ geometry) × HoldNew h depth geometry.callers passes.new) }
+    ensures { IfOk result (λ _. (h : HeapFields) × (h.layout ≡ geometry) × HoldNew h depth geometry.callers passes.new) }
 {
     let (heap, made) = Heap::open(alloc, geometry)?;
     let (shared, mut dealer) = SharedHeap::new(alloc, heap)?;

@@ -7,7 +7,7 @@ use Rattle.errand_steps.specs.Calls.{Call, free}
 use Rattle.call_events.specs.Made.{LeadsBy, Made}
 use Rattle.live_heap.specs.declared.answers.Resumed.{Resumed}
 use Rattle.live_heap.specs.declared.answers.Resumed.TheVariants as resumed
-use Rattle.live_heap.specs.declared.heap.Heap.{Heap}
+use Rattle.live_heap.specs.Heaps.{HeapFields}
 use Rattle.live_heap.specs.declared.pass.Pass.{Pass}
 use Rattle.live_heap.specs.Calls.{HasCalled}
 use Rattle.live_heap.specs.Hands.{resumed_by}
@@ -29,12 +29,12 @@ frees-bring-none first place need resumed.Busy q ended = refl
 
 -- no block's words are out behind a call of the heap where none were before
 pub called-home :
-    (h : Heap) (p q : Pass) (call : Call) (steps : ℕ) (told : Reply) → IsOf h p → p.out ≡ 0 → IsOf h q → HasCalled p call steps told q → q.out ≡ 0
+    (h : HeapFields) (p q : Pass) (call : Call) (steps : ℕ) (told : Reply) → IsOf h p → p.out ≡ 0 → IsOf h q → HasCalled p call steps told q → q.out ≡ 0
 called-home h p q call steps told was home is called = same-out h p q was is called.lent ∙ home
 
 -- so behind one with what resumed it
 pub resumed-home :
-    (h : Heap) (first : Pass) (call : Call) (told : Resumed) (q : Pass) → IsOf h first → first.out ≡ 0 → IsOf h q → ResumesTo first call told q → q.out ≡ 0
+    (h : HeapFields) (first : Pass) (call : Call) (told : Resumed) (q : Pass) → IsOf h first → first.out ≡ 0 → IsOf h q → ResumesTo first call told q → q.out ≡ 0
 resumed-home h first call (resumed.Given block) q was home is ended = called-home h first q call ended.0 _ was home is ended.1
 resumed-home h first call resumed.Freed q was home is ended = called-home h first q call ended.0 _ was home is ended.1
 resumed-home h first call resumed.Refused q was home is ended = called-home h first q call ended.0 _ was home is ended.1
@@ -43,14 +43,14 @@ resumed-home h first call resumed.Busy q was home is ended = absurd ended
 
 -- behind calls one after the other
 pub ended-home :
-    (h : Heap) (p q : Pass) (calls : List Made) → IsOf h p → p.out ≡ 0 → LeadsBy (HasEndedAt h) p calls q → q.out ≡ 0
+    (h : HeapFields) (p q : Pass) (calls : List Made) → IsOf h p → p.out ≡ 0 → LeadsBy (HasEndedAt h) p calls q → q.out ≡ 0
 ended-home h p q [] of home same = ap (λ (r : Pass). r.out) same ∙ home
 ended-home h p q (made ∷ calls) of home (next, m, rest) =
     ended-home h next q calls m.1.0 (called-home h p next made.call m.0.0 made.answer of home m.1.0 m.0.1) rest
 
 -- and behind a whole call through a cache
 pub whole-home :
-    (h : Heap) (c d : Cache) (call : Call) (told : Reply) → IsWholeCall h c call told d → c.pass.out ≡ 0 → d.pass.out ≡ 0
+    (h : HeapFields) (c d : Cache) (call : Call) (told : Reply) → IsWholeCall h c call told d → c.pass.out ≡ 0 → d.pass.out ≡ 0
 whole-home h c d call told whole home =
     elim whole.made [
       | served words block is_alloc is_given has ↦ ap (λ (p : Pass). p.out) has.pass ∙ home

@@ -21,7 +21,7 @@ use Rattle.step_machine.specs.Moments.{IsMoment}
 use Rattle.step_machine.proofs.MomentAnswers.{found, moment-given, moment-settles}
 use Rattle.live_heap.specs.declared.answers.Full.{Full}
 use Rattle.live_heap.specs.declared.block.Block.{Block}
-use Rattle.live_heap.specs.declared.heap.Heap.{Heap}
+use Rattle.live_heap.specs.Heaps.{HeapFields}
 use Rattle.live_heap.specs.declared.pass.Pass.{Pass}
 use Rattle.live_heap.specs.declared.view.Lent.{Lent}
 use Rattle.live_heap.specs.Answers.{HasStepped, PutTellsFull, progress_of}
@@ -32,33 +32,33 @@ use Rattle.benches.specs.Hands.{HasMade, Rests}
 -- the laws of `passes_keep_their_blocks`: a call keeps the other blocks, and a block that it brings is none of those
 abbrev pub KeepsOthers : Type 0
 KeepsOthers =
-    (h : Heap) (p q : Pass) (call : Call) (steps : ℕ) (answer : Reply) (block : Block) → IsOf h p → IsOf h q → HasCalled p call steps answer q
+    (h : HeapFields) (p q : Pass) (call : Call) (steps : ℕ) (answer : Reply) (block : Block) → IsOf h p → IsOf h q → HasCalled p call steps answer q
     → LeavesPlace call block.place → Owns p block → Owns q block
 
 abbrev pub GivesAnother : Type 0
 GivesAnother =
-    (h : Heap) (p q : Pass) (call : Call) (steps place : ℕ) (need : Need) (block : Block) → IsOf h p → IsOf h q
+    (h : HeapFields) (p q : Pass) (call : Call) (steps place : ℕ) (need : Need) (block : Block) → IsOf h p → IsOf h q
     → HasCalled p call steps (reply.Given place need) q → Owns p block → block.place ≢ place
 
 abbrev pub GetsAnother : Type 0
 GetsAnother =
-    (h : Heap) (p q : Pass) (call : Call) (steps place : ℕ) (need : Need) (block : Block) → IsOf h p → IsOf h q
+    (h : HeapFields) (p q : Pass) (call : Call) (steps place : ℕ) (need : Need) (block : Block) → IsOf h p → IsOf h q
     → HasCalled p call steps (reply.Got place need) q → Owns p block → block.place ≢ place
 
 -- as many blocks' words are out with a pass behind a call as before
-pub same-out : (h : Heap) (p q : Pass) → IsOf h p → IsOf h q → (view q).lent ≡ (view p).lent → q.out ≡ p.out
+pub same-out : (h : HeapFields) (p q : Pass) → IsOf h p → IsOf h q → (view q).lent ≡ (view p).lent → q.out ≡ p.out
 same-out h p q was is same = sym is.counted ∙ (ap (λ (l : List Lent). length l) same ∙ was.counted)
 
 -- where nothing is out the words of each block are home
-home-where : (h : Heap) (p : Pass) (place : ℕ) → IsOf h p → p.out ≡ 0 → IsHome p place
+home-where : (h : HeapFields) (p : Pass) (place : ℕ) → IsOf h p → p.out ≡ 0 → IsHome p place
 home-where h p place of out = λ n b found.
     let none : (view p).lent ≡ [] = nil_from_length (view p).lent (of.counted ∙ out) in
     absurd (some-ne-none b (sym (subst (λ (l : List Lent). get_elem? l n ≡ some b) none found)))
 
-rests-still : (h : Heap) (p q : Pass) (call : Call) (steps : ℕ) (answer : Reply) → Rests h p → IsOf h q → HasCalled p call steps answer q → Rests h q
+rests-still : (h : HeapFields) (p q : Pass) (call : Call) (steps : ℕ) (answer : Reply) → Rests h p → IsOf h q → HasCalled p call steps answer q → Rests h q
 rests-still h p q call steps answer rests still called = (still, called.idle, same-out h p q rests.0 still called.lent ∙ rests.2)
 
-module _ (keep : KeepsOthers) (h : Heap) (p q : Pass) (call : Call) (steps : ℕ) (was : Rests h p) (still : IsOf h q) where
+module _ (keep : KeepsOthers) (h : HeapFields) (p q : Pass) (call : Call) (steps : ℕ) (was : Rests h p) (still : IsOf h q) where
   -- a call brought no block
   pub made-none : (answer : Reply) → HasCalled p call steps answer q → HasMade h p call None q
   made-none answer called = record {
@@ -86,17 +86,17 @@ module _ (keep : KeepsOthers) (h : Heap) (p q : Pass) (call : Call) (steps : ℕ
   }
 
 -- a call was made, and nothing has happened
-pub made-nothing : (h : Heap) (p q : Pass) (call : Call) → Rests h p → q ≡ p → HasMade h p call None q
+pub made-nothing : (h : HeapFields) (p q : Pass) (call : Call) → Rests h p → q ≡ p → HasMade h p call None q
 made-nothing h p q call rests same =
     subst (λ (x : Pass). HasMade h p call None x) (sym same) (record { rests = rests; keeps = λ block leaves owned. owned; new = tt })
 
 -- a call that brought a block or none, where that is not asked for
-pub made-without : (h : Heap) (p q : Pass) (call : Call) (got : Option Block) → HasMade h p call got q → HasMade h p call None q
+pub made-without : (h : HeapFields) (p q : Pass) (call : Call) (got : Option Block) → HasMade h p call got q → HasMade h p call None q
 made-without h p q call got made = record { rests = made.rests; keeps = made.keeps; new = tt }
 
 -- a put that found a full shelf, and the free of the block that came back
 pub made-freed :
-    KeepsOthers → (h : Heap) (p q r : Pass) (block : Block) (shelf : ℕ) (full : Full) → IsOf h p → IsOf h q → PutTellsFull p block shelf full q
+    KeepsOthers → (h : HeapFields) (p q r : Pass) (block : Block) (shelf : ℕ) (full : Full) → IsOf h p → IsOf h q → PutTellsFull p block shelf full q
     → HasMade h q (free full.block.place full.block.need) None r → HasMade h p (put block.place block.need shelf) None r
 made-freed keep h p q r block shelf full of still tells freed =
     let same : full.block.place ≡ block.place = ap (λ (b : Block). b.place) tells.same in
@@ -108,7 +108,7 @@ made-freed keep h p q r block shelf full of still tells freed =
 
 -- as many blocks' words are out behind a step as before
 pub step-out :
-    (h : Heap) (p q : Pass) (told : Stepped Block) → IsOf h p → IsOf h q → (IsIdle p.errand → (told ≡ step.Idle) × (q ≡ p))
+    (h : HeapFields) (p q : Pass) (told : Stepped Block) → IsOf h p → IsOf h q → (IsIdle p.errand → (told ≡ step.Idle) × (q ≡ p))
     → (IsBusy p.errand → HasStepped p q told) → q.out ≡ p.out
 step-out h p q told was is idle busy =
     elim (cases_Bool (is_idle p.errand.point)) [
@@ -122,7 +122,7 @@ IsIdleStep step.Idle = Unit {0}
 IsIdleStep told = ⊥
 
 pub given-owned :
-    (h : Heap) (p q : Pass) (told : Stepped Block) (block : Block) → IsOf h q → q.out ≡ 0 → q.errand.caller ≡ p.errand.caller → (IsIdle p.errand → (told ≡ step.Idle) × (q ≡ p))
+    (h : HeapFields) (p q : Pass) (told : Stepped Block) (block : Block) → IsOf h q → q.out ≡ 0 → q.errand.caller ≡ p.errand.caller → (IsIdle p.errand → (told ≡ step.Idle) × (q ≡ p))
     → (IsBusy p.errand → HasStepped p q told) → told ≡ step.Done (ending.Given block) → IsIdle q.errand × Owns q block
 given-owned h p q told block of out caller idle busy is =
     elim (cases_Bool (is_idle p.errand.point)) [

@@ -4,7 +4,7 @@ use Rattle.std.proofs.lemmas.List.Elements.{All-nil, All-cons, All-head, All-tai
 use Rattle.errand_steps.specs.Calls.{Call}
 use Rattle.step_machine.specs.Keeping.{LeavesPlace}
 use Rattle.live_heap.specs.declared.block.Block.{Block}
-use Rattle.live_heap.specs.declared.heap.Heap.{Heap}
+use Rattle.live_heap.specs.Heaps.{HeapFields}
 use Rattle.live_heap.specs.declared.pass.Pass.{Pass}
 use Rattle.live_heap.specs.Holdings.{Holds}
 use Rattle.live_heap.specs.Passes.{Owns}
@@ -30,7 +30,7 @@ holds-all p P each (b ∷ bs) held = All-cons P b bs (each b held.0) (holds-all 
 
 -- a call that gives no block away brings one, or none
 pub made-holds :
-    (h : Heap) (p q : Pass) (call : Call) (got : Option Block) (blocks : List Block) → ((other : Block) → LeavesPlace call other.place)
+    (h : HeapFields) (p q : Pass) (call : Call) (got : Option Block) (blocks : List Block) → ((other : Block) → LeavesPlace call other.place)
     → HasMade h p call got q → Holds p blocks → Holds q (got_by got ++ blocks)
 made-holds h p q call None blocks leaves made held = holds-keeps p q (λ other owned. made.keeps other (leaves other) owned) blocks held
 made-holds h p q call (Some block) blocks leaves made held = (
@@ -41,7 +41,7 @@ made-holds h p q call (Some block) blocks leaves made held = (
 
 -- a call gives one of the held blocks away, and brings none
 pub made-gone :
-    (h : Heap) (p q : Pass) (call : Call) (block : Block) (blocks : List Block)
+    (h : HeapFields) (p q : Pass) (call : Call) (block : Block) (blocks : List Block)
     → ((other : Block) → other.place ≢ block.place → LeavesPlace call other.place) → HasMade h p call None q
     → Holds p (block ∷ blocks) → Holds q blocks
 made-gone h p q call block blocks leaves made held =

@@ -19,7 +19,7 @@ use Rattle.live_heap.specs.declared.answers.Resumed.TheVariants as resumed
 use Rattle.live_heap.specs.declared.answers.Taken.{Taken}
 use Rattle.live_heap.specs.declared.answers.Taken.TheVariants as taken
 use Rattle.live_heap.specs.declared.block.Block.{Block}
-use Rattle.live_heap.specs.declared.heap.Heap.{Heap}
+use Rattle.live_heap.specs.Heaps.{HeapFields}
 use Rattle.live_heap.specs.declared.pass.Pass.{Pass}
 use Rattle.live_heap.specs.Answers.{AllocTells, FreeTells, IsTried, PutTellsFull, ResumeTells, TakeTells}
 use Rattle.live_heap.specs.Calls.{HasCalled, IsCalling, IsInterrupted}
@@ -36,7 +36,7 @@ pub rests : (p : Pass) (blocks : List Block) → IsIdle p.errand → HoldsExactl
 rests p blocks idle exact = record { at_rest = λ still. exact; in_call = λ busy. absurd (idle-free p.errand idle busy) }
 
 -- two heaps that one pass is of have the same numbers and the same memory, and so a pass that is of the one is of the other
-of-other : (h k : Heap) (p first : Pass) → IsOf h p → IsOf h first → IsOf k p → IsOf k first
+of-other : (h k : HeapFields) (p first : Pass) → IsOf h p → IsOf h first → IsOf k p → IsOf k first
 of-other h k p first one is other =
     let laid : h.layout ≡ k.layout = sym one.served.own_errand.geometry ∙ other.served.own_errand.geometry in
     record {
@@ -56,7 +56,7 @@ of-other h k p first one is other =
     }
 
 waits :
-    (h : Heap) (first p q : Pass) (blocks had : List Block) (call : Call) (made tries : ℕ) → IsOf h first → IsOf h q
+    (h : HeapFields) (first p q : Pass) (blocks had : List Block) (call : Call) (made tries : ℕ) → IsOf h first → IsOf h q
     → IsInterrupted first call made p tries q → IsTried call → Began call blocks had → HoldsExactly first had → HasAll q blocks
 waits h first p q blocks had call made tries was of i tried began exact =
     record {
@@ -77,14 +77,14 @@ waits h first p q blocks had call made tries was of i tried began exact =
 
 -- all blocks of a caller behind a call that has ended
 pub ended-all :
-    (h : Heap) (p q : Pass) (call : Call) (steps : ℕ) (answer : Reply) (had has : List Block) → IsOf h p → IsOf h q
+    (h : HeapFields) (p q : Pass) (call : Call) (steps : ℕ) (answer : Reply) (had has : List Block) → IsOf h p → IsOf h q
     → HasCalled p call steps answer q → ChangesHand call answer had has → HoldsExactly p had → HasAll q has
 ended-all h p q call steps answer had has was of called hand exact =
     rests q has called.idle (called-exact h p q call steps answer had has was of called hand exact)
 
 -- all blocks of a caller behind an allocation or a free, begun or resumed
 pub resumed-all :
-    (h : Heap) (first p q : Pass) (blocks : List Block) (call : Call) (made tries : ℕ) (answer : Resumed) → IsOf h first → IsOf h q
+    (h : HeapFields) (first p q : Pass) (blocks : List Block) (call : Call) (made tries : ℕ) (answer : Resumed) → IsOf h first → IsOf h q
     → ResumeTells first call made p tries answer q → IsTried call → (had : List Block) → Began call blocks had → HoldsExactly first had
     → HasAll q (resumed_by answer ++ blocks)
 resumed-all h first p q blocks (alloc words) made tries (resumed.Given block) was of tells tried had began exact =
@@ -112,7 +112,7 @@ resumed-all h first p q blocks call made tries answer was of tells tried had beg
 
 -- all blocks of a caller behind an allocation
 pub alloc-all :
-    (h : Heap) (p q : Pass) (blocks : List Block) (words tries : ℕ) (answer : AllocAnswer) → IsIdle p.errand → IsOf h p → IsOf h q
+    (h : HeapFields) (p q : Pass) (blocks : List Block) (words tries : ℕ) (answer : AllocAnswer) → IsIdle p.errand → IsOf h p → IsOf h q
     → AllocTells p words tries answer q → HasAll p blocks → HasAll q (given_by answer ++ blocks)
 alloc-all h p q blocks words tries (alloc_answer.Given block) idle was of tells all =
     resumed-all h p p q blocks (alloc words) 0 tries (resumed.Given block) was of tells tt blocks refl (all.at_rest idle)
@@ -127,7 +127,7 @@ alloc-all h p q blocks words tries alloc_answer.Busy idle was of tells all =
 
 -- all blocks of a caller behind a free
 pub free-all :
-    (h : Heap) (p q : Pass) (block : Block) (blocks : List Block) (tries : ℕ) (answer : FreeAnswer) → IsIdle p.errand → IsOf h p → IsOf h q
+    (h : HeapFields) (p q : Pass) (block : Block) (blocks : List Block) (tries : ℕ) (answer : FreeAnswer) → IsIdle p.errand → IsOf h p → IsOf h q
     → FreeTells p block tries answer q → HasAll p (block ∷ blocks) → HasAll q blocks
 free-all h p q block blocks tries free_answer.Freed idle was of tells all =
     resumed-all h p p q blocks (free block.place block.need) 0 tries resumed.Freed was of tells tt (block ∷ blocks)
@@ -138,7 +138,7 @@ free-all h p q block blocks tries free_answer.Busy idle was of tells all =
 
 -- all blocks of a caller behind a resumed call that was waiting
 pub waiting-all :
-    (h : Heap) (p q : Pass) (blocks : List Block) (tries : ℕ) (answer : Resumed) → IsBusy p.errand → IsOf h p → IsOf h q
+    (h : HeapFields) (p q : Pass) (blocks : List Block) (tries : ℕ) (answer : Resumed) → IsBusy p.errand → IsOf h p → IsOf h q
     → ((first : Pass) (call : Call) (made : ℕ) → IsOf h first → IsCalling first call made p → ResumeTells first call made p tries answer q)
     → HasAll p blocks → HasAll q (resumed_by answer ++ blocks)
 waiting-all h p q blocks tries answer busy here of tells all =
@@ -148,7 +148,7 @@ waiting-all h p q blocks tries answer busy here of tells all =
 
 -- all blocks of a caller behind a put, from which the block may come back
 pub put-all :
-    {A : Type 0} (h : Heap) (p q : Pass) (block : Block) (blocks : List Block) (shelf : ℕ) (answer : Result A Full) → IsIdle p.errand → IsOf h p → IsOf h q
+    {A : Type 0} (h : HeapFields) (p q : Pass) (block : Block) (blocks : List Block) (shelf : ℕ) (answer : Result A Full) → IsIdle p.errand → IsOf h p → IsOf h q
     → IfOk answer (λ _. HasCalled p (put block.place block.need shelf) 0 reply.Put q)
     → IfErr answer (λ full. PutTellsFull p block shelf full q) → HasAll p (block ∷ blocks) → HasAll q (returned_by answer ++ blocks)
 put-all h p q block blocks shelf (Ok _) idle was of lies back all =
@@ -159,7 +159,7 @@ put-all h p q block blocks shelf (Err full) idle was of lies back all =
 
 -- all blocks of a caller behind a take
 pub take-all :
-    (h : Heap) (p q : Pass) (blocks : List Block) (shelf : ℕ) (answer : Taken) → IsIdle p.errand → IsOf h p → IsOf h q → TakeTells p shelf answer q
+    (h : HeapFields) (p q : Pass) (blocks : List Block) (shelf : ℕ) (answer : Taken) → IsIdle p.errand → IsOf h p → IsOf h q → TakeTells p shelf answer q
     → HasAll p blocks → HasAll q (taken_by answer ++ blocks)
 take-all h p q blocks shelf (taken.Got block) idle was of tells all =
     ended-all h p q (take shelf) 1 (reply.Got block.place block.need) blocks (block ∷ blocks) was of tells.0 (block, refl, refl, refl) (all.at_rest idle)

@@ -5,7 +5,7 @@ use Rattle.std.proofs.lemmas.List.Elements.{All-nil, All-cons, All-head, All-tai
 use Rattle.errand_steps.specs.Begins.{IsBusy, IsIdle}
 use Rattle.step_machine.specs.Keeping.{LeavesPlace}
 use Rattle.live_heap.specs.declared.block.Block.{Block}
-use Rattle.live_heap.specs.declared.heap.Heap.{Heap}
+use Rattle.live_heap.specs.Heaps.{HeapFields}
 use Rattle.live_heap.specs.declared.pass.Pass.{Pass}
 use Rattle.live_heap.specs.Answers.{IsResumable}
 use Rattle.live_heap.specs.Hands.{IsHand}
@@ -32,7 +32,7 @@ holds-front p [] ys held = tt
 holds-front p (x ∷ xs) ys held = (held.0, all-front (λ other. other.place ≢ x.place) xs ys held.1, holds-front p xs ys held.2)
 
 -- a hand from which the last blocks are left out
-pub hand-front : (h : Heap) (p : Pass) (xs ys : List Block) → IsHand h p (xs ++ ys) → IsHand h p xs
+pub hand-front : (h : HeapFields) (p : Pass) (xs ys : List Block) → IsHand h p (xs ++ ys) → IsHand h p xs
 hand-front h p xs ys hand =
     record {
       of = hand.of;
@@ -52,17 +52,17 @@ hand-front h p xs ys hand =
     }
 
 -- the pass of a cache that waits can be resumed
-pub resumable : (h : Heap) (c : Cache) → IsCache h c → IsBusy c.pass.errand → IsResumable c.pass
+pub resumable : (h : HeapFields) (c : Cache) → IsCache h c → IsBusy c.pass.errand → IsResumable c.pass
 resumable h c is busy =
     let w = is.hand.waits busy in record { first = w.first; call = w.call; steps = w.steps; calling = w.calling; tried = w.tried }
 
 -- a cache whose pass went on is one still
-pub passed : (h : Heap) (c : Cache) (q : Pass) → IsCache h c → IsHand h q (cached_in c)
+pub passed : (h : HeapFields) (c : Cache) (q : Pass) → IsCache h c → IsHand h q (cached_in c)
     → IsCache h (record { pass = q; magazines = c.magazines; hits = c.hits })
 passed h c q is hand = record { hand = hand; magazines = is.magazines; few = is.few }
 
 -- a cache with other magazines is one still
-pub refilled : (h : Heap) (c : Cache) (p : Pass) (m : Magazines) (hits : ℕ) → IsCache h c → m.depth ≡ c.magazines.depth
+pub refilled : (h : HeapFields) (c : Cache) (p : Pass) (m : Magazines) (hits : ℕ) → IsCache h c → m.depth ≡ c.magazines.depth
     → AreForClasses c.magazines.depth m.stacks.items → IsHand h p (all_in (stacks_of m.stacks.items))
     → IsCache h (record { pass = p; magazines = m; hits = hits })
 refilled h c p m hits is depth ready hand =
@@ -73,7 +73,7 @@ refilled h c p m hits is depth ready hand =
     }
 
 -- the hand from which one block leaves
-pub leaves-hand : (h : Heap) (p : Pass) (more less : List Block) (block : Block) → Splits block more less → IsIdle p.errand → IsHand h p more
+pub leaves-hand : (h : HeapFields) (p : Pass) (more less : List Block) (block : Block) → Splits block more less → IsIdle p.errand → IsHand h p more
     → IsHand h p less
 leaves-hand h p more less block s idle hand =
     record {
@@ -84,7 +84,7 @@ leaves-hand h p more less block s idle hand =
     }
 
 -- the hand to which one block comes
-pub comes-hand : (h : Heap) (p : Pass) (more less : List Block) (block : Block) → Splits block more less → IsIdle p.errand → Owns p block
+pub comes-hand : (h : HeapFields) (p : Pass) (more less : List Block) (block : Block) → Splits block more less → IsIdle p.errand → Owns p block
     → All (λ other. other.place ≢ block.place) less → IsHand h p less → IsHand h p more
 comes-hand h p more less block s idle owned apart hand =
     record {

@@ -3,7 +3,7 @@ use Rattle.std.proofs.Common.{ℕ, ◌≡◌, ◌++◌, List, [], ◌∷◌, ref
 use Rattle.live_heap.specs.declared.answers.FreeAnswer.{FreeAnswer}
 use Rattle.live_heap.specs.declared.answers.FreeAnswer.TheVariants as answer
 use Rattle.live_heap.specs.declared.block.Block.{Block}
-use Rattle.live_heap.specs.declared.heap.Heap.{Heap}
+use Rattle.live_heap.specs.Heaps.{HeapFields}
 use Rattle.live_heap.specs.declared.pass.Pass.{Pass}
 use Rattle.live_heap.specs.Answers.{FreeTells}
 use Rattle.live_heap.specs.Passes.{IsOf}
@@ -11,7 +11,7 @@ use Rattle.block_cache.specs.Flushes.{Frees}
 
 -- blocks that were freed, and one more behind them
 pub frees-more :
-    (h : Heap) (p q r : Pass) (blocks : List Block) (block : Block) (tries : ℕ) → Frees h p blocks tries q → IsOf h r
+    (h : HeapFields) (p q r : Pass) (blocks : List Block) (block : Block) (tries : ℕ) → Frees h p blocks tries q → IsOf h r
     → FreeTells q block tries answer.Freed r → Frees h p (blocks ++ block ∷ []) tries r
 frees-more h p q r [] block tries frees of freed = (r, of, subst (λ (x : Pass). FreeTells x block tries answer.Freed r) frees freed, refl)
 frees-more h p q r (b ∷ bs) block tries (next, is, first, rest) of freed = (next, is, first, frees-more h next q r bs block tries rest of freed)

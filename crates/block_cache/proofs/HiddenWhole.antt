@@ -12,7 +12,7 @@ use Rattle.errand_steps.specs.declared.reply.Reply.TheVariants as reply
 use Rattle.errand_steps.specs.Calls.{Call, alloc, free}
 use Rattle.live_heap.specs.declared.answers.FreeAnswer.TheVariants as free_answer
 use Rattle.live_heap.specs.declared.block.Block.{Block}
-use Rattle.live_heap.specs.declared.heap.Heap.{Heap}
+use Rattle.live_heap.specs.Heaps.{HeapFields}
 use Rattle.live_heap.specs.declared.pass.Pass.{Pass}
 use Rattle.live_heap.specs.Contents.{HasChanged, owned_in}
 use Rattle.live_heap.specs.Holdings.{Holds}
@@ -37,7 +37,7 @@ use Rattle.block_cache.proofs.MagazineLemmas.{none-left, top-splits}
 use Rattle.block_cache.proofs.WholeLemmas.{same-cached}
 
 -- no word of a block of the caller's is one of another block that is shown
-apart-from : (h : Heap) (d : Cache) (place : ℕ) (block : PoolBlock) → IsOf h d.pass → owned_in d.pass place ≡ Some block
+apart-from : (h : HeapFields) (d : Cache) (place : ℕ) (block : PoolBlock) → IsOf h d.pass → owned_in d.pass place ≡ Some block
     → (at : ℕ) (other : PoolBlock) → block_at at (hidden_pool_of d) ≡ Some other → at ≢ place → IsApart (span_of block) (span_of other)
 apart-from h d place block of is at other found ne =
     let pool = pool_of (seen d.pass) in
@@ -46,7 +46,7 @@ apart-from h d place block of is at other found ne =
     (separate-found h.layout pool (sound-of h.layout (seen d.pass) legal) place at block other own.0 (hidden-found d at other found) (λ same. ne (sym same))).apart
 
 -- where a magazine gave a block the caller owns one more
-served-gains : (h : Heap) (c d : Cache) (words : ℕ) (block : Block) → RestsAt h c → IsCache h d → HasServed c words block d → OwnsOneMore c words block.place d
+served-gains : (h : HeapFields) (c d : Cache) (words : ℕ) (block : Block) → RestsAt h c → IsCache h d → HasServed c words block d → OwnsOneMore c words block.place d
 served-gains h c d words block rests is has =
     let p = c.pass in
     let split = top-splits has.class block (stacks_in c) (stacks_in d) has.top in
@@ -109,7 +109,7 @@ free-made : (p : Pass) (place : ℕ) (need : Need) (ended : Reply) (q : Pass) �
 free-made p place need ended q (by_steps made) = free-ends p.errand.caller place need ended made.1.added made.1.ended
 free-made p place need ended q (at_once words is_alloc spent once) = let e : free place need ≡ alloc words = is_alloc in absurd (cc)
 
-asked-shows : (h : Heap) (c d : Cache) (call : Call) (ended : Reply) → RestsAt h c → IsCache h d → IsWhole h c.pass call ended h d.pass
+asked-shows : (h : HeapFields) (c d : Cache) (call : Call) (ended : Reply) → RestsAt h c → IsCache h d → IsWhole h c.pass call ended h d.pass
     → KeepsMagazines c d → HasChanged c.pass call ended d.pass → Shows c call ended d
 asked-shows h c d (alloc words) (reply.Given place need) rests is whole keeps changed =
     let block = fresh_block c.pass.errand.caller words place in
@@ -134,7 +134,7 @@ asked-shows h c d (free place need) ended rests is whole keeps changed =
     record { here = none-shown d place but.here; others = λ other ne. same-shown c d other keeps (but.others other ne) }
 asked-shows h c d call ended rests is whole keeps changed = tt
 
-pub whole-shows : (h : Heap) (c d : Cache) (call : Call) (ended : Reply) → IsWholeCall h c call ended d → Shows c call ended d
+pub whole-shows : (h : HeapFields) (c d : Cache) (call : Call) (ended : Reply) → IsWholeCall h c call ended d → Shows c call ended d
 whole-shows h c d call ended w =
     elim w.made [
       | served words block is_alloc is_given has ↦
@@ -147,7 +147,7 @@ whole-shows h c d call ended w =
     ]
 
 -- a block that is freed was not shown while it was in a magazine
-freed-shown : (h : Heap) (p q : Pass) (block : Block) (blocks : List Block) → IsOf h q → HasEndedCall p (free block.place block.need) reply.Freed q
+freed-shown : (h : HeapFields) (p q : Pass) (block : Block) (blocks : List Block) → IsOf h q → HasEndedCall p (free block.place block.need) reply.Freed q
     → (place : ℕ) → shown q blocks place ≡ shown p (block ∷ blocks) place
 freed-shown h p q block blocks of (steps, called) place =
     let but = called-changes h p q (free block.place block.need) steps reply.Freed of called in
@@ -159,13 +159,13 @@ freed-shown h p q block blocks of (steps, called) place =
           shown-same p q blocks place (but.others place other) ∙ sym (shown-past p [] blocks block place (λ same. other (sym same)))
     ]
 
-frees-shown : (h : Heap) (p : Pass) (blocks : List Block) (tries : ℕ) (q : Pass) (rest : List Block) → Frees h p blocks tries q
+frees-shown : (h : HeapFields) (p : Pass) (blocks : List Block) (tries : ℕ) (q : Pass) (rest : List Block) → Frees h p blocks tries q
     → (place : ℕ) → shown q rest place ≡ shown p (blocks ++ rest) place
 frees-shown h p [] tries q rest frees place = ap (λ (r : Pass). shown r rest place) frees
 frees-shown h p (b ∷ bs) tries q rest (next, of, freed, frees) place =
     frees-shown h next bs tries q rest frees place ∙ freed-shown h p next b (bs ++ rest) of (freed.steps, freed.called) place
 
-pub flush-shows : (h : Heap) (c d : Cache) (tries : ℕ) → FlushTells h c tries free_answer.Freed d → ShowsSame c d
+pub flush-shows : (h : HeapFields) (c d : Cache) (tries : ℕ) → FlushTells h c tries free_answer.Freed d → ShowsSame c d
 flush-shows h c d tries (empty, frees) place =
     hidden-shown d place
     ∙ ap (λ (xs : List Block). shown d.pass xs place) (none-left (stacks_in d) empty)
@@ -174,7 +174,7 @@ flush-shows h c d tries (empty, frees) place =
     ∙ shown-leaving c.pass (stacks_in c) place ∙ sym (hidden-shown c place)
 
 pub resumed-shows :
-    (h : Heap) (c d e : Cache) (tries : ℕ) → IsOf h e.pass → (stopped : HasStopped h c.pass (leaving (stacks_in c)) (leaving (stacks_in d)) tries d.pass)
+    (h : HeapFields) (c d e : Cache) (tries : ℕ) → IsOf h e.pass → (stopped : HasStopped h c.pass (leaving (stacks_in c)) (leaving (stacks_in d)) tries d.pass)
     → HasEndedCall stopped.next (free stopped.block.place stopped.block.need) reply.Freed e.pass → KeepsMagazines d e → ShowsSame c e
 resumed-shows h c d e tries of s ended keeps place =
     hidden-shown e place

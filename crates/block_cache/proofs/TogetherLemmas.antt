@@ -20,7 +20,7 @@ use Rattle.errand_steps.specs.tables.CallStage.{StageOfCall, asking, asking_run,
 use Rattle.call_events.specs.Stages.{stage_of}
 use Rattle.call_events.specs.UnderWay.{SoFar}
 use Rattle.live_heap.specs.declared.block.Block.{Block}
-use Rattle.live_heap.specs.declared.heap.Heap.{Heap}
+use Rattle.live_heap.specs.Heaps.{HeapFields}
 use Rattle.live_heap.specs.declared.pass.Pass.{Pass}
 use Rattle.live_heap.specs.Answers.{IsTried}
 use Rattle.live_heap.specs.Holdings.{ChangesHandSoFar, HoldsExactly}
@@ -74,7 +74,7 @@ so-far-together caller (free p n) at events blocks had tried so began = absurd s
 so-far-together caller call at events blocks had tried so began = absurd tried
 
 pub together :
-    (h : Heap) (c : Cache) (held : List Block) → IsCache h c → Holds c held
+    (h : HeapFields) (c : Cache) (held : List Block) → IsCache h c → Holds c held
     → (kept : List Block) × KeepsUnderWay (stage_of c.pass.errand.point) kept × HoldsExactly c.pass (kept ++ (held ++ cached_in c))
 together h c held is all =
     let e = c.pass.errand in
@@ -218,7 +218,7 @@ same-token p a b one other place =
     let same : here.0 ≡ there.0 = cc in
     block-same a b place (sym here.3 ∙ ap (λ (x : PoolBlock). x.need) same ∙ there.3)
 
-pub among-held : (h : Heap) (c : Cache) (held : List Block) (block : Block) → IsCache h c → IsIdle c.pass.errand → Holds c held
+pub among-held : (h : HeapFields) (c : Cache) (held : List Block) (block : Block) → IsCache h c → IsIdle c.pass.errand → Holds c held
     → HoldsBlock c block ↔ IsAmong block held
 among-held h c held block is idle all =
     let p = c.pass in

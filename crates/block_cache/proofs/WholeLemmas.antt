@@ -15,7 +15,7 @@ use Rattle.live_heap.specs.declared.answers.AllocAnswer.{AllocAnswer}
 use Rattle.live_heap.specs.declared.answers.AllocAnswer.TheVariants as answer
 use Rattle.live_heap.specs.declared.answers.FreeAnswer.TheVariants as free_answer
 use Rattle.live_heap.specs.declared.block.Block.{Block}
-use Rattle.live_heap.specs.declared.heap.Heap.{Heap}
+use Rattle.live_heap.specs.Heaps.{HeapFields}
 use Rattle.live_heap.specs.declared.pass.Pass.{Pass}
 use Rattle.live_heap.specs.Answers.{AllocTells, FreeTells}
 use Rattle.live_heap.specs.Passes.{IsHome, IsOf, OwnsAt}
@@ -63,7 +63,7 @@ stack-few class depth number [] are = omega arith
 stack-few class depth zero (m ∷ ms) are = are.0.few
 stack-few class depth (suc number) (m ∷ ms) are = stack-few (suc class) depth number ms are.1
 
-pub no-depth : (h : Heap) (c : Cache) (need : Need) → IsCache h c → c.magazines.depth ≡ 0 → (¬ HasFor c need) × (¬ HasRoom c need)
+pub no-depth : (h : HeapFields) (c : Cache) (need : Need) → IsCache h c → c.magazines.depth ≡ 0 → (¬ HasFor c need) × (¬ HasRoom c need)
 no-depth h c need is none =
     let few = λ (class : ℕ). stack-few 0 c.magazines.depth class c.magazines.stacks.items is.magazines.each in
     (λ (class, of, some_there). omega (arith, some_there, none, few class), λ (class, of, room). omega (arith, room, none))
@@ -83,7 +83,7 @@ made-idle p call ended q idle (at_once words is_alloc spent once) = subst (λ (r
 
 -- a whole call that the heap was asked for
 made-whole :
-    (h : Heap) (c d : Cache) (call : Call) (ended : Reply) → RestsAt h c → IsCache h d → Asks c call → MadeByPass c.pass call ended d.pass
+    (h : HeapFields) (c d : Cache) (call : Call) (ended : Reply) → RestsAt h c → IsCache h d → Asks c call → MadeByPass c.pass call ended d.pass
     → KeepsMagazines c d → IsWholeCall h c call ended d
 made-whole h c d call ended rests is asks made keeps =
     let idle = made-idle c.pass call ended d.pass rests.1 made in
@@ -94,7 +94,7 @@ made-whole h c d call ended rests is asks made keeps =
     }
 
 pub asked-whole :
-    (h : Heap) (c d : Cache) (call : Call) (ended : Reply) → RestsAt h c → IsCache h d → Asks c call → HasEndedCall c.pass call ended d.pass
+    (h : HeapFields) (c d : Cache) (call : Call) (ended : Reply) → RestsAt h c → IsCache h d → Asks c call → HasEndedCall c.pass call ended d.pass
     → KeepsMagazines c d → IsWholeCall h c call ended d
 asked-whole h c d call ended rests is asks made keeps = made-whole h c d call ended rests is asks (by_steps made) keeps
 
@@ -113,7 +113,7 @@ alloc-made p words tries answer.TooLarge ended q tells is = absurd is
 alloc-made p words tries answer.Busy ended q tells is = absurd is
 
 pub alloc-whole :
-    (h : Heap) (c d : Cache) (words tries : ℕ) (told : AllocAnswer) (ended : Reply) → RestsAt h c → IsCache h d
+    (h : HeapFields) (c d : Cache) (words tries : ℕ) (told : AllocAnswer) (ended : Reply) → RestsAt h c → IsCache h d
     → (HasFor c (need_of words) → (block : Block) × (told ≡ answer.Given block) × HasServed c words block d)
     → ((¬ HasFor c (need_of words)) → AllocTells c.pass words tries told d.pass × KeepsMagazines c d)
     → EndsAs told ended → IsWholeCall h c (alloc words) ended d
@@ -131,7 +131,7 @@ alloc-whole h c d words tries told ended rests is if_for if_not ends =
     ]
 
 pub free-whole :
-    (h : Heap) (c d : Cache) (block : Block) (tries : ℕ) → RestsAt h c → IsCache h d → HoldsBlock c block
+    (h : HeapFields) (c d : Cache) (block : Block) (tries : ℕ) → RestsAt h c → IsCache h d → HoldsBlock c block
     → (HasRoom c block.need → HasKept c block d)
     → ((¬ HasRoom c block.need) → FreeTells c.pass block tries free_answer.Freed d.pass × KeepsMagazines c d)
     → IsWholeCall h c (free block.place block.need) reply.Freed d
@@ -153,7 +153,7 @@ pub same-cached : (c d : Cache) → KeepsMagazines c d → cached_in d ≡ cache
 same-cached c d keeps = ap (λ (m : Magazines). all_in (stacks_of m.stacks.items)) keeps.magazines
 
 -- what the caller of a cache holds it holds through a whole call that leaves it
-pub whole-keeps : (h : Heap) (c d : Cache) (call : Call) (ended : Reply) (place : ℕ) (need : Need) → IsWholeCall h c call ended d
+pub whole-keeps : (h : HeapFields) (c d : Cache) (call : Call) (ended : Reply) (place : ℕ) (need : Need) → IsWholeCall h c call ended d
     → LeavesPlace call place → HoldsAt c place need → HoldsAt d place need
 whole-keeps h c d call ended place need w leaves holds =
     elim w.made [
@@ -180,7 +180,7 @@ whole-keeps h c d call ended place need w leaves holds =
 
 -- the words of a block that a whole call hands out are home
 handed-home :
-    (h : Heap) (p q : Pass) (call : Call) (ended : Reply) (place : ℕ) (need : Need) → IsOf h p → IsWhole h p call ended h q → Hands ended place need
+    (h : HeapFields) (p q : Pass) (call : Call) (ended : Reply) (place : ℕ) (need : Need) → IsOf h p → IsWhole h p call ended h q → Hands ended place need
     → IsHome q place
 handed-home h p q call (reply.Given at n) place need was (by_steps made, may, same, is) hands =
     subst (IsHome q) hands.0 (given-home h p q call made.0 at n was is.0 made.1)
@@ -191,7 +191,7 @@ handed-home h p q call (reply.Given at n) place need was (at_once words is_alloc
 handed-home h p q call (reply.Got at n) place need was (at_once words is_alloc spent once, may, same, is) hands = absurd (cc)
 handed-home h p q call ended place need was (at_once words is_alloc spent once, may, same, is) hands = absurd hands
 
-pub whole-hands : (h : Heap) (c d : Cache) (call : Call) (ended : Reply) (place : ℕ) (need : Need) → IsWholeCall h c call ended d
+pub whole-hands : (h : HeapFields) (c d : Cache) (call : Call) (ended : Reply) (place : ℕ) (need : Need) → IsWholeCall h c call ended d
     → Hands ended place need → HoldsAt d place need
 whole-hands h c d call ended place need w hands =
     let hand = w.before.0.hand.holds w.before.1 in
@@ -217,7 +217,7 @@ whole-hands h c d call ended place need w hands =
       )
     ]
 
-pub whole-apart : (h : Heap) (c d : Cache) (call : Call) (ended : Reply) (place other : ℕ) (need had : Need) → IsWholeCall h c call ended d
+pub whole-apart : (h : HeapFields) (c d : Cache) (call : Call) (ended : Reply) (place other : ℕ) (need had : Need) → IsWholeCall h c call ended d
     → Hands ended place need → HoldsAt c other had → other ≢ place
 whole-apart h c d call ended place other need had w hands holds =
     elim w.made [

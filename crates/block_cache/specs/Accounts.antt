@@ -5,7 +5,7 @@ use Rattle.errand_steps.specs.Begins.{IsBusy, IsIdle}
 use Rattle.errand_steps.specs.Calls.{Call, free}
 use Rattle.errand_steps.specs.tables.CallStage.{StageOfCall, freeing, given}
 use Rattle.live_heap.specs.declared.block.Block.{Block}
-use Rattle.live_heap.specs.declared.heap.Heap.{Heap}
+use Rattle.live_heap.specs.Heaps.{HeapFields}
 use Rattle.live_heap.specs.declared.pass.Pass.{Pass}
 use Rattle.live_heap.specs.Answers.{IsTried}
 use Rattle.live_heap.specs.Calls.{IsCalling}
@@ -27,7 +27,7 @@ Began call blocks had = had ≡ blocks
 -- an allocation or a free is interrupted that is about none of these blocks, and they were all others that the caller had
 pub record HasAllInCall (p : Pass) (blocks : List Block) : Type 0 where
   pub first : Pass
-  pub of : (h : Heap) → IsOf h p → IsOf h first
+  pub of : (h : HeapFields) → IsOf h p → IsOf h first
   pub call : Call
   pub steps : ℕ
   pub calling : IsCalling first call steps p

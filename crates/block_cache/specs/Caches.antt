@@ -4,7 +4,7 @@ use Rattle.heap_geometry.specs.declared.need.Need.{Need}
 use Rattle.heap_geometry.specs.declared.need.Need.TheVariants.{Small}
 use Rattle.heap_geometry.specs.Need.{need_of}
 use Rattle.live_heap.specs.declared.block.Block.{Block}
-use Rattle.live_heap.specs.declared.heap.Heap.{Heap}
+use Rattle.live_heap.specs.Heaps.{HeapFields}
 use Rattle.live_heap.specs.Hands.{IsHand}
 use Rattle.live_heap.specs.Passes.{Owns}
 use Rattle.block_cache.specs.declared.cache.Cache.{Cache}
@@ -23,7 +23,7 @@ abbrev pub cached_in : Cache → List Block
 cached_in c = all_in (stacks_in c)
 
 -- a cache in front of this heap: for each class a magazine of its blocks, at most as many as the depth says, and all of them are in the pass's hand
-pub record IsCache (h : Heap) (c : Cache) : Type 0 where
+pub record IsCache (h : HeapFields) (c : Cache) : Type 0 where
   pub hand : IsHand h c.pass (cached_in c)
   pub magazines : AreForClasses c.magazines.depth c.magazines.stacks.items
   pub few : c.magazines.depth ≤ 64

@@ -9,14 +9,14 @@ use Rattle.errand_steps.specs.Calls.{Call, alloc, free, put, read, take, write}
 use Rattle.live_heap.specs.declared.answers.AllocAnswer.{AllocAnswer}
 use Rattle.live_heap.specs.declared.answers.AllocAnswer.TheVariants as answer
 use Rattle.live_heap.specs.declared.block.Block.{Block}
-use Rattle.live_heap.specs.declared.heap.Heap.{Heap}
+use Rattle.live_heap.specs.Heaps.{HeapFields}
 use Rattle.live_heap.specs.Passes.{OwnsAt}
 use Rattle.live_heap.specs.Whole.{IsWhole}
 use Rattle.block_cache.specs.declared.cache.Cache.{Cache}
 use Rattle.block_cache.specs.Caches.{HasFor, HasKept, HasRoom, HasServed, IsCache, KeepsMagazines, cached_in}
 
 -- a cache of this heap that is in no call
-abbrev pub RestsAt : Heap → Cache → Type 0
+abbrev pub RestsAt : HeapFields → Cache → Type 0
 RestsAt h c = IsCache h c × IsIdle c.pass.errand
 
 -- a cache's caller holds the block at the place, which serves this need
@@ -33,7 +33,7 @@ Asks c (put place need shelf) = HoldsAt c place need
 Asks c (take shelf) = Unit {0}
 
 -- a whole call through a cache: a magazine serves an allocation, or keeps a freed block; or it is a whole call of the heap
-pub data MadeByCache (h : Heap) (c : Cache) (call : Call) (answer : Reply) (d : Cache) : Type 0 where
+pub data MadeByCache (h : HeapFields) (c : Cache) (call : Call) (answer : Reply) (d : Cache) : Type 0 where
   served : (words : ℕ) (block : Block) → call ≡ alloc words → answer ≡ reply.Given block.place block.need → HasServed c words block d
       → MadeByCache h c call answer d
   kept : (block : Block) → call ≡ free block.place block.need → answer ≡ reply.Freed → HoldsAt c block.place block.need → HasRoom c block.need
@@ -41,7 +41,7 @@ pub data MadeByCache (h : Heap) (c : Cache) (call : Call) (answer : Reply) (d : 
   asked : Asks c call → IsWhole h c.pass call answer h d.pass → KeepsMagazines c d → MadeByCache h c call answer d
 
 -- a whole call through a cache of this heap, which leaves it in no call
-pub record IsWholeCall (h : Heap) (c : Cache) (call : Call) (answer : Reply) (d : Cache) : Type 0 where
+pub record IsWholeCall (h : HeapFields) (c : Cache) (call : Call) (answer : Reply) (d : Cache) : Type 0 where
   pub before : RestsAt h c
   pub after : RestsAt h d
   pub made : MadeByCache h c call answer d

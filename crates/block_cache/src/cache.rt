@@ -12,7 +12,7 @@ ghost use Rattle.errand_steps.specs.Begins.{IsBusy, IsIdle, alloc_answer};
 ghost use Rattle.errand_steps.specs.Calls.{Call, put, read, write};
 ghost use Rattle.errand_steps.specs.Points.{is_idle};
 ghost use Rattle.live_heap.specs.declared.block.Block.{Block};
-ghost use Rattle.live_heap.specs.declared.heap.Heap.{Heap};
+ghost use Rattle.live_heap.specs.Heaps.{HeapFields};
 ghost use Rattle.live_heap.specs.declared.pass.Pass.{Pass};
 ghost use Rattle.live_heap.specs.Answers.{AllocTells, FreeTells, IsContents, PutTellsFull, ResumeTells, TakeTells};
 ghost use Rattle.live_heap.specs.Calls.{HasCalled, IsCalling};
@@ -50,7 +50,7 @@ impl Cache {
     pub fn open(alloc: Global, pass: Pass, depth: u8) -> Result<Cache, CacheRefused>
         requires idle { IsIdle pass.errand }
         requires few { depth ≤ 64 }
-        ensures cache { IfOk result (λ cache. (h : Heap) → IsOf h pass → IsCache h cache) }
+        ensures cache { IfOk result (λ cache. (h : HeapFields) → IsOf h pass → IsCache h cache) }
         ensures pass { IfOk result (λ cache. cache.pass ≡ pass) }
         ensures empty { IfOk result (λ cache. cached_in cache ≡ []) }
         ensures depth { IfOk result (λ cache. cache.magazines.depth ≡ depth) }
@@ -98,9 +98,9 @@ impl Cache {
     fn serve(&mut self, class: u8) -> Block
         requires class { class < CLASSES }
         requires some { 0 < length (magazine_in self.old class) }
-        requires cached { (h : Heap) × IsCache h self.old }
+        requires cached { (h : HeapFields) × IsCache h self.old }
         requires idle { IsIdle self.old.pass.errand }
-        ensures cache { (h : Heap) → IsCache h self.old → IsCache h self.new }
+        ensures cache { (h : HeapFields) → IsCache h self.old → IsCache h self.new }
         ensures depth { self.new.magazines.depth ≡ self.old.magazines.depth }
         ensures served { (words : ℕ) → need_of words ≡ Small class → HasServed self.old words result self.new }
         ensures holds { (held : List Block) → Holds self.old held → Holds self.new (result ∷ held) }
@@ -139,10 +139,10 @@ impl Cache {
         requires class { class < CLASSES }
         requires need { block.need ≡ Small class }
         requires room { length (magazine_in self.old class) < self.old.magazines.depth }
-        requires cached { (h : Heap) × IsCache h self.old }
+        requires cached { (h : HeapFields) × IsCache h self.old }
         requires idle { IsIdle self.old.pass.errand }
         requires held { HoldsBlock self.old block }
-        ensures cache { (h : Heap) → IsCache h self.old → IsCache h self.new }
+        ensures cache { (h : HeapFields) → IsCache h self.old → IsCache h self.new }
         ensures depth { self.new.magazines.depth ≡ self.old.magazines.depth }
         ensures kept { HasKept self.old block self.new }
         ensures holds { (held : List Block) → Holds self.old (block ∷ held) → Holds self.new held }
@@ -225,7 +225,7 @@ impl Cache {
 
     /// How many blocks the magazine of a class has.
     pub fn cached(&self, class: u8) -> u32
-        requires cache { (h : Heap) × IsCache h self.now }
+        requires cache { (h : HeapFields) × IsCache h self.now }
         requires class { class < CLASSES }
         ensures { result ≡ length (magazine_in self.now class) }
     {

@@ -14,7 +14,7 @@ ghost use Rattle.live_heap.specs.declared.answers.AllocAnswer.TheVariants as ans
 ghost use Rattle.live_heap.specs.declared.answers.FreeAnswer.{FreeAnswer};
 ghost use Rattle.live_heap.specs.declared.answers.FreeAnswer.TheVariants as free_answer;
 ghost use Rattle.live_heap.specs.declared.block.Block.{Block};
-ghost use Rattle.live_heap.specs.declared.heap.Heap.{Heap};
+ghost use Rattle.live_heap.specs.Heaps.{HeapFields};
 ghost use Rattle.live_heap.specs.declared.pass.Pass.{Pass};
 ghost use Rattle.live_heap.specs.Answers.{AllocTells, FreeTells};
 ghost use Rattle.live_heap.specs.Holdings.{HoldsExactly};
@@ -33,9 +33,9 @@ ghost use Rattle.block_cache.specs.Whole.{Asks, EndsAs, HoldsAt, IsWholeCall, Re
 /// it holds is one list, whose order means nothing, and a block is held just where it is in the list.
 pub fn caches_account_for_all_blocks()
     ensures opened { (c : Cache) (blocks : List Block) → IsIdle c.pass.errand → cached_in c ≡ [] → HoldsExactly c.pass blocks ↔ Holds c blocks }
-    ensures together { (h : Heap) (c : Cache) (held : List Block) → IsCache h c → Holds c held
+    ensures together { (h : HeapFields) (c : Cache) (held : List Block) → IsCache h c → Holds c held
         → (kept : List Block) × KeepsUnderWay (stage_of c.pass.errand.point) kept × HoldsExactly c.pass (kept ++ (held ++ cached_in c)) }
-    ensures held { (h : Heap) (c : Cache) (held : List Block) (block : Block) → IsCache h c → IsIdle c.pass.errand → Holds c held
+    ensures held { (h : HeapFields) (c : Cache) (held : List Block) (block : Block) → IsCache h c → IsIdle c.pass.errand → Holds c held
         → HoldsBlock c block ↔ IsAmong block held }
     ensures order { (c : Cache) (before after : List Block) (block : Block)
         → Holds c (before ++ block ∷ after) ↔ Holds c (block ∷ (before ++ after)) }
@@ -44,15 +44,15 @@ pub fn caches_account_for_all_blocks()
 /// A call that has ended is a whole call: an allocation or a free that its magazine served, and each that the
 /// heap was asked for, with what resumed it.
 pub fn ended_calls_are_whole()
-    ensures alloc { (h : Heap) (c d : Cache) (words tries : ℕ) (told : AllocAnswer) (ended : Reply) → RestsAt h c → IsCache h d
+    ensures alloc { (h : HeapFields) (c d : Cache) (words tries : ℕ) (told : AllocAnswer) (ended : Reply) → RestsAt h c → IsCache h d
         → (HasFor c (need_of words) → (block : Block) × (told ≡ answer.Given block) × HasServed c words block d)
         → ((¬ HasFor c (need_of words)) → AllocTells c.pass words tries told d.pass × KeepsMagazines c d)
         → EndsAs told ended → IsWholeCall h c (alloc words) ended d }
-    ensures free { (h : Heap) (c d : Cache) (block : Block) (tries : ℕ) → RestsAt h c → IsCache h d → HoldsBlock c block
+    ensures free { (h : HeapFields) (c d : Cache) (block : Block) (tries : ℕ) → RestsAt h c → IsCache h d → HoldsBlock c block
         → (HasRoom c block.need → HasKept c block d)
         → ((¬ HasRoom c block.need) → FreeTells c.pass block tries free_answer.Freed d.pass × KeepsMagazines c d)
         → IsWholeCall h c (free block.place block.need) reply.Freed d }
-    ensures asked { (h : Heap) (c d : Cache) (call : Call) (ended : Reply) → RestsAt h c → IsCache h d → Asks c call
+    ensures asked { (h : HeapFields) (c d : Cache) (call : Call) (ended : Reply) → RestsAt h c → IsCache h d → Asks c call
         → HasEndedCall c.pass call ended d.pass → KeepsMagazines c d → IsWholeCall h c call ended d }
 {}
 
@@ -60,27 +60,27 @@ pub fn ended_calls_are_whole()
 /// that a free or a put is about; a block that it is given or takes is held and none of those that were, and
 /// one that it is given serves what was asked for.
 pub fn whole_calls_keep_blocks()
-    ensures keeps { (h : Heap) (c d : Cache) (call : Call) (ended : Reply) (place : ℕ) (need : Need) → IsWholeCall h c call ended d
+    ensures keeps { (h : HeapFields) (c d : Cache) (call : Call) (ended : Reply) (place : ℕ) (need : Need) → IsWholeCall h c call ended d
         → LeavesPlace call place → HoldsAt c place need → HoldsAt d place need }
-    ensures hands { (h : Heap) (c d : Cache) (call : Call) (ended : Reply) (place : ℕ) (need : Need) → IsWholeCall h c call ended d
+    ensures hands { (h : HeapFields) (c d : Cache) (call : Call) (ended : Reply) (place : ℕ) (need : Need) → IsWholeCall h c call ended d
         → Hands ended place need → HoldsAt d place need }
-    ensures apart { (h : Heap) (c d : Cache) (call : Call) (ended : Reply) (place other : ℕ) (need had : Need) → IsWholeCall h c call ended d
+    ensures apart { (h : HeapFields) (c d : Cache) (call : Call) (ended : Reply) (place other : ℕ) (need had : Need) → IsWholeCall h c call ended d
         → Hands ended place need → HoldsAt c other had → other ≢ place }
-    ensures serves { (h : Heap) (c d : Cache) (words place : ℕ) (need : Need) → IsWholeCall h c (alloc words) (reply.Given place need) d
+    ensures serves { (h : HeapFields) (c d : Cache) (words place : ℕ) (need : Need) → IsWholeCall h c (alloc words) (reply.Given place need) d
         → need ≡ need_of words }
 {}
 
 /// What the caller of a cache is to see: an allocation that is given a block adds one, for the need and apart
 /// from all others; a free takes its own away, and a flush none, also one that was interrupted and resumed.
 pub fn magazines_are_hidden()
-    ensures whole { (h : Heap) (c d : Cache) (call : Call) (ended : Reply) → IsWholeCall h c call ended d → Shows c call ended d }
-    ensures flushed { (h : Heap) (c d : Cache) (tries : ℕ) → FlushTells h c tries free_answer.Freed d → ShowsSame c d }
-    ensures resumed { (h : Heap) (c d e : Cache) (tries : ℕ) → IsOf h e.pass
+    ensures whole { (h : HeapFields) (c d : Cache) (call : Call) (ended : Reply) → IsWholeCall h c call ended d → Shows c call ended d }
+    ensures flushed { (h : HeapFields) (c d : Cache) (tries : ℕ) → FlushTells h c tries free_answer.Freed d → ShowsSame c d }
+    ensures resumed { (h : HeapFields) (c d e : Cache) (tries : ℕ) → IsOf h e.pass
         → (stopped : HasStopped h c.pass (leaving (stacks_in c)) (leaving (stacks_in d)) tries d.pass)
         → HasEndedCall stopped.next (free stopped.block.place stopped.block.need) reply.Freed e.pass → KeepsMagazines d e → ShowsSame c e }
 {}
 
 /// A cache of depth 0 is its pass: no magazine has a block or room for one, so each call is the heap's.
 pub fn caches_without_depth_ask_the_heap()
-    ensures { (h : Heap) (c : Cache) (need : Need) → IsCache h c → c.magazines.depth ≡ 0 → (¬ HasFor c need) × (¬ HasRoom c need) }
+    ensures { (h : HeapFields) (c : Cache) (need : Need) → IsCache h c → c.magazines.depth ≡ 0 → (¬ HasFor c need) × (¬ HasRoom c need) }
 {}

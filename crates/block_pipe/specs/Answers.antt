@@ -11,6 +11,7 @@ use Rattle.live_heap.specs.declared.pass.Pass.{Pass}
 use Rattle.live_heap.specs.Answers.{PutTellsFull, TakeTells}
 use Rattle.live_heap.specs.Calls.{HasCalled}
 use Rattle.live_heap.specs.Passes.{seen}
+use Rattle.live_heap.specs.Shelves.{AllowedWords, MayLieOn}
 use Rattle.block_pipe.specs.declared.note.Note.{Note}
 use Rattle.block_pipe.specs.declared.pipe.Pipe.{Pipe}
 use Rattle.block_pipe.specs.declared.receiver.Receiver.{Receiver}
@@ -66,3 +67,9 @@ ReceiveTells pipe r p (received.Other block note) t q =
     HasComeTo pipe r note t × (t.kept ≡ None) × TakeTells p note.shelf (taken.Got block) q × (block.place ≢ note.place)
 ReceiveTells pipe r p (received.Missed expected found) t q =
     (note : Note) × HasComeTo pipe r note t × (t.kept ≡ Some note) × TakeTells p note.shelf (taken.Missed expected found) q
+
+-- the words of a block that was received are such as may lie on its shelf
+abbrev pub IsReceivedByRule : AllowedWords → Pipe → Received → Pass → Type 0
+IsReceivedByRule rule pipe (received.Got block sender seq) q = MayLieOn rule (seen q) q.errand.caller block.place (shelf_for pipe.shelves sender seq)
+IsReceivedByRule rule pipe (received.Other block note) q = MayLieOn rule (seen q) q.errand.caller block.place note.shelf
+IsReceivedByRule rule pipe told q = Unit {0}

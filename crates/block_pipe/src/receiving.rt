@@ -8,6 +8,7 @@ use live_heap::block::Block;
 use live_heap::heap::Heap;
 use live_heap::laws::blocks::passes_see_more;
 use live_heap::pass::Pass;
+use live_heap::shelves::ShelfRule;
 use std::sync::Wait;
 
 /// What a receive came to.
@@ -30,11 +31,18 @@ impl Receiver {
     ghost use Rattle.std.specs.Prelude.{◌≡◌};
     ghost use Rattle.errand_steps.specs.Begins.{IsIdle};
     ghost use Rattle.live_heap.specs.Passes.{IsOf};
-    ghost use Rattle.block_pipe.specs.Answers.{ReceiveTells};
+    ghost use Rattle.block_pipe.specs.Answers.{IsReceivedByRule, ReceiveTells};
     ghost use Rattle.block_pipe.specs.Ends.{IsReceiver};
 
-    /// Receives a block: pops a note, unless it kept one, and takes the block from the shelf that it names.
-    pub fn recv<R: Wait>(&mut self, rt: &R, pipe: &Pipe, heap: &Heap, pass: &mut Pass) -> Received
+    /// Receives a block: pops a note, unless it kept one, and takes the block from the shelf that it names. The block's
+    /// words are such as may lie there by the heap's rule.
+    pub fn recv<R: Wait, L: ShelfRule>(
+        &mut self,
+        rt: &R,
+        pipe: &Pipe,
+        heap: &Heap<L>,
+        pass: &mut Pass,
+    ) -> Received
         requires receiver { IsReceiver pipe.now self.old }
         requires of { IsOf heap.now pass.old }
         requires idle { IsIdle pass.old.errand }
@@ -42,6 +50,7 @@ impl Receiver {
         ensures receiver { IsReceiver pipe.now self.new }
         ensures of { IsOf heap.now pass.new }
         ensures tells { ReceiveTells pipe.now self.old pass.old result self.new pass.new }
+        ensures words { IsReceivedByRule L.allows pipe.now result pass.new }
     {
         let Some(note) = self.note(rt, pipe) else {
             return Received::Nothing;

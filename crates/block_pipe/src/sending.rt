@@ -6,6 +6,7 @@ use live_heap::answers::Full;
 use live_heap::block::Block;
 use live_heap::heap::Heap;
 use live_heap::pass::Pass;
+use live_heap::shelves::ShelfRule;
 use std::sync::Wait;
 
 /// What a send came to.
@@ -22,16 +23,18 @@ pub enum Sent {
 impl Sender {
     ghost use Rattle.std.specs.Prelude.{◌≡◌, ◌<◌, ◌^◌, None};
     ghost use Rattle.errand_steps.specs.Begins.{IsIdle};
-    ghost use Rattle.live_heap.specs.Passes.{IsOf, Owns};
+    ghost use Rattle.live_heap.specs.Passes.{IsOf, Owns, seen};
+    ghost use Rattle.live_heap.specs.Shelves.{MayLieOn};
     ghost use Rattle.block_pipe.specs.Answers.{SendTells};
     ghost use Rattle.block_pipe.specs.Ends.{IsSender};
+    ghost use Rattle.block_pipe.specs.Notes.{shelf_for};
 
-    /// Sends a block of the pass's: puts it on the sender's next shelf, and pushes its note.
-    pub fn send<R: Wait>(
+    /// Sends a block of the pass's, whose words may lie there: puts it on the sender's next shelf, and pushes its note.
+    pub fn send<R: Wait, L: ShelfRule>(
         &mut self,
         rt: &R,
         pipe: &Pipe,
-        heap: &Heap,
+        heap: &Heap<L>,
         pass: &mut Pass,
         block: Block,
     ) -> Sent
@@ -42,6 +45,7 @@ impl Sender {
         requires idle { IsIdle pass.old.errand }
         requires caller { pass.old.errand.caller ≡ self.old.number }
         requires owned { Owns pass.old block }
+        requires words { MayLieOn L.allows (seen pass.old) pass.old.errand.caller block.place (shelf_for pipe.now.shelves self.old.number self.old.sent) }
         ensures sender { IsSender pipe.now self.new × (self.new.number ≡ self.old.number) }
         ensures of { IsOf heap.now pass.new }
         ensures tells { SendTells pipe.now self.old pass.old block result self.new pass.new }

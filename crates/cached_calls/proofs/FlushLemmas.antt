@@ -8,7 +8,7 @@ use Rattle.errand_steps.specs.Calls.{Call, free}
 use Rattle.call_events.specs.Made.{LeadsBy, Made, answered}
 use Rattle.live_heap.specs.declared.answers.Resumed.{Resumed}
 use Rattle.live_heap.specs.declared.block.Block.{Block}
-use Rattle.live_heap.specs.declared.heap.Heap.{Heap}
+use Rattle.live_heap.specs.Heaps.{HeapFields}
 use Rattle.live_heap.specs.declared.pass.Pass.{Pass}
 use Rattle.live_heap.specs.Passes.{IsOf}
 use Rattle.live_heap.specs.Whole.{ResumesTo}
@@ -22,23 +22,23 @@ use Rattle.cached_calls.specs.Calls.{HasEmptied, HasEndedAt, frees_of}
 use Rattle.cached_calls.proofs.ThroughLemmas.{free-resumes}
 
 -- some of the blocks of the magazines were freed, and the others are left
-pub record EmptiesSoFar (h : Heap) (c d : Cache) : Type 0 where
+pub record EmptiesSoFar (h : HeapFields) (c d : Cache) : Type 0 where
   pub freed : List Block
   pub order : leaving (stacks_in c) ≡ freed ++ leaving (stacks_in d)
   pub frees : LeadsBy (HasEndedAt h) c.pass (frees_of freed) d.pass
   pub hits : d.hits ≡ c.hits
 
-pub empties-none : (h : Heap) (c : Cache) → EmptiesSoFar h c c
+pub empties-none : (h : HeapFields) (c : Cache) → EmptiesSoFar h c c
 empties-none h c = record { freed = []; order = refl; frees = refl; hits = refl }
 
 -- frees that have ended, and then others
 leads-on :
-    (h : Heap) (p q r : Pass) (made more : List Made) → LeadsBy (HasEndedAt h) p made q → LeadsBy (HasEndedAt h) q more r
+    (h : HeapFields) (p q r : Pass) (made more : List Made) → LeadsBy (HasEndedAt h) p made q → LeadsBy (HasEndedAt h) q more r
     → LeadsBy (HasEndedAt h) p (made ++ more) r
 leads-on h p q r [] more leads rest = subst (λ x. LeadsBy (HasEndedAt h) x more r) leads rest
 leads-on h p q r (m ∷ made) more (t, one, leads) rest = (t, one, leads-on h t q r made more leads rest)
 
-frees-lead : (h : Heap) (p q : Pass) (blocks : List Block) (tries : ℕ) → Frees h p blocks tries q → LeadsBy (HasEndedAt h) p (frees_of blocks) q
+frees-lead : (h : HeapFields) (p q : Pass) (blocks : List Block) (tries : ℕ) → Frees h p blocks tries q → LeadsBy (HasEndedAt h) p (frees_of blocks) q
 frees-lead h p q [] tries frees = frees
 frees-lead h p q (block ∷ blocks) tries (next, of, tells, frees) =
     (next, ((tells.steps, tells.called), (of, tells.called.idle)), frees-lead h next q blocks tries frees)
@@ -48,7 +48,7 @@ frees-append xs ys = map-append (λ (block : Block). answered (free block.place 
 
 -- all blocks of the magazines were freed
 pub empties-all :
-    (h : Heap) (c now d : Cache) (tries : ℕ) → EmptiesSoFar h c now → Frees h now.pass (leaving (stacks_in now)) tries d.pass
+    (h : HeapFields) (c now d : Cache) (tries : ℕ) → EmptiesSoFar h c now → Frees h now.pass (leaving (stacks_in now)) tries d.pass
     → d.hits ≡ now.hits → cached_in d ≡ [] → HasEmptied h c d
 empties-all h c now d tries so frees hits none = record {
   frees =
@@ -65,7 +65,7 @@ same-left c d keeps = ap (λ (m : Magazines). leaving (stacks_of m.stacks.items)
 
 -- the free that was interrupted has gone on to its end
 pub empties-stopped :
-    (h : Heap) (c now mid d : Cache) (tries : ℕ) (told : Resumed) → EmptiesSoFar h c now
+    (h : HeapFields) (c now mid d : Cache) (tries : ℕ) (told : Resumed) → EmptiesSoFar h c now
     → (stopped : HasStopped h now.pass (leaving (stacks_in now)) (leaving (stacks_in mid)) tries mid.pass)
     → mid.hits ≡ now.hits → KeepsMagazines mid d → RestsAt h d
     → ResumesTo stopped.next (free stopped.block.place stopped.block.need) told d.pass → EmptiesSoFar h c d
@@ -93,11 +93,11 @@ empties-stopped h c now mid d tries told so stopped hits keeps rests resumes =
     }
 
 -- the pass that has freed them is of the heap, as it was
-pub frees-of : (h : Heap) (p q : Pass) (blocks : List Block) (tries : ℕ) → IsOf h p → Frees h p blocks tries q → IsOf h q
+pub frees-of : (h : HeapFields) (p q : Pass) (blocks : List Block) (tries : ℕ) → IsOf h p → Frees h p blocks tries q → IsOf h q
 frees-of h p q [] tries was frees = subst (IsOf h) (sym frees) was
 frees-of h p q (block ∷ blocks) tries was (next, of, tells, frees) = frees-of h next q blocks tries of frees
 
 -- the pass that has freed them is in no call, if it was in none
-pub frees-idle : (h : Heap) (p q : Pass) (blocks : List Block) (tries : ℕ) → IsIdle p.errand → Frees h p blocks tries q → IsIdle q.errand
+pub frees-idle : (h : HeapFields) (p q : Pass) (blocks : List Block) (tries : ℕ) → IsIdle p.errand → Frees h p blocks tries q → IsIdle q.errand
 frees-idle h p q [] tries idle frees = subst (λ (r : Pass). IsIdle r.errand) (sym frees) idle
 frees-idle h p q (block ∷ blocks) tries idle (next, of, tells, frees) = frees-idle h next q blocks tries tells.called.idle frees

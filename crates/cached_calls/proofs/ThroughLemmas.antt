@@ -15,7 +15,7 @@ use Rattle.live_heap.specs.declared.answers.FreeAnswer.TheVariants as free_answe
 use Rattle.live_heap.specs.declared.answers.Resumed.{Resumed}
 use Rattle.live_heap.specs.declared.answers.Resumed.TheVariants as resumed
 use Rattle.live_heap.specs.declared.block.Block.{Block}
-use Rattle.live_heap.specs.declared.heap.Heap.{Heap}
+use Rattle.live_heap.specs.Heaps.{HeapFields}
 use Rattle.live_heap.specs.declared.pass.Pass.{Pass}
 use Rattle.live_heap.specs.Answers.{IsResumable, ResumeTells}
 use Rattle.live_heap.specs.Calls.{IsCalling}

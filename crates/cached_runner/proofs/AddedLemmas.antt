@@ -28,7 +28,7 @@ use Rattle.call_events.specs.UnderWay.{IsUnderWay}
 use Rattle.call_events.proofs.OfferLemmas.{put-offers}
 use Rattle.step_machine.specs.Cores.{OwnsAfter}
 use Rattle.live_heap.specs.declared.block.Block.{Block}
-use Rattle.live_heap.specs.declared.heap.Heap.{Heap}
+use Rattle.live_heap.specs.Heaps.{HeapFields}
 use Rattle.live_heap.specs.declared.pass.Pass.{Pass}
 use Rattle.live_heap.specs.Calls.{HasCalled}
 use Rattle.live_heap.specs.Contents.{HasGot, owned_in}
@@ -49,12 +49,12 @@ use Rattle.cached_calls.specs.Calls.{HasEndedAt, frees_of}
 use Rattle.cached_runner.proofs.Places.{freed_of}
 
 -- a pass rests later, and these are all events that its caller has added since
-pub record HasAdded (h : Heap) (p q : Pass) (added : List Event) : Type 0 where
+pub record HasAdded (h : HeapFields) (p q : Pass) (added : List Event) : Type 0 where
   pub rests : IsAtRest h q
   pub onward : IsOnward p.errand q.errand (seen p) (seen q)
   pub events : own p.errand.caller (seen q) ≡ own p.errand.caller (seen p) ++ added
 
-pub added-none : (h : Heap) (p : Pass) → IsAtRest h p → HasAdded h p p []
+pub added-none : (h : HeapFields) (p : Pass) → IsAtRest h p → HasAdded h p p []
 added-none h p rests = record {
   rests = rests;
   onward = onward-none p.errand (seen p);
@@ -62,7 +62,7 @@ added-none h p rests = record {
 }
 
 pub added-then :
-    (h : Heap) (p q r : Pass) (one two : List Event) → HasAdded h p q one → HasAdded h q r two → HasAdded h p r (one ++ two)
+    (h : HeapFields) (p q r : Pass) (one two : List Event) → HasAdded h p q one → HasAdded h q r two → HasAdded h p r (one ++ two)
 added-then h p q r one two a b = record {
   rests = b.rests;
   onward = onward-then p.errand q.errand r.errand (seen p) (seen q) (seen r) a.onward b.onward;
@@ -73,7 +73,7 @@ added-then h p q r one two a b = record {
 
 -- what a call that made steps adds
 pub called-added :
-    (h : Heap) (p q : Pass) (call : Call) (steps : ℕ) (answer : Reply) → IsAtRest h p → OwnsFor p call → IsAtRest h q
+    (h : HeapFields) (p q : Pass) (call : Call) (steps : ℕ) (answer : Reply) → IsAtRest h p → OwnsFor p call → IsAtRest h q
     → (called : HasCalled p call steps answer q) → HasAdded h p q called.added
 called-added h p q call steps answer rests owned ends called = record {
   rests = ends;
@@ -83,7 +83,7 @@ called-added h p q call steps answer rests owned ends called = record {
 
 -- what a whole call adds whose events are known
 pub whole-added :
-    (h : Heap) (p q : Pass) (call : Call) (answer : Reply) (end : Ended) (events : List Event) → IsAtRest h p → WholeAt h p call answer q
+    (h : HeapFields) (p q : Pass) (call : Call) (answer : Reply) (end : Ended) (events : List Event) → IsAtRest h p → WholeAt h p call answer q
     → ((words : ℕ) → call ≡ alloc words → ⊥) → end_of call answer ≡ Some end
     → ((added : List Event) → EventsOf p.errand.caller end added → added ≡ events) → HasAdded h p q events
 whole-added h p q call answer end events rests (made, owned, ends) not is just =
@@ -100,7 +100,7 @@ abbrev pub Written : ℕ → ℕ → (ℕ → ℕ) → ℕ → ℕ → List Even
 Written caller place value i n = map (λ j. Write caller place j (value j)) (range_with_len i n)
 
 pub writes-added :
-    (h : Heap) (place : ℕ) (need : Need) (value : ℕ → ℕ) (n i : ℕ) (p q : Pass) → IsAtRest h p → LeadsBy (WholeAt h) p (Writes place need value i n) q
+    (h : HeapFields) (place : ℕ) (need : Need) (value : ℕ → ℕ) (n i : ℕ) (p q : Pass) → IsAtRest h p → LeadsBy (WholeAt h) p (Writes place need value i n) q
     → HasAdded h p q (Written p.errand.caller place value i n)
 writes-added h place need value zero i p q rests same = subst (λ x. HasAdded h p x []) (sym same) (added-none h p rests)
 writes-added h place need value (suc n) i p q rests (t, one, leads) =
@@ -127,7 +127,7 @@ words-more contents i word words first rest (suc j) below =
 
 -- the words of a block are read
 pub reads-kept :
-    (h : Heap) (p : Pass) (at : ℕ) (block : PoolBlock) (need : Need) (words : List ℕ) (i : ℕ) (t q : Pass) → HasKept h p at block t []
+    (h : HeapFields) (p : Pass) (at : ℕ) (block : PoolBlock) (need : Need) (words : List ℕ) (i : ℕ) (t q : Pass) → HasKept h p at block t []
     → LeadsBy (WholeAt h) t (found_from at need i words) q → HasKept h p at block q [] × AreWords block.contents i words
 reads-kept h p at block need [] i t q k same =
     (subst (λ x. HasKept h p at block x []) (sym same) k, λ j below. absurd (omega (arith, below)))
@@ -138,7 +138,7 @@ reads-kept h p at block need (word ∷ words) i t q k (u, one, leads) =
 
 -- takes that missed, and one that did not
 pub takes-added :
-    (h : Heap) (shelf : ℕ) (answer : Reply) (misses : List Made) (p q : Pass) → AreMisses shelf misses → IsAtRest h p
+    (h : HeapFields) (shelf : ℕ) (answer : Reply) (misses : List Made) (p q : Pass) → AreMisses shelf misses → IsAtRest h p
     → LeadsBy (WholeAt h) p (misses ++ answered (take shelf) answer ∷ []) q → (t : Pass) × HasAdded h p t [] × WholeAt h t (take shelf) answer q
 takes-added h shelf answer [] p q are rests (t, one, same) =
     (p, added-none h p rests, subst (λ x. WholeAt h p (take shelf) answer x) (sym same) one)
@@ -157,7 +157,7 @@ owns-found p place need owned = ap (if_of p.errand.caller) owned.1 ∙ of-self p
 
 -- a put that found a full shelf
 pub full-added :
-    (h : Heap) (p q : Pass) (place : ℕ) (need : Need) (shelf found : ℕ) → IsAtRest h p → WholeAt h p (put place need shelf) (reply.Full found) q
+    (h : HeapFields) (p q : Pass) (place : ℕ) (need : Need) (shelf found : ℕ) → IsAtRest h p → WholeAt h p (put place need shelf) (reply.Full found) q
     → HasAdded h p q [] × IsFullShelf (pool_of (seen q)) shelf
 full-added h p q place need shelf found rests whole =
     let call = put place need shelf in
@@ -189,7 +189,7 @@ pub record HasTakenOff (p q : Pass) (shelf place : ℕ) (need : Need) : Type 0 w
 
 -- a take that got a block
 pub got-added :
-    (h : Heap) (p q : Pass) (shelf place : ℕ) (need : Need) → IsAtRest h p → WholeAt h p (take shelf) (reply.Got place need) q
+    (h : HeapFields) (p q : Pass) (shelf place : ℕ) (need : Need) → IsAtRest h p → WholeAt h p (take shelf) (reply.Got place need) q
     → HasAdded h p q (Take p.errand.caller shelf place ∷ []) × HasTakenOff p q shelf place need
 got-added h p q shelf place need rests whole =
     let caller = p.errand.caller in
@@ -230,7 +230,7 @@ free-begun e place need events = record {
 }
 
 free-added :
-    (h : Heap) (p q : Pass) (place : ℕ) (need : Need) → HasEndedAt h p (free place need) reply.Freed q
+    (h : HeapFields) (p q : Pass) (place : ℕ) (need : Need) → HasEndedAt h p (free place need) reply.Freed q
     → HasAdded h p q (Free p.errand.caller place ∷ [])
 free-added h p q place need ((steps, called), ends) =
     let call = free place need in
@@ -250,7 +250,7 @@ free-added h p q place need ((steps, called), ends) =
 
 -- blocks are freed, one after the other
 pub frees-added :
-    (h : Heap) (blocks : List Block) (p q : Pass) → IsAtRest h p → LeadsBy (HasEndedAt h) p (frees_of blocks) q
+    (h : HeapFields) (blocks : List Block) (p q : Pass) → IsAtRest h p → LeadsBy (HasEndedAt h) p (frees_of blocks) q
     → HasAdded h p q (freed_of p.errand.caller blocks)
 frees-added h [] p q rests same = subst (λ x. HasAdded h p x []) (sym same) (added-none h p rests)
 frees-added h (block ∷ blocks) p q rests (t, one, leads) =

@@ -10,7 +10,7 @@ use Rattle.lane_outcomes.specs.declared.registers.Held.{Held}
 use Rattle.lane_outcomes.specs.declared.outcome.Outcome.{Outcome}
 use Rattle.lane_outcomes.specs.Lane.{registers_after}
 use Rattle.live_heap.specs.declared.block.Block.{Block}
-use Rattle.live_heap.specs.declared.heap.Heap.{Heap}
+use Rattle.live_heap.specs.Heaps.{HeapFields}
 use Rattle.trace_lane.specs.declared.lane.LaneState.{LaneState}
 use Rattle.trace_lane.specs.Made.{AllMade, HasRun, HoldsBlocks}
 use Rattle.trace_lane.specs.Paths.{FirstPassed, held_blocks}
@@ -24,7 +24,7 @@ use Rattle.cached_runner.specs.Runs.{HasMadeAll}
 
 -- calls over what holds a cache are calls of the cache
 leads-cache :
-    (h : Heap) (e f : CachedCalls) (made : List Made) → e.heap.now ≡ h → LeadsBy cache_maker.called e made f
+    (h : HeapFields) (e f : CachedCalls) (made : List Made) → e.heap.now ≡ h → LeadsBy cache_maker.called e made f
     → (f.heap.now ≡ h) × LeadsBy (IsCachedCall h) e.cache.now made f.cache.now
 leads-cache h e f [] here leads = (ap (λ (x : CachedCalls). x.heap.now) leads ∙ here, ap (λ (x : CachedCalls). x.cache.now) leads)
 leads-cache h e f (m ∷ made) here (g, (one, same), leads) =
@@ -33,7 +33,7 @@ leads-cache h e f (m ∷ made) here (g, (one, same), leads) =
     (more.0, (g.cache.now, subst (λ k. IsCachedCall k e.cache.now m.call m.answer g.cache.now) here one, more.1))
 
 all-cache :
-    (h : Heap) (registers : List (Option Held)) (left : List Op) (outs : List Outcome) (e f : CachedCalls) → e.heap.now ≡ h
+    (h : HeapFields) (registers : List (Option Held)) (left : List Op) (outs : List Outcome) (e f : CachedCalls) → e.heap.now ≡ h
     → AllMade cache_maker.called registers left outs e f → (f.heap.now ≡ h) × AllMade (IsCachedCall h) registers left outs e.cache.now f.cache.now
 all-cache h registers left [] e f here same = (ap (λ (x : CachedCalls). x.heap.now) same ∙ here, ap (λ (x : CachedCalls). x.cache.now) same)
 all-cache h registers [] (r ∷ outs) e f here all = absurd all
@@ -63,7 +63,7 @@ new-holds owns caller count lane new = record {
 
 -- a new lane has run through a cache
 pub made-all :
-    (passed : ℕ → ℕ → Type 0) (h : Heap) (operations : List Op) (e f : CachedCalls) (c : Cache) (old new : LaneState Block)
+    (passed : ℕ → ℕ → Type 0) (h : HeapFields) (operations : List Op) (e f : CachedCalls) (c : Cache) (old new : LaneState Block)
     → IsNew old.caller (length operations) old → e.cache.now ≡ c → e.heap.now ≡ h → RestsAt f.heap.now f.cache.now
     → HasRun (λ (block : Block). block.place) (λ (block : Block). block.need) cache_maker.called operations e f old new
     → length new.outcomes.items ≡ length operations

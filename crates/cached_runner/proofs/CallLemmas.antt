@@ -10,7 +10,7 @@ use Rattle.errand_steps.specs.declared.reply.Reply.TheVariants as reply
 use Rattle.errand_steps.specs.Calls.{Call, alloc, free, take, write}
 use Rattle.call_events.specs.Made.{LeadsBy, Made, answered, found_from}
 use Rattle.live_heap.specs.declared.block.Block.{Block}
-use Rattle.live_heap.specs.declared.heap.Heap.{Heap}
+use Rattle.live_heap.specs.Heaps.{HeapFields}
 use Rattle.live_heap.specs.Answers.{IsTried}
 use Rattle.lane_engine.specs.Whole.{copied_word}
 use Rattle.lane_engine.proofs.CopyLemmas.{copied-past, copied-read}
@@ -69,13 +69,13 @@ plain-takes shelf (m ∷ misses) answer are =
     ((λ tried. subst (λ (x : Made). IsTried x.call) are.2 tried), plain-takes shelf misses answer are.3)
 
 -- the heap was asked, and the magazines are as they were
-pub record HasAsked (h : Heap) (c d : Cache) (made : List Made) : Type 0 where
+pub record HasAsked (h : HeapFields) (c d : Cache) (made : List Made) : Type 0 where
   pub leads : LeadsBy (WholeAt h) c.pass made d.pass
   pub keeps : KeepsMagazines c d
   pub rests : RestsAt h d
 
 pub plain-call :
-    (h : Heap) (c d : Cache) (call : Call) (answer : Reply) → IsCachedCall h c call answer d → ¬ IsTried call
+    (h : HeapFields) (c d : Cache) (call : Call) (answer : Reply) → IsCachedCall h c call answer d → ¬ IsTried call
     → WholeAt h c.pass call answer d.pass × KeepsMagazines c d
 plain-call h c d call answer (whole, deep) plain =
     elim whole.made [
@@ -88,7 +88,7 @@ keeps-then : (c d e : Cache) → KeepsMagazines c d → KeepsMagazines d e → K
 keeps-then c d e one two = record { magazines = two.magazines ∙ one.magazines; hits = two.hits ∙ one.hits }
 
 pub plain-leads :
-    (h : Heap) (made : List Made) (c d : Cache) → AllPlain made → RestsAt h c → LeadsBy (IsCachedCall h) c made d → HasAsked h c d made
+    (h : HeapFields) (made : List Made) (c d : Cache) → AllPlain made → RestsAt h c → LeadsBy (IsCachedCall h) c made d → HasAsked h c d made
 plain-leads h [] c d plain rests same = record {
   leads = ap (λ (x : Cache). x.pass) same;
   keeps = record { magazines = ap (λ (x : Cache). x.magazines) same; hits = ap (λ (x : Cache). x.hits) same };
@@ -101,7 +101,7 @@ plain-leads h (m ∷ made) c d plain rests (t, one, leads) =
 
 -- an allocation: a magazine served it, or the heap was asked
 pub alloc-by :
-    (h : Heap) (c d : Cache) (words : ℕ) (answer : Reply) → IsCachedCall h c (alloc words) answer d
+    (h : HeapFields) (c d : Cache) (words : ℕ) (answer : Reply) → IsCachedCall h c (alloc words) answer d
     → ((block : Block) × (answer ≡ reply.Given block.place block.need) × HasServed c words block d)
     ⊎ ((¬ HasFor c (need_of words)) × WholeAt h c.pass (alloc words) answer d.pass × KeepsMagazines c d)
 alloc-by h c d words answer (whole, deep) =
@@ -115,7 +115,7 @@ alloc-by h c d words answer (whole, deep) =
 
 -- a free: a magazine kept the block, or the heap was asked
 pub free-by :
-    (h : Heap) (c d : Cache) (place : ℕ) (need : Need) (answer : Reply) → IsCachedCall h c (free place need) answer d
+    (h : HeapFields) (c d : Cache) (place : ℕ) (need : Need) (answer : Reply) → IsCachedCall h c (free place need) answer d
     → ((block : Block) × (block.place ≡ place) × (block.need ≡ need) × HasRoom c block.need × HasKept c block d)
     ⊎ ((¬ HasRoom c need) × WholeAt h c.pass (free place need) answer d.pass × KeepsMagazines c d)
 free-by h c d place need answer (whole, deep) =

@@ -14,7 +14,7 @@ use Rattle.sound_state.proofs.shared.SumLemmas.{term-sum}
 use Rattle.errand_steps.specs.Errands.{ErrandFields}
 use Rattle.step_machine.specs.Cores.{errand_at}
 use Rattle.step_machine.proofs.CoreLemmas.{core-sound}
-use Rattle.live_heap.specs.declared.heap.Heap.{Heap}
+use Rattle.live_heap.specs.Heaps.{HeapFields}
 use Rattle.live_heap.specs.declared.pass.Pass.{Pass}
 use Rattle.live_heap.specs.Endings.{ClosedFields, HasClosed, HasTakenIn, IsResting, machine_of}
 use Rattle.live_heap.specs.Passes.{seen}
@@ -56,7 +56,7 @@ holds-nothing c =
       once = λ r q held other one two differ. absurd (nothing r held one);
     }
 
-opened-between : (h : Heap) (depth lane : ℕ) (c : Cache) → IsOpened h depth lane c → IsBetween h c start
+opened-between : (h : HeapFields) (depth lane : ℕ) (c : Cache) → IsOpened h depth lane c → IsBetween h c start
 opened-between h depth lane c is = record {
   rests = is.rests;
   done = ap (own c.pass.errand.caller) is.fresh.nothing_seen;
@@ -65,13 +65,13 @@ opened-between h depth lane c is = record {
   holds = holds-nothing c;
 }
 
-opened-start : (h : Heap) (depth lane : ℕ) (c : Cache) → IsOpened h depth lane c → stands_at c start ≡ cached_start
+opened-start : (h : HeapFields) (depth lane : ℕ) (c : Cache) → IsOpened h depth lane c → stands_at c start ≡ cached_start
 opened-start h depth lane c is =
     ap (λ (ms : List (List ℕ)). let p : CachedPosition = record { base = start; magazines = ms; hits = c.hits } in p) (no-places h c is.rests.0 is.empty)
     ∙ ap (λ (n : ℕ). let p : CachedPosition = record { base = start; magazines = (cached_start).magazines; hits = n } in p) is.no_hits
 
 -- a lane that has ended: how its outcomes walk, up to where its cache was emptied
-record HasCome (h : Heap) (depth : ℕ) (operations : List Op) (lane : ℕ) (outcomes : List Outcome) (c : Cache) : Type 0 where
+record HasCome (h : HeapFields) (depth : ℕ) (operations : List Op) (lane : ℕ) (outcomes : List Outcome) (c : Cache) : Type 0 where
   pub ran : Cache
   pub end : Position
   pub walks :
@@ -83,7 +83,7 @@ record HasCome (h : Heap) (depth : ℕ) (operations : List Op) (lane : ℕ) (out
   pub hits : c.hits ≡ ran.hits
 
 ended-come :
-    (h : Heap) (depth : ℕ) (operations : List Op) (lane : ℕ) (outcomes : List Outcome) (c : Cache) → HasEndedThrough h depth operations lane outcomes c
+    (h : HeapFields) (depth : ℕ) (operations : List Op) (lane : ℕ) (outcomes : List Outcome) (c : Cache) → HasEndedThrough h depth operations lane outcomes c
     → HasCome h depth operations lane outcomes c
 ended-come h depth operations lane outcomes c e =
     let first = e.first in
@@ -143,7 +143,7 @@ lanes-fit g history lost depth base (operations ∷ lanes) (results ∷ outcomes
       (let next : base + suc k ≡ suc base + k = omega arith in next) (each (suc k) (omega (arith, lt)))),
 )
 
-module _ (trace : Trace) (h : Heap) (depth : ℕ) (passes : List Pass) (outcomes : List (List Outcome)) (hits : List ℕ) (c : ClosedFields) (is : IsTrace trace) (laid : h.layout ≡ trace.heap) (run : HaveRunThrough trace h depth passes outcomes hits) (closed : HasClosed h passes c) (rests : IsResting c) where
+module _ (trace : Trace) (h : HeapFields) (depth : ℕ) (passes : List Pass) (outcomes : List (List Outcome)) (hits : List ℕ) (c : ClosedFields) (is : IsTrace trace) (laid : h.layout ≡ trace.heap) (run : HaveRunThrough trace h depth passes outcomes hits) (closed : HasClosed h passes c) (rests : IsResting c) where
   layout : c.geometry ≡ trace.heap
   layout = closed.heap ∙ laid
 

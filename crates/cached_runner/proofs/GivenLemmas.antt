@@ -14,7 +14,7 @@ use Rattle.errand_steps.specs.declared.reply.Reply.TheVariants as reply
 use Rattle.errand_steps.specs.Calls.{alloc, free}
 use Rattle.call_events.specs.Made.{LeadsBy, answered, wrote}
 use Rattle.live_heap.specs.declared.block.Block.{Block}
-use Rattle.live_heap.specs.declared.heap.Heap.{Heap}
+use Rattle.live_heap.specs.Heaps.{HeapFields}
 use Rattle.live_heap.specs.declared.pass.Pass.{Pass}
 use Rattle.live_heap.specs.Contents.{IsGiven as IsGivenTo, owned_in}
 use Rattle.live_heap.specs.Passes.{seen}
@@ -44,7 +44,7 @@ use Rattle.cached_runner.proofs.Places.{kept-freed, not-given, not-kept, not-ser
 use Rattle.cached_runner.proofs.RowLemmas.{HasGone, IsBetween, asks, given-answered, moment-first, owns-it, pass-rests, quiet-freeing, quiet-more, setting_at, stands_at}
 
 -- an allocation of a lane that stands so was given the block at this place
-record HasGiven (h : Heap) (c t : Cache) (base : Position) (need place : ℕ) : Type 0 where
+record HasGiven (h : HeapFields) (c t : Cache) (base : Position) (need place : ℕ) : Type 0 where
   pub calls : List Event
   pub added : HasAdded h c.pass t.pass calls
   pub given :
@@ -62,7 +62,7 @@ counts-one hits one is less =
 
 -- a magazine gave the block of an allocation
 served-gives :
-    (h : Heap) (c t : Cache) (base : Position) (need : ℕ) (block : Block) → RestsAt h c → HasServed c need block t
+    (h : HeapFields) (c t : Cache) (base : Position) (need : ℕ) (block : Block) → RestsAt h c → HasServed c need block t
     → HasGiven h c t base need block.place
 served-gives h c t base need block rests s =
     let served = served-by c t need block s in
@@ -82,7 +82,7 @@ served-gives h c t base need block rests s =
 
 -- the heap gave the block of an allocation
 asked-gives :
-    (h : Heap) (c t : Cache) (base : Position) (need place : ℕ) → IsBetween h c base → (¬ HasFor c (need_of need))
+    (h : HeapFields) (c t : Cache) (base : Position) (need place : ℕ) → IsBetween h c base → (¬ HasFor c (need_of need))
     → WholeAt h c.pass (alloc need) (reply.Given place (need_of need)) t.pass → KeepsMagazines c t → HasGiven h c t base need place
 asked-gives h c t base need place st none (made, owned, ends) keeps =
     let answer : Reply = reply.Given place (need_of need) in
@@ -104,7 +104,7 @@ asked-gives h c t base need place st none (made, owned, ends) keeps =
     }
 
 gives :
-    (h : Heap) (c t : Cache) (base : Position) (need place : ℕ) → IsBetween h c base
+    (h : HeapFields) (c t : Cache) (base : Position) (need place : ℕ) → IsBetween h c base
     → IsCachedCall h c (alloc need) (reply.Given place (need_of need)) t → HasGiven h c t base need place
 gives h c t base need place st one =
     elim (alloc-by h c t need (reply.Given place (need_of need)) one) [
@@ -134,13 +134,13 @@ resize-answers setting c base r need words place calls (Some at) given so_far =
     piece-none setting.caller base.done calls base.answered so_far (ap (answered_in setting.caller) given.1)
 
 -- a block was freed: its magazine kept it, or the heap has it
-record HasFreed (h : Heap) (u d : Cache) (place : ℕ) (need : Need) : Type 0 where
+record HasFreed (h : HeapFields) (u d : Cache) (place : ℕ) (need : Need) : Type 0 where
   pub added : HasAdded h u.pass d.pass (freeing u.pass.errand.caller (is_kept u.magazines.depth (places_in u) need) place)
   pub magazines : places_in d ≡ kept_with (is_kept u.magazines.depth (places_in u) need) (places_in u) place need
   pub hits : d.hits ≡ u.hits
 
 frees :
-    (h : Heap) (u d : Cache) (place : ℕ) (need : Need) → RestsAt h u → IsCachedCall h u (free place need) reply.Freed d → HasFreed h u d place need
+    (h : HeapFields) (u d : Cache) (place : ℕ) (need : Need) → RestsAt h u → IsCachedCall h u (free place need) reply.Freed d → HasFreed h u d place need
 frees h u d place need rests one =
     let caller = u.pass.errand.caller in
     elim (free-by h u d place need reply.Freed one) [
@@ -167,7 +167,7 @@ frees h u d place need rests one =
           }
     ]
 
-module _ (h : Heap) (c d : Cache) (base : Position) (st : IsBetween h c base) where
+module _ (h : HeapFields) (c d : Cache) (base : Position) (st : IsBetween h c base) where
   abbrev caller : ℕ
   caller = c.pass.errand.caller
 

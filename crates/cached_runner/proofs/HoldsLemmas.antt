@@ -13,7 +13,7 @@ use Rattle.call_events.specs.Made.{LeadsBy, Made, answered, wrote}
 use Rattle.step_machine.specs.Cores.{OwnsAfter}
 use Rattle.step_machine.specs.Keeping.{LeavesPlace}
 use Rattle.live_heap.specs.declared.block.Block.{Block}
-use Rattle.live_heap.specs.declared.heap.Heap.{Heap}
+use Rattle.live_heap.specs.Heaps.{HeapFields}
 use Rattle.live_heap.specs.declared.pass.Pass.{Pass}
 use Rattle.live_heap.specs.Contents.{owned_in}
 use Rattle.live_heap.specs.Passes.{seen}
@@ -55,7 +55,7 @@ owns-still p q place need same owned =
     let found = owned-found q.errand.caller (block_at place (pool_of (seen q))) owned.0 (same ∙ owns-found p place need owned) in
     (owned.0, found.0, found.1, owned.3)
 
-module _ (h : Heap) where
+module _ (h : HeapFields) where
   abbrev Called : Cache → Call → Reply → Cache → Type 0
   Called = IsCachedCall h
 

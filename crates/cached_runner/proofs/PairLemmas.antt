@@ -5,7 +5,7 @@ use Rattle.crossbeam_utils.specs.declared.cache_padded.CachePadded.{CachePadded}
 use Rattle.crossbeam_utils.specs.Padded.{padded_value}
 use Rattle.trace_text.specs.declared.trace.Trace.{Trace}
 use Rattle.lane_outcomes.specs.declared.outcome.Outcome.{Outcome}
-use Rattle.live_heap.specs.declared.heap.Heap.{Heap}
+use Rattle.live_heap.specs.Heaps.{HeapFields}
 use Rattle.live_heap.specs.declared.pass.Pass.{Pass}
 use Rattle.live_heap.specs.Passes.{AreFrom, IsFresh}
 use Rattle.lane_runner.specs.Running.{operations_in}
@@ -16,7 +16,7 @@ use Rattle.cached_runner.specs.Threads.{AreDone, AreEnded, AreReady, HasEndedThr
 use Rattle.cached_runner.proofs.ThreadLemmas.{ended-push}
 
 -- the last one of new passes is taken out
-module _ (h : Heap) (passes others : List Pass) (p : Pass) (last : passes ≡ others ++ p ∷ []) (fresh : AreFrom h 0 passes) where
+module _ (h : HeapFields) (passes others : List Pass) (p : Pass) (last : passes ≡ others ++ p ∷ []) (fresh : AreFrom h 0 passes) where
   popped : AreFrom h 0 others × IsFresh h p × (p.errand.caller ≡ 0 + length others)
   popped = from-pop h 0 others p (subst (AreFrom h 0) last fresh)
 
@@ -28,7 +28,7 @@ module _ (h : Heap) (passes others : List Pass) (p : Pass) (last : passes ≡ ot
 
 -- the lane of the pass that was taken out is ready
 pub pair-thread :
-    (trace : Trace) (h : Heap) (depth : ℕ) (passes others : List Pass) (p : Pass) (threads : List (CachePadded CacheThread)) (t : CacheThread)
+    (trace : Trace) (h : HeapFields) (depth : ℕ) (passes others : List Pass) (p : Pass) (threads : List (CachePadded CacheThread)) (t : CacheThread)
     (padded : CachePadded CacheThread)
     → passes ≡ others ++ p ∷ [] → padded_value padded ≡ t → (t.lane.caller ≡ length others) × IsPaired trace h depth t
     → AreReady trace h depth (length passes) threads → AreReady trace h depth (length others) (threads ++ padded ∷ [])
@@ -39,7 +39,7 @@ pair-thread trace h depth passes others p threads t padded last is new readies =
     (subst (IsReady trace h depth k) (sym is) (record { number = new.0; paired = new.1 }))
 
 -- a lane's pass, its outcomes and its hits are taken back
-module _ (trace : Trace) (h : Heap) (depth : ℕ) (threads rest : List (CachePadded CacheThread)) (t : CachePadded CacheThread) (passes : List Pass) (outcomes : List (Vec Outcome Global)) (hits : List ℕ) (last : threads ≡ rest ++ t ∷ []) (done : AreDone trace h depth (length passes) threads) (ended : AreEnded trace h depth 0 passes outcomes hits) where
+module _ (trace : Trace) (h : HeapFields) (depth : ℕ) (threads rest : List (CachePadded CacheThread)) (t : CachePadded CacheThread) (passes : List Pass) (outcomes : List (Vec Outcome Global)) (hits : List ℕ) (last : threads ≡ rest ++ t ∷ []) (done : AreDone trace h depth (length passes) threads) (ended : AreEnded trace h depth 0 passes outcomes hits) where
   popped-done : IsDone trace h depth (length passes) (padded_value t) × AreDone trace h depth (suc (length passes)) rest
   popped-done =
       down-pop (λ k t. IsDone trace h depth k (padded_value t)) (length passes) rest t (subst (AreDone trace h depth (length passes)) last done)

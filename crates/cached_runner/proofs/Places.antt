@@ -10,7 +10,7 @@ use Rattle.heap_geometry.specs.Need.{need_of}
 use Rattle.pool_model.specs.declared.event.Event.{Event}
 use Rattle.pool_model.specs.declared.event.Event.TheVariants.{Free}
 use Rattle.live_heap.specs.declared.block.Block.{Block}
-use Rattle.live_heap.specs.declared.heap.Heap.{Heap}
+use Rattle.live_heap.specs.Heaps.{HeapFields}
 use Rattle.block_cache.specs.declared.cache.Cache.{Cache}
 use Rattle.block_cache.specs.declared.magazines.Magazines.{Magazines}
 use Rattle.block_cache.specs.Caches.{HasFor, HasKept, HasRoom, HasServed, IsCache, KeepsMagazines, cached_in, magazine_in, stacks_in}
@@ -163,7 +163,7 @@ none-of [] none = refl
 none-of ([] ∷ stacks) none = ap (λ xs. nothing ∷ xs) (none-of stacks none)
 none-of ((block ∷ stack) ∷ stacks) none = absurd (cc)
 
-pub no-places : (h : Heap) (c : Cache) → IsCache h c → cached_in c ≡ [] → places_in c ≡ empty_magazines
+pub no-places : (h : HeapFields) (c : Cache) → IsCache h c → cached_in c ≡ [] → places_in c ≡ empty_magazines
 no-places h c is none =
     none-of (stacks_in c) none
     ∙ ap (λ n. replicate n nothing) (length-stacks c.magazines.stacks.items ∙ is.magazines.classes)

@@ -21,7 +21,7 @@ use Rattle.step_machine.specs.Moments.{IsServed}
 use Rattle.call_events.specs.Made.{LeadsBy, Made, answered, found_from, wrote}
 use Rattle.call_events.specs.UnderWay.{IsUnderWay}
 use Rattle.live_heap.specs.declared.block.Block.{Block}
-use Rattle.live_heap.specs.declared.heap.Heap.{Heap}
+use Rattle.live_heap.specs.Heaps.{HeapFields}
 use Rattle.live_heap.specs.declared.pass.Pass.{Pass}
 use Rattle.live_heap.specs.Answers.{IsSpentAtOnce, IsTried}
 use Rattle.live_heap.specs.Calls.{HasCalled}
@@ -61,7 +61,7 @@ use Rattle.cached_runner.proofs.Places.{not-served, places_in, same-places}
 abbrev pub stands_at : Cache → Position → CachedPosition
 stands_at c base = record { base = base; magazines = places_in c; hits = c.hits }
 
-pub record IsBetween (h : Heap) (c : Cache) (base : Position) : Type 0 where
+pub record IsBetween (h : HeapFields) (c : Cache) (base : Position) : Type 0 where
   pub rests : RestsAt h c
   pub done : own c.pass.errand.caller (seen c.pass) ≡ base.done
   pub answered : base.answered ≡ answered_in c.pass.errand.caller base.done
@@ -69,11 +69,11 @@ pub record IsBetween (h : Heap) (c : Cache) (base : Position) : Type 0 where
   pub holds : HoldsAll c base.registers
 
 -- what the outcome of an operation is held against, by the cache behind the operation
-abbrev pub setting_at : Heap → Cache → Cache → Setting
+abbrev pub setting_at : HeapFields → Cache → Cache → Setting
 setting_at h c d = setting_in (seen d.pass) c.pass.errand.caller h.layout.turn_limit d.pass.errand.lost
 
 -- an operation with its outcome has led from one cache to the other
-pub record HasGone (h : Heap) (c d : Cache) (base : Position) (operation : Op) (result : Outcome) : Type 0 where
+pub record HasGone (h : HeapFields) (c d : Cache) (base : Position) (operation : Op) (result : Outcome) : Type 0 where
   pub piece : List Event
   pub added : HasAdded h c.pass d.pass piece
   pub row : CachedRow (setting_at h c d) c.magazines.depth (stands_at c base) operation result piece
@@ -87,7 +87,7 @@ pub record HasGone (h : Heap) (c d : Cache) (base : Position) (operation : Op) (
   pub spent : result ≡ outcome.Spent → d.pass.errand.turns ≡ h.layout.turn_limit
 
 -- a cache that rests has a pass that does
-pub pass-rests : (h : Heap) (c : Cache) → RestsAt h c → IsAtRest h c.pass
+pub pass-rests : (h : HeapFields) (c : Cache) → RestsAt h c → IsAtRest h c.pass
 pass-rests h c rests = (rests.0.hand.of, rests.1)
 
 -- an allocation that was given a block is one more that was answered
@@ -112,7 +112,7 @@ pub quiet-freeing : (caller : ℕ) (keeps : Bool) (place : ℕ) → answered_in 
 quiet-freeing caller true place = refl
 quiet-freeing caller false place = refl
 
-module _ (h : Heap) (c d : Cache) (base : Position) (st : IsBetween h c base) where
+module _ (h : HeapFields) (c d : Cache) (base : Position) (st : IsBetween h c base) where
   abbrev caller : ℕ
   caller = c.pass.errand.caller
 

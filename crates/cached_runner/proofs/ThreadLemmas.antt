@@ -18,7 +18,7 @@ use Rattle.lane_outcomes.specs.declared.registers.Held.{Held}
 use Rattle.lane_outcomes.specs.Lane.{registers_after}
 use Rattle.lane_outcomes.specs.Passed.{AllPassed}
 use Rattle.live_heap.specs.declared.block.Block.{Block}
-use Rattle.live_heap.specs.declared.heap.Heap.{Heap}
+use Rattle.live_heap.specs.Heaps.{HeapFields}
 use Rattle.live_heap.specs.declared.pass.Pass.{Pass}
 use Rattle.live_heap.specs.Passes.{AreFrom, IsOf, view}
 use Rattle.trace_lane.specs.Made.{AllMade}
@@ -34,12 +34,12 @@ use Rattle.cached_calls.specs.Calls.{HasEndedAt, IsCachedCall, frees_of}
 use Rattle.cached_runner.specs.declared.run_cached.CacheThread.{CacheThread}
 use Rattle.cached_runner.specs.Threads.{AreDone, AreEnded, AreReady, HasEndedThrough, HasEndedWith, HasRunOn, HaveRunThrough, IsDone, IsPaired, IsReady}
 
-pub ready-paired : (trace : Trace) (h : Heap) (depth k : ℕ) (t : CacheThread) → IsReady trace h depth k t → IsPaired trace h depth t
+pub ready-paired : (trace : Trace) (h : HeapFields) (depth k : ℕ) (t : CacheThread) → IsReady trace h depth k t → IsPaired trace h depth t
 ready-paired trace h depth k t is = is.paired
 
 -- a thread has run its lane
 pub ready-done :
-    (passed : ℕ → ℕ → Type 0) (trace : Trace) (h : Heap) (depth k : ℕ) (t u : CacheThread) → IsReady trace h depth k t
+    (passed : ℕ → ℕ → Type 0) (trace : Trace) (h : HeapFields) (depth k : ℕ) (t u : CacheThread) → IsReady trace h depth k t
     → HasRunOn passed trace h t u → IsDone trace h depth k u
 ready-done passed trace h depth k t u is ran = record {
   ended =
@@ -48,13 +48,13 @@ ready-done passed trace h depth k t u is ran = record {
 }
 
 pub ready-passed :
-    (passed : ℕ → ℕ → Type 0) (trace : Trace) (h : Heap) (depth k : ℕ) (t u : CacheThread) → IsReady trace h depth k t
+    (passed : ℕ → ℕ → Type 0) (trace : Trace) (h : HeapFields) (depth k : ℕ) (t u : CacheThread) → IsReady trace h depth k t
     → HasRunOn passed trace h t u → FirstPassed passed k (length (operations_in trace k))
 ready-passed passed trace h depth k t u is ran =
     subst (λ n. FirstPassed passed n (length (operations_in trace n))) is.number ran.gate
 
 -- what all threads have made of their lanes
-module _ (passed : ℕ → ℕ → Type 0) (trace : Trace) (h : Heap) (depth : ℕ) (xs ys : List (CachePadded CacheThread)) (same : length ys ≡ length xs) (all : length xs ≡ length trace.lanes) (readies : AreReady trace h depth 0 xs) (ran : (i : ℕ) (d : CachePadded CacheThread) → i < length xs → HasRunOn passed trace h (padded_value (get_or xs i d)) (padded_value (get_or ys i d))) where
+module _ (passed : ℕ → ℕ → Type 0) (trace : Trace) (h : HeapFields) (depth : ℕ) (xs ys : List (CachePadded CacheThread)) (same : length ys ≡ length xs) (all : length xs ≡ length trace.lanes) (readies : AreReady trace h depth 0 xs) (ran : (i : ℕ) (d : CachePadded CacheThread) → i < length xs → HasRunOn passed trace h (padded_value (get_or xs i d)) (padded_value (get_or ys i d))) where
   pub threads-done : (length ys ≡ length trace.lanes) × AreDone trace h depth 0 ys
   threads-done = (
     same ∙ all,
@@ -75,7 +75,7 @@ module _ (passed : ℕ → ℕ → Type 0) (trace : Trace) (h : Heap) (depth : �
 
 -- the lanes that have ended, with one more
 pub ended-push :
-    (trace : Trace) (h : Heap) (depth k : ℕ) (ps : List Pass) (os : List (Vec Outcome Global)) (ns : List ℕ) (p : Pass) (o : Vec Outcome Global) (n : ℕ)
+    (trace : Trace) (h : HeapFields) (depth k : ℕ) (ps : List Pass) (os : List (Vec Outcome Global)) (ns : List ℕ) (p : Pass) (o : Vec Outcome Global) (n : ℕ)
     → AreEnded trace h depth k ps os ns
     → HasEndedWith h depth (operations_in trace (k + length ps)) (k + length ps) p o.items n
     → AreEnded trace h depth k (ps ++ p ∷ []) (os ++ o ∷ []) (ns ++ n ∷ [])
@@ -88,7 +88,7 @@ ended-push trace h depth k (q ∷ ps) (r ∷ os) (m ∷ ns) p o n all one = (
 ended-push trace h depth k ps os ns p o n all one = absurd all
 
 pub ended-count :
-    (trace : Trace) (h : Heap) (depth k : ℕ) (ps : List Pass) (os : List (Vec Outcome Global)) (ns : List ℕ) → AreEnded trace h depth k ps os ns
+    (trace : Trace) (h : HeapFields) (depth k : ℕ) (ps : List Pass) (os : List (Vec Outcome Global)) (ns : List ℕ) → AreEnded trace h depth k ps os ns
     → (length os ≡ length ps) × (length ns ≡ length ps)
 ended-count trace h depth k [] [] [] all = (refl, refl)
 ended-count trace h depth k (p ∷ ps) (o ∷ os) (n ∷ ns) all =
@@ -97,7 +97,7 @@ ended-count trace h depth k ps os ns all = absurd all
 
 -- the lane of this number, among those that have ended
 pub ended-at :
-    (trace : Trace) (h : Heap) (depth k : ℕ) (ps : List Pass) (os : List (Vec Outcome Global)) (ns : List ℕ) (i : ℕ) (p : Pass)
+    (trace : Trace) (h : HeapFields) (depth k : ℕ) (ps : List Pass) (os : List (Vec Outcome Global)) (ns : List ℕ) (i : ℕ) (p : Pass)
     → AreEnded trace h depth k ps os ns → i < length ps → p ≡ get_or ps i p
     → HasEndedWith h depth (operations_in trace (k + i)) (k + i) p (get_or (map (λ (o : Vec Outcome Global). o.items) os) i []) (get_or ns i 0)
 ended-at trace h depth k [] [] [] i p all lt there = absurd (omega (arith, lt))
@@ -110,7 +110,7 @@ ended-at trace h depth k (q ∷ ps) (o ∷ os) (n ∷ ns) (suc i) p all lt there
 ended-at trace h depth k ps os ns i p all lt there = absurd all
 
 pub ended-idle :
-    (trace : Trace) (h : Heap) (depth k : ℕ) (ps : List Pass) (os : List (Vec Outcome Global)) (ns : List ℕ) → AreEnded trace h depth k ps os ns
+    (trace : Trace) (h : HeapFields) (depth k : ℕ) (ps : List Pass) (os : List (Vec Outcome Global)) (ns : List ℕ) → AreEnded trace h depth k ps os ns
     → All (λ p. IsOf h p × IsIdle p.errand) ps
 ended-idle trace h depth k [] [] [] all = All-nil (λ p. IsOf h p × IsIdle p.errand)
 ended-idle trace h depth k (p ∷ ps) (o ∷ os) (n ∷ ns) all =
@@ -123,7 +123,7 @@ ended-idle trace h depth k ps os ns all = absurd all
 
 -- whole calls through a cache leave the words of the same blocks out
 call-lent :
-    (h : Heap) (c d : Cache) (call : Call) (answer : Reply) → IsCachedCall h c call answer d → (view d.pass).lent ≡ (view c.pass).lent
+    (h : HeapFields) (c d : Cache) (call : Call) (answer : Reply) → IsCachedCall h c call answer d → (view d.pass).lent ≡ (view c.pass).lent
 call-lent h c d call answer (whole, deep) =
     elim whole.made [
       | served words block is_alloc is_given has ↦ ap (λ (p : Pass). (view p).lent) has.pass
@@ -131,25 +131,25 @@ call-lent h c d call answer (whole, deep) =
       | asked asks made keeps ↦ made-lent c.pass call answer d.pass made.0
     ]
 
-leads-lent : (h : Heap) (c d : Cache) (made : List Made) → LeadsBy (IsCachedCall h) c made d → (view d.pass).lent ≡ (view c.pass).lent
+leads-lent : (h : HeapFields) (c d : Cache) (made : List Made) → LeadsBy (IsCachedCall h) c made d → (view d.pass).lent ≡ (view c.pass).lent
 leads-lent h c d [] leads = ap (λ (x : Cache). (view x.pass).lent) leads
 leads-lent h c d (m ∷ made) (t, one, leads) = leads-lent h t d made leads ∙ call-lent h c t m.call m.answer one
 
 lent-kept :
-    (h : Heap) (registers : List (Option Held)) (left : List Op) (outs : List Outcome) (c d : Cache)
+    (h : HeapFields) (registers : List (Option Held)) (left : List Op) (outs : List Outcome) (c d : Cache)
     → AllMade (IsCachedCall h) registers left outs c d → (view d.pass).lent ≡ (view c.pass).lent
 lent-kept h registers left [] c d same = ap (λ (x : Cache). (view x.pass).lent) same
 lent-kept h registers [] (r ∷ outs) c d all = absurd all
 lent-kept h registers (o ∷ left) (r ∷ outs) c d (t, (made, for, leads), all) =
     lent-kept h (registers_after registers o r) left outs t d all ∙ leads-lent h c t made leads
 
-frees-lent : (h : Heap) (blocks : List Block) (p q : Pass) → LeadsBy (HasEndedAt h) p (frees_of blocks) q → (view q).lent ≡ (view p).lent
+frees-lent : (h : HeapFields) (blocks : List Block) (p q : Pass) → LeadsBy (HasEndedAt h) p (frees_of blocks) q → (view q).lent ≡ (view p).lent
 frees-lent h [] p q same = ap (λ (x : Pass). (view x).lent) same
 frees-lent h (block ∷ blocks) p q (t, ((steps, called), ends), leads) = frees-lent h blocks t q leads ∙ called.lent
 
 -- a lane that has ended through its cache has no block's words out
 through-home :
-    (h : Heap) (depth : ℕ) (operations : List Op) (lane : ℕ) (outcomes : List Outcome) (c : Cache)
+    (h : HeapFields) (depth : ℕ) (operations : List Op) (lane : ℕ) (outcomes : List Outcome) (c : Cache)
     → HasEndedThrough h depth operations lane outcomes c → c.pass.out ≡ 0
 through-home h depth operations lane outcomes c e =
     let first = e.first in
@@ -160,7 +160,7 @@ through-home h depth operations lane outcomes c e =
     sym e.through.rests.0.hand.of.counted ∙ ap length same ∙ e.opened.fresh.of.counted ∙ e.opened.fresh.home
 
 pub ended-home :
-    (trace : Trace) (h : Heap) (depth k : ℕ) (ps : List Pass) (os : List (Vec Outcome Global)) (ns : List ℕ) → AreEnded trace h depth k ps os ns
+    (trace : Trace) (h : HeapFields) (depth k : ℕ) (ps : List Pass) (os : List (Vec Outcome Global)) (ns : List ℕ) → AreEnded trace h depth k ps os ns
     → All (λ p. p.out ≡ 0) ps
 ended-home trace h depth k [] [] [] all = All-nil (λ (p : Pass). p.out ≡ 0)
 ended-home trace h depth k (p ∷ ps) (o ∷ os) (n ∷ ns) all =
@@ -174,7 +174,7 @@ one-each : (n : ℕ) → 0 < n → max 1 n ≡ n
 one-each n some_one = omega (arith, some_one)
 
 pub have-run :
-    (trace : Trace) (h : Heap) (depth : ℕ) (ps : List Pass) (os : List (Vec Outcome Global)) (ns : List ℕ) → IsTrace trace → 0 < length trace.lanes
+    (trace : Trace) (h : HeapFields) (depth : ℕ) (ps : List Pass) (os : List (Vec Outcome Global)) (ns : List ℕ) → IsTrace trace → 0 < length trace.lanes
     → length ps ≡ length trace.lanes → AreEnded trace h depth 0 ps os ns
     → HaveRunThrough trace h depth ps (map (λ (o : Vec Outcome Global). o.items) os) ns
 have-run trace h depth ps os ns is some_lane all ended =
@@ -192,7 +192,7 @@ have-run trace h depth ps os ns is some_lane all ended =
 
 -- a trace without a lane has none to run
 pub none-run :
-    (trace : Trace) (h : Heap) (depth : ℕ) (ps : List Pass) (os : List (Vec Outcome Global)) (ns : List ℕ) → trace.lanes ≡ [] → os ≡ [] → ns ≡ []
+    (trace : Trace) (h : HeapFields) (depth : ℕ) (ps : List Pass) (os : List (Vec Outcome Global)) (ns : List ℕ) → trace.lanes ≡ [] → os ≡ [] → ns ≡ []
     → AreFrom h 0 ps → length ps ≡ trace.heap.callers → HaveRunThrough trace h depth ps (map (λ (o : Vec Outcome Global). o.items) os) ns
 none-run trace h depth ps os ns none empty no_hits fresh all =
     let zero_lanes : length trace.lanes ≡ 0 = ap length none in

@@ -4,7 +4,7 @@ use Rattle.heap_geometry.specs.declared.geometry.Geometry.{Geometry}
 use Rattle.pool_model.specs.declared.event.Event.{Event}
 use Rattle.pool_model.specs.Histories.{own}
 use Rattle.call_events.specs.Made.{LeadsBy, Made}
-use Rattle.live_heap.specs.declared.heap.Heap.{Heap}
+use Rattle.live_heap.specs.Heaps.{HeapFields}
 use Rattle.live_heap.specs.Passes.{seen}
 use Rattle.trace_text.specs.declared.trace.Op.{Op}
 use Rattle.trace_text.specs.declared.trace.Op.TheVariants as op
@@ -30,7 +30,7 @@ use Rattle.cached_runner.proofs.Places.{places_in}
 use Rattle.cached_runner.proofs.RowLemmas.{HasGone, IsBetween, checked, filled, kept, none_there, put_back, put_down, refused, respent, setting_at, skipped, spent, stands_at, took, unresized}
 
 -- an operation that was made
-module _ (h : Heap) (c d : Cache) (base : Position) (st : IsBetween h c base) where
+module _ (h : HeapFields) (c d : Cache) (base : Position) (st : IsBetween h c base) where
   op-gone :
       (operation : Op) (result : Outcome) (slot : Option Held) (made : List Made) → held_in base.registers (register_of operation) ≡ slot
       → MadeFor slot operation result made → LeadsBy (IsCachedCall h) c made d → HasGone h c d base operation result
@@ -91,7 +91,7 @@ base_after c base operation result piece =
 
 -- calls leave a cache at rest, and its magazines as deep
 leads-rest :
-    (h : Heap) (made : List Made) (c d : Cache) → RestsAt h c → LeadsBy (IsCachedCall h) c made d
+    (h : HeapFields) (made : List Made) (c d : Cache) → RestsAt h c → LeadsBy (IsCachedCall h) c made d
     → RestsAt h d × (d.magazines.depth ≡ c.magazines.depth)
 leads-rest h [] c d rests same = (subst (RestsAt h) (sym same) rests, ap (λ (x : Cache). x.magazines.depth) same)
 leads-rest h (m ∷ made) c d rests (t, one, leads) =
@@ -99,7 +99,7 @@ leads-rest h (m ∷ made) c d rests (t, one, leads) =
 
 -- a lane is between two operations again behind one that was made
 between-next :
-    (h : Heap) (c d : Cache) (base : Position) (operation : Op) (result : Outcome) → IsBetween h c base
+    (h : HeapFields) (c d : Cache) (base : Position) (operation : Op) (result : Outcome) → IsBetween h c base
     → (gone : HasGone h c d base operation result) → RestsAt h d → HoldsAll d (registers_after base.registers operation result)
     → IsBetween h d (base_after c base operation result gone.piece)
 between-next h c d base operation result st gone rests holds =
@@ -126,7 +126,7 @@ hit-most None = omega arith
 hit-most (Some place) = omega arith
 
 -- operations have led from one cache to the other, with these outcomes
-pub record HasWalked (h : Heap) (c d : Cache) (base : Position) (operations : List Op) (results : List Outcome) : Type 0 where
+pub record HasWalked (h : HeapFields) (c d : Cache) (base : Position) (operations : List Op) (results : List Outcome) : Type 0 where
   pub end : Position
   pub walks : CachedWalks (setting_at h c d) c.magazines.depth (stands_at c base) operations results (stands_at d end)
   pub onward : IsOnward c.pass.errand d.pass.errand (seen c.pass) (seen d.pass)
@@ -135,7 +135,7 @@ pub record HasWalked (h : Heap) (c d : Cache) (base : Position) (operations : Li
 
 -- the cache behind one operation, as its row says
 position-next :
-    (h : Heap) (c t : Cache) (base : Position) (operation : Op) (result : Outcome) (gone : HasGone h c t base operation result)
+    (h : HeapFields) (c t : Cache) (base : Position) (operation : Op) (result : Outcome) (gone : HasGone h c t base operation result)
     → c.hits + hit_of (served_for (places_in c) operation result) < 2 ^ 64
     → stands_at t (base_after c base operation result gone.piece)
     ≡ cached_after c.magazines.depth (stands_at c base) operation result gone.piece
@@ -147,7 +147,7 @@ position-next h c t base operation result gone few =
     one ∙ ap (λ (n : ℕ). let p : CachedPosition = record { base = next; magazines = after; hits = n } in p) (gone.hits few)
 
 pub all-walk :
-    (h : Heap) (operations : List Op) (results : List Outcome) (c d : Cache) (base : Position) → length results ≡ length operations
+    (h : HeapFields) (operations : List Op) (results : List Outcome) (c d : Cache) (base : Position) → length results ≡ length operations
     → c.hits + length operations < 2 ^ 64 → IsBetween h c base → AllMade (IsCachedCall h) base.registers operations results c d
     → HasWalked h c d base operations results
 all-walk h [] [] c d base as_many few st same =

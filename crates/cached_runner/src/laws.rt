@@ -8,7 +8,7 @@ ghost use Rattle.lane_outcomes.specs.declared.outcome.Outcome.TheVariants.{Spent
 ghost use Rattle.call_bounds.specs.Contention.{lost_of};
 ghost use Rattle.sound_state.specs.Sums.{callers_sum};
 ghost use Rattle.step_machine.specs.Cores.{errand_at};
-ghost use Rattle.live_heap.specs.declared.heap.Heap.{Heap};
+ghost use Rattle.live_heap.specs.Heaps.{HeapFields};
 ghost use Rattle.live_heap.specs.declared.pass.Pass.{Pass};
 ghost use Rattle.live_heap.specs.Endings.{ClosedFields, HasClosed, IsResting};
 ghost use Rattle.cached_outcomes.specs.Cached.{CachedOutcomesFit};
@@ -18,7 +18,7 @@ ghost use Rattle.cached_runner.specs.Threads.{HaveRunThrough};
 /// The outcomes and hits of lanes that ran on threads through caches fit the one history of their heap, once
 /// it is closed, and however many exchanges all callers lost in it.
 pub fn closed_lanes_fit_through_caches()
-    ensures { (trace : Trace) (h : Heap) (depth : ℕ) (passes : List Pass) (outcomes : List (List Outcome)) (hits : List ℕ) (c : ClosedFields)
+    ensures { (trace : Trace) (h : HeapFields) (depth : ℕ) (passes : List Pass) (outcomes : List (List Outcome)) (hits : List ℕ) (c : ClosedFields)
         → IsTrace trace → h.layout ≡ trace.heap → HaveRunThrough trace h depth passes outcomes hits → HasClosed h passes c → IsResting c
         → CachedOutcomesFit trace.heap c.events (callers_sum c.geometry lost_of (errand_at c.errands)) depth trace.lanes outcomes (sum hits) }
 {}

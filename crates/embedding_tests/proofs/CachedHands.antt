@@ -3,7 +3,7 @@ use Rattle.std.proofs.Common.{ℕ, ◌≡◌, ◌<◌, ◌+◌, ◌++◌, List, 
 use Rattle.std.proofs.lemmas.List.{take-append-drop, drop_more}
 use Rattle.errand_steps.specs.Begins.{IsIdle}
 use Rattle.live_heap.specs.declared.block.Block.{Block}
-use Rattle.live_heap.specs.declared.heap.Heap.{Heap}
+use Rattle.live_heap.specs.Heaps.{HeapFields}
 use Rattle.block_cache.specs.declared.cache.Cache.{Cache}
 use Rattle.block_cache.specs.Caches.{Holds, HoldsBlock, IsCache}
 use Rattle.block_cache.proofs.TogetherLemmas.{among-held, ordered}
@@ -21,12 +21,12 @@ held-out c held rest number block within is left holds =
     ((ordered c (take number held) (drop (number + 1) held) block).0 (subst (Holds c) split holds))
 
 -- a block that is held in front of others may be used
-pub held-block : (h : Heap) (c : Cache) (rest : List Block) (block : Block) → IsCache h c → IsIdle c.pass.errand → Holds c (block ∷ rest)
+pub held-block : (h : HeapFields) (c : Cache) (rest : List Block) (block : Block) → IsCache h c → IsIdle c.pass.errand → Holds c (block ∷ rest)
     → HoldsBlock c block
 held-block h c rest block is idle holds = (among-held h c (block ∷ rest) block is idle holds).1 ([], rest, refl)
 
 pub held-at :
-    (h : Heap) (c : Cache) (held : List Block) (number : ℕ) (block : Block) → number < length held → block ≡ slice_index_or held number block
+    (h : HeapFields) (c : Cache) (held : List Block) (number : ℕ) (block : Block) → number < length held → block ≡ slice_index_or held number block
     → IsCache h c → IsIdle c.pass.errand → Holds c held → HoldsBlock c block
 held-at h c held number block within at is idle holds =
     held-block h c (take number held ++ drop (number + 1) held) block is idle (held-out c held _ number block within at refl holds)

@@ -1,7 +1,7 @@
 //! The last owner that goes closes the heap.
 
 ghost use Rattle.std.specs.Prelude.{IfSome};
-ghost use Rattle.live_heap.specs.declared.heap.Heap.{Heap};
+ghost use Rattle.live_heap.specs.Heaps.{HeapFields};
 ghost use Rattle.live_heap.specs.Passes.{AreFrom, IsOf};
 
 use crate::expect::expect;
@@ -18,7 +18,7 @@ use std::test::Fail;
 
 /// The two passes of a heap of two callers.
 fn both(mut passes: Vec<Pass>) -> Option<(Pass, Pass)>
-    ensures { IfSome result (λ two. (h : Heap) → AreFrom h 0 passes.items → IsOf h two.0 × IsOf h two.1) }
+    ensures { IfSome result (λ two. (h : HeapFields) → AreFrom h 0 passes.items → IsOf h two.0 × IsOf h two.1) }
 {
     let second = passes.pop()?;
     let first = passes.pop()?;

@@ -1,13 +1,13 @@
 -- A heap with a hand for each caller.
 use Rattle.std.specs.Prelude.{List, All}
-use Rattle.live_heap.specs.declared.heap.Heap.{Heap}
+use Rattle.live_heap.specs.Heaps.{HeapFields}
 use Rattle.live_heap.specs.Hands.{IsHand}
 use Rattle.heap_scripts.specs.declared.compare.Twins.{Twins}
 use Rattle.heap_scripts.specs.declared.side.Hand.{Hand}
 use Rattle.heap_scripts.specs.declared.side.Side.{Side}
 
 -- the hands are of this heap
-abbrev pub AreHands : Heap → List Hand → Type 0
+abbrev pub AreHands : HeapFields → List Hand → Type 0
 AreHands h hands = All (λ hand. IsHand h hand.pass hand.blocks.items) hands
 
 -- the hands of a side are of its own heap

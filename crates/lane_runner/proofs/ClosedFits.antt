@@ -28,7 +28,7 @@ use Rattle.lane_outcomes.specs.Fits.{Fits, OutcomesFit, Walks}
 use Rattle.lane_outcomes.specs.Lane.{Position, position_after, spent_after, start}
 use Rattle.lane_outcomes.specs.Rows.{Setting}
 use Rattle.lane_outcomes.specs.Standing.{setting_in}
-use Rattle.live_heap.specs.declared.heap.Heap.{Heap}
+use Rattle.live_heap.specs.Heaps.{HeapFields}
 use Rattle.live_heap.specs.declared.pass.Pass.{Pass}
 use Rattle.live_heap.specs.Endings.{ClosedFields, HasClosed, HasTakenIn, IsResting, machine_of}
 use Rattle.live_heap.specs.Passes.{seen}
@@ -116,7 +116,7 @@ driven-taken trace orders c outcomes lane driven lt told =
     let end = driven.ended lane lt in
     rule-taken trace.heap lane c.events (errand_at c.errands lane) (operations_in trace lane) end.registers (get_or outcomes lane []) stage.Between end.rule told
 
-module _ (trace : Trace) (h : Heap) (passes : List Pass) (outcomes : List (List Outcome)) (c : ClosedFields) (is : IsTrace trace) (laid : h.layout ≡ trace.heap) (run : HaveRun trace h passes outcomes) (closed : HasClosed h passes c) (rests : IsResting c) where
+module _ (trace : Trace) (h : HeapFields) (passes : List Pass) (outcomes : List (List Outcome)) (c : ClosedFields) (is : IsTrace trace) (laid : h.layout ≡ trace.heap) (run : HaveRun trace h passes outcomes) (closed : HasClosed h passes c) (rests : IsResting c) where
   layout : c.geometry ≡ trace.heap
   layout = closed.heap ∙ laid
 

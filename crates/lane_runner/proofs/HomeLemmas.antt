@@ -5,7 +5,7 @@ use lib.ListN.{get_elem?}
 use Rattle.errand_steps.specs.declared.reply.Reply.{Reply}
 use Rattle.errand_steps.specs.Calls.{Call}
 use Rattle.call_events.specs.Made.{LeadsBy, Made}
-use Rattle.live_heap.specs.declared.heap.Heap.{Heap}
+use Rattle.live_heap.specs.Heaps.{HeapFields}
 use Rattle.live_heap.specs.declared.pass.Pass.{Pass}
 use Rattle.live_heap.specs.declared.view.Lent.{Lent}
 use Rattle.live_heap.specs.Passes.{IsHome, IsOf, view}
@@ -23,12 +23,12 @@ made-lent p call answer q (by_steps ended) = ended.1.lent
 made-lent p call answer q (at_once words is_alloc spent once) = ap (λ (x : Pass). (view x).lent) once.same
 
 -- and so do several, and those of a lane's operations
-leads-lent : (h : Heap) (p q : Pass) (made : List Made) → LeadsBy (WholeAt h) p made q → (view q).lent ≡ (view p).lent
+leads-lent : (h : HeapFields) (p q : Pass) (made : List Made) → LeadsBy (WholeAt h) p made q → (view q).lent ≡ (view p).lent
 leads-lent h p q [] leads = ap (λ (x : Pass). (view x).lent) leads
 leads-lent h p q (m ∷ made) (t, one, leads) = leads-lent h t q made leads ∙ made-lent p m.call m.answer t one.0
 
 pub lent-kept :
-    (h : Heap) (registers : List (Option Held)) (left : List Op) (outs : List Outcome) (p q : Pass) → AllMade (WholeAt h) registers left outs p q
+    (h : HeapFields) (registers : List (Option Held)) (left : List Op) (outs : List Outcome) (p q : Pass) → AllMade (WholeAt h) registers left outs p q
     → (view q).lent ≡ (view p).lent
 lent-kept h registers left [] p q same = ap (λ (x : Pass). (view x).lent) same
 lent-kept h registers [] (r ∷ outs) p q all = absurd all
@@ -40,5 +40,5 @@ none-there : (lent : List Lent) (n : ℕ) (b : Lent) → length lent ≡ 0 → g
 none-there [] n b none found = some-ne-none b (sym found)
 none-there (x ∷ lent) n b none found = omega (arith, none)
 
-pub all-home : (h : Heap) (p : Pass) (place : ℕ) → IsOf h p → p.out ≡ 0 → IsHome p place
+pub all-home : (h : HeapFields) (p : Pass) (place : ℕ) → IsOf h p → p.out ≡ 0 → IsHome p place
 all-home h p place of home = λ n b found. absurd (none-there (view p).lent n b (of.counted ∙ home) found)

@@ -6,7 +6,7 @@ use Rattle.crossbeam_utils.specs.Padded.{padded_value}
 use Rattle.trace_text.specs.declared.trace.Trace.{Trace}
 use Rattle.lane_outcomes.specs.declared.outcome.Outcome.{Outcome}
 use Rattle.live_heap.specs.declared.block.Block.{Block}
-use Rattle.live_heap.specs.declared.heap.Heap.{Heap}
+use Rattle.live_heap.specs.Heaps.{HeapFields}
 use Rattle.live_heap.specs.declared.pass.Pass.{Pass}
 use Rattle.live_heap.specs.Passes.{AreFrom, IsFresh}
 use Rattle.trace_lane.specs.declared.lane.LaneState.{LaneState}
@@ -25,7 +25,7 @@ pub push-long : {X : Type 0} (xs ys : List X) (x : X) → xs ≡ ys ++ x ∷ [] 
 push-long xs ys x is = ap length is ∙ omega (arith, length-append ys (x ∷ []))
 
 -- a lane is given the pass of its caller
-module _ (trace : Trace) (h : Heap) (lanes rest : List (LaneState Block)) (lane : LaneState Block) (passes others : List Pass) (p : Pass) (lane_last : lanes ≡ rest ++ lane ∷ []) (pass_last : passes ≡ others ++ p ∷ []) (as_many : length passes ≡ length lanes) (fresh : AreFrom h 0 passes) (new : AreFresh trace lanes) (few : length lanes ≤ length trace.lanes) where
+module _ (trace : Trace) (h : HeapFields) (lanes rest : List (LaneState Block)) (lane : LaneState Block) (passes others : List Pass) (p : Pass) (lane_last : lanes ≡ rest ++ lane ∷ []) (pass_last : passes ≡ others ++ p ∷ []) (as_many : length passes ≡ length lanes) (fresh : AreFrom h 0 passes) (new : AreFresh trace lanes) (few : length lanes ≤ length trace.lanes) where
   pair-many : length others ≡ length rest
   pair-many = omega (arith, push-long lanes rest lane lane_last, push-long passes others p pass_last, as_many)
 
@@ -54,7 +54,7 @@ module _ (trace : Trace) (h : Heap) (lanes rest : List (LaneState Block)) (lane 
       (subst (IsReady trace h k) (sym is) one)
 
 -- a lane's pass and its outcomes are taken back
-module _ (trace : Trace) (h : Heap) (threads rest : List (CachePadded LaneThread)) (t : CachePadded LaneThread) (passes : List Pass) (outcomes : List (Vec Outcome Global)) (p : Pass) (o : Vec Outcome Global) (last : threads ≡ rest ++ t ∷ []) (done : AreDone trace h (length passes) threads) (ended : AreEnded trace h 0 passes outcomes) (same_pass : p ≡ (padded_value t).pass) (same_outcomes : o ≡ (padded_value t).lane.outcomes) where
+module _ (trace : Trace) (h : HeapFields) (threads rest : List (CachePadded LaneThread)) (t : CachePadded LaneThread) (passes : List Pass) (outcomes : List (Vec Outcome Global)) (p : Pass) (o : Vec Outcome Global) (last : threads ≡ rest ++ t ∷ []) (done : AreDone trace h (length passes) threads) (ended : AreEnded trace h 0 passes outcomes) (same_pass : p ≡ (padded_value t).pass) (same_outcomes : o ≡ (padded_value t).lane.outcomes) where
   popped-done : IsDone trace h (length passes) (padded_value t) × AreDone trace h (suc (length passes)) rest
   popped-done = down-pop (λ k t. IsDone trace h k (padded_value t)) (length passes) rest t (subst (AreDone trace h (length passes)) last done)
 

@@ -17,7 +17,7 @@ use Rattle.trace_text.specs.Traces.{IsTrace}
 use Rattle.lane_outcomes.specs.declared.outcome.Outcome.{Outcome}
 use Rattle.lane_outcomes.specs.Passed.{AllPassed}
 use Rattle.live_heap.specs.declared.block.Block.{Block}
-use Rattle.live_heap.specs.declared.heap.Heap.{Heap}
+use Rattle.live_heap.specs.Heaps.{HeapFields}
 use Rattle.live_heap.specs.declared.pass.Pass.{Pass}
 use Rattle.live_heap.specs.Passes.{AreFrom, IsFresh, IsOf, seen}
 use Rattle.trace_lane.specs.declared.lane.LaneState.{LaneState}
@@ -77,7 +77,7 @@ down-done P Q R follows last (x ∷ xs) (y ∷ ys) same each all =
 
 -- the last pass is taken away
 pub from-pop :
-    (h : Heap) (k : ℕ) (ps : List Pass) (p : Pass) → AreFrom h k (ps ++ p ∷ [])
+    (h : HeapFields) (k : ℕ) (ps : List Pass) (p : Pass) → AreFrom h k (ps ++ p ∷ [])
     → AreFrom h k ps × IsFresh h p × (p.errand.caller ≡ k + length ps)
 from-pop h k [] p all = (tt, all.0, all.1 ∙ omega arith)
 from-pop h k (q ∷ ps) p all =
@@ -85,7 +85,7 @@ from-pop h k (q ∷ ps) p all =
     ((all.0, all.1, rest.0), rest.1, rest.2 ∙ omega arith)
 
 pub from-at :
-    (h : Heap) (k : ℕ) (ps : List Pass) (i : ℕ) (p : Pass) → AreFrom h k ps → i < length ps → p ≡ get_or ps i p
+    (h : HeapFields) (k : ℕ) (ps : List Pass) (i : ℕ) (p : Pass) → AreFrom h k ps → i < length ps → p ≡ get_or ps i p
     → IsFresh h p × (p.errand.caller ≡ k + i)
 from-at h k [] i p all lt there = absurd (omega (arith, lt))
 from-at h k (q ∷ ps) zero p all lt there =
@@ -96,21 +96,21 @@ from-at h k (q ∷ ps) (suc i) p all lt there =
     (rest.0, rest.1 ∙ omega arith)
 
 -- a pass that has made no step is in no call
-pub fresh-idle : (h : Heap) (p : Pass) → IsFresh h p → IsIdle p.errand
+pub fresh-idle : (h : HeapFields) (p : Pass) → IsFresh h p → IsIdle p.errand
 fresh-idle h p fresh = subst IsIdle (sym fresh.errand) refl
 
-pub from-idle : (h : Heap) (k : ℕ) (ps : List Pass) → AreFrom h k ps → All (λ p. IsOf h p × IsIdle p.errand) ps
+pub from-idle : (h : HeapFields) (k : ℕ) (ps : List Pass) → AreFrom h k ps → All (λ p. IsOf h p × IsIdle p.errand) ps
 from-idle h k [] all = All-nil (λ p. IsOf h p × IsIdle p.errand)
 from-idle h k (p ∷ ps) all =
     All-cons (λ p. IsOf h p × IsIdle p.errand) p ps (all.0.of, fresh-idle h p all.0) (from-idle h (suc k) ps all.2)
 
-pub from-home : (h : Heap) (k : ℕ) (ps : List Pass) → AreFrom h k ps → All (λ p. p.out ≡ 0) ps
+pub from-home : (h : HeapFields) (k : ℕ) (ps : List Pass) → AreFrom h k ps → All (λ p. p.out ≡ 0) ps
 from-home h k [] all = All-nil (λ (p : Pass). p.out ≡ 0)
 from-home h k (p ∷ ps) all = All-cons (λ (p : Pass). p.out ≡ 0) p ps all.0.home (from-home h (suc k) ps all.2)
 
 -- a new lane with the pass of its caller
 pub ready :
-    (trace : Trace) (h : Heap) (k : ℕ) (p : Pass) (lane : LaneState Block) → k < length trace.lanes → IsFresh h p → p.errand.caller ≡ k
+    (trace : Trace) (h : HeapFields) (k : ℕ) (p : Pass) (lane : LaneState Block) → k < length trace.lanes → IsFresh h p → p.errand.caller ≡ k
     → IsNew k (length (operations_in trace k)) lane → IsReady trace h k (record { pass = p; lane = lane })
 ready trace h k p lane has fresh caller new = record {
   number = new.caller_is;
@@ -129,7 +129,7 @@ ready trace h k p lane has fresh caller new = record {
   between = new.between;
 }
 
-pub ready-paired : (trace : Trace) (h : Heap) (k : ℕ) (t : LaneThread) → IsReady trace h k t → IsPaired trace h t
+pub ready-paired : (trace : Trace) (h : HeapFields) (k : ℕ) (t : LaneThread) → IsReady trace h k t → IsPaired trace h t
 ready-paired trace h k t is = record {
   has = subst (λ n. n < length trace.lanes) (sym is.number) is.has;
   over = subst (λ n. StandsOver h (operations_in trace n) t.pass t.lane) (sym is.number) is.over;
@@ -138,7 +138,7 @@ ready-paired trace h k t is = record {
 
 -- a lane that had begun nothing has made the calls of its whole script
 all-made :
-    (passed : ℕ → ℕ → Type 0) (trace : Trace) (h : Heap) (k : ℕ) (t u : LaneThread) → IsReady trace h k t → HasRunThrough passed trace h t u
+    (passed : ℕ → ℕ → Type 0) (trace : Trace) (h : HeapFields) (k : ℕ) (t u : LaneThread) → IsReady trace h k t → HasRunThrough passed trace h t u
     → HasMadeCalls h (operations_in trace k) k u.lane.outcomes.items u.pass
 all-made passed trace h k t u is ran =
     let place_of = λ (block : Block). block.place in
@@ -164,7 +164,7 @@ all-made passed trace h k t u is ran =
 
 -- a lane that was ready is done when its thread has run it
 pub ready-done :
-    (passed : ℕ → ℕ → Type 0) (trace : Trace) (h : Heap) (k : ℕ) (t u : LaneThread) → IsReady trace h k t → HasRunThrough passed trace h t u
+    (passed : ℕ → ℕ → Type 0) (trace : Trace) (h : HeapFields) (k : ℕ) (t u : LaneThread) → IsReady trace h k t → HasRunThrough passed trace h t u
     → IsDone trace h k u
 ready-done passed trace h k t u is ran = record {
   number = ran.same ∙ is.number;
@@ -182,7 +182,7 @@ new-passed passed caller results at none between op lt =
     absurd (omega (arith, lt, zero_begun))
 
 pub ready-passed :
-    (passed : ℕ → ℕ → Type 0) (trace : Trace) (h : Heap) (k : ℕ) (t u : LaneThread) → IsReady trace h k t → HasRunThrough passed trace h t u
+    (passed : ℕ → ℕ → Type 0) (trace : Trace) (h : HeapFields) (k : ℕ) (t u : LaneThread) → IsReady trace h k t → HasRunThrough passed trace h t u
     → FirstPassed passed k (length (operations_in trace k))
 ready-passed passed trace h k t u is ran =
     subst (λ n. FirstPassed passed n (length (operations_in trace n))) is.number
@@ -201,7 +201,7 @@ all-gone passed trace each lane op lt =
     ]
 
 -- what all threads have made of their lanes
-module _ (passed : ℕ → ℕ → Type 0) (trace : Trace) (h : Heap) (xs ys : List (CachePadded LaneThread)) (same : length ys ≡ length xs) (all : length xs ≡ length trace.lanes) (readies : AreReady trace h 0 xs) (ran : (i : ℕ) (d : CachePadded LaneThread) → i < length xs → HasRunThrough passed trace h (padded_value (get_or xs i d)) (padded_value (get_or ys i d))) where
+module _ (passed : ℕ → ℕ → Type 0) (trace : Trace) (h : HeapFields) (xs ys : List (CachePadded LaneThread)) (same : length ys ≡ length xs) (all : length xs ≡ length trace.lanes) (readies : AreReady trace h 0 xs) (ran : (i : ℕ) (d : CachePadded LaneThread) → i < length xs → HasRunThrough passed trace h (padded_value (get_or xs i d)) (padded_value (get_or ys i d))) where
   pub threads-done : (length ys ≡ length trace.lanes) × AreDone trace h 0 ys
   threads-done = (
     same ∙ all,
@@ -228,7 +228,7 @@ written-whole xs ys n a b =
 
 -- a lane that is done has ended with its outcomes
 pub done-ended :
-    (trace : Trace) (h : Heap) (k : ℕ) (t : LaneThread) → IsDone trace h k t
+    (trace : Trace) (h : HeapFields) (k : ℕ) (t : LaneThread) → IsDone trace h k t
     → HasEndedOver h (operations_in trace k) k t.pass t.lane.outcomes.items
 done-ended trace h k t done =
     let o = done.over in
@@ -248,7 +248,7 @@ done-ended trace h k t done =
 
 -- the lanes that have ended, with one more
 pub ended-push :
-    (trace : Trace) (h : Heap) (k : ℕ) (ps : List Pass) (os : List (Vec Outcome Global)) (p : Pass) (o : Vec Outcome Global)
+    (trace : Trace) (h : HeapFields) (k : ℕ) (ps : List Pass) (os : List (Vec Outcome Global)) (p : Pass) (o : Vec Outcome Global)
     → AreEnded trace h k ps os → HasEndedOver h (operations_in trace (k + length ps)) (k + length ps) p o.items
     → AreEnded trace h k (ps ++ p ∷ []) (os ++ o ∷ [])
 ended-push trace h k [] [] p o all one = (subst (λ n. HasEndedOver h (operations_in trace n) n p o.items) (omega arith) one, tt)
@@ -260,7 +260,7 @@ ended-push trace h k (q ∷ ps) (r ∷ os) p o all one = (
 )
 
 pub ended-count :
-    (trace : Trace) (h : Heap) (k : ℕ) (ps : List Pass) (os : List (Vec Outcome Global)) → AreEnded trace h k ps os → length os ≡ length ps
+    (trace : Trace) (h : HeapFields) (k : ℕ) (ps : List Pass) (os : List (Vec Outcome Global)) → AreEnded trace h k ps os → length os ≡ length ps
 ended-count trace h k [] [] all = refl
 ended-count trace h k [] (o ∷ os) all = absurd all
 ended-count trace h k (p ∷ ps) [] all = absurd all
@@ -268,7 +268,7 @@ ended-count trace h k (p ∷ ps) (o ∷ os) all = ap suc (ended-count trace h (s
 
 -- the lane of this number, among those that have ended
 pub ended-at :
-    (trace : Trace) (h : Heap) (k : ℕ) (ps : List Pass) (os : List (Vec Outcome Global)) (i : ℕ) (p : Pass) → AreEnded trace h k ps os
+    (trace : Trace) (h : HeapFields) (k : ℕ) (ps : List Pass) (os : List (Vec Outcome Global)) (i : ℕ) (p : Pass) → AreEnded trace h k ps os
     → i < length ps → p ≡ get_or ps i p
     → HasEndedOver h (operations_in trace (k + i)) (k + i) p (get_or (map (λ (o : Vec Outcome Global). o.items) os) i [])
 ended-at trace h k [] [] i p all lt there = absurd (omega (arith, lt))
@@ -282,7 +282,7 @@ ended-at trace h k (q ∷ ps) (o ∷ os) (suc i) p all lt there =
     (ended-at trace h (suc k) ps os i p all.1 (omega (arith, lt)) there)
 
 pub ended-idle :
-    (trace : Trace) (h : Heap) (k : ℕ) (ps : List Pass) (os : List (Vec Outcome Global)) → AreEnded trace h k ps os
+    (trace : Trace) (h : HeapFields) (k : ℕ) (ps : List Pass) (os : List (Vec Outcome Global)) → AreEnded trace h k ps os
     → All (λ p. IsOf h p × IsIdle p.errand) ps
 ended-idle trace h k [] [] all = All-nil (λ p. IsOf h p × IsIdle p.errand)
 ended-idle trace h k [] (o ∷ os) all = absurd all
@@ -296,7 +296,7 @@ ended-idle trace h k (p ∷ ps) (o ∷ os) all =
     (ended-idle trace h (suc k) ps os all.1)
 
 pub ended-home :
-    (trace : Trace) (h : Heap) (k : ℕ) (ps : List Pass) (os : List (Vec Outcome Global)) → AreEnded trace h k ps os → All (λ p. p.out ≡ 0) ps
+    (trace : Trace) (h : HeapFields) (k : ℕ) (ps : List Pass) (os : List (Vec Outcome Global)) → AreEnded trace h k ps os → All (λ p. p.out ≡ 0) ps
 ended-home trace h k [] [] all = All-nil (λ (p : Pass). p.out ≡ 0)
 ended-home trace h k [] (o ∷ os) all = absurd all
 ended-home trace h k (p ∷ ps) [] all = absurd all
@@ -313,7 +313,7 @@ one-each : (n : ℕ) → 0 < n → max 1 n ≡ n
 one-each n some = omega (arith, some)
 
 pub have-run :
-    (trace : Trace) (h : Heap) (ps : List Pass) (os : List (Vec Outcome Global)) → IsTrace trace → 0 < length trace.lanes
+    (trace : Trace) (h : HeapFields) (ps : List Pass) (os : List (Vec Outcome Global)) → IsTrace trace → 0 < length trace.lanes
     → length ps ≡ length trace.lanes → AreEnded trace h 0 ps os
     → HaveRun trace h ps (map (λ (o : Vec Outcome Global). o.items) os)
 have-run trace h ps os is some all ended =
@@ -328,7 +328,7 @@ have-run trace h ps os is some all ended =
 
 -- a trace without a lane has none to run
 pub none-run :
-    (trace : Trace) (h : Heap) (ps : List Pass) (os : List (Vec Outcome Global)) → trace.lanes ≡ [] → os ≡ [] → AreFrom h 0 ps
+    (trace : Trace) (h : HeapFields) (ps : List Pass) (os : List (Vec Outcome Global)) → trace.lanes ≡ [] → os ≡ [] → AreFrom h 0 ps
     → length ps ≡ trace.heap.callers → HaveRun trace h ps (map (λ (o : Vec Outcome Global). o.items) os)
 none-run trace h ps os none empty fresh all =
     let zero_lanes : length trace.lanes ≡ 0 = ap length none in

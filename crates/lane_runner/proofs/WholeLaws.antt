@@ -14,7 +14,7 @@ use Rattle.errand_steps.specs.declared.reply.Reply.{Reply}
 use Rattle.errand_steps.specs.declared.reply.Reply.TheVariants as reply
 use Rattle.errand_steps.specs.declared.told.Ending.TheVariants as ending
 use Rattle.step_machine.proofs.MomentAnswers.{moment-given}
-use Rattle.live_heap.specs.declared.heap.Heap.{Heap}
+use Rattle.live_heap.specs.Heaps.{HeapFields}
 use Rattle.live_heap.specs.declared.pass.Pass.{Pass}
 use Rattle.live_heap.specs.Answers.{IsSpentAtOnce}
 use Rattle.live_heap.specs.Calls.{HasCalled}
@@ -54,7 +54,7 @@ use Rattle.lane_runner.proofs.WholeWalks.{BegunAt, check-walk, fill-walk, given-
 
 -- calls over a struct with its pass are calls of the pass
 pub leads-pass :
-    (h : Heap) (e f : PassCalls) (made : List Made) → e.heap.now ≡ h → LeadsBy pass_maker.called e made f
+    (h : HeapFields) (e f : PassCalls) (made : List Made) → e.heap.now ≡ h → LeadsBy pass_maker.called e made f
     → (f.heap.now ≡ h) × LeadsBy (WholeAt h) e.pass.now made f.pass.now
 leads-pass h e f [] here leads =
     (ap (λ (x : PassCalls). x.heap.now) leads ∙ here, ap (λ (x : PassCalls). x.pass.now) leads)
@@ -64,7 +64,7 @@ leads-pass h e f (m ∷ made) here (g, (of, (one, owned, same, rests)), leads) =
     (more.0, (g.pass.now, (one, owned, subst (λ k. IsAtRest k g.pass.now) there rests), more.1))
 
 -- a pass at rest that made whole calls is at rest
-pub leads-rest : (h : Heap) (p q : Pass) (made : List Made) → IsAtRest h p → LeadsBy (WholeAt h) p made q → IsAtRest h q
+pub leads-rest : (h : HeapFields) (p q : Pass) (made : List Made) → IsAtRest h p → LeadsBy (WholeAt h) p made q → IsAtRest h q
 leads-rest h p q [] rests leads = subst (IsAtRest h) (sym leads) rests
 leads-rest h p q (m ∷ made) rests (t, one, leads) = leads-rest h t q made one.2 leads
 
@@ -96,7 +96,7 @@ pub less-suc : (m : ℕ) → 0 < m → (n : ℕ) × (suc n ≡ m)
 less-suc zero some = absurd (omega arith)
 less-suc (suc n) some = (n, refl)
 
-module _ (h : Heap) (operations rest : List Op) (results : List Outcome) (registers : List (Option Held)) (p q : Pass) (rests : IsAtRest h p) (lane : StandsAt h p operations registers results) where
+module _ (h : HeapFields) (operations rest : List Op) (results : List Outcome) (registers : List (Option Held)) (p q : Pass) (rests : IsAtRest h p) (lane : StandsAt h p operations registers results) where
   -- a held block has a word
   pub some-words : (r : ℕ) (held : Held) → held_in registers r ≡ Some held → (n : ℕ) × (suc n ≡ held.words)
   some-words r held full =
@@ -308,7 +308,7 @@ here-is {X = X} n [] rest x is = absurd (let none = drop-nil {A = X} n in let bo
 here-is zero (y ∷ xs) rest x is = (omega arith, let both : y ∷ xs ≡ x ∷ rest = is in cc)
 here-is (suc n) (y ∷ xs) rest x is = let more = here-is n xs rest x is in (omega (arith, more.0), more.1)
 
-module _ (h : Heap) (operations : List Op) (ops : All IsOp operations) where
+module _ (h : HeapFields) (operations : List Op) (ops : All IsOp operations) where
   -- a lane stands by its rule behind all operations that are left
   pub all-stand :
       (left : List Op) (outs results : List Outcome) (registers : List (Option Held)) (p q : Pass) → drop (length results) operations ≡ left
@@ -332,7 +332,7 @@ module _ (h : Heap) (operations : List Op) (ops : All IsOp operations) where
 
 -- calls over a struct with its pass, operation by operation
 pub all-pass :
-    (h : Heap) (registers : List (Option Held)) (left : List Op) (outs : List Outcome) (e f : PassCalls) → e.heap.now ≡ h
+    (h : HeapFields) (registers : List (Option Held)) (left : List Op) (outs : List Outcome) (e f : PassCalls) → e.heap.now ≡ h
     → AllMade pass_maker.called registers left outs e f → (f.heap.now ≡ h) × AllMade (WholeAt h) registers left outs e.pass.now f.pass.now
 all-pass h registers left [] e f here same =
     (ap (λ (x : PassCalls). x.heap.now) same ∙ here, ap (λ (x : PassCalls). x.pass.now) same)
@@ -347,12 +347,12 @@ made-caller : (p q : Pass) (call : Call) (answer : Reply) → MadeByPass p call 
 made-caller p q call answer (by_steps ended) = sym ended.1.caller
 made-caller p q call answer (at_once words is spent once) = ap (λ (x : Pass). x.errand.caller) (sym once.same)
 
-leads-caller : (h : Heap) (p q : Pass) (made : List Made) → LeadsBy (WholeAt h) p made q → p.errand.caller ≡ q.errand.caller
+leads-caller : (h : HeapFields) (p q : Pass) (made : List Made) → LeadsBy (WholeAt h) p made q → p.errand.caller ≡ q.errand.caller
 leads-caller h p q [] leads = ap (λ (x : Pass). x.errand.caller) (sym leads)
 leads-caller h p q (m ∷ made) (t, one, leads) = made-caller p t m.call m.answer one.0 ∙ leads-caller h t q made leads
 
 caller-kept :
-    (h : Heap) (registers : List (Option Held)) (left : List Op) (outs : List Outcome) (p q : Pass) → AllMade (WholeAt h) registers left outs p q
+    (h : HeapFields) (registers : List (Option Held)) (left : List Op) (outs : List Outcome) (p q : Pass) → AllMade (WholeAt h) registers left outs p q
     → p.errand.caller ≡ q.errand.caller
 caller-kept h registers left [] p q same = ap (λ (x : Pass). x.errand.caller) (sym same)
 caller-kept h registers [] (r ∷ outs) p q all = absurd all
@@ -361,7 +361,7 @@ caller-kept h registers (o ∷ left) (r ∷ outs) p q (t, (made, for, leads), al
 
 -- a lane that ran to its end by whole calls has run over its pass
 pub whole-run :
-    (passed : ℕ → ℕ → Type 0) (h : Heap) (operations : List Op) (e f : PassCalls) (p : Pass) (old new : LaneState Block) → All IsOp operations
+    (passed : ℕ → ℕ → Type 0) (h : HeapFields) (operations : List Op) (e f : PassCalls) (p : Pass) (old new : LaneState Block) → All IsOp operations
     → StandsOver h operations p old → old.stage ≡ stage.Between → e.pass.now ≡ p → e.heap.now ≡ h → IsAtRest f.heap.now f.pass.now
     → HoldsBlocks (λ (block : Block). block.place) (λ (block : Block). block.need)
     (OwnsAt f.pass.now) new.registers.items
@@ -421,7 +421,7 @@ whole-run passed h operations e f p old new ops over between same_pass same_heap
 
 -- what a lane that stands holds
 pub whole-holds :
-    (h : Heap) (operations : List Op) (p : Pass) (lane : LaneState Block) → StandsOver h operations p lane
+    (h : HeapFields) (operations : List Op) (p : Pass) (lane : LaneState Block) → StandsOver h operations p lane
     → HoldsBlocks (λ (block : Block). block.place) (λ (block : Block). block.need) (OwnsAt p) lane.registers.items
 whole-holds h operations p lane over =
     let place_of = λ (block : Block). block.place in
@@ -439,7 +439,7 @@ whole-holds h operations p lane over =
     }
 
 pub whole-rests :
-    (h : Heap) (operations : List Op) (p : Pass) (lane : LaneState Block) → StandsOver h operations p lane → lane.stage ≡ stage.Between → IsAtRest h p
+    (h : HeapFields) (operations : List Op) (p : Pass) (lane : LaneState Block) → StandsOver h operations p lane → lane.stage ≡ stage.Between → IsAtRest h p
 whole-rests h operations p lane over between =
     let regs = held_blocks (λ (block : Block). block.place) (λ (block : Block). block.need) lane.registers.items in
     (over.of, (lane-between h.layout lane.caller (seen p) p.errand operations regs lane.outcomes.items lane.stage over.stands.stands between).0)

@@ -23,7 +23,7 @@ use Rattle.call_events.proofs.OfferLemmas.{put-offers}
 use Rattle.step_machine.specs.Cores.{OwnsAfter}
 use Rattle.step_machine.specs.Moments.{IsMoment, IsServed}
 use Rattle.step_machine.proofs.MomentAnswers.{moment-caller}
-use Rattle.live_heap.specs.declared.heap.Heap.{Heap}
+use Rattle.live_heap.specs.Heaps.{HeapFields}
 use Rattle.live_heap.specs.declared.pass.Pass.{Pass}
 use Rattle.live_heap.specs.Answers.{IsSpentAtOnce}
 use Rattle.live_heap.specs.Calls.{HasCalled}
@@ -48,14 +48,14 @@ use Rattle.trace_lane.proofs.LaneAnswers.{alloc-ends_refused, alloc-ends_spent, 
 use Rattle.lane_runner.proofs.WholeSteps.{InCall, alloc-started, called-begun, doing-in, need_in, place_in, steps-stay, steps-under}
 
 -- a lane between two operations, with the pass of its caller
-abbrev pub StandsAt : Heap → Pass → List Op → List (Option Held) → List Outcome → Type 0
+abbrev pub StandsAt : HeapFields → Pass → List Op → List (Option Held) → List Outcome → Type 0
 StandsAt h p operations registers results = IsLane h.layout p.errand.caller (seen p) p.errand operations registers results stage.Between
 
 -- a call that the pass may begin
-pub begun-at : (h : Heap) (p : Pass) (call : Call) → IsAtRest h p → MayCall p.errand (seen p) call → HasBegun p.errand (begun_by p.errand call) call
+pub begun-at : (h : HeapFields) (p : Pass) (call : Call) → IsAtRest h p → MayCall p.errand (seen p) call → HasBegun p.errand (begun_by p.errand call) call
 begun-at h p call rests may = call-begun h.layout p.errand.caller p.errand (seen p) call rests.0.served rests.1 may
 
-module _ (h : Heap) (operations : List Op) (operation : Op) (rest : List Op) (results : List Outcome) (next : drop (length results) operations ≡ operation ∷ rest) where
+module _ (h : HeapFields) (operations : List Op) (operation : Op) (rest : List Op) (results : List Outcome) (next : drop (length results) operations ≡ operation ∷ rest) where
   abbrev In : ErrandFields → List Event → List (Option Held) → OperationStage → Type 0
   In = InCall h.layout operations operation rest results next
 
@@ -99,14 +99,14 @@ module _ (h : Heap) (operations : List Op) (operation : Op) (rest : List Op) (re
 abbrev pub HasNeed : Held → Need → Type 0
 HasNeed held need = (held.words ≡ usable_words need) × (held.need ≡ need)
 
-pub serves-held : (h : Heap) (p : Pass) (held : Held) (need : Need) → IsAtRest h p → OwnsAfter (seen p) p.errand.caller held.place need
+pub serves-held : (h : HeapFields) (p : Pass) (held : Held) (need : Need) → IsAtRest h p → OwnsAfter (seen p) p.errand.caller held.place need
     → HasNeed held need → IsOfNeed held need
 serves-held h p held need rests owned has =
     (owned-need h.layout (seen p) p.errand.caller held.place need rests.0.served.legal owned, has.0, has.1)
 
 -- a free
 pub free-stands :
-    (h : Heap) (operations rest : List Op) (results : List Outcome) (registers : List (Option Held)) (r : ℕ) (held : Held) (need : Need) (p q : Pass) (steps : ℕ)
+    (h : HeapFields) (operations rest : List Op) (results : List Outcome) (registers : List (Option Held)) (r : ℕ) (held : Held) (need : Need) (p q : Pass) (steps : ℕ)
     → drop (length results) operations ≡ op.Free r ∷ rest → IsAtRest h p → IsOf h q → StandsAt h p operations registers results
     → held_in registers r ≡ Some held → HasNeed held need → OwnsFor p (free held.place need)
     → HasCalled p (free held.place need) steps reply.Freed q
@@ -127,7 +127,7 @@ free-stands h operations rest results registers r held need p q steps next rests
 
 -- a put
 pub put-stands :
-    (h : Heap) (operations rest : List Op) (results : List Outcome) (registers : List (Option Held)) (r shelf : ℕ) (held : Held) (need : Need) (p q : Pass) (steps : ℕ)
+    (h : HeapFields) (operations rest : List Op) (results : List Outcome) (registers : List (Option Held)) (r shelf : ℕ) (held : Held) (need : Need) (p q : Pass) (steps : ℕ)
     → drop (length results) operations ≡ op.Put r shelf ∷ rest → IsAtRest h p → IsOf h q → StandsAt h p operations registers results
     → held_in registers r ≡ Some held → HasNeed held need → OwnsFor p (put held.place need shelf)
     → HasCalled p (put held.place need shelf) steps reply.Put q
@@ -154,7 +154,7 @@ set-back (x ∷ registers) zero held full = ap (λ y. y ∷ registers) (sym full
 set-back (x ∷ registers) (suc r) held full = ap (λ ys. x ∷ ys) (set-back registers r held full)
 
 pub put_full-stands :
-    (h : Heap) (operations rest : List Op) (results : List Outcome) (registers : List (Option Held)) (r shelf found : ℕ) (held : Held) (need : Need) (p q : Pass) (steps : ℕ)
+    (h : HeapFields) (operations rest : List Op) (results : List Outcome) (registers : List (Option Held)) (r shelf found : ℕ) (held : Held) (need : Need) (p q : Pass) (steps : ℕ)
     → drop (length results) operations ≡ op.Put r shelf ∷ rest → IsAtRest h p → IsOf h q → StandsAt h p operations registers results
     → held_in registers r ≡ Some held → HasNeed held need → OwnsFor p (put held.place need shelf)
     → HasCalled p (put held.place need shelf) steps (reply.Full found) q
@@ -188,7 +188,7 @@ put_full-stands h operations rest results registers r shelf found held need p q 
 
 -- an allocation that gives no block
 pub refused-stands :
-    (h : Heap) (operations rest : List Op) (results : List Outcome) (registers : List (Option Held)) (r need v : ℕ) (p q : Pass) (steps : ℕ)
+    (h : HeapFields) (operations rest : List Op) (results : List Outcome) (registers : List (Option Held)) (r need v : ℕ) (p q : Pass) (steps : ℕ)
     → drop (length results) operations ≡ op.Alloc r need v ∷ rest → IsAtRest h p → IsOf h q → StandsAt h p operations registers results
     → held_in registers r ≡ None → HasCalled p (alloc need) steps reply.Refused q
     → StandsAt h q operations registers (results ++ outcome.Refused ∷ [])
@@ -207,7 +207,7 @@ refused-stands h operations rest results registers r need v p q steps next rests
     (results ++ outcome.Refused ∷ []) stage.Between so.stands
 
 pub spent-stands :
-    (h : Heap) (operations rest : List Op) (results : List Outcome) (registers : List (Option Held)) (r need v : ℕ) (p q : Pass) (steps : ℕ)
+    (h : HeapFields) (operations rest : List Op) (results : List Outcome) (registers : List (Option Held)) (r need v : ℕ) (p q : Pass) (steps : ℕ)
     → drop (length results) operations ≡ op.Alloc r need v ∷ rest → IsAtRest h p → IsOf h q → StandsAt h p operations registers results
     → held_in registers r ≡ None → HasCalled p (alloc need) steps reply.Spent q
     → StandsAt h q operations registers (results ++ outcome.Spent ∷ [])
@@ -226,7 +226,7 @@ spent-stands h operations rest results registers r need v p q steps next rests o
     (results ++ outcome.Spent ∷ []) stage.Between so.stands
 
 pub spent_at_once-stands :
-    (h : Heap) (operations rest : List Op) (results : List Outcome) (registers : List (Option Held)) (r need v : ℕ) (p q : Pass)
+    (h : HeapFields) (operations rest : List Op) (results : List Outcome) (registers : List (Option Held)) (r need v : ℕ) (p q : Pass)
     → drop (length results) operations ≡ op.Alloc r need v ∷ rest → IsAtRest h p → StandsAt h p operations registers results
     → held_in registers r ≡ None → IsSpentAtOnce p need q → StandsAt h q operations registers (results ++ outcome.Spent ∷ [])
 spent_at_once-stands h operations rest results registers r need v p q next rests lane empty once =

@@ -36,7 +36,7 @@ use Rattle.call_events.specs.Ends.{HasEnded, end_of}
 use Rattle.call_events.specs.Made.{LeadsBy, Made, answered}
 use Rattle.call_events.specs.UnderWay.{IsUnderWay}
 use Rattle.step_machine.specs.Moments.{IsMoment, IsServed}
-use Rattle.live_heap.specs.declared.heap.Heap.{Heap}
+use Rattle.live_heap.specs.Heaps.{HeapFields}
 use Rattle.live_heap.specs.declared.pass.Pass.{Pass}
 use Rattle.live_heap.specs.Answers.{IsSpentAtOnce}
 use Rattle.live_heap.specs.Calls.{HasCalled, StepsOn}
@@ -126,7 +126,7 @@ onward-steps (suc steps) e f before after (last, sight, answer, on, moment, busy
 
 -- the caller of a pass has gone on by a whole call
 pub call-onward :
-    (h : Heap) (p q : Pass) (call : Call) (steps : ℕ) (answer : Reply) → IsAtRest h p → OwnsFor p call → HasCalled p call steps answer q
+    (h : HeapFields) (p q : Pass) (call : Call) (steps : ℕ) (answer : Reply) → IsAtRest h p → OwnsFor p call → HasCalled p call steps answer q
     → IsOnward p.errand q.errand (seen p) (seen q)
 call-onward h p q call steps answer rests owned called =
     let e = begun_by p.errand call in
@@ -194,7 +194,7 @@ copy-of setting position held block words found moment live size all each = reco
       ];
 }
 
-module _ (h : Heap) (p : Pass) (at : ℕ) (block : Block) where
+module _ (h : HeapFields) (p : Pass) (at : ℕ) (block : Block) where
   -- the caller of the pass has added these events since, and its block at this place is as it was
   pub record HasKept (t : Pass) (added : List Event) : Type 0 where
     pub rests : IsAtRest h t
@@ -323,7 +323,7 @@ module _ (h : Heap) (p : Pass) (at : ℕ) (block : Block) where
         )
 
 -- a lane whose resize has its outcome
-module _ (h : Heap) (operations rest : List Op) (results : List Outcome) (registers : List (Option Held)) (r need : ℕ) (held : Held) (p q : Pass) (next : drop (length results) operations ≡ op.Resize r need ∷ rest) (rests : IsAtRest h p) (lane : StandsAt h p operations registers results) (full : held_in registers r ≡ Some held) where
+module _ (h : HeapFields) (operations rest : List Op) (results : List Outcome) (registers : List (Option Held)) (r need : ℕ) (held : Held) (p q : Pass) (next : drop (length results) operations ≡ op.Resize r need ∷ rest) (rests : IsAtRest h p) (lane : StandsAt h p operations registers results) (full : held_in registers r ≡ Some held) where
   between : IsIdle p.errand × (registers ≡ lane.position.registers) × (own p.errand.caller (seen p) ≡ lane.position.done)
   between = lane-between h.layout p.errand.caller (seen p) p.errand operations registers results stage.Between lane refl
 

@@ -14,7 +14,7 @@ use Rattle.trace_text.specs.declared.limits.TheConstants.{REGISTERS}
 use Rattle.trace_text.specs.declared.trace.Op.{Op}
 use Rattle.trace_text.specs.declared.trace.Op.TheVariants as op
 use Rattle.trace_text.specs.Traces.{IsOp}
-use Rattle.live_heap.specs.declared.heap.Heap.{Heap}
+use Rattle.live_heap.specs.Heaps.{HeapFields}
 use Rattle.live_heap.specs.declared.pass.Pass.{Pass}
 use Rattle.live_heap.specs.Passes.{seen}
 use Rattle.live_heap.specs.Whole.{IsAtRest}
@@ -87,7 +87,7 @@ misses-script shelf (m ∷ misses) answer are =
     ∙ ap (λ calls. take shelf ∷ calls) (misses-script shelf misses answer are.3)
 
 -- the calls of an operation that was made are those of its script
-module _ (h : Heap) (operations rest : List Op) (results : List Outcome) (registers : List (Option Held)) (p q : Pass) (rests : IsAtRest h p) (lane : StandsAt h p operations registers results) where
+module _ (h : HeapFields) (operations rest : List Op) (results : List Outcome) (registers : List (Option Held)) (p q : Pass) (rests : IsAtRest h p) (lane : StandsAt h p operations registers results) where
   on-held :
       (r : ℕ) (held : Held) (need : Need) (calls_on : Held → Need → List Call) (made : List Made) → held_in registers r ≡ Some held
       → IsOfNeed held need → calls_made made ≡ calls_on held need → OnHeld (held_in registers r) calls_on (calls_made made)
@@ -199,7 +199,7 @@ module _ (h : Heap) (operations rest : List Op) (results : List Outcome) (regist
   op-script (op.Resize r need) result (Some held) made is calls leads = absurd calls
 
 -- the calls of a lane's operations are those of its whole script
-module _ (h : Heap) (operations : List Op) (ops : All IsOp operations) where
+module _ (h : HeapFields) (operations : List Op) (ops : All IsOp operations) where
   all-script :
       (left : List Op) (outs results : List Outcome) (registers : List (Option Held)) (p q : Pass) → drop (length results) operations ≡ left
       → IsAtRest h p → StandsAt h p operations registers results → AllMade (WholeAt h) registers left outs p q

@@ -21,7 +21,7 @@ use Rattle.call_events.specs.UnderWay.{IsUnderWay}
 use Rattle.call_events.proofs.BeginsLemmas.{too_large-stays, spent-begins}
 use Rattle.sound_state.proofs.CountedLemmas.{steps-counted}
 use Rattle.step_machine.specs.Moments.{IsMoment}
-use Rattle.live_heap.specs.declared.heap.Heap.{Heap}
+use Rattle.live_heap.specs.Heaps.{HeapFields}
 use Rattle.live_heap.specs.declared.pass.Pass.{Pass}
 use Rattle.live_heap.specs.Calls.{HasCalled, StepsOn}
 use Rattle.live_heap.specs.Passes.{seen}
@@ -150,7 +150,7 @@ may-call p (take shelf) idle owned busy = tt
 
 -- a call of a pass that has ended has begun
 pub called-begun :
-    (h : Heap) (p q : Pass) (call : Call) (steps : ℕ) (answer : Reply) → IsAtRest h p → OwnsFor p call → HasCalled p call steps answer q
+    (h : HeapFields) (p q : Pass) (call : Call) (steps : ℕ) (answer : Reply) → IsAtRest h p → OwnsFor p call → HasCalled p call steps answer q
     → HasBegun p.errand (begun_by p.errand call) call
 called-begun h p q call steps answer rests owned called =
     let last_busy = (settled-of called.last q.errand called.sight (seen q) (progress.Done answer) called.moment).busy in

@@ -12,7 +12,7 @@ use Rattle.errand_steps.specs.declared.reply.Offer.{Offer}
 use Rattle.errand_steps.specs.declared.reply.Reply.{Reply}
 use Rattle.errand_steps.specs.declared.reply.Reply.TheVariants as reply
 use Rattle.errand_steps.specs.declared.told.Ending.TheVariants as ending
-use Rattle.live_heap.specs.declared.heap.Heap.{Heap}
+use Rattle.live_heap.specs.Heaps.{HeapFields}
 use Rattle.live_heap.specs.declared.pass.Pass.{Pass}
 use Rattle.live_heap.specs.Calls.{HasCalled}
 use Rattle.live_heap.specs.Passes.{IsOf, seen}
@@ -51,11 +51,11 @@ some-same : (a b : Held) (slot : Option Held) → slot ≡ Some a → slot ≡ S
 some-same a b slot one two = let both : Some a ≡ Some b = sym one ∙ two in cc
 
 -- a lane whose call has begun
-abbrev pub BegunAt : Heap → Pass → Call → List Op → List (Option Held) → List Outcome → OperationStage → Type 0
+abbrev pub BegunAt : HeapFields → Pass → Call → List Op → List (Option Held) → List Outcome → OperationStage → Type 0
 BegunAt h p call operations registers results at =
     IsLane h.layout p.errand.caller (seen p) (begun_by p.errand call) operations registers results at
 
-module _ (h : Heap) (operations rest : List Op) (results : List Outcome) (registers : List (Option Held)) where
+module _ (h : HeapFields) (operations rest : List Op) (results : List Outcome) (registers : List (Option Held)) where
   -- takes that missed lead to the last one
   pub record TakesLast (shelf : ℕ) (answer : Reply) (q : Pass) : Type 0 where
     pub p : Pass

@@ -12,7 +12,7 @@ ghost use Rattle.lane_outcomes.specs.Fits.{OutcomesFit};
 ghost use Rattle.call_bounds.specs.Contention.{lost_of};
 ghost use Rattle.sound_state.specs.Sums.{callers_sum};
 ghost use Rattle.step_machine.specs.Cores.{CoreFields, errand_at};
-ghost use Rattle.live_heap.specs.declared.heap.Heap.{Heap};
+ghost use Rattle.live_heap.specs.Heaps.{HeapFields};
 ghost use Rattle.live_heap.specs.declared.pass.Pass.{Pass};
 ghost use Rattle.live_heap.specs.Endings.{ClosedFields, HasClosed, IsResting};
 ghost use Rattle.call_events.specs.Made.{LeadsBy, Made};
@@ -25,7 +25,7 @@ ghost use Rattle.lane_runner.specs.Threads.{HasMadeCalls, HaveRun, WholeAt};
 /// The outcomes of lanes that ran on threads fit the one history of their heap, once it is closed, and
 /// however many exchanges all callers lost in it.
 pub fn closed_lanes_fit()
-    ensures { (trace : Trace) (h : Heap) (passes : List Pass) (outcomes : List (List Outcome)) (c : ClosedFields) → IsTrace trace
+    ensures { (trace : Trace) (h : HeapFields) (passes : List Pass) (outcomes : List (List Outcome)) (c : ClosedFields) → IsTrace trace
         → h.layout ≡ trace.heap → HaveRun trace h passes outcomes → HasClosed h passes c → IsResting c
         → OutcomesFit trace.heap c.events (callers_sum c.geometry lost_of (errand_at c.errands)) trace.lanes outcomes }
 {}
@@ -33,7 +33,7 @@ pub fn closed_lanes_fit()
 /// The whole calls that a lane on threads has made are, in their order, those that a lane which goes step
 /// by step begins for the same outcomes.
 pub fn threads_make_the_calls_of_their_script()
-    ensures { (h : Heap) (operations : List Op) (lane : ℕ) (outcomes : List Outcome) (p : Pass) → All IsOp operations
+    ensures { (h : HeapFields) (operations : List Op) (lane : ℕ) (outcomes : List Outcome) (p : Pass) → All IsOp operations
         → (calls : HasMadeCalls h operations lane outcomes p)
         → (made : List Made) × LeadsBy (WholeAt h) calls.first made p
         × Scripts (replicate REGISTERS None) operations outcomes (calls_made made) }

@@ -14,7 +14,7 @@ use Rattle.live_heap.specs.declared.answers.AllocAnswer.TheVariants as alloc_ans
 use Rattle.live_heap.specs.declared.block.Block.{Block}
 use Rattle.live_heap.specs.declared.pass.Pass.{Pass}
 use Rattle.live_heap.specs.Answers.{AllocTells, alloc_answer_in, reply_in}
-use Rattle.live_heap.specs.declared.heap.Heap.{Heap}
+use Rattle.live_heap.specs.Heaps.{HeapFields}
 use Rattle.live_heap.specs.Calls.{GoesOn, IsCalling}
 use Rattle.live_heap.specs.Passes.{IsOf}
 use Rattle.live_heap.specs.Going.{in_call, stands_at}
@@ -39,7 +39,7 @@ alloc-call p words class idle small left =
 
 -- what an allocation tells where it has gone on so since it began
 pub alloc-answers :
-    (h : Heap) (p : Pass) (words tries : ℕ) (told : Option (Ending Block)) (q : Pass) → IsOf h p → IsOf h q
+    (h : HeapFields) (p : Pass) (words tries : ℕ) (told : Option (Ending Block)) (q : Pass) → IsOf h p → IsOf h q
     → GoesOn p (alloc words) 0 (in_call p (alloc words)) tries (reply_in told) q → AllocTells p words tries (alloc_answer_in told) q
 alloc-answers h p words tries None q was of over =
     interrupted-since p (in_call p (alloc words)) (alloc words) tries q (record { seat = refl; errand = refl; out = refl }) over

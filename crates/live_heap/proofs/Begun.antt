@@ -18,7 +18,7 @@ use Rattle.sound_state.specs.Runs.{MayBegin}
 use Rattle.step_machine.specs.Cores.{OwnsAfter}
 use Rattle.step_machine.specs.Moments.{IsServed}
 use Rattle.live_heap.specs.declared.block.Block.{Block}
-use Rattle.live_heap.specs.declared.heap.Heap.{Heap}
+use Rattle.live_heap.specs.Heaps.{HeapFields}
 use Rattle.live_heap.specs.declared.pass.Pass.{Pass}
 use Rattle.owned_words.specs.Leaving.{IsAbout, concerned}
 use Rattle.owned_words.proofs.Concerned.{begins-concerned}
@@ -47,10 +47,10 @@ begins-on log before e f call (inr (first, was, had, begun)) idle may is =
     inr (call, m.0, m.1, is ∙ ap (λ x. begun_by x call) same)
 
 -- the pass's errand is of its heap
-pub of-laid : (h : Heap) (p : Pass) → IsOf h p → p.errand.geometry ≡ h.layout
+pub of-laid : (h : HeapFields) (p : Pass) → IsOf h p → p.errand.geometry ≡ h.layout
 of-laid h p of = of.served.own_errand.geometry
 
-pub of-caller : (h : Heap) (p : Pass) (of : IsOf h p) → p.errand.caller ≡ of.before.errand.caller
+pub of-caller : (h : HeapFields) (p : Pass) (of : IsOf h p) → p.errand.caller ≡ of.before.errand.caller
 of-caller h p of = is_begun-caller (seen p) of.before.errand p.errand of.begun
 
 -- the block that a call is about is home
@@ -68,7 +68,7 @@ may-about g events caller (take shelf) legal may = tt
 
 -- a pass that begins a call stays one of its heap
 pub begins-of :
-    (h : Heap) (p q : Pass) (call : Call) → IsOf h p → IsIdle p.errand → MayBegin (after_events (seen p)) p.errand.caller call → CallsHome p call
+    (h : HeapFields) (p q : Pass) (call : Call) → IsOf h p → IsIdle p.errand → MayBegin (after_events (seen p)) p.errand.caller call → CallsHome p call
     → q.seat ≡ p.seat → q.out ≡ p.out → q.errand ≡ begun_by p.errand call → IsOf h q
 begins-of h p q call of idle may home seat out is =
     let number : q.errand.caller ≡ p.errand.caller = ap (λ (e : ErrandFields). e.caller) is ∙ begun-caller p.errand call in
@@ -93,7 +93,7 @@ begins-of h p q call of idle may home seat out is =
 
 -- a block that a pass owns is one of its heap
 pub heap-at :
-    (h : Heap) (p : Pass) (place : ℕ) (need : Need) → IsOf h p → OwnsAfter (seen p) p.errand.caller place need
+    (h : HeapFields) (p : Pass) (place : ℕ) (need : Need) → IsOf h p → OwnsAfter (seen p) p.errand.caller place need
     → IsHeapBlock p.errand.geometry place need
 heap-at h p place need of owned =
     let b = owned.0 in
@@ -105,9 +105,9 @@ heap-at h p place need of owned =
     (subst (λ m. IsHeapBlock h.layout place m) owned.3
     (subst (λ q. IsHeapBlock h.layout q b.need) at (formed.need, formed.place)))
 
-pub heap-block : (h : Heap) (p : Pass) (block : Block) → IsOf h p → Owns p block → IsHeapBlock p.errand.geometry block.place block.need
+pub heap-block : (h : HeapFields) (p : Pass) (block : Block) → IsOf h p → Owns p block → IsHeapBlock p.errand.geometry block.place block.need
 heap-block h p block of owned = heap-at h p block.place block.need of owned.0
 
 -- the pass's errand keeps its rule
-pub of-rule : (h : Heap) (p : Pass) → IsOf h p → IsErrand p.errand
+pub of-rule : (h : HeapFields) (p : Pass) → IsOf h p → IsErrand p.errand
 of-rule h p of = of.served.own_errand.rule

@@ -12,7 +12,7 @@ use Rattle.heap_geometry.specs.Geometry.{IsChecked}
 use Rattle.heap_geometry.specs.Need.{usable_words}
 use Rattle.word_table.specs.Counts.{arena_words}
 use Rattle.step_machine.specs.Cores.{OwnsAfter}
-use Rattle.live_heap.specs.declared.heap.Heap.{Heap}
+use Rattle.live_heap.specs.Heaps.{HeapFields}
 use Rattle.live_heap.specs.declared.pass.Pass.{Pass}
 use Rattle.live_heap.specs.declared.view.Lent.{Lent}
 use Rattle.live_heap.specs.Passes.{IsOf, OwnsAt, seen, view}
@@ -74,14 +74,14 @@ arena-small : (g : Geometry) → IsChecked g → arena_words g < 2 ^ 32
 arena-small g checked = omega (arith, checked.frames.1, checked.units.1)
 
 block-below :
-    (h : Heap) (p : Pass) (place : ℕ) (need : Need) → IsOf h p → OwnsAfter (seen p) p.errand.caller place need → place < arena_words h.layout
+    (h : HeapFields) (p : Pass) (place : ℕ) (need : Need) → IsOf h p → OwnsAfter (seen p) p.errand.caller place need → place < arena_words h.layout
 block-below h p place need of owned =
     let within : place + 1 + usable_words need ≤ arena_words h.layout =
     subst (λ g. place + 1 + usable_words need ≤ arena_words g) (of-laid h p of) (payload-end p.errand.geometry place need (heap-at h p place need of owned)) in
     omega (arith, within)
 
 -- the words of one block more may go out
-pub out-small : (h : Heap) (p : Pass) (place : ℕ) (need : Need) → IsOf h p → OwnsAt p place need → p.out + 1 < 2 ^ 32
+pub out-small : (h : HeapFields) (p : Pass) (place : ℕ) (need : Need) → IsOf h p → OwnsAt p place need → p.out + 1 < 2 ^ 32
 out-small h p place need of owned =
     let few =
     fewer (view p).lent (arena_words h.layout) place (λ k b at. block-below h p b.place b.need of (of.mine k b at)) of.once

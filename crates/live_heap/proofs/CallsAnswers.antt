@@ -26,7 +26,7 @@ use Rattle.step_machine.specs.Moments.{IsMoment}
 use Rattle.step_machine.proofs.MomentAnswers.{moment-geometry, moment-given, moment-got, moment-meant}
 use Rattle.live_heap.specs.declared.answers.AllocAnswer.TheVariants as alloc_answers
 use Rattle.live_heap.specs.declared.block.Block.{Block}
-use Rattle.live_heap.specs.declared.heap.Heap.{Heap}
+use Rattle.live_heap.specs.Heaps.{HeapFields}
 use Rattle.live_heap.specs.declared.pass.Pass.{Pass}
 use Rattle.live_heap.specs.Answers.{AllocTells, FreeTells, HasBegun, HasStepped, IsAllocEnding, IsSpentAtOnce, IsTried, IsTriedEnding, ResumeTells, alloc_ended, progress_of, reply_of, resumed_ended}
 use Rattle.live_heap.specs.declared.answers.FreeAnswer.TheVariants as free_answers
@@ -42,7 +42,7 @@ step-moment p q told same is stepped = subst (λ t. IsMoment p.errand q.errand (
 -- what a call that has ended so has come to
 module _ (first : Pass) (call : Call) (steps : ℕ) (q : Pass) where
   pub given-owns :
-      (h : Heap) → IsOf h first → IsOf h q → (block : Block) → HasCalled first call steps (reply.Given block.place block.need) q → Owns q block
+      (h : HeapFields) → IsOf h first → IsOf h q → (block : Block) → HasCalled first call steps (reply.Given block.place block.need) q → Owns q block
   given-owns h was of block called = (
     moment-given called.last q.errand called.sight (seen q) (progress.Done (reply.Given block.place block.need)) called.moment block.place block.need refl,
     given-home h first q call steps block.place block.need was of called,
@@ -52,7 +52,7 @@ module _ (first : Pass) (call : Call) (steps : ℕ) (q : Pass) where
   got-has block called =
       moment-got called.last q.errand called.sight (seen q) (progress.Done (reply.Got block.place block.need)) called.moment block.place block.need refl
 
-  pub got-owns : (h : Heap) → IsOf h first → IsOf h q → (block : Block) → HasCalled first call steps (reply.Got block.place block.need) q → Owns q block
+  pub got-owns : (h : HeapFields) → IsOf h first → IsOf h q → (block : Block) → HasCalled first call steps (reply.Got block.place block.need) q → Owns q block
   got-owns h was of block called = (
     got-has block called,
     got-home h first q call steps block.place block.need was of called,
@@ -126,7 +126,7 @@ module _ (p b : Pass) (call : Call) (tries : ℕ) (q : Pass) (since : HasBegun p
 
 -- what an allocation that has ended in time tells
 pub alloc-tells :
-    (h : Heap) (p : Pass) (words tries : ℕ) (told : Ending Block) (q : Pass) → IsOf h p → IsOf h q
+    (h : HeapFields) (p : Pass) (words tries : ℕ) (told : Ending Block) (q : Pass) → IsOf h p → IsOf h q
     → EndsInTime p (alloc words) 0 p tries (reply_of told) q → AllocTells p words tries (alloc_ended told) q
 alloc-tells h p words tries (ending.Given block) q was of ends = (ends, given-owns p (alloc words) ends.steps q h was of block ends.called)
 alloc-tells h p words tries ending.Refused q was of ends = ends
@@ -145,7 +145,7 @@ free-tells p block tries told q ends =
 
 -- what a call that was resumed and has ended in time tells
 pub resume-tells :
-    (h : Heap) (first : Pass) (call : Call) (made : ℕ) (p : Pass) (tries : ℕ) (told : Ending Block) (q : Pass) → IsOf h first → IsOf h q
+    (h : HeapFields) (first : Pass) (call : Call) (made : ℕ) (p : Pass) (tries : ℕ) (told : Ending Block) (q : Pass) → IsOf h first → IsOf h q
     → IsTriedEnding told → EndsInTime first call made p tries (reply_of told) q → ResumeTells first call made p tries (resumed_ended told) q
 resume-tells h first call made p tries (ending.Given block) q was of tried ends = (ends, given-owns first call ends.steps q h was of block ends.called)
 resume-tells h first call made p tries ending.Freed q was of tried ends = ends

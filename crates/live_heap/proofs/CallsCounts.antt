@@ -17,7 +17,7 @@ use Rattle.errand_steps.proofs.AnswerLemmas.{lost-told, cleared-told}
 use Rattle.call_bounds.specs.StepsLeft.{steps_left}
 use Rattle.call_bounds.proofs.LeftMost.{left-most}
 use Rattle.step_machine.specs.Moments.{IsMoment}
-use Rattle.live_heap.specs.declared.heap.Heap.{Heap}
+use Rattle.live_heap.specs.Heaps.{HeapFields}
 use Rattle.live_heap.specs.declared.pass.Pass.{Pass}
 use Rattle.live_heap.specs.Calls.{EndsInTime, IsCalling, IsInterrupted, IsTry, tries_of}
 use Rattle.live_heap.specs.Going.{IsGoing}
@@ -157,13 +157,13 @@ module _ (e f : ErrandFields) (before after : List Event) where
       }
 
 -- a pass has fewer steps left than any call may make
-pub of-short : (h : Heap) (p : Pass) → IsOf h p → steps_left h.layout p.errand.point < CALL_STEPS
+pub of-short : (h : HeapFields) (p : Pass) → IsOf h p → steps_left h.layout p.errand.point < CALL_STEPS
 of-short h p of =
     let o = of.served.own_errand in
     subst (λ g. steps_left g p.errand.point < CALL_STEPS) o.geometry
     (left-most p.errand.geometry p.errand.caller p.errand.point o.rule.geometry o.rule.point)
 
-pub going-first : (h : Heap) (p : Pass) (tries : ℕ) → IsOf h p → IsBusy p.errand → 0 < tries → IsGoing h p tries tries p
+pub going-first : (h : HeapFields) (p : Pass) (tries : ℕ) → IsOf h p → IsBusy p.errand → 0 < tries → IsGoing h p tries tries p
 going-first h p tries of busy some =
     record {
       busy = busy;
@@ -173,7 +173,7 @@ going-first h p tries of busy some =
       spent = λ below. refl;
     }
 
-module _ (h : Heap) (p : Pass) (tries left : ℕ) (q r : Pass) (of : IsOf h q) (some : 0 < left) (i : IsGoing h p tries left q) where
+module _ (h : HeapFields) (p : Pass) (tries left : ℕ) (q r : Pass) (of : IsOf h q) (some : 0 < left) (i : IsGoing h p tries left q) where
   heap : q.errand.geometry ≡ h.layout
   heap = of-laid h q of
 
@@ -255,7 +255,7 @@ module _ (h : Heap) (p : Pass) (tries left : ℕ) (q r : Pass) (of : IsOf h q) (
 
 -- a call under way with no tries left is interrupted
 pub going-over :
-    (h : Heap) (p : Pass) (tries left : ℕ) (q : Pass) → left ≡ 0 → IsGoing h p tries left q → (first : Pass) (call : Call) (made : ℕ)
+    (h : HeapFields) (p : Pass) (tries left : ℕ) (q : Pass) → left ≡ 0 → IsGoing h p tries left q → (first : Pass) (call : Call) (made : ℕ)
     → IsCalling first call made p → IsInterrupted first call made p tries q
 going-over h p tries left q none i first call made c =
     (i.calls first call made c).3 none

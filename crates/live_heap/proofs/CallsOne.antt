@@ -122,7 +122,7 @@ ends-told :
     → (end : Ending Block) × (told ≡ step.Done end) × (reply_of end ≡ r)
 ends-told p q told at r stands s is = told-done told r (s.answers ∙ end-answers p.errand s.x at r stands is)
 
-stepped-settled : (p q : Pass) (told : Stepped Block) → HasStepped p q told → IsSettled p.errand q.errand (seen p) (seen q) (progress_of told)
+pub stepped-settled : (p q : Pass) (told : Stepped Block) → HasStepped p q told → IsSettled p.errand q.errand (seen p) (seen q) (progress_of told)
 stepped-settled p q told stepped = settled-of p.errand q.errand (seen p) (seen q) (progress_of told) stepped.moment
 
 -- where a pass stands that has begun a write, a read, a put or a take
@@ -134,7 +134,7 @@ read-point : (p b : Pass) (place : ℕ) (need : Need) (i : ℕ) → HasBegun p (
 unfolding read_begun
 read-point p b place need i since = ap (λ (e : ErrandFields). e.point) since.errand
 
-put-point :
+pub put-point :
     (p b : Pass) (place : ℕ) (need : Need) (shelf : ℕ) → HasBegun p (put place need shelf) b
     → b.errand.point ≡ point.Large (large.PutBlock shelf place need) Nothing
 unfolding put_begun
@@ -153,13 +153,13 @@ pub load-ends : (place i : ℕ) (o : Continuation) (x : Find) → next_of (point
 unfolding next_of
 load-ends place i o x = refl
 
-put-won :
+pub put-won :
     (shelf place : ℕ) (need : Need) (o : Continuation) (x : Find) → x.won ≡ true
     → next_of (point.Large (large.PutBlock shelf place need) o) x ≡ next.End reply.Put
 unfolding next_of
 put-won shelf place need o x won = ap (λ w. leave_large (if w then large_exit.PutDone else large_exit.ShelfFull x.value) o) won
 
-put-lost :
+pub put-lost :
     (shelf place : ℕ) (need : Need) (o : Continuation) (x : Find) → x.won ≡ false
     → next_of (point.Large (large.PutBlock shelf place need) o) x ≡ next.End (reply.Full x.value)
 unfolding next_of

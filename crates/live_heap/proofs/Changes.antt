@@ -26,7 +26,7 @@ use Rattle.call_events.specs.Ends.{HasEnded, end_of}
 use Rattle.errand_steps.specs.tables.CallStage.{StageOfCall, asking, asking_run, freed, freeing, given, putting, reading, refused, taking, writing}
 use Rattle.call_events.specs.Stages.{stage_of}
 use Rattle.call_events.specs.UnderWay.{HasLooked, SoFar}
-use Rattle.live_heap.specs.declared.heap.Heap.{Heap}
+use Rattle.live_heap.specs.Heaps.{HeapFields}
 use Rattle.live_heap.specs.declared.pass.Pass.{Pass}
 use Rattle.live_heap.specs.Calls.{HasCalled, IsCalling}
 use Rattle.live_heap.specs.Contents.{HasChanged, HasChangedSoFar, HasGot, HasPut, IsGiven, OwnsBut, OwnsSame, owned_after, owned_in, tells_last}
@@ -262,20 +262,20 @@ module _
   so_far-changes call at so = absurd so
 
 pub called-changes :
-    (h : Heap) (p q : Pass) (call : Call) (steps : ℕ) (answer : Reply) → IsOf h q → HasCalled p call steps answer q → HasChanged p call answer q
+    (h : HeapFields) (p q : Pass) (call : Call) (steps : ℕ) (answer : Reply) → IsOf h q → HasCalled p call steps answer q → HasChanged p call answer q
 called-changes h p q call steps answer of called =
     ended-changes h.layout p q called.added (legal-weaker h.layout (seen q) of.served.legal) called.caller (called-adds p q call steps answer called)
     call answer called.ended (λ event. called-last p q call steps answer event called)
 
 pub calling-changes :
-    (h : Heap) (p q : Pass) (call : Call) (steps : ℕ) → IsOf h q → IsCalling p call steps q → HasChangedSoFar p call (stage_of q.errand.point) q
+    (h : HeapFields) (p q : Pass) (call : Call) (steps : ℕ) → IsOf h q → IsCalling p call steps q → HasChangedSoFar p call (stage_of q.errand.point) q
 calling-changes h p q call steps of calling =
     so_far-changes h.layout p q calling.added (legal-weaker h.layout (seen q) of.served.legal) calling.caller (calling-adds p q call steps calling)
     call (stage_of q.errand.point) calling.under_way
 
 -- what a whole call, however often it was interrupted, has made of what its caller owns
 pub whole-changes :
-    (h k : Heap) (p q : Pass) (call : Call) (answer : Reply) → IsWhole h p call answer k q → HasChanged p call answer q
+    (h k : HeapFields) (p q : Pass) (call : Call) (answer : Reply) → IsWhole h p call answer k q → HasChanged p call answer q
 whole-changes h k p q call answer (by_steps made, may, same, is) = called-changes k p q call made.0 answer is.0 made.1
 whole-changes h k p q call answer (at_once words is_alloc spent once, may, same, is) =
     let stays : OwnsSame p q = λ place. ap (λ (r : Pass). owned_in r place) once.same in

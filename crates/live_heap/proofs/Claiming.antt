@@ -28,13 +28,14 @@ use Rattle.live_heap.specs.declared.view.View.{View}
 use Rattle.live_heap.specs.Pieces.{AreLaidOut, AreLent, Claimed, IsLent, IsOpened, IsOpener, IsOut, IsSpare, PiecesHold, Status, caller_mark, mark_of, mark_place, place_as, shown, with_pieces, zeros_of}
 use Rattle.live_heap.specs.Pieces.Status.{blank, out, used}
 use Rattle.live_heap.specs.Rule.{KeptTable, Stands, state_with}
+use Rattle.live_heap.specs.Shelves.{AllowedWords}
 use Rattle.live_heap.proofs.LentPlaces.{home-behind, lent-laid, out-still, put-alike, set-alike}
 use Rattle.live_heap.proofs.PutPlaces.{at-put_before, at-put_behind, run-all}
 use Rattle.live_heap.proofs.Shows.{arena-placed, piece-end, relaid, shown-arena, shown-mark, status-else, status-here, with_status}
 
 -- the rule of the machine speaks of no piece
 kept-mine :
-    (g : Geometry) (words : List ℕ) (views : List View) (id : ℕ) (v : View) (lays : Option ℕ) (ready : List ℕ) (k : KeptTable g words views)
+    {rule : AllowedWords} (g : Geometry) (words : List ℕ) (views : List View) (id : ℕ) (v : View) (lays : Option ℕ) (ready : List ℕ) (k : KeptTable rule g words views)
     → get_elem? views id ≡ some v → Stands g k.errands k.events k.run.wins.list k.run.moves k.place id (with_pieces v lays ready)
 kept-mine g words views id v lays ready k at =
     let mine = k.each id v at in
@@ -54,8 +55,8 @@ kept-mine g words views id v lays ready k at =
     }
 
 pub kept-pieces :
-    (g : Geometry) (words : List ℕ) (views : List View) (id : ℕ) (v : View) (lays : Option ℕ) (ready : List ℕ) → get_elem? views id ≡ some v
-    → KeptTable g words views → KeptTable g words (slice_set views id (with_pieces v lays ready))
+    {rule : AllowedWords} (g : Geometry) (words : List ℕ) (views : List View) (id : ℕ) (v : View) (lays : Option ℕ) (ready : List ℕ) → get_elem? views id ≡ some v
+    → KeptTable rule g words views → KeptTable rule g words (slice_set views id (with_pieces v lays ready))
 kept-pieces g words views id v lays ready at k = record {
   whole = k.whole;
   errands = k.errands;
@@ -65,6 +66,7 @@ kept-pieces g words views id v lays ready at k = record {
   run = k.run;
   opened = k.opened;
   place = k.place;
+  by_rule = k.by_rule;
   each = λ j u is. ⊎_elim
       (λ (t : (j ≡ id) × (with_pieces v lays ready ≡ u)).
       subst (λ (y : ℕ × View). Stands g k.errands k.events k.run.wins.list k.run.moves k.place y.0 y.1) (λ i. (sym t.0 i, t.1 i)) (kept-mine g words views id v lays ready k at))
@@ -74,7 +76,7 @@ kept-pieces g words views id v lays ready at k = record {
 
 -- a piece has one opener
 pub one-opener :
-    (g : Geometry) (words : List ℕ) (views : List View) (i j k : ℕ) (u v : View) → KeptTable g words views → get_elem? views i ≡ some u
+    {rule : AllowedWords} (g : Geometry) (words : List ℕ) (views : List View) (i j k : ℕ) (u v : View) → KeptTable rule g words views → get_elem? views i ≡ some u
     → get_elem? views j ≡ some v → IsOpener g u k → IsOpener g v k → i ≡ j
 one-opener g words views i j k u v kept at_u at_v (n, x, at_x, opens_x) (m, y, at_y, opens_y) =
     let a = (kept.each i u at_u).each n x at_x in
@@ -457,9 +459,9 @@ module _ (g : Geometry) (size id k : ℕ) (v : View) (before : Standing) (one : 
       home-behind g events whole places views p l (omega (arith, arena-placed g)) (omega (arith, l.long, a.long, below))
       ∙ a.each p (omega (arith, a.long, below)) ∙ shown-mark g words a.status k
 
-  pub claim : v.lays ≡ None → region.Allows (PiecesHold g) size id (v, []) p (λ n. either (eqb n 0) 1 n) (λ n. Claimed g k v n)
+  pub claim : {rule : AllowedWords} → v.lays ≡ None → region.Allows (PiecesHold rule g) size id (v, []) p (λ n. either (eqb n 0) 1 n) (λ n. Claimed g k v n)
   unfolding kept-pieces
-  claim settled s good long at =
+  claim {rule} settled s good long at =
       let words : List ℕ = good.0 in
       let h = good.1 in
       let whole : List Place = good.2 in
@@ -467,7 +469,7 @@ module _ (g : Geometry) (size id k : ℕ) (v : View) (before : Standing) (one : 
       let l = good.4 in
       let mark = at-mark h.1.events words whole s.places s.views a l in
       let is : number_at s.places p ≡ mark_of (a.status k) = ap number mark in
-      let F : ℕ → Type 0 = λ x. Goes (PiecesHold g) s (with_number s.places p (either (eqb x 0) 1 x)) id (v, []) (Claimed g k v x) in
+      let F : ℕ → Type 0 = λ x. Goes (PiecesHold rule g) s (with_number s.places p (either (eqb x 0) 1 x)) id (v, []) (Claimed g k v x) in
       let goes : (st : Status) → a.status k ≡ st → F (mark_of st) = λ st. elim st as (λ x. a.status k ≡ x → F (mark_of x)) [
         | blank ↦ λ found. (
           with_pieces v (Some k) v.ready,
@@ -523,8 +525,8 @@ module _ (g : Geometry) (size id k : ℕ) (v : View) (before : Standing) (one : 
           ∙ shown-arena g ws a.status i inside.0 ∙ ap (λ x. place_as x (slice_index ws i)) (ap a.status inside.1 ∙ found))
 
   pub publish :
-      v.lays ≡ Some k
-      → region.Allows (PiecesHold g) size id (v, (piece_start g k, zeros_of g k) ∷ []) p (λ _. 2) (λ _ me. me ≡ (with_pieces v None (k ∷ v.ready), []))
+      {rule : AllowedWords} → v.lays ≡ Some k
+      → region.Allows (PiecesHold rule g) size id (v, (piece_start g k, zeros_of g k) ∷ []) p (λ _. 2) (λ _ me. me ≡ (with_pieces v None (k ∷ v.ready), []))
   unfolding kept-pieces
   publish laying s good long at =
       let words : List ℕ = good.0 in

@@ -31,6 +31,7 @@ use Rattle.live_heap.specs.Endings.{IsAtRest}
 use Rattle.live_heap.specs.Pieces.{AreLaidOut, AreLent, AreMarked, PiecesHold, Status, caller_mark, mark_count, mark_of, mark_place, place_as}
 use Rattle.live_heap.specs.Pieces.Status.{blank, out, used}
 use Rattle.live_heap.specs.Rule.{KeptTable, WordsHold}
+use Rattle.live_heap.specs.Shelves.{AllowedWords}
 use Rattle.live_heap.proofs.Ending.{IsLast, cover}
 use Rattle.live_heap.proofs.Gathering.{idle-at}
 use Rattle.live_heap.proofs.Laid.{read-number}
@@ -121,7 +122,7 @@ module _ (g : Geometry) (words : List ℕ) (places : List Place) (views : List V
   unmarked-home none = all-at_home g words places views a (λ k has gone. none k has (mark-laid k (omega (arith, has)) ∙ ap (λ st. laid (mark_of st)) gone))
 
 -- where a view stands for all callers, each in no call, so is each caller of every view
-module _ (g : Geometry) (table : List ℕ) (views : List View) (id : ℕ) (v : View) (h : KeptTable g table views) (at : get_elem? views id ≡ some v)
+module _ {rule : AllowedWords} (g : Geometry) (table : List ℕ) (views : List View) (id : ℕ) (v : View) (h : KeptTable rule g table views) (at : get_elem? views id ≡ some v)
     (rest : IsAtRest g v) where
   idle-everywhere : (i n : ℕ) (u : View) (x : Standing) → get_elem? views i ≡ some u → get_elem? u.callers n ≡ some x → IsIdle x.errand
   idle-everywhere i n u x there_u there_x =
@@ -140,16 +141,16 @@ same-whole g events whole places views l none =
     (λ i within. sym (l.home i (omega (arith, l.long, within)) (λ (id, v, n, b, there, found, above, under). none id n v b there found)))
 
 -- the places of a region are a table's, where nothing is out of it
-abbrev LaidHold : Geometry → State View → Type 0
-LaidHold g s = (words : List ℕ) × WordsHold g words s.views × AreLaidOut g words s.places s.views
+abbrev LaidHold : AllowedWords → Geometry → State View → Type 0
+LaidHold rule g s = (words : List ℕ) × WordsHold rule g words s.views × AreLaidOut g words s.places s.views
 
 home-laid :
-    (g : Geometry) (s : State View) → PiecesHold g s → ((id n : ℕ) (v : View) (b : Lent) → get_elem? s.views id ≡ some v → get_elem? v.lent n ≡ some b → ⊥) → LaidHold g s
+    {rule : AllowedWords} (g : Geometry) (s : State View) → PiecesHold rule g s → ((id n : ℕ) (v : View) (b : Lent) → get_elem? s.views id ≡ some v → get_elem? v.lent n ≡ some b → ⊥) → LaidHold rule g s
 home-laid g s (words, h, whole, a, l) none =
     (words, h, subst (λ (ps : List Place). AreLaidOut g words ps s.views) (same-whole g h.1.events whole s.places s.views l none) a)
 
 -- a view that stands for all callers and has nothing out leaves none out
-rests-laid : (g : Geometry) (id : ℕ) (v : View) (s : State View) → IsAtRest g v → Seen (PiecesHold g) id v s → LaidHold g s
+rests-laid : {rule : AllowedWords} (g : Geometry) (id : ℕ) (v : View) (s : State View) → IsAtRest g v → Seen (PiecesHold rule g) id v s → LaidHold rule g s
 rests-laid g id v s rest ((words, h, whole, a, l), at) =
     home-laid g s (words, h, whole, a, l)
     (λ j n u b there found.
@@ -162,7 +163,7 @@ rests-laid g id v s rest ((words, h, whole, a, l), at) =
     none-out v n b rest.home (ap (λ (w : View). get_elem? w.lent n) (sym mine) ∙ found))
 
 -- then all words of the region are here
-pub rests-home : (g : Geometry) (id : ℕ) (v : View) (ps : List Place) → IsAtRest g v → Final (Seen (PiecesHold g) id v) ps → AllHere ps
+pub rests-home : {rule : AllowedWords} (g : Geometry) (id : ℕ) (v : View) (ps : List Place) → IsAtRest g v → Final (Seen (PiecesHold rule g) id v) ps → AllHere ps
 rests-home g id v ps rest f =
     let s = f.0 in
     let r = rests-laid g id v s rest f.1 in
@@ -172,34 +173,34 @@ rests-home g id v ps rest f =
 
 -- and their numbers are the words at the end
 pub last-words :
-    (g : Geometry) (id : ℕ) (v : View) (ps : List Place) → IsAtRest g v → Final (Seen (PiecesHold g) id v) ps
-    → IsLast g (words_at g (numbers ps)) v
-last-words g id v ps rest f =
+    {rule : AllowedWords} (g : Geometry) (id : ℕ) (v : View) (ps : List Place) → IsAtRest g v → Final (Seen (PiecesHold rule g) id v) ps
+    → IsLast rule g (words_at g (numbers ps)) v
+last-words {rule} g id v ps rest f =
     let s = f.0 in
     let r = rests-laid g id v s rest f.1 in
     let same : words_at g r.0 ≡ words_at g (numbers ps) =
     sym (same-words g r.0 s.places s.views r.2) ∙ ap (λ (l : List Place). words_at g (numbers l)) f.2 in
-    record { views = s.views; id = id; kept = subst (λ (t : List ℕ). KeptTable g t s.views) same r.1.1; at = f.1.1; all = rest.all }
+    record { views = s.views; id = id; kept = subst (λ (t : List ℕ). KeptTable rule g t s.views) same r.1.1; at = f.1.1; all = rest.all }
 
-pub last-marked : (g : Geometry) (id : ℕ) (v : View) (ps : List Place) → IsAtRest g v → Final (Seen (PiecesHold g) id v) ps → AreMarked g ps
+pub last-marked : {rule : AllowedWords} (g : Geometry) (id : ℕ) (v : View) (ps : List Place) → IsAtRest g v → Final (Seen (PiecesHold rule g) id v) ps → AreMarked g ps
 last-marked g id v ps rest f = let r = rests-laid g id v f.0 rest f.1 in subst (AreMarked g) f.2 (are-marked g r.0 f.0.places f.0.views r.2)
 
 -- in the end each mark is laid; and where none says that something is out, all words are here
 marks-laid :
-    (g : Geometry) (s : State View) (good : PiecesHold g s) (k : ℕ) → k < mark_count g
+    {rule : AllowedWords} (g : Geometry) (s : State View) (good : PiecesHold rule g s) (k : ℕ) → k < mark_count g
     → place_at s.places (mark_place g k) ≡ place_at good.2 (mark_place g k)
 marks-laid g s (words, h, whole, a, l) k has =
     home-behind g h.1.events whole s.places s.views (mark_place g k) l (omega (arith, arena-placed g)) (omega (arith, l.long, a.long, has))
 
 pub final-mark :
-    (g : Geometry) (ps : List Place) (k : ℕ) → Final (PiecesHold g) ps → k < mark_count g → IsLaid ps (mark_place g k)
+    {rule : AllowedWords} (g : Geometry) (ps : List Place) (k : ℕ) → Final (PiecesHold rule g) ps → k < mark_count g → IsLaid ps (mark_place g k)
 final-mark g ps k f has =
     let a = f.1.3 in
     subst (λ (l : List Place). IsLaid l (mark_place g k)) f.2
     (is-laid_itself f.0.places (mark_place g k) (mark_of (a.status k)) (marks-laid g f.0 f.1 k has ∙ mark-laid g f.1.0 f.1.2 f.0.views a k has))
 
 pub final-home :
-    (g : Geometry) (ps : List Place) → Final (PiecesHold g) ps → ((k : ℕ) → k < mark_count g → place_at ps (mark_place g k) ≢ laid 1) → AllHere ps
+    {rule : AllowedWords} (g : Geometry) (ps : List Place) → Final (PiecesHold rule g) ps → ((k : ℕ) → k < mark_count g → place_at ps (mark_place g k) ≢ laid 1) → AllHere ps
 final-home g ps f none =
     let s = f.0 in
     let h = f.1.1 in

@@ -26,6 +26,7 @@ use Rattle.live_heap.specs.Lending.{HasReturned, MayReturn, WritesOn, lent_block
 use Rattle.live_heap.specs.Pieces.{AreLaidOut, AreLent, IsLent, IsOut, PiecesHold, Status, caller_mark, mark_of, mark_place}
 use Rattle.live_heap.specs.Pieces.Status.{blank, out}
 use Rattle.live_heap.specs.Rule.{KeptTable}
+use Rattle.live_heap.specs.Shelves.{AllowedWords}
 use Rattle.live_heap.proofs.LentPlaces.{out-on}
 use Rattle.live_heap.proofs.LentViews.{kept-lent, laid-lent, laid-marked, view-within}
 use Rattle.live_heap.proofs.PutPlaces.{at-put_before, at-put_behind, at-put_in}
@@ -55,27 +56,27 @@ written-all : (old xs : List ℕ) → length old ≡ length xs → written old 0
 written-all old xs same = written-over [] old xs same
 
 -- the rule where the words from i on are written with these numbers, one after the other
-HasWritten : Geometry → List Place → List View → ℕ → View → ErrandFields → ℕ → Need → List ℕ → List Lent → List Lent → ℕ → List ℕ → Type 0
-HasWritten g places views id v e place need old front back i xs =
+HasWritten : AllowedWords → Geometry → List Place → List View → ℕ → View → ErrandFields → ℕ → Need → List ℕ → List Lent → List Lent → ℕ → List ℕ → Type 0
+HasWritten rule g places views id v e place need old front back i xs =
     (w : View) × WritesOn e place need (with_lent v (front ++ back)) i xs (with_lent w (front ++ back))
-    × HasAway g places (slice_set views id w) id w e place need (written old i xs) front back
+    × HasAway rule g places (slice_set views id w) id w e place need (written old i xs) front back
 
 writes-on :
-    (g : Geometry) (places : List Place) (views : List View) (id : ℕ) (v : View) (e : ErrandFields) (place : ℕ) (need : Need) (old : List ℕ)
+    {rule : AllowedWords} (g : Geometry) (places : List Place) (views : List View) (id : ℕ) (v : View) (e : ErrandFields) (place : ℕ) (need : Need) (old : List ℕ)
     (front back : List Lent) (i : ℕ) (xs : List ℕ) → IsChecked g → IsIdle e → i + length xs ≤ usable_words need
     → ((j : ℕ) → j < length xs → slice_index xs j < 2 ^ 64) → AreElsewhere place (front ++ back)
-    → HasAway g places views id v e place need old front back → HasWritten g places views id v e place need old front back i xs
+    → HasAway rule g places views id v e place need old front back → HasWritten rule g places views id v e place need old front back i xs
 unfolding HasWritten written
-writes-on g places views id v e place need old front back i [] checked idle inside small others s =
-    (v, refl, subst (λ (vs : List View). HasAway g places vs id v e place need old front back) (sym (set_again views id v s.at)) s)
-writes-on g places views id v e place need old front back i (x ∷ xs) checked idle inside small others s =
+writes-on {rule} g places views id v e place need old front back i [] checked idle inside small others s =
+    (v, refl, subst (λ (vs : List View). HasAway rule g places vs id v e place need old front back) (sym (set_again views id v s.at)) s)
+writes-on {rule} g places views id v e place need old front back i (x ∷ xs) checked idle inside small others s =
     let one = word-written g places views id v e place need old front back i x checked idle (omega (arith, inside)) (small 0 (omega arith)) others s in
     let u = one.0 in
     let rest = writes-on g places (slice_set views id u) id u e place need (slice_set old i x) front back (suc i) xs checked idle (omega (arith, inside))
     (λ j below. small (suc j) (omega (arith, below))) others one.1 in (
       rest.0,
       (with_lent u (front ++ back), one.2.0, one.2.1, rest.1),
-      subst (λ (vs : List View). HasAway g places vs id rest.0 e place need (written (slice_set old i x) (suc i) xs) front back)
+      subst (λ (vs : List View). HasAway rule g places vs id rest.0 e place need (written (slice_set old i x) (suc i) xs) front back)
           (set-set views id u rest.0) rest.2,
     )
 
@@ -86,9 +87,9 @@ at-laids (n ∷ ns) zero below = refl
 at-laids (n ∷ ns) (suc j) below = at-laids ns j (omega (arith, below))
 
 -- the last act: the words are home, and the caller's mark becomes st; where it says that nothing is out, no other block is
-module _ (g : Geometry) (places : List Place) (views : List View) (id : ℕ) (v : View) (e : ErrandFields) (place : ℕ) (need : Need) (numbers : List ℕ)
-    (front back : List Lent) (st : Status) (fits : (st ≡ out) ⊎ (front ++ back ≡ [])) (s : HasAway g places views id v e place need numbers front back) where
-  abbrev k : KeptTable g (words_at g s.words) views
+module _ {rule : AllowedWords} (g : Geometry) (places : List Place) (views : List View) (id : ℕ) (v : View) (e : ErrandFields) (place : ℕ) (need : Need) (numbers : List ℕ)
+    (front back : List Lent) (st : Status) (fits : (st ≡ out) ⊎ (front ++ back ≡ [])) (s : HasAway rule g places views id v e place need numbers front back) where
+  abbrev k : KeptTable rule g (words_at g s.words) views
   k = s.held.1
 
   block : IsOut g k.events s.whole v (lent_block place need numbers)
@@ -141,7 +142,7 @@ module _ (g : Geometry) (places : List Place) (views : List View) (id : ℕ) (v 
   abbrev whole_now : List Place
   whole_now = slice_set s.whole p (laid (mark_of st))
 
-  held_now : KeptTable g (words_at g s.words) views_now
+  held_now : KeptTable rule g (words_at g s.words) views_now
   held_now = kept-lent g (words_at g s.words) views id v (front ++ back) s.at k
 
   laid_now : AreLaidOut g s.words whole_now views_now
@@ -255,14 +256,14 @@ module _ (g : Geometry) (places : List Place) (views : List View) (id : ℕ) (v 
   }
 
   -- the rule holds
-  pub home-again : PiecesHold g record { places = places_now; views = views_now }
+  pub home-again : PiecesHold rule g record { places = places_now; views = views_now }
   unfolding held_now kept-lent
   home-again = (s.words, (s.held.0, held_now), whole_now, laid_now, lent_now)
 
 -- the words of a block that are out with a pass come back by a step that leaves st as the caller's mark, each written with the number that is in it
-module _ (g : Geometry) (id : ℕ) (me : region.Me View) (e : ErrandFields) (place : ℕ) (need : Need) (numbers : List ℕ) (checked : IsChecked g)
-    (may : MayReturn me e place need numbers) (s : region.State View) (good : PiecesHold g s) (at : get_elem? s.views id ≡ some me.0) where
-  away : HasAway g s.places s.views id me.0 e place need may.old may.front may.back
+module _ {rule : AllowedWords} (g : Geometry) (id : ℕ) (me : region.Me View) (e : ErrandFields) (place : ℕ) (need : Need) (numbers : List ℕ) (checked : IsChecked g)
+    (may : MayReturn me e place need numbers) (s : region.State View) (good : PiecesHold rule g s) (at : get_elem? s.views id ≡ some me.0) where
+  away : HasAway rule g s.places s.views id me.0 e place need may.old may.front may.back
   away = record {
     words = good.0;
     held = good.1;
@@ -285,44 +286,44 @@ module _ (g : Geometry) (id : ℕ) (me : region.Me View) (e : ErrandFields) (pla
 
   goes-back :
       (st : Status) → (st ≡ out) ⊎ (may.front ++ may.back ≡ [])
-      → Goes (PiecesHold g) s (with_number s.places mark (mark_of st)) id me (λ after. HasReturned e place need numbers me.0 after)
+      → Goes (PiecesHold rule g) s (with_number s.places mark (mark_of st)) id me (λ after. HasReturned e place need numbers me.0 after)
   unfolding HasWritten
   goes-back st fits =
       let length_old = (block g s.places s.views id me.0 e place need may.old may.front may.back st fits away).long in
       let t = writes-on g s.places s.views id me.0 e place need may.old may.front may.back 0 numbers checked may.idle (omega (arith, may.long))
       (λ j below. may.small j (omega (arith, below, may.long))) may.others away in
-      let b : HasAway g s.places (slice_set s.views id t.0) id t.0 e place need numbers may.front may.back =
-      subst (λ ns. HasAway g s.places (slice_set s.views id t.0) id t.0 e place need ns may.front may.back)
+      let b : HasAway rule g s.places (slice_set s.views id t.0) id t.0 e place need numbers may.front may.back =
+      subst (λ ns. HasAway rule g s.places (slice_set s.views id t.0) id t.0 e place need ns may.front may.back)
       (written-all may.old numbers (length_old ∙ sym may.long)) t.2 in
       let ps : List Place = with_number s.places mark (mark_of st) in
       let w : View = with_lent t.0 (may.front ++ may.back) in
-      let H : List Range → Type 0 = λ r. PiecesHold g record { places = given_back ps r; views = slice_set s.views id w } in (
+      let H : List Range → Type 0 = λ r. PiecesHold rule g record { places = given_back ps r; views = slice_set s.views id w } in (
         w,
         gives,
         tt,
         subst H (sym may.ranges)
-            (subst (λ (vs : List View). PiecesHold g record { places = put ps (place + 1) (laids numbers); views = vs }) (set-set s.views id t.0 w)
+            (subst (λ (vs : List View). PiecesHold rule g record { places = put ps (place + 1) (laids numbers); views = vs }) (set-set s.views id t.0 w)
             (home-again g s.places (slice_set s.views id t.0) id t.0 e place need numbers may.front may.back st fits b)),
         (may.front, may.old, may.back, may.lent, t.1, ap rest may.ranges),
       )
 
 -- where no other block is out with the pass, the words may come back with a store that clears the caller's mark
 pub may-return_last :
-    (g : Geometry) (size id : ℕ) (me : region.Me View) (e : ErrandFields) (place : ℕ) (need : Need) (numbers : List ℕ) → IsChecked g
+    {rule : AllowedWords} (g : Geometry) (size id : ℕ) (me : region.Me View) (e : ErrandFields) (place : ℕ) (need : Need) (numbers : List ℕ) → IsChecked g
     → (m : MayReturn me e place need numbers) → m.front ++ m.back ≡ []
-    → region.Allows (PiecesHold g) size id me (mark_place g (caller_mark g e.caller)) (λ _. 0) (λ _ after. HasReturned e place need numbers me.0 after)
-may-return_last g _ id me e place need numbers checked may none s good _ at =
+    → region.Allows (PiecesHold rule g) size id me (mark_place g (caller_mark g e.caller)) (λ _. 0) (λ _ after. HasReturned e place need numbers me.0 after)
+may-return_last {rule} g _ id me e place need numbers checked may none s good _ at =
     let is = mark_is g id me e place need numbers checked may s good at in
     (is ∙ ap laid (sym (ap number is)), λ small. goes-back g id me e place need numbers checked may s good at blank (inr none))
 
 -- where others are, with a load of it: the mark stays
 pub may-return_one :
-    (g : Geometry) (size id : ℕ) (me : region.Me View) (e : ErrandFields) (place : ℕ) (need : Need) (numbers : List ℕ) → IsChecked g
+    {rule : AllowedWords} (g : Geometry) (size id : ℕ) (me : region.Me View) (e : ErrandFields) (place : ℕ) (need : Need) (numbers : List ℕ) → IsChecked g
     → (m : MayReturn me e place need numbers) → 0 < length (m.front ++ m.back)
-    → region.Allows (PiecesHold g) size id me (mark_place g (caller_mark g e.caller)) (λ n. n) (λ _ after. HasReturned e place need numbers me.0 after)
-may-return_one g _ id me e place need numbers checked may _ s good _ at =
+    → region.Allows (PiecesHold rule g) size id me (mark_place g (caller_mark g e.caller)) (λ n. n) (λ _ after. HasReturned e place need numbers me.0 after)
+may-return_one {rule} g _ id me e place need numbers checked may _ s good _ at =
     let is = mark_is g id me e place need numbers checked may s good at in
     let stays : 1 ≡ number_at s.places (mark_place g (caller_mark g e.caller)) = sym (ap number is) in
     let F : ℕ → Type 0 = λ x.
-    Goes (PiecesHold g) s (with_number s.places (mark_place g (caller_mark g e.caller)) x) id me (λ after. HasReturned e place need numbers me.0 after) in
+    Goes (PiecesHold rule g) s (with_number s.places (mark_place g (caller_mark g e.caller)) x) id me (λ after. HasReturned e place need numbers me.0 after) in
     (is ∙ ap laid stays, λ small. subst F stays (goes-back g id me e place need numbers checked may s good at out (inl refl)))

@@ -13,7 +13,7 @@ use Rattle.call_bounds.specs.Wins.{no_wins}
 use Rattle.step_machine.specs.Cores.{IsReached}
 use Rattle.step_machine.specs.Moments.{IsServed}
 use Rattle.step_machine.proofs.MomentLemmas.{reached-served}
-use Rattle.live_heap.specs.declared.heap.Heap.{Heap}
+use Rattle.live_heap.specs.Heaps.{HeapFields}
 use Rattle.live_heap.specs.declared.pass.Pass.{Pass}
 use Rattle.live_heap.specs.declared.view.View.{View}
 use Rattle.live_heap.specs.Passes.{IsFresh, AreFrom, accesses_of, seen, view}
@@ -51,7 +51,7 @@ first-served g caller checked has =
     }
 
 pub fresh :
-    (h : Heap) (p : Pass) (caller : ℕ) → caller < h.layout.callers → p.seat.region ≡ h.table.shared.id
+    (h : HeapFields) (p : Pass) (caller : ℕ) → caller < h.layout.callers → p.seat.region ≡ h.region
     → p.seat.me ≡ (idle_view h.layout caller 1, []) → p.out ≡ 0 → p.errand ≡ open_errand caller h.layout → IsFresh h p
 fresh h p caller has table me out errand =
     let g = h.layout in
@@ -81,7 +81,7 @@ fresh h p caller has table me out errand =
     }
 
 pub AreFrom-push :
-    (h : Heap) (caller : ℕ) (ps : List Pass) (p : Pass) → AreFrom h caller ps → IsFresh h p → p.errand.caller ≡ caller + length ps
+    (h : HeapFields) (caller : ℕ) (ps : List Pass) (p : Pass) → AreFrom h caller ps → IsFresh h p → p.errand.caller ≡ caller + length ps
     → AreFrom h caller (ps ++ p ∷ [])
 AreFrom-push h caller [] p a f e = (f, (omega arith), tt)
 AreFrom-push h caller (q ∷ ps) p a f e = (a.0, a.1, AreFrom-push h (suc caller) ps p a.2 f (omega arith))

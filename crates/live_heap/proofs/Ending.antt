@@ -30,6 +30,7 @@ use Rattle.live_heap.specs.declared.view.View.{View}
 use Rattle.live_heap.specs.Endings.{HasAccesses, HasTakenIn, IsCounted, IsIn, IsResting, closed_with, errand_in, errands_from}
 use Rattle.live_heap.specs.Passes.{accesses, seen}
 use Rattle.live_heap.specs.Rule.{Stands, KeptTable, state_with}
+use Rattle.live_heap.specs.Shelves.{AllowedWords}
 use Rattle.live_heap.proofs.Totals.{HasCaller, all-callers}
 use Rattle.live_heap.proofs.Growing.{own-between, rest-none}
 
@@ -154,7 +155,7 @@ no_wins_left g seen (x ∷ xs) has none =
     absurd (omega (arith, one, more, nothing))
 
 -- at the end the words and what the last seat knows are a machine at rest, with the whole history
-module _ (g : Geometry) (words : List ℕ) (views : List View) (id : ℕ) (v : View) (h : KeptTable g words views) (at : get_elem? views id ≡ some v)
+module _ {rule : AllowedWords} (g : Geometry) (words : List ℕ) (views : List View) (id : ℕ) (v : View) (h : KeptTable rule g words views) (at : get_elem? views id ≡ some v)
     (len : length v.callers ≡ g.callers) where
   stands : Stands g h.errands h.events h.run.wins.list h.run.moves h.place id v
   stands = h.each id v at
@@ -267,14 +268,14 @@ module _ (g : Geometry) (words : List ℕ) (views : List View) (id : ℕ) (v : V
       }
 
 -- the words and a view are the last ones of a table: all callers stand in the view
-pub record IsLast (g : Geometry) (words : List ℕ) (v : View) : Type 0 where
+pub record IsLast (rule : AllowedWords) (g : Geometry) (words : List ℕ) (v : View) : Type 0 where
   pub views : List View
   pub id : ℕ
-  pub kept : KeptTable g words views
+  pub kept : KeptTable rule g words views
   pub at : get_elem? views id ≡ some v
   pub all : length v.callers ≡ g.callers
 
-module _ (g : Geometry) (words : List ℕ) (v : View) (l : IsLast g words v) where
+module _ {rule : AllowedWords} (g : Geometry) (words : List ℕ) (v : View) (l : IsLast rule g words v) where
   pub last-rests : ((k : ℕ) (x : Standing) → get_elem? v.callers k ≡ some x → IsIdle x.errand) → IsResting (closed_with g words v)
   last-rests idle = ends g words l.views l.id v l.kept l.at l.all idle
 

@@ -20,7 +20,7 @@ use Rattle.call_events.specs.Stages.{stage_of}
 use Rattle.call_events.specs.UnderWay.{SoFar}
 use Rattle.step_machine.specs.Cores.{OwnsAfter}
 use Rattle.live_heap.specs.declared.block.Block.{Block}
-use Rattle.live_heap.specs.declared.heap.Heap.{Heap}
+use Rattle.live_heap.specs.Heaps.{HeapFields}
 use Rattle.live_heap.specs.declared.pass.Pass.{Pass}
 use Rattle.live_heap.specs.declared.view.Lent.{Lent}
 use Rattle.live_heap.specs.Calls.{HasCalled, IsCalling}
@@ -46,7 +46,7 @@ there-owned p place need b is serves =
     let found = owned-found p.errand.caller (block_at place (pool_of (seen p))) b is in (b, found.0, found.1, serves)
 
 -- the words of no block are out that the pass doesn't own
-not_owned-home : (h : Heap) (p : Pass) (place : ℕ) → IsOf h p → owned_in p place ≡ None → IsHome p place
+not_owned-home : (h : HeapFields) (p : Pass) (place : ℕ) → IsOf h p → owned_in p place ≡ None → IsHome p place
 not_owned-home h p place of nothing = λ n b found there.
     let mine = owned-there p b.place b.need (of.mine n b found) in none-some mine.0 (sym nothing ∙ ap (owned_in p) (sym there) ∙ mine.1)
 
@@ -106,7 +106,7 @@ lost-exact p q had has place lent but (block, there, is) held =
 
 -- a hand stays exact where a block comes to it, at a place where nothing was owned
 gained-exact :
-    (h : Heap) (p q : Pass) (had has : List Block) (place : ℕ) (need : Need) (b : PoolBlock) → IsOf h p → LentSame p q → owned_in p place ≡ None
+    (h : HeapFields) (p q : Pass) (had has : List Block) (place : ℕ) (need : Need) (b : PoolBlock) → IsOf h p → LentSame p q → owned_in p place ≡ None
     → OwnsBut p q place (Some b) → b.need ≡ need → Gains place need had has → HoldsExactly p had → HoldsExactly q has
 gained-exact h p q had has place need b of lent nothing but serves (block, there, needs, is) held =
     let elsewhere : (other : Block) → Owns p other → other.place ≢ block.place =
@@ -131,7 +131,7 @@ gained-exact h p q had has place need b of lent nothing but serves (block, there
     )
 
 -- a pass that has made no step owns nothing
-pub fresh-exact : (h : Heap) (p : Pass) → IsFresh h p → HoldsExactly p []
+pub fresh-exact : (h : HeapFields) (p : Pass) → IsFresh h p → HoldsExactly p []
 fresh-exact h p fresh =
     (tt, λ place apart. ap (λ (l : List Event). if_of p.errand.caller (block_at place (pool_of l))) fresh.nothing_seen)
 
@@ -144,14 +144,14 @@ home-apart :
     → All (λ block. block.place ≢ b.place) blocks
 home-apart p n b blocks found home k d within same = home k d within n b found (sym same)
 
-none-lent : (h : Heap) (p : Pass) (blocks : List Block) (lent : List Lent) → (view p).lent ≡ lent → IsOf h p → HoldsExactly p blocks → lent ≡ []
+none-lent : (h : HeapFields) (p : Pass) (blocks : List Block) (lent : List Lent) → (view p).lent ≡ lent → IsOf h p → HoldsExactly p blocks → lent ≡ []
 none-lent h p blocks [] is of held = refl
 none-lent h p blocks (b ∷ bs) is of held =
     let found : get_elem? (view p).lent 0 ≡ some b = ap (λ (l : List Lent). get_elem? l 0) is in
     let mine = owned-there p b.place b.need (of.mine 0 b found) in
     absurd (none-some mine.0 (sym (held.1 b.place (home-apart p 0 b blocks found (holds-home p blocks held.0))) ∙ mine.1))
 
-pub exact-home : (h : Heap) (p : Pass) (blocks : List Block) → IsOf h p → HoldsExactly p blocks → p.out ≡ 0
+pub exact-home : (h : HeapFields) (p : Pass) (blocks : List Block) → IsOf h p → HoldsExactly p blocks → p.out ≡ 0
 exact-home h p blocks of held = sym of.counted ∙ ap length (none-lent h p blocks (view p).lent refl of held)
 
 -- the order of the hand means nothing
@@ -187,7 +187,7 @@ got-serves p q steps shelf place need block there needs called got =
     ap (λ (b : PoolBlock). b.need) one ∙ mine.2 ∙ needs
 
 changed-exact :
-    (h : Heap) (p q : Pass) (call : Call) (steps : ℕ) (answer : Reply) (had has : List Block) → IsOf h p → HasCalled p call steps answer q
+    (h : HeapFields) (p q : Pass) (call : Call) (steps : ℕ) (answer : Reply) (had has : List Block) → IsOf h p → HasCalled p call steps answer q
     → HasChanged p call answer q → ChangesHand call answer had has → HoldsExactly p had → HoldsExactly q has
 changed-exact h p q (alloc words) steps (reply.Given place need) had has of called changes hand held =
     gained-exact h p q had has place need (fresh_block p.errand.caller words place) of called.lent changes.nothing changes.given (sym called.ended.serves) hand held
@@ -202,13 +202,13 @@ changed-exact h p q call steps answer had has of called changes hand held = subs
 
 -- a hand stays exact behind each call that has ended
 pub called-exact :
-    (h : Heap) (p q : Pass) (call : Call) (steps : ℕ) (answer : Reply) (had has : List Block) → IsOf h p → IsOf h q
+    (h : HeapFields) (p q : Pass) (call : Call) (steps : ℕ) (answer : Reply) (had has : List Block) → IsOf h p → IsOf h q
     → HasCalled p call steps answer q → ChangesHand call answer had has → HoldsExactly p had → HoldsExactly q has
 called-exact h p q call steps answer had has was of called =
     changed-exact h p q call steps answer had has was called (called-changes h p q call steps answer of called)
 
 pub whole-exact :
-    (h k : Heap) (p q : Pass) (call : Call) (answer : Reply) (had has : List Block) → IsOf h p → IsWhole h p call answer k q
+    (h k : HeapFields) (p q : Pass) (call : Call) (answer : Reply) (had has : List Block) → IsOf h p → IsWhole h p call answer k q
     → ChangesHand call answer had has → HoldsExactly p had → HoldsExactly q has
 whole-exact h k p q call answer had has was (by_steps made, may, same, is) hand held =
     called-exact k p q call made.0 answer had has (subst (λ x. IsOf x p) (sym same) was) is.0 made.1 hand held
@@ -218,7 +218,7 @@ whole-exact h k p q call answer had has was (at_once words is_alloc spent once, 
     subst (HoldsExactly q) (sym same_hand) (subst (λ (r : Pass). HoldsExactly r had) (sym once.same) held)
 
 so_far-exact :
-    (h : Heap) (p q : Pass) (call : Call) (at : StageOfCall) (added : List Event) (had has : List Block) → IsOf h p → LentSame p q → SoFar p.errand.caller call at added
+    (h : HeapFields) (p q : Pass) (call : Call) (at : StageOfCall) (added : List Event) (had has : List Block) → IsOf h p → LentSame p q → SoFar p.errand.caller call at added
     → HasChangedSoFar p call at q → ChangesHandSoFar call at had has → HoldsExactly p had → HoldsExactly q has
 so_far-exact h p q (alloc words) (given place need) added had has of lent so changes hand held =
     gained-exact h p q had has place need (fresh_block p.errand.caller words place) of lent changes.nothing changes.given (sym so.0) hand held
@@ -227,7 +227,7 @@ so_far-exact h p q call at added had has of lent so changes hand held = subst (H
 
 -- a hand stays exact in a call that is under way
 pub calling-exact :
-    (h : Heap) (p q : Pass) (call : Call) (steps : ℕ) (had has : List Block) → IsOf h p → IsOf h q → IsCalling p call steps q
+    (h : HeapFields) (p q : Pass) (call : Call) (steps : ℕ) (had has : List Block) → IsOf h p → IsOf h q → IsCalling p call steps q
     → ChangesHandSoFar call (stage_of q.errand.point) had has → HoldsExactly p had → HoldsExactly q has
 calling-exact h p q call steps had has was of calling =
     so_far-exact h p q call (stage_of q.errand.point) calling.added had has was calling.lent calling.under_way (calling-changes h p q call steps of calling)

@@ -20,6 +20,7 @@ use Rattle.live_heap.specs.declared.view.View.{View}
 use Rattle.live_heap.specs.Pieces.{AreLent, PiecesHold, mark_place, shown}
 use Rattle.live_heap.specs.Rule.{WordsHold}
 use Rattle.live_heap.specs.Views.{opening_view}
+use Rattle.live_heap.specs.Shelves.{AllowedWords}
 use Rattle.live_heap.proofs.FirstRoomLemmas.{at-numbers}
 use Rattle.live_heap.proofs.LentPlaces.{none-out}
 use Rattle.live_heap.proofs.PieceEnds.{all_blank, opens-pieces}
@@ -59,10 +60,10 @@ module _ (g : Geometry) (places : List Place) (checked : IsChecked g) (room : Is
             ]
       ]
 
-  pub first-pieces : PiecesHold g (opened places (opening_view g))
-  first-pieces =
+  pub first-pieces : {rule : AllowedWords} → PiecesHold rule g (opened places (opening_view g))
+  first-pieces {rule} =
       let long : length words ≡ placed_count g = omega (arith, length-take (placed_count g) (numbers places), length-map places number, room.behind.long) in
       let table : IsTable g (opening g) (word_count g) (words_at g words) = subst (IsTable g (opening g) (word_count g)) (sym (words_at-take g (numbers places))) room.words in
-      let kept : WordsHold g words (opening_view g ∷ []) = (long, opens g (words_at g words) checked table.all (table-opening g (words_at g words) table)) in
+      let kept : WordsHold rule g words (opening_view g ∷ []) = (long, opens {rule = rule} g (words_at g words) checked table.all (table-opening g (words_at g words) table)) in
       let zeros : (i : ℕ) → i < arena_words g → slice_index words i ≡ 0 = λ i before. at-words i (omega (arith, before, arena-placed g)) ∙ ap number (room.behind.arena i before) in
       (words, kept, places, opens-pieces g words places checked table room.behind.long each-shown zeros, nothing-lent g kept.1.events places)

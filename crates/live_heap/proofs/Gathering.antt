@@ -11,7 +11,7 @@ use Rattle.atomic_table.proofs.Lists.{at_longer}
 use Rattle.pool_model.specs.declared.event.Event.{Event}
 use Rattle.errand_steps.specs.Begins.{IsIdle}
 use Rattle.errand_steps.specs.Errands.{ErrandFields}
-use Rattle.live_heap.specs.declared.heap.Heap.{Heap}
+use Rattle.live_heap.specs.Heaps.{HeapFields}
 use Rattle.live_heap.specs.declared.pass.Pass.{Pass}
 use Rattle.live_heap.specs.declared.view.Lent.{Lent}
 use Rattle.live_heap.specs.declared.view.Standing.{Standing}
@@ -65,12 +65,12 @@ no-blocks : (blocks : List Lent) → length blocks ≡ 0 → blocks ≡ []
 no-blocks [] none = refl
 no-blocks (b ∷ bs) none = absurd (omega (arith, none))
 
-pub nothing-out : (h : Heap) (p : Pass) → IsOf h p → p.out ≡ 0 → p.seat.me.0.lent ≡ []
+pub nothing-out : (h : HeapFields) (p : Pass) → IsOf h p → p.out ≡ 0 → p.seat.me.0.lent ≡ []
 nothing-out h p of none = no-blocks p.seat.me.0.lent (of.counted ∙ none)
 
 -- the callers of a view that stands for one idle caller
 pub one-idle :
-    (h : Heap) (p : Pass) → IsOf h p → IsIdle p.errand
+    (h : HeapFields) (p : Pass) → IsOf h p → IsIdle p.errand
     → All (λ (x : Standing). IsIdle x.errand) p.seat.me.0.callers × (length p.seat.me.0.callers ≡ 1)
 one-idle h p of idle =
     let I : List Standing → Type 0 = λ l. All (λ (x : Standing). IsIdle x.errand) l × (length l ≡ 1) in
@@ -85,7 +85,7 @@ single-sum f x = omega (arith, sum_by-cons f x [])
 
 -- the callers of the view of a pass in no call weigh what the pass's errand does
 pub one-sum :
-    (h : Heap) (p : Pass) (weight : ErrandFields → ℕ) → IsOf h p → IsIdle p.errand
+    (h : HeapFields) (p : Pass) (weight : ErrandFields → ℕ) → IsOf h p → IsIdle p.errand
     → sum_by (λ (x : Standing). weight x.errand) p.seat.me.0.callers ≡ weight p.errand
 one-sum h p weight of idle =
     let S : List Standing → Type 0 = λ l. sum_by (λ (x : Standing). weight x.errand) l ≡ weight of.before.errand in
@@ -102,7 +102,7 @@ after [] ys i = let e : 0 + i ≡ i = omega arith in ap (get_elem? ys) e
 after (x ∷ xs) ys i = let e : suc (length xs) + i ≡ suc (length xs + i) = omega arith in ap (get_elem? (x ∷ (xs ++ ys))) e ∙ after xs ys i
 
 -- a pass of the heap stands for its caller
-pub is_in-itself : (h : Heap) (p : Pass) → IsOf h p → IsIdle p.errand → IsIn p.seat.me.0 p
+pub is_in-itself : (h : HeapFields) (p : Pass) → IsOf h p → IsIdle p.errand → IsIn p.seat.me.0 p
 is_in-itself h p of idle = record {
   number = 0;
   standing = of.before;

@@ -20,7 +20,7 @@ use Rattle.live_heap.specs.declared.answers.Resumed.TheVariants as resumed
 use Rattle.live_heap.specs.declared.answers.Taken.{Taken}
 use Rattle.live_heap.specs.declared.answers.Taken.TheVariants as taken
 use Rattle.live_heap.specs.declared.block.Block.{Block}
-use Rattle.live_heap.specs.declared.heap.Heap.{Heap}
+use Rattle.live_heap.specs.Heaps.{HeapFields}
 use Rattle.live_heap.specs.declared.pass.Pass.{Pass}
 use Rattle.live_heap.specs.Answers.{AllocTells, FreeTells, IsTried, PutTellsFull, ResumeTells, TakeTells}
 use Rattle.live_heap.specs.Calls.{EndsInTime, HasCalled, IsCalling, IsInterrupted}
@@ -122,7 +122,7 @@ holds-removed p blocks rest number block within is left held =
 
 -- a call that has ended leaves in the hand what it gives not away
 pub ended-hand :
-    (h : Heap) (p q : Pass) (blocks : List Block) (call : Call) (steps : ℕ) (answer : Reply) → IsOf h p → IsOf h q
+    (h : HeapFields) (p q : Pass) (blocks : List Block) (call : Call) (steps : ℕ) (answer : Reply) → IsOf h p → IsOf h q
     → HasCalled p call steps answer q → All (λ block. LeavesPlace call block.place) blocks → Holds p blocks → IsHand h q blocks
 ended-hand h p q blocks call steps answer of of_new called leaves held =
     record {
@@ -135,7 +135,7 @@ ended-hand h p q blocks call steps answer of of_new called leaves held =
 
 -- calls that leave the pass each of its blocks leave the hand
 pub kept-hand :
-    (h : Heap) (p q : Pass) (blocks : List Block) → IsOf h q → IsIdle q.errand → ((block : Block) → Owns p block → Owns q block)
+    (h : HeapFields) (p q : Pass) (blocks : List Block) → IsOf h q → IsIdle q.errand → ((block : Block) → Owns p block → Owns q block)
     → Holds p blocks → IsHand h q blocks
 kept-hand h p q blocks of idle keeps held =
     record {
@@ -146,7 +146,7 @@ kept-hand h p q blocks of idle keeps held =
 
 -- a block that lies apart from the others is added to the hand
 pub brought-hand :
-    (h : Heap) (q : Pass) (blocks : List Block) (block : Block) → IsIdle q.errand → Owns q block
+    (h : HeapFields) (q : Pass) (blocks : List Block) (block : Block) → IsIdle q.errand → Owns q block
     → All (λ other. other.place ≢ block.place) blocks → IsHand h q blocks → IsHand h q (blocks ++ block ∷ [])
 brought-hand h q blocks block idle owns apart hand =
     record {
@@ -157,7 +157,7 @@ brought-hand h q blocks block idle owns apart hand =
 
 -- a call that is interrupted waits with the blocks that it doesn't give away
 pub interrupted-hand :
-    (h : Heap) (first p q : Pass) (blocks : List Block) (call : Call) (made tries : ℕ) → IsOf h first → IsOf h q
+    (h : HeapFields) (first p q : Pass) (blocks : List Block) (call : Call) (made tries : ℕ) → IsOf h first → IsOf h q
     → IsInterrupted first call made p tries q → IsTried call → All (λ block. LeavesPlace call block.place) blocks → Holds first blocks
     → IsHand h q blocks
 interrupted-hand h first p q blocks call made tries of of_new i tried leaves held =
@@ -178,7 +178,7 @@ interrupted-hand h first p q blocks call made tries of of_new i tried leaves hel
     }
 
 -- a hand to which nothing comes
-pub plus-nothing : (h : Heap) (q : Pass) (blocks : List Block) → IsHand h q blocks → IsHand h q (blocks ++ [])
+pub plus-nothing : (h : HeapFields) (q : Pass) (blocks : List Block) → IsHand h q blocks → IsHand h q (blocks ++ [])
 plus-nothing h q blocks hand = subst (IsHand h q) (sym (append-nil blocks)) hand
 
 -- an allocation gives no block away
@@ -187,7 +187,7 @@ alloc-leaves need blocks k d within = tt
 
 -- a resumed or a first allocation or free: what it was given is in the hand
 pub resume-hand :
-    (h : Heap) (first p q : Pass) (blocks : List Block) (call : Call) (made tries : ℕ) (answer : Resumed) → IsOf h first → IsOf h q
+    (h : HeapFields) (first p q : Pass) (blocks : List Block) (call : Call) (made tries : ℕ) (answer : Resumed) → IsOf h first → IsOf h q
     → ResumeTells first call made p tries answer q → IsTried call → All (λ block. LeavesPlace call block.place) blocks → Holds first blocks
     → IsHand h q (blocks ++ resumed_by answer)
 resume-hand h first p q blocks call made tries (resumed.Given block) of of_new tells tried leaves held =
@@ -207,14 +207,14 @@ resume-hand h first p q blocks call made tries resumed.Busy of of_new tells trie
 
 -- a resumed call that was waiting: what it was given is in the hand
 pub waiting-hand :
-    (h : Heap) (p q : Pass) (blocks : List Block) (tries : ℕ) (answer : Resumed) → IsWaiting h p blocks → IsOf h q
+    (h : HeapFields) (p q : Pass) (blocks : List Block) (tries : ℕ) (answer : Resumed) → IsWaiting h p blocks → IsOf h q
     → ((first : Pass) (call : Call) (made : ℕ) → IsOf h first → IsCalling first call made p → ResumeTells first call made p tries answer q)
     → IsHand h q (blocks ++ resumed_by answer)
 waiting-hand h p q blocks tries answer w of_new tells =
     resume-hand h w.first p q blocks w.call w.steps tries answer w.of of_new (tells w.first w.call w.steps w.of w.calling) w.tried w.leaves w.holds
 
 -- the hand of an idle pass that has changed in nothing
-same-hand : (h : Heap) (p q : Pass) (blocks : List Block) → q ≡ p → IsIdle p.errand → IsOf h q → Holds p blocks → IsHand h q (blocks ++ [])
+same-hand : (h : HeapFields) (p q : Pass) (blocks : List Block) → q ≡ p → IsIdle p.errand → IsOf h q → Holds p blocks → IsHand h q (blocks ++ [])
 same-hand h p q blocks same idle of_new held =
     plus-nothing h q blocks
     (record {
@@ -225,7 +225,7 @@ same-hand h p q blocks same idle of_new held =
 
 -- the hand behind an allocation: what it was given is in it
 pub alloc-hand :
-    (h : Heap) (p q : Pass) (blocks : List Block) (need tries : ℕ) (answer : AllocAnswer) → IsOf h p → IsIdle p.errand → Holds p blocks
+    (h : HeapFields) (p q : Pass) (blocks : List Block) (need tries : ℕ) (answer : AllocAnswer) → IsOf h p → IsIdle p.errand → Holds p blocks
     → IsOf h q → AllocTells p need tries answer q → IsHand h q (blocks ++ given_by answer)
 alloc-hand h p q blocks need tries (alloc_answer.Given block) of idle held of_new tells =
     resume-hand h p p q blocks (alloc need) 0 tries (resumed.Given block) of of_new tells tt (alloc-leaves need blocks) held
@@ -240,7 +240,7 @@ alloc-hand h p q blocks need tries alloc_answer.Busy of idle held of_new tells =
 
 -- the hand behind a free of a block that lies apart from the others
 pub free-hand :
-    (h : Heap) (p q : Pass) (blocks : List Block) (block : Block) (tries : ℕ) (answer : FreeAnswer) → IsOf h p
+    (h : HeapFields) (p q : Pass) (blocks : List Block) (block : Block) (tries : ℕ) (answer : FreeAnswer) → IsOf h p
     → All (λ other. other.place ≢ block.place) blocks → Holds p blocks → IsOf h q → FreeTells p block tries answer q → IsHand h q blocks
 free-hand h p q blocks block tries free_answer.Freed of apart held of_new tells =
     ended-hand h p q blocks (free block.place block.need) tells.steps _ of of_new tells.called apart held
@@ -249,7 +249,7 @@ free-hand h p q blocks block tries free_answer.Busy of apart held of_new tells =
 
 -- the hand behind a put, from which the block may come back
 pub put-hand :
-    {A : Type 0} (h : Heap) (p q : Pass) (blocks : List Block) (block : Block) (shelf : ℕ) (answer : Result A Full) → IsOf h p
+    {A : Type 0} (h : HeapFields) (p q : Pass) (blocks : List Block) (block : Block) (shelf : ℕ) (answer : Result A Full) → IsOf h p
     → All (λ other. other.place ≢ block.place) blocks → Holds p blocks → IsOf h q
     → IfOk answer (λ _. HasCalled p (put block.place block.need shelf) 0 reply.Put q)
     → IfErr answer (λ full. PutTellsFull p block shelf full q) → IsHand h q (blocks ++ returned_by answer)
@@ -262,7 +262,7 @@ put-hand h p q blocks block shelf (Err full) of apart held of_new lies back =
 
 -- the hand behind a take: what it got is in it
 pub take-hand :
-    (h : Heap) (p q : Pass) (blocks : List Block) (shelf : ℕ) (answer : Taken) → IsOf h p → Holds p blocks → IsOf h q
+    (h : HeapFields) (p q : Pass) (blocks : List Block) (shelf : ℕ) (answer : Taken) → IsOf h p → Holds p blocks → IsOf h q
     → TakeTells p shelf answer q → IsHand h q (blocks ++ taken_by answer)
 take-hand h p q blocks shelf (taken.Got block) of held of_new tells =
     brought-hand h q blocks block tells.0.idle tells.1

@@ -13,7 +13,7 @@ use Rattle.errand_steps.specs.Errands.{ErrandFields, answer_of, settle_of}
 use Rattle.errand_steps.specs.Told.{IsTellable}
 use Rattle.step_machine.specs.Moments.{IsMoment}
 use Rattle.live_heap.specs.declared.block.Block.{Block}
-use Rattle.live_heap.specs.declared.heap.Heap.{Heap}
+use Rattle.live_heap.specs.Heaps.{HeapFields}
 use Rattle.live_heap.specs.declared.pass.Pass.{Pass}
 use Rattle.live_heap.specs.Passes.{IsOf, IsOneStep, seen, view}
 use Rattle.live_heap.specs.Sights.{TakesStep, found_in}
@@ -25,7 +25,7 @@ use Rattle.step_machine.proofs.TellLemmas.{moment-tellable}
 
 -- the errand of a call whose seat has made the step stands where the step began
 pub rejoins :
-    (h : Heap) (start : Pass) (tries : ℕ) (p : BlockPoint) (o : Continuation) (x : Find) (r : Pass) → HasWalked h start tries p o x r
+    (h : HeapFields) (start : Pass) (tries : ℕ) (p : BlockPoint) (o : Continuation) (x : Find) (r : Pass) → HasWalked h start tries p o x r
     → (f : ErrandFields) → f ≡ at_block r.errand p o → Rejoins h start tries x (record { seat = r.seat; errand = f; out = r.out })
 rejoins h start tries p o x r w f is =
     record {
@@ -42,7 +42,7 @@ rejoins h start tries p o x r w f is =
 
 -- the pass whose errand has caught up with the step of its seat
 module _
-    (h : Heap) (start : Pass) (tries : ℕ) (found : Find) (p : Pass) (j : Rejoins h start tries found p) (q : Pass)
+    (h : HeapFields) (start : Pass) (tries : ℕ) (found : Find) (p : Pass) (j : Rejoins h start tries found p) (q : Pass)
     (answer : Progress) (seat : q.seat ≡ p.seat) (out : q.out ≡ p.out) (is : q.errand ≡ settle_of p.errand found) (told : answer ≡ answer_of p.errand found) where
   abbrev last : Pass
   last = j.last

@@ -32,7 +32,7 @@ use Rattle.step_machine.specs.Moments.{IsMoment}
 use Rattle.step_machine.proofs.KeepLemmas.{owns-rest}
 use Rattle.step_machine.proofs.SpareLemmas.{so_far-spares, events-spare}
 use Rattle.live_heap.specs.declared.block.Block.{Block}
-use Rattle.live_heap.specs.declared.heap.Heap.{Heap}
+use Rattle.live_heap.specs.Heaps.{HeapFields}
 use Rattle.live_heap.specs.declared.pass.Pass.{Pass}
 use Rattle.live_heap.specs.declared.view.Lent.{Lent}
 use Rattle.live_heap.specs.Calls.{HasCalled, IsCalling, StepsOn}
@@ -124,7 +124,7 @@ stays-home p q place same home = λ n b found. home n b (ap (λ (l : List Lent).
 
 -- a pass keeps its blocks through a call, but for the one that a free or a put is about
 pub called-keeps :
-    (h : Heap) (p q : Pass) (call : Call) (steps : ℕ) (answer : Reply) (block : Block) → IsOf h p → IsOf h q → HasCalled p call steps answer q
+    (h : HeapFields) (p q : Pass) (call : Call) (steps : ℕ) (answer : Reply) (block : Block) → IsOf h p → IsOf h q → HasCalled p call steps answer q
     → LeavesPlace call block.place → Owns p block → Owns q block
 called-keeps h p q call steps answer block was of called leaves owns = (
   subst (λ c. OwnsAfter (seen q) c block.place block.need) (sym called.caller)
@@ -134,7 +134,7 @@ called-keeps h p q call steps answer block was of called leaves owns = (
 )
 
 pub calling-keeps :
-    (h : Heap) (p q : Pass) (call : Call) (steps : ℕ) (block : Block) → IsOf h p → IsOf h q → IsCalling p call steps q → LeavesPlace call block.place
+    (h : HeapFields) (p q : Pass) (call : Call) (steps : ℕ) (block : Block) → IsOf h p → IsOf h q → IsCalling p call steps q → LeavesPlace call block.place
     → Owns p block → Owns q block
 calling-keeps h p q call steps block was of calling leaves owns = (
   subst (λ c. OwnsAfter (seen q) c block.place block.need) (sym calling.caller)
@@ -259,14 +259,14 @@ got-apart g caller place at need n (put q m shelf) before after added legal adds
 
 -- a block that a pass is given, or takes from a shelf, is none that it owned
 pub called-given :
-    (h : Heap) (p q : Pass) (call : Call) (steps place : ℕ) (need : Need) (block : Block) → IsOf h p → IsOf h q
+    (h : HeapFields) (p q : Pass) (call : Call) (steps place : ℕ) (need : Need) (block : Block) → IsOf h p → IsOf h q
     → HasCalled p call steps (reply.Given place need) q → Owns p block → block.place ≢ place
 called-given h p q call steps place need block was of called owns =
     given-apart h.layout p.errand.caller place block.place block.need need call (seen p) (seen q) called.added of.served.legal
     (called-adds p q call steps (reply.Given place need) called) called.ended owns.0
 
 pub called-got :
-    (h : Heap) (p q : Pass) (call : Call) (steps place : ℕ) (need : Need) (block : Block) → IsOf h p → IsOf h q
+    (h : HeapFields) (p q : Pass) (call : Call) (steps place : ℕ) (need : Need) (block : Block) → IsOf h p → IsOf h q
     → HasCalled p call steps (reply.Got place need) q → Owns p block → block.place ≢ place
 called-got h p q call steps place need block was of called owns =
     got-apart h.layout p.errand.caller place block.place block.need need call (seen p) (seen q) called.added of.served.legal
@@ -274,14 +274,14 @@ called-got h p q call steps place need block was of called owns =
 
 -- the words of such a block are home, since only those of blocks that the pass owned were out
 pub given-home :
-    (h : Heap) (p q : Pass) (call : Call) (steps place : ℕ) (need : Need) → IsOf h p → IsOf h q → HasCalled p call steps (reply.Given place need) q
+    (h : HeapFields) (p q : Pass) (call : Call) (steps place : ℕ) (need : Need) → IsOf h p → IsOf h q → HasCalled p call steps (reply.Given place need) q
     → IsHome q place
 given-home h p q call steps place need was of called = λ n b found.
     given-apart h.layout p.errand.caller place b.place b.need need call (seen p) (seen q) called.added of.served.legal
     (called-adds p q call steps (reply.Given place need) called) called.ended (was.mine n b (ap (λ (l : List Lent). get_elem? l n) (sym called.lent) ∙ found))
 
 pub got-home :
-    (h : Heap) (p q : Pass) (call : Call) (steps place : ℕ) (need : Need) → IsOf h p → IsOf h q → HasCalled p call steps (reply.Got place need) q
+    (h : HeapFields) (p q : Pass) (call : Call) (steps place : ℕ) (need : Need) → IsOf h p → IsOf h q → HasCalled p call steps (reply.Got place need) q
     → IsHome q place
 got-home h p q call steps place need was of called = λ n b found.
     got-apart h.layout p.errand.caller place b.place b.need need call (seen p) (seen q) called.added of.served.legal

@@ -19,6 +19,7 @@ use Rattle.live_heap.specs.declared.view.View.{View}
 use Rattle.live_heap.specs.Going.{HasFound}
 use Rattle.live_heap.specs.Pieces.{Claimed, EachOf, HasLaid, IsSoleOpener, KnowsMore, PiecesHold, mark_count, mark_place, with_pieces, zeros_of}
 use Rattle.live_heap.specs.Sights.{IsSightOf, TakesStep}
+use Rattle.live_heap.specs.Shelves.{AllowedWords}
 use Rattle.live_heap.proofs.Claiming.{claim, publish}
 use Rattle.live_heap.proofs.Moves.{opens-since}
 use Rattle.live_heap.proofs.Shows.{arena-placed, piece-end}
@@ -107,14 +108,14 @@ piece-within g size k long below = omega (arith, long, piece-end g k below, aren
 
 -- the piece may be claimed at its mark
 pub may-claim :
-    (key g h : Geometry) (size id k piece place : ℕ) (me : Me View) → key ≡ g → h ≡ g → piece ≡ k → me.1 ≡ [] → me.0.lays ≡ None → IsSoleOpener g me.0 k
-    → place ≡ mark_place g k → region.Allows (PiecesHold key) size id me place (λ n. either (n == 0) 1 n) (λ n. Claimed h piece me.0 n)
-may-claim key g h size id k piece place me same named number empty settled o at =
+    {rule : AllowedWords} (key g h : Geometry) (size id k piece place : ℕ) (me : Me View) → key ≡ g → h ≡ g → piece ≡ k → me.1 ≡ [] → me.0.lays ≡ None → IsSoleOpener g me.0 k
+    → place ≡ mark_place g k → region.Allows (PiecesHold rule key) size id me place (λ n. either (n == 0) 1 n) (λ n. Claimed h piece me.0 n)
+may-claim {rule} key g h size id k piece place me same named number empty settled o at =
     let v = me.0 in
-    let A : Me View → Type 0 = λ m. region.Allows (PiecesHold g) size id m (mark_place g k) (λ n. either (n == 0) 1 n) (λ n. Claimed g k v n) in
-    let B : ℕ → Type 0 = λ p. region.Allows (PiecesHold g) size id me p (λ n. either (n == 0) 1 n) (λ n. Claimed g k v n) in
-    let C : Geometry × ℕ → Type 0 = λ p. region.Allows (PiecesHold g) size id me place (λ n. either (n == 0) 1 n) (λ n. Claimed p.0 p.1 v n) in
-    let K : Geometry → Type 0 = λ x. region.Allows (PiecesHold x) size id me place (λ n. either (n == 0) 1 n) (λ n. Claimed h piece v n) in
+    let A : Me View → Type 0 = λ m. region.Allows (PiecesHold rule g) size id m (mark_place g k) (λ n. either (n == 0) 1 n) (λ n. Claimed g k v n) in
+    let B : ℕ → Type 0 = λ p. region.Allows (PiecesHold rule g) size id me p (λ n. either (n == 0) 1 n) (λ n. Claimed g k v n) in
+    let C : Geometry × ℕ → Type 0 = λ p. region.Allows (PiecesHold rule g) size id me place (λ n. either (n == 0) 1 n) (λ n. Claimed p.0 p.1 v n) in
+    let K : Geometry → Type 0 = λ x. region.Allows (PiecesHold rule x) size id me place (λ n. either (n == 0) 1 n) (λ n. Claimed h piece v n) in
     subst K (sym same)
     (subst C (λ i. (sym named i, sym number i))
     (subst B (sym at) (subst A (sym (nothing_out me empty)) (claim g size id k v o.before o.one o.opens o.below settled))))
@@ -125,14 +126,14 @@ HoldsZeros g k v me = me ≡ (with_pieces v (Some k) v.ready, (piece_start g k, 
 
 -- may publish it
 pub may-publish :
-    (key g : Geometry) (size id k piece place : ℕ) (v : View) (me : Me View) → key ≡ g → piece ≡ k → HoldsZeros g k v me → IsSoleOpener g v k
-    → place ≡ mark_place g k → region.Allows (PiecesHold key) size id me place (λ _. 2) (λ _. HasLaid piece me.0)
-may-publish key g size id k piece place v me same number has o at =
+    {rule : AllowedWords} (key g : Geometry) (size id k piece place : ℕ) (v : View) (me : Me View) → key ≡ g → piece ≡ k → HoldsZeros g k v me → IsSoleOpener g v k
+    → place ≡ mark_place g k → region.Allows (PiecesHold rule key) size id me place (λ _. 2) (λ _. HasLaid piece me.0)
+may-publish {rule} key g size id k piece place v me same number has o at =
     let u = with_pieces v (Some k) v.ready in
-    let A : Me View → Type 0 = λ m. region.Allows (PiecesHold g) size id m (mark_place g k) (λ _. 2) (λ _. HasLaid k m.0) in
-    let B : ℕ → Type 0 = λ p. region.Allows (PiecesHold g) size id me p (λ _. 2) (λ _. HasLaid k me.0) in
-    let C : ℕ → Type 0 = λ p. region.Allows (PiecesHold g) size id me place (λ _. 2) (λ _. HasLaid p me.0) in
-    let K : Geometry → Type 0 = λ x. region.Allows (PiecesHold x) size id me place (λ _. 2) (λ _. HasLaid piece me.0) in
+    let A : Me View → Type 0 = λ m. region.Allows (PiecesHold rule g) size id m (mark_place g k) (λ _. 2) (λ _. HasLaid k m.0) in
+    let B : ℕ → Type 0 = λ p. region.Allows (PiecesHold rule g) size id me p (λ _. 2) (λ _. HasLaid k me.0) in
+    let C : ℕ → Type 0 = λ p. region.Allows (PiecesHold rule g) size id me place (λ _. 2) (λ _. HasLaid p me.0) in
+    let K : Geometry → Type 0 = λ x. region.Allows (PiecesHold rule x) size id me place (λ _. 2) (λ _. HasLaid piece me.0) in
     subst K (sym same)
     (subst C (sym number) (subst B (sym at) (subst A (sym has) (publish g size id k u o.before o.one o.opens o.below refl))))
 

@@ -61,6 +61,7 @@ use Rattle.live_heap.specs.Lending.{HasLent, MayLend, TellsWritten, lent_block, 
 use Rattle.live_heap.specs.Pieces.{AreLaidOut, AreLent, IsLent, IsOpened, IsOut, PiecesHold, Status, caller_mark, mark_count, mark_of, mark_place, place_as}
 use Rattle.live_heap.specs.Pieces.Status.{blank, out, used}
 use Rattle.live_heap.specs.Rule.{IsStanding, KeptTable, Stands, state_with}
+use Rattle.live_heap.specs.Shelves.{AllowedWords}
 use Rattle.live_heap.proofs.Claiming.{blank-used, out-used}
 use Rattle.live_heap.proofs.Growing.{own-between, rest-none}
 use Rattle.live_heap.proofs.LentPlaces.{home-behind, out-on}
@@ -128,7 +129,7 @@ abbrev pub LieElse : View → ℕ → Type 0
 LieElse v place = (n : ℕ) (b : Lent) → get_elem? v.lent n ≡ some b → b.place ≢ place
 
 -- the caller owns the block by the last events that its pass saw, and is in no call
-module _ (g : Geometry) (words : List ℕ) (views : List View) (id : ℕ) (v : View) (before : Standing) (place : ℕ) (need : Need) (k : KeptTable g words views)
+module _ {rule : AllowedWords} (g : Geometry) (words : List ℕ) (views : List View) (id : ℕ) (v : View) (before : Standing) (place : ℕ) (need : Need) (k : KeptTable rule g words views)
     (at : get_elem? views id ≡ some v) (one : v.callers ≡ before ∷ []) (idle : IsIdle before.errand)
     (owned : OwnsAfter v.seen before.errand.caller place need) where
   abbrev caller : ℕ
@@ -449,13 +450,13 @@ module _ (g : Geometry) (words : List ℕ) (views : List View) (id : ℕ) (v : V
 
 -- the step by which they go out, of the pass of a caller that owns the block: one that leaves the number of its mark at 1
 lends-own :
-    (g : Geometry) (size id : ℕ) (v : View) (x : Standing) (place : ℕ) (need : Need) (turns : ℕ → ℕ) → v.callers ≡ x ∷ [] → IsIdle x.errand
+    {rule : AllowedWords} (g : Geometry) (size id : ℕ) (v : View) (x : Standing) (place : ℕ) (need : Need) (turns : ℕ → ℕ) → v.callers ≡ x ∷ [] → IsIdle x.errand
     → OwnsAfter v.seen x.errand.caller place need → LieElse v place
-    → ((s : RegionState View) → PiecesHold g s → get_elem? s.views id ≡ some v
+    → ((s : RegionState View) → PiecesHold rule g s → get_elem? s.views id ≡ some v
     → turns (number_at s.places (mark_place g (caller_mark g x.errand.caller))) ≡ 1)
-    → region.Allows (PiecesHold g) size id (v, []) (mark_place g (caller_mark g x.errand.caller)) turns (λ _ me. HasLent place need v me)
+    → region.Allows (PiecesHold rule g) size id (v, []) (mark_place g (caller_mark g x.errand.caller)) turns (λ _ me. HasLent place need v me)
 unfolding kept-lent
-lends-own g size id v x place need turns one idle owned home to_one s good long_is at =
+lends-own {rule} g size id v x place need turns one idle owned home to_one s good long_is at =
     let table : List ℕ = good.0 in
     let h = good.1 in
     let whole : List Place = good.2 in
@@ -476,7 +477,7 @@ lends-own g size id v x place need turns one idle owned home to_one s good long_
     let is_taken = taken g words views id v x place need h.1 at one idle owned table whole s.places h.0 a refl l home in (
       mark ∙ ap laid (sym (ap number mark)),
       λ small.
-          subst (λ (n : ℕ). region.Goes (PiecesHold g) s (with_number s.places p n) id (v, []) (λ (me : region.Me View). HasLent place need v me))
+          subst (λ (n : ℕ). region.Goes (PiecesHold rule g) s (with_number s.places p n) id (v, []) (λ (me : region.Me View). HasLent place need v me))
           (sym (to_one s good at)) (
             w,
             takes (place + 1) count,
@@ -499,7 +500,7 @@ lends-own g size id v x place need turns one idle owned home to_one s good long_
 
 -- the mark of a pass's caller is 1 while some block is out with the pass
 marked-one :
-    (g : Geometry) (id : ℕ) (v : View) (x : Standing) (s : RegionState View) → v.callers ≡ x ∷ [] → 0 < length v.lent → PiecesHold g s
+    {rule : AllowedWords} (g : Geometry) (id : ℕ) (v : View) (x : Standing) (s : RegionState View) → v.callers ≡ x ∷ [] → 0 < length v.lent → PiecesHold rule g s
     → get_elem? s.views id ≡ some v → number_at s.places (mark_place g (caller_mark g x.errand.caller)) ≡ 1
 marked-one g id v x s one more good at =
     let k = good.1.1 in
@@ -517,25 +518,25 @@ marked-one g id v x s one more good at =
 
 -- a pass that may lend its block may make such a step
 may-lend :
-    (g : Geometry) (size id : ℕ) (v : View) (e : ErrandFields) (place : ℕ) (need : Need) (turns : ℕ → ℕ) (m : MayLend v e place need)
-    → ((s : RegionState View) → PiecesHold g s → get_elem? s.views id ≡ some v
+    {rule : AllowedWords} (g : Geometry) (size id : ℕ) (v : View) (e : ErrandFields) (place : ℕ) (need : Need) (turns : ℕ → ℕ) (m : MayLend v e place need)
+    → ((s : RegionState View) → PiecesHold rule g s → get_elem? s.views id ≡ some v
     → turns (number_at s.places (mark_place g (caller_mark g m.before.errand.caller))) ≡ 1)
-    → region.Allows (PiecesHold g) size id (v, []) (mark_place g (caller_mark g e.caller)) turns (λ _ me. HasLent place need v me)
-may-lend g size id v e place need turns m to_one =
+    → region.Allows (PiecesHold rule g) size id (v, []) (mark_place g (caller_mark g e.caller)) turns (λ _ me. HasLent place need v me)
+may-lend {rule} g size id v e place need turns m to_one =
     let is : m.before.errand ≡ e = m.stands in
-    subst (λ (f : ErrandFields). region.Allows (PiecesHold g) size id (v, []) (mark_place g (caller_mark g f.caller)) turns (λ _ me. HasLent place need v me)) is
+    subst (λ (f : ErrandFields). region.Allows (PiecesHold rule g) size id (v, []) (mark_place g (caller_mark g f.caller)) turns (λ _ me. HasLent place need v me)) is
     (lends-own g size id v m.before place need turns m.one (subst IsIdle (sym is) m.idle)
     (subst (λ (f : ErrandFields). OwnsAfter v.seen f.caller place need) (sym is) m.owned) m.home to_one)
 
 -- a pass that has nothing out may make the step that takes a block's usable words out: it sets the caller's mark
 pub may-lend_first :
-    (g : Geometry) (size id : ℕ) (v : View) (e : ErrandFields) (place : ℕ) (need : Need) → IsChecked g → MayLend v e place need → v.lent ≡ []
-    → region.Allows (PiecesHold g) size id (v, []) (mark_place g (caller_mark g e.caller)) (λ _. 1) (λ _ me. HasLent place need v me)
+    {rule : AllowedWords} (g : Geometry) (size id : ℕ) (v : View) (e : ErrandFields) (place : ℕ) (need : Need) → IsChecked g → MayLend v e place need → v.lent ≡ []
+    → region.Allows (PiecesHold rule g) size id (v, []) (mark_place g (caller_mark g e.caller)) (λ _. 1) (λ _ me. HasLent place need v me)
 may-lend_first g size id v e place need _ m _ = may-lend g size id v e place need (λ _. 1) m (λ s good at. refl)
 
 -- one that has others out may make such a step too: it leaves the mark, which is set
 pub may-lend_more :
-    (g : Geometry) (size id : ℕ) (v : View) (e : ErrandFields) (place : ℕ) (need : Need) → IsChecked g → MayLend v e place need → 0 < length v.lent
-    → region.Allows (PiecesHold g) size id (v, []) (mark_place g (caller_mark g e.caller)) (λ n. n) (λ _ me. HasLent place need v me)
+    {rule : AllowedWords} (g : Geometry) (size id : ℕ) (v : View) (e : ErrandFields) (place : ℕ) (need : Need) → IsChecked g → MayLend v e place need → 0 < length v.lent
+    → region.Allows (PiecesHold rule g) size id (v, []) (mark_place g (caller_mark g e.caller)) (λ n. n) (λ _ me. HasLent place need v me)
 may-lend_more g size id v e place need _ m more =
     may-lend g size id v e place need (λ n. n) m (λ s good at. marked-one g id v m.before s m.one more good at)

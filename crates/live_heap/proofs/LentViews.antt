@@ -16,6 +16,7 @@ use Rattle.live_heap.specs.declared.view.View.{View}
 use Rattle.live_heap.specs.Lending.{with_lent}
 use Rattle.live_heap.specs.Pieces.{AreLaidOut, IsOpened, IsOpener, Status, caller_mark, mark_of, mark_place, shown}
 use Rattle.live_heap.specs.Rule.{KeptTable, Stands}
+use Rattle.live_heap.specs.Shelves.{AllowedWords}
 use Rattle.live_heap.proofs.Shows.{shown-mark, shows-still, status-else, status-here, with_status}
 
 -- who is found in a list stands in it
@@ -32,7 +33,7 @@ module _ (g : Geometry) (words : List ℕ) (views : List View) (id : ℕ) (v : V
   views_now = slice_set views id now
 
   -- the rule of the machine speaks of no block that is out
-  pub kept-mine : (k : KeptTable g words views) → get_elem? views id ≡ some v → Stands g k.errands k.events k.run.wins.list k.run.moves k.place id now
+  pub kept-mine : {rule : AllowedWords} (k : KeptTable rule g words views) → get_elem? views id ≡ some v → Stands g k.errands k.events k.run.wins.list k.run.moves k.place id now
   kept-mine k at =
       let mine = k.each id v at in
       record {
@@ -50,7 +51,7 @@ module _ (g : Geometry) (words : List ℕ) (views : List View) (id : ℕ) (v : V
         };
       }
 
-  unfoldable pub kept-lent : get_elem? views id ≡ some v → KeptTable g words views → KeptTable g words views_now
+  unfoldable pub kept-lent : {rule : AllowedWords} → get_elem? views id ≡ some v → KeptTable rule g words views → KeptTable rule g words views_now
   kept-lent at k = record {
     whole = k.whole;
     errands = k.errands;
@@ -60,6 +61,7 @@ module _ (g : Geometry) (words : List ℕ) (views : List View) (id : ℕ) (v : V
     run = k.run;
     opened = k.opened;
     place = k.place;
+    by_rule = k.by_rule;
     each = λ j u is. ⊎_elim
         (λ (t : (j ≡ id) × (now ≡ u)).
         subst (λ (y : ℕ × View). Stands g k.errands k.events k.run.wins.list k.run.moves k.place y.0 y.1) (λ i. (sym t.0 i, t.1 i)) (kept-mine k at))

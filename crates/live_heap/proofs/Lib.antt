@@ -43,14 +43,17 @@ pub mod Owned
 pub mod PieceEnds
 pub mod PieceSeats
 pub mod PutPlaces
+pub mod PutsNone
 pub mod RefusedPoints
 pub mod RefusedSteps
 pub mod Seats
+pub mod ShelvesKept
 pub mod Shows
 pub mod StepByStep
 pub mod StepHands
 pub mod Stepped
 pub mod Straight
+pub mod TakenByRule
 pub mod Taking
 pub mod Totals
 pub mod WalkLemmas

@@ -3,7 +3,7 @@ use Rattle.std.proofs.Common.{ℕ, ◌≡◌, List, length, drop, ap, ◌∙◌}
 use lib.Seq.{take_at}
 use Rattle.std.proofs.lemmas.List.{length-map}
 use Rattle.plain_words.specs.Places.{laid, laids, numbers}
-use Rattle.live_heap.specs.declared.heap.Heap.{Heap}
+use Rattle.live_heap.specs.Heaps.{HeapFields}
 use Rattle.live_heap.specs.declared.plain.Memory.{Memory}
 use Rattle.live_heap.specs.Memory.{IsMemoryOf, with_numbers}
 use Rattle.live_heap.proofs.Taking.{numbers-laids}
@@ -16,7 +16,7 @@ pub numbers-now : (m : Memory) (ws : List ℕ) → length ws ≡ length m.words.
 numbers-now m ws same = ap numbers (laid-now m ws same) ∙ numbers-laids ws
 
 -- and are the block's usable words still
-pub memory-now : (h : Heap) (m : Memory) (ws : List ℕ) → IsMemoryOf h m → length ws ≡ length m.words.places → IsMemoryOf h (with_numbers m ws)
+pub memory-now : (h : HeapFields) (m : Memory) (ws : List ℕ) → IsMemoryOf h m → length ws ≡ length m.words.places → IsMemoryOf h (with_numbers m ws)
 memory-now h m ws is same = record {
   at = is.at;
   first = is.first;

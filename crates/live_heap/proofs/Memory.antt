@@ -42,10 +42,11 @@ use Rattle.owned_words.specs.Leaving.{concerned}
 use Rattle.owned_words.proofs.Concerned.{accesses-concerned}
 use Rattle.step_machine.specs.Cores.{OwnsAfter}
 use Rattle.step_machine.proofs.MomentAnswers.{settle-caller}
-use Rattle.live_heap.specs.Sights.{AreApart, IsBegun, Saw, TakesStep}
+use Rattle.live_heap.specs.Sights.{AreApart, IsBegun, SawByRule, TakesStep}
+use Rattle.live_heap.specs.Shelves.{AllowedWords, PutsByRule}
 use Rattle.live_heap.proofs.Claiming.{out-used, blank-used}
 use Rattle.live_heap.proofs.LentPlaces.{out-on, set-alike}
-use Rattle.live_heap.proofs.Moves.{events_now, is_begun-caller, kept_then, mine-own, opener_mine, opens-before, others-own, standing_then, steps_then, events_then, there, unused_never, unused_then, view-mine, view_then, word-mine, words_then}
+use Rattle.live_heap.proofs.Moves.{always_then, events_now, is_begun-caller, kept_then, mine-own, opener_mine, opens-before, others-own, standing_then, steps_then, events_then, there, unused_never, unused_then, view-mine, view_then, word-mine, words_then}
 use Rattle.live_heap.proofs.Shows.{shown-arena, shown-own}
 
 -- a word is one of the arena, or stands behind it
@@ -85,8 +86,8 @@ one-of x (suc n) y found = absurd (let no : ⊥ = cc in no)
 only-one : (l : List Standing) (x : Standing) (n : ℕ) (y : Standing) → l ≡ x ∷ [] → get_elem? l n ≡ some y → y ≡ x
 only-one l x n y is found = one-of x n y (subst (λ (m : List Standing). get_elem? m n ≡ some y) is found)
 
-module _ (g : Geometry) (words : List ℕ) (places : List Place) (views : List View) (id : ℕ) (v : View) (before : Standing) (e : ErrandFields)
-    (k : KeptTable g (words_at g words) views) (at : get_elem? views id ≡ some v) (one : v.callers ≡ before ∷ []) (b : IsBegun v.seen before.errand e)
+module _ {rule : AllowedWords} (g : Geometry) (words : List ℕ) (places : List Place) (views : List View) (id : ℕ) (v : View) (before : Standing) (e : ErrandFields)
+    (k : KeptTable rule g (words_at g words) views) (at : get_elem? views id ≡ some v) (one : v.callers ≡ before ∷ []) (b : IsBegun v.seen before.errand e)
     (busy : IsBusy e) (checked : IsChecked g) (whole : length words ≡ placed_count g) (ready : (piece : ℕ) → Opens g e.point piece → 0 < occurs piece v.ready)
     (a : AreLaidOut g words places views) where
   abbrev table : List ℕ
@@ -244,8 +245,8 @@ same-caller : (one other : ℕ) → Caller one ≡ Caller other → one ≡ othe
 same-caller one other is = cc
 
 -- what is out with other passes is so still behind the step
-module _ (g : Geometry) (words : List ℕ) (whole places : List Place) (views : List View) (id : ℕ) (v : View) (before : Standing) (e : ErrandFields)
-    (k : KeptTable g (words_at g words) views) (at : get_elem? views id ≡ some v) (one : v.callers ≡ before ∷ []) (b : IsBegun v.seen before.errand e)
+module _ {rule : AllowedWords} (g : Geometry) (words : List ℕ) (whole places : List Place) (views : List View) (id : ℕ) (v : View) (before : Standing) (e : ErrandFields)
+    (k : KeptTable rule g (words_at g words) views) (at : get_elem? views id ≡ some v) (one : v.callers ≡ before ∷ []) (b : IsBegun v.seen before.errand e)
     (busy : IsBusy e) (checked : IsChecked g) (long : length words ≡ placed_count g) (ready : (piece : ℕ) → Opens g e.point piece → 0 < occurs piece v.ready)
     (a : AreLaidOut g words whole views) (apart : AreApart v e) (l : AreLent g k.events whole places views) where
   abbrev at_place : ℕ
@@ -372,10 +373,10 @@ module _ (g : Geometry) (words : List ℕ) (whole places : List Place) (views : 
 
 -- a step of the errand may be made on the region, where each piece that its caller is about to use first is known to be laid, and whose call is about no block whose words are out with the pass
 pub may-memory :
-    (g : Geometry) (size id : ℕ) (me : region.Me View) (before : Standing) (e : ErrandFields) → IsChecked g → me.0.callers ≡ before ∷ [] → AreApart me.0 e
-    → IsBegun me.0.seen before.errand e → IsBusy e → ((piece : ℕ) → Opens g e.point piece → 0 < occurs piece me.0.ready)
-    → region.Allows (PiecesHold g) size id me (place g (word_index g (name_of (plan_of e)))) (after_action (plan_of e)) (λ n. Saw e n me)
-may-memory g size id me before e checked one apart b busy ready s good long at =
+    {rule : AllowedWords} (g : Geometry) (size id : ℕ) (me : region.Me View) (before : Standing) (e : ErrandFields) → IsChecked g → me.0.callers ≡ before ∷ [] → AreApart me.0 e
+    → IsBegun me.0.seen before.errand e → IsBusy e → ((piece : ℕ) → Opens g e.point piece → 0 < occurs piece me.0.ready) → PutsByRule rule me.0.seen e
+    → region.Allows (PiecesHold rule g) size id me (place g (word_index g (name_of (plan_of e)))) (after_action (plan_of e)) (λ n. SawByRule rule e n me)
+may-memory {rule} g size id me before e checked one apart b busy ready puts s good long at =
     let words : List ℕ = good.0 in
     let h = good.1 in
     let whole : List Place = good.2 in
@@ -394,8 +395,8 @@ may-memory g size id me before e checked one apart b busy ready s good long at =
     let same : slice_index t (word_index g (name_of (plan_of e))) ≡ slice_index words p = at-words_at g words (word_index g (name_of (plan_of e))) below_is in
     let kept =
     kept-as g (slice_set s.views id (view_then g t s.views id v before e h.1 at one b busy)) _ _
-    (sym (table_now g words whole s.views id v before e h.1 at one b busy checked h.0 ready a)) (kept_then g t s.views id v before e h.1 at one b busy) in
-    let F : ℕ → Type 0 = λ x. Goes (PiecesHold g) s (with_number s.places p (after_action (plan_of e) x)) id me (Saw e x me) in (
+    (sym (table_now g words whole s.views id v before e h.1 at one b busy checked h.0 ready a)) (kept_then g t s.views id v before e h.1 at one b busy puts) in
+    let F : ℕ → Type 0 = λ x. Goes (PiecesHold rule g) s (with_number s.places p (after_action (plan_of e) x)) id me (SawByRule rule e x me) in (
       mark ∙ ap laid (sym is),
       λ small. subst F (sym is) (
         view_then g t s.views id v before e h.1 at one b busy,
@@ -409,18 +410,21 @@ may-memory g size id me before e checked one apart b busy ready s good long at =
           subst
               (λ (es : List Event). AreLent g es (slice_set whole p (laid (after_action (plan_of e) (slice_index words p))))
               (slice_set s.places p (laid (after_action (plan_of e) (slice_index words p)))) (slice_set s.views id (view_then g t s.views id v before e h.1 at one b busy)))
-              (sym (kept.1 ∙ events_then g t s.views id v before e h.1 at one b busy)) (still-lent g words whole s.places s.views id v before e h.1 at one b busy checked h.0 ready a apart l),
+              (sym (kept.1 ∙ events_then g t s.views id v before e h.1 at one b busy puts)) (still-lent g words whole s.places s.views id v before e h.1 at one b busy checked h.0 ready a apart l),
         ),
         (
-          subst (λ n. TakesStep e n v (view_then g t s.views id v before e h.1 at one b busy)) same
-              (steps_then g t s.views id v before e h.1 at one b busy v.lent (owned-out g words whole s.places s.views id v before e h.1 at one b busy checked h.0 ready a apart l) apart),
-          refl,
+          (
+            subst (λ n. TakesStep e n v (view_then g t s.views id v before e h.1 at one b busy)) same
+                (steps_then g t s.views id v before e h.1 at one b busy v.lent (owned-out g words whole s.places s.views id v before e h.1 at one b busy checked h.0 ready a apart l) apart),
+            refl,
+          ),
+          always_then g t s.views id v before e h.1 at one b busy puts,
         ),
       ),
     )
   where
     -- the same table by another name has the same events
     kept-as :
-        (g : Geometry) (views : List View) (ws vs : List ℕ) → ws ≡ vs → (k : KeptTable g ws views)
-        → (q : KeptTable g vs views) × (q.events ≡ k.events)
-    kept-as g views ws vs same k = let P : List ℕ → Type 0 = λ us. (q : KeptTable g us views) × (q.events ≡ k.events) in subst P same (k, refl)
+        {rule : AllowedWords} (g : Geometry) (views : List View) (ws vs : List ℕ) → ws ≡ vs → (k : KeptTable rule g ws views)
+        → (q : KeptTable rule g vs views) × (q.events ≡ k.events)
+    kept-as {rule} g views ws vs same k = let P : List ℕ → Type 0 = λ us. (q : KeptTable rule g us views) × (q.events ≡ k.events) in subst P same (k, refl)

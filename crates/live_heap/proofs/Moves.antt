@@ -56,6 +56,7 @@ use Rattle.live_heap.specs.declared.view.View.{View}
 use Rattle.live_heap.specs.Rule.{IsStanding, Stands, KeptTable, state_with}
 use Rattle.live_heap.specs.Lending.{with_lent}
 use Rattle.live_heap.specs.Sights.{IsBegun, TakesStep, after_events, found_in}
+use Rattle.live_heap.specs.Shelves.{AllowedWords, AlwaysByRule, PutsByRule}
 use Rattle.sound_state.proofs.CountedLemmas.{without-counts}
 use Rattle.first_uses.specs.Pieces.{piece_of}
 use Rattle.errand_steps.specs.Openers.{Opens}
@@ -63,6 +64,7 @@ use Rattle.first_uses.specs.Uses.{IsUnused}
 use Rattle.first_uses.proofs.InUse.{InUse, point-in_use}
 use Rattle.first_uses.proofs.Leaving.{unused-stays}
 use Rattle.live_heap.proofs.Alone.{reached-alone}
+use Rattle.live_heap.proofs.ShelvesKept.{always-step}
 use Rattle.live_heap.proofs.Growing.{IsBy, begin-uncounted, own-between, own-gone, own-others, rest-none, starts-event, starts-more, starts-self, step-counted, steps-others, wins-others}
 
 -- the errands with another one for one caller
@@ -261,7 +263,7 @@ own-still g log None caller place need legal apart owns = owns
 own-still g log (Some e) caller place need legal apart owns =
     owns-rest g log (e ∷ []) caller place need legal (subst (AllSpare place) (sym (own-gone caller e (λ same. apart e refl (sym same)))) tt) owns
 
-module _ (g : Geometry) (words : List ℕ) (views : List View) (id : ℕ) (v : View) (before : Standing) (e : ErrandFields) (k : KeptTable g words views)
+module _ {rule : AllowedWords} (g : Geometry) (words : List ℕ) (views : List View) (id : ℕ) (v : View) (before : Standing) (e : ErrandFields) (k : KeptTable rule g words views)
     (at : get_elem? views id ≡ some v) (one : v.callers ≡ before ∷ []) (b : IsBegun v.seen before.errand e) (busy : IsBusy e) where
   abbrev pub caller : ℕ
   caller = e.caller
@@ -451,8 +453,14 @@ module _ (g : Geometry) (words : List ℕ) (views : List View) (id : ℕ) (v : V
       (λ (t : (j ≢ id) × (get_elem? views j ≡ some u)). others_then j u t.0 t.1)
       (at_set views id j view_then u is)
 
-  pub kept_then : KeptTable g words_then (slice_set views id view_then)
-  kept_then = record {
+  -- the rule of words on shelves, where the errand's put keeps it
+  pub always_then : PutsByRule rule v.seen e → AlwaysByRule rule events_now
+  always_then puts =
+      always-step rule g v.seen mine.seen.0 k.events e (found_in e number) mine.seen.1 between_none
+      (legal-weaker g events_now (run-sound g next made_now run_now).legal) k.by_rule puts
+
+  pub kept_then : PutsByRule rule v.seen e → KeptTable rule g words_then (slice_set views id view_then)
+  kept_then puts = record {
     whole = length-set words _ _ ∙ k.whole;
     errands = errands_then;
     nobody = nobody_then;
@@ -461,14 +469,15 @@ module _ (g : Geometry) (words : List ℕ) (views : List View) (id : ℕ) (v : V
     run = run_now;
     opened = subst (IsOpening g (opening g)) (sym first_now) k.opened;
     place = k.place;
+    by_rule = always_then puts;
     each = λ j u is.
         subst (λ ms. Stands g errands_then events_now run_now.wins.list ms k.place j u) (sym moves_are)
         (subst (λ l. Stands g errands_then events_now l moves_now k.place j u) (sym list_is) (each_then j u is));
   }
 
-  pub events_then : kept_then.events ≡ events_now
+  pub events_then : (puts : PutsByRule rule v.seen e) → (kept_then puts).events ≡ events_now
   unfolding kept_then
-  events_then = refl
+  events_then puts = refl
 
   served_then : IsServed e.geometry caller after events_now
   served_then =

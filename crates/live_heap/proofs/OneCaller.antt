@@ -31,7 +31,7 @@ use Rattle.live_heap.specs.declared.answers.FreeAnswer.TheVariants as free_answe
 use Rattle.live_heap.specs.declared.answers.Resumed.TheVariants as resumed
 use Rattle.live_heap.specs.declared.answers.Taken.TheVariants as taken
 use Rattle.live_heap.specs.declared.block.Block.{Block}
-use Rattle.live_heap.specs.declared.heap.Heap.{Heap}
+use Rattle.live_heap.specs.Heaps.{HeapFields}
 use Rattle.live_heap.specs.declared.pass.Pass.{Pass}
 use Rattle.live_heap.specs.Answers.{FreeTells, ResumeTells, TakeTells}
 use Rattle.live_heap.specs.Calls.{IsCalling, IsInterrupted, StepsOn}
@@ -131,7 +131,7 @@ free-keeps first p place need steps c =
     free-elsewhere first.errand.caller p.errand.caller place words need (stage_of p.errand.point) c.added events c.under_way way)
     ∙ begun-cleared first.errand place need
 
-module _ (h : Heap) (q : Pass) (of : IsOf h q) (one : h.layout.callers ≡ 1) where
+module _ (h : HeapFields) (q : Pass) (of : IsOf h q) (one : h.layout.callers ≡ 1) where
   -- with one caller the pass has lost nothing
   lost : q.errand.lost ≡ 0
   lost = of.alone one
@@ -149,19 +149,19 @@ module _ (h : Heap) (q : Pass) (of : IsOf h q) (one : h.layout.callers ≡ 1) wh
       omega (arith, lost, sum, kept, some)
 
 pub free-ends :
-    (h : Heap) (p q : Pass) (block : Block) (tries : ℕ) → IsOf h q → h.layout.callers ≡ 1 → 0 < tries
+    (h : HeapFields) (p q : Pass) (block : Block) (tries : ℕ) → IsOf h q → h.layout.callers ≡ 1 → 0 < tries
     → ¬ FreeTells p block tries free_answer.Busy q
 free-ends h p q block tries of one some i = free-over h q of one p p block.place block.need 0 tries some refl i
 
 pub resumed-ends :
-    (h : Heap) (first p q : Pass) (place : ℕ) (need : Need) (made tries : ℕ) → IsOf h q → h.layout.callers ≡ 1 → 0 < tries
+    (h : HeapFields) (first p q : Pass) (place : ℕ) (need : Need) (made tries : ℕ) → IsOf h q → h.layout.callers ≡ 1 → 0 < tries
     → IsCalling first (free place need) made p → ¬ ResumeTells first (free place need) made p tries resumed.Busy q
 resumed-ends h first p q place need made tries of one some c i =
     free-over h q of one first p place need made tries some (free-keeps first p place need made c) i
 
 -- with one caller no take misses
 pub take-meets :
-    (h : Heap) (p q : Pass) (shelf expected found : ℕ) → IsOf h q → h.layout.callers ≡ 1
+    (h : HeapFields) (p q : Pass) (shelf expected found : ℕ) → IsOf h q → h.layout.callers ≡ 1
     → ¬ TakeTells p shelf (taken.Missed expected found) q
 take-meets h p q shelf expected found of one tells =
     let more = ap (λ (e : ErrandFields). e.lost) tells.2 in
@@ -169,7 +169,7 @@ take-meets h p q shelf expected found of one tells =
 
 -- with one caller an allocation that is interrupted has only cleared
 pub alloc-clears :
-    (h : Heap) (first p q : Pass) (words made tries : ℕ) → IsOf h p → IsOf h q → h.layout.callers ≡ 1
+    (h : HeapFields) (first p q : Pass) (words made tries : ℕ) → IsOf h p → IsOf h q → h.layout.callers ≡ 1
     → IsInterrupted first (alloc words) made p tries q → q.errand.cleared ≡ p.errand.cleared + tries
 alloc-clears h first p q words made tries of_p of one i =
     omega (arith, lost h p of_p one, lost h q of one, i.spent (below h q of one))

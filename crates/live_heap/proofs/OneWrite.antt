@@ -50,9 +50,11 @@ use Rattle.live_heap.specs.Pieces.{AreLaidOut, AreLent, IsLent, IsOut, caller_ma
 use Rattle.live_heap.specs.Pieces.Status.{out}
 use Rattle.live_heap.specs.Rule.{KeptTable, WordsHold, state_with}
 use Rattle.live_heap.specs.Sights.{IsBegun, TakesStep}
+use Rattle.live_heap.specs.Shelves.{AllowedWords}
 use Rattle.live_heap.proofs.LentPlaces.{out-on}
 use Rattle.live_heap.proofs.LentViews.{kept-lent, laid-lent, view-within}
 use Rattle.live_heap.proofs.Memory.{stepped, table_now}
+use Rattle.live_heap.proofs.ShelvesKept.{write-puts}
 use Rattle.live_heap.proofs.Moves.{begun-caller, event, events_now, events_then, kept_then, standing_then, steps_then, view_then, words_then}
 use Rattle.live_heap.proofs.Shows.{arena-placed}
 use Rattle.live_heap.proofs.Straight.{arena-short, write-busy, write-plan, write-ready, write-settles}
@@ -62,9 +64,9 @@ abbrev pub AreElsewhere : ℕ → List Lent → Type 0
 AreElsewhere place blocks = (n : ℕ) (b : Lent) → get_elem? blocks n ≡ some b → b.place ≢ place
 
 -- the rule of the region where the pass `id` has this view: it stands for one caller, whose errand is e, and has the words of this block out, and of those before and behind it
-pub record HasAway (g : Geometry) (places : List Place) (views : List View) (id : ℕ) (v : View) (e : ErrandFields) (place : ℕ) (need : Need) (numbers : List ℕ) (front back : List Lent) : Type 0 where
+pub record HasAway (rule : AllowedWords) (g : Geometry) (places : List Place) (views : List View) (id : ℕ) (v : View) (e : ErrandFields) (place : ℕ) (need : Need) (numbers : List ℕ) (front back : List Lent) : Type 0 where
   pub words : List ℕ
-  pub held : WordsHold g words views
+  pub held : WordsHold rule g words views
   pub whole : List Place
   pub laid_out : AreLaidOut g words whole views
   pub lent : AreLent g held.1.events whole places views
@@ -158,19 +160,19 @@ owned-apart g s c d p q n m i j sound (a, live_a, owner_a, need_a) (b, live_b, o
     ]
 
 -- the table's rule with these events
-HeldWith : Geometry → List ℕ → List View → List Event → Type 0
-HeldWith g words views events = (k : KeptTable g words views) × (k.events ≡ events)
+HeldWith : AllowedWords → Geometry → List ℕ → List View → List Event → Type 0
+HeldWith rule g words views events = (k : KeptTable rule g words views) × (k.events ≡ events)
 
-module _ (g : Geometry) (places : List Place) (views : List View) (id : ℕ) (v : View) (e : ErrandFields) (place : ℕ) (need : Need) (old : List ℕ) (front back : List Lent) (i x : ℕ)
+module _ {rule : AllowedWords} (g : Geometry) (places : List Place) (views : List View) (id : ℕ) (v : View) (e : ErrandFields) (place : ℕ) (need : Need) (old : List ℕ) (front back : List Lent) (i x : ℕ)
     (checked : IsChecked g) (idle : IsIdle e) (inside : i < usable_words need) (small : x < 2 ^ 64) (others : AreElsewhere place (front ++ back))
-    (s : HasAway g places views id v e place need old front back) where
+    (s : HasAway rule g places views id v e place need old front back) where
   abbrev call : Call
   call = write place need i x
 
   abbrev begun : ErrandFields
   begun = begun_by e call
 
-  abbrev k : KeptTable g (words_at g s.words) views
+  abbrev k : KeptTable rule g (words_at g s.words) views
   k = s.held.1
 
   abbrev table : List ℕ
@@ -261,16 +263,16 @@ module _ (g : Geometry) (places : List Place) (views : List View) (id : ℕ) (v 
   there : get_elem? views_then id ≡ some w
   there = set_here views id w id_there
 
-  held_now : HeldWith g (words_at g words_now) views_now events_after
+  held_now : HeldWith rule g (words_at g words_now) views_now events_after
   unfolding HeldWith kept-lent
   held_now =
       let words_after = words_then g table views id v s.before begun k s.at s.one may busy in
-      let kept = kept_then g table views id v s.before begun k s.at s.one may busy in
-      subst (λ (vs : List View). HeldWith g (words_at g words_now) vs events_after) (set-set views id w u)
-      (subst (λ (ws : List ℕ). HeldWith g ws (slice_set views_then id u) events_after)
+      let kept = kept_then g table views id v s.before begun k s.at s.one may busy (write-puts rule v.seen e place need i x) in
+      subst (λ (vs : List View). HeldWith rule g (words_at g words_now) vs events_after) (set-set views id w u)
+      (subst (λ (ws : List ℕ). HeldWith rule g ws (slice_set views_then id u) events_after)
       (sym (table_now g s.words s.whole views id v s.before begun k s.at s.one may busy checked s.held.0 (write-ready g e place need i x v) s.laid_out)) (
         kept-lent g words_after views_then id w blocks_now there kept,
-        events_then g table views id v s.before begun k s.at s.one may busy,
+        events_then g table views id v s.before begun k s.at s.one may busy (write-puts rule v.seen e place need i x),
       ))
 
   laid_now : AreLaidOut g words_now whole_now views_now
@@ -282,7 +284,7 @@ module _ (g : Geometry) (places : List Place) (views : List View) (id : ℕ) (v 
   legal_now : IsLegalWithoutCounts g events_after
   unfolding HeldWith
   legal_now =
-      let t : KeptTable g (words_at g words_now) views_now = held_now.0 in
+      let t : KeptTable rule g (words_at g words_now) views_now = held_now.0 in
       subst (IsLegalWithoutCounts g) held_now.1 (without-counts g _ (run-sound g (state_with g (words_at g words_now) t.errands t.events) t.made t.run)).legal
 
   -- whoever owned a block owns it still
@@ -445,7 +447,7 @@ module _ (g : Geometry) (places : List Place) (views : List View) (id : ℕ) (v 
 
   -- the word is written: the block's number for it is x, and the caller is in no call again; the step is seen where just the blocks before and behind it are out
   pub word-written :
-      (z : View) × HasAway g places (slice_set views id z) id z e place need (slice_set old i x) front back
+      (z : View) × HasAway rule g places (slice_set views id z) id z e place need (slice_set old i x) front back
       × ((n : ℕ) × TakesStep (begun_by e (write place need i x)) n (with_lent v (front ++ back)) (with_lent z (front ++ back)))
   unfolding HeldWith
   word-written =

@@ -17,6 +17,7 @@ use Rattle.live_heap.specs.declared.view.Standing.{Standing}
 use Rattle.live_heap.specs.declared.view.View.{View}
 use Rattle.live_heap.specs.Pieces.{AreLaidOut, AreLent, IsLent, IsOpened, PiecesHold, mark_of, mark_place}
 use Rattle.live_heap.specs.Views.{first_caller, first_part, gathered, other_callers, other_part, spent_view}
+use Rattle.live_heap.specs.Shelves.{AllowedWords}
 use Rattle.live_heap.proofs.Claiming.{unlike}
 use Rattle.live_heap.proofs.LentPlaces.{home-behind, none-out}
 use Rattle.live_heap.proofs.Seats.{joins, joins-events, splits, splits-events}
@@ -144,8 +145,8 @@ module _ (g : Geometry) (words : List ℕ) (places : List Place) (views : List V
 
 -- a pass that lays nothing and has nothing out may be cut in two
 pub splits-pieces :
-    (g : Geometry) (size id : ℕ) (v : View) → v.lays ≡ None → v.lent ≡ []
-    → region.Splits (PiecesHold g) size (mark_place g 0) id v (first_part v) (other_part v)
+    {rule : AllowedWords} (g : Geometry) (size id : ℕ) (v : View) → v.lays ≡ None → v.lent ≡ []
+    → region.Splits (PiecesHold rule g) size (mark_place g 0) id v (first_part v) (other_part v)
 splits-pieces g size id v settled home s good long at =
     let words : List ℕ = good.0 in
     let h = good.1 in
@@ -278,8 +279,8 @@ module _ (g : Geometry) (words : List ℕ) (places : List Place) (views : List V
 
 -- a pass that lays nothing and has nothing out may be taken in by another such one
 pub joins-pieces :
-    (g : Geometry) (size id : ℕ) (v : View) (other : ℕ) (w : View) → v.lays ≡ None → w.lays ≡ None → v.lent ≡ [] → w.lent ≡ []
-    → region.Joins (PiecesHold g) size (mark_place g 0) id v other w (gathered v w) spent_view
+    {rule : AllowedWords} (g : Geometry) (size id : ℕ) (v : View) (other : ℕ) (w : View) → v.lays ≡ None → w.lays ≡ None → v.lent ≡ [] → w.lent ≡ []
+    → region.Joins (PiecesHold rule g) size (mark_place g 0) id v other w (gathered v w) spent_view
 joins-pieces g size id v other w settled settled_other home home_other s good long =
     let words : List ℕ = good.0 in
     let h = good.1 in

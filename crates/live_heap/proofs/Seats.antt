@@ -24,6 +24,8 @@ use Rattle.live_heap.specs.declared.view.Standing.{Standing}
 use Rattle.live_heap.specs.declared.view.View.{View}
 use Rattle.live_heap.specs.Rule.{IsStanding, Stands, KeptTable, TableHolds, first_errands, state_with}
 use Rattle.live_heap.specs.Views.{idle_standing, idles_from, opening_view, first_part, first_caller, other_part, other_callers, gathered, spent_view, longer}
+use Rattle.live_heap.specs.Shelves.{AllowedWords}
+use Rattle.live_heap.proofs.ShelvesKept.{always-first}
 use Rattle.live_heap.proofs.Growing.{StartsWith, starts-self, starts-on, count-between}
 
 abbrev pair : ℕ → ℕ → ℕ × ℕ
@@ -55,10 +57,10 @@ first-nobody g caller beyond = rw (ltb-beyond caller g.callers beyond) refl
 
 -- a table with the words at opening, whose one seat stands for all callers
 pub opens :
-    (g : Geometry) (words : List ℕ) → IsChecked g → length words ≡ word_count g
+    {rule : AllowedWords} (g : Geometry) (words : List ℕ) → IsChecked g → length words ≡ word_count g
     → ((name : WordName) → word_in g words name ≡ (if exists g name then opening g name else 0))
-    → KeptTable g words (opening_view g ∷ [])
-opens g words checked whole are = record {
+    → KeptTable rule g words (opening_view g ∷ [])
+opens {rule} g words checked whole are = record {
   whole = whole;
   errands = first_errands g;
   nobody = first-nobody g;
@@ -66,6 +68,7 @@ opens g words checked whole are = record {
   made = 0;
   run = run;
   opened = first;
+  by_rule = always-first rule;
   place = λ caller. pair 0 caller;
   each = one;
 }
@@ -143,7 +146,7 @@ given_else : (id n j k : ℕ) → j ≢ id → given_at id n j k ≡ (j, k)
 given_else id n j zero ne = refl
 given_else id n j (suc k) ne = rw (ne_eqb j id ne) refl
 
-pub splits : {S : Type 0} (g : Geometry) (id : ℕ) (v : View) → Splits {S = S} (TableHolds g) id v (first_part v) (other_part v)
+pub splits : {rule : AllowedWords} {S : Type 0} (g : Geometry) (id : ℕ) (v : View) → Splits {S = S} (TableHolds rule g) id v (first_part v) (other_part v)
 splits g id v s h at = record {
   whole = h.whole;
   errands = h.errands;
@@ -152,6 +155,7 @@ splits g id v s h at = record {
   made = h.made;
   run = h.run;
   opened = h.opened;
+  by_rule = h.by_rule;
   place = place;
   each = λ j u is. ⊎_elim
       (λ (t : get_elem? (slice_set s.views id (first_part v)) j ≡ some u). ⊎_elim
@@ -256,7 +260,7 @@ taken_other id n other k = rw (eq-eqb other other refl) refl
 taken_else : (id n other j k : ℕ) → j ≢ other → taken_at id n other j k ≡ (j, k)
 taken_else id n other j k ne = rw (ne_eqb j other ne) refl
 
-pub joins : {S : Type 0} (g : Geometry) (id : ℕ) (v : View) (from : ℕ) (w : View) → Joins {S = S} (TableHolds g) id v from w (gathered v w) spent_view
+pub joins : {rule : AllowedWords} {S : Type 0} (g : Geometry) (id : ℕ) (v : View) (from : ℕ) (w : View) → Joins {S = S} (TableHolds rule g) id v from w (gathered v w) spent_view
 joins g id v from w s h at apart there = record {
   whole = h.whole;
   errands = h.errands;
@@ -265,6 +269,7 @@ joins g id v from w s h at apart there = record {
   made = h.made;
   run = h.run;
   opened = h.opened;
+  by_rule = h.by_rule;
   place = place;
   each = λ j u is. ⊎_elim
       (λ (t : (j ≡ from) × (spent_view ≡ u)). subst (Stands g h.errands h.events h.run.wins.list h.run.moves place j) t.1 (spent j))
@@ -349,13 +354,13 @@ joins g id v from w s h at apart there = record {
 
 -- neither changes the events
 pub splits-events :
-    {S : Type 0} (g : Geometry) (id : ℕ) (v : View) (s : State S View) (h : TableHolds g s) (at : get_elem? s.views id ≡ some v)
+    {rule : AllowedWords} {S : Type 0} (g : Geometry) (id : ℕ) (v : View) (s : State S View) (h : TableHolds rule g s) (at : get_elem? s.views id ≡ some v)
     → (splits {S = S} g id v s h at).events ≡ h.events
 unfolding splits
 splits-events g id v s h at = refl
 
 pub joins-events :
-    {S : Type 0} (g : Geometry) (id : ℕ) (v : View) (from : ℕ) (w : View) (s : State S View) (h : TableHolds g s) (at : get_elem? s.views id ≡ some v) (apart : ¬ (from ≡ id))
+    {rule : AllowedWords} {S : Type 0} (g : Geometry) (id : ℕ) (v : View) (from : ℕ) (w : View) (s : State S View) (h : TableHolds rule g s) (at : get_elem? s.views id ≡ some v) (apart : ¬ (from ≡ id))
     (there : get_elem? (slice_set s.views id (gathered v w)) from ≡ some w) → (joins {S = S} g id v from w s h at apart there).events ≡ h.events
 unfolding joins
 joins-events g id v from w s h at apart there = refl

@@ -24,7 +24,7 @@ use Rattle.errand_steps.specs.declared.told.Stepped.{Stepped}
 use Rattle.errand_steps.specs.declared.told.Stepped.TheVariants as step
 use Rattle.live_heap.specs.declared.block.Block.{Block}
 use Rattle.live_heap.proofs.CallsCounts.{never-idle}
-use Rattle.live_heap.specs.declared.heap.Heap.{Heap}
+use Rattle.live_heap.specs.Heaps.{HeapFields}
 use Rattle.live_heap.specs.declared.pass.Pass.{Pass}
 use Rattle.live_heap.specs.Answers.{HasBegun, HasStepped, progress_of, reply_of, with_lost}
 use Rattle.live_heap.specs.Calls.{HasCalled, IsCalling}
@@ -38,7 +38,7 @@ use Rattle.live_heap.proofs.CallsOne.{EndsNext, end-answers, ends-one, full-tell
 
 -- a call on a block that the pass owns is under way behind its begin
 pub begun-calling :
-    (h : Heap) (p q : Pass) (call : Call) → IsOf h p → IsIdle p.errand → OwnsFor p call → HasStarted p call → HasBegun p call q → IsCalling p call 0 q
+    (h : HeapFields) (p q : Pass) (call : Call) → IsOf h p → IsIdle p.errand → OwnsFor p call → HasStarted p call → HasBegun p call q → IsCalling p call 0 q
 begun-calling h p q (alloc words) of idle owns started since = alloc-calling p q words since idle started
 begun-calling h p q (free place need) of idle owns started since =
     other-calling p q (free place need) since idle (heap-at h p place need of owns.0) (λ words is. cc)
@@ -78,14 +78,14 @@ about-put caller place shelf need (putting p n s) es so = subst (λ k. Contains 
 about-put caller place shelf need at es so = absurd so
 
 put-home :
-    (h : Heap) (first p : Pass) (steps place : ℕ) (need : Need) (shelf : ℕ) → IsOf h p → IsCalling first (put place need shelf) steps p → IsHome p place
+    (h : HeapFields) (first p : Pass) (steps place : ℕ) (need : Need) (shelf : ℕ) → IsOf h p → IsCalling first (put place need shelf) steps p → IsHome p place
 put-home h first p steps place need shelf of calling = λ n b found there.
     of.apart n b found
     (subst (Contains (concerned p.errand.point)) (sym there)
     (about-put first.errand.caller place shelf need (stage_of p.errand.point) calling.added calling.under_way))
 
 pub steps-tell :
-    (h : Heap) (first : Pass) (call : Call) (steps : ℕ) (p q : Pass) (end : Ending Block) → IsOf h first → IsOf h p → IsOf h q
+    (h : HeapFields) (first : Pass) (call : Call) (steps : ℕ) (p q : Pass) (end : Ending Block) → IsOf h first → IsOf h p → IsOf h q
     → IsCalling first call steps p → HasStepped p q (step.Done end) → EndTells call end q
 steps-tell h first call steps p q (ending.Given block) was at still calling stepped =
     given-owns first call steps q h was still block (steps-end first call steps p q (ending.Given block) calling stepped)

@@ -11,7 +11,7 @@ use Rattle.errand_steps.specs.Begins.{IsBusy}
 use Rattle.errand_steps.specs.Calls.{Call, alloc, free, write, read, put, take}
 use Rattle.step_machine.specs.Keeping.{LeavesPlace}
 use Rattle.live_heap.specs.declared.block.Block.{Block}
-use Rattle.live_heap.specs.declared.heap.Heap.{Heap}
+use Rattle.live_heap.specs.Heaps.{HeapFields}
 use Rattle.live_heap.specs.declared.pass.Pass.{Pass}
 use Rattle.live_heap.specs.Answers.{HasStepped, IsTried, reply_of}
 use Rattle.live_heap.specs.Calls.{HasCalled, IsCalling}
@@ -24,7 +24,7 @@ use Rattle.live_heap.proofs.Holding.{brought-hand, ended-hand, holds-all, idle-f
 use Rattle.live_heap.proofs.LawsKept.{called-given, called-got}
 use Rattle.live_heap.proofs.StepByStep.{steps-end, steps-on, steps-tell}
 
-module _ (h : Heap) (p q : Pass) (blocks : List Block) (of : IsOf h p) (held : Holds p blocks) (still : IsOf h q) where
+module _ (h : HeapFields) (p q : Pass) (blocks : List Block) (of : IsOf h p) (held : Holds p blocks) (still : IsOf h q) where
   -- a put that found a full shelf has its block back
   full-hand :
       (call : Call) (steps : ℕ) (block : Block) (found : ℕ) → All (λ block. LeavesPlace call block.place) blocks
@@ -67,7 +67,7 @@ module _ (h : Heap) (p q : Pass) (blocks : List Block) (of : IsOf h p) (held : H
             record { first = p; of = of; holds = held; call = call; steps = 0; calling = calling; tried = tried; leaves = leaves };
       }
 
-module _ (h : Heap) (p q : Pass) (blocks : List Block) (hand : IsHand h p blocks) (busy : IsBusy p.errand) (still : IsOf h q) where
+module _ (h : HeapFields) (p q : Pass) (blocks : List Block) (hand : IsHand h p blocks) (busy : IsBusy p.errand) (still : IsOf h q) where
   -- a call under way waits on behind a step that doesn't end it
   waits-on : (told : Stepped Block) → HasStepped p q told → ¬ IsDone told → IsHand h q blocks
   waits-on told stepped undone =

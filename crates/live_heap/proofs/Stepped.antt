@@ -12,7 +12,7 @@ use Rattle.errand_steps.specs.Told.{GivesBack}
 use Rattle.step_machine.specs.Moments.{IsMoment, IsServed}
 use Rattle.step_machine.proofs.MomentAnswers.{settle-caller}
 use Rattle.live_heap.specs.declared.block.Block.{Block}
-use Rattle.live_heap.specs.declared.heap.Heap.{Heap}
+use Rattle.live_heap.specs.Heaps.{HeapFields}
 use Rattle.live_heap.specs.declared.pass.Pass.{Pass}
 use Rattle.live_heap.specs.Answers.{HasStepped, block_need, block_place, progress_of}
 use Rattle.live_heap.specs.Passes.{IsOf, IsOneStep, accesses_of, seen, view}
@@ -23,12 +23,12 @@ use Rattle.live_heap.specs.Sights.{AreOwned, IsSightOf, TakesStep, found_in}
 use Rattle.live_heap.proofs.Begun.{of-laid}
 
 -- the pass may make a step of its errand
-pub of-sight : (h : Heap) (p : Pass) → IsOf h p → IsSightOf h.layout (view p) p.errand
+pub of-sight : (h : HeapFields) (p : Pass) → IsOf h p → IsSightOf h.layout (view p) p.errand
 of-sight h p of = record { before = of.before; one = of.one; begun = of.begun; laid = of-laid h p of; apart = of.apart }
 
 -- the pass stays one of its heap behind a step
 pub still-of :
-    (h : Heap) (p q : Pass) (n : ℕ) → IsOf h p → q.seat.region ≡ p.seat.region → q.seat.me.1 ≡ p.seat.me.1 → q.out ≡ p.out
+    (h : HeapFields) (p q : Pass) (n : ℕ) → IsOf h p → q.seat.region ≡ p.seat.region → q.seat.me.1 ≡ p.seat.me.1 → q.out ≡ p.out
     → q.errand ≡ settle_of p.errand (found_in p.errand n) → TakesStep p.errand n (view p) (view q) → IsOf h q
 still-of h p q n of table empty out is s =
     let x = found_in p.errand n in

@@ -30,7 +30,7 @@ use Rattle.call_events.specs.UnderWay.{IsAboutBlock}
 use Rattle.sound_state.specs.Runs.{MayBegin}
 use Rattle.errand_steps.proofs.BegunErrands.{idle-is}
 use Rattle.live_heap.specs.declared.block.Block.{Block}
-use Rattle.live_heap.specs.declared.heap.Heap.{Heap}
+use Rattle.live_heap.specs.Heaps.{HeapFields}
 use Rattle.live_heap.specs.declared.pass.Pass.{Pass}
 use Rattle.live_heap.specs.Answers.{HasStepped, block_need, block_place, reply_of}
 use Rattle.live_heap.specs.Calls.{HasCalled, IsCalling}
@@ -127,13 +127,13 @@ read-answers e place n i x =
 
 -- a pass in no call may make the step of a call that it may begin
 pub call-sight :
-    (h : Heap) (p : Pass) (call : Call) → IsOf h p → IsIdle p.errand → MayBegin (after_events (seen p)) p.errand.caller call → CallsHome p call
+    (h : HeapFields) (p : Pass) (call : Call) → IsOf h p → IsIdle p.errand → MayBegin (after_events (seen p)) p.errand.caller call → CallsHome p call
     → IsSightOf h.layout (view p) (begun_by p.errand call)
 call-sight h p call of idle may home = of-sight h (in_call p call) (begins-of h p (in_call p call) call of idle may home refl refl refl)
 
 -- a call that ends with its one step
 module _
-    (h : Heap) (p q : Pass) (call : Call) (n : ℕ) (end : Ending Block) (of : IsOf h p) (idle : IsIdle p.errand)
+    (h : HeapFields) (p q : Pass) (call : Call) (n : ℕ) (end : Ending Block) (of : IsOf h p) (idle : IsIdle p.errand)
     (may : MayBegin (after_events (seen p)) p.errand.caller call) (home : CallsHome p call)
     (is : q.errand ≡ settle_of (begun_by p.errand call) (found_in (begun_by p.errand call) n))
     (s : TakesStep (begun_by p.errand call) n (view p) (view q)) where
@@ -151,14 +151,14 @@ module _
   }
 
 -- a call has ended with its one step in this ending, and its pass is of the heap still
-pub record EndsAtOnce (h : Heap) (p : Pass) (call : Call) (end : Ending Block) (q : Pass) : Type 0 where
+pub record EndsAtOnce (h : HeapFields) (p : Pass) (call : Call) (end : Ending Block) (q : Pass) : Type 0 where
   pub of : IsOf h q
   pub calling : IsCalling p call 0 (in_call p call)
   pub stepped : HasStepped (in_call p call) q (step.Done end)
   pub called : HasCalled p call 0 (reply_of end) q
 
 pub ends-at_once :
-    (h : Heap) (p q : Pass) (call : Call) (n : ℕ) (end : Ending Block) → IsOf h p → IsIdle p.errand
+    (h : HeapFields) (p q : Pass) (call : Call) (n : ℕ) (end : Ending Block) → IsOf h p → IsIdle p.errand
     → MayBegin (after_events (seen p)) p.errand.caller call → CallsHome p call → IsAboutBlock p.errand.geometry call → ((words : ℕ) → call ≢ alloc words)
     → q.errand ≡ settle_of (begun_by p.errand call) (found_in (begun_by p.errand call) n)
     → Done (reply_of end) ≡ answer_of (begun_by p.errand call) (found_in (begun_by p.errand call) n)

@@ -12,7 +12,7 @@ use Rattle.errand_steps.specs.Begins.{IsIdle}
 use Rattle.call_events.specs.Made.{LeadsBy}
 use Rattle.owned_words.proofs.Concerned.{idle-concerned}
 use Rattle.step_machine.specs.Cores.{OwnsAfter}
-use Rattle.live_heap.specs.declared.heap.Heap.{Heap}
+use Rattle.live_heap.specs.Heaps.{HeapFields}
 use Rattle.live_heap.specs.declared.pass.Pass.{Pass}
 use Rattle.live_heap.specs.declared.view.Lent.{Lent}
 use Rattle.live_heap.specs.declared.view.View.{View}
@@ -27,7 +27,7 @@ use Rattle.live_heap.proofs.WholeFill.{has-written, writes-lead}
 
 -- a pass in no call may take the words of its block out
 pub lends-own :
-    (h : Heap) (p : Pass) (place : ℕ) (need : Need) → IsOf h p → IsIdle p.errand → OwnsAt p place need → MayLend (view p) p.errand place need
+    (h : HeapFields) (p : Pass) (place : ℕ) (need : Need) → IsOf h p → IsIdle p.errand → OwnsAt p place need → MayLend (view p) p.errand place need
 lends-own h p place need of idle owned = record {
   before = of.before;
   one = of.one;
@@ -79,7 +79,7 @@ pub taken-is :
 taken-is p place need numbers seat region id me =
     λ i. record { seat = record seat { region = sym region i; id = sym id i; me = sym me i }; errand = p.errand; out = p.out + 1 }
 
-module _ (h : Heap) (p : Pass) (place : ℕ) (need : Need) (old : List ℕ) (of : IsOf h p) (idle : IsIdle p.errand) (owned : OwnsAt p place need) where
+module _ (h : HeapFields) (p : Pass) (place : ℕ) (need : Need) (old : List ℕ) (of : IsOf h p) (idle : IsIdle p.errand) (owned : OwnsAt p place need) where
   block : Lent
   block = lent_block place need old
 
@@ -135,7 +135,7 @@ abbrev pub parted : Pass → List Lent → Pass
 parted p blocks = record { seat = record p.seat { me = (with_lent (view p) blocks, []) }; errand = p.errand; out = p.out - 1 }
 
 -- a pass of a heap, in no call, which has a block's words out
-module _ (h : Heap) (p : Pass) (of : IsOf h p) (front : List Lent) (b : Lent) (back : List Lent) (split : (view p).lent ≡ front ++ b ∷ back) where
+module _ (h : HeapFields) (p : Pass) (of : IsOf h p) (front : List Lent) (b : Lent) (back : List Lent) (split : (view p).lent ≡ front ++ b ∷ back) where
   stood : (m : ℕ) (x : Lent) → get_elem? (front ++ back) m ≡ some x → get_elem? (view p).lent (skip (length front) m) ≡ some x
   stood m x at = subst (λ (l : List Lent). get_elem? l (skip (length front) m) ≡ some x) (sym split) (skip-at front b back m x at)
 
@@ -206,7 +206,7 @@ module _ (h : Heap) (p : Pass) (of : IsOf h p) (front : List Lent) (b : Lent) (b
   }
 
 -- the pass owns a block whose words are out with it
-pub taken-owned : (h : Heap) (p : Pass) (place : ℕ) (need : Need) → IsOf h p → IsTaken p place need → OwnsAfter (seen p) p.errand.caller place need
+pub taken-owned : (h : HeapFields) (p : Pass) (place : ℕ) (need : Need) → IsOf h p → IsTaken p place need → OwnsAfter (seen p) p.errand.caller place need
 taken-owned h p place need of (n, b, at, is-place, is-need) =
     subst (λ m. OwnsAfter (seen p) p.errand.caller place m) is-need
     (subst (λ k. OwnsAfter (seen p) p.errand.caller k b.need) is-place (of.mine n b at))
@@ -221,7 +221,7 @@ carried me = carried_in me.1
 
 -- a seat that carries the words of a block that is out with its pass may give them back
 pub may-return :
-    (h : Heap) (p : Pass) (place : ℕ) (need : Need) (ns : List ℕ) (me : Me View) → IsOf h p → IsIdle p.errand → IsTaken p place need
+    (h : HeapFields) (p : Pass) (place : ℕ) (need : Need) (ns : List ℕ) (me : Me View) → IsOf h p → IsIdle p.errand → IsTaken p place need
     → length ns ≡ usable_words need → ((i : ℕ) → i < usable_words need → slice_index ns i < 2 ^ 64)
     → me ≡ (view p, (place + 1, laids ns) ∷ []) → MayReturn me p.errand place need ns
 may-return h p place need ns me of idle (n, b, at, is-place, is-need) long small is =
@@ -237,7 +237,7 @@ seat-at : (s t : Seat View) → t.region ≡ s.region → t.id ≡ s.id → t.me
 seat-at s t region id empty = λ i. record s { region = sym region i; id = sym id i; me = (t.me.0, sym empty i) }
 
 -- a pass has the words of a block home again
-pub record IsBack (h : Heap) (p : Pass) (place : ℕ) (need : Need) (numbers : List ℕ) (q : Pass) : Type 0 where
+pub record IsBack (h : HeapFields) (p : Pass) (place : ℕ) (need : Need) (numbers : List ℕ) (q : Pass) : Type 0 where
   pub of : IsOf h q
   pub idle : IsIdle q.errand
   pub owned : OwnsAt q place need
@@ -248,7 +248,7 @@ pub record IsBack (h : Heap) (p : Pass) (place : ℕ) (need : Need) (numbers : L
   pub accesses : accesses q ≡ usable_words need + accesses p
 
 pub comes-back :
-    (h : Heap) (p : Pass) (place : ℕ) (need : Need) (numbers : List ℕ) (seat : Seat View) → IsOf h p → IsIdle p.errand
+    (h : HeapFields) (p : Pass) (place : ℕ) (need : Need) (numbers : List ℕ) (seat : Seat View) → IsOf h p → IsIdle p.errand
     → HasReturned p.errand place need numbers (view p) seat.me → length numbers ≡ usable_words need
     → ((i : ℕ) → i < usable_words need → slice_index numbers i < 2 ^ 64) → seat.region ≡ p.seat.region → seat.id ≡ p.seat.id
     → IsBack h p place need numbers (record { seat = seat; errand = p.errand; out = p.out - 1 })

@@ -28,7 +28,7 @@ use Rattle.errand_steps.proofs.StayLemmas.{ended_answer, ended_errand}
 use Rattle.sound_state.specs.Runs.{MayBegin}
 use Rattle.errand_steps.proofs.BegunErrands.{idle-is}
 use Rattle.live_heap.specs.declared.block.Block.{Block}
-use Rattle.live_heap.specs.declared.heap.Heap.{Heap}
+use Rattle.live_heap.specs.Heaps.{HeapFields}
 use Rattle.live_heap.specs.declared.pass.Pass.{Pass}
 use Rattle.live_heap.specs.Answers.{reply_in, reply_of}
 use Rattle.live_heap.specs.Calls.{GoesOn, IsCalling}
@@ -110,7 +110,7 @@ unfolding next_of
 ends-next p o x ending (e, left, ends) = leaves-by (settle_block_of p x) e o left ∙ ends o
 
 module _
-    (h : Heap) (start : Pass) (tries : ℕ) (p : BlockPoint) (o : Continuation) (x : Find) (r : Pass)
+    (h : HeapFields) (start : Pass) (tries : ℕ) (p : BlockPoint) (o : Continuation) (x : Find) (r : Pass)
     (w : HasWalked h start tries p o x r) where
   abbrev before : Pass
   before = stands_at (record { seat = w.seat; errand = r.errand; out = r.out }) p o
@@ -165,7 +165,7 @@ module _
 module _
     (p : Pass) (call : Call) (q : Pass) (first : BlockPoint) (o : Continuation) (same : stands_at q first o ≡ in_call p call) where
   pub walk-begins :
-      (h : Heap) (tries : ℕ) → IsOf h p → IsIdle p.errand → MayBegin (after_events (seen p)) p.errand.caller call → CallsHome p call → IsIdle q.errand
+      (h : HeapFields) (tries : ℕ) → IsOf h p → IsIdle p.errand → MayBegin (after_events (seen p)) p.errand.caller call → CallsHome p call → IsIdle q.errand
       → IsErrand (in_call p call).errand → 0 < tries → LinksNone first → IsWalking h (stands_at q first o) tries first o q
   walk-begins h tries of idle may home idle_then rule some links_none =
       let still : IsOf h (stands_at q first o) = subst (IsOf h) (sym same) (begins-of h p (in_call p call) call of idle may home refl refl refl) in
@@ -180,7 +180,7 @@ module _
 
   -- a call that has begun has gone on as it did from its first point
   pub walk-goes :
-      (h : Heap) (tries : ℕ) (told : Option (Ending Block)) (r : Pass) → IsCalling p call 0 (in_call p call)
+      (h : HeapFields) (tries : ℕ) (told : Option (Ending Block)) (r : Pass) → IsCalling p call 0 (in_call p call)
       → HasGone h (stands_at q first o) tries told r → GoesOn p call 0 (in_call p call) tries (reply_in told) r
   walk-goes h tries told r calling gone =
       subst (λ b. GoesOn p call 0 b tries (reply_in told) r) same

@@ -14,7 +14,7 @@ use Rattle.errand_steps.specs.Begins.{IsIdle}
 use Rattle.errand_steps.specs.Calls.{Call, begun_by, write}
 use Rattle.call_events.specs.Made.{LeadsBy, answered, wrote}
 use Rattle.step_machine.specs.Cores.{OwnsAfter}
-use Rattle.live_heap.specs.declared.heap.Heap.{Heap}
+use Rattle.live_heap.specs.Heaps.{HeapFields}
 use Rattle.live_heap.specs.declared.pass.Pass.{Pass}
 use Rattle.live_heap.specs.declared.view.Lent.{Lent}
 use Rattle.live_heap.specs.declared.view.View.{View}
@@ -34,7 +34,7 @@ at_view p v = record { seat = record p.seat { me = (v, []) }; errand = p.errand;
 
 -- one write of a pass is a call on a word
 pub one-write :
-    (h : Heap) (p : Pass) (place : ℕ) (need : Need) (i x n : ℕ) (u : View) → IsOf h p → IsIdle p.errand → OwnsAt p place need
+    (h : HeapFields) (p : Pass) (place : ℕ) (need : Need) (i x n : ℕ) (u : View) → IsOf h p → IsIdle p.errand → OwnsAt p place need
     → i < usable_words need → x < 2 ^ 64 → TakesStep (begun_by p.errand (write place need i x)) n (view p) u
     → CallsOnWord h p (write place need i x) reply.Wrote (at_view p u)
 one-write h p place need i x n u of idle owned word small step =
@@ -48,7 +48,7 @@ one-write h p place need i x n u of idle owned word small step =
 
 -- the pass owns the block still
 pub write-keeps :
-    (h : Heap) (p q : Pass) (place : ℕ) (need : Need) (i x other : ℕ) (had : Need) → CallsOnWord h p (write place need i x) reply.Wrote q
+    (h : HeapFields) (p q : Pass) (place : ℕ) (need : Need) (i x other : ℕ) (had : Need) → CallsOnWord h p (write place need i x) reply.Wrote q
     → OwnsAt p other had → OwnsAt q other had
 write-keeps h p q place need i x other had one (owned, home) =
     let called = one.called in
@@ -61,7 +61,7 @@ write-keeps h p q place need i x other had one (owned, home) =
 
 -- writes of a pass lead from it to the pass with the view that they led to
 pub writes-lead :
-    (h : Heap) (p : Pass) (place : ℕ) (need : Need) (i : ℕ) (numbers : List ℕ) (w : View) → IsOf h p → IsIdle p.errand
+    (h : HeapFields) (p : Pass) (place : ℕ) (need : Need) (i : ℕ) (numbers : List ℕ) (w : View) → IsOf h p → IsIdle p.errand
     → OwnsAt p place need → i + length numbers ≤ usable_words need
     → ((k : ℕ) → k < length numbers → slice_index numbers k < 2 ^ 64) → WritesOn p.errand place need (view p) i numbers w
     → LeadsBy (CallsOnWord h) p (writes_from place need i numbers) (at_view p w)
@@ -97,7 +97,7 @@ pub wrote-counted : (place : ℕ) (need : Need) (from count : ℕ) → writes_fr
 wrote-counted place need from count = writes-counted place need (λ i. (from + i) % 2 ^ 64) 0 count
 
 -- a pass that wrote words of a block, so many, is of its heap still, in no call, owns what it owned, and has the same blocks' words out
-pub record HasFilled (h : Heap) (p : Pass) (count : ℕ) (q : Pass) : Type 0 where
+pub record HasFilled (h : HeapFields) (p : Pass) (count : ℕ) (q : Pass) : Type 0 where
   pub of : IsOf h q
   pub idle : IsIdle q.errand
   pub keeps : (other : ℕ) (had : Need) → OwnsAt p other had → OwnsAt q other had
@@ -105,7 +105,7 @@ pub record HasFilled (h : Heap) (p : Pass) (count : ℕ) (q : Pass) : Type 0 whe
   pub accesses : accesses q ≡ count + accesses p
 
 pub has-written :
-    (h : Heap) (p q : Pass) (place : ℕ) (need : Need) (i : ℕ) (numbers : List ℕ) → IsOf h p → IsIdle p.errand
+    (h : HeapFields) (p q : Pass) (place : ℕ) (need : Need) (i : ℕ) (numbers : List ℕ) → IsOf h p → IsIdle p.errand
     → LeadsBy (CallsOnWord h) p (writes_from place need i numbers) q → HasFilled h p (length numbers) q
 has-written h p q place need i [] of idle same =
     subst (HasFilled h p 0) (sym same) (record { of = of; idle = idle; keeps = λ other had owned. owned; lent = refl; accesses = omega arith })
@@ -120,7 +120,7 @@ has-written h p q place need i (x ∷ xs) of idle (next, one, on) =
     }
 
 pub has-filled :
-    (h : Heap) (p q : Pass) (place : ℕ) (need : Need) (from count : ℕ) → IsOf h p → IsIdle p.errand
+    (h : HeapFields) (p q : Pass) (place : ℕ) (need : Need) (from count : ℕ) → IsOf h p → IsIdle p.errand
     → LeadsBy (CallsOnWord h) p (wrote place need from count) q → HasFilled h p count q
 has-filled h p q place need from count of idle on =
     let by = subst (λ ms. LeadsBy (CallsOnWord h) p ms q) (sym (wrote-counted place need from count)) on in
@@ -128,10 +128,10 @@ has-filled h p q place need from count of idle on =
 
 -- the usable words of a block that a pass owns lie in the region
 pub own-within :
-    (h : Heap) (p : Pass) (place : ℕ) (need : Need) → IsOf h p → OwnsAfter (seen p) p.errand.caller place need
-    → IsNeed need × (place + 1 + usable_words need ≤ h.table.shared.id.words)
+    (h : HeapFields) (p : Pass) (place : ℕ) (need : Need) → IsOf h p → OwnsAfter (seen p) p.errand.caller place need
+    → IsNeed need × (place + 1 + usable_words need ≤ h.region.words)
 own-within h p place need of owned =
     let own = heap-at h p place need of owned in
     let within : place + 1 + usable_words need ≤ arena_words h.layout =
     subst (λ g. place + 1 + usable_words need ≤ arena_words g) (of-laid h p of) (payload-end p.errand.geometry place need own) in
-    (own.0, omega (arith, within, arena-placed h.layout, h.laid.0))
+    (own.0, omega (arith, within, arena-placed h.layout, h.long))

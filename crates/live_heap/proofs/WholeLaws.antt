@@ -9,7 +9,7 @@ use Rattle.errand_steps.specs.Calls.{Call, alloc}
 use Rattle.step_machine.specs.Cores.{OwnsAfter}
 use Rattle.step_machine.specs.Keeping.{Hands, LeavesPlace}
 use Rattle.step_machine.proofs.MomentAnswers.{moment-meant, moment-owns}
-use Rattle.live_heap.specs.declared.heap.Heap.{Heap}
+use Rattle.live_heap.specs.Heaps.{HeapFields}
 use Rattle.live_heap.specs.declared.pass.Pass.{Pass}
 use Rattle.live_heap.specs.Passes.{OwnsAt, seen}
 use Rattle.live_heap.proofs.LawsKept.{called-adds, ended-spares, given-apart, got-apart, owns-on, stays-home}
@@ -19,7 +19,7 @@ abbrev HasAt : Pass → ℕ → Need → Type 0
 HasAt p place need = OwnsAfter (seen p) p.errand.caller place need
 
 pub pass-keeps :
-    (h k : Heap) (p q : Pass) (call : Call) (answer : Reply) (place : ℕ) (need : Need)
+    (h k : HeapFields) (p q : Pass) (call : Call) (answer : Reply) (place : ℕ) (need : Need)
     → IsWhole h p call answer k q → LeavesPlace call place → HasAt p place need → HasAt q place need
 pass-keeps h k p q call answer place need (by_steps ended, may, same, is) leaves owns =
     let called = ended.1 in
@@ -31,7 +31,7 @@ pass-keeps h k p q call answer place need (at_once words is_alloc spent once, ma
 
 -- and its words stay home
 pub whole-keeps :
-    (h k : Heap) (p q : Pass) (call : Call) (answer : Reply) (place : ℕ) (need : Need)
+    (h k : HeapFields) (p q : Pass) (call : Call) (answer : Reply) (place : ℕ) (need : Need)
     → IsWhole h p call answer k q → LeavesPlace call place → OwnsAt p place need → OwnsAt q place need
 whole-keeps h k p q call answer place need (by_steps ended, may, same, is) leaves owns =
     (pass-keeps h k p q call answer place need (by_steps ended, may, same, is) leaves owns.0, stays-home p q place ended.1.lent owns.1)
@@ -39,7 +39,7 @@ whole-keeps h k p q call answer place need (at_once words is_alloc spent once, m
     subst (λ (r : Pass). OwnsAt r place need) (sym once.same) owns
 
 pub pass-hands :
-    (h k : Heap) (p q : Pass) (call : Call) (answer : Reply) (place : ℕ) (need : Need)
+    (h k : HeapFields) (p q : Pass) (call : Call) (answer : Reply) (place : ℕ) (need : Need)
     → IsWhole h p call answer k q → Hands answer place need → HasAt q place need
 pass-hands h k p q call (reply.Given at n) place need (by_steps ended, may, same, is) hands =
     let called = ended.1 in
@@ -59,7 +59,7 @@ pass-hands h k p q call (reply.Got at n) place need (at_once words is_alloc spen
 pass-hands h k p q call answer place need (at_once words is_alloc spent once, may, same, is) hands = absurd hands
 
 pub pass-apart :
-    (h k : Heap) (p q : Pass) (call : Call) (answer : Reply) (place other : ℕ) (need had : Need)
+    (h k : HeapFields) (p q : Pass) (call : Call) (answer : Reply) (place other : ℕ) (need had : Need)
     → IsWhole h p call answer k q → Hands answer place need → HasAt p other had → other ≢ place
 pass-apart h k p q call (reply.Given at n) place other need had (by_steps ended, may, same, is) hands owns =
     subst (λ k. other ≢ k) hands.0 (given-apart k.layout p.errand.caller at other had n call (seen p) (seen q) ended.1.added is.0.served.legal
@@ -73,6 +73,6 @@ pass-apart h k p q call (reply.Got at n) place other need had (at_once words is_
 pass-apart h k p q call answer place other need had (at_once words is_alloc spent once, may, same, is) hands owns = absurd hands
 
 pub pass-serves :
-    (h k : Heap) (p q : Pass) (words place : ℕ) (need : Need) → IsWhole h p (alloc words) (reply.Given place need) k q → need ≡ need_of words
+    (h k : HeapFields) (p q : Pass) (words place : ℕ) (need : Need) → IsWhole h p (alloc words) (reply.Given place need) k q → need ≡ need_of words
 pass-serves h k p q words place need (by_steps ended, may, same, is) = ended.1.ended.serves
 pass-serves h k p q words place need (at_once other is_alloc spent once, may, same, is) = absurd (cc)

@@ -21,7 +21,7 @@ use Rattle.errand_steps.specs.declared.reply.Reply.TheVariants as reply
 use Rattle.errand_steps.specs.Calls.{Call, alloc, free, put, read, take, write}
 use Rattle.errand_steps.specs.tables.CallStage.{StageOfCall, freed, given}
 use Rattle.call_events.specs.Stages.{stage_of}
-use Rattle.live_heap.specs.declared.heap.Heap.{Heap}
+use Rattle.live_heap.specs.Heaps.{HeapFields}
 use Rattle.live_heap.specs.declared.pass.Pass.{Pass}
 use Rattle.live_heap.specs.Answers.{IsContents}
 use Rattle.live_heap.specs.Calls.{HasCalled, IsCalling}
@@ -80,7 +80,7 @@ changed-word p q (take shelf) (reply.Got at need) place i v changes leaves is = 
 changed-word p q call answer place i v changes leaves is = same-word p q place i v (changes place) is
 
 pub called-word :
-    (h : Heap) (p q : Pass) (call : Call) (steps : ℕ) (answer : Reply) (place i v : ℕ) → IsOf h q → HasCalled p call steps answer q
+    (h : HeapFields) (p q : Pass) (call : Call) (steps : ℕ) (answer : Reply) (place i v : ℕ) → IsOf h q → HasCalled p call steps answer q
     → LeavesWord call place i → word_in p place i ≡ Some v → word_in q place i ≡ Some v
 called-word h p q call steps answer place i v of called =
     changed-word p q call answer place i v (called-changes h p q call steps answer of called)
@@ -93,14 +93,14 @@ so_far-word p q (free at need) freed place i v changes leaves is = same-word p q
 so_far-word p q call at place i v changes leaves is = same-word p q place i v (changes place) is
 
 pub calling-word :
-    (h : Heap) (p q : Pass) (call : Call) (steps place i v : ℕ) → IsOf h q → IsCalling p call steps q → LeavesWord call place i
+    (h : HeapFields) (p q : Pass) (call : Call) (steps place i v : ℕ) → IsOf h q → IsCalling p call steps q → LeavesWord call place i
     → word_in p place i ≡ Some v → word_in q place i ≡ Some v
 calling-word h p q call steps place i v of calling =
     so_far-word p q call (stage_of q.errand.point) place i v (calling-changes h p q call steps of calling)
 
 -- a word that is written is there
 pub wrote-word :
-    (h : Heap) (p q : Pass) (place : ℕ) (need : Need) (i v steps : ℕ) → IsOf h q → HasCalled p (write place need i v) steps reply.Wrote q
+    (h : HeapFields) (p q : Pass) (place : ℕ) (need : Need) (i v steps : ℕ) → IsOf h q → HasCalled p (write place need i v) steps reply.Wrote q
     → word_in q place i ≡ Some v
 wrote-word h p q place need i v steps of called =
     let caller = p.errand.caller in
@@ -122,7 +122,7 @@ wrote-word h p q place need i v steps of called =
 
 -- a read finds the word that was written
 pub read-word :
-    (h : Heap) (p q : Pass) (place : ℕ) (need : Need) (i steps word v : ℕ) → IsOf h q → HasCalled p (read place need i) steps (reply.Word word) q
+    (h : HeapFields) (p q : Pass) (place : ℕ) (need : Need) (i steps word v : ℕ) → IsOf h q → HasCalled p (read place need i) steps (reply.Word word) q
     → IsContents q place i word → word_in p place i ≡ Some v → word ≡ v
 read-word h p q place need i steps word v of called contents is =
     let there = word-found (owned_in q place) i v (called-word h p q (read place need i) steps (reply.Word word) place i v of called tt is) in

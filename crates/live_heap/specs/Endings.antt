@@ -14,7 +14,7 @@ use Rattle.sound_state.specs.Moves.{is_step_of}
 use Rattle.sound_state.specs.Sums.{callers_sum}
 use Rattle.call_bounds.specs.Wins.{Win}
 use Rattle.step_machine.specs.Cores.{CoreFields, IsCore, errand_at, no_errand}
-use Rattle.live_heap.specs.declared.heap.Heap.{Heap}
+use Rattle.live_heap.specs.Heaps.{HeapFields}
 use Rattle.live_heap.specs.declared.pass.Pass.{Pass}
 use Rattle.live_heap.specs.declared.view.Standing.{Standing}
 use Rattle.live_heap.specs.declared.view.View.{View}
@@ -69,12 +69,12 @@ pub record IsAtRest (g : Geometry) (v : View) : Type 0 where
   pub idle : All (λ x. IsIdle x.errand) v.callers
 
 -- these are all passes of the heap, each in no call
-pub record AreAllIdle (h : Heap) (passes : List Pass) : Type 0 where
+pub record AreAllIdle (h : HeapFields) (passes : List Pass) : Type 0 where
   pub all : length passes ≡ h.layout.callers
   pub each : All (λ p. IsOf h p × IsIdle p.errand) passes
 
 -- the heap was closed with these passes
-pub record HasClosed (h : Heap) (passes : List Pass) (c : ClosedFields) : Type 0 where
+pub record HasClosed (h : HeapFields) (passes : List Pass) (c : ClosedFields) : Type 0 where
   pub heap : c.geometry ≡ h.layout
   pub each : All (HasTakenIn c) passes
 
@@ -99,8 +99,8 @@ pub record IsIn (v : View) (p : Pass) : Type 0 where
   pub counted : standing.accesses ≡ accesses p
 
 -- all passes are taken in by the seat, and won and lost so many exchanges together
-pub record IsGathered (h : Heap) (passes : List Pass) (seat : Seat View) (won lost : ℕ) : Type 0 where
-  pub table : seat.region ≡ h.table.shared.id
+pub record IsGathered (h : HeapFields) (passes : List Pass) (seat : Seat View) (won lost : ℕ) : Type 0 where
+  pub table : seat.region ≡ h.region
   pub empty : seat.me.1 ≡ []
   pub each : All (IsIn seat.me.0) passes
   pub all : length seat.me.0.callers ≡ h.layout.callers

@@ -20,7 +20,7 @@ use Rattle.call_bounds.specs.StepsLeft.{steps_left}
 use Rattle.live_heap.specs.declared.answers.AllocAnswer.{AllocAnswer}
 use Rattle.live_heap.specs.declared.answers.FreeAnswer.{FreeAnswer}
 use Rattle.live_heap.specs.declared.block.Block.{Block}
-use Rattle.live_heap.specs.declared.heap.Heap.{Heap}
+use Rattle.live_heap.specs.Heaps.{HeapFields}
 use Rattle.live_heap.specs.declared.pass.Pass.{Pass}
 use Rattle.live_heap.specs.declared.view.View.{View}
 use Rattle.live_heap.specs.Answers.{alloc_answer_in, free_answer_in, reply_in, reply_of}
@@ -38,7 +38,7 @@ HasFound e x v w =
     (n : ℕ) × TakesStep e n v w × (settle_of e x ≡ settle_of e (found_in e n)) × (answer_of e x ≡ answer_of e (found_in e n))
 
 -- a call that is given so many tries has gone on from p to q, and has so many of them left
-pub record IsGoing (h : Heap) (p : Pass) (tries left : ℕ) (q : Pass) : Type 0 where
+pub record IsGoing (h : HeapFields) (p : Pass) (tries left : ℕ) (q : Pass) : Type 0 where
   pub busy : IsBusy q.errand
   pub grows : Begins (seen p) (seen q)
   pub calls :
@@ -50,17 +50,17 @@ pub record IsGoing (h : Heap) (p : Pass) (tries left : ℕ) (q : Pass) : Type 0 
   pub spent : q.errand.lost < 2 ^ 64 - 1 → tries_of q.errand + left ≡ tries_of p.errand + tries
 
 -- a call that stood at `start` and is given so many tries has gone on to this answer
-pub record HasGone (h : Heap) (start : Pass) (tries : ℕ) (told : Option (Ending Block)) (q : Pass) : Type 0 where
+pub record HasGone (h : HeapFields) (start : Pass) (tries : ℕ) (told : Option (Ending Block)) (q : Pass) : Type 0 where
   pub of : IsOf h q
   pub grows : Begins (seen start) (seen q)
   pub goes :
       (first : Pass) (call : Call) (made : ℕ) → IsCalling first call made start → GoesOn first call made start tries (reply_in told) q
 
 -- an allocation that stood at `start` has gone on to this answer; and a free has
-abbrev pub HasAllocated : Heap → Pass → ℕ → AllocAnswer → Pass → Type 0
+abbrev pub HasAllocated : HeapFields → Pass → ℕ → AllocAnswer → Pass → Type 0
 HasAllocated h start tries answer q = (told : Option (Ending Block)) × HasGone h start tries told q × (answer ≡ alloc_answer_in told)
 
-abbrev pub HasFreed : Heap → Pass → ℕ → FreeAnswer → Pass → Type 0
+abbrev pub HasFreed : HeapFields → Pass → ℕ → FreeAnswer → Pass → Type 0
 HasFreed h start tries answer q = (told : Option (Ending Block)) × HasGone h start tries told q × (answer ≡ free_answer_in told)
 
 -- an errand that stands at a point of a superblock, and a pass whose errand would
@@ -76,7 +76,7 @@ LinksNone (block.LinkBlock at i) = ⊥
 LinksNone p = Unit {0}
 
 -- a call that stood at `start` and is given so many tries has come to this point, and none is lost; the pass's own errand is idle all the time
-pub record IsWalking (h : Heap) (start : Pass) (tries : ℕ) (p : BlockPoint) (o : Continuation) (q : Pass) : Type 0 where
+pub record IsWalking (h : HeapFields) (start : Pass) (tries : ℕ) (p : BlockPoint) (o : Continuation) (q : Pass) : Type 0 where
   pub of : IsOf h (stands_at q p o)
   pub going : IsGoing h start tries tries (stands_at q p o)
   pub idle : IsIdle q.errand
@@ -85,7 +85,7 @@ pub record IsWalking (h : Heap) (start : Pass) (tries : ℕ) (p : BlockPoint) (o
   pub links_none : LinksNone p
 
 -- a walking call's seat has made the step from its point and found this; the pass's errand stands still
-pub record HasWalked (h : Heap) (start : Pass) (tries : ℕ) (p : BlockPoint) (o : Continuation) (x : Find) (q : Pass) : Type 0 where
+pub record HasWalked (h : HeapFields) (start : Pass) (tries : ℕ) (p : BlockPoint) (o : Continuation) (x : Find) (q : Pass) : Type 0 where
   pub seat : Seat View
   pub walks : IsWalking h start tries p o (record { seat = seat; errand = q.errand; out = q.out })
   pub has : HasFound (at_block q.errand p o) x seat.me.0 (view q)
@@ -93,7 +93,7 @@ pub record HasWalked (h : Heap) (start : Pass) (tries : ℕ) (p : BlockPoint) (o
   pub empty : q.seat.me.1 ≡ seat.me.1
 
 -- a call that stood at `start` had come to a pass `last`; the seat of this one has made the step from there and found this, and its errand stands there still
-pub record Rejoins (h : Heap) (start : Pass) (tries : ℕ) (x : Find) (q : Pass) : Type 0 where
+pub record Rejoins (h : HeapFields) (start : Pass) (tries : ℕ) (x : Find) (q : Pass) : Type 0 where
   pub last : Pass
   pub of : IsOf h last
   pub going : IsGoing h start tries tries last

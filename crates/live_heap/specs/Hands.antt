@@ -15,7 +15,7 @@ use Rattle.live_heap.specs.declared.answers.Resumed.TheVariants as resumed
 use Rattle.live_heap.specs.declared.answers.Taken.{Taken}
 use Rattle.live_heap.specs.declared.answers.Taken.TheVariants as taken
 use Rattle.live_heap.specs.declared.block.Block.{Block}
-use Rattle.live_heap.specs.declared.heap.Heap.{Heap}
+use Rattle.live_heap.specs.Heaps.{HeapFields}
 use Rattle.live_heap.specs.declared.pass.Pass.{Pass}
 use Rattle.live_heap.specs.Answers.{IsTried}
 use Rattle.live_heap.specs.Calls.{IsCalling}
@@ -23,7 +23,7 @@ use Rattle.live_heap.specs.Holdings.{Holds}
 use Rattle.live_heap.specs.Passes.{IsOf}
 
 -- an allocation or a free is interrupted. The pass held these blocks when it began, and it gives none of them away
-pub record IsWaiting (h : Heap) (p : Pass) (blocks : List Block) : Type 0 where
+pub record IsWaiting (h : HeapFields) (p : Pass) (blocks : List Block) : Type 0 where
   pub first : Pass
   pub of : IsOf h first
   pub holds : Holds first blocks
@@ -34,7 +34,7 @@ pub record IsWaiting (h : Heap) (p : Pass) (blocks : List Block) : Type 0 where
   pub leaves : All (λ block. LeavesPlace call block.place) blocks
 
 -- the pass is of the heap, and the blocks are in its hand: in no call it holds them, and in one it waits with them
-pub record IsHand (h : Heap) (p : Pass) (blocks : List Block) : Type 0 where
+pub record IsHand (h : HeapFields) (p : Pass) (blocks : List Block) : Type 0 where
   pub of : IsOf h p
   pub holds : IsIdle p.errand → Holds p blocks
   pub waits : IsBusy p.errand → IsWaiting h p blocks

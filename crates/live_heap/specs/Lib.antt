@@ -5,6 +5,7 @@ pub mod Endings
 pub mod FirstRoom
 pub mod Going
 pub mod Hands
+pub mod Heaps
 pub mod Holdings
 pub mod Lending
 pub mod Linked
@@ -14,6 +15,7 @@ pub mod Pieces
 pub mod Refusals
 pub mod Rule
 pub mod SeenSteps
+pub mod Shelves
 pub mod Sights
 pub mod Steps
 pub mod Views

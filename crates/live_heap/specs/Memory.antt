@@ -10,7 +10,7 @@ use Rattle.plain_words.specs.Places.{laids}
 use Rattle.errand_steps.specs.declared.reply.Reply.TheVariants as reply
 use Rattle.errand_steps.specs.Calls.{write}
 use Rattle.call_events.specs.Made.{Made, answered}
-use Rattle.live_heap.specs.declared.heap.Heap.{Heap}
+use Rattle.live_heap.specs.Heaps.{HeapFields}
 use Rattle.live_heap.specs.declared.plain.Memory.{Memory}
 use Rattle.live_heap.specs.declared.pass.Pass.{Pass}
 use Rattle.live_heap.specs.declared.view.Lent.{Lent}
@@ -19,8 +19,8 @@ use Rattle.live_heap.specs.Lending.{with_lent}
 use Rattle.live_heap.specs.Passes.{view}
 
 -- the words are all the usable words of the block, in this heap's memory, and each is laid
-pub record IsMemoryOf (h : Heap) (m : Memory) : Type 0 where
-  pub at : m.words.at ≡ h.table.shared.id.at
+pub record IsMemoryOf (h : HeapFields) (m : Memory) : Type 0 where
+  pub at : m.words.at ≡ h.region.at
   pub first : m.words.first ≡ m.block.place + 1
   pub long : length m.words.places ≡ usable_words m.block.need
   pub laid : (ns : List ℕ) × (m.words.places ≡ laids ns)

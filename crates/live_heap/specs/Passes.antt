@@ -8,7 +8,7 @@ use Rattle.errand_steps.specs.Errands.{open_errand}
 use Rattle.step_machine.specs.Cores.{OwnsAfter}
 use Rattle.step_machine.specs.Moments.{IsServed}
 use Rattle.live_heap.specs.declared.block.Block.{Block}
-use Rattle.live_heap.specs.declared.heap.Heap.{Heap}
+use Rattle.live_heap.specs.Heaps.{HeapFields}
 use Rattle.live_heap.specs.declared.pass.Pass.{Pass}
 use Rattle.live_heap.specs.declared.view.Lent.{Lent}
 use Rattle.live_heap.specs.declared.view.Standing.{Standing}
@@ -35,8 +35,8 @@ abbrev pub IsOneStep : Pass → Pass → Type 0
 IsOneStep p q = (accesses q ≡ suc (accesses p)) × ((view q).lent ≡ (view p).lent)
 
 -- the pass is of this heap: it stands for one caller, whose errand is the one that its last step left, or one that a call has begun with since; the events that it has seen are legal, and bound its turns; with one caller nothing was lost; and it has so many blocks' words out, each block once, its caller's own, and its errand is apart from them
-pub record IsOf (h : Heap) (p : Pass) : Type 0 where
-  pub table : p.seat.region ≡ h.table.shared.id
+pub record IsOf (h : HeapFields) (p : Pass) : Type 0 where
+  pub table : p.seat.region ≡ h.region
   pub empty : p.seat.me.1 ≡ []
   pub before : Standing
   pub one : (view p).callers ≡ before ∷ []
@@ -62,7 +62,7 @@ abbrev pub Owns : Pass → Block → Type 0
 Owns p block = OwnsAt p block.place block.need
 
 -- a pass that has made no step
-pub record IsFresh (h : Heap) (p : Pass) : Type 0 where
+pub record IsFresh (h : HeapFields) (p : Pass) : Type 0 where
   pub of : IsOf h p
   pub errand : p.errand ≡ open_errand p.errand.caller h.layout
   pub nothing_seen : seen p ≡ []
@@ -70,6 +70,6 @@ pub record IsFresh (h : Heap) (p : Pass) : Type 0 where
   pub home : p.out ≡ 0
 
 -- the passes of a new heap, in the order of their numbers, from one on
-abbrev pub AreFrom : Heap → ℕ → List Pass → Type 0
+abbrev pub AreFrom : HeapFields → ℕ → List Pass → Type 0
 AreFrom h caller [] = Unit {0}
 AreFrom h caller (p ∷ ps) = IsFresh h p × (p.errand.caller ≡ caller) × AreFrom h (suc caller) ps

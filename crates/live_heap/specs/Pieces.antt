@@ -22,6 +22,7 @@ use Rattle.live_heap.specs.declared.view.Lent.{Lent}
 use Rattle.live_heap.specs.declared.view.Standing.{Standing}
 use Rattle.live_heap.specs.declared.view.View.{View}
 use Rattle.live_heap.specs.Rule.{WordsHold}
+use Rattle.live_heap.specs.Shelves.{AllowedWords}
 
 -- a caller that the view stands for is about to use the piece first
 abbrev pub IsOpener : Geometry → View → ℕ → Type 0
@@ -118,9 +119,9 @@ pub record AreLent (g : Geometry) (events : List Event) (whole places : List Pla
   pub blocks : (id n : ℕ) (v : View) (b : Lent) → get_elem? views id ≡ some v → get_elem? v.lent n ≡ some b → IsOut g events whole v b
 
 -- the rule of the region: its places, and the words that are out with passes, are a table in memory, with holes where no piece was ever used
-abbrev pub PiecesHold : Geometry → RegionState View → Type 0
-PiecesHold g s =
-    (words : List ℕ) × (h : WordsHold g words s.views) × (whole : List Place) × AreLaidOut g words whole s.views
+abbrev pub PiecesHold : AllowedWords → Geometry → RegionState View → Type 0
+PiecesHold rule g s =
+    (words : List ℕ) × (h : WordsHold rule g words s.views) × (whole : List Place) × AreLaidOut g words whole s.views
     × AreLent g h.1.events whole s.places s.views
 
 -- a pass that lays this piece and knows these to be laid

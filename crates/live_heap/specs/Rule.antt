@@ -19,6 +19,7 @@ use Rattle.call_bounds.specs.Wins.{Win}
 use Rattle.step_machine.specs.Cores.{IsReached, no_errand}
 use Rattle.live_heap.specs.declared.view.Standing.{Standing}
 use Rattle.live_heap.specs.declared.view.View.{View}
+use Rattle.live_heap.specs.Shelves.{AllowedWords, AlwaysByRule}
 
 -- the words of a table, the errand of each caller, and the events so far
 abbrev pub state_with : Geometry → List ℕ → (ℕ → ErrandFields) → List Event → State
@@ -49,8 +50,8 @@ pub record Stands (g : Geometry) (errands : ℕ → ErrandFields) (events : List
   pub wins_seen : BeginsWins v.wins wins
   pub each : (number : ℕ) (x : Standing) → get_elem? v.callers number ≡ some x → IsStanding g errands events wins moves place id v number x
 
--- there are errands and events with which the words are a state that moves of the callers reached from the opening; and each pass has seen a part of it, and of what those moves won, and counts its own steps among them
-pub record KeptTable (g : Geometry) (words : List ℕ) (views : List View) : Type 0 where
+-- there are errands and events with which the words are a state that moves of the callers reached from the opening; and each pass has seen a part of it, and of what those moves won, and counts its own steps among them; and what lies on a shelf keeps the rule of words there, and always did
+pub record KeptTable (rule : AllowedWords) (g : Geometry) (words : List ℕ) (views : List View) : Type 0 where
   pub whole : length words ≡ word_count g
   pub errands : ℕ → ErrandFields
   pub nobody : (caller : ℕ) → g.callers ≤ caller → errands caller ≡ no_errand
@@ -60,11 +61,12 @@ pub record KeptTable (g : Geometry) (words : List ℕ) (views : List View) : Typ
   pub opened : IsOpening g (opening g) run.first
   pub place : ℕ → ℕ × ℕ
   pub each : (id : ℕ) (v : View) → get_elem? views id ≡ some v → Stands g errands events run.wins.list run.moves place id v
+  pub by_rule : AlwaysByRule rule events
 
 -- the rule of a table: its words and its passes' views are kept
-abbrev pub TableHolds : {S : Type 0} → Geometry → TableState S View → Type 0
-TableHolds g s = KeptTable g s.words s.views
+abbrev pub TableHolds : {S : Type 0} → AllowedWords → Geometry → TableState S View → Type 0
+TableHolds rule g s = KeptTable rule g s.words s.views
 
 -- the same of words in memory, where each lies at its place
-abbrev pub WordsHold : Geometry → List ℕ → List View → Type 0
-WordsHold g words views = (length words ≡ placed_count g) × KeptTable g (words_at g words) views
+abbrev pub WordsHold : AllowedWords → Geometry → List ℕ → List View → Type 0
+WordsHold rule g words views = (length words ≡ placed_count g) × KeptTable rule g (words_at g words) views

@@ -19,6 +19,7 @@ use Rattle.live_heap.specs.declared.view.Lent.{Lent}
 use Rattle.live_heap.specs.declared.view.Standing.{Standing}
 use Rattle.live_heap.specs.declared.view.View.{View}
 use Rattle.live_heap.specs.Rule.{BeginsWins}
+use Rattle.live_heap.specs.Shelves.{AllowedWords, AlwaysByRule}
 
 -- a state with these events, where only they matter
 abbrev pub after_events : List Event → State
@@ -62,6 +63,10 @@ pub record TakesStep (e : ErrandFields) (n : ℕ) (v w : View) : Type 0 where
 -- a pass made the step of the errand e, which found n, and holds what it held
 abbrev pub Saw : ErrandFields → ℕ → Me View → Me View → Type 0
 Saw e n before after = TakesStep e n before.0 after.0 × (after.1 ≡ before.1)
+
+-- and what lay on a shelf kept this rule of words there, as far as the pass has seen the events
+abbrev pub SawByRule : AllowedWords → ErrandFields → ℕ → Me View → Me View → Type 0
+SawByRule rule e n before after = Saw e n before after × AlwaysByRule rule after.0.seen
 
 -- a pass of this heap, whose errand is e and concerns no block whose words are out, may make a step of it where its view is this one
 pub record IsSightOf (g : Geometry) (v : View) (e : ErrandFields) : Type 0 where

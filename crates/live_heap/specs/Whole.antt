@@ -6,14 +6,14 @@ use Rattle.errand_steps.specs.Begins.{IsIdle}
 use Rattle.errand_steps.specs.Calls.{Call, alloc, free, write, read, put, take}
 use Rattle.live_heap.specs.declared.answers.Resumed.{Resumed}
 use Rattle.live_heap.specs.declared.answers.Resumed.TheVariants as resumed
-use Rattle.live_heap.specs.declared.heap.Heap.{Heap}
+use Rattle.live_heap.specs.Heaps.{HeapFields}
 use Rattle.live_heap.specs.declared.pass.Pass.{Pass}
 use Rattle.live_heap.specs.Answers.{IsSpentAtOnce}
 use Rattle.live_heap.specs.Calls.{HasCalled}
 use Rattle.live_heap.specs.Passes.{IsOf, OwnsAt}
 
 -- a pass of this heap that is in no call
-abbrev pub IsAtRest : Heap → Pass → Type 0
+abbrev pub IsAtRest : HeapFields → Pass → Type 0
 IsAtRest h p = IsOf h p × IsIdle p.errand
 
 -- the call has ended with this answer, after any number of steps
@@ -43,5 +43,5 @@ OwnsFor p (read place need i) = OwnsAt p place need
 OwnsFor p (put place need shelf) = OwnsAt p place need
 
 -- a whole call of a pass of this heap, which leaves it in no call
-abbrev pub IsWhole : Heap → Pass → Call → Reply → Heap → Pass → Type 0
+abbrev pub IsWhole : HeapFields → Pass → Call → Reply → HeapFields → Pass → Type 0
 IsWhole h p call answer k q = MadeByPass p call answer q × OwnsFor p call × (k ≡ h) × IsAtRest k q

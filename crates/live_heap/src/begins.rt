@@ -6,20 +6,23 @@ ghost use Rattle.heap_geometry.specs.declared.limits.TheConstants.{SHELVES};
 ghost use Rattle.errand_steps.specs.Begins.{IsIdle, alloc_answer};
 ghost use Rattle.errand_steps.specs.Calls.{alloc, free, write, read, put, take};
 ghost use Rattle.live_heap.specs.Answers.{HasBegun};
-ghost use Rattle.live_heap.specs.Passes.{IsOf, Owns};
+ghost use Rattle.live_heap.specs.Passes.{IsOf, Owns, seen};
+ghost use Rattle.live_heap.specs.Shelves.{MayLieOn, PutsByRule};
 
 use crate::block::Block;
 use crate::heap::Heap;
 use crate::pass::Pass;
+use crate::shelves::ShelfRule;
 use errand_steps::reply::Begun;
 
-impl Heap {
+impl<R: ShelfRule> Heap<R> {
     /// Begins an allocation of so many usable words. A small one takes a turn; where the pass has none
     /// left, or no block has so many words, nothing begins.
     pub fn begin_alloc(&self, pass: &mut Pass, need: u32) -> Begun
         requires of { IsOf self.now pass.old }
         requires idle { IsIdle pass.old.errand }
         ensures of { IsOf self.now pass.new }
+        ensures puts { PutsByRule R.allows (seen pass.new) pass.new.errand }
         ensures begun { HasBegun pass.old (alloc need) pass.new }
         ensures answer { result ≡ alloc_answer pass.old.errand need }
     {
@@ -32,6 +35,7 @@ impl Heap {
         requires idle { IsIdle pass.old.errand }
         requires owned { Owns pass.old block }
         ensures of { IsOf self.now pass.new }
+        ensures puts { PutsByRule R.allows (seen pass.new) pass.new.errand }
         ensures begun { HasBegun pass.old (free block.place block.need) pass.new }
     {
         pass.errand.begin_free(block.place, block.need);
@@ -44,6 +48,7 @@ impl Heap {
         requires owned { Owns pass.old block.now }
         requires word { i < usable_words block.now.need }
         ensures of { IsOf self.now pass.new }
+        ensures puts { PutsByRule R.allows (seen pass.new) pass.new.errand }
         ensures begun { HasBegun pass.old (write block.now.place block.now.need i v) pass.new }
     {
         pass.errand.begin_write(block.place, block.need, i, v);
@@ -56,18 +61,21 @@ impl Heap {
         requires owned { Owns pass.old block.now }
         requires word { i < usable_words block.now.need }
         ensures of { IsOf self.now pass.new }
+        ensures puts { PutsByRule R.allows (seen pass.new) pass.new.errand }
         ensures begun { HasBegun pass.old (read block.now.place block.now.need i) pass.new }
     {
         pass.errand.begin_read(block.place, block.need, i);
     }
 
-    /// Begins to put the pass's block on a shelf.
+    /// Begins to put the pass's block on a shelf, where its words may lie.
     pub fn begin_put(&self, pass: &mut Pass, block: Block, shelf: u8)
         requires of { IsOf self.now pass.old }
         requires idle { IsIdle pass.old.errand }
         requires owned { Owns pass.old block }
         requires shelf { shelf < SHELVES }
+        requires words { MayLieOn R.allows (seen pass.old) pass.old.errand.caller block.place shelf }
         ensures of { IsOf self.now pass.new }
+        ensures puts { PutsByRule R.allows (seen pass.new) pass.new.errand }
         ensures begun { HasBegun pass.old (put block.place block.need shelf) pass.new }
     {
         pass.errand.begin_put(block.place, block.need, shelf);
@@ -79,6 +87,7 @@ impl Heap {
         requires idle { IsIdle pass.old.errand }
         requires shelf { shelf < SHELVES }
         ensures of { IsOf self.now pass.new }
+        ensures puts { PutsByRule R.allows (seen pass.new) pass.new.errand }
         ensures begun { HasBegun pass.old (take shelf) pass.new }
     {
         pass.errand.begin_take(shelf);

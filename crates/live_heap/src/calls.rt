@@ -12,20 +12,23 @@ ghost use Rattle.errand_steps.specs.Begins.{IsIdle, IsBusy, alloc_answer};
 ghost use Rattle.errand_steps.specs.Calls.{Call, put, read, write};
 ghost use Rattle.live_heap.specs.declared.answers.AllocAnswer.{AllocAnswer};
 ghost use Rattle.live_heap.specs.declared.answers.Resumed.{Resumed};
+ghost use Rattle.live_heap.specs.declared.block.Block.{Block};
 ghost use Rattle.live_heap.specs.declared.pass.Pass.{Pass};
 ghost use Rattle.live_heap.specs.Answers.{AllocTells, FreeTells, IsAllocEnding, IsContents, IsResumable, PutTellsFull, ResumeTells, TakeTells, IsTriedEnding, alloc_ended, resumed_ended, reply_in};
 ghost use Rattle.live_heap.specs.Calls.{GoesOn, HasCalled, IsCalling};
 ghost use Rattle.live_heap.specs.Passes.{IsOf, Owns, seen};
+ghost use Rattle.live_heap.specs.Shelves.{MayLieOn, PutsByRule};
 
 use crate::answers::{AllocAnswer, FreeAnswer, Full, Resumed, Taken};
 use crate::block::Block;
 use crate::heap::Heap;
 use crate::pass::Pass;
+use crate::shelves::ShelfRule;
 use errand_steps::reply::Begun;
 use errand_steps::told::{Ending, Stepped};
 use heap_geometry::need::{Need, class_of};
 
-impl Heap {
+impl<R: ShelfRule> Heap<R> {
     /// An allocation of so many usable words. It loses fewer exchanges, and clears fewer empty
     /// superblocks, than there are tries, or is interrupted; between two of these it makes fewer than
     /// `CALL_STEPS` steps.
@@ -141,12 +144,13 @@ impl Heap {
         self.read_word(pass, block.place, block.need, i)
     }
 
-    /// Puts the pass's block on a shelf, from where any pass may take it.
+    /// Puts the pass's block on a shelf, from where any pass may take it. Its words may lie there by the heap's rule.
     pub fn put(&self, pass: &mut Pass, block: Block, shelf: u8) -> Result<(), Full>
         requires of { IsOf self.now pass.old }
         requires idle { IsIdle pass.old.errand }
         requires owned { Owns pass.old block }
         requires shelf { shelf < SHELVES }
+        requires words { MayLieOn R.allows (seen pass.old) pass.old.errand.caller block.place shelf }
         ensures of { IsOf self.now pass.new }
         ensures put { IfOk result (λ _. HasCalled pass.old (put block.place block.need shelf) 0 reply.Put pass.new) }
         ensures full { IfErr result (λ full. PutTellsFull pass.old block shelf full pass.new) }
@@ -159,13 +163,14 @@ impl Heap {
         }
     }
 
-    /// Takes the block that lies on a shelf.
+    /// Takes the block that lies on a shelf. Its words are such as may lie there by the heap's rule.
     pub fn take(&self, pass: &mut Pass, shelf: u8) -> Taken
         requires of { IsOf self.now pass.old }
         requires idle { IsIdle pass.old.errand }
         requires shelf { shelf < SHELVES }
         ensures of { IsOf self.now pass.new }
         ensures tells { TakeTells pass.old shelf result pass.new }
+        ensures words { (block : Block) → result ≡ Taken.Got block → MayLieOn R.allows (seen pass.new) pass.new.errand.caller block.place shelf }
     {
         self.begin_take(pass, shelf);
         let _ = self.step(pass);
@@ -182,6 +187,7 @@ impl Heap {
     fn go_on(&self, pass: &mut Pass, tries: u32) -> Option<Ending<Block>>
         requires of { IsOf self.now pass.old }
         requires busy { IsBusy pass.old.errand }
+        requires puts { PutsByRule R.allows (seen pass.old) pass.old.errand }
         requires tries { 0 < tries }
         ensures of { IsOf self.now pass.new }
         ensures grows { Begins (seen pass.old) (seen pass.new) }

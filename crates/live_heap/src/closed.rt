@@ -18,6 +18,7 @@ use crate::heap::Heap;
 use crate::laying::{LAID, piece_of};
 use crate::pass::Pass;
 use crate::plays::Gathers;
+use crate::shelves::{AnyWords, ShelfRule};
 use crate::view::View;
 use atomic_region::Seat;
 use heap_geometry::geometry::Geometry;
@@ -54,8 +55,8 @@ impl Model for Closed {
 
 /// What is refused where a block's words are out with a pass: nothing has changed.
 #[derive(Drop)]
-pub struct CloseRefused {
-    pub heap: Heap,
+pub struct CloseRefused<R: ShelfRule = AnyWords> {
+    pub heap: Heap<R>,
     pub passes: Vec<Pass>,
 }
 
@@ -66,10 +67,10 @@ struct Gathered {
     lost: u64,
 }
 
-impl Heap {
+impl<R: ShelfRule> Heap<R> {
     /// Takes all passes in, each in no call, and ends the sharing. Blocks that are still held stay live. It takes no
     /// memory; it is refused only where a block's words are out with one of the passes.
-    pub fn close(self, _alloc: Global, passes: Vec<Pass>) -> Result<Closed, CloseRefused>
+    pub fn close(self, _alloc: Global, passes: Vec<Pass>) -> Result<Closed, CloseRefused<R>>
         requires { AreAllIdle self passes.items }
         ensures closed { IfOk result (λ closed. HasClosed self passes.items closed) }
         ensures rests { IfOk result (λ closed. IsResting closed) }

@@ -11,12 +11,13 @@ ghost use Rattle.live_heap.specs.Words.{CallsOnWord};
 use crate::block::Block;
 use crate::heap::Heap;
 use crate::pass::Pass;
+use crate::shelves::ShelfRule;
 use heap_geometry::need::{Need, usable};
 
 /// Fewer words are filled one by one: what takes words out and gives them back costs as much as two writes or three.
 const FEW_WORDS: u32 = 3;
 
-impl Heap {
+impl<R: ShelfRule> Heap<R> {
     /// Fills the pass's block: word i with from + i, modulo 2^64.
     pub fn fill(&self, pass: &mut Pass, block: &Block, from: u64)
         requires of { IsOf self.now pass.old }

@@ -13,6 +13,7 @@ use crate::laying::{OUT, mark_count};
 use crate::opened::first_room;
 use crate::pass::Pass;
 use crate::plays::{Peels, Reachable};
+use crate::shelves::{AnyWords, ShelfRule};
 use crate::view::View;
 use atomic_region::{Closed, Region, Seat};
 use errand_steps::errand::Errand;
@@ -20,27 +21,53 @@ use heap_geometry::geometry::Geometry;
 use placed_words::placement::Placement;
 use plain_words::Room;
 use std::alloc::{AllocError, Global};
+use std::marker::Model;
 use word_table::name::WordName;
 
-/// A heap of a fixed arena. Threads share it by reference, each with a pass of its own.
+/// A heap of a fixed arena. Threads share it by reference, each with a pass of its own. What lies on its shelves keeps the
+/// rule `R`.
 ///
 /// No call on a pass takes memory, waits or takes a lock; each returns. Where a thread stops for ever in
 /// the middle of a call, the others go on.
-pub struct Heap {
-    pub(crate) table: Region<View, Geometry, Reachable, Global>,
+pub struct Heap<R: ShelfRule = AnyWords> {
+    pub(crate) table: Region<View, Geometry, Reachable<R>, Global>,
     pub(crate) layout: Placement,
     ghost laid: { (table.shared.id.words ≡ placed_count layout + mark_count layout) × (table.shared.key ≡ layout) },
     ghost checked: { IsChecked layout },
 }
 
+impl<R: ShelfRule> Model for Heap<R> {
+    ghost use Rattle.live_heap.specs.Heaps.{HeapFields};
+
+    ghost Value = { HeapFields };
+
+    ghost view = { λ h. record { layout = h.layout; region = h.table.shared.id; long = h.laid.0; checked = h.checked } };
+}
+
 impl Heap {
+    ghost use Rattle.live_heap.specs.Passes.{AreFrom};
+
+    /// A heap with these numbers, and one pass for each caller in the order of their numbers. Nothing has
+    /// happened in it. Any words may lie on its shelves.
+    pub fn open(alloc: Global, geometry: Geometry) -> Result<(Heap, Vec<Pass>), AllocError>
+        requires { IsChecked geometry }
+        ensures heap { IfOk result (λ opened. opened.0.layout ≡ geometry) }
+        ensures passes { IfOk result (λ opened. AreFrom opened.0 0 opened.1.items × (length opened.1.items ≡ geometry.callers)) }
+    {
+        Heap::open_with_rule(alloc, geometry)
+    }
+}
+
+impl<R: ShelfRule> Heap<R> {
     ghost use Rattle.live_heap.specs.Endings.{IsAtRest};
     ghost use Rattle.live_heap.specs.Passes.{AreFrom};
     ghost use Rattle.live_heap.specs.Views.{opening_view, idle_view};
 
-    /// A heap with these numbers, and one pass for each caller in the order of their numbers. Nothing has
-    /// happened in it.
-    pub fn open(alloc: Global, geometry: Geometry) -> Result<(Heap, Vec<Pass>), AllocError>
+    /// The same, with a rule for the words on its shelves.
+    pub fn open_with_rule(
+        alloc: Global,
+        geometry: Geometry,
+    ) -> Result<(Heap<R>, Vec<Pass>), AllocError>
         requires { IsChecked geometry }
         ensures heap { IfOk result (λ opened. opened.0.layout ≡ geometry) }
         ensures passes { IfOk result (λ opened. AreFrom opened.0 0 opened.1.items × (length opened.1.items ≡ geometry.callers)) }
@@ -57,9 +84,9 @@ impl Heap {
     }
 
     /// The table of a heap before the first step, and the seat that stands for all callers.
-    fn lay(alloc: Global, geometry: Geometry) -> Result<(Heap, Seat<View>), AllocError>
+    fn lay(alloc: Global, geometry: Geometry) -> Result<(Heap<R>, Seat<View>), AllocError>
         requires { IsChecked geometry }
-        ensures { IfOk result (λ laid. (laid.0.layout ≡ geometry) × (laid.1.region ≡ laid.0.table.shared.id)
+        ensures { IfOk result (λ laid. (laid.0.layout ≡ geometry) × (laid.1.region ≡ laid.0.region)
             × (laid.1.me ≡ (opening_view geometry, []))) }
     {
         let layout = Placement::new(geometry);
@@ -71,10 +98,10 @@ impl Heap {
     /// The passes of all callers but the last, and the seat that is left for that one.
     fn deal(&self, passes: &mut Vec<Pass>, seat: Seat<View>) -> Seat<View>
         requires room { (passes.old.items ≡ []) × (self.now.layout.callers ≤ vec_capacity passes.old) }
-        requires seat { (seat.region ≡ self.now.table.shared.id) × (seat.me ≡ (opening_view self.now.layout, [])) }
+        requires seat { (seat.region ≡ self.now.region) × (seat.me ≡ (opening_view self.now.layout, [])) }
         ensures passes { AreFrom self.now 0 passes.new.items × (length passes.new.items + 1 ≡ self.now.layout.callers)
             × (vec_capacity passes.new ≡ vec_capacity passes.old) }
-        ensures seat { (result.region ≡ self.now.table.shared.id)
+        ensures seat { (result.region ≡ self.now.region)
             × (result.me ≡ (idle_view self.now.layout (length passes.new.items) 1, [])) }
     {
         let shared = &self.table.shared;
@@ -108,7 +135,7 @@ impl Heap {
         requires { Exists self.now.layout name }
         ensures number { word_index self.now.layout name < word_count self.now.layout }
         ensures place { result ≡ place self.now.layout (word_index self.now.layout name) }
-        ensures within { result < self.now.table.shared.id.words }
+        ensures within { result < self.now.region.words }
     {
         self.layout.place(name) as usize
     }
@@ -116,7 +143,7 @@ impl Heap {
     /// The place of the mark of the first piece. A seat is cut, or taken in, at a load of it.
     pub(crate) fn first_mark(&self) -> usize
         ensures place { result ≡ mark_place self.now.layout 0 }
-        ensures within { result < self.now.table.shared.id.words }
+        ensures within { result < self.now.region.words }
     {
         self.layout.count() as usize
     }
@@ -124,31 +151,31 @@ impl Heap {
     /// All memory as it is in the end, where the seat has this view: all callers' views in one, and each caller in no
     /// call. So nothing is out.
     pub(crate) fn end(self, seat: Seat<View>) -> (Room<Global>, Placement)
-        requires table { seat.region ≡ self.table.shared.id }
+        requires table { seat.region ≡ self.region }
         requires rests { IsAtRest self.layout seat.me.0 }
         ensures layout { result.1 ≡ self.layout }
-        ensures last { Final (Seen (PiecesHold result.1) seat.id seat.me.0) result.0.plain.places }
+        ensures last { Final (Seen (PiecesHold R.allows result.1) seat.id seat.me.0) result.0.plain.places }
     {
         let Self { table, layout } = self;
         (table.close_with(seat).into_room(), layout)
     }
 }
 
-impl Drop for Heap {
+impl<R: ShelfRule> Drop for Heap<R> {
     /// All memory goes back. Where a pass was stopped while it laid a piece or filled a block, so that words are out, the
     /// memory stays allocated.
     fn drop(self) {
         let Self { table, layout } = self;
         let closed = table.close();
-        if all_at_home(&closed, &layout) {
+        if all_at_home::<R>(&closed, &layout) {
             drop(closed.into_room());
         }
     }
 }
 
 /// Whether each mark says that nothing is out: no piece with a pass that lays it, and no block with a pass that fills it.
-fn all_at_home(closed: &Closed<Global>, layout: &Placement) -> bool
-    requires { Final (PiecesHold layout.now) closed.now.plain.places }
+fn all_at_home<R: ShelfRule>(closed: &Closed<Global>, layout: &Placement) -> bool
+    requires { Final (PiecesHold R.allows layout.now) closed.now.plain.places }
     ensures home { result ≡ true → AllHere closed.now.plain.places }
     ensures out { result ≡ false → HasOut layout.now closed.now.plain.places }
 {

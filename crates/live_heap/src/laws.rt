@@ -25,7 +25,7 @@ ghost use Rattle.live_heap.specs.declared.answers.FreeAnswer.TheVariants as free
 ghost use Rattle.live_heap.specs.declared.answers.Resumed.TheVariants as resumed;
 ghost use Rattle.live_heap.specs.declared.answers.Taken.TheVariants as taken;
 ghost use Rattle.live_heap.specs.declared.block.Block.{Block};
-ghost use Rattle.live_heap.specs.declared.heap.Heap.{Heap};
+ghost use Rattle.live_heap.specs.Heaps.{HeapFields};
 ghost use Rattle.live_heap.specs.declared.pass.Pass.{Pass};
 ghost use Rattle.live_heap.specs.Answers.{FreeTells, ResumeTells, TakeTells};
 ghost use Rattle.live_heap.specs.Calls.{HasCalled, IsCalling, IsInterrupted};
@@ -39,20 +39,20 @@ ghost use Rattle.live_heap.specs.Whole.{IsWhole};
 /// bound its turns from both sides, whether its errand is the one that its last step left or a call has
 /// begun since. With one caller nothing is ever lost.
 pub fn passes_are_served()
-    ensures served { (h : Heap) (p : Pass) → IsOf h p → IsServed h.layout p.errand.caller p.errand (seen p) }
-    ensures alone { (h : Heap) (p : Pass) → IsOf h p → h.layout.callers ≡ 1 → p.errand.lost ≡ 0 }
+    ensures served { (h : HeapFields) (p : Pass) → IsOf h p → IsServed h.layout p.errand.caller p.errand (seen p) }
+    ensures alone { (h : HeapFields) (p : Pass) → IsOf h p → h.layout.callers ≡ 1 → p.errand.lost ≡ 0 }
 {}
 
 /// A pass keeps the blocks that it owns through each of its calls, but for the one that a free or a put
 /// is about; and a block that it is given or takes is none of those that it has.
 pub fn passes_keep_their_blocks()
-    ensures called { (h : Heap) (p q : Pass) (call : Call) (steps : ℕ) (answer : Reply) (block : Block) → IsOf h p → IsOf h q
+    ensures called { (h : HeapFields) (p q : Pass) (call : Call) (steps : ℕ) (answer : Reply) (block : Block) → IsOf h p → IsOf h q
         → HasCalled p call steps answer q → LeavesPlace call block.place → Owns p block → Owns q block }
-    ensures calling { (h : Heap) (p q : Pass) (call : Call) (steps : ℕ) (block : Block) → IsOf h p → IsOf h q
+    ensures calling { (h : HeapFields) (p q : Pass) (call : Call) (steps : ℕ) (block : Block) → IsOf h p → IsOf h q
         → IsCalling p call steps q → LeavesPlace call block.place → Owns p block → Owns q block }
-    ensures given { (h : Heap) (p q : Pass) (call : Call) (steps place : ℕ) (need : Need) (block : Block) → IsOf h p → IsOf h q
+    ensures given { (h : HeapFields) (p q : Pass) (call : Call) (steps place : ℕ) (need : Need) (block : Block) → IsOf h p → IsOf h q
         → HasCalled p call steps (reply.Given place need) q → Owns p block → block.place ≢ place }
-    ensures got { (h : Heap) (p q : Pass) (call : Call) (steps place : ℕ) (need : Need) (block : Block) → IsOf h p → IsOf h q
+    ensures got { (h : HeapFields) (p q : Pass) (call : Call) (steps place : ℕ) (need : Need) (block : Block) → IsOf h p → IsOf h q
         → HasCalled p call steps (reply.Got place need) q → Owns p block → block.place ≢ place }
 {}
 
@@ -60,13 +60,13 @@ pub fn passes_keep_their_blocks()
 /// that it owns, but for the one that a free or a put is about; a block that it is given or takes is its
 /// own and none of those that it had, and one that it is given serves what was asked for.
 pub fn whole_calls_keep_blocks()
-    ensures keeps { (h k : Heap) (p q : Pass) (call : Call) (answer : Reply) (place : ℕ) (need : Need) → IsWhole h p call answer k q
+    ensures keeps { (h k : HeapFields) (p q : Pass) (call : Call) (answer : Reply) (place : ℕ) (need : Need) → IsWhole h p call answer k q
         → LeavesPlace call place → OwnsAfter (seen p) p.errand.caller place need → OwnsAfter (seen q) q.errand.caller place need }
-    ensures hands { (h k : Heap) (p q : Pass) (call : Call) (answer : Reply) (place : ℕ) (need : Need) → IsWhole h p call answer k q
+    ensures hands { (h k : HeapFields) (p q : Pass) (call : Call) (answer : Reply) (place : ℕ) (need : Need) → IsWhole h p call answer k q
         → Hands answer place need → OwnsAfter (seen q) q.errand.caller place need }
-    ensures apart { (h k : Heap) (p q : Pass) (call : Call) (answer : Reply) (place other : ℕ) (need had : Need) → IsWhole h p call answer k q
+    ensures apart { (h k : HeapFields) (p q : Pass) (call : Call) (answer : Reply) (place other : ℕ) (need had : Need) → IsWhole h p call answer k q
         → Hands answer place need → OwnsAfter (seen p) p.errand.caller other had → other ≢ place }
-    ensures serves { (h k : Heap) (p q : Pass) (words place : ℕ) (need : Need) → IsWhole h p (alloc words) (reply.Given place need) k q
+    ensures serves { (h k : HeapFields) (p q : Pass) (words place : ℕ) (need : Need) → IsWhole h p (alloc words) (reply.Given place need) k q
         → need ≡ need_of words }
 {}
 
@@ -102,13 +102,13 @@ pub fn closed_heaps_are_sound()
 /// as it is resumed; a take never misses; and an allocation is interrupted only by the empty superblocks
 /// that it cleared, as many as it had tries.
 pub fn one_caller_loses_nothing()
-    ensures free { (h : Heap) (p q : Pass) (block : Block) (tries : ℕ) → IsOf h q → h.layout.callers ≡ 1 → 0 < tries
+    ensures free { (h : HeapFields) (p q : Pass) (block : Block) (tries : ℕ) → IsOf h q → h.layout.callers ≡ 1 → 0 < tries
         → ¬ FreeTells p block tries free_answer.Busy q }
-    ensures resumed { (h : Heap) (first p q : Pass) (place : ℕ) (need : Need) (made tries : ℕ) → IsOf h q → h.layout.callers ≡ 1
+    ensures resumed { (h : HeapFields) (first p q : Pass) (place : ℕ) (need : Need) (made tries : ℕ) → IsOf h q → h.layout.callers ≡ 1
         → 0 < tries → IsCalling first (free place need) made p
         → ¬ ResumeTells first (free place need) made p tries resumed.Busy q }
-    ensures take { (h : Heap) (p q : Pass) (shelf expected found : ℕ) → IsOf h q → h.layout.callers ≡ 1
+    ensures take { (h : HeapFields) (p q : Pass) (shelf expected found : ℕ) → IsOf h q → h.layout.callers ≡ 1
         → ¬ TakeTells p shelf (taken.Missed expected found) q }
-    ensures alloc { (h : Heap) (first p q : Pass) (words made tries : ℕ) → IsOf h p → IsOf h q → h.layout.callers ≡ 1
+    ensures alloc { (h : HeapFields) (first p q : Pass) (words made tries : ℕ) → IsOf h p → IsOf h q → h.layout.callers ≡ 1
         → IsInterrupted first (alloc words) made p tries q → q.errand.cleared ≡ p.errand.cleared + tries }
 {}

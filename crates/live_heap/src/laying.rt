@@ -9,6 +9,7 @@ ghost use Rattle.word_table.specs.Occurs.{occurs};
 
 use crate::heap::Heap;
 use crate::plays::{Claims, Laying, Lays};
+use crate::shelves::ShelfRule;
 use crate::view::View;
 use atomic_region::Seat;
 use errand_steps::errand::Errand;
@@ -27,11 +28,11 @@ pub(crate) const OUT: u64 = 1;
 /// The mark of a piece that is laid.
 pub(crate) const LAID: u64 = 2;
 
-impl Heap {
+impl<R: ShelfRule> Heap<R> {
     /// Lays the pieces that the errand's next step is the first to use, unless they were laid before.
     #[inline(always)]
     pub(crate) fn make_ready(&self, seat: &mut Seat<View>, errand: &Errand)
-        requires table { seat.old.region ≡ self.now.table.shared.id }
+        requires table { seat.old.region ≡ self.now.region }
         requires empty { seat.old.me.1 ≡ [] }
         requires settled { seat.old.me.0.lays ≡ None }
         requires sight { IsSightOf self.now.layout seat.old.me.0 errand.now }
@@ -48,7 +49,7 @@ impl Heap {
     #[cold]
     #[inline(never)]
     fn lay_pieces(&self, seat: &mut Seat<View>, pieces: Pieces)
-        requires table { seat.old.region ≡ self.now.table.shared.id }
+        requires table { seat.old.region ≡ self.now.region }
         requires empty { seat.old.me.1 ≡ [] }
         requires settled { seat.old.me.0.lays ≡ None }
         requires opens { EachOf pieces (λ k. IsSoleOpener self.now.layout seat.old.me.0 k) }
@@ -65,7 +66,7 @@ impl Heap {
     /// Lays the piece that `L` names for the proof, unless it was laid before. Nobody else can have it out, since no
     /// other caller is about to use it first.
     fn lay_piece<L: Laying>(&self, seat: &mut Seat<View>, piece: u32)
-        requires table { seat.old.region ≡ self.now.table.shared.id }
+        requires table { seat.old.region ≡ self.now.region }
         requires empty { seat.old.me.1 ≡ [] }
         requires settled { seat.old.me.0.lays ≡ None }
         requires named { (L.layout ≡ self.now.layout) × (L.piece ≡ piece) }

@@ -19,6 +19,7 @@ use crate::laying::{BLANK, OUT};
 use crate::pass::Pass;
 use crate::plain::{Memory, are_small};
 use crate::plays::{Lending, Lends, Returns};
+use crate::shelves::ShelfRule;
 use crate::view::View;
 use atomic_region::Seat;
 use errand_steps::errand::Errand;
@@ -26,7 +27,7 @@ use heap_geometry::need::Need;
 use placed_words::placement::APART;
 use std::marker::Brand;
 
-impl Heap {
+impl<R: ShelfRule> Heap<R> {
     /// Takes the usable words of the pass's block out: from now on they are plain memory, of whoever has what this returns,
     /// on any thread. The pass makes its other calls as before; it can free the block or put it on a shelf, and write or
     /// read its words by a call, once the words are home again.
@@ -116,10 +117,10 @@ impl Heap {
         place: u32,
         need: Need,
     )
-        requires table { seat.old.region ≡ self.now.table.shared.id }
+        requires table { seat.old.region ≡ self.now.region }
         requires empty { seat.old.me.1 ≡ [] }
         requires mark { mark ≡ mark_place self.now.layout (caller_mark self.now.layout L.owner.caller) }
-        requires within { mark < self.now.table.shared.id.words }
+        requires within { mark < self.now.region.words }
         requires counted { length seat.old.me.0.lent ≡ out }
         requires may { MayLend seat.old.me.0 L.owner L.block.place L.block.need }
         ensures seat { (seat.new.region ≡ seat.old.region) × (seat.new.id ≡ seat.old.id) }
@@ -142,10 +143,10 @@ impl Heap {
         _place: u32,
         _need: Need,
     )
-        requires table { seat.old.region ≡ self.now.table.shared.id }
+        requires table { seat.old.region ≡ self.now.region }
         requires empty { seat.old.me.1 ≡ [] }
         requires mark { mark ≡ mark_place self.now.layout (caller_mark self.now.layout L.owner.caller) }
-        requires within { mark < self.now.table.shared.id.words }
+        requires within { mark < self.now.region.words }
         requires may { MayLend seat.old.me.0 L.owner L.block.place L.block.need }
         requires first { seat.old.me.0.lent ≡ [] }
         ensures seat { (seat.new.region ≡ seat.old.region) × (seat.new.id ≡ seat.old.id) }
@@ -164,10 +165,10 @@ impl Heap {
         _place: u32,
         _need: Need,
     )
-        requires table { seat.old.region ≡ self.now.table.shared.id }
+        requires table { seat.old.region ≡ self.now.region }
         requires empty { seat.old.me.1 ≡ [] }
         requires mark { mark ≡ mark_place self.now.layout (caller_mark self.now.layout L.owner.caller) }
-        requires within { mark < self.now.table.shared.id.words }
+        requires within { mark < self.now.region.words }
         requires may { MayLend seat.old.me.0 L.owner L.block.place L.block.need }
         requires more { 0 < length seat.old.me.0.lent }
         ensures seat { (seat.new.region ≡ seat.old.region) × (seat.new.id ≡ seat.old.id) }
@@ -188,9 +189,9 @@ impl Heap {
         place: u32,
         need: Need,
     )
-        requires table { seat.old.region ≡ self.now.table.shared.id }
+        requires table { seat.old.region ≡ self.now.region }
         requires mark { mark ≡ mark_place self.now.layout (caller_mark self.now.layout L.owner.caller) }
-        requires within { mark < self.now.table.shared.id.words }
+        requires within { mark < self.now.region.words }
         requires counted { length seat.old.me.0.lent ≡ out }
         requires may { MayReturn seat.old.me L.owner L.block.place L.block.need L.block.numbers }
         ensures seat { (seat.new.region ≡ seat.old.region) × (seat.new.id ≡ seat.old.id) }
@@ -213,9 +214,9 @@ impl Heap {
         _place: u32,
         _need: Need,
     )
-        requires table { seat.old.region ≡ self.now.table.shared.id }
+        requires table { seat.old.region ≡ self.now.region }
         requires mark { mark ≡ mark_place self.now.layout (caller_mark self.now.layout L.owner.caller) }
-        requires within { mark < self.now.table.shared.id.words }
+        requires within { mark < self.now.region.words }
         requires may { (m : MayReturn seat.old.me L.owner L.block.place L.block.need L.block.numbers) × (m.front ++ m.back ≡ []) }
         ensures seat { (seat.new.region ≡ seat.old.region) × (seat.new.id ≡ seat.old.id) }
         ensures returned { HasReturned L.owner L.block.place L.block.need L.block.numbers seat.old.me.0 seat.new.me }
@@ -236,9 +237,9 @@ impl Heap {
         _place: u32,
         _need: Need,
     )
-        requires table { seat.old.region ≡ self.now.table.shared.id }
+        requires table { seat.old.region ≡ self.now.region }
         requires mark { mark ≡ mark_place self.now.layout (caller_mark self.now.layout L.owner.caller) }
-        requires within { mark < self.now.table.shared.id.words }
+        requires within { mark < self.now.region.words }
         requires may { (m : MayReturn seat.old.me L.owner L.block.place L.block.need L.block.numbers) × (0 < length (m.front ++ m.back)) }
         ensures seat { (seat.new.region ≡ seat.old.region) × (seat.new.id ≡ seat.old.id) }
         ensures returned { HasReturned L.owner L.block.place L.block.need L.block.numbers seat.old.me.0 seat.new.me }
@@ -251,7 +252,7 @@ impl Heap {
     fn caller_mark(&self, caller: u32) -> usize
         requires { caller < self.now.layout.callers }
         ensures place { result ≡ mark_place self.now.layout (caller_mark self.now.layout caller) }
-        ensures within { result < self.now.table.shared.id.words }
+        ensures within { result < self.now.region.words }
     {
         let behind = APART * (self.layout.geometry().callers - caller);
         self.table.count() - behind as usize

@@ -27,6 +27,7 @@ mod opened;
 pub mod pass;
 pub mod plain;
 mod plays;
+pub mod shelves;
 mod small;
 mod steps;
 mod strides;

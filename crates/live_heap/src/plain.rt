@@ -7,6 +7,7 @@ ghost use Rattle.plain_words.specs.Places.{laids};
 
 use crate::block::Block;
 use crate::heap::Heap;
+use crate::shelves::ShelfRule;
 use heap_geometry::need::Need;
 use plain_words::PlainWords;
 
@@ -22,7 +23,7 @@ impl Memory {
     ghost use Rattle.live_heap.specs.Memory.{IsMemoryOf, lends_memory};
 
     /// The usable words of the block, with what is in them now.
-    pub fn words(&self, heap: &Heap) -> &[u64]
+    pub fn words<R: ShelfRule>(&self, heap: &Heap<R>) -> &[u64]
         requires { IsMemoryOf heap.now self.now }
         ensures value { self.now.words.places ≡ laids result.now }
         ensures long { length result.now ≡ usable_words self.now.block.need }
@@ -33,7 +34,7 @@ impl Memory {
     }
 
     /// The usable words of the block, to be written as any memory is.
-    pub fn words_mut(&mut self, heap: &Heap) -> &mut [u64]
+    pub fn words_mut<R: ShelfRule>(&mut self, heap: &Heap<R>) -> &mut [u64]
         requires { IsMemoryOf heap.now self.old }
         ensures* writes_back { sem 𝓛 (lends_memory self.entry result) }
         ensures value { self.old.words.places ≡ laids result.now }

@@ -1,20 +1,23 @@
 //! The rule of the table, and what its steps tell whoever makes them.
 
+use crate::shelves::ShelfRule;
 use crate::view::View;
 use atomic_region::{Play, RegionRule};
 use atomic_table::{Join, Split};
 use heap_geometry::geometry::Geometry;
 use std::marker::{Brand, PhantomData};
 
-/// The words, the errands and the longest list that was seen are a state that callers reach; and the pieces are
-/// laid that were used.
-pub struct Reachable;
+/// The words, the errands and the longest list that was seen are a state that callers reach; the pieces are laid that
+/// were used; and what lies on a shelf keeps the rule of words there.
+pub struct Reachable<R> {
+    shelves: PhantomData<R>,
+}
 
-impl RegionRule<View, Geometry> for Reachable {
+impl<R: ShelfRule> RegionRule<View, Geometry> for Reachable<R> {
     ghost use Rattle.live_heap.specs.Pieces.{PiecesHold};
     ghost use Rattle.live_heap.specs.Views.{opening_view};
 
-    ghost holds = { PiecesHold };
+    ghost holds = { PiecesHold R.allows };
 
     ghost first = { opening_view };
 }
@@ -33,26 +36,28 @@ impl Doing for Brand {
 }
 
 /// A step that finds a number.
-pub struct Finds<E> {
+pub struct Finds<E, R> {
     errand: PhantomData<E>,
+    shelves: PhantomData<R>,
 }
 
-impl<E: Doing> Play<View> for Finds<E> {
-    ghost use Rattle.live_heap.specs.Sights.{Saw};
+impl<E: Doing, R: ShelfRule> Play<View> for Finds<E, R> {
+    ghost use Rattle.live_heap.specs.Sights.{SawByRule};
 
-    ghost then = { λ st before n after. Saw E.errand n before after };
+    ghost then = { λ st before n after. SawByRule R.allows E.errand n before after };
 }
 
 /// A store, which tells nothing of what it found.
-pub struct Stores<E> {
+pub struct Stores<E, R> {
     errand: PhantomData<E>,
+    shelves: PhantomData<R>,
 }
 
-impl<E: Doing> Play<View> for Stores<E> {
+impl<E: Doing, R: ShelfRule> Play<View> for Stores<E, R> {
     ghost use Rattle.std.specs.Prelude.{ℕ};
-    ghost use Rattle.live_heap.specs.Sights.{Saw};
+    ghost use Rattle.live_heap.specs.Sights.{SawByRule};
 
-    ghost then = { λ st before n after. (found : ℕ) × Saw E.errand found before after };
+    ghost then = { λ st before n after. (found : ℕ) × SawByRule R.allows E.errand found before after };
 }
 
 /// The piece that is laid, of a heap with these numbers. Each step names it for the proof.

@@ -22,12 +22,14 @@ use crate::block::Block;
 use crate::calls::alloc_ended;
 use crate::heap::Heap;
 use crate::pass::Pass;
+use crate::shelves::ShelfRule;
+use crate::strides::Expected;
 use errand_steps::continuation::Continuation;
 use errand_steps::told::Ending;
 use superblock_parts::point::BlockPoint;
 use word_table::action::Found;
 
-impl Heap {
+impl<R: ShelfRule> Heap<R> {
     /// The free of a block of a superblock.
     #[inline(always)]
     pub(crate) fn free_small(
@@ -94,19 +96,28 @@ impl Heap {
         ensures off { IfErr result (λ found. Rejoins self.now start tries found pass.new) }
     {
         let mut at = prefix;
-        self.stride(pass, &mut at, &Continuation::Free, tries, |at| {
-            matches!(*at, BlockPoint::LoadPushAnchor { .. })
-        })?;
-        self.stride(pass, &mut at, &Continuation::Free, tries, |at| {
-            matches!(
-                *at,
-                BlockPoint::StoreLink { .. } | BlockPoint::StoreGuard { .. }
-            )
-        })?;
+        self.stride(
+            pass,
+            &mut at,
+            &Continuation::Free,
+            tries,
+            Expected::LoadPushAnchor,
+        )?;
+        self.stride(
+            pass,
+            &mut at,
+            &Continuation::Free,
+            tries,
+            Expected::StoreLinkOrGuard,
+        )?;
         self.guard_last(pass, &mut at, tries)?;
-        self.stride(pass, &mut at, &Continuation::Free, tries, |at| {
-            matches!(*at, BlockPoint::PushBlock { .. })
-        })?;
+        self.stride(
+            pass,
+            &mut at,
+            &Continuation::Free,
+            tries,
+            Expected::PushBlock,
+        )?;
         self.finish(pass, &at, &Continuation::Free, tries)
     }
 
@@ -121,12 +132,8 @@ impl Heap {
         if !matches!(*at, BlockPoint::StoreGuard { .. }) {
             return Ok(());
         }
-        self.stride(pass, at, &Continuation::Free, tries, |at| {
-            matches!(*at, BlockPoint::LoadOwner { .. })
-        })?;
-        self.stride(pass, at, &Continuation::Free, tries, |at| {
-            matches!(*at, BlockPoint::StoreLink { .. })
-        })
+        self.stride(pass, at, &Continuation::Free, tries, Expected::LoadOwner)?;
+        self.stride(pass, at, &Continuation::Free, tries, Expected::StoreLink)
     }
 
     /// The allocation of a block of a superblock.
@@ -206,27 +213,12 @@ impl Heap {
     {
         let goes = Continuation::Alloc { need };
         let mut at = active;
-        self.stride(pass, &mut at, &goes, tries, |at| {
-            matches!(*at, BlockPoint::TakeCredit { .. })
-        })?;
-        self.stride(pass, &mut at, &goes, tries, |at| {
-            matches!(*at, BlockPoint::LoadInfo { .. })
-        })?;
-        self.stride(pass, &mut at, &goes, tries, |at| {
-            matches!(*at, BlockPoint::LoadAnchor { .. })
-        })?;
-        self.stride(pass, &mut at, &goes, tries, |at| {
-            matches!(*at, BlockPoint::LoadLink { .. })
-        })?;
-        self.stride(pass, &mut at, &goes, tries, |at| {
-            matches!(*at, BlockPoint::PopBlock { .. })
-        })?;
-        self.stride(pass, &mut at, &goes, tries, |at| {
-            matches!(
-                *at,
-                BlockPoint::StorePrefix { .. } | BlockPoint::InstallCredits { .. }
-            )
-        })?;
+        self.stride(pass, &mut at, &goes, tries, Expected::TakeCredit)?;
+        self.stride(pass, &mut at, &goes, tries, Expected::LoadInfo)?;
+        self.stride(pass, &mut at, &goes, tries, Expected::LoadAnchor)?;
+        self.stride(pass, &mut at, &goes, tries, Expected::LoadLink)?;
+        self.stride(pass, &mut at, &goes, tries, Expected::PopBlock)?;
+        self.stride(pass, &mut at, &goes, tries, Expected::StorePrefixOrInstall)?;
         self.offer_credits(pass, &mut at, &goes, tries)?;
         self.finish(pass, &at, &goes, tries)
     }
@@ -248,8 +240,6 @@ impl Heap {
         if !matches!(*at, BlockPoint::InstallCredits { .. }) {
             return Ok(());
         }
-        self.stride(pass, at, goes, tries, |at| {
-            matches!(*at, BlockPoint::StorePrefix { .. })
-        })
+        self.stride(pass, at, goes, tries, Expected::StorePrefix)
     }
 }

@@ -8,6 +8,7 @@ ghost use Rattle.live_heap.specs.Going.{EndsBy, HasGone, IsWalking, Rejoins};
 use crate::block::Block;
 use crate::heap::Heap;
 use crate::pass::Pass;
+use crate::shelves::ShelfRule;
 use errand_steps::continuation::Continuation;
 use errand_steps::told::Ending;
 use heap_geometry::need::Need;
@@ -15,21 +16,64 @@ use superblock_parts::exit::BlockExit;
 use superblock_parts::point::{BlockPoint, plan_block, settle_block};
 use word_table::action::Found;
 
-impl Heap {
+/// What a straight way expects of the point that a step leads to.
+#[derive(Clone, Copy)]
+pub(crate) enum Expected {
+    LoadPushAnchor,
+    StoreLinkOrGuard,
+    PushBlock,
+    LoadOwner,
+    StoreLink,
+    TakeCredit,
+    LoadInfo,
+    LoadAnchor,
+    LoadLink,
+    PopBlock,
+    StorePrefixOrInstall,
+    StorePrefix,
+}
+
+impl Expected {
+    /// Whether the point is as expected.
+    #[inline(always)]
+    fn is_at(self, at: &BlockPoint) -> bool {
+        match self {
+            Expected::LoadPushAnchor => matches!(*at, BlockPoint::LoadPushAnchor { .. }),
+            Expected::StoreLinkOrGuard => matches!(
+                *at,
+                BlockPoint::StoreLink { .. } | BlockPoint::StoreGuard { .. }
+            ),
+            Expected::PushBlock => matches!(*at, BlockPoint::PushBlock { .. }),
+            Expected::LoadOwner => matches!(*at, BlockPoint::LoadOwner { .. }),
+            Expected::StoreLink => matches!(*at, BlockPoint::StoreLink { .. }),
+            Expected::TakeCredit => matches!(*at, BlockPoint::TakeCredit { .. }),
+            Expected::LoadInfo => matches!(*at, BlockPoint::LoadInfo { .. }),
+            Expected::LoadAnchor => matches!(*at, BlockPoint::LoadAnchor { .. }),
+            Expected::LoadLink => matches!(*at, BlockPoint::LoadLink { .. }),
+            Expected::PopBlock => matches!(*at, BlockPoint::PopBlock { .. }),
+            Expected::StorePrefixOrInstall => matches!(
+                *at,
+                BlockPoint::StorePrefix { .. } | BlockPoint::InstallCredits { .. }
+            ),
+            Expected::StorePrefix => matches!(*at, BlockPoint::StorePrefix { .. }),
+        }
+    }
+}
+
+impl<R: ShelfRule> Heap<R> {
     /// Makes the step of a point, and goes to the next one where that is as expected; else answers what the
     /// step found.
     #[inline(always)]
-    pub(crate) fn stride<F: Fn(&BlockPoint) -> bool>(
+    pub(crate) fn stride(
         &self,
         pass: &mut Pass,
         at: &mut BlockPoint,
         goes: &Continuation,
         tries: u32,
-        expects: F,
+        expected: Expected,
     ) -> Result<(), Found>
         ghost start: { Pass }
-        requires callable { F.IsAlwaysCallable expects }
-        requires walks { IsWalking self.now start tries at.old goes.now pass.old }
+        requires { IsWalking self.now start tries at.old goes.now pass.old }
         ensures on { IfOk result (λ gone. IsWalking self.now start tries at.new goes.now pass.new) }
         ensures off { IfErr result (λ found. Rejoins self.now start tries found pass.new) }
     {
@@ -37,7 +81,7 @@ impl Heap {
         let found = self.walk(pass, action, at, goes, tries);
         let before = *at;
         let exit = settle_block(at, found);
-        if found.won && exit.is_none() && expects(at) {
+        if found.won && exit.is_none() && expected.is_at(at) {
             pass.errand.count(action, found);
             return Ok(());
         }

@@ -7,13 +7,15 @@ ghost use Rattle.errand_steps.specs.Errands.{IsErrand};
 ghost use Rattle.errand_steps.specs.declared.point.Point.TheVariants as point;
 ghost use Rattle.live_heap.specs.declared.pass.Pass.{Pass};
 ghost use Rattle.live_heap.specs.Going.{HasFound, HasGone, HasWalked, IsGoing, IsWalking, LinksNone, Rejoins};
-ghost use Rattle.live_heap.specs.Passes.{IsOf};
+ghost use Rattle.live_heap.specs.Passes.{IsOf, seen};
+ghost use Rattle.live_heap.specs.Shelves.{PutsByRule};
 ghost use Rattle.live_heap.specs.Sights.{IsSightOf};
 
 use crate::block::{Block, Tokens};
 use crate::heap::Heap;
 use crate::pass::Pass;
 use crate::plays::Doing;
+use crate::shelves::ShelfRule;
 use crate::view::View;
 use atomic_region::Seat;
 use errand_steps::continuation::Continuation;
@@ -24,7 +26,7 @@ use std::marker::Brand;
 use superblock_parts::point::BlockPoint;
 use word_table::action::{Action, Found};
 
-impl Heap {
+impl<R: ShelfRule> Heap<R> {
     /// Makes the step of a point of a superblock by its action, in the errand that stands there with this one's
     /// counts.
     #[inline(always)]
@@ -36,7 +38,7 @@ impl Heap {
         _at: &BlockPoint,
         _goes: &Continuation,
     ) -> Found
-        requires table { seat.old.region ≡ self.now.table.shared.id }
+        requires table { seat.old.region ≡ self.now.region }
         requires named { E.errand ≡ record _errand.now { point = point.Block _at.now _goes.now } }
         requires planned { action ≡ plan_block_of _at.now }
         requires rule { IsErrand E.errand }
@@ -93,6 +95,7 @@ impl Heap {
         ghost start: { Pass }
         requires of { IsOf self.now pass.old }
         requires going { IsGoing self.now start _tries tries_left pass.old }
+        requires puts { PutsByRule R.allows (seen pass.old) pass.old.errand }
         ensures { HasGone self.now start _tries result pass.new }
     {
         let mut left = tries_left;

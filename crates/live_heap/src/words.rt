@@ -13,13 +13,14 @@ ghost use Rattle.live_heap.specs.Words.{CallsOnWord};
 use crate::heap::Heap;
 use crate::pass::Pass;
 use crate::plays::{Doing, Finds, Stores};
+use crate::shelves::ShelfRule;
 use crate::view::View;
 use atomic_region::Seat;
 use errand_steps::errand::Errand;
 use heap_geometry::need::Need;
 use std::marker::Brand;
 
-impl Heap {
+impl<R: ShelfRule> Heap<R> {
     /// Writes a usable word of the block that lies at this place and serves this need. Both come by value,
     /// so that a loop of writes doesn't read the block again behind each.
     pub(crate) fn write_word(&self, pass: &mut Pass, place: u32, need: Need, i: u32, v: u64)
@@ -53,7 +54,7 @@ impl Heap {
         i: u32,
         v: u64,
     )
-        requires table { seat.old.region ≡ self.now.table.shared.id }
+        requires table { seat.old.region ≡ self.now.region }
         requires named { E.errand ≡ begun_by _errand.now (write place _need i v) }
         requires inside { place + 1 + i < arena_words self.now.layout }
         requires sight { IsSightOf self.now.layout seat.old.me.0 E.errand }
@@ -62,7 +63,9 @@ impl Heap {
     {
         let word = self.payload(place, i);
         let start = self.table.start();
-        self.table.shared.store::<Stores<E>>(seat, start, word, v);
+        self.table
+            .shared
+            .store::<Stores<E, R>>(seat, start, word, v);
     }
 
     /// Loads a usable word, as the one step of a read, which `E` names for the proof.
@@ -74,7 +77,7 @@ impl Heap {
         _need: Need,
         i: u32,
     ) -> u64
-        requires table { seat.old.region ≡ self.now.table.shared.id }
+        requires table { seat.old.region ≡ self.now.region }
         requires named { E.errand ≡ begun_by _errand.now (read place _need i) }
         requires inside { place + 1 + i < arena_words self.now.layout }
         requires sight { IsSightOf self.now.layout seat.old.me.0 E.errand }
@@ -83,14 +86,14 @@ impl Heap {
     {
         let word = self.payload(place, i);
         let start = self.table.start();
-        self.table.shared.load::<Finds<E>>(seat, start, word)
+        self.table.shared.load::<Finds<E, R>>(seat, start, word)
     }
 
     /// Where a usable word of the block at this place lies in memory, which begins with the arena.
     fn payload(&self, place: u32, i: u32) -> usize
         requires { place + 1 + i < arena_words self.now.layout }
         ensures place { result ≡ place + 1 + i }
-        ensures within { result < self.now.table.shared.id.words }
+        ensures within { result < self.now.region.words }
     {
         place as usize + 1 + i as usize
     }

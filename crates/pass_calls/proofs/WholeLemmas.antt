@@ -10,7 +10,7 @@ use Rattle.errand_steps.specs.Calls.{Call, alloc, free}
 use Rattle.live_heap.specs.declared.answers.Resumed.{Resumed}
 use Rattle.live_heap.specs.declared.answers.Resumed.TheVariants as resumed
 use Rattle.live_heap.specs.declared.block.Block.{Block}
-use Rattle.live_heap.specs.declared.heap.Heap.{Heap}
+use Rattle.live_heap.specs.Heaps.{HeapFields}
 use Rattle.live_heap.specs.declared.pass.Pass.{Pass}
 use Rattle.live_heap.specs.declared.view.Lent.{Lent}
 use Rattle.live_heap.specs.Answers.{AllocTells, IsResumable, ResumeTells}
@@ -26,7 +26,7 @@ use Rattle.pass_calls.specs.Passes.{pass_maker}
 
 -- an interrupted call can still be resumed when it has made more steps
 pub resumable-on :
-    (h : Heap) (p q : Pass) (r : IsResumable p) → IsOf h r.first
+    (h : HeapFields) (p q : Pass) (r : IsResumable p) → IsOf h r.first
     → ((first : Pass) (call : Call) (made : ℕ) → IsOf h first → IsCalling first call made p → (steps : ℕ) × IsCalling first call steps q)
     → IsResumable q
 resumable-on h p q r of on =
@@ -86,7 +86,7 @@ made-lent p call answer q (at_once words is_alloc spent once) = ap (λ (x : Pass
 
 -- the words of a block that a call has handed out are home: those that are out are of blocks that the pass owned before
 pub handed-home :
-    (h : Heap) (p q : Pass) (place : ℕ) → IsOf h p → (view q).lent ≡ (view p).lent
+    (h : HeapFields) (p q : Pass) (place : ℕ) → IsOf h p → (view q).lent ≡ (view p).lent
     → ((other : ℕ) (had : Need) → OwnsAfter (seen p) p.errand.caller other had → other ≢ place) → IsHome q place
 handed-home h p q place of same apart =
     λ n b found. apart b.place b.need (of.mine n b (ap (λ (l : List Lent). get_elem? l n) (sym same) ∙ found))

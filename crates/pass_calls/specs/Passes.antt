@@ -1,7 +1,7 @@
 -- A pass of a heap as a lane sees it.
 use Rattle.std.specs.Prelude.{ℕ}
 use Rattle.live_heap.specs.declared.block.Block.{Block}
-use Rattle.live_heap.specs.declared.heap.Heap.{Heap}
+use Rattle.live_heap.specs.Heaps.{HeapFields}
 use Rattle.live_heap.specs.declared.pass.Pass.{Pass}
 use Rattle.live_heap.specs.Passes.{IsOf, OwnsAt, seen}
 use Rattle.live_heap.specs.Whole.{IsAtRest, IsWhole}
@@ -10,7 +10,7 @@ use Rattle.lane_engine.specs.Whole.{Maker}
 use Rattle.pass_calls.specs.declared.over_pass.PassCalls.{PassCalls}
 
 -- a heap, to the caller of this pass
-abbrev pub heap_at : Heap → Pass → Engine Block
+abbrev pub heap_at : HeapFields → Pass → Engine Block
 heap_at h p =
     record {
       place_of = λ (block : Block). block.place;
@@ -26,7 +26,7 @@ pass_maker =
     record {
       stands = λ e. IsAtRest e.heap.now e.pass.now;
       owns = λ e place need. OwnsAt e.pass.now place need;
-      Base = ℕ × Heap;
+      Base = ℕ × HeapFields;
       runs_on = λ e. (e.pass.ghost_name, e.heap.now);
       called = λ e call answer f. IsOf e.heap.now e.pass.now × IsWhole e.heap.now e.pass.now call answer f.heap.now f.pass.now;
     }

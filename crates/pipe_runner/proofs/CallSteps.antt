@@ -22,7 +22,7 @@ use Rattle.lane_engine.specs.declared.calls.Allocated.{Allocated}
 use Rattle.lane_engine.specs.declared.calls.Allocated.TheVariants as allocated
 use Rattle.lane_engine.specs.Whole.{allocated_as}
 use Rattle.live_heap.specs.declared.block.Block.{Block}
-use Rattle.live_heap.specs.declared.heap.Heap.{Heap}
+use Rattle.live_heap.specs.Heaps.{HeapFields}
 use Rattle.live_heap.specs.declared.pass.Pass.{Pass}
 use Rattle.live_heap.specs.Answers.{IsContents, PutTellsFull, TakeTells}
 use Rattle.live_heap.specs.declared.answers.Full.{Full}
@@ -56,14 +56,14 @@ same-owns p q lent same block owns =
     let found = owned-found q.errand.caller (block_at block.place (pool_of (seen q))) there.0 (same block.place ∙ there.1) in
     ((there.0, found.0, found.1, there.2), stays-home p q block.place lent owns.1)
 
-pub keeps-here : (h : Heap) (p : Pass) → IsAtRest h p → KeepsBlocks h p p
+pub keeps-here : (h : HeapFields) (p : Pass) → IsAtRest h p → KeepsBlocks h p p
 keeps-here h p rest = record {
   moves = record { goes = goes-here p p refl; rest = rest };
   owns = λ block owned. owned;
   holds = λ blocks held. held;
 }
 
-pub keeps-trans : (h : Heap) (p q r : Pass) → KeepsBlocks h p q → KeepsBlocks h q r → KeepsBlocks h p r
+pub keeps-trans : (h : HeapFields) (p q r : Pass) → KeepsBlocks h p q → KeepsBlocks h q r → KeepsBlocks h p r
 keeps-trans h p q r a b = record {
   moves = record { goes = goes-trans p q r a.moves.goes b.moves.goes; rest = b.moves.rest };
   owns = λ block owned. b.owns block (a.owns block owned);
@@ -71,7 +71,7 @@ keeps-trans h p q r a b = record {
 }
 
 pub keeps-whole :
-    (h : Heap) (p q : Pass) (call : Call) (answer : Reply) (end : Ended) → IsOf h p → IsWhole h p call answer h q → end_of call answer ≡ Some end
+    (h : HeapFields) (p q : Pass) (call : Call) (answer : Reply) (end : Ended) → IsOf h p → IsWhole h p call answer h q → end_of call answer ≡ Some end
     → HandsNothingOver end → ((place : ℕ) → LeavesPlace call place) → ((blocks : List Block) → ChangesHand call answer blocks blocks)
     → KeepsBlocks h p q
 keeps-whole h p q call answer end was whole is home leaves hand =
@@ -83,7 +83,7 @@ keeps-whole h p q call answer end was whole is home leaves hand =
 
 -- an allocation that was not given a block
 pub not-given :
-    (h : Heap) (p q : Pass) (told : Allocated Block) → IsOf h p → ((block : Block) → told ≡ allocated.Given block → ⊥)
+    (h : HeapFields) (p q : Pass) (told : Allocated Block) → IsOf h p → ((block : Block) → told ≡ allocated.Given block → ⊥)
     → IsWhole h p (alloc 3) (allocated_as (λ (block : Block). block.place) (λ (block : Block). block.need) told) h q → KeepsBlocks h p q
 not-given h p q (allocated.Given block) was other whole = absurd (other block refl)
 not-given h p q allocated.Refused was other whole =
@@ -94,18 +94,18 @@ not-given h p q allocated.Spent was other whole =
 abbrev pub fresh : ℕ → Block → PoolBlock
 fresh c block = fresh_block c 3 block.place
 
-given-serves : (h : Heap) (p q : Pass) (block : Block) → IsWhole h p (alloc 3) (reply.Given block.place block.need) h q → block.need ≡ need_of 3
+given-serves : (h : HeapFields) (p q : Pass) (block : Block) → IsWhole h p (alloc 3) (reply.Given block.place block.need) h q → block.need ≡ need_of 3
 given-serves h p q block whole = pass-serves h h p q 3 block.place block.need whole
 
 -- the words of a block that was given are home
 given-words :
-    (h : Heap) (p q : Pass) (block : Block) → IsOf h p → IsWhole h p (alloc 3) (reply.Given block.place block.need) h q → IsHome q block.place
+    (h : HeapFields) (p q : Pass) (block : Block) → IsOf h p → IsWhole h p (alloc 3) (reply.Given block.place block.need) h q → IsHome q block.place
 given-words h p q block was (by_steps made, may, same, rest) = given-home h p q (alloc 3) made.0 block.place block.need was rest.0 made.1
 given-words h p q block was (at_once words is_alloc spent once, may, same, rest) = absurd (cc)
 
 -- an allocation that was given a block, behind others that were not
 pub has-allocated :
-    (h : Heap) (p q r : Pass) (block : Block) → KeepsBlocks h p q → HasTried (GaveNone 3) p q
+    (h : HeapFields) (p q r : Pass) (block : Block) → KeepsBlocks h p q → HasTried (GaveNone 3) p q
     → IsWhole h q (alloc 3) (reply.Given block.place block.need) h r → HasAllocated h p 3 block r
 has-allocated h p q r block before refused whole =
     let answer : Reply = reply.Given block.place block.need in
@@ -127,18 +127,18 @@ has-allocated h p q r block before refused whole =
 
 -- a call of one step on a word of a block that the pass owns
 one-step :
-    (h : Heap) (p q : Pass) (call : Call) (answer : Reply) → IsOf h q → HasCalled p call 0 answer q → OwnsFor p call → IsWhole h p call answer h q
+    (h : HeapFields) (p q : Pass) (call : Call) (answer : Reply) → IsOf h q → HasCalled p call 0 answer q → OwnsFor p call → IsWhole h p call answer h q
 one-step h p q call answer of called owned = (by_steps (0, called), owned, refl, (of, called.idle))
 
 pub wrote-keeps :
-    (h : Heap) (p q : Pass) (block : Block) (i v : ℕ) → IsOf h p → IsOf h q → Owns p block
+    (h : HeapFields) (p q : Pass) (block : Block) (i v : ℕ) → IsOf h p → IsOf h q → Owns p block
     → HasCalled p (write block.place block.need i v) 0 reply.Wrote q → KeepsBlocks h p q
 wrote-keeps h p q block i v was of owned called =
     keeps-whole h p q (write block.place block.need i v) reply.Wrote (ended.wrote block.place i v) was
     (one-step h p q (write block.place block.need i v) reply.Wrote of called owned) refl tt (λ place. tt) (λ blocks. refl)
 
 pub read-keeps :
-    (h : Heap) (p q : Pass) (block : Block) (i word : ℕ) → IsOf h p → IsOf h q → Owns p block
+    (h : HeapFields) (p q : Pass) (block : Block) (i word : ℕ) → IsOf h p → IsOf h q → Owns p block
     → HasCalled p (read block.place block.need i) 0 (reply.Word word) q → KeepsBlocks h p q
 read-keeps h p q block i word was of owned called =
     keeps-whole h p q (read block.place block.need i) (reply.Word word) ended.read was
@@ -146,14 +146,14 @@ read-keeps h p q block i word was of owned called =
 
 -- the block has one word more behind a write
 wrote-there :
-    (h : Heap) (p q : Pass) (block : Block) (i v : ℕ) (b : PoolBlock) → IsOf h q
+    (h : HeapFields) (p q : Pass) (block : Block) (i v : ℕ) (b : PoolBlock) → IsOf h q
     → HasCalled p (write block.place block.need i v) 0 reply.Wrote q → owned_in p block.place ≡ Some b
     → owned_in q block.place ≡ Some (written i v b)
 wrote-there h p q block i v b of called there =
     (called-changes h p q (write block.place block.need i v) 0 reply.Wrote of called).here ∙ ap (option_map (written i v)) there
 
 pub three-written :
-    (h : Heap) (p q r s : Pass) (block : Block) (v b c : ℕ) → IsOf h q → IsOf h r → IsOf h s
+    (h : HeapFields) (p q r s : Pass) (block : Block) (v b c : ℕ) → IsOf h q → IsOf h r → IsOf h s
     → HasCalled p (write block.place block.need 0 v) 0 reply.Wrote q → HasCalled q (write block.place block.need 1 b) 0 reply.Wrote r
     → HasCalled r (write block.place block.need 2 c) 0 reply.Wrote s → b ≡ (v + 1) % 2 ^ 64 → c ≡ (v + 2) % 2 ^ 64
     → owned_in p block.place ≡ Some (fresh p.errand.caller block)
@@ -171,7 +171,7 @@ three-written h p q r s block v b c of_q of_r of_s first second third is_b is_c 
 
 -- a read leaves all as it is, and finds what was written
 read-there :
-    (h : Heap) (p q : Pass) (block : Block) (i word : ℕ) (b : PoolBlock) → IsOf h q
+    (h : HeapFields) (p q : Pass) (block : Block) (i word : ℕ) (b : PoolBlock) → IsOf h q
     → HasCalled p (read block.place block.need i) 0 (reply.Word word) q → owned_in p block.place ≡ Some b → owned_in q block.place ≡ Some b
 read-there h p q block i word b of called there =
     called-changes h p q (read block.place block.need i) 0 (reply.Word word) of called block.place ∙ there
@@ -183,7 +183,7 @@ read-finds q block i word w b contents there is =
     contents b w (owned-found q.errand.caller (block_at block.place (pool_of (seen q))) b there).0 is
 
 pub three-read :
-    (h : Heap) (p q r s : Pass) (block : Block) (x y z : ℕ) (b : PoolBlock) (fold : ℕ) → IsOf h q → IsOf h r → IsOf h s
+    (h : HeapFields) (p q r s : Pass) (block : Block) (x y z : ℕ) (b : PoolBlock) (fold : ℕ) → IsOf h q → IsOf h r → IsOf h s
     → HasCalled p (read block.place block.need 0) 0 (reply.Word x) q → HasCalled q (read block.place block.need 1) 0 (reply.Word y) r
     → HasCalled r (read block.place block.need 2) 0 (reply.Word z) s → IsContents q block.place 0 x → IsContents r block.place 1 y
     → IsContents s block.place 2 z → owned_in p block.place ≡ Some b → HasThreeWords b.contents
@@ -201,7 +201,7 @@ three-read h p q r s block x y z b fold of_q of_r of_s first second third has_x 
 
 -- a block of three words has three of them
 pub three-long :
-    (h : Heap) (p : Pass) (block : Block) (b : PoolBlock) → IsOf h p → Owns p block → owned_in p block.place ≡ Some b → HasThreeWords b.contents
+    (h : HeapFields) (p : Pass) (block : Block) (b : PoolBlock) → IsOf h p → Owns p block → owned_in p block.place ≡ Some b → HasThreeWords b.contents
     → usable_words block.need ≡ 3
 unfolding owned-there
 three-long h p block b of owned there (u, v, w, is) =
@@ -213,12 +213,12 @@ three-long h p block b of owned there (u, v, w, is) =
     sym (ap usable_words has.2) ∙ sym full ∙ ap (λ (x : PoolBlock). length x.contents) (sym same) ∙ ap (λ (l : List (Option ℕ)). length l) is
 
 -- a put that finds the shelf full
-pub full-same : (h : Heap) (p q : Pass) (block : Block) (shelf : ℕ) (full : Full) → IsOf h q → PutTellsFull p block shelf full q → OwnsSame p q
+pub full-same : (h : HeapFields) (p q : Pass) (block : Block) (shelf : ℕ) (full : Full) → IsOf h q → PutTellsFull p block shelf full q → OwnsSame p q
 full-same h p q block shelf full of tells =
     called-changes h p q (put block.place block.need shelf) 0 (reply.Full full.found) of tells.called
 
 pub full-keeps :
-    (h : Heap) (p q : Pass) (block : Block) (shelf : ℕ) (full : Full) → IsOf h p → IsOf h q → Owns p block → PutTellsFull p block shelf full q
+    (h : HeapFields) (p q : Pass) (block : Block) (shelf : ℕ) (full : Full) → IsOf h p → IsOf h q → Owns p block → PutTellsFull p block shelf full q
     → KeepsBlocks h p q
 full-keeps h p q block shelf full was of owned tells =
     let whole = one-step h p q (put block.place block.need shelf) (reply.Full full.found) of tells.called owned in record {
@@ -231,13 +231,13 @@ full-keeps h p q block shelf full was of owned tells =
     }
 
 -- a take that gets nothing
-pub empty-keeps : (h : Heap) (p q : Pass) (shelf : ℕ) → IsOf h p → IsOf h q → TakeTells p shelf taken.Empty q → KeepsBlocks h p q
+pub empty-keeps : (h : HeapFields) (p q : Pass) (shelf : ℕ) → IsOf h p → IsOf h q → TakeTells p shelf taken.Empty q → KeepsBlocks h p q
 empty-keeps h p q shelf was of tells =
     keeps-whole h p q (take shelf) reply.Empty (ended.take_empty shelf) was (by_steps (1, tells), tt, refl, (of, tells.idle)) refl tt (λ place. tt)
     (λ blocks. refl)
 
 pub missed-keeps :
-    (h : Heap) (p q : Pass) (shelf expected found : ℕ) → IsOf h p → IsOf h q → TakeTells p shelf (taken.Missed expected found) q → KeepsBlocks h p q
+    (h : HeapFields) (p q : Pass) (shelf expected found : ℕ) → IsOf h p → IsOf h q → TakeTells p shelf (taken.Missed expected found) q → KeepsBlocks h p q
 missed-keeps h p q shelf expected found was of tells =
     keeps-whole h p q (take shelf) (reply.Missed expected found) ended.take_missed was (by_steps (1, tells.0), tt, refl, (of, tells.0.idle)) refl tt
     (λ place. tt) (λ blocks. refl)
@@ -249,7 +249,7 @@ three-usable = omega arith
 
 -- a put on the shelf that a sender had come to as its next one
 pub handed :
-    (h : Heap) (pipe : Pipe) (p last q : Pass) (e f : Sender) (block left : Block) → KeepsBlocks h p last → OwnsSame p last → IsOf h q
+    (h : HeapFields) (pipe : Pipe) (p last q : Pass) (e f : Sender) (block left : Block) → KeepsBlocks h p last → OwnsSame p last → IsOf h q
     → HasPutNext pipe f last left q → f ≡ e → left ≡ block → HasTried (FoundFull block (shelf_for pipe.shelves e.number e.sent)) p last
     → HasHandedOver h p block (shelf_for pipe.shelves e.number e.sent) q
 handed h pipe p last q e f block left keeps same of called end is full = record {

@@ -14,7 +14,7 @@ use Rattle.lane_engine.specs.Whole.{allocated_as}
 use Rattle.live_heap.specs.declared.answers.Full.{Full}
 use Rattle.live_heap.specs.declared.answers.Taken.TheVariants as taken
 use Rattle.live_heap.specs.declared.block.Block.{Block}
-use Rattle.live_heap.specs.declared.heap.Heap.{Heap}
+use Rattle.live_heap.specs.Heaps.{HeapFields}
 use Rattle.live_heap.specs.declared.pass.Pass.{Pass}
 use Rattle.live_heap.specs.Answers.{PutTellsFull, TakeTells}
 use Rattle.live_heap.specs.Passes.{IsFresh}
@@ -50,7 +50,7 @@ tried-on F p q r a b = record {
 
 -- an allocation that was not given a block
 pub none-given :
-    (h : Heap) (p q : Pass) (told : Allocated Block) → ((block : Block) → told ≡ allocated.Given block → ⊥)
+    (h : HeapFields) (p q : Pass) (told : Allocated Block) → ((block : Block) → told ≡ allocated.Given block → ⊥)
     → IsWhole h p (alloc 3) (allocated_as (λ (block : Block). block.place) (λ (block : Block). block.need) told) h q → HasTried (GaveNone 3) p q
 none-given h p q (allocated.Given block) other whole = absurd (other block refl)
 none-given h p q allocated.Refused other whole = tried-one (GaveNone 3) p q (alloc 3) reply.Refused (inl refl) whole.0
@@ -87,7 +87,7 @@ sends-push start sender i (n ∷ notes) note p q r each one =
     (each.0, each.1, sends-push start sender (suc i) notes note each.0 q r each.2 (subst (λ (k : ℕ). Sends start sender k note q r) here one))
 
 pub sends-more :
-    (h : Heap) (start sender i : ℕ) (pushed now : List Note) (note : Note) (p q : Pass) → SendsAll h start sender pushed p
+    (h : HeapFields) (start sender i : ℕ) (pushed now : List Note) (note : Note) (p q : Pass) → SendsAll h start sender pushed p
     → Sends start sender i note p q → i ≡ length pushed → now ≡ pushed ++ note ∷ [] → SendsAll h start sender now q
 sends-more h start sender i pushed now note p q all one is grows = record {
   first = all.first;
@@ -96,7 +96,7 @@ sends-more h start sender i pushed now note p q all one is grows = record {
       (sends-push start sender 0 pushed note all.first p q all.each (subst (λ (n : ℕ). Sends start sender n note p q) (is ∙ omega arith) one));
 }
 
-pub sends-none : (h : Heap) (start sender : ℕ) (pushed : List Note) (p : Pass) → IsFresh h p → pushed ≡ [] → SendsAll h start sender pushed p
+pub sends-none : (h : HeapFields) (start sender : ℕ) (pushed : List Note) (p : Pass) → IsFresh h p → pushed ≡ [] → SendsAll h start sender pushed p
 sends-none h start sender pushed p fresh none =
     record { first = p; fresh = fresh; each = subst (λ (l : List Note). SendsEach start sender 0 l p p) (sym none) refl }
 
@@ -117,7 +117,7 @@ got-else : (k fold : ℕ) (got : Got) → got.note.sender ≢ k → with_got k f
 got-else k fold got other = rw (ne_eqb got.note.sender k other) refl
 
 pub receives-more :
-    (h : Heap) (senders : ℕ) (popped now : List Note) (folds folds_now : ℕ → ℕ) (p q : Pass) (got : Got) (s : ℕ)
+    (h : HeapFields) (senders : ℕ) (popped now : List Note) (folds folds_now : ℕ → ℕ) (p q : Pass) (got : Got) (s : ℕ)
     → ReceivesAll h senders popped folds p → Receives got p q → now ≡ popped ++ got.note ∷ [] → s ≡ got.note.sender
     → folds_now s ≡ with_found (folds s) got.words → ((k : ℕ) → k ≢ s → folds_now k ≡ folds k) → length got.words ≡ 3
     → ReceivesAll h senders now folds_now q
@@ -147,13 +147,13 @@ three-words block words usable (inr fewer) = absurd (omega (arith, usable, fewer
 
 -- nothing more
 pub receives-same :
-    (h : Heap) (senders : ℕ) (popped now : List Note) (folds : ℕ → ℕ) (p q : Pass) → ReceivesAll h senders popped folds p → q ≡ p → now ≡ popped
+    (h : HeapFields) (senders : ℕ) (popped now : List Note) (folds : ℕ → ℕ) (p q : Pass) → ReceivesAll h senders popped folds p → q ≡ p → now ≡ popped
     → ReceivesAll h senders now folds q
 receives-same h senders popped now folds p q all same none =
     subst (λ (l : List Note). ReceivesAll h senders l folds q) (sym none) (subst (ReceivesAll h senders popped folds) (sym same) all)
 
 pub receives-none :
-    (h : Heap) (senders : ℕ) (popped : List Note) (folds : ℕ → ℕ) (p : Pass) → IsFresh h p → popped ≡ [] → ((k : ℕ) → folds k ≡ 0)
+    (h : HeapFields) (senders : ℕ) (popped : List Note) (folds : ℕ → ℕ) (p : Pass) → IsFresh h p → popped ≡ [] → ((k : ℕ) → folds k ≡ 0)
     → ReceivesAll h senders popped folds p
 receives-none h senders popped folds p fresh none no_fold =
     record {

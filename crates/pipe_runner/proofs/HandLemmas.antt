@@ -15,7 +15,7 @@ use Rattle.pool_model.proofs.OwnedLemmas.{owned-found}
 use Rattle.pool_model.proofs.OwnerLemmas.{others-keep_all}
 use Rattle.errand_steps.specs.declared.reply.Reply.TheVariants as reply
 use Rattle.errand_steps.specs.Calls.{put, take}
-use Rattle.live_heap.specs.declared.heap.Heap.{Heap}
+use Rattle.live_heap.specs.Heaps.{HeapFields}
 use Rattle.live_heap.specs.declared.pass.Pass.{Pass}
 use Rattle.live_heap.specs.Calls.{HasCalled}
 use Rattle.live_heap.specs.Contents.{owned_in}
@@ -74,7 +74,7 @@ put-added last q place need shelf called =
     called.events ∙ ap (λ (l : List Event). own last.errand.caller (seen last) ++ l) added
 
 pub put-at :
-    (h : Heap) (last q : Pass) (place : ℕ) (need : Need) (shelf : ℕ) (b : PoolBlock) → IsOf h q
+    (h : HeapFields) (last q : Pass) (place : ℕ) (need : Need) (shelf : ℕ) (b : PoolBlock) → IsOf h q
     → HasCalled last (put place need shelf) 0 reply.Put q → owned_in last place ≡ Some b
     → IsHandedAt last.errand.caller (seen last) (seen q) (Put last.errand.caller place shelf) place b
 put-at h last q place need shelf b of called there =
@@ -110,7 +110,7 @@ take-added last q place need shelf called =
     called.events ∙ ap (λ (l : List Event). own last.errand.caller (seen last) ++ l) added
 
 pub take-at :
-    (h : Heap) (last q : Pass) (place : ℕ) (need : Need) (shelf : ℕ) → IsOf h q
+    (h : HeapFields) (last q : Pass) (place : ℕ) (need : Need) (shelf : ℕ) → IsOf h q
     → HasCalled last (take shelf) 1 (reply.Got place need) q
     → (b : PoolBlock) × IsHandedAt last.errand.caller (seen last) (seen q) (Take last.errand.caller shelf place) place b
     × (owned_in q place ≡ Some (handed_to (Caller last.errand.caller) b))

@@ -15,7 +15,7 @@ use Rattle.shelf_laws.proofs.OwnLemmas.{puts-own, quiet-more, takes-own, turns-s
 use Rattle.errand_steps.specs.declared.reply.Reply.{Reply}
 use Rattle.errand_steps.specs.Calls.{Call}
 use Rattle.call_events.specs.Ends.{end_of}
-use Rattle.live_heap.specs.declared.heap.Heap.{Heap}
+use Rattle.live_heap.specs.Heaps.{HeapFields}
 use Rattle.live_heap.specs.declared.pass.Pass.{Pass}
 use Rattle.live_heap.specs.Calls.{HasCalled}
 use Rattle.live_heap.specs.Passes.{seen}
@@ -130,7 +130,7 @@ goes-trans p q r a b =
     }
 
 pub whole-goes :
-    (h : Heap) (p q : Pass) (call : Call) (answer : Reply) (end : Ended) → IsWhole h p call answer h q → end_of call answer ≡ Some end
+    (h : HeapFields) (p q : Pass) (call : Call) (answer : Reply) (end : Ended) → IsWhole h p call answer h q → end_of call answer ≡ Some end
     → HandsNothingOver end → PassGoesOn p q
 whole-goes h p q call answer end (by_steps made, may, same, is) there home =
     called-goes p q call made.0 answer end made.1 there home

@@ -9,7 +9,7 @@ use Rattle.pool_model.proofs.HistoryLemmas.{EachAfter-nil}
 use Rattle.shelf_laws.specs.Quiet.{IsQuiet, IsQuietAfter, is_put_of, is_take_of, sent, taken}
 use Rattle.errand_steps.specs.Begins.{IsIdle}
 use Rattle.errand_steps.specs.Errands.{ErrandFields}
-use Rattle.live_heap.specs.declared.heap.Heap.{Heap}
+use Rattle.live_heap.specs.Heaps.{HeapFields}
 use Rattle.live_heap.specs.declared.pass.Pass.{Pass}
 use Rattle.live_heap.specs.Passes.{AreFrom, IsFresh, seen}
 use Rattle.live_heap.specs.Whole.{IsAtRest}
@@ -25,13 +25,13 @@ use Rattle.pipe_runner.specs.Runs.{AreDone, HasDone}
 use Rattle.pipe_runner.specs.Senders.{AreSending, HasSent, IsBetween, IsSending, PutsWithin}
 use Rattle.pipe_runner.proofs.EndLemmas.{sends-none}
 
-pub fresh-rest : (h : Heap) (p : Pass) → IsFresh h p → IsAtRest h p
+pub fresh-rest : (h : HeapFields) (p : Pass) → IsFresh h p → IsAtRest h p
 fresh-rest h p fresh = (fresh.of, subst (λ (e : ErrandFields). IsIdle e) (sym fresh.errand) refl)
 
-fresh-own : (h : Heap) (p : Pass) → IsFresh h p → own p.errand.caller (seen p) ≡ []
+fresh-own : (h : HeapFields) (p : Pass) → IsFresh h p → own p.errand.caller (seen p) ≡ []
 fresh-own h p fresh = ap (own p.errand.caller) fresh.nothing_seen
 
-pub fresh-between : (h : Heap) (n : ℕ) (p : Pass) → IsFresh h p → IsBetween h n p
+pub fresh-between : (h : HeapFields) (n : ℕ) (p : Pass) → IsFresh h p → IsBetween h n p
 fresh-between h n p fresh =
     let none = fresh-own h p fresh in record {
       rest = fresh-rest h p fresh;
@@ -40,7 +40,7 @@ fresh-between h n p fresh =
       nothing = fresh-exact h p fresh;
     }
 
-pub fresh-sent : (passed : ℕ → ℕ → Type 0) (h : Heap) (n start : ℕ) (p : Pass) → IsFresh h p → HasSent passed h n start 0 p
+pub fresh-sent : (passed : ℕ → ℕ → Type 0) (h : HeapFields) (n start : ℕ) (p : Pass) → IsFresh h p → HasSent passed h n start 0 p
 fresh-sent passed h n start p fresh = record {
   between = fresh-between h n p fresh;
   puts = ap (count_by (is_put_of 8 p.errand.caller)) (fresh-own h p fresh);
@@ -49,7 +49,7 @@ fresh-sent passed h n start p fresh = record {
 }
 
 pub fresh-taken :
-    (h : Heap) (n : ℕ) (counts folds : ℕ → ℕ) (p : Pass) → IsFresh h p → ((k : ℕ) → counts k ≡ 0) → ((k : ℕ) → folds k ≡ 0)
+    (h : HeapFields) (n : ℕ) (counts folds : ℕ → ℕ) (p : Pass) → IsFresh h p → ((k : ℕ) → counts k ≡ 0) → ((k : ℕ) → folds k ≡ 0)
     → HasTaken h n counts folds p
 fresh-taken h n counts folds p fresh no_count no_fold = record {
   between = fresh-between h n p fresh;
@@ -67,7 +67,7 @@ new-pop pipe n (x ∷ xs) s (is, number, pushed, pending, rest) =
     ((is, number, pushed, pending, before), s_is, s_number ∙ omega arith, s_pushed, s_pending)
 
 pub from-pop :
-    (h : Heap) (k : ℕ) (ps : List Pass) (p : Pass) → AreFrom h k (ps ++ p ∷ [])
+    (h : HeapFields) (k : ℕ) (ps : List Pass) (p : Pass) → AreFrom h k (ps ++ p ∷ [])
     → AreFrom h k ps × IsFresh h p × (p.errand.caller ≡ k + length ps)
 from-pop h k [] p (fresh, caller, rest) = (tt, fresh, caller ∙ omega arith)
 from-pop h k (q ∷ ps) p (fresh, caller, rest) =
@@ -76,7 +76,7 @@ from-pop h k (q ∷ ps) p (fresh, caller, rest) =
 pub push-long : {X : Type 0} (xs ys : List X) (x : X) → xs ≡ ys ++ x ∷ [] → length xs ≡ length ys + 1
 push-long xs ys x is = ap length is ∙ length-append ys (x ∷ [])
 
-module _ (passed : ℕ → ℕ → Type 0) (h : Heap) (pipe : Pipe) (start : ℕ) where
+module _ (passed : ℕ → ℕ → Type 0) (h : HeapFields) (pipe : Pipe) (start : ℕ) where
   -- threads that are numbered downwards: one more behind them, and the last one of them gone
   pub sending-push :
       (count number : ℕ) (ws : List SenderThread) (w : SenderThread) → AreSending passed h pipe start count (suc number) ws

@@ -4,12 +4,12 @@ use Rattle.std.specs.Prelude.{All}
 use Rattle.std.proofs.lemmas.Grind.{common_steps}
 use Rattle.std.proofs.lemmas.List.{append-nil}
 use Rattle.std.proofs.lemmas.List.Elements.{All-cons, All-nil}
-use Rattle.live_heap.specs.declared.heap.Heap.{Heap}
+use Rattle.live_heap.specs.Heaps.{HeapFields}
 use Rattle.block_pipe.specs.declared.pipe.Pipe.{Pipe}
 use Rattle.pipe_runner.specs.declared.sender.SenderThread.{SenderThread}
 use Rattle.pipe_runner.specs.Senders.{AreSending, IsSending, MaySend, SendsUntil}
 
-module _ (passed : ℕ → ℕ → Type 0) (h : Heap) (pipe : Pipe) (start : ℕ) where
+module _ (passed : ℕ → ℕ → Type 0) (h : HeapFields) (pipe : Pipe) (start : ℕ) where
   -- each sender's thread may send in a round
   pub sending-may :
       (from until number : ℕ) (ws : List SenderThread) → AreSending passed h pipe start from number ws → from ≤ until → until ≤ 100000

@@ -6,7 +6,7 @@ use Rattle.std.proofs.lemmas.List.Elements.{All-append, All-cons, All-nil}
 use Rattle.heap_geometry.specs.declared.geometry.Geometry.{Geometry}
 use Rattle.pool_model.proofs.HistoryLemmas.{legal-weaker}
 use Rattle.errand_steps.specs.Begins.{IsIdle}
-use Rattle.live_heap.specs.declared.heap.Heap.{Heap}
+use Rattle.live_heap.specs.Heaps.{HeapFields}
 use Rattle.live_heap.specs.declared.pass.Pass.{Pass}
 use Rattle.live_heap.specs.Endings.{AreAllIdle, HasAccesses, HasClosed, HasTakenIn, IsResting}
 use Rattle.live_heap.specs.Passes.{AreFrom, IsFresh, IsOf}
@@ -29,7 +29,7 @@ use Rattle.pipe_runner.proofs.RunLemmas.{IsOverAll, done-distinct, done-ends, do
 
 -- a new receiver's thread
 pub new-receiving :
-    (h : Heap) (pipe : Pipe) (w : ReceiverThread) → pipe.shelves ≡ 8 → IsNewReceiver pipe w.end → IsFresh h w.pass
+    (h : HeapFields) (pipe : Pipe) (w : ReceiverThread) → pipe.shelves ≡ 8 → IsNewReceiver pipe w.end → IsFresh h w.pass
     → w.pass.errand.caller ≡ pipe.senders → ((k : ℕ) → slice_index w.counts.numbers k ≡ 0) → ((k : ℕ) → slice_index w.folds.numbers k ≡ 0)
     → IsReceiving h pipe w
 new-receiving h pipe w shelves new fresh caller no_count no_fold = record {
@@ -42,7 +42,7 @@ new-receiving h pipe w shelves new fresh caller no_count no_fold = record {
   has = fresh-taken h pipe.senders (λ k. slice_index w.counts.numbers k) (λ k. slice_index w.folds.numbers k) w.pass fresh no_count no_fold;
 }
 
-module _ (passed : ℕ → ℕ → Type 0) (h : Heap) (pipe : Pipe) (start count : ℕ) (ps : List Pass) (es : List Sender) (w : ReceiverThread) (done : AreDone passed h pipe start count 0 ps es) (many : length ps ≡ pipe.senders) (receiving : IsReceiving h pipe w) where
+module _ (passed : ℕ → ℕ → Type 0) (h : HeapFields) (pipe : Pipe) (start count : ℕ) (ps : List Pass) (es : List Sender) (w : ReceiverThread) (done : AreDone passed h pipe start count 0 ps es) (many : length ps ≡ pipe.senders) (receiving : IsReceiving h pipe w) where
   pub idle-all : h.layout ≡ pipe_heap pipe.senders → AreAllIdle h (ps ++ w.pass ∷ [])
   idle-all layout = record {
     all = (let long = length-append ps (w.pass ∷ []) in let callers = ap (λ (g : Geometry). g.callers) layout in omega (arith, long, callers, many));
@@ -125,7 +125,7 @@ module _ (passed : ℕ → ℕ → Type 0) (h : Heap) (pipe : Pipe) (start count
 
 -- the passes of a new heap: those of the senders, and the receiver's
 pub opened-parts :
-    (h : Heap) (n : ℕ) (passes others : List Pass) (p : Pass) → AreFrom h 0 passes → length passes ≡ n + 1 → passes ≡ others ++ p ∷ []
+    (h : HeapFields) (n : ℕ) (passes others : List Pass) (p : Pass) → AreFrom h 0 passes → length passes ≡ n + 1 → passes ≡ others ++ p ∷ []
     → AreFrom h 0 others × (length others ≡ n) × IsFresh h p × (p.errand.caller ≡ n)
 opened-parts h n passes others p all many last =
     let (before, fresh, caller) = from-pop h 0 others p (subst (AreFrom h 0) last all) in

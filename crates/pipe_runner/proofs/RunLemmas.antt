@@ -10,7 +10,7 @@ use Rattle.shelf_laws.specs.Quiet.{IsQuiet, is_put_of, is_take_of, sender_of, se
 use Rattle.shelf_laws.proofs.GrowLemmas.{parcels-none}
 use Rattle.shelf_laws.proofs.OwnLemmas.{puts-own, takes-own}
 use Rattle.shelf_laws.proofs.PipeLemmas.{shelf-empty, taken-all, to-sender}
-use Rattle.live_heap.specs.declared.heap.Heap.{Heap}
+use Rattle.live_heap.specs.Heaps.{HeapFields}
 use Rattle.live_heap.specs.declared.pass.Pass.{Pass}
 use Rattle.live_heap.specs.Contents.{owned_after}
 use Rattle.live_heap.specs.Endings.{ClosedFields, HasTakenIn, IsResting}
@@ -47,28 +47,28 @@ taken-closed c p n k caller t =
     (sym (takes-own n 8 k t.seen_before.0) ∙ ap (count_by (is_take_of n 8 k)) (rest-of c p n caller t))
 
 -- a caller of the pipeline at its end
-pub record IsOver (h : Heap) (n : ℕ) (c : ClosedFields) (k : ℕ) : Type 0 where
+pub record IsOver (h : HeapFields) (n : ℕ) (c : ClosedFields) (k : ℕ) : Type 0 where
   pub p : Pass
   pub caller : p.errand.caller ≡ k
   pub between : IsBetween h n p
   pub in_it : HasTakenIn c p
 
-over-quiet : (h : Heap) (n : ℕ) (c : ClosedFields) (k : ℕ) → IsOver h n c k → IsQuiet n 8 (own k c.events)
+over-quiet : (h : HeapFields) (n : ℕ) (c : ClosedFields) (k : ℕ) → IsOver h n c k → IsQuiet n 8 (own k c.events)
 over-quiet h n c k o =
     subst (IsQuiet n 8) (sym (own-closed c o.p k o.caller o.in_it)) (subst (λ (j : ℕ). IsQuiet n 8 (own j (seen o.p))) o.caller o.between.quiet)
 
-over-within : (h : Heap) (n : ℕ) (c : ClosedFields) (k : ℕ) → IsOver h n c k → All (PutsWithin n) (own k c.events)
+over-within : (h : HeapFields) (n : ℕ) (c : ClosedFields) (k : ℕ) → IsOver h n c k → All (PutsWithin n) (own k c.events)
 over-within h n c k o =
     subst (All (PutsWithin n)) (sym (own-closed c o.p k o.caller o.in_it))
     (subst (λ (j : ℕ). All (PutsWithin n) (own j (seen o.p))) o.caller o.between.within)
 
 over-nothing :
-    (h : Heap) (n : ℕ) (c : ClosedFields) (k place : ℕ) → IsResting c → (o : IsOver h n c k) → owned_after c.events k place ≡ None
+    (h : HeapFields) (n : ℕ) (c : ClosedFields) (k place : ℕ) → IsResting c → (o : IsOver h n c k) → owned_after c.events k place ≡ None
 over-nothing h n c k place rests o =
     subst (λ (j : ℕ). owned_after c.events j place ≡ None) o.caller
     (closed-owned c o.p place rests o.in_it ∙ o.between.nothing.1 place (All-nil (λ block. block.place ≢ place)))
 
-module _ (passed : ℕ → ℕ → Type 0) (h : Heap) (pipe : Pipe) (start count : ℕ) where
+module _ (passed : ℕ → ℕ → Type 0) (h : HeapFields) (pipe : Pipe) (start count : ℕ) where
   -- the pass and the end of the sender with a number
   pub done-find :
       (number : ℕ) (ps : List Pass) (es : List Sender) (P : Pass → Type 0) (Q : Sender → Type 0) → AreDone passed h pipe start count number ps es
@@ -122,7 +122,7 @@ module _ (passed : ℕ → ℕ → Type 0) (h : Heap) (pipe : Pipe) (start count
   done-distinct number [] (e ∷ es) all = absurd all
 
 -- what all callers have seen and done, and the closed heap
-pub record IsOverAll (passed : ℕ → ℕ → Type 0) (h : Heap) (n start count : ℕ) (folds : ℕ → ℕ) (c : ClosedFields) : Type 0 where
+pub record IsOverAll (passed : ℕ → ℕ → Type 0) (h : HeapFields) (n start count : ℕ) (folds : ℕ → ℕ) (c : ClosedFields) : Type 0 where
   pub legal : IsLegalWithoutCounts c.geometry c.events
   pub callers : c.geometry.callers ≡ n + 1
   pub rests : IsResting c
@@ -134,7 +134,7 @@ pub record IsOverAll (passed : ℕ → ℕ → Type 0) (h : Heap) (n start count
   pub all : (k : ℕ) → k < n → counts k ≡ count
   pub in_it : HasTakenIn c r
 
-module _ (passed : ℕ → ℕ → Type 0) (h : Heap) (n start count : ℕ) (folds : ℕ → ℕ) (c : ClosedFields) (o : IsOverAll passed h n start count folds c) where
+module _ (passed : ℕ → ℕ → Type 0) (h : HeapFields) (n start count : ℕ) (folds : ℕ → ℕ) (c : ClosedFields) (o : IsOverAll passed h n start count folds c) where
   each : (k : ℕ) → k < c.geometry.callers → IsOver h n c k
   each k below =
       elim (cases_lt k n) [

@@ -13,7 +13,7 @@ use Rattle.shelf_laws.specs.Quiet.{IsQuiet, IsQuietAfter, is_put_of, sender_of, 
 use Rattle.shelf_laws.proofs.GrowLemmas.{count-more, parcels-add, parcels-none}
 use Rattle.shelf_laws.proofs.OwnLemmas.{from-sender, puts-own}
 use Rattle.shelf_laws.proofs.PipeLemmas.{put-is, put-turn, turn-home}
-use Rattle.live_heap.specs.declared.heap.Heap.{Heap}
+use Rattle.live_heap.specs.Heaps.{HeapFields}
 use Rattle.live_heap.specs.declared.pass.Pass.{Pass}
 use Rattle.live_heap.specs.Passes.{seen}
 use Rattle.pipe_runner.specs.Messages.{contents_of, message_of, messages}
@@ -56,7 +56,7 @@ goes-within senders p q g within =
     (All-append (PutsWithin senders) (own c (seen p)) (own c g.more) within (all-within senders (own c g.more) g.home))
 
 pub sent-goes :
-    (passed : ℕ → ℕ → Type 0) (h : Heap) (senders start count : ℕ) (p q : Pass) → p.errand.caller < senders → HasSent passed h senders start count p
+    (passed : ℕ → ℕ → Type 0) (h : HeapFields) (senders start count : ℕ) (p q : Pass) → p.errand.caller < senders → HasSent passed h senders start count p
     → PassGoesOn p q → HasSentIn passed senders start count p.errand.caller (seen q)
 sent-goes passed h senders start count p q below has g = record {
   quiet = goes-quiet senders 8 p q g has.between.quiet;
@@ -99,7 +99,7 @@ sent-more passed senders start count c place shelf h now b below has gate turn w
     }
 
 pub sent-ends :
-    (passed : ℕ → ℕ → Type 0) (h : Heap) (senders start count c : ℕ) (q : Pass) → q.errand.caller ≡ c → IsBetween h senders q
+    (passed : ℕ → ℕ → Type 0) (h : HeapFields) (senders start count c : ℕ) (q : Pass) → q.errand.caller ≡ c → IsBetween h senders q
     → HasSentIn passed senders start count c (seen q) → HasSent passed h senders start count q
 sent-ends passed h senders start count c q caller between has =
     let at : HasSentIn passed senders start count q.errand.caller (seen q) =

@@ -8,7 +8,7 @@ use Rattle.shelf_laws.specs.Quiet.{IsQuiet, turn_of}
 use Rattle.errand_steps.specs.declared.reply.Reply.TheVariants as reply
 use Rattle.errand_steps.specs.Calls.{put}
 use Rattle.live_heap.specs.declared.block.Block.{Block}
-use Rattle.live_heap.specs.declared.heap.Heap.{Heap}
+use Rattle.live_heap.specs.Heaps.{HeapFields}
 use Rattle.live_heap.specs.declared.pass.Pass.{Pass}
 use Rattle.live_heap.specs.Contents.{owned_in}
 use Rattle.live_heap.specs.Holdings.{HoldsExactly}
@@ -22,7 +22,7 @@ use Rattle.pipe_runner.proofs.MoveLemmas.{goes-trans}
 use Rattle.pipe_runner.proofs.SendLemmas.{sent-ends, sent-goes, sent-more}
 
 pub sent-step :
-    (passed : ℕ → ℕ → Type 0) (h : Heap) (senders start count shelf first : ℕ) (p a w q : Pass) (block : Block) → p.errand.caller < senders
+    (passed : ℕ → ℕ → Type 0) (h : HeapFields) (senders start count shelf first : ℕ) (p a w q : Pass) (block : Block) → p.errand.caller < senders
     → HasSent passed h senders start count p → passed p.errand.caller count → HasAllocated h p 3 block a → KeepsBlocks h a w
     → (owned_in a block.place ≡ Some (fresh_block a.errand.caller 3 block.place)
     → (b : PoolBlock) × (owned_in w block.place ≡ Some b) × (b.contents ≡ three_from first))

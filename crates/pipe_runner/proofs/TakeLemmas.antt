@@ -13,7 +13,7 @@ use Rattle.shelf_laws.specs.Quiet.{IsQuiet, IsQuietAfter, is_take_of, sender_of,
 use Rattle.shelf_laws.proofs.GrowLemmas.{count-more, count-same, parcels-add, parcels-none}
 use Rattle.shelf_laws.proofs.OwnLemmas.{takes-own}
 use Rattle.shelf_laws.proofs.PipeLemmas.{take-is, take-is-not, take-turn, turn-home}
-use Rattle.live_heap.specs.declared.heap.Heap.{Heap}
+use Rattle.live_heap.specs.Heaps.{HeapFields}
 use Rattle.live_heap.specs.declared.pass.Pass.{Pass}
 use Rattle.live_heap.specs.Passes.{seen}
 use Rattle.pipe_runner.specs.Messages.{HasThreeWords, HaveThreeWords, fold_of, with_words}
@@ -33,7 +33,7 @@ pub record HasTakenIn (n : ℕ) (counts folds : ℕ → ℕ) (events : List Even
   pub fold : (k : ℕ) → k < n → HaveThreeWords (taken n 8 k events) → folds k ≡ fold_of (taken n 8 k events)
 
 taken-goes-own :
-    (h : Heap) (n : ℕ) (counts folds : ℕ → ℕ) (p q : Pass) → p.errand.caller ≡ n → HasTaken h n counts folds p → PassGoesOn p q
+    (h : HeapFields) (n : ℕ) (counts folds : ℕ → ℕ) (p q : Pass) → p.errand.caller ≡ n → HasTaken h n counts folds p → PassGoesOn p q
     → IsQuiet n 8 (own p.errand.caller (seen q)) × All (PutsWithin n) (own p.errand.caller (seen q))
     × ((k : ℕ) → k < n → count_by (is_take_of n 8 k) (own p.errand.caller (seen q)) ≡ counts k)
 taken-goes-own h n counts folds p q caller has g = (
@@ -43,7 +43,7 @@ taken-goes-own h n counts folds p q caller has g = (
 )
 
 pub taken-goes :
-    (h : Heap) (n : ℕ) (counts folds : ℕ → ℕ) (p q : Pass) → p.errand.caller ≡ n → HasTaken h n counts folds p → PassGoesOn p q
+    (h : HeapFields) (n : ℕ) (counts folds : ℕ → ℕ) (p q : Pass) → p.errand.caller ≡ n → HasTaken h n counts folds p → PassGoesOn p q
     → HasTakenIn n counts folds (seen q)
 taken-goes h n counts folds p q caller has g =
     let (quiet, within, takes) = taken-goes-own h n counts folds p q caller has g in record {
@@ -117,7 +117,7 @@ taken-more n s place shelf counts folds counts_now folds_now h now b below has t
     }
 
 pub taken-ends :
-    (h : Heap) (n : ℕ) (counts folds : ℕ → ℕ) (p q : Pass) → HasTakenIn n counts folds (seen p) → p.errand.caller ≡ n → PassGoesOn p q → IsBetween h n q
+    (h : HeapFields) (n : ℕ) (counts folds : ℕ → ℕ) (p q : Pass) → HasTakenIn n counts folds (seen p) → p.errand.caller ≡ n → PassGoesOn p q → IsBetween h n q
     → HasTaken h n counts folds q
 taken-ends h n counts folds p q has caller g between =
     let turns : (k : ℕ) → k < n → count_by (is_take_of n 8 k) (own p.errand.caller (seen q)) ≡ counts k = λ k lt.

@@ -14,7 +14,7 @@ use Rattle.shelf_laws.proofs.PipeLemmas.{turn-home}
 use Rattle.errand_steps.specs.declared.reply.Reply.TheVariants as reply
 use Rattle.errand_steps.specs.Calls.{free, take}
 use Rattle.live_heap.specs.declared.block.Block.{Block}
-use Rattle.live_heap.specs.declared.heap.Heap.{Heap}
+use Rattle.live_heap.specs.Heaps.{HeapFields}
 use Rattle.live_heap.specs.declared.pass.Pass.{Pass}
 use Rattle.live_heap.specs.Contents.{owned_in}
 use Rattle.live_heap.specs.Holdings.{HoldsExactly}
@@ -33,7 +33,7 @@ use Rattle.pipe_runner.proofs.SendLemmas.{goes-within}
 use Rattle.pipe_runner.proofs.TakeLemmas.{HasOneMore, taken-else, taken-ends, taken-goes, taken-here, taken-more}
 
 pub taken-step :
-    (h : Heap) (n s shelf fold : ℕ) (counts folds counts_now folds_now : ℕ → ℕ) (p t f q : Pass) (block : Block) → p.errand.caller ≡ n → s < n
+    (h : HeapFields) (n s shelf fold : ℕ) (counts folds counts_now folds_now : ℕ → ℕ) (p t f q : Pass) (block : Block) → p.errand.caller ≡ n → s < n
     → HasTaken h n counts folds p → HasTakenOff h p shelf block t → shelf ≡ turn_of 8 s (counts s) → KeepsBlocks h t f
     → ((b : PoolBlock) → owned_in t block.place ≡ Some b → HasThreeWords b.contents → fold ≡ with_words (folds s) b.contents)
     → counts_now s ≡ counts s + 1 → ((k : ℕ) → k ≢ s → counts_now k ≡ counts k) → folds_now s ≡ fold
@@ -74,7 +74,7 @@ taken-step h n s shelf fold counts folds counts_now folds_now p t f q block call
 
 -- where all that was taken has three words, so has all that was taken before, and the block has as many
 pub three-step :
-    (h : Heap) (n s shelf count : ℕ) (p t f q : Pass) (block : Block) → p.errand.caller ≡ n → s < n → HasTakenOff h p shelf block t
+    (h : HeapFields) (n s shelf count : ℕ) (p t f q : Pass) (block : Block) → p.errand.caller ≡ n → s < n → HasTakenOff h p shelf block t
     → shelf ≡ turn_of 8 s count → KeepsBlocks h t f → IsWhole h f (free block.place block.need) reply.Freed h q
     → ((k : ℕ) → k < n → HaveThreeWords (taken n 8 k (seen q)))
     → ((k : ℕ) → k < n → HaveThreeWords (taken n 8 k (seen p))) × (usable_words block.need ≡ 3)
@@ -104,7 +104,7 @@ three-step h n s shelf count p t f q block caller below off turn keeps whole all
 
 -- the receiver that found no note
 pub taken-none :
-    (h : Heap) (n : ℕ) (counts folds : ℕ → ℕ) (p q : Pass) → p.errand.caller ≡ n → HasTaken h n counts folds p → KeepsBlocks h p q
+    (h : HeapFields) (n : ℕ) (counts folds : ℕ → ℕ) (p q : Pass) → p.errand.caller ≡ n → HasTaken h n counts folds p → KeepsBlocks h p q
     → HasTaken h n counts folds q
 taken-none h n counts folds p q caller has keeps =
     let g = keeps.moves.goes in

@@ -5,7 +5,7 @@ use Rattle.errand_steps.specs.declared.reply.Reply.TheVariants as reply
 use Rattle.errand_steps.specs.Calls.{alloc, free, put, take, write}
 use Rattle.call_events.specs.Made.{LeadsBy, Made, answered, found_from}
 use Rattle.live_heap.specs.declared.block.Block.{Block}
-use Rattle.live_heap.specs.declared.heap.Heap.{Heap}
+use Rattle.live_heap.specs.Heaps.{HeapFields}
 use Rattle.live_heap.specs.declared.pass.Pass.{Pass}
 use Rattle.live_heap.specs.Passes.{IsFresh}
 use Rattle.live_heap.specs.Whole.{MadeByPass}
@@ -62,7 +62,7 @@ SendsEach start sender i (note ∷ notes) p q =
     (between : Pass) × Sends start sender i note p between × SendsEach start sender (suc i) notes between q
 
 -- all that a sender's pass has done since the heap was opened: it has sent a message for each note that was pushed, the first one first
-pub record SendsAll (h : Heap) (start sender : ℕ) (pushed : List Note) (p : Pass) : Type 0 where
+pub record SendsAll (h : HeapFields) (start sender : ℕ) (pushed : List Note) (p : Pass) : Type 0 where
   pub first : Pass
   pub fresh : IsFresh h first
   pub each : SendsEach start sender 0 pushed first p
@@ -102,7 +102,7 @@ found_of k fold [] = fold
 found_of k fold (got ∷ gots) = found_of k (with_got k fold got) gots
 
 -- all that the receiver's pass has done since the heap was opened: it has received a block for each note that was popped, three words were read of each, and each sender's fold is that of the words which these reads found
-pub record ReceivesAll (h : Heap) (senders : ℕ) (popped : List Note) (folds : ℕ → ℕ) (p : Pass) : Type 0 where
+pub record ReceivesAll (h : HeapFields) (senders : ℕ) (popped : List Note) (folds : ℕ → ℕ) (p : Pass) : Type 0 where
   pub first : Pass
   pub fresh : IsFresh h first
   pub gots : List Got

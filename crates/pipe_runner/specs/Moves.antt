@@ -8,7 +8,7 @@ use Rattle.errand_steps.specs.declared.reply.Reply.TheVariants as reply
 use Rattle.errand_steps.specs.Calls.{alloc, put, take}
 use Rattle.pool_model.specs.Pool.{fresh_block}
 use Rattle.live_heap.specs.declared.block.Block.{Block}
-use Rattle.live_heap.specs.declared.heap.Heap.{Heap}
+use Rattle.live_heap.specs.Heaps.{HeapFields}
 use Rattle.live_heap.specs.declared.pass.Pass.{Pass}
 use Rattle.live_heap.specs.Calls.{HasCalled}
 use Rattle.live_heap.specs.Contents.{OwnsSame, owned_in}
@@ -31,12 +31,12 @@ pub record PassGoesOn (p q : Pass) : Type 0 where
   pub home : All StaysHome (own p.errand.caller more)
 
 -- a pass has gone on without a hand-over, and is at rest
-pub record HasMoved (h : Heap) (p q : Pass) : Type 0 where
+pub record HasMoved (h : HeapFields) (p q : Pass) : Type 0 where
   pub goes : PassGoesOn p q
   pub rest : IsAtRest h q
 
 -- a pass has been given this block, behind allocations that were given none, and owns it, as it is given; and it owns nothing else if it owned nothing before
-pub record HasAllocated (h : Heap) (p : Pass) (words : ℕ) (block : Block) (q : Pass) : Type 0 where
+pub record HasAllocated (h : HeapFields) (p : Pass) (words : ℕ) (block : Block) (q : Pass) : Type 0 where
   pub moves : HasMoved h p q
   pub last : Pass
   pub refused : HasTried (GaveNone words) p last
@@ -47,13 +47,13 @@ pub record HasAllocated (h : Heap) (p : Pass) (words : ℕ) (block : Block) (q :
   pub holds : HoldsExactly p [] → HoldsExactly q (block ∷ [])
 
 -- a pass has changed nothing of what it owns but the words in its blocks
-pub record KeepsBlocks (h : Heap) (p q : Pass) : Type 0 where
+pub record KeepsBlocks (h : HeapFields) (p q : Pass) : Type 0 where
   pub moves : HasMoved h p q
   pub owns : (block : Block) → Owns p block → Owns q block
   pub holds : (blocks : List Block) → HoldsExactly p blocks → HoldsExactly q blocks
 
 -- a pass has gone on without a change of what it owns, by puts that found the shelf full, and then put this block on it; it is at rest
-pub record HasHandedOver (h : Heap) (p : Pass) (block : Block) (shelf : ℕ) (q : Pass) : Type 0 where
+pub record HasHandedOver (h : HeapFields) (p : Pass) (block : Block) (shelf : ℕ) (q : Pass) : Type 0 where
   pub last : Pass
   pub full : HasTried (FoundFull block shelf) p last
   pub keeps : KeepsBlocks h p last
@@ -66,7 +66,7 @@ abbrev pub AreThree : Block → List ℕ → Type 0
 AreThree block words = (length words ≡ 3) ⊎ ((usable_words block.need < 3) × (words ≡ []))
 
 -- a pass has gone on with its blocks kept, by takes from a shelf that got none, and then taken this block from it
-pub record HasTakenOff (h : Heap) (p : Pass) (shelf : ℕ) (block : Block) (q : Pass) : Type 0 where
+pub record HasTakenOff (h : HeapFields) (p : Pass) (shelf : ℕ) (block : Block) (q : Pass) : Type 0 where
   pub last : Pass
   pub missed : HasTried (GotNone shelf) p last
   pub keeps : KeepsBlocks h p last

@@ -2,7 +2,7 @@
 use Rattle.std.specs.Prelude.{ℕ, ◌≡◌, ◌<◌, ◌++◌, [], ◌∷◌, None, count_by, length, slice_index}
 use Rattle.pool_model.specs.Histories.{own}
 use Rattle.shelf_laws.specs.Quiet.{is_take_of, taken}
-use Rattle.live_heap.specs.declared.heap.Heap.{Heap}
+use Rattle.live_heap.specs.Heaps.{HeapFields}
 use Rattle.live_heap.specs.declared.pass.Pass.{Pass}
 use Rattle.live_heap.specs.Passes.{seen}
 use Rattle.block_pipe.specs.declared.note.Note.{Note}
@@ -19,7 +19,7 @@ use Rattle.pipe_runner.specs.Moves.{HasTakenOff}
 use Rattle.pipe_runner.specs.Senders.{IsBetween}
 
 -- a block has come with the next note, from the shelf that it names
-pub record Arrives (h : Heap) (pipe : Pipe) (r : Receiver) (p : Pass) (arrival : Arrival) (t : Receiver) (q : Pass) : Type 0 where
+pub record Arrives (h : HeapFields) (pipe : Pipe) (r : Receiver) (p : Pass) (arrival : Arrival) (t : Receiver) (q : Pass) : Type 0 where
   pub note : Note
   pub next : IsNextIn pipe (popped_by r) note
   pub popped : popped_by t ≡ popped_by r ++ note ∷ []
@@ -27,14 +27,14 @@ pub record Arrives (h : Heap) (pipe : Pipe) (r : Receiver) (p : Pass) (arrival :
   pub taken_off : HasTakenOff h p note.shelf arrival.block q
 
 -- the pass of the receiver, which has taken so many blocks of each sender, and has this fold over the words of each
-pub record HasTaken (h : Heap) (senders : ℕ) (counts folds : ℕ → ℕ) (p : Pass) : Type 0 where
+pub record HasTaken (h : HeapFields) (senders : ℕ) (counts folds : ℕ → ℕ) (p : Pass) : Type 0 where
   pub between : IsBetween h senders p
   pub takes : (k : ℕ) → k < senders → count_by (is_take_of senders SHELVES_EACH k) (own p.errand.caller (seen p)) ≡ counts k
   pub fold :
       (k : ℕ) → k < senders → HaveThreeWords (taken senders SHELVES_EACH k (seen p)) → folds k ≡ fold_of (taken senders SHELVES_EACH k (seen p))
 
 -- the receiver's thread: it has taken as many blocks of each sender as it has popped notes; and if all that it has taken has three words each, all that it has done is to receive these
-pub record IsReceiving (h : Heap) (pipe : Pipe) (w : ReceiverThread) : Type 0 where
+pub record IsReceiving (h : HeapFields) (pipe : Pipe) (w : ReceiverThread) : Type 0 where
   pub shelves : pipe.shelves ≡ SHELVES_EACH
   pub end : IsReceiver pipe w.end
   pub kept : w.end.kept ≡ None

@@ -4,7 +4,7 @@ use Rattle.heap_geometry.specs.declared.geometry.Geometry.{Geometry}
 use Rattle.heap_geometry.specs.declared.limits.TheConstants.{MAX_TURNS}
 use Rattle.pool_model.specs.Pool.{pool_of}
 use Rattle.shelf_laws.specs.Quiet.{IsQuiet, sent, taken}
-use Rattle.live_heap.specs.declared.heap.Heap.{Heap}
+use Rattle.live_heap.specs.Heaps.{HeapFields}
 use Rattle.live_heap.specs.declared.pass.Pass.{Pass}
 use Rattle.live_heap.specs.Endings.{HasAccesses, HasClosed, IsResting}
 use Rattle.block_pipe.specs.declared.pipe.Pipe.{Pipe}
@@ -37,7 +37,7 @@ pub record IsReadyToRun (passed : ℕ → ℕ → Type 0) (senders start : ℕ) 
   pub ends : senders ≤ vec_capacity parts.ends
 
 -- a sender of this number has sent so many messages, with a note of each, and has made no other call
-pub record HasDone (passed : ℕ → ℕ → Type 0) (h : Heap) (pipe : Pipe) (start count number : ℕ) (p : Pass) (e : Sender) : Type 0 where
+pub record HasDone (passed : ℕ → ℕ → Type 0) (h : HeapFields) (pipe : Pipe) (start count number : ℕ) (p : Pass) (e : Sender) : Type 0 where
   pub has : HasSent passed h pipe.senders start count p
   pub caller : p.errand.caller ≡ number
   pub end : IsSender pipe e
@@ -47,7 +47,7 @@ pub record HasDone (passed : ℕ → ℕ → Type 0) (h : Heap) (pipe : Pipe) (s
   pub calls : SendsAll h start number (pushed_by e) p
 
 -- each sender from a number on has sent so many messages, with a note of each
-abbrev pub AreDone : (ℕ → ℕ → Type 0) → Heap → Pipe → ℕ → ℕ → ℕ → List Pass → List Sender → Type 0
+abbrev pub AreDone : (ℕ → ℕ → Type 0) → HeapFields → Pipe → ℕ → ℕ → ℕ → List Pass → List Sender → Type 0
 AreDone passed h pipe start count number [] [] = Unit {0}
 AreDone passed h pipe start count number (p ∷ ps) (e ∷ es) =
     HasDone passed h pipe start count number p e × AreDone passed h pipe start count (suc number) ps es
@@ -55,7 +55,7 @@ AreDone passed h pipe start count number (p ∷ ps) [] = ⊥
 AreDone passed h pipe start count number [] (e ∷ es) = ⊥
 
 -- a pipeline ran over this heap and this pipe: here are the passes with which the heap was closed, those of the senders and the receiver's, and the ends with which the pipe was; each sender has sent its messages and the receiver has received all blocks, with the words that its reads found in these folds; the closed heap counts just the accesses that these passes made, and the log the notes that these ends pushed and popped
-pub record IsRunOf (h : Heap) (pipe : Pipe) (passed : ℕ → ℕ → Type 0) (senders count start : ℕ) (run : PipeRun) : Type 0 where
+pub record IsRunOf (h : HeapFields) (pipe : Pipe) (passed : ℕ → ℕ → Type 0) (senders count start : ℕ) (run : PipeRun) : Type 0 where
   pub laid : h.layout ≡ pipe_heap senders
   pub senders_are : pipe.senders ≡ senders
   pub shelves_are : pipe.shelves ≡ SHELVES_EACH
@@ -84,4 +84,4 @@ pub record IsPipeRun (passed : ℕ → ℕ → Type 0) (senders count start : �
   pub folds : (k : ℕ) → k < senders → slice_index run.folds.numbers k ≡ fold_of (taken senders SHELVES_EACH k run.closed.events)
   pub nothing : pool_of run.closed.events ≡ []
   pub gate : (k i : ℕ) → k < senders → i < count → passed k i
-  pub ran : (h : Heap) × (pipe : Pipe) × IsRunOf h pipe passed senders count start run
+  pub ran : (h : HeapFields) × (pipe : Pipe) × IsRunOf h pipe passed senders count start run

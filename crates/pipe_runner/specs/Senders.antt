@@ -4,7 +4,7 @@ use Rattle.pool_model.specs.declared.event.Event.{Event}
 use Rattle.pool_model.specs.declared.event.Event.TheVariants.{Put}
 use Rattle.pool_model.specs.Histories.{own}
 use Rattle.shelf_laws.specs.Quiet.{IsQuiet, is_put_of, sent}
-use Rattle.live_heap.specs.declared.heap.Heap.{Heap}
+use Rattle.live_heap.specs.Heaps.{HeapFields}
 use Rattle.live_heap.specs.declared.pass.Pass.{Pass}
 use Rattle.live_heap.specs.Holdings.{HoldsExactly}
 use Rattle.live_heap.specs.Passes.{seen}
@@ -22,21 +22,21 @@ PutsWithin senders (Put caller place shelf) = shelf < senders * SHELVES_EACH
 PutsWithin senders event = Unit {0}
 
 -- a pass between messages: it is at rest; its caller's own events leave the pipe quiet, and put on no other shelf; and it owns no block
-pub record IsBetween (h : Heap) (senders : ℕ) (p : Pass) : Type 0 where
+pub record IsBetween (h : HeapFields) (senders : ℕ) (p : Pass) : Type 0 where
   pub rest : IsAtRest h p
   pub quiet : IsQuiet senders SHELVES_EACH (own p.errand.caller (seen p))
   pub within : All (PutsWithin senders) (own p.errand.caller (seen p))
   pub nothing : HoldsExactly p []
 
 -- the pass of a sender that has sent its first messages, so many: each has passed the gate, and each put was of the message's contents
-pub record HasSent (passed : ℕ → ℕ → Type 0) (h : Heap) (senders start count : ℕ) (p : Pass) : Type 0 where
+pub record HasSent (passed : ℕ → ℕ → Type 0) (h : HeapFields) (senders start count : ℕ) (p : Pass) : Type 0 where
   pub between : IsBetween h senders p
   pub puts : count_by (is_put_of SHELVES_EACH p.errand.caller) (own p.errand.caller (seen p)) ≡ count
   pub contents : contents_of (sent SHELVES_EACH p.errand.caller (seen p)) ≡ messages start p.errand.caller count
   pub passed_gate : (i : ℕ) → i < count → passed p.errand.caller i
 
 -- a sender's thread that has sent so many messages, with a note of each, and has made no other call
-pub record IsSending (passed : ℕ → ℕ → Type 0) (h : Heap) (pipe : Pipe) (start count : ℕ) (w : SenderThread) : Type 0 where
+pub record IsSending (passed : ℕ → ℕ → Type 0) (h : HeapFields) (pipe : Pipe) (start count : ℕ) (w : SenderThread) : Type 0 where
   pub shelves : pipe.shelves ≡ SHELVES_EACH
   pub end : IsSender pipe w.end
   pub pending : w.end.pending ≡ None
@@ -46,17 +46,17 @@ pub record IsSending (passed : ℕ → ℕ → Type 0) (h : Heap) (pipe : Pipe) 
   pub has : HasSent passed h pipe.senders start count w.pass
 
 -- the threads of all senders from this number on, the last number first, each of which has sent so many
-abbrev pub AreSending : (ℕ → ℕ → Type 0) → Heap → Pipe → ℕ → ℕ → ℕ → List SenderThread → Type 0
+abbrev pub AreSending : (ℕ → ℕ → Type 0) → HeapFields → Pipe → ℕ → ℕ → ℕ → List SenderThread → Type 0
 AreSending passed h pipe start count number [] = Unit {0}
 AreSending passed h pipe start count number (w ∷ ws) =
     IsSending passed h pipe start count w × (w.end.number ≡ number + length ws) × AreSending passed h pipe start count number ws
 
 -- a sender's thread has not sent more than so many messages, and may send until it has
-pub record MaySend (passed : ℕ → ℕ → Type 0) (h : Heap) (pipe : Pipe) (start until : ℕ) (w : SenderThread) : Type 0 where
+pub record MaySend (passed : ℕ → ℕ → Type 0) (h : HeapFields) (pipe : Pipe) (start until : ℕ) (w : SenderThread) : Type 0 where
   pub stands : IsSending passed h pipe start w.end.sent w
   pub more : w.end.sent ≤ until
   pub few : until ≤ MAX_MESSAGES
 
 -- a sender's thread has sent so many messages
-abbrev pub SendsUntil : (ℕ → ℕ → Type 0) → Heap → Pipe → ℕ → ℕ → SenderThread → SenderThread → Type 0
+abbrev pub SendsUntil : (ℕ → ℕ → Type 0) → HeapFields → Pipe → ℕ → ℕ → SenderThread → SenderThread → Type 0
 SendsUntil passed h pipe start until w x = IsSending passed h pipe start until x × (x.end.number ≡ w.end.number)

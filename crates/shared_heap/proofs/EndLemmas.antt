@@ -8,7 +8,7 @@ use Rattle.atomic_table.specs.Table.{Final, Seen}
 use Rattle.heap_geometry.specs.declared.geometry.Geometry.{Geometry}
 use Rattle.heap_geometry.specs.declared.limits.TheConstants.{MAX_CALLERS}
 use Rattle.step_machine.specs.Moments.{IsServed}
-use Rattle.live_heap.specs.declared.heap.Heap.{Heap}
+use Rattle.live_heap.specs.Heaps.{HeapFields}
 use Rattle.live_heap.specs.declared.pass.Pass.{Pass}
 use Rattle.live_heap.specs.Endings.{AreAllIdle}
 use Rattle.live_heap.specs.Passes.{IsOf, seen}
@@ -30,7 +30,7 @@ at-number (x ∷ xs) (suc i) a at = at-number xs i a at
 
 -- what was found in a filled place is the pass that lies there
 pub found-there :
-    (h : Heap) (id : ℕ) (v : Stand) (words : List ℕ) (slots : List (Option Pass)) (final : Final (Seen (PlacesHold h) id v) words slots)
+    (h : HeapFields) (id : ℕ) (v : Stand) (words : List ℕ) (slots : List (Option Pass)) (final : Final (Seen (PlacesHold h) id v) words slots)
     (place : ℕ) (given : Option Pass) → get_elem? words place ≡ some 2 → get_elem? slots place ≡ some given
     → (p : Pass) × (given ≡ Some p) × (home_at final.0 place ≡ some (Some p)) × IsGiven h place p
 found-there h id v words slots final place given word at =
@@ -107,7 +107,7 @@ some-is p q same = ap (pass_in p) same
 
 -- one place more is found
 pub gathers-next :
-    (h : Heap) (id : ℕ) (v : Stand) (words : List ℕ) (slots : List (Option Pass)) → Final (Seen (PlacesHold h) id v) words slots
+    (h : HeapFields) (id : ℕ) (v : Stand) (words : List ℕ) (slots : List (Option Pass)) → Final (Seen (PlacesHold h) id v) words slots
     → (passes after : List Pass) (place found : ℕ) (given : Option Pass) → get_elem? words place ≡ some found → get_elem? slots place ≡ some given
     → PushesNext passes place found given after → Gathers words slots passes place → Gathers words slots after (place + 1)
 gathers-next h id v words slots final passes after place found None at slot pushes g =
@@ -131,7 +131,7 @@ gathers-next h id v words slots final passes after place found (Some p) at slot 
 
 -- the passes that were found
 pub gathered-all :
-    (h : Heap) (id : ℕ) (own : Pass) (words : List ℕ) (slots : List (Option Pass))
+    (h : HeapFields) (id : ℕ) (own : Pass) (words : List ℕ) (slots : List (Option Pass))
     → Final (Seen (PlacesHold h) id (stand.Laid own)) words slots → length slots ≡ MAX_CALLERS → (passes : List Pass)
     → Gathers words slots passes MAX_CALLERS → HasGathered h own passes
 gathered-all h id own words slots final count passes g = record {
@@ -153,7 +153,7 @@ gathered-all h id own words slots final count passes g = record {
 
 -- a pass of a heap is one of the heap that has the same table and the same numbers
 of-same :
-    (h k : Heap) (p : Pass) → h.table.shared.id ≡ k.table.shared.id → h.layout ≡ k.layout → IsOf h p → IsOf k p
+    (h k : HeapFields) (p : Pass) → h.region ≡ k.region → h.layout ≡ k.layout → IsOf h p → IsOf k p
 of-same h k p table layout of =
     record {
       table = of.table ∙ table;
@@ -172,12 +172,12 @@ of-same h k p table layout of =
     }
 
 pub given-same :
-    (h k : Heap) (place : ℕ) (p : Pass) → h.table.shared.id ≡ k.table.shared.id → h.layout ≡ k.layout
+    (h k : HeapFields) (place : ℕ) (p : Pass) → h.region ≡ k.region → h.layout ≡ k.layout
     → IsGiven h place p → IsGiven k place p
 given-same h k place p table layout given = (of-same h k p table layout given.0, given.1, given.2)
 
 knows-same :
-    (h k : Heap) (v : Stand) (place word : ℕ) (home : mathlib.Core.Option.Option (Option Pass)) → h.table.shared.id ≡ k.table.shared.id
+    (h k : HeapFields) (v : Stand) (place word : ℕ) (home : mathlib.Core.Option.Option (Option Pass)) → h.region ≡ k.region
     → h.layout ≡ k.layout → Knows h v place word home → Knows k v place word home
 knows-same h k (stand.Deals next) place word home table layout it = it
 knows-same h k (stand.Waits caller) place word home table layout it = it
@@ -185,7 +185,7 @@ knows-same h k (stand.Takes caller) place word home table layout it = it
 knows-same h k (stand.Laid p) place word home table layout it = (it.0, it.1, given-same h k place p table layout it.2)
 
 stood-same :
-    (h k : Heap) (own : Pass) (s : PlaceState) → h.table.shared.id ≡ k.table.shared.id → h.layout ≡ k.layout
+    (h k : HeapFields) (own : Pass) (s : PlaceState) → h.region ≡ k.region → h.layout ≡ k.layout
     → StoodWith h own s → StoodWith k own s
 stood-same h k own s table layout stood = record {
   id = stood.id;
@@ -203,7 +203,7 @@ stood-same h k own s table layout stood = record {
 }
 
 pub gathered-same :
-    (h k : Heap) (own : Pass) (passes : List Pass) → h.table.shared.id ≡ k.table.shared.id → h.layout ≡ k.layout
+    (h k : HeapFields) (own : Pass) (passes : List Pass) → h.region ≡ k.region → h.layout ≡ k.layout
     → HasGathered h own passes → HasGathered k own passes
 gathered-same h k own passes table layout g = record {
   state = g.state;
@@ -216,7 +216,7 @@ gathered-same h k own passes table layout g = record {
 }
 
 -- these are all passes of the heap, where they are as many
-pub all-idle : (h : Heap) (own : Pass) (passes : List Pass) → HasGathered h own passes → length passes ≡ h.layout.callers → AreAllIdle h passes
+pub all-idle : (h : HeapFields) (own : Pass) (passes : List Pass) → HasGathered h own passes → length passes ≡ h.layout.callers → AreAllIdle h passes
 all-idle h own passes g many = record {
   all = many;
   each = λ i d low. let it = (g.lie i (get_or passes i d) low (again passes i d low)).2 in (it.0, it.1);
@@ -234,7 +234,7 @@ item-at (x ∷ xs) (suc i) low = item-at xs i (omega (arith, low))
 
 -- and one of them is the pass that was given back last
 pub own-among :
-    (h : Heap) (own : Pass) (passes : List Pass) → HasGathered h own passes → IsGiven h own.errand.caller own → length passes ≡ h.layout.callers
+    (h : HeapFields) (own : Pass) (passes : List Pass) → HasGathered h own passes → IsGiven h own.errand.caller own → length passes ≡ h.layout.callers
     → (own.errand.caller < length passes) × (own ≡ get_or passes own.errand.caller own)
 own-among h own passes g given many =
     let caller = own.errand.caller in
@@ -249,7 +249,7 @@ own-among h own passes g given many =
 
 -- where they aren't as many, no pass lay in some caller's place
 pub lacks-one :
-    (h : Heap) (own : Pass) (passes : List Pass) → HasGathered h own passes → h.layout.callers ≤ MAX_CALLERS → length passes ≢ h.layout.callers
+    (h : HeapFields) (own : Pass) (passes : List Pass) → HasGathered h own passes → h.layout.callers ≤ MAX_CALLERS → length passes ≢ h.layout.callers
     → Lacks h own
 lacks-one h own passes g most apart =
     dite (dec_lt (length passes) h.layout.callers)

@@ -7,7 +7,7 @@ use mathlib.Core.Logic.{dite}
 use lib.ListN.{get_elem?}
 use Rattle.atomic_table.specs.Table.{takes, gives, Allows}
 use Rattle.atomic_table.proofs.Lists.{at_set}
-use Rattle.live_heap.specs.declared.heap.Heap.{Heap}
+use Rattle.live_heap.specs.Heaps.{HeapFields}
 use Rattle.live_heap.specs.declared.pass.Pass.{Pass}
 use Rattle.shared_heap.specs.declared.places.Stand.{Stand}
 use Rattle.shared_heap.specs.declared.places.Stand.TheVariants as stand
@@ -33,7 +33,7 @@ before s id place n v w x here about only i k a at is =
 
 -- a seat that is about a place changes it, and what it is itself about, as the rule has it
 moved :
-    (h : Heap) (s : PlaceState) (id place n : ℕ) (v w : Stand) (x : Maybe (Option Pass)) → PlacesHold h s → get_elem? s.views id ≡ some v
+    (h : HeapFields) (s : PlaceState) (id place n : ℕ) (v w : Stand) (x : Maybe (Option Pass)) → PlacesHold h s → get_elem? s.views id ≡ some v
     → place < length s.homes → IsAbout v place → ((k : ℕ) → IsAbout w k → k ≡ place) → Knows h w place n x
     → (n ≡ 2 → (p : Pass) × (x ≡ some (Some p)) × IsGiven h place p) → PlacesHold h (changed s id place n w x)
 moved h s id place n v w x holds here low about only knows given =
@@ -82,7 +82,7 @@ lies-at (x ∷ xs) (suc i) a is = lies-at xs i a is
 
 -- a ticket's seat takes its place
 pub takes-place :
-    (h : Heap) (slots id place : ℕ) → place < slots
+    (h : HeapFields) (slots id place : ℕ) → place < slots
     → Allows (PlacesHold h) slots id (stand.Waits place, []) place (λ _. 1) (λ _ after. HasTaken place (stand.Waits place, []) after)
 takes-place h slots id place within s holds count at small =
     let low : place < length s.homes = subst (λ (n : ℕ). place < n) (sym count) within in
@@ -101,7 +101,7 @@ laid_in ((place, Some p) ∷ rest) d = p
 
 -- and leaves a pass there
 pub lays-pass :
-    (h : Heap) (slots id place : ℕ) (p : Pass) → place < slots → IsGiven h place p
+    (h : HeapFields) (slots id place : ℕ) (p : Pass) → place < slots → IsGiven h place p
     → Allows (PlacesHold h) slots id (stand.Takes place, (place, Some p) ∷ []) place (λ _. 2)
     (λ _ after. HasLaid place (stand.Takes place, (place, Some p) ∷ []) after)
 unfolding laid_in
@@ -137,7 +137,7 @@ whose s id next i u at =
 
 -- a place is handed out
 pub deals-place :
-    (h : Heap) (s : PlaceState) (id next : ℕ) → PlacesHold h s → get_elem? s.views id ≡ some (stand.Deals next)
+    (h : HeapFields) (s : PlaceState) (id next : ℕ) → PlacesHold h s → get_elem? s.views id ≡ some (stand.Deals next)
     → PlacesHold h (record { words = s.words; homes = s.homes; views = set s.views id (stand.Deals (suc next)) ++ stand.Waits next ∷ [] })
 deals-place h s id next holds here = record {
   words = holds.words;

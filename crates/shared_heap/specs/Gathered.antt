@@ -3,27 +3,27 @@ use Rattle.std.specs.Prelude.{Any, ℕ, ◌≡◌, ◌≢◌, ◌<◌, ◌≤◌
 use mathlib.Core.Option.{some}
 use lib.ListN.{get_elem?}
 use Rattle.heap_geometry.specs.declared.limits.TheConstants.{MAX_CALLERS}
-use Rattle.live_heap.specs.declared.heap.Heap.{Heap}
+use Rattle.live_heap.specs.Heaps.{HeapFields}
 use Rattle.live_heap.specs.declared.pass.Pass.{Pass}
 use Rattle.live_heap.specs.Endings.{AreAllIdle, ClosedFields, HasAccesses, HasClosed, IsResting}
 use Rattle.shared_heap.specs.declared.places.Stand.TheVariants as stand
 use Rattle.shared_heap.specs.Places.{IsGiven, PlaceState, PlacesHold, home_at}
 
 -- the places as they were when the last owner found them: the rule of the places holds, and this pass was given back by the seat with this number
-pub record StoodWith (h : Heap) (own : Pass) (s : PlaceState) : Type 0 where
+pub record StoodWith (h : HeapFields) (own : Pass) (s : PlaceState) : Type 0 where
   pub holds : PlacesHold h s
   pub id : ℕ
   pub laid : get_elem? s.views id ≡ some (stand.Laid own)
   pub all : length s.homes ≡ MAX_CALLERS
 
 -- these passes lay in the first places, one in each, in their order
-abbrev pub LieIn : Heap → PlaceState → List Pass → Type 0
+abbrev pub LieIn : HeapFields → PlaceState → List Pass → Type 0
 LieIn h s passes =
     (place : ℕ) (p : Pass) → place < length passes → p ≡ slice_index_or passes place p
     → (slice_index s.words place ≡ 2) × (home_at s place ≡ some (Some p)) × IsGiven h place p
 
 -- the passes of the first places, up to one that no pass lay in
-pub record HasGathered (h : Heap) (own : Pass) (passes : List Pass) : Type 0 where
+pub record HasGathered (h : HeapFields) (own : Pass) (passes : List Pass) : Type 0 where
   pub state : PlaceState
   pub stood : StoodWith h own state
   pub lie : LieIn h state passes
@@ -39,7 +39,7 @@ PushesNext before place found (Some p) after =
     × (found ≢ 2 → after ≡ before)
 
 -- the heap was closed with a pass of each caller, each given back in no call, and `own` is one of them as it was given back: they lay in the places
-pub record IsClosedWhole (h : Heap) (own : Pass) (c : ClosedFields) : Type 0 where
+pub record IsClosedWhole (h : HeapFields) (own : Pass) (c : ClosedFields) : Type 0 where
   pub passes : List Pass
   pub state : PlaceState
   pub stood : StoodWith h own state
@@ -52,7 +52,7 @@ pub record IsClosedWhole (h : Heap) (own : Pass) (c : ClosedFields) : Type 0 whe
   pub accesses : HasAccesses c passes
 
 -- a pass of each caller lay in the places, each given back in no call, and a block's words are out with one of them
-pub record HasWordsOut (h : Heap) (own : Pass) : Type 0 where
+pub record HasWordsOut (h : HeapFields) (own : Pass) : Type 0 where
   pub passes : List Pass
   pub state : PlaceState
   pub stood : StoodWith h own state
@@ -61,7 +61,7 @@ pub record HasWordsOut (h : Heap) (own : Pass) : Type 0 where
   pub out : Any (λ p. 0 < p.out) passes
 
 -- no pass lay in some caller's place
-pub record Lacks (h : Heap) (own : Pass) : Type 0 where
+pub record Lacks (h : HeapFields) (own : Pass) : Type 0 where
   pub state : PlaceState
   pub stood : StoodWith h own state
   pub caller : ℕ

@@ -4,7 +4,7 @@ use mathlib.Core.Option.{Option as Maybe, some, none}
 use lib.ListN.{get_elem?}
 use Rattle.atomic_table.specs.Table.{Me, State}
 use Rattle.errand_steps.specs.Begins.{IsIdle}
-use Rattle.live_heap.specs.declared.heap.Heap.{Heap}
+use Rattle.live_heap.specs.Heaps.{HeapFields}
 use Rattle.live_heap.specs.declared.pass.Pass.{Pass}
 use Rattle.live_heap.specs.Passes.{IsOf}
 use Rattle.shared_heap.specs.declared.places.Stand.{Stand}
@@ -26,18 +26,18 @@ IsAbout (stand.Takes caller) place = place ≡ caller
 IsAbout (stand.Laid p) place = place ≡ p.errand.caller
 
 -- a pass of the heap, in no call, lies in the place of its caller
-abbrev pub IsGiven : Heap → ℕ → Pass → Type 0
+abbrev pub IsGiven : HeapFields → ℕ → Pass → Type 0
 IsGiven h place p = IsOf h p × IsIdle p.errand × (p.errand.caller ≡ place)
 
 -- what is so of the place's word and of what lies there, by a seat that is about it: no pass lies there yet; or it is taken; or the pass that the seat has laid lies there
-abbrev pub Knows : Heap → Stand → ℕ → ℕ → Maybe (Option Pass) → Type 0
+abbrev pub Knows : HeapFields → Stand → ℕ → ℕ → Maybe (Option Pass) → Type 0
 Knows h (stand.Deals next) place word home = (word ≡ 0) × (home ≡ some None)
 Knows h (stand.Waits caller) place word home = (word ≡ 0) × (home ≡ some None)
 Knows h (stand.Takes caller) place word home = word ≡ 1
 Knows h (stand.Laid p) place word home = (word ≡ 2) × (home ≡ some (Some p)) × IsGiven h place p
 
 -- each place has a word and at most one seat that is about it, which knows what lies there; and where the word is 2 a pass lies that was given back
-pub record PlacesHold (h : Heap) (s : PlaceState) : Type 0 where
+pub record PlacesHold (h : HeapFields) (s : PlaceState) : Type 0 where
   pub words : length s.homes ≤ length s.words
   pub each :
       (id : ℕ) (v : Stand) (place : ℕ) → get_elem? s.views id ≡ some v → IsAbout v place → place < length s.homes

@@ -34,7 +34,7 @@ pub struct SharedHeap {
     heap: Heap,
     places: Table<Option<Pass>, Stand, Heap, GivenBack, Global>,
     ghost counts: { (places.shared.table_id.words ≡ MAX_CALLERS) × (places.shared.table_id.slots ≡ MAX_CALLERS) },
-    ghost table: { places.shared.key.table.shared.id ≡ heap.table.shared.id },
+    ghost table: { places.shared.key.region ≡ heap.region },
     ghost layout: { places.shared.key.layout ≡ heap.layout },
 }
 

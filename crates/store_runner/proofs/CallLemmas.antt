@@ -4,7 +4,7 @@ use Rattle.heap_geometry.specs.declared.need.Need.{Need}
 use Rattle.pool_model.specs.Counts.{is_alloc, is_free}
 use Rattle.errand_steps.specs.declared.reply.Reply.TheVariants as reply
 use Rattle.errand_steps.specs.Calls.{alloc, free}
-use Rattle.live_heap.specs.declared.heap.Heap.{Heap}
+use Rattle.live_heap.specs.Heaps.{HeapFields}
 use Rattle.live_heap.specs.declared.pass.Pass.{Pass}
 use Rattle.live_heap.specs.declared.answers.AllocAnswer.TheVariants as alloc_answer
 use Rattle.live_heap.specs.declared.answers.FreeAnswer.TheVariants as free_answer
@@ -51,7 +51,7 @@ made-grows p q (m ∷ made) (next, one, rest) =
     begins-on (seen p) (seen next) (seen q) (once-grows p next m.call m.answer one) (made-grows next q made rest)
 
 -- whole calls that led to a pass lead on by those that are counted
-pub come-on : (h : Heap) (given freed : ℕ) (p q : Pass) → HasComeTo h p → CountsBlocks given freed p q → HasComeTo h q
+pub come-on : (h : HeapFields) (given freed : ℕ) (p q : Pass) → HasComeTo h p → CountsBlocks given freed p q → HasComeTo h q
 come-on h given freed p q come counts = record {
   first = come.first;
   fresh = come.fresh;
@@ -72,7 +72,7 @@ counts-then a b c d p q r x y = record {
 pub counts-self : (p : Pass) → CountsBlocks 0 0 p p
 counts-self p = record { caller = refl; given_is = omega arith; freed_is = omega arith; made = []; led = refl }
 
-pub rests-count : (h : Heap) (p q : Pass) → Rests h p q → CountsBlocks 0 0 p q
+pub rests-count : (h : HeapFields) (p q : Pass) → Rests h p q → CountsBlocks 0 0 p q
 rests-count h p q r =
     record { caller = r.caller; given_is = omega (arith, r.given); freed_is = omega (arith, r.freed); made = r.made; led = led-made h p q r.made r.led }
 
@@ -140,44 +140,44 @@ freed-counts p q block tries tells =
 
 -- an addition that is done, refused or spent
 pub answer-counts :
-    (h : Heap) (p q : Pass) (words tries : ℕ) → IsAnswerOf h p words tries stored.Done q → CountsBlocks 1 0 p q
+    (h : HeapFields) (p q : Pass) (words tries : ℕ) → IsAnswerOf h p words tries stored.Done q → CountsBlocks 1 0 p q
 answer-counts h p q words tries (block, given, tells, rests) =
     counts-then 1 0 0 0 p given q (given-counts p given words tells.0.steps block.place block.need tells.0.called) (rests-count h given q rests)
 
 -- a store's call that waited goes on, whatever it waited for
 pub busy-goes :
-    (h : Heap) (waits : Pending) (p q : Pass) (tries : ℕ) → IsResumedAnswer h waits p tries stored.Busy q → GoesOnTo h p tries resumed.Busy q
+    (h : HeapFields) (waits : Pending) (p q : Pass) (tries : ℕ) → IsResumedAnswer h waits p tries stored.Busy q → GoesOnTo h p tries resumed.Busy q
 busy-goes h pending.Nothing p q tries is = is
 busy-goes h (pending.Pair key value) p q tries is = is
 busy-goes h (pending.Record words) p q tries is = is
 busy-goes h pending.Free p q tries is = is
 
 refused-goes :
-    (h : Heap) (waits : Pending) (p q : Pass) (tries : ℕ) → IsResumedAnswer h waits p tries stored.Refused q → GoesOnTo h p tries resumed.Refused q
+    (h : HeapFields) (waits : Pending) (p q : Pass) (tries : ℕ) → IsResumedAnswer h waits p tries stored.Refused q → GoesOnTo h p tries resumed.Refused q
 refused-goes h pending.Nothing p q tries is = is
 refused-goes h (pending.Pair key value) p q tries is = is
 refused-goes h (pending.Record words) p q tries is = is
 refused-goes h pending.Free p q tries is = is
 
 spent-goes :
-    (h : Heap) (waits : Pending) (p q : Pass) (tries : ℕ) → IsResumedAnswer h waits p tries stored.Spent q → GoesOnTo h p tries resumed.Spent q
+    (h : HeapFields) (waits : Pending) (p q : Pass) (tries : ℕ) → IsResumedAnswer h waits p tries stored.Spent q → GoesOnTo h p tries resumed.Spent q
 spent-goes h pending.Nothing p q tries is = is
 spent-goes h (pending.Pair key value) p q tries is = is
 spent-goes h (pending.Record words) p q tries is = is
 spent-goes h pending.Free p q tries is = is
 
-abbrev IsGivenThen : Heap → Pass → ℕ → Pass → Type 0
+abbrev IsGivenThen : HeapFields → Pass → ℕ → Pass → Type 0
 IsGivenThen h p tries q = (block : Block) × (given : Pass) × GoesOnTo h p tries (resumed.Given block) given × Rests h given q
 
 done-goes :
-    (h : Heap) (waits : Pending) (p q : Pass) (tries : ℕ) → waits ≢ pending.Free → IsResumedAnswer h waits p tries stored.Done q → IsGivenThen h p tries q
+    (h : HeapFields) (waits : Pending) (p q : Pass) (tries : ℕ) → waits ≢ pending.Free → IsResumedAnswer h waits p tries stored.Done q → IsGivenThen h p tries q
 done-goes h pending.Nothing p q tries adds is = is
 done-goes h (pending.Pair key value) p q tries adds is = is
 done-goes h (pending.Record words) p q tries adds is = is
 done-goes h pending.Free p q tries adds is = absurd (adds refl)
 
 pub resumed-done :
-    (h : Heap) (waits : Pending) (first p q : Pass) (tries asked made : ℕ) → waits ≢ pending.Free → IsResumedAnswer h waits p tries stored.Done q
+    (h : HeapFields) (waits : Pending) (first p q : Pass) (tries asked made : ℕ) → waits ≢ pending.Free → IsResumedAnswer h waits p tries stored.Done q
     → IsOf h first → IsCalling first (alloc asked) made p → CountsBlocks 1 0 first q
 resumed-done h waits first p q tries asked made adds is was calling =
     let g = done-goes h waits p q tries adds is in
@@ -185,14 +185,14 @@ resumed-done h waits first p q tries asked made adds is was calling =
     counts-then 1 0 0 0 first g.1 q (given-counts first g.1 asked tells.0.steps g.0.place g.0.need tells.0.called) (rests-count h g.1 q g.3)
 
 pub resumed-refused :
-    (h : Heap) (waits : Pending) (first p q : Pass) (tries asked made : ℕ) → IsResumedAnswer h waits p tries stored.Refused q
+    (h : HeapFields) (waits : Pending) (first p q : Pass) (tries asked made : ℕ) → IsResumedAnswer h waits p tries stored.Refused q
     → IsOf h first → IsCalling first (alloc asked) made p → CountsBlocks 0 0 first q
 resumed-refused h waits first p q tries asked made is was calling =
     let tells = refused-goes h waits p q tries is first (alloc asked) made was calling in
     refused-counts first q asked tells.steps tells.called
 
 pub resumed-spent :
-    (h : Heap) (waits : Pending) (first p q : Pass) (tries asked made : ℕ) → IsResumedAnswer h waits p tries stored.Spent q
+    (h : HeapFields) (waits : Pending) (first p q : Pass) (tries asked made : ℕ) → IsResumedAnswer h waits p tries stored.Spent q
     → IsOf h first → IsCalling first (alloc asked) made p → CountsBlocks 0 0 first q
 resumed-spent h waits first p q tries asked made is was calling =
     let tells = spent-goes h waits p q tries is first (alloc asked) made was calling in
@@ -253,7 +253,7 @@ abbrev pub Frees : Store → Store → ℕ → List (ℕ × ℕ) → Type 0
 Frees s t key pairs = (freed : ℕ) × CountsBlocks 0 freed s.pass t.pass × (length (without_first key pairs) + freed ≡ length pairs)
 
 pub freed-of :
-    (h : Heap) (s t : Store) (key tries : ℕ) (pairs : List (ℕ × ℕ)) (found : Option (ℕ × ℕ)) (came : Popped) → first_with key pairs ≡ found
+    (h : HeapFields) (s t : Store) (key tries : ℕ) (pairs : List (ℕ × ℕ)) (found : Option (ℕ × ℕ)) (came : Popped) → first_with key pairs ≡ found
     → TellsPopped found came → ((k v : ℕ) → came ≢ popped.Got k v false) → IsFreed h s tries came t → Frees s t key pairs
 freed-of h s t key tries pairs None popped.Empty is tells never freed =
     (0, rests-count h s.pass t.pass freed, omega (arith, ap (λ (l : List (ℕ × ℕ)). length l) (first-kept key pairs is)))
@@ -268,12 +268,12 @@ freed-of h s t key tries pairs (Some pair) (popped.Got k v true) is tells never 
 
 abbrev pub FreesAtOnce : Type 0
 FreesAtOnce =
-    (h : Heap) (p q : Pass) (block : Block) (tries : ℕ) → IsOf h q → h.layout.callers ≡ 1 → 0 < tries
+    (h : HeapFields) (p q : Pass) (block : Block) (tries : ℕ) → IsOf h q → h.layout.callers ≡ 1 → 0 < tries
     → ¬ FreeTells p block tries free_answer.Busy q
 
 -- a free of the only caller has always ended
 pub taken-ready :
-    (h : Heap) (s t : Store) (tries : ℕ) (came : Popped) → FreesAtOnce → h.layout.callers ≡ 1 → 0 < tries → LeavesPopped h came t
+    (h : HeapFields) (s t : Store) (tries : ℕ) (came : Popped) → FreesAtOnce → h.layout.callers ≡ 1 → 0 < tries → LeavesPopped h came t
     → IsFreed h s tries came t → IsReady h t × ((k v : ℕ) → came ≢ popped.Got k v false)
 taken-ready h s t tries popped.Empty law one some left freed = (left, λ k v (e : popped.Empty ≡ popped.Got k v false). cc)
 taken-ready h s t tries (popped.Got a b true) law one some left freed = (left, λ k v (e : popped.Got a b true ≡ popped.Got k v false). cc)

@@ -8,7 +8,7 @@ use Rattle.pool_model.specs.Histories.{caller_of, own}
 use Rattle.pool_model.specs.Legal.{IsLegal, IsLegalWithoutCounts}
 use Rattle.pool_model.specs.Pool.{pool_of}
 use Rattle.errand_steps.specs.Begins.{IsIdle}
-use Rattle.live_heap.specs.declared.heap.Heap.{Heap}
+use Rattle.live_heap.specs.Heaps.{HeapFields}
 use Rattle.live_heap.specs.declared.pass.Pass.{Pass}
 use Rattle.live_heap.specs.Contents.{owned_after, owned_in}
 use Rattle.live_heap.specs.Endings.{AreAllIdle, ClosedFields, HasAccesses, HasClosed, HasTakenIn, IsResting}
@@ -23,7 +23,7 @@ use Rattle.store_runner.proofs.KeepLemmas.{keeps-same}
 
 -- the one pass of a new heap
 pub one-pass :
-    (h : Heap) (passes rest : List Pass) (first : Pass) → AreFrom h 0 passes → length passes ≡ 1 → first ≡ slice_index_or passes 0 first
+    (h : HeapFields) (passes rest : List Pass) (first : Pass) → AreFrom h 0 passes → length passes ≡ 1 → first ≡ slice_index_or passes 0 first
     → rest ≡ take 0 passes ++ drop 1 passes → IsFresh h first × (first.errand.caller ≡ 0) × (rest ≡ [])
 one-pass h [] rest first from all is left = absurd (omega (arith, all))
 one-pass h (x ∷ []) rest first from all is left =
@@ -35,7 +35,7 @@ one-pass h (x ∷ []) rest first from all is left =
 one-pass h (x ∷ y ∷ passes) rest first from all is left = absurd (omega (arith, all))
 
 pub one-idle :
-    (h : Heap) (rest passes : List Pass) (p : Pass) → IsOf h p → IsIdle p.errand → rest ≡ [] → passes ≡ rest ++ p ∷ [] → h.layout.callers ≡ 1
+    (h : HeapFields) (rest passes : List Pass) (p : Pass) → IsOf h p → IsIdle p.errand → rest ≡ [] → passes ≡ rest ++ p ∷ [] → h.layout.callers ≡ 1
     → AreAllIdle h passes × (passes ≡ p ∷ [])
 one-idle h rest passes p of idle none with_it callers =
     let Rests : Pass → Type 0 = λ x. IsOf h x × IsIdle x.errand in
@@ -72,7 +72,7 @@ StoresRead rounds c script =
     (stored : IsStored rounds c) × (stored.pairs ≡ script.pairs.items) × (stored.words ≡ script.words.items)
 
 pub closed-stored :
-    (h : Heap) (rounds : ℕ) (script : Script) (c : ClosedFields) → SaysClosed → CountsBlocks → h.layout ≡ store_heap → HasRun h rounds script
+    (h : HeapFields) (rounds : ℕ) (script : Script) (c : ClosedFields) → SaysClosed → CountsBlocks → h.layout ≡ store_heap → HasRun h rounds script
     → HasClosed h (script.pass ∷ []) c → HasAccesses c (script.pass ∷ []) → IsResting c → IsLegal c.geometry c.events → IsLegalWithoutCounts c.geometry c.events
     → StoresRead rounds c script
 closed-stored h rounds script c says counted laid run closed accesses rests legal weaker =

@@ -3,7 +3,7 @@ use Rattle.std.proofs.Common.{ℕ, suc, ◌≡◌, List, [], ◌∷◌, ◌++◌
 use Rattle.std.specs.List.{AllZip}
 use Rattle.pool_model.specs.Pool.{Block as PoolBlock}
 use Rattle.live_heap.specs.declared.block.Block.{Block}
-use Rattle.live_heap.specs.declared.heap.Heap.{Heap}
+use Rattle.live_heap.specs.Heaps.{HeapFields}
 use Rattle.live_heap.specs.declared.pass.Pass.{Pass}
 use Rattle.live_heap.specs.Contents.{owned_in, word_of}
 use Rattle.live_heap.specs.Holdings.{Holds, HoldsExactly}
@@ -31,13 +31,13 @@ one-record p (b ∷ []) words are = (b, refl, are.0)
 one-record p (b ∷ c ∷ bs) words are = absurd are.1
 
 -- blocks that spell a list and a record, and that were read last
-abbrev pub KeepsRead : (ℕ → Option PoolBlock) → Heap → List (ℕ × ℕ) → List ℕ → List (ℕ × ℕ) → List ℕ → Pass → Type 0
+abbrev pub KeepsRead : (ℕ → Option PoolBlock) → HeapFields → List (ℕ × ℕ) → List ℕ → List (ℕ × ℕ) → List ℕ → Pass → Type 0
 KeepsRead owned h pairs words listed found p =
     (keeps : IsSpelled owned pairs words) × ReadsBack h keeps.slots keeps.head keeps.block listed found p
 
 -- what the store's list and its record were read as, where both reads left all but its pass
 read-last :
-    (h : Heap) (s t u : Store) (listed : List (ℕ × ℕ)) (found : List ℕ) (block : Block) → t ≡ record s { pass = t.pass }
+    (h : HeapFields) (s t u : Store) (listed : List (ℕ × ℕ)) (found : List ℕ) (block : Block) → t ≡ record s { pass = t.pass }
     → u ≡ record t { pass = u.pass } → u.records.items ≡ block ∷ [] → ReadsPairs h s.pass s.slots.items s.head listed t.pass
     → ReadsRecord h t.pass t.records.items 0 (Some found) u.pass → ReadsBack h u.slots.items u.head block listed found u.pass
 read-last h s t u listed found block first second only pairs (token, there, record_read) =
@@ -53,7 +53,7 @@ read-last h s t u listed found block first second only pairs (token, there, reco
     (s.pass, t.pass, listed_then, subst (λ (b : Block). LedBy h t.pass (record_reads b found) u.pass) is record_read)
 
 pub store-keeps :
-    (h : Heap) (s t u : Store) (listed pairs : List (ℕ × ℕ)) (found words : List ℕ) → t ≡ record s { pass = t.pass }
+    (h : HeapFields) (s t u : Store) (listed pairs : List (ℕ × ℕ)) (found words : List ℕ) → t ≡ record s { pass = t.pass }
     → u ≡ record t { pass = u.pass } → ReadsPairs h s.pass s.slots.items s.head listed t.pass
     → ReadsRecord h t.pass t.records.items 0 (Some found) u.pass → IsReady h u → HasList u pairs → HasRecords u (words ∷ [])
     → KeepsRead (owned_in u.pass) h pairs words listed found u.pass
@@ -90,7 +90,7 @@ owned-same owned now [] same are = tt
 owned-same owned now (b ∷ bs) same are = ((are.0.0, same b.place ∙ are.0.1), are.1, owned-same owned now bs same are.2)
 
 pub keeps-same :
-    (owned now : ℕ → Option PoolBlock) (h : Heap) (pairs : List (ℕ × ℕ)) (words : List ℕ) (listed : List (ℕ × ℕ)) (found : List ℕ) (p : Pass)
+    (owned now : ℕ → Option PoolBlock) (h : HeapFields) (pairs : List (ℕ × ℕ)) (words : List ℕ) (listed : List (ℕ × ℕ)) (found : List ℕ) (p : Pass)
     → ((place : ℕ) → now place ≡ owned place) → (k : IsSpelled owned pairs words) → ReadsBack h k.slots k.head k.block listed found p
     → KeepsRead now h pairs words listed found p
 keeps-same owned now h pairs words listed found p same k read = (

@@ -3,7 +3,7 @@ use Rattle.std.proofs.Common.{ℕ, suc, ◌≡◌, ◌+◌, ◌%◌, List, [], �
 use Rattle.pool_model.specs.declared.event.Event.{Event}
 use Rattle.pool_model.specs.Counts.{is_alloc, is_free}
 use Rattle.pool_model.specs.Histories.{own}
-use Rattle.live_heap.specs.declared.heap.Heap.{Heap}
+use Rattle.live_heap.specs.Heaps.{HeapFields}
 use Rattle.live_heap.specs.declared.pass.Pass.{Pass}
 use Rattle.live_heap.specs.Contents.{owned_after, owned_in}
 use Rattle.live_heap.specs.Passes.{IsFresh, seen}
@@ -42,7 +42,7 @@ round-of u rounds caller has given freed =
     }
 
 round-behind :
-    (h : Heap) (rounds : ℕ) (s t u : Store) → IsBehind h rounds s → Lists s t (without_first ((rounds + 1) % 7)) → Records s t
+    (h : HeapFields) (rounds : ℕ) (s t u : Store) → IsBehind h rounds s → Lists s t (without_first ((rounds + 1) % 7)) → Records s t
     → ((pairs : List (ℕ × ℕ)) → HasList s pairs → Frees s t ((rounds + 1) % 7) pairs) → IsReady h u
     → Lists t u (λ pairs. ((rounds + 1) % 7, rounds + 1) ∷ pairs) → Records t u → CountsBlocks 1 0 t.pass u.pass → IsBehind h (rounds + 1) u
 round-behind h rounds s t u behind out kept frees ready front stay counts =
@@ -78,7 +78,7 @@ round-behind h rounds s t u behind out kept frees ready front stay counts =
 
 -- the store stands behind one round more, by whatever number is that of the rounds
 pub round-at :
-    (h : Heap) (rounds n : ℕ) (s t u : Store) → n ≡ rounds → IsBehind h rounds s → Lists s t (without_first ((n + 1) % 7)) → Records s t
+    (h : HeapFields) (rounds n : ℕ) (s t u : Store) → n ≡ rounds → IsBehind h rounds s → Lists s t (without_first ((n + 1) % 7)) → Records s t
     → ((pairs : List (ℕ × ℕ)) → HasList s pairs → Frees s t ((n + 1) % 7) pairs) → IsReady h u
     → Lists t u (λ pairs. ((n + 1) % 7, n + 1) ∷ pairs) → Records t u → CountsBlocks 1 0 t.pass u.pass → IsBehind h (rounds + 1) u
 round-at h rounds n s t u is behind out kept frees ready front stay counts =
@@ -87,7 +87,7 @@ round-at h rounds n s t u is behind out kept frees ready front stay counts =
 
 -- a new store stands before the first round
 pub none-behind :
-    (h : Heap) (p : Pass) (s : Store) → IsFresh h p → p.errand.caller ≡ 0 → IsReady h s → HasList s [] → HasRecords s [] → s.pass ≡ p
+    (h : HeapFields) (p : Pass) (s : Store) → IsFresh h p → p.errand.caller ≡ 0 → IsReady h s → HasList s [] → HasRecords s [] → s.pass ≡ p
     → IsBehind h 0 s
 none-behind h p s fresh caller ready list records same =
     let none : (P : Event → Rattle.std.proofs.Common.Bool) → count_by P (own p.errand.caller (Rattle.live_heap.specs.Passes.seen p)) ≡ 0 =
@@ -108,7 +108,7 @@ one-list s pairs others has too = leads-one (nodes_at (owned_in s.pass) s.slots.
 
 -- the script has run, behind its last round: the list is read, its values are noted, and both are read back
 pub script-ran :
-    (h : Heap) (rounds : ℕ) (s t u : Store) (listed : List (ℕ × ℕ)) (values : List ℕ) (script : Script) → IsBehind h rounds s → HasList s listed
+    (h : HeapFields) (rounds : ℕ) (s t u : Store) (listed : List (ℕ × ℕ)) (values : List ℕ) (script : Script) → IsBehind h rounds s → HasList s listed
     → values ≡ values_of listed → Rests h s.pass t.pass → Lists s t (λ pairs. pairs) → Lists t u (λ pairs. pairs) → HasRecords u (values ∷ [])
     → CountsBlocks 1 0 t.pass u.pass → Rests h u.pass script.pass → HasList u script.pairs.items
     → ((words : List ℕ) → HasRecords u (words ∷ []) → script.words.items ≡ words)

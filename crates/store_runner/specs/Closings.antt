@@ -8,7 +8,7 @@ use Rattle.pool_model.specs.Histories.{Begins}
 use Rattle.pool_model.specs.Legal.{IsLegal}
 use Rattle.pool_model.specs.Pool.{pool_of}
 use Rattle.live_heap.specs.Contents.{owned_after}
-use Rattle.live_heap.specs.declared.heap.Heap.{Heap}
+use Rattle.live_heap.specs.Heaps.{HeapFields}
 use Rattle.live_heap.specs.declared.pass.Pass.{Pass}
 use Rattle.live_heap.specs.Endings.{ClosedFields, HasAccesses, HasClosed, IsResting}
 use Rattle.store_runner.specs.Ends.{IsSpelled, ReadsBack}
@@ -24,7 +24,7 @@ pub record IsStored (rounds : ℕ) (c : ClosedFields) : Type 0 where
   pub rests : IsResting c
   pub legal : IsLegal store_heap c.events
   pub keeps : IsSpelled (owned_after c.events 0) (list_after rounds) (values_of (list_after rounds))
-  pub opened : Heap
+  pub opened : HeapFields
   pub laid : opened.layout ≡ store_heap
   pub pass : Pass
   pub come : HasComeTo opened pass

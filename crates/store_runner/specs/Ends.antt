@@ -4,7 +4,7 @@ use Rattle.std.specs.List.{EachIndex}
 use Rattle.pool_model.specs.Pool.{Block as PoolBlock}
 use Rattle.errand_steps.specs.Begins.{IsIdle}
 use Rattle.live_heap.specs.declared.block.Block.{Block}
-use Rattle.live_heap.specs.declared.heap.Heap.{Heap}
+use Rattle.live_heap.specs.Heaps.{HeapFields}
 use Rattle.live_heap.specs.Contents.{owned_in, word_of}
 use Rattle.live_heap.specs.declared.pass.Pass.{Pass}
 use Rattle.live_heap.specs.Passes.{IsOf, seen}
@@ -36,12 +36,12 @@ pub record IsSpelled (owned : ℕ → Option PoolBlock) (pairs : List (ℕ × �
   pub others : (place : ℕ) → All (λ token. token.place ≢ place) (tokens_in slots ++ block ∷ []) → owned place ≡ None
 
 -- the last calls of a pass read the nodes of a list, from this number on, and then a record, and found these pairs and these words
-abbrev pub ReadsBack : Heap → List Slot → ℕ → Block → List (ℕ × ℕ) → List ℕ → Pass → Type 0
+abbrev pub ReadsBack : HeapFields → List Slot → ℕ → Block → List (ℕ × ℕ) → List ℕ → Pass → Type 0
 ReadsBack h slots head block pairs words q =
     (p : Pass) × (between : Pass) × ReadsPairs h p slots head pairs between × LedBy h between (record_reads block words) q
 
 -- the script was run with so many rounds: whole calls led from a new pass to this one, by which all rounds were played; the caller's blocks spell the list and the record, and the pairs and words are those that reads of these blocks found; it was given a block for each pair and for the record, and has freed all but those that it keeps
-pub record HasRun (h : Heap) (rounds : ℕ) (script : Script) : Type 0 where
+pub record HasRun (h : HeapFields) (rounds : ℕ) (script : Script) : Type 0 where
   pub of : IsOf h script.pass
   pub idle : IsIdle script.pass.errand
   pub caller : script.pass.errand.caller ≡ 0

@@ -4,7 +4,7 @@ use Rattle.pool_model.specs.declared.event.Event.{Event}
 use Rattle.pool_model.specs.Counts.{is_alloc, is_free}
 use Rattle.pool_model.specs.Histories.{Begins, own}
 use Rattle.call_events.specs.Made.{LeadsBy, Made}
-use Rattle.live_heap.specs.declared.heap.Heap.{Heap}
+use Rattle.live_heap.specs.Heaps.{HeapFields}
 use Rattle.live_heap.specs.declared.pass.Pass.{Pass}
 use Rattle.live_heap.specs.Contents.{owned_after}
 use Rattle.live_heap.specs.Passes.{IsFresh, seen}
@@ -42,14 +42,14 @@ HasPlayed zero events = events ≡ []
 HasPlayed (suc rounds) events = (before : List Event) × HasPlayed rounds before × Begins before events × IsRound (suc rounds) events
 
 -- whole calls led from a new pass to this one
-pub record HasComeTo (h : Heap) (p : Pass) : Type 0 where
+pub record HasComeTo (h : HeapFields) (p : Pass) : Type 0 where
   pub first : Pass
   pub fresh : IsFresh h first
   pub made : List Made
   pub led : LeadsBy MadeByPass first made p
 
 -- the store stands behind so many rounds: each was given a block, and all blocks but those of the list are freed
-pub record IsBehind (h : Heap) (rounds : ℕ) (s : Store) : Type 0 where
+pub record IsBehind (h : HeapFields) (rounds : ℕ) (s : Store) : Type 0 where
   pub ready : IsReady h s
   pub caller : s.pass.errand.caller ≡ 0
   pub list : HasList s (list_after rounds)

@@ -1,6 +1,6 @@
 -- A store beside what it is to hold, and another caller of its heap.
 use Rattle.std.specs.Prelude.{ℕ, ◌≡◌, ◌≢◌, List, length}
-use Rattle.live_heap.specs.declared.heap.Heap.{Heap}
+use Rattle.live_heap.specs.Heaps.{HeapFields}
 use Rattle.live_heap.specs.Hands.{IsHand}
 use Rattle.typed_store.specs.declared.store.Pending.{Pending}
 use Rattle.typed_store.specs.declared.store.Pending.TheVariants.{Nothing, Record}
@@ -10,14 +10,14 @@ use Rattle.store_scripts.specs.declared.rival.Rival.{Rival}
 use Rattle.store_scripts.specs.declared.twin.Twin.{Twin}
 
 -- a store is in no call; or it waits for this, and these are the words of a record that it waits for
-pub record Waits (h : Heap) (s : Store) (pending : Pending) (words : List ℕ) : Type 0 where
+pub record Waits (h : HeapFields) (s : Store) (pending : Pending) (words : List ℕ) : Type 0 where
   pub ready : pending ≡ Nothing → IsReady h s
   pub under_way : pending ≢ Nothing → IsUnderWay h s × (s.pending ≡ pending)
   pub counted : (many : ℕ) → pending ≡ Record many → length words ≡ many
 
-abbrev pub IsTwin : Heap → Twin → Type 0
+abbrev pub IsTwin : HeapFields → Twin → Type 0
 IsTwin h twin = Waits h twin.store twin.waits twin.words.items
 
 -- the other caller of the heap has its blocks in its hand
-abbrev pub IsRival : Heap → Rival → Type 0
+abbrev pub IsRival : HeapFields → Rival → Type 0
 IsRival h rival = IsHand h rival.pass rival.blocks.items

@@ -32,7 +32,7 @@ pub struct Twin {
 }
 
 impl Twin {
-    ghost use Rattle.live_heap.specs.declared.heap.Heap.{Heap};
+    ghost use Rattle.live_heap.specs.Heaps.{HeapFields};
     ghost use Rattle.typed_store.specs.Stores.{IsReady, LeavesStore, LeavesPopped};
     ghost use Rattle.store_scripts.specs.Twins.{IsTwin, Waits};
 

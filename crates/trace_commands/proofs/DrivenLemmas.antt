@@ -18,7 +18,7 @@ use Rattle.lane_outcomes.proofs.LanesLemmas.{lanes-many}
 use Rattle.lane_runner.specs.Driven.{IsDriven}
 use Rattle.lane_runner.specs.Threads.{HaveRun}
 use Rattle.lane_runner.proofs.ClosedFits.{all-taken, closed-fit, driven-taken}
-use Rattle.live_heap.specs.declared.heap.Heap.{Heap}
+use Rattle.live_heap.specs.Heaps.{HeapFields}
 use Rattle.live_heap.specs.declared.pass.Pass.{Pass}
 use Rattle.live_heap.specs.Endings.{ClosedFields, HasAccesses, HasClosed, IsResting, machine_of}
 use Rattle.lane_outcomes.specs.LaneCounts.{as_one}
@@ -50,7 +50,7 @@ run-of passed trace core outcomes is_core driven all_passed =
 
 -- what lanes on threads leave of their heap
 pub shared-run :
-    (passed : ℕ → ℕ → Type 0) (trace : Trace) (h : Heap) (passes : List Pass) (closed : ClosedFields) (outcomes : List (List Outcome))
+    (passed : ℕ → ℕ → Type 0) (trace : Trace) (h : HeapFields) (passes : List Pass) (closed : ClosedFields) (outcomes : List (List Outcome))
     → IsTrace trace → h.layout ≡ trace.heap → HaveRun trace h passes outcomes → HasClosed h passes closed → IsResting closed → HasAccesses closed passes
     → AllPassed passed trace.lanes → IsRun passed trace (IsSharedIn trace) (Ran closed) outcomes
 shared-run passed trace h passes closed outcomes named laid run has_closed rests accesses all_passed =

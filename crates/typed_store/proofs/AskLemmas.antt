@@ -7,7 +7,7 @@ use Rattle.errand_steps.specs.Begins.{IsIdle}
 use Rattle.errand_steps.specs.Calls.{alloc}
 use Rattle.live_heap.specs.declared.answers.AllocAnswer.TheVariants as alloc_answer
 use Rattle.live_heap.specs.declared.block.Block.{Block}
-use Rattle.live_heap.specs.declared.heap.Heap.{Heap}
+use Rattle.live_heap.specs.Heaps.{HeapFields}
 use Rattle.live_heap.specs.declared.pass.Pass.{Pass}
 use Rattle.live_heap.specs.Answers.{AllocTells}
 use Rattle.live_heap.specs.Calls.{HasCalled}
@@ -28,7 +28,7 @@ pub record IsGivenTo (p : Pass) (words : ℕ) (hand : List Block) (block : Block
   pub same : SameFor p q hand
 
 pub given-to :
-    (h : Heap) (p q : Pass) (words steps : ℕ) (hand : List Block) (block : Block) → IsOf h p → IsOf h q
+    (h : HeapFields) (p q : Pass) (words steps : ℕ) (hand : List Block) (block : Block) → IsOf h p → IsOf h q
     → HasCalled p (alloc words) steps (reply.Given block.place block.need) q → HoldsExactly p hand → IsGivenTo p words hand block q
 given-to h p q words steps hand block was of called held =
     let answer = reply.Given block.place block.need in
@@ -41,15 +41,15 @@ given-to h p q words steps hand block was of called held =
     }
 
 -- where no block is given all is as before
-pub refused-stays : (h : Heap) (p q : Pass) (words steps : ℕ) → IsOf h p → IsOf h q → HasCalled p (alloc words) steps reply.Refused q → StaysSame h p q
+pub refused-stays : (h : HeapFields) (p q : Pass) (words steps : ℕ) → IsOf h p → IsOf h q → HasCalled p (alloc words) steps reply.Refused q → StaysSame h p q
 refused-stays h p q words steps was of called =
     called-stays h p q (alloc words) steps reply.Refused was of called (λ blocks. refl) (called-changes h p q (alloc words) steps reply.Refused of called)
 
-pub spent-called-stays : (h : Heap) (p q : Pass) (words steps : ℕ) → IsOf h p → IsOf h q → HasCalled p (alloc words) steps reply.Spent q → StaysSame h p q
+pub spent-called-stays : (h : HeapFields) (p q : Pass) (words steps : ℕ) → IsOf h p → IsOf h q → HasCalled p (alloc words) steps reply.Spent q → StaysSame h p q
 spent-called-stays h p q words steps was of called =
     called-stays h p q (alloc words) steps reply.Spent was of called (λ blocks. refl) (called-changes h p q (alloc words) steps reply.Spent of called)
 
 pub spent-stays :
-    (h : Heap) (p q : Pass) (words tries : ℕ) → IsOf h p → IsIdle p.errand → IsOf h q → AllocTells p words tries alloc_answer.Spent q → StaysSame h p q
+    (h : HeapFields) (p q : Pass) (words tries : ℕ) → IsOf h p → IsIdle p.errand → IsOf h q → AllocTells p words tries alloc_answer.Spent q → StaysSame h p q
 spent-stays h p q words tries of_p idle of (inl once) = subst (StaysSame h p) (sym once.same) (reads-stay h p p (reads-self h p of_p idle))
 spent-stays h p q words tries of_p idle of (inr ended) = spent-called-stays h p q words ended.0.steps of_p of ended.0.called

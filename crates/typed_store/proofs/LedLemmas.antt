@@ -9,7 +9,7 @@ use Rattle.errand_steps.specs.declared.reply.Reply.{Reply}
 use Rattle.errand_steps.specs.declared.reply.Reply.TheVariants as reply
 use Rattle.call_events.specs.Ends.{HasEnded}
 use Rattle.call_events.specs.Made.{LeadsBy, Made, answered}
-use Rattle.live_heap.specs.declared.heap.Heap.{Heap}
+use Rattle.live_heap.specs.Heaps.{HeapFields}
 use Rattle.live_heap.specs.declared.pass.Pass.{Pass}
 use Rattle.live_heap.specs.Passes.{accesses, seen}
 use Rattle.live_heap.specs.Whole.{MadeByPass, by_steps}
@@ -23,12 +23,12 @@ begins-self p q same = ([], ap seen same ∙ sym (append-nil (seen p)))
 pub begins-on : (xs ys zs : List Event) → Begins xs ys → Begins ys zs → Begins xs zs
 begins-on xs ys zs a b = (a.0 ++ b.0, b.1 ∙ (ap (λ l. l ++ b.0) a.1 ∙ append_assoc xs a.0 b.0))
 
-pub led-grows : (h : Heap) (p q : Pass) (made : List Made) → LedBy h p made q → Begins (seen p) (seen q)
+pub led-grows : (h : HeapFields) (p q : Pass) (made : List Made) → LedBy h p made q → Begins (seen p) (seen q)
 led-grows h p q [] led = begins-self p q led
 led-grows h p q (m ∷ made) (next, one, rest) =
     begins-on (seen p) (seen next) (seen q) (called-grows p next m.call 0 m.answer one.0) (led-grows h next q made rest)
 
-pub led-accesses : (h : Heap) (p q : Pass) (made : List Made) → LedBy h p made q → accesses q ≡ length made + accesses p
+pub led-accesses : (h : HeapFields) (p q : Pass) (made : List Made) → LedBy h p made q → accesses q ≡ length made + accesses p
 led-accesses h p q [] led = omega (arith, ap accesses led)
 led-accesses h p q (m ∷ made) (next, one, rest) = omega (arith, one.0.accesses, led-accesses h next q made rest)
 
@@ -42,7 +42,7 @@ one-adds k m added (inr (place, need, i, v, is)) has =
     ∙ ap (λ (x : Made). event_of k x.call) (sym is)
 
 pub led-events :
-    (h : Heap) (p q : Pass) (made : List Made) → All IsOnWord made → LedBy h p made q
+    (h : HeapFields) (p q : Pass) (made : List Made) → All IsOnWord made → LedBy h p made q
     → own p.errand.caller (seen q) ≡ own p.errand.caller (seen p) ++ events_of p.errand.caller made
 led-events h p q [] on led = ap (λ (x : Pass). own p.errand.caller (seen x)) led ∙ sym (append-nil (own p.errand.caller (seen p)))
 led-events h p q (m ∷ made) on (next, one, rest) =
@@ -56,6 +56,6 @@ led-events h p q (m ∷ made) on (next, one, rest) =
     ∙ (ap (λ l. l ++ events_of k made) (called.events ∙ ap (λ l. mine ++ l) adds) ∙ append_assoc mine (event_of k m.call) (events_of k made))
 
 -- calls of one access each are whole calls
-pub led-made : (h : Heap) (p q : Pass) (made : List Made) → LedBy h p made q → LeadsBy MadeByPass p made q
+pub led-made : (h : HeapFields) (p q : Pass) (made : List Made) → LedBy h p made q → LeadsBy MadeByPass p made q
 led-made h p q [] led = led
 led-made h p q (m ∷ made) (next, one, rest) = (next, by_steps (0, one.0), led-made h next q made rest)

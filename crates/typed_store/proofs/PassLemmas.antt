@@ -18,7 +18,7 @@ use Rattle.errand_steps.specs.Begins.{IsIdle}
 use Rattle.errand_steps.specs.Calls.{Call, read, write}
 use Rattle.call_events.specs.Made.{LeadsBy, Made, answered}
 use Rattle.live_heap.specs.declared.block.Block.{Block}
-use Rattle.live_heap.specs.declared.heap.Heap.{Heap}
+use Rattle.live_heap.specs.Heaps.{HeapFields}
 use Rattle.live_heap.specs.declared.pass.Pass.{Pass}
 use Rattle.live_heap.specs.Calls.{HasCalled}
 use Rattle.live_heap.specs.Contents.{OwnsBut, OwnsSame, owned_in, word_in, word_of}
@@ -37,18 +37,18 @@ use Rattle.typed_store.specs.Walks.{CallsOnce, IsOnWord, IsRead, LedBy}
 use Rattle.typed_store.proofs.CountLemmas.{allocs-blind, counts-on, frees-blind, reads-none, writes-none}
 
 -- a pass that calls have left with what it owned
-pub record StaysSame (h : Heap) (p q : Pass) : Type 0 where
+pub record StaysSame (h : HeapFields) (p q : Pass) : Type 0 where
   pub of : IsOf h q
   pub idle : IsIdle q.errand
   pub hand : (blocks : List Block) → HoldsExactly p blocks → HoldsExactly q blocks
   pub same : OwnsSame p q
 
-pub reads-stay : (h : Heap) (p q : Pass) → KeepsWords h p q → StaysSame h p q
+pub reads-stay : (h : HeapFields) (p q : Pass) → KeepsWords h p q → StaysSame h p q
 reads-stay h p q reads = record { of = reads.rests.of; idle = reads.rests.idle; hand = reads.rests.hand; same = reads.same }
 
 -- a call that leaves the hand and what is owned leaves the pass at rest
 pub called-stays :
-    (h : Heap) (p q : Pass) (call : Call) (steps : ℕ) (answer : Reply) → IsOf h p → IsOf h q → HasCalled p call steps answer q
+    (h : HeapFields) (p q : Pass) (call : Call) (steps : ℕ) (answer : Reply) → IsOf h p → IsOf h q → HasCalled p call steps answer q
     → ((blocks : List Block) → ChangesHand call answer blocks blocks) → OwnsSame p q → StaysSame h p q
 called-stays h p q call steps answer was of called same owned = record {
   of = of;
@@ -66,7 +66,7 @@ leads-on called s t u (m ∷ made) more first rest = (first.0, first.1, leads-on
 
 -- one call of one access
 pub led-once :
-    (h : Heap) (p q : Pass) (call : Call) (answer : Reply) → OwnsFor p call → IsOf h q → HasCalled p call 0 answer q
+    (h : HeapFields) (p q : Pass) (call : Call) (answer : Reply) → OwnsFor p call → IsOf h q → HasCalled p call 0 answer q
     → LedBy h p (answered call answer ∷ []) q
 led-once h p q call answer owns of called = (q, (called, owns, (of, called.idle)), refl)
 
@@ -76,7 +76,7 @@ IsCalm k call answer = (added : List Event) → HasEnded k call answer added →
 
 -- a read or a write of a word leaves the pass at rest
 called-rests :
-    (h : Heap) (p q : Pass) (call : Call) (answer : Reply) → IsOf h p → OwnsFor p call → IsOf h q → HasCalled p call 0 answer q
+    (h : HeapFields) (p q : Pass) (call : Call) (answer : Reply) → IsOf h p → OwnsFor p call → IsOf h q → HasCalled p call 0 answer q
     → ((blocks : List Block) → ChangesHand call answer blocks blocks) → IsCalm p.errand.caller call answer → IsOnWord (answered call answer) → Rests h p q
 called-rests h p q call answer was owns of called same calm on = record {
   of = of;
@@ -92,7 +92,7 @@ called-rests h p q call answer was owns of called same calm on = record {
 }
 
 pub read-reads :
-    (h : Heap) (p q : Pass) (place i word : ℕ) (need : Need) → IsOf h p → OwnsFor p (read place need i) → IsOf h q
+    (h : HeapFields) (p q : Pass) (place i word : ℕ) (need : Need) → IsOf h p → OwnsFor p (read place need i) → IsOf h q
     → HasCalled p (read place need i) 0 (reply.Word word) q → KeepsWords h p q
 unfolding called-rests
 read-reads h p q place i word need was owns of called = record {
@@ -106,7 +106,7 @@ read-reads h p q place i word need was owns of called = record {
 }
 
 pub write-rests :
-    (h : Heap) (p q : Pass) (place i v : ℕ) (need : Need) → IsOf h p → OwnsFor p (write place need i v) → IsOf h q
+    (h : HeapFields) (p q : Pass) (place i v : ℕ) (need : Need) → IsOf h p → OwnsFor p (write place need i v) → IsOf h q
     → HasCalled p (write place need i v) 0 reply.Wrote q → Rests h p q
 write-rests h p q place i v need was owns of called =
     called-rests h p q (write place need i v) reply.Wrote was owns of called (λ blocks. refl)
@@ -117,11 +117,11 @@ write-rests h p q place i v need was owns of called =
     (inr (place, need, i, v, refl))
 
 pub write-changes :
-    (h : Heap) (p q : Pass) (place i v : ℕ) (need : Need) → IsOf h q → HasCalled p (write place need i v) 0 reply.Wrote q
+    (h : HeapFields) (p q : Pass) (place i v : ℕ) (need : Need) → IsOf h q → HasCalled p (write place need i v) 0 reply.Wrote q
     → OwnsBut p q place (option_map (written i v) (owned_in p place))
 write-changes h p q place i v need of called = called-changes h p q (write place need i v) 0 reply.Wrote of called
 
-pub rests-on : (h : Heap) (p q r : Pass) → Rests h p q → Rests h q r → Rests h p r
+pub rests-on : (h : HeapFields) (p q r : Pass) → Rests h p q → Rests h q r → Rests h p r
 rests-on h p q r a b = record {
   of = b.of;
   idle = b.idle;
@@ -135,7 +135,7 @@ rests-on h p q r a b = record {
   led = leads-on (CallsOnce h) p q r a.made b.made a.led b.led;
 }
 
-pub reads-on : (h : Heap) (p q r : Pass) → KeepsWords h p q → KeepsWords h q r → KeepsWords h p r
+pub reads-on : (h : HeapFields) (p q r : Pass) → KeepsWords h p q → KeepsWords h q r → KeepsWords h p r
 unfolding rests-on
 reads-on h p q r a b = record {
   rests = rests-on h p q r a.rests b.rests;
@@ -143,7 +143,7 @@ reads-on h p q r a b = record {
   reads = All-append IsRead a.rests.made b.rests.made a.reads b.reads;
 }
 
-pub reads-self : (h : Heap) (p : Pass) → IsOf h p → IsIdle p.errand → KeepsWords h p p
+pub reads-self : (h : HeapFields) (p : Pass) → IsOf h p → IsIdle p.errand → KeepsWords h p p
 reads-self h p of idle = record {
   rests = record {
     of = of;
@@ -190,7 +190,7 @@ index-within (w ∷ ws) zero v is = omega arith
 index-within (w ∷ ws) (suc i) v is = omega (arith, index-within ws i v is)
 
 pub word-within :
-    (h : Heap) (p : Pass) (token : Block) (i v : ℕ) → IsOf h p → Owns p token → word_in p token.place i ≡ Some v → i < usable_words token.need
+    (h : HeapFields) (p : Pass) (token : Block) (i v : ℕ) → IsOf h p → Owns p token → word_in p token.place i ≡ Some v → i < usable_words token.need
 word-within h p token i v of owns is =
     let formed =
     every-each (IsWellFormed h.layout) (pool_of (seen p)) (sound-of h.layout (seen p) (legal-weaker h.layout (seen p) of.served.legal)).each

@@ -5,7 +5,7 @@ use Rattle.errand_steps.specs.declared.reply.Reply.TheVariants as reply
 use Rattle.errand_steps.specs.Calls.{read, write}
 use Rattle.call_events.specs.Made.{Made, answered, found_from}
 use Rattle.live_heap.specs.declared.block.Block.{Block}
-use Rattle.live_heap.specs.declared.heap.Heap.{Heap}
+use Rattle.live_heap.specs.Heaps.{HeapFields}
 use Rattle.live_heap.specs.declared.pass.Pass.{Pass}
 use Rattle.live_heap.specs.Calls.{HasCalled}
 use Rattle.live_heap.specs.Passes.{IsOf, Owns}
@@ -17,7 +17,7 @@ use Rattle.typed_store.proofs.PassLemmas.{leads-on, led-once, read-reads, reads-
 
 -- one read more behind the calls that led to a pass
 pub led-more :
-    (h : Heap) (p q r : Pass) (b : Block) (made : List Made) (i word : ℕ) → Owns q b → IsOf h r
+    (h : HeapFields) (p q r : Pass) (b : Block) (made : List Made) (i word : ℕ) → Owns q b → IsOf h r
     → HasCalled q (read b.place b.need i) 0 (reply.Word word) r → LedBy h p made q
     → LedBy h p (made ++ answered (read b.place b.need i) (reply.Word word) ∷ []) r
 led-more h p q r b made i word owns of called led =
@@ -26,7 +26,7 @@ led-more h p q r b made i word owns of called led =
 
 -- the three reads of a node
 module _
-    (h : Heap) (p q r s : Pass) (b : Block) (x y z : ℕ) (was : IsOf h p) (owns : Owns p b)
+    (h : HeapFields) (p q r s : Pass) (b : Block) (x y z : ℕ) (was : IsOf h p) (owns : Owns p b)
     (of_q : IsOf h q) (first : HasCalled p (read b.place b.need 0) 0 (reply.Word x) q)
     (of_r : IsOf h r) (second : HasCalled q (read b.place b.need 1) 0 (reply.Word y) r)
     (of_s : IsOf h s) (third : HasCalled r (read b.place b.need 2) 0 (reply.Word z) s) where
@@ -53,7 +53,7 @@ module _
 
 -- the three writes of a node
 pub writes-three :
-    (h : Heap) (p q r s : Pass) (b : Block) (x y z : ℕ) → IsOf h p → Owns p b
+    (h : HeapFields) (p q r s : Pass) (b : Block) (x y z : ℕ) → IsOf h p → Owns p b
     → IsOf h q → HasCalled p (write b.place b.need 0 x) 0 reply.Wrote q
     → IsOf h r → HasCalled q (write b.place b.need 1 y) 0 reply.Wrote r
     → IsOf h s → HasCalled r (write b.place b.need 2 z) 0 reply.Wrote s → Rests h p s

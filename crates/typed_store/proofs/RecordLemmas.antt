@@ -5,7 +5,7 @@ use Rattle.std.proofs.lemmas.Bool.{cases_eq}
 use Rattle.std.proofs.lemmas.Option.{none-some}
 use Rattle.heap_geometry.specs.Need.{usable_words}
 use Rattle.live_heap.specs.declared.block.Block.{Block}
-use Rattle.live_heap.specs.declared.heap.Heap.{Heap}
+use Rattle.live_heap.specs.Heaps.{HeapFields}
 use Rattle.live_heap.specs.declared.pass.Pass.{Pass}
 use Rattle.live_heap.specs.Holdings.{Holds}
 use Rattle.live_heap.specs.Passes.{IsOf, Owns}
@@ -19,7 +19,7 @@ got (x ∷ xs) zero within = (x, refl)
 got (x ∷ xs) (suc i) within = got xs i (omega (arith, within))
 
 -- a record's block has a word more than the record
-pub record-within : (h : Heap) (p : Pass) (block : Block) (words : List ℕ) → IsOf h p → Owns p block → IsRecord p block words → length words < usable_words block.need
+pub record-within : (h : HeapFields) (p : Pass) (block : Block) (words : List ℕ) → IsOf h p → Owns p block → IsRecord p block words → length words < usable_words block.need
 record-within h p block words of owns is =
     elim (cases_eq (length words) 0) [
       | inl none ↦ let first = word-within h p block 0 (length words) of owns is.counted in omega (arith, none, first)

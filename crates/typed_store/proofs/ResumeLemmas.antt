@@ -9,7 +9,7 @@ use Rattle.errand_steps.specs.Begins.{IsIdle}
 use Rattle.errand_steps.specs.Calls.{Call, alloc, free}
 use Rattle.live_heap.specs.declared.answers.Resumed.TheVariants as resumed
 use Rattle.live_heap.specs.declared.block.Block.{Block}
-use Rattle.live_heap.specs.declared.heap.Heap.{Heap}
+use Rattle.live_heap.specs.Heaps.{HeapFields}
 use Rattle.live_heap.specs.declared.pass.Pass.{Pass}
 use Rattle.live_heap.specs.Answers.{ResumeTells}
 use Rattle.live_heap.specs.Calls.{HasCalled, IsCalling, IsInterrupted}
@@ -26,7 +26,7 @@ use Rattle.typed_store.proofs.StayLemmas.{SameFor, calling-alloc-same, calling-f
 use Rattle.typed_store.proofs.StoreLemmas.{built-stays}
 
 -- the store waits for a block of so many words
-pub record AsksFor (h : Heap) (s : Store) (words : ℕ) : Type 0 where
+pub record AsksFor (h : HeapFields) (s : Store) (words : ℕ) : Type 0 where
   pub first : Pass
   pub was : IsOf h first
   pub steps : ℕ
@@ -34,7 +34,7 @@ pub record AsksFor (h : Heap) (s : Store) (words : ℕ) : Type 0 where
   pub exactly : HoldsExactly first (blocks_of s)
 
 pub asks-pair :
-    (h : Heap) (s : Store) (key value : ℕ) → IsUnderWay h s → s.pending ≡ Pair key value → AsksFor h s 3 × (s.unused ≢ 0)
+    (h : HeapFields) (s : Store) (key value : ℕ) → IsUnderWay h s → s.pending ≡ Pair key value → AsksFor h s 3 × (s.unused ≢ 0)
 asks-pair h s key value u is =
     let w : IsWaitingFor s u.first u.call (Pair key value) = subst (IsWaitingFor s u.first u.call) is u.waits in (
       record {
@@ -48,7 +48,7 @@ asks-pair h s key value u is =
     )
 
 pub asks-record :
-    (h : Heap) (s : Store) (many : ℕ) → IsUnderWay h s → s.pending ≡ Record many
+    (h : HeapFields) (s : Store) (many : ℕ) → IsUnderWay h s → s.pending ≡ Record many
     → AsksFor h s (many + 1) × (vec_len s.records < vec_capacity s.records) × (s.recorded < 1000000)
 asks-record h s many u is =
     let w : IsWaitingFor s u.first u.call (Record many) = subst (IsWaitingFor s u.first u.call) is u.waits in (
@@ -72,7 +72,7 @@ pub record GivenNow (s : Store) (words : ℕ) (block : Block) (q : Pass) : Type 
   pub same : SameFor s.pass q (blocks_of s)
 
 pub resumed-given :
-    (h : Heap) (s : Store) (words tries : ℕ) (block : Block) (q : Pass) → (a : AsksFor h s words) → IsOf h s.pass → IsOf h q
+    (h : HeapFields) (s : Store) (words tries : ℕ) (block : Block) (q : Pass) → (a : AsksFor h s words) → IsOf h s.pass → IsOf h q
     → ResumeTells a.first (alloc words) a.steps s.pass tries (resumed.Given block) q → GivenNow s words block q
 resumed-given h s words tries block q a of_s of tells =
     let called = tells.0.called in
@@ -86,11 +86,11 @@ resumed-given h s words tries block q a of_s of tells =
     }
 
 -- the store's call is over, and all that the store holds is as before
-pub record IsOver (h : Heap) (s : Store) (q : Pass) : Type 0 where
+pub record IsOver (h : HeapFields) (s : Store) (q : Pass) : Type 0 where
   pub ready : IsReady h (record s { pass = q })
   pub same : SameFor s.pass q (blocks_of s)
 
-over : (h : Heap) (s : Store) (words : ℕ) (q : Pass) → (a : AsksFor h s words) → IsOf h s.pass → StaysSame h a.first q → IsBuilt s → IsOver h s q
+over : (h : HeapFields) (s : Store) (words : ℕ) (q : Pass) → (a : AsksFor h s words) → IsOf h s.pass → StaysSame h a.first q → IsBuilt s → IsOver h s q
 over h s words q a of_s stays built =
     let same =
     same-since a.first s.pass q (blocks_of s) (calling-alloc-same h a.first s.pass words a.steps (blocks_of s) of_s a.calling a.exactly.0)
@@ -106,19 +106,19 @@ over h s words q a of_s stays built =
     }
 
 pub resumed-refused :
-    (h : Heap) (s : Store) (words tries : ℕ) (q : Pass) → (a : AsksFor h s words) → IsOf h s.pass → IsOf h q → IsBuilt s
+    (h : HeapFields) (s : Store) (words tries : ℕ) (q : Pass) → (a : AsksFor h s words) → IsOf h s.pass → IsOf h q → IsBuilt s
     → ResumeTells a.first (alloc words) a.steps s.pass tries resumed.Refused q → IsOver h s q
 resumed-refused h s words tries q a of_s of built tells =
     over h s words q a of_s (refused-stays h a.first q words tells.steps a.was of tells.called) built
 
 pub resumed-spent :
-    (h : Heap) (s : Store) (words tries : ℕ) (q : Pass) → (a : AsksFor h s words) → IsOf h s.pass → IsOf h q → IsBuilt s
+    (h : HeapFields) (s : Store) (words tries : ℕ) (q : Pass) → (a : AsksFor h s words) → IsOf h s.pass → IsOf h q → IsBuilt s
     → ResumeTells a.first (alloc words) a.steps s.pass tries resumed.Spent q → IsOver h s q
 resumed-spent h s words tries q a of_s of built tells =
     over h s words q a of_s (spent-called-stays h a.first q words tells.0.steps a.was of tells.0.called) built
 
 pub asked-again :
-    (h : Heap) (s : Store) (words tries : ℕ) (q : Pass) → (a : AsksFor h s words) → IsOf h s.pass → IsOf h q
+    (h : HeapFields) (s : Store) (words tries : ℕ) (q : Pass) → (a : AsksFor h s words) → IsOf h s.pass → IsOf h q
     → IsInterrupted a.first (alloc words) a.steps s.pass tries q → SameFor s.pass q (blocks_of s)
 asked-again h s words tries q a of_s of tells =
     same-since a.first s.pass q (blocks_of s) (calling-alloc-same h a.first s.pass words a.steps (blocks_of s) of_s a.calling a.exactly.0)
@@ -126,7 +126,7 @@ asked-again h s words tries q a of_s of tells =
 
 -- the store waits on where its call is interrupted again
 pub busy-on :
-    (h : Heap) (s : Store) (tries : ℕ) (q : Pass) → (u : IsUnderWay h s) → SameFor s.pass q (blocks_of s) → IsOf h q
+    (h : HeapFields) (s : Store) (tries : ℕ) (q : Pass) → (u : IsUnderWay h s) → SameFor s.pass q (blocks_of s) → IsOf h q
     → IsInterrupted u.first u.call u.steps s.pass tries q → IsUnderWay h (record s { pass = q })
 busy-on h s tries q u same of tells = record {
   of = of;
@@ -145,7 +145,7 @@ pub never : (p q : Pass) (call : Call) (steps : ℕ) (answer : Rattle.errand_ste
 never p q call steps answer none called = none-some called.ended.ended.0 (sym none ∙ called.ended.ended.1)
 
 -- the store waits for the free of a block
-pub record FreesNow (h : Heap) (s : Store) : Type 0 where
+pub record FreesNow (h : HeapFields) (s : Store) : Type 0 where
   pub first : Pass
   pub was : IsOf h first
   pub block : Block
@@ -153,7 +153,7 @@ pub record FreesNow (h : Heap) (s : Store) : Type 0 where
   pub calling : IsCalling first (free block.place block.need) steps s.pass
   pub exactly : HoldsExactly first (block ∷ blocks_of s)
 
-pub frees : (h : Heap) (s : Store) → IsUnderWay h s → s.pending ≡ Free → FreesNow h s
+pub frees : (h : HeapFields) (s : Store) → IsUnderWay h s → s.pending ≡ Free → FreesNow h s
 frees h s u is =
     let w : IsWaitingFor s u.first u.call Free = subst (IsWaitingFor s u.first u.call) is u.waits in
     record {
@@ -166,7 +166,7 @@ frees h s u is =
     }
 
 pub resumed-freed :
-    (h : Heap) (s : Store) (tries : ℕ) (q : Pass) → (f : FreesNow h s) → IsOf h s.pass → IsOf h q → IsBuilt s
+    (h : HeapFields) (s : Store) (tries : ℕ) (q : Pass) → (f : FreesNow h s) → IsOf h s.pass → IsOf h q → IsBuilt s
     → ResumeTells f.first (free f.block.place f.block.need) f.steps s.pass tries resumed.Freed q → IsOver h s q
 resumed-freed h s tries q f of_s of built tells =
     let called = tells.called in
@@ -186,7 +186,7 @@ resumed-freed h s tries q f of_s of built tells =
     }
 
 pub freed-again :
-    (h : Heap) (s : Store) (tries : ℕ) (q : Pass) → (f : FreesNow h s) → IsOf h s.pass → IsOf h q
+    (h : HeapFields) (s : Store) (tries : ℕ) (q : Pass) → (f : FreesNow h s) → IsOf h s.pass → IsOf h q
     → IsInterrupted f.first (free f.block.place f.block.need) f.steps s.pass tries q → SameFor s.pass q (blocks_of s)
 freed-again h s tries q f of_s of tells =
     same-since f.first s.pass q (blocks_of s) (calling-free-same h f.first s.pass f.block f.steps (blocks_of s) of_s f.calling f.exactly.0.1)

@@ -11,7 +11,7 @@ use Rattle.errand_steps.specs.declared.reply.Reply.TheVariants as reply
 use Rattle.errand_steps.specs.Calls.{alloc, free}
 use Rattle.heap_geometry.specs.declared.need.Need.{Need}
 use Rattle.live_heap.specs.declared.block.Block.{Block}
-use Rattle.live_heap.specs.declared.heap.Heap.{Heap}
+use Rattle.live_heap.specs.Heaps.{HeapFields}
 use Rattle.live_heap.specs.declared.pass.Pass.{Pass}
 use Rattle.live_heap.specs.Calls.{HasCalled, IsCalling}
 use Rattle.live_heap.specs.Contents.{HasChangedSoFar, OwnsSame, owned_in, word_of}
@@ -83,26 +83,26 @@ so-far-free p q block freed blocks changes away = same-away p q block.place chan
 so-far-free p q block at blocks changes away = same-all p q changes blocks
 
 pub calling-alloc-same :
-    (h : Heap) (p q : Pass) (words steps : ℕ) (blocks : List Block) → IsOf h q → IsCalling p (alloc words) steps q → Holds p blocks
+    (h : HeapFields) (p q : Pass) (words steps : ℕ) (blocks : List Block) → IsOf h q → IsCalling p (alloc words) steps q → Holds p blocks
     → SameFor p q blocks
 calling-alloc-same h p q words steps blocks of calling held =
     so-far-alloc p q words (stage_of q.errand.point) blocks (calling-changes h p q (alloc words) steps of calling) held
 
 pub calling-free-same :
-    (h : Heap) (p q : Pass) (block : Block) (steps : ℕ) (blocks : List Block) → IsOf h q → IsCalling p (free block.place block.need) steps q
+    (h : HeapFields) (p q : Pass) (block : Block) (steps : ℕ) (blocks : List Block) → IsOf h q → IsCalling p (free block.place block.need) steps q
     → All (λ other. other.place ≢ block.place) blocks → SameFor p q blocks
 calling-free-same h p q block steps blocks of calling away =
     so-far-free p q block (stage_of q.errand.point) blocks (calling-changes h p q (free block.place block.need) steps of calling) away
 
 pub given-same :
-    (h : Heap) (p q : Pass) (words steps place : ℕ) (need : Need) (blocks : List Block) → IsOf h q
+    (h : HeapFields) (p q : Pass) (words steps place : ℕ) (need : Need) (blocks : List Block) → IsOf h q
     → HasCalled p (alloc words) steps (reply.Given place need) q → Holds p blocks → SameFor p q blocks
 given-same h p q words steps place need blocks of called held =
     let changes = called-changes h p q (alloc words) steps (reply.Given place need) of called in
     same-given p q place changes.nothing changes.given.others blocks held
 
 pub freed-same :
-    (h : Heap) (p q : Pass) (block : Block) (steps : ℕ) (blocks : List Block) → IsOf h q
+    (h : HeapFields) (p q : Pass) (block : Block) (steps : ℕ) (blocks : List Block) → IsOf h q
     → HasCalled p (free block.place block.need) steps reply.Freed q → All (λ other. other.place ≢ block.place) blocks → SameFor p q blocks
 freed-same h p q block steps blocks of called away =
     same-away p q block.place (called-changes h p q (free block.place block.need) steps reply.Freed of called).others blocks away

@@ -5,7 +5,7 @@ use Rattle.std.proofs.lemmas.Bool.{cases_eq}
 use Rattle.std.proofs.lemmas.Option.{none-some, some_pair_parts}
 use Rattle.pool_model.specs.Pool.{Block as PoolBlock}
 use Rattle.live_heap.specs.declared.block.Block.{Block}
-use Rattle.live_heap.specs.declared.heap.Heap.{Heap}
+use Rattle.live_heap.specs.Heaps.{HeapFields}
 use Rattle.live_heap.specs.declared.pass.Pass.{Pass}
 use Rattle.live_heap.specs.Contents.{owned_in}
 use Rattle.live_heap.specs.Holdings.{HoldsExactly}
@@ -205,7 +205,7 @@ pub words-stay :
 words-stay s q records same has =
     (records-stay s.pass q s.records.items records (same-back s.pass q (tokens_in s.slots.items) s.records.items same) has.0, has.1)
 
-pub ready-stays : (h : Heap) (s : Store) (q : Pass) → IsReady h s → StaysSame h s.pass q → IsReady h (record s { pass = q })
+pub ready-stays : (h : HeapFields) (s : Store) (q : Pass) → IsReady h s → StaysSame h s.pass q → IsReady h (record s { pass = q })
 ready-stays h s q ready stays = record {
   of = stays.of;
   idle = stays.idle;
@@ -213,7 +213,7 @@ ready-stays h s q ready stays = record {
   built = built-stays s q s.pending (same-all s.pass q stays.same (blocks_of s)) ready.built;
 }
 
-pub ready-reads : (h : Heap) (s : Store) (q : Pass) → IsReady h s → KeepsWords h s.pass q → IsReady h (record s { pass = q })
+pub ready-reads : (h : HeapFields) (s : Store) (q : Pass) → IsReady h s → KeepsWords h s.pass q → IsReady h (record s { pass = q })
 ready-reads h s q ready reads = ready-stays h s q ready (reads-stay h s.pass q reads)
 
 pub room-list :
@@ -225,7 +225,7 @@ room-list s slots pairs nodes has =
 
 -- a store with one slot more is ready still
 pub room-ready :
-    (h : Heap) (s : Store) (slots : Vec Slot Global) (unused : ℕ) → tokens_in slots.items ≡ tokens_in s.slots.items
+    (h : HeapFields) (s : Store) (slots : Vec Slot Global) (unused : ℕ) → tokens_in slots.items ≡ tokens_in s.slots.items
     → ((owned : ℕ → Option PoolBlock) (slot : ℕ) → nodes_at owned slots.items slot ≡ nodes_at owned s.slots.items slot) → IsSpare slots.items unused
     → IsReady h s → IsReady h (record s { slots = slots; unused = unused })
 room-ready h s slots unused tokens nodes spare ready =

@@ -6,7 +6,7 @@ use Rattle.errand_steps.specs.declared.reply.Reply.TheVariants as reply
 use Rattle.errand_steps.specs.Calls.{free}
 use Rattle.live_heap.specs.declared.answers.FreeAnswer.TheVariants as free_answer
 use Rattle.live_heap.specs.declared.block.Block.{Block}
-use Rattle.live_heap.specs.declared.heap.Heap.{Heap}
+use Rattle.live_heap.specs.Heaps.{HeapFields}
 use Rattle.live_heap.specs.declared.pass.Pass.{Pass}
 use Rattle.live_heap.specs.Answers.{FreeTells}
 use Rattle.live_heap.specs.Contents.{owned_in}
@@ -70,7 +70,7 @@ pub record IsOut (s : Store) (sought : Sought) (block : Block) (t : Store) : Typ
   pub records : (records : List (List ℕ)) → HasRecords s records → HasRecords t records
 
 pub taken-out :
-    (h : Heap) (s : Store) (r : Pass) (slots : Vec Slot Global) (unused head : ℕ) (block : Block) (sought : Sought) (before after : List (ℕ × ℕ))
+    (h : HeapFields) (s : Store) (r : Pass) (slots : Vec Slot Global) (unused head : ℕ) (block : Block) (sought : Sought) (before after : List (ℕ × ℕ))
     → IsReady h s → StandsBetween (nodes_at (owned_in s.pass) s.slots.items) s.head before sought after → Rests h s.pass r
     → ((front back : List (ℕ × ℕ)) → StandsBetween (nodes_at (owned_in s.pass) s.slots.items) s.head front sought back
     → Leads (but (nodes_at (owned_in r) s.slots.items) sought.slot) head (front ++ back) 0)
@@ -115,7 +115,7 @@ taken-out h s r slots unused head block sought before after ready stands rests l
 
 -- the store is ready once the block that is out of it is freed
 pub freed-ready :
-    (h : Heap) (t : Store) (block : Block) (tries : ℕ) (q : Pass) → IsOf h t.pass → HoldsExactly t.pass (block ∷ blocks_of t) → IsBuilt t → IsOf h q
+    (h : HeapFields) (t : Store) (block : Block) (tries : ℕ) (q : Pass) → IsOf h t.pass → HoldsExactly t.pass (block ∷ blocks_of t) → IsBuilt t → IsOf h q
     → FreeTells t.pass block tries free_answer.Freed q → IsReady h (record t { pass = q })
 freed-ready h t block tries q was held built of tells =
     let called = tells.called in
@@ -131,7 +131,7 @@ freed-ready h t block tries q was held built of tells =
 
 -- the store is under way where the free of the block that is out of it is interrupted
 pub free-under-way :
-    (h : Heap) (t : Store) (block : Block) (tries : ℕ) (q : Pass) → IsOf h t.pass → HoldsExactly t.pass (block ∷ blocks_of t) → IsBuilt t → IsOf h q
+    (h : HeapFields) (t : Store) (block : Block) (tries : ℕ) (q : Pass) → IsOf h t.pass → HoldsExactly t.pass (block ∷ blocks_of t) → IsBuilt t → IsOf h q
     → FreeTells t.pass block tries free_answer.Busy q → IsUnderWay h (record t { pass = q; pending = Free })
 free-under-way h t block tries q was held built of tells = record {
   of = of;
@@ -146,7 +146,7 @@ free-under-way h t block tries q was held built of tells = record {
 
 -- reads in front of a call that freed a block change nothing of what it says
 pub freed-behind :
-    (h : Heap) (s : Store) (q : Pass) (tries : ℕ) (popped : Popped) (t : Store) → KeepsWords h s.pass q → IsFreed h (record s { pass = q }) tries popped t
+    (h : HeapFields) (s : Store) (q : Pass) (tries : ℕ) (popped : Popped) (t : Store) → KeepsWords h s.pass q → IsFreed h (record s { pass = q }) tries popped t
     → IsFreed h s tries popped t
 freed-behind h s q tries Empty t reads freed = rests-on h s.pass q t.pass reads.rests freed
 freed-behind h s q tries (Got key value done) t reads (slot, block, between, is, rests, tells) =
@@ -161,7 +161,7 @@ link-read at now head before previous here stay (inr (front, pair, slot, whole, 
 
 -- a node that stands in a list that was read stands there still
 pub stands-read :
-    (h : Heap) (s : Store) (q : Pass) (before : List (ℕ × ℕ)) (sought : Sought) (after : List (ℕ × ℕ)) → KeepsWords h s.pass q
+    (h : HeapFields) (s : Store) (q : Pass) (before : List (ℕ × ℕ)) (sought : Sought) (after : List (ℕ × ℕ)) → KeepsWords h s.pass q
     → StandsBetween (nodes_at (owned_in s.pass) s.slots.items) s.head before sought after → StandsBetween (nodes_at (owned_in q) s.slots.items) s.head before sought after
 stands-read h s q before sought after reads stands =
     let at = nodes_at (owned_in s.pass) s.slots.items in

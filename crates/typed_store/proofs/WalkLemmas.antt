@@ -5,7 +5,7 @@ use Rattle.std.proofs.lemmas.Bool.{cases_Bool}
 use Rattle.std.proofs.lemmas.Option.{none-some, some_pair_parts}
 use Rattle.pool_model.specs.Pool.{Block as PoolBlock}
 use Rattle.live_heap.specs.declared.block.Block.{Block}
-use Rattle.live_heap.specs.declared.heap.Heap.{Heap}
+use Rattle.live_heap.specs.Heaps.{HeapFields}
 use Rattle.live_heap.specs.declared.pass.Pass.{Pass}
 use Rattle.live_heap.specs.Contents.{owned_in}
 use Rattle.typed_store.specs.declared.slot.Slot.{Slot}
@@ -71,7 +71,7 @@ walk-token owned slots head previous here passed pairs p few =
     (t.0, t.1)
 
 pub walk-node :
-    (h : Heap) (p q : Pass) (slots : List Slot) (head previous here passed : ℕ) (pairs : List (ℕ × ℕ)) (block : Block) → KeepsWords h p q
+    (h : HeapFields) (p q : Pass) (slots : List Slot) (head previous here passed : ℕ) (pairs : List (ℕ × ℕ)) (block : Block) → KeepsWords h p q
     → IsPassing (nodes_at (owned_in p) slots) head previous here passed pairs → passed < length pairs
     → slice_get slots (here - 1) ≡ Some (Node block) → (next : ℕ) × (pair : ℕ × ℕ) × (node_at (owned_in q block.place) ≡ Some (next, pair))
 walk-node h p q slots head previous here passed pairs block reads passing few is =
@@ -80,7 +80,7 @@ walk-node h p q slots head previous here passed pairs block reads passing few is
 
 -- the node that was read in a slot stands there
 pub walk-read :
-    (h : Heap) (p q : Pass) (slots : List Slot) (slot : ℕ) (block : Block) (next : ℕ) (pair : ℕ × ℕ) → KeepsWords h p q
+    (h : HeapFields) (p q : Pass) (slots : List Slot) (slot : ℕ) (block : Block) (next : ℕ) (pair : ℕ × ℕ) → KeepsWords h p q
     → slice_get slots slot ≡ Some (Node block) → node_at (owned_in q block.place) ≡ Some (next, pair)
     → nodes_at (owned_in p) slots slot ≡ Some (next, pair)
 walk-read h p q slots slot block next pair reads is node =

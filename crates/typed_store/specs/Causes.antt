@@ -7,7 +7,7 @@ use Rattle.live_heap.specs.declared.answers.FreeAnswer.TheVariants as free_answe
 use Rattle.live_heap.specs.declared.answers.Resumed.{Resumed}
 use Rattle.live_heap.specs.declared.answers.Resumed.TheVariants as resumed
 use Rattle.live_heap.specs.declared.block.Block.{Block}
-use Rattle.live_heap.specs.declared.heap.Heap.{Heap}
+use Rattle.live_heap.specs.Heaps.{HeapFields}
 use Rattle.live_heap.specs.declared.pass.Pass.{Pass}
 use Rattle.live_heap.specs.Answers.{AllocTells, FreeTells, ResumeTells}
 use Rattle.live_heap.specs.Calls.{IsCalling}
@@ -23,7 +23,7 @@ use Rattle.typed_store.specs.declared.store.Stored.TheVariants.{Done, Refused, S
 use Rattle.typed_store.specs.Passings.{Rests}
 
 -- what an allocation of so many words came to; where it was given a block, reads and writes of the store's are behind it
-abbrev pub IsAnswerOf : Heap → Pass → ℕ → ℕ → Stored → Pass → Type 0
+abbrev pub IsAnswerOf : HeapFields → Pass → ℕ → ℕ → Stored → Pass → Type 0
 IsAnswerOf h p words tries Done q =
     (block : Block) × (given : Pass) × AllocTells p words tries (alloc_answer.Given block) given × Rests h given q
 IsAnswerOf h p words tries Refused q = AllocTells p words tries alloc_answer.Refused q
@@ -31,12 +31,12 @@ IsAnswerOf h p words tries Spent q = AllocTells p words tries alloc_answer.Spent
 IsAnswerOf h p words tries Busy q = AllocTells p words tries alloc_answer.Busy q
 
 -- the call that was under way has gone on to this answer
-abbrev pub GoesOnTo : Heap → Pass → ℕ → Resumed → Pass → Type 0
+abbrev pub GoesOnTo : HeapFields → Pass → ℕ → Resumed → Pass → Type 0
 GoesOnTo h p tries answer q =
     (first : Pass) (call : Call) (made : ℕ) → IsOf h first → IsCalling first call made p → ResumeTells first call made p tries answer q
 
 -- what a call of a store that goes on came to, of a free or of an allocation
-abbrev pub IsResumedAnswer : Heap → Pending → Pass → ℕ → Stored → Pass → Type 0
+abbrev pub IsResumedAnswer : HeapFields → Pending → Pass → ℕ → Stored → Pass → Type 0
 IsResumedAnswer h Free p tries Done q = GoesOnTo h p tries resumed.Freed q
 IsResumedAnswer h pending p tries Done q =
     (block : Block) × (given : Pass) × GoesOnTo h p tries (resumed.Given block) given × Rests h given q
@@ -50,7 +50,7 @@ free_answer_of true = free_answer.Freed
 free_answer_of false = free_answer.Busy
 
 -- a node's block was freed, behind reads and writes of the store's, with this answer; where there is no node, nothing was freed
-abbrev pub IsFreed : Heap → Store → ℕ → Popped → Store → Type 0
+abbrev pub IsFreed : HeapFields → Store → ℕ → Popped → Store → Type 0
 IsFreed h s tries Empty t = Rests h s.pass t.pass
 IsFreed h s tries (Got key value freed) t =
     (slot : ℕ) × (block : Block) × (between : Pass) × (slice_get s.slots.items slot ≡ Some (Node block)) × Rests h s.pass between

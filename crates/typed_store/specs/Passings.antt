@@ -5,7 +5,7 @@ use Rattle.pool_model.specs.Histories.{own}
 use Rattle.errand_steps.specs.Begins.{IsIdle}
 use Rattle.call_events.specs.Made.{Made}
 use Rattle.live_heap.specs.declared.block.Block.{Block}
-use Rattle.live_heap.specs.declared.heap.Heap.{Heap}
+use Rattle.live_heap.specs.Heaps.{HeapFields}
 use Rattle.live_heap.specs.declared.pass.Pass.{Pass}
 use Rattle.live_heap.specs.Contents.{OwnsSame}
 use Rattle.live_heap.specs.Holdings.{HoldsExactly}
@@ -23,7 +23,7 @@ abbrev pub freed_in : Pass → ℕ
 freed_in p = count_by is_free (own p.errand.caller (seen p))
 
 -- the pass is in no call, holds the blocks that it held, has the same blocks' words out, and was given and has freed none since: all that led to it are reads and writes of words, one access each
-pub record Rests (h : Heap) (p q : Pass) : Type 0 where
+pub record Rests (h : HeapFields) (p q : Pass) : Type 0 where
   pub of : IsOf h q
   pub idle : IsIdle q.errand
   pub caller : q.errand.caller ≡ p.errand.caller
@@ -36,7 +36,7 @@ pub record Rests (h : Heap) (p q : Pass) : Type 0 where
   pub led : LedBy h p made q
 
 -- the pass rests, its blocks have the words that they had, and all that led to it are reads
-pub record KeepsWords (h : Heap) (p q : Pass) : Type 0 where
+pub record KeepsWords (h : HeapFields) (p q : Pass) : Type 0 where
   pub rests : Rests h p q
   pub same : OwnsSame p q
   pub reads : All IsRead rests.made

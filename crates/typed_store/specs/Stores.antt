@@ -5,7 +5,7 @@ use Rattle.std.specs.Vec.{vec_capacity, vec_len}
 use Rattle.errand_steps.specs.Begins.{IsIdle}
 use Rattle.errand_steps.specs.Calls.{Call, alloc, free}
 use Rattle.live_heap.specs.declared.block.Block.{Block}
-use Rattle.live_heap.specs.declared.heap.Heap.{Heap}
+use Rattle.live_heap.specs.Heaps.{HeapFields}
 use Rattle.live_heap.specs.declared.pass.Pass.{Pass}
 use Rattle.live_heap.specs.Calls.{IsCalling}
 use Rattle.live_heap.specs.Contents.{owned_in}
@@ -48,7 +48,7 @@ pub record IsBuilt (s : Store) : Type 0 where
   pub spare : IsSpare s.slots.items s.unused
 
 -- the store is in no call, and the blocks of its nodes and of its records are all that its caller owns, each once
-pub record IsReady (h : Heap) (s : Store) : Type 0 where
+pub record IsReady (h : HeapFields) (s : Store) : Type 0 where
   pub of : IsOf h s.pass
   pub idle : IsIdle s.pass.errand
   pub exactly : HoldsExactly s.pass (blocks_of s)
@@ -63,7 +63,7 @@ IsWaitingFor s first call (Record words) =
 IsWaitingFor s first call Free = (block : Block) × (call ≡ free block.place block.need) × HoldsExactly first (block ∷ blocks_of s)
 
 -- a call of the store was interrupted, and what the store holds is as before that call's end
-pub record IsUnderWay (h : Heap) (s : Store) : Type 0 where
+pub record IsUnderWay (h : HeapFields) (s : Store) : Type 0 where
   pub of : IsOf h s.pass
   pub first : Pass
   pub was : IsOf h first
@@ -74,11 +74,11 @@ pub record IsUnderWay (h : Heap) (s : Store) : Type 0 where
   pub built : IsBuilt s
 
 -- how an answer leaves a store: interrupted, so that it waits for this; or in no call
-abbrev pub LeavesStore : Heap → Stored → Pending → Store → Type 0
+abbrev pub LeavesStore : HeapFields → Stored → Pending → Store → Type 0
 LeavesStore h Busy pending s = IsUnderWay h s × (s.pending ≡ pending)
 LeavesStore h stored pending s = IsReady h s
 
-abbrev pub LeavesPopped : Heap → Popped → Store → Type 0
+abbrev pub LeavesPopped : HeapFields → Popped → Store → Type 0
 LeavesPopped h (Got key value false) s = IsUnderWay h s × (s.pending ≡ Free)
 LeavesPopped h popped s = IsReady h s
 

@@ -8,7 +8,7 @@ use Rattle.pool_model.specs.declared.event.Event.TheVariants.{Write}
 use Rattle.errand_steps.specs.Calls.{Call, read, write}
 use Rattle.call_events.specs.Made.{LeadsBy, Made, answered, found_from}
 use Rattle.live_heap.specs.declared.block.Block.{Block}
-use Rattle.live_heap.specs.declared.heap.Heap.{Heap}
+use Rattle.live_heap.specs.Heaps.{HeapFields}
 use Rattle.live_heap.specs.declared.pass.Pass.{Pass}
 use Rattle.live_heap.specs.Calls.{HasCalled}
 use Rattle.live_heap.specs.Whole.{IsAtRest, OwnsFor}
@@ -24,11 +24,11 @@ IsOnWord made =
     IsRead made ⊎ ((place : ℕ) × (need : Need) × (i : ℕ) × (v : ℕ) × (made ≡ answered (write place need i v) reply.Wrote))
 
 -- a whole call on a block of the pass's own, by one access to a shared word
-abbrev pub CallsOnce : Heap → Pass → Call → Reply → Pass → Type 0
+abbrev pub CallsOnce : HeapFields → Pass → Call → Reply → Pass → Type 0
 CallsOnce h p call answer q = HasCalled p call 0 answer q × OwnsFor p call × IsAtRest h q
 
 -- calls of one access each, one after the other, led from one pass to the other
-abbrev pub LedBy : Heap → Pass → List Made → Pass → Type 0
+abbrev pub LedBy : HeapFields → Pass → List Made → Pass → Type 0
 LedBy h p made q = LeadsBy (CallsOnce h) p made q
 
 -- the events that these calls add: that of each write
@@ -56,11 +56,11 @@ ReadsAlong slots from (pair ∷ pairs) to made =
     × (made ≡ node_reads block next pair ++ rest) × ReadsAlong slots next pairs to rest
 
 -- reads of the nodes from a number on, to the end of their list, led from one pass to the other, and found these pairs
-abbrev pub ReadsPairs : Heap → Pass → List Slot → ℕ → List (ℕ × ℕ) → Pass → Type 0
+abbrev pub ReadsPairs : HeapFields → Pass → List Slot → ℕ → List (ℕ × ℕ) → Pass → Type 0
 ReadsPairs h p slots head pairs q = (made : List Made) × ReadsAlong slots head pairs 0 made × LedBy h p made q
 
 -- reads of the record of this number led from one pass to the other, and found these words; where there is no such record nothing is read
-abbrev pub ReadsRecord : Heap → Pass → List Block → ℕ → Option (List ℕ) → Pass → Type 0
+abbrev pub ReadsRecord : HeapFields → Pass → List Block → ℕ → Option (List ℕ) → Pass → Type 0
 ReadsRecord h p records number None q = q ≡ p
 ReadsRecord h p records number (Some words) q =
     (block : Block) × (slice_get records number ≡ Some block) × LedBy h p (record_reads block words) q

@@ -5,7 +5,7 @@ ghost use Rattle.std.specs.Vec.{vec_capacity, vec_len};
 ghost use Rattle.heap_geometry.specs.Need.{usable_words};
 ghost use Rattle.pool_model.specs.Pool.{fresh_block};
 ghost use Rattle.errand_steps.specs.Begins.{IsIdle};
-ghost use Rattle.live_heap.specs.declared.heap.Heap.{Heap};
+ghost use Rattle.live_heap.specs.Heaps.{HeapFields};
 ghost use Rattle.live_heap.specs.Contents.{owned_in};
 ghost use Rattle.live_heap.specs.Holdings.{HoldsExactly};
 ghost use Rattle.live_heap.specs.Passes.{IsOf};
@@ -88,7 +88,7 @@ impl Store {
     pub fn open(alloc: Global, pass: Pass) -> Store
         requires idle { IsIdle pass.errand }
         requires none { HoldsExactly pass [] }
-        ensures ready { (heap : Heap) → IsOf heap pass → IsReady heap result }
+        ensures ready { (heap : HeapFields) → IsOf heap pass → IsReady heap result }
         ensures list { HasList result [] }
         ensures records { HasRecords result [] }
         ensures pass { result.pass ≡ pass }
@@ -504,7 +504,7 @@ impl Store {
 
     /// The pass of a store in no call. The blocks stay live.
     pub fn close(self) -> Pass
-        requires { (heap : Heap) × IsReady heap self }
+        requires { (heap : HeapFields) × IsReady heap self }
         ensures { result ≡ self.pass }
     {
         let Store { pass, .. } = self;

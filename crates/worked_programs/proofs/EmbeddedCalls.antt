@@ -10,7 +10,7 @@ use Rattle.errand_steps.specs.Errands.{ErrandFields}
 use Rattle.call_events.specs.Made.{LeadsBy, Made, answered}
 use Rattle.step_machine.specs.Cores.{OwnsAfter}
 use Rattle.step_machine.specs.Keeping.{Hands, LeavesPlace}
-use Rattle.live_heap.specs.declared.heap.Heap.{Heap}
+use Rattle.live_heap.specs.Heaps.{HeapFields}
 use Rattle.live_heap.specs.declared.pass.Pass.{Pass}
 use Rattle.live_heap.specs.Answers.{IsContents}
 use Rattle.live_heap.specs.Calls.{HasCalled}
@@ -30,49 +30,49 @@ OwnsThere p place need = OwnsAfter (seen p) p.errand.caller place need
 -- the laws of whole calls on which these lemmas stand
 abbrev pub KeepsBlocks : Type 0
 KeepsBlocks =
-    (h k : Heap) (p q : Pass) (call : Call) (answer : Reply) (place : ℕ) (need : Need) → IsWhole h p call answer k q → LeavesPlace call place
+    (h k : HeapFields) (p q : Pass) (call : Call) (answer : Reply) (place : ℕ) (need : Need) → IsWhole h p call answer k q → LeavesPlace call place
     → OwnsThere p place need → OwnsThere q place need
 
 abbrev pub HandsBlocks : Type 0
 HandsBlocks =
-    (h k : Heap) (p q : Pass) (call : Call) (answer : Reply) (place : ℕ) (need : Need) → IsWhole h p call answer k q → Hands answer place need
+    (h k : HeapFields) (p q : Pass) (call : Call) (answer : Reply) (place : ℕ) (need : Need) → IsWhole h p call answer k q → Hands answer place need
     → OwnsThere q place need
 
 abbrev pub HandsOthers : Type 0
 HandsOthers =
-    (h k : Heap) (p q : Pass) (call : Call) (answer : Reply) (place other : ℕ) (need had : Need) → IsWhole h p call answer k q
+    (h k : HeapFields) (p q : Pass) (call : Call) (answer : Reply) (place other : ℕ) (need had : Need) → IsWhole h p call answer k q
     → Hands answer place need → OwnsThere p other had → other ≢ place
 
-pub rest-of : (h : Heap) (p q : Pass) (call : Call) (answer : Reply) → Makes h p call answer q → IsAtRest h q
+pub rest-of : (h : HeapFields) (p q : Pass) (call : Call) (answer : Reply) → Makes h p call answer q → IsAtRest h q
 rest-of h p q call answer made = let (whole, tells) = made in let (by, owned, same, rest) = whole in rest
 
-pub fresh-rest : (h : Heap) (p : Pass) → IsFresh h p → IsAtRest h p
+pub fresh-rest : (h : HeapFields) (p : Pass) → IsFresh h p → IsAtRest h p
 fresh-rest h p fresh = (fresh.of, subst (λ (e : ErrandFields). IsIdle e) (sym fresh.errand) refl)
 
 pub makes-of :
-    (h : Heap) (p q : Pass) (call : Call) (answer : Reply) (steps : ℕ) → HasCalled p call steps answer q → OwnsFor p call → IsOf h q
+    (h : HeapFields) (p q : Pass) (call : Call) (answer : Reply) (steps : ℕ) → HasCalled p call steps answer q → OwnsFor p call → IsOf h q
     → TellsContents call answer q → Makes h p call answer q
 makes-of h p q call answer steps called owned of tells = ((by_steps (steps, called), owned, refl, (of, called.idle)), tells)
 
 pub given-words :
-    (h : Heap) (p q : Pass) (words place : ℕ) (need : Need) → HasEnough → Makes h p (alloc words) (reply.Given place need) q → words ≤ usable_words need
+    (h : HeapFields) (p q : Pass) (words place : ℕ) (need : Need) → HasEnough → Makes h p (alloc words) (reply.Given place need) q → words ≤ usable_words need
 given-words h p q words place need enough made =
     let called = called-of p q (alloc words) (reply.Given place need) made.0.0 (λ (e : reply.Given place need ≡ reply.Spent). cc) in
     enough p q words called.0 place need called.1
 
 -- no block's words are out behind a call where none were before
-pub none-out : (h : Heap) (p q : Pass) (call : Call) (answer : Reply) → IsOf h p → p.out ≡ 0 → Makes h p call answer q → q.out ≡ 0
+pub none-out : (h : HeapFields) (p q : Pass) (call : Call) (answer : Reply) → IsOf h p → p.out ≡ 0 → Makes h p call answer q → q.out ≡ 0
 none-out h p q call answer of out made = whole-out h p q call answer of made.0 ∙ out
 
 -- so a block that a call hands out, and one that it leaves, is the pass's, and its words are home
 handed-owned :
-    (h : Heap) (p q : Pass) (call : Call) (answer : Reply) (place : ℕ) (need : Need) → HandsBlocks → IsOf h p → p.out ≡ 0 → Makes h p call answer q
+    (h : HeapFields) (p q : Pass) (call : Call) (answer : Reply) (place : ℕ) (need : Need) → HandsBlocks → IsOf h p → p.out ≡ 0 → Makes h p call answer q
     → Hands answer place need → OwnsAt q place need
 handed-owned h p q call answer place need hands of out made is =
     (hands h h p q call answer place need made.0 is, home-where h q place (rest-of h p q call answer made).0 (none-out h p q call answer of out made))
 
 kept-owned :
-    (h : Heap) (p q : Pass) (call : Call) (answer : Reply) (place : ℕ) (need : Need) → KeepsBlocks → IsOf h p → p.out ≡ 0 → Makes h p call answer q
+    (h : HeapFields) (p q : Pass) (call : Call) (answer : Reply) (place : ℕ) (need : Need) → KeepsBlocks → IsOf h p → p.out ≡ 0 → Makes h p call answer q
     → LeavesPlace call place → OwnsAt p place need → OwnsAt q place need
 kept-owned h p q call answer place need keeps of out made leaves owned = (
   keeps h h p q call answer place need made.0 leaves owned.0,
@@ -80,20 +80,20 @@ kept-owned h p q call answer place need keeps of out made leaves owned = (
 )
 
 pub given-owned :
-    (h : Heap) (p q : Pass) (words place : ℕ) (need : Need) → HandsBlocks → IsOf h p → p.out ≡ 0
+    (h : HeapFields) (p q : Pass) (words place : ℕ) (need : Need) → HandsBlocks → IsOf h p → p.out ≡ 0
     → Makes h p (alloc words) (reply.Given place need) q → OwnsAt q place need
 given-owned h p q words place need hands of out made =
     handed-owned h p q (alloc words) (reply.Given place need) place need hands of out made (refl, refl)
 
 push :
-    (h : Heap) (p q r : Pass) (calls : List Made) (call : Call) (answer : Reply) → LeadsBy (Makes h) p calls q → Makes h q call answer r
+    (h : HeapFields) (p q r : Pass) (calls : List Made) (call : Call) (answer : Reply) → LeadsBy (Makes h) p calls q → Makes h q call answer r
     → LeadsBy (Makes h) p (calls ++ answered call answer ∷ []) r
 push h p q r [] call answer is made = (r, subst (λ (x : Pass). Makes h x call answer r) is made, refl)
 push h p q r (first ∷ calls) call answer leads made =
     let (next, m, rest) = leads in (next, m, push h next q r calls call answer rest made)
 
 -- a pass has made these calls since it stood as `from`, is in none, has no block's words out, and owns the block that lies there
-pub record Has (h : Heap) (from : Pass) (calls : List Made) (p : Pass) (place : ℕ) (need : Need) : Type 0 where
+pub record Has (h : HeapFields) (from : Pass) (calls : List Made) (p : Pass) (place : ℕ) (need : Need) : Type 0 where
   pub made : LeadsBy (Makes h) from calls p
   pub rest : IsAtRest h p
   pub out : p.out ≡ 0
@@ -101,7 +101,7 @@ pub record Has (h : Heap) (from : Pass) (calls : List Made) (p : Pass) (place : 
 
 -- a call more, which leaves the block
 pub has-more :
-    (h : Heap) (from p q : Pass) (calls : List Made) (place : ℕ) (need : Need) (call : Call) (answer : Reply) → KeepsBlocks
+    (h : HeapFields) (from p q : Pass) (calls : List Made) (place : ℕ) (need : Need) (call : Call) (answer : Reply) → KeepsBlocks
     → Has h from calls p place need → LeavesPlace call place → Makes h p call answer q → Has h from (calls ++ answered call answer ∷ []) q place need
 has-more h from p q calls place need call answer keeps has leaves made = record {
   made = push h from p q calls call answer has.made made;
@@ -112,7 +112,7 @@ has-more h from p q calls place need call answer keeps has leaves made = record 
 
 -- an allocation and a write of its block
 pub has-written :
-    (h : Heap) (p q r : Pass) (words place : ℕ) (need : Need) (i v : ℕ) → KeepsBlocks → HandsBlocks → IsOf h p → p.out ≡ 0
+    (h : HeapFields) (p q r : Pass) (words place : ℕ) (need : Need) (i v : ℕ) → KeepsBlocks → HandsBlocks → IsOf h p → p.out ≡ 0
     → Makes h p (alloc words) (reply.Given place need) q → HasCalled q (write place need i v) 0 reply.Wrote r → IsOf h r
     → Has h p (answered (alloc words) (reply.Given place need) ∷ answered (write place need i v) reply.Wrote ∷ []) r place need
 has-written h p q r words place need i v keeps hands was none made wrote of =
@@ -129,7 +129,7 @@ has-written h p q r words place need i v keeps hands was none made wrote of =
 
 -- behind a first block another one is given and written, and the first one stays
 pub has-both :
-    (h : Heap) (from p q r : Pass) (calls : List Made) (place words other : ℕ) (need wide : Need) (i v : ℕ) → KeepsBlocks → HandsBlocks
+    (h : HeapFields) (from p q r : Pass) (calls : List Made) (place words other : ℕ) (need wide : Need) (i v : ℕ) → KeepsBlocks → HandsBlocks
     → Has h from calls p place need → Makes h p (alloc words) (reply.Given other wide) q
     → HasCalled q (write other wide i v) 0 reply.Wrote r → IsOf h r
     → Has h from ((calls ++ answered (alloc words) (reply.Given other wide) ∷ []) ++ answered (write other wide i v) reply.Wrote ∷ []) r place need
@@ -140,7 +140,7 @@ has-both h from p q r calls place words other need wide i v keeps hands has made
 
 -- a block that is taken from the shelf
 pub has-taken :
-    (h : Heap) (p q : Pass) (shelf place : ℕ) (need : Need) → HandsBlocks → IsOf h p → p.out ≡ 0
+    (h : HeapFields) (p q : Pass) (shelf place : ℕ) (need : Need) → HandsBlocks → IsOf h p → p.out ≡ 0
     → Makes h p (take shelf) (reply.Got place need) q → Has h p (answered (take shelf) (reply.Got place need) ∷ []) q place need
 has-taken h p q shelf place need hands of out made = record {
   made = (q, made, refl);
@@ -151,7 +151,7 @@ has-taken h p q shelf place need hands of out made = record {
 
 -- one more read of the block
 pub has-read :
-    (h : Heap) (from p q : Pass) (calls : List Made) (place : ℕ) (need : Need) (i word : ℕ) → KeepsBlocks → Has h from calls p place need
+    (h : HeapFields) (from p q : Pass) (calls : List Made) (place : ℕ) (need : Need) (i word : ℕ) → KeepsBlocks → Has h from calls p place need
     → HasCalled p (read place need i) 0 (reply.Word word) q → IsOf h q → IsContents q place i word
     → Has h from (calls ++ answered (read place need i) (reply.Word word) ∷ []) q place need
 has-read h from p q calls place need i word keeps has called of contents =
@@ -160,12 +160,12 @@ has-read h from p q calls place need i word keeps has called of contents =
 
 -- the call behind the calls of a pass is the last one, or was answered so that the program goes no further
 pub ends-behind :
-    (h : Heap) (from p q : Pass) (calls : List Made) (place : ℕ) (need : Need) (call : Call) (answer : Reply) → Has h from calls p place need
+    (h : HeapFields) (from p q : Pass) (calls : List Made) (place : ℕ) (need : Need) (call : Call) (answer : Reply) → Has h from calls p place need
     → Makes h p call answer q → LeadsBy (Makes h) from (calls ++ answered call answer ∷ []) q
 ends-behind h from p q calls place need call answer has made = push h from p q calls call answer has.made made
 
 pub stops-behind :
-    (h : Heap) (from p q : Pass) (calls : List Made) (place : ℕ) (need : Need) (IsNext : List Made → Call → Type 0) (call : Call) (stop : Stop)
+    (h : HeapFields) (from p q : Pass) (calls : List Made) (place : ℕ) (need : Need) (IsNext : List Made → Call → Type 0) (call : Call) (stop : Stop)
     → Has h from calls p place need → IsNext calls call → Stops h p call stop q → HasStopped h from IsNext stop
 stops-behind h from p q calls place need IsNext call stop has next stops =
     (q, record { calls = calls; last = p; made = has.made; call = call; next = next; stops = stops })

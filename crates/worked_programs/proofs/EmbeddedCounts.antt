@@ -15,7 +15,7 @@ use Rattle.errand_steps.specs.declared.reply.Reply.TheVariants as reply
 use Rattle.errand_steps.specs.Calls.{Call, alloc, free, put, read, take, write}
 use Rattle.call_events.specs.Ends.{end_of}
 use Rattle.call_events.specs.Made.{LeadsBy}
-use Rattle.live_heap.specs.declared.heap.Heap.{Heap}
+use Rattle.live_heap.specs.Heaps.{HeapFields}
 use Rattle.live_heap.specs.declared.pass.Pass.{Pass}
 use Rattle.live_heap.specs.Passes.{seen}
 use Rattle.live_heap.specs.Whole.{HasEndedCall, MadeByPass, by_steps, at_once}
@@ -97,7 +97,7 @@ abbrev pub second_count : (Event → Bool) → ℕ → ℕ → ℕ
 second_count P k place = 0 + one P (Take k SHELF place) + 0 + one P (Free k place)
 
 pub counts-first :
-    (P : Event → Bool) (h : Heap) (first p : Pass) (k place : ℕ) (need : Need) (other : ℕ) (wide : Need) (kept : ℕ) → IsBlind P
+    (P : Event → Bool) (h : HeapFields) (first p : Pass) (k place : ℕ) (need : Need) (other : ℕ) (wide : Need) (kept : ℕ) → IsBlind P
     → LeadsBy (Makes h) first (first_calls place need other wide kept) p → Counts P k 0 first → Counts P k (first_count P k place other) p
 counts-first P h first p k place need other wide kept blind made had =
     let (p1, m1, r1) = made in
@@ -131,7 +131,7 @@ counts-first P h first p k place need other wide kept blind made had =
     subst (Counts P k (first_count P k place other)) (sym last) c7
 
 pub counts-second :
-    (P : Event → Bool) (h : Heap) (second q : Pass) (k place : ℕ) (need : Need) (handed : ℕ)
+    (P : Event → Bool) (h : HeapFields) (second q : Pass) (k place : ℕ) (need : Need) (handed : ℕ)
     → LeadsBy (Makes h) second (second_calls place need handed) q → Counts P k 0 second → Counts P k (second_count P k place) q
 counts-second P h second q k place need handed made had =
     let (q1, m1, r1) = made in

@@ -8,7 +8,7 @@ use Rattle.pool_model.specs.Pool.{Pool, pool_of}
 use Rattle.errand_steps.specs.declared.reply.Reply.TheVariants as reply
 use Rattle.errand_steps.specs.Calls.{free, put}
 use Rattle.sound_state.specs.Sums.{sum_below}
-use Rattle.live_heap.specs.declared.heap.Heap.{Heap}
+use Rattle.live_heap.specs.Heaps.{HeapFields}
 use Rattle.live_heap.specs.declared.pass.Pass.{Pass}
 use Rattle.live_heap.specs.Endings.{AreAllIdle, ClosedFields}
 use Rattle.live_heap.specs.Passes.{AreFrom, IsFresh}
@@ -20,7 +20,7 @@ use Rattle.worked_programs.proofs.HomeLemmas.{leads-out}
 
 -- the two passes of a new heap, the second one taken out first
 pub two-passes :
-    (h : Heap) (passes rest last : List Pass) (first second : Pass) → AreFrom h 0 passes → length passes ≡ 2
+    (h : HeapFields) (passes rest last : List Pass) (first second : Pass) → AreFrom h 0 passes → length passes ≡ 2
     → second ≡ slice_index_or passes 1 second → rest ≡ take 1 passes ++ drop 2 passes → first ≡ slice_index_or rest 0 first
     → last ≡ take 0 rest ++ drop 1 rest → AreFrom h 0 (first ∷ second ∷ []) × (last ≡ [])
 two-passes h [] rest last first second from all is_second left is_first none = absurd (omega (arith, all))
@@ -36,7 +36,7 @@ two-passes h (x ∷ y ∷ []) rest last first second from all is_second left is_
 two-passes h (x ∷ y ∷ z ∷ passes) rest last first second from all is_second left is_first none = absurd (omega (arith, all))
 
 -- behind its calls a pass is in none
-keeps-rest : (h : Heap) (first p : Pass) (kept : ℕ) → Keeps h first kept p → IsAtRest h p
+keeps-rest : (h : HeapFields) (first p : Pass) (kept : ℕ) → Keeps h first kept p → IsAtRest h p
 keeps-rest h first p kept keeps =
     let (p1, m1, r1) = keeps.made in
     let (p2, m2, r2) = r1 in
@@ -47,7 +47,7 @@ keeps-rest h first p kept keeps =
     let (p7, m7, last) = r6 in
     subst (IsAtRest h) (sym last) (rest-of h p6 p7 (put keeps.place keeps.need SHELF) reply.Put m7)
 
-fetches-rest : (h : Heap) (second q : Pass) (handed : ℕ) → Fetches h second handed q → IsAtRest h q
+fetches-rest : (h : HeapFields) (second q : Pass) (handed : ℕ) → Fetches h second handed q → IsAtRest h q
 fetches-rest h second q handed fetches =
     let (q1, m1, r1) = fetches.made in
     let (q2, m2, r2) = r1 in
@@ -55,7 +55,7 @@ fetches-rest h second q handed fetches =
     subst (IsAtRest h) (sym last) (rest-of h q2 q3 (free fetches.place fetches.need) reply.Freed m3)
 
 pub all-idle :
-    (h : Heap) (first second p q : Pass) (kept handed : ℕ) (last passes one : List Pass) → Keeps h first kept p → Fetches h second handed q
+    (h : HeapFields) (first second p q : Pass) (kept handed : ℕ) (last passes one : List Pass) → Keeps h first kept p → Fetches h second handed q
     → last ≡ [] → one ≡ last ++ p ∷ [] → passes ≡ one ++ q ∷ [] → h.layout.callers ≡ 2 → AreAllIdle h passes × (passes ≡ p ∷ q ∷ [])
 all-idle h first second p q kept handed last passes one keeps fetches none with_first with_both callers =
     let Rests : Pass → Type 0 = λ x. IsAtRest h x in
@@ -70,7 +70,7 @@ all-idle h first second p q kept handed last passes one keeps fetches none with_
 
 -- no block's words are out with the two passes
 pub both-home :
-    (h : Heap) (first second p q : Pass) (kept handed : ℕ) → IsFresh h first → IsFresh h second → Keeps h first kept p → Fetches h second handed q
+    (h : HeapFields) (first second p q : Pass) (kept handed : ℕ) → IsFresh h first → IsFresh h second → Keeps h first kept p → Fetches h second handed q
     → All (λ (x : Pass). x.out ≡ 0) (p ∷ q ∷ [])
 both-home h first second p q kept handed one two keeps fetches =
     let Home : Pass → Type 0 = λ x. x.out ≡ 0 in

@@ -19,7 +19,7 @@ use Rattle.errand_steps.specs.declared.reply.Reply.{Reply}
 use Rattle.errand_steps.specs.declared.reply.Reply.TheVariants as reply
 use Rattle.errand_steps.specs.Calls.{Call, alloc, free, put, read, take, write}
 use Rattle.call_events.specs.Made.{LeadsBy}
-use Rattle.live_heap.specs.declared.heap.Heap.{Heap}
+use Rattle.live_heap.specs.Heaps.{HeapFields}
 use Rattle.live_heap.specs.declared.pass.Pass.{Pass}
 use Rattle.live_heap.specs.Calls.{HasCalled}
 use Rattle.live_heap.specs.Contents.{HasChanged, owned_in}
@@ -33,7 +33,7 @@ use Rattle.worked_programs.proofs.EmbeddedHands.{same-contents, same-parcel, sta
 
 -- the laws of calls on which these lemmas stand
 abbrev pub Changes : Type 0
-Changes = (h k : Heap) (p q : Pass) (call : Call) (answer : Reply) → IsWhole h p call answer k q → HasChanged p call answer q
+Changes = (h k : HeapFields) (p q : Pass) (call : Call) (answer : Reply) → IsWhole h p call answer k q → HasChanged p call answer q
 
 abbrev pub SeesMore : Type 0
 SeesMore = (p q : Pass) (call : Call) (steps : ℕ) (answer : Reply) → HasCalled p call steps answer q → Begins (seen p) (seen q)
@@ -72,7 +72,7 @@ apart : (o : Option Block) (block : Block) → o ≡ None → o ≡ Some block �
 apart o block none is = let e : None ≡ Some block = sym none ∙ is in cc
 
 pub first-tells :
-    (h : Heap) (first p : Pass) (place : ℕ) (need : Need) (other : ℕ) (wide : Need) (kept : ℕ) → Changes → HasEnough
+    (h : HeapFields) (first p : Pass) (place : ℕ) (need : Need) (other : ℕ) (wide : Need) (kept : ℕ) → Changes → HasEnough
     → LeadsBy (Makes h) first (first_calls place need other wide kept) p → FirstTells place kept p
 first-tells h first p place need other wide kept changes enough made =
     let (p1, m1, r1) = made in
@@ -124,7 +124,7 @@ begins-on : (xs ys zs : List Event) → Begins xs ys → Begins ys zs → Begins
 begins-on xs ys zs a b = (a.0 ++ b.0, b.1 ∙ ap (λ (l : List Event). l ++ b.0) a.1 ∙ append_assoc xs a.0 b.0)
 
 pub second-tells :
-    (h : Heap) (second q : Pass) (there : ℕ) (need : Need) (handed : ℕ) → Changes → SeesMore
+    (h : HeapFields) (second q : Pass) (there : ℕ) (need : Need) (handed : ℕ) → Changes → SeesMore
     → LeadsBy (Makes h) second (second_calls there need handed) q → SecondTells there handed q
 second-tells h second q there need handed changes more made =
     let (q1, m1, r1) = made in
@@ -150,7 +150,7 @@ second-tells h second q there need handed changes more made =
 
 -- both passes have read 7 in the closed heap, where the block that was taken is the one that was put; and no block is live
 pub closed-tells :
-    (h : Heap) (first second p q : Pass) (kept handed : ℕ) (c : ClosedFields) → Changes → SeesMore → HasEnough → CountsBlocks → KeepsOrder
+    (h : HeapFields) (first second p q : Pass) (kept handed : ℕ) (c : ClosedFields) → Changes → SeesMore → HasEnough → CountsBlocks → KeepsOrder
     → AreFrom h 0 (first ∷ second ∷ []) → Keeps h first kept p → Fetches h second handed q → HasClosed h (p ∷ q ∷ []) c
     → IsLegalWithoutCounts c.geometry c.events → c.geometry.callers ≡ 2
     → (kept ≡ 7) × (handed ≡ 7) × (pool_of c.events ≡ [])

@@ -4,6 +4,7 @@ pub mod EmbeddedEnds
 pub mod EmbeddedHands
 pub mod EmbeddedWays
 pub mod HomeLemmas
+pub mod RelayWords
 pub mod ReuseCalls
 pub mod ReuseEnds
 pub mod ReuseHome

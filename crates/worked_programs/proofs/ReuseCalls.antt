@@ -15,7 +15,7 @@ use Rattle.live_heap.specs.declared.answers.AllocAnswer.TheVariants as answer
 use Rattle.live_heap.specs.declared.answers.FreeAnswer.{FreeAnswer}
 use Rattle.live_heap.specs.declared.answers.FreeAnswer.TheVariants as free_answer
 use Rattle.live_heap.specs.declared.block.Block.{Block}
-use Rattle.live_heap.specs.declared.heap.Heap.{Heap}
+use Rattle.live_heap.specs.Heaps.{HeapFields}
 use Rattle.live_heap.specs.declared.pass.Pass.{Pass}
 use Rattle.live_heap.specs.Answers.{IsContents}
 use Rattle.live_heap.specs.Calls.{HasCalled}
@@ -43,32 +43,32 @@ three-small = (_, refl)
 -- the laws of whole calls through a cache on which these lemmas stand
 abbrev pub AskedAreWhole : Type 0
 AskedAreWhole =
-    (h : Heap) (c d : Cache) (call : Call) (ended : Reply) → RestsAt h c → IsCache h d → Asks c call → HasEndedCall c.pass call ended d.pass
+    (h : HeapFields) (c d : Cache) (call : Call) (ended : Reply) → RestsAt h c → IsCache h d → Asks c call → HasEndedCall c.pass call ended d.pass
     → KeepsMagazines c d → IsWholeCall h c call ended d
 
 abbrev pub KeepsHeld : Type 0
 KeepsHeld =
-    (h : Heap) (c d : Cache) (call : Call) (ended : Reply) (place : ℕ) (need : Need) → IsWholeCall h c call ended d → LeavesPlace call place
+    (h : HeapFields) (c d : Cache) (call : Call) (ended : Reply) (place : ℕ) (need : Need) → IsWholeCall h c call ended d → LeavesPlace call place
     → HoldsAt c place need → HoldsAt d place need
 
 abbrev pub HandsHeld : Type 0
 HandsHeld =
-    (h : Heap) (c d : Cache) (call : Call) (ended : Reply) (place : ℕ) (need : Need) → IsWholeCall h c call ended d → Hands ended place need
+    (h : HeapFields) (c d : Cache) (call : Call) (ended : Reply) (place : ℕ) (need : Need) → IsWholeCall h c call ended d → Hands ended place need
     → HoldsAt d place need
 
 abbrev pub ServesNeed : Type 0
 ServesNeed =
-    (h : Heap) (c d : Cache) (words place : ℕ) (need : Need) → IsWholeCall h c (alloc words) (reply.Given place need) d → need ≡ need_of words
+    (h : HeapFields) (c d : Cache) (words place : ℕ) (need : Need) → IsWholeCall h c (alloc words) (reply.Given place need) d → need ≡ need_of words
 
 -- the laws of written words on which they stand
 abbrev pub StaysWritten : Type 0
 StaysWritten =
-    (h : Heap) (p q : Pass) (place : ℕ) (need : Need) (i v steps : ℕ) → IsOf h q → HasCalled p (write place need i v) steps reply.Wrote q
+    (h : HeapFields) (p q : Pass) (place : ℕ) (need : Need) (i v steps : ℕ) → IsOf h q → HasCalled p (write place need i v) steps reply.Wrote q
     → word_in q place i ≡ Some v
 
 abbrev pub ReadsWritten : Type 0
 ReadsWritten =
-    (h : Heap) (p q : Pass) (place : ℕ) (need : Need) (i steps word v : ℕ) → IsOf h q → HasCalled p (read place need i) steps (reply.Word word) q
+    (h : HeapFields) (p q : Pass) (place : ℕ) (need : Need) (i steps word v : ℕ) → IsOf h q → HasCalled p (read place need i) steps (reply.Word word) q
     → IsContents q place i word → word_in p place i ≡ Some v → word ≡ v
 
 pub keeps-depth : (c d : Cache) → KeepsMagazines c d → d.magazines.depth ≡ c.magazines.depth
@@ -93,29 +93,29 @@ unkept-asks c block d told is kept has =
 
 -- a block of three words that was given is held, and has a word 1
 pub given-held :
-    (h : Heap) (c d : Cache) (place : ℕ) (need : Need) → HandsHeld → Makes h c (alloc 3) (reply.Given place need) d → HoldsAt d place need
+    (h : HeapFields) (c d : Cache) (place : ℕ) (need : Need) → HandsHeld → Makes h c (alloc 3) (reply.Given place need) d → HoldsAt d place need
 given-held h c d place need hands makes = hands h c d (alloc 3) (reply.Given place need) place need makes.0 (refl, refl)
 
-pub given-word : (h : Heap) (c d : Cache) (place : ℕ) (need : Need) → ServesNeed → Makes h c (alloc 3) (reply.Given place need) d → 1 < usable_words need
+pub given-word : (h : HeapFields) (c d : Cache) (place : ℕ) (need : Need) → ServesNeed → Makes h c (alloc 3) (reply.Given place need) d → 1 < usable_words need
 given-word h c d place need serves makes =
     subst (λ (n : Need). 1 < usable_words n) (sym (serves h c d 3 place need makes.0)) (omega (arith, three-usable))
 
 -- a write of a held block, and a read of one
 pub write-makes :
-    (h : Heap) (c d : Cache) (place : ℕ) (need : Need) (i v : ℕ) → AskedAreWhole → RestsAt h c → HoldsAt c place need → IsCache h d
+    (h : HeapFields) (c d : Cache) (place : ℕ) (need : Need) (i v : ℕ) → AskedAreWhole → RestsAt h c → HoldsAt c place need → IsCache h d
     → HasCalled c.pass (write place need i v) 0 reply.Wrote d.pass → KeepsMagazines c d → Makes h c (write place need i v) reply.Wrote d
 write-makes h c d place need i v asked rests holds is called keeps =
     (asked h c d (write place need i v) reply.Wrote rests is holds (0, called) keeps, keeps-depth c d keeps)
 
 pub read-makes :
-    (h : Heap) (c d : Cache) (place : ℕ) (need : Need) (i word : ℕ) → AskedAreWhole → RestsAt h c → HoldsAt c place need → IsCache h d
+    (h : HeapFields) (c d : Cache) (place : ℕ) (need : Need) (i word : ℕ) → AskedAreWhole → RestsAt h c → HoldsAt c place need → IsCache h d
     → HasCalled c.pass (read place need i) 0 (reply.Word word) d.pass → KeepsMagazines c d → Makes h c (read place need i) (reply.Word word) d
 read-makes h c d place need i word asked rests holds is called keeps =
     (asked h c d (read place need i) (reply.Word word) rests is holds (0, called) keeps, keeps-depth c d keeps)
 
 -- behind the write of a round its block is still held, and behind the read too; the word that is read is the one that was written
 pub round-written :
-    (h : Heap) (c c1 c2 : Cache) (place : ℕ) (need : Need) (word : ℕ) → AskedAreWhole → KeepsHeld → HandsHeld
+    (h : HeapFields) (c c1 c2 : Cache) (place : ℕ) (need : Need) (word : ℕ) → AskedAreWhole → KeepsHeld → HandsHeld
     → Makes h c (alloc 3) (reply.Given place need) c1 → IsCache h c2 → HasCalled c1.pass (write place need 1 word) 0 reply.Wrote c2.pass
     → KeepsMagazines c1 c2 → Makes h c1 (write place need 1 word) reply.Wrote c2 × HoldsAt c2 place need
 round-written h c c1 c2 place need word asked keeps hands given is called same =
@@ -124,7 +124,7 @@ round-written h c c1 c2 place need word asked keeps hands given is called same =
     (wrote, keeps h c1 c2 (write place need 1 word) reply.Wrote place need wrote.0 tt held)
 
 pub round-read :
-    (h : Heap) (c c1 c2 c3 : Cache) (place : ℕ) (need : Need) (word found : ℕ) → AskedAreWhole → KeepsHeld → HandsHeld → StaysWritten → ReadsWritten
+    (h : HeapFields) (c c1 c2 c3 : Cache) (place : ℕ) (need : Need) (word found : ℕ) → AskedAreWhole → KeepsHeld → HandsHeld → StaysWritten → ReadsWritten
     → Makes h c (alloc 3) (reply.Given place need) c1 → IsCache h c2 → HasCalled c1.pass (write place need 1 word) 0 reply.Wrote c2.pass
     → KeepsMagazines c1 c2 → IsCache h c3 → HasCalled c2.pass (read place need 1) 0 (reply.Word found) c3.pass → KeepsMagazines c2 c3
     → IsContents c3.pass place 1 found
@@ -148,7 +148,7 @@ first_three place word =
     ∷ []
 
 three-made :
-    (h : Heap) (c c1 c2 c3 : Cache) (place : ℕ) (need : Need) (word found : ℕ) → need ≡ need_of 3 → found ≡ word
+    (h : HeapFields) (c c1 c2 c3 : Cache) (place : ℕ) (need : Need) (word found : ℕ) → need ≡ need_of 3 → found ≡ word
     → Makes h c (alloc 3) (reply.Given place need) c1 → Makes h c1 (write place need 1 word) reply.Wrote c2
     → Makes h c2 (read place need 1) (reply.Word found) c3 → LeadsBy (Makes h) c (first_three place word) c3
 three-made h c c1 c2 c3 place need word found is same m1 m2 m3 =
@@ -164,7 +164,7 @@ three-made h c c1 c2 c3 place need word found is same m1 m2 m3 =
 
 -- the four calls of a round
 pub round-made :
-    (h : Heap) (c c1 c2 c3 d : Cache) (place : ℕ) (need : Need) (word found : ℕ) → ServesNeed → found ≡ word
+    (h : HeapFields) (c c1 c2 c3 d : Cache) (place : ℕ) (need : Need) (word found : ℕ) → ServesNeed → found ≡ word
     → Makes h c (alloc 3) (reply.Given place need) c1 → Makes h c1 (write place need 1 word) reply.Wrote c2
     → Makes h c2 (read place need 1) (reply.Word found) c3 → Makes h c3 (free place need) reply.Freed d → IsRound h c word d
 round-made h c c1 c2 c3 d place need word found serves same m1 m2 m3 m4 =
@@ -176,7 +176,7 @@ round-made h c c1 c2 c3 d place need word found serves same m1 m2 m3 m4 =
     )
 
 -- a round that its first call stopped, and one that its free did
-pub alloc-stops : (h : Heap) (c d : Cache) (word : ℕ) (told : Stop) → Stops h c (alloc 3) told d → HasStopped h c word told d
+pub alloc-stops : (h : HeapFields) (c d : Cache) (word : ℕ) (told : Stop) → Stops h c (alloc 3) told d → HasStopped h c word told d
 alloc-stops h c d word told stops = record {
   calls = [];
   last = c;
@@ -187,7 +187,7 @@ alloc-stops h c d word told stops = record {
 }
 
 pub free-stops :
-    (h : Heap) (c c1 c2 c3 d : Cache) (place : ℕ) (need : Need) (word found : ℕ) (told : Stop) → ServesNeed → found ≡ word
+    (h : HeapFields) (c c1 c2 c3 d : Cache) (place : ℕ) (need : Need) (word found : ℕ) (told : Stop) → ServesNeed → found ≡ word
     → Makes h c (alloc 3) (reply.Given place need) c1 → Makes h c1 (write place need 1 word) reply.Wrote c2
     → Makes h c2 (read place need 1) (reply.Word found) c3 → Stops h c3 (free place need) told d → HasStopped h c word told d
 free-stops h c c1 c2 c3 d place need word found told serves same m1 m2 m3 stops =
@@ -202,7 +202,7 @@ free-stops h c c1 c2 c3 d place need word found told serves same m1 m2 m3 stops 
     }
 
 -- behind a round the cache is in no call
-pub round-rests : (h : Heap) (c d : Cache) (word : ℕ) → IsRound h c word d → RestsAt h d
+pub round-rests : (h : HeapFields) (c d : Cache) (word : ℕ) → IsRound h c word d → RestsAt h d
 round-rests h c d word (place, made) =
     let (c1, m1, r1) = made in
     let (c2, m2, r2) = r1 in
@@ -211,6 +211,6 @@ round-rests h c d word (place, made) =
     subst (RestsAt h) (sym last) m4.0.after
 
 -- a pass that has freed the blocks of magazines is in no call, if it was in none
-pub frees-idle : (h : Heap) (p q : Pass) (blocks : List Block) (tries : ℕ) → IsIdle p.errand → Frees h p blocks tries q → IsIdle q.errand
+pub frees-idle : (h : HeapFields) (p q : Pass) (blocks : List Block) (tries : ℕ) → IsIdle p.errand → Frees h p blocks tries q → IsIdle q.errand
 frees-idle h p q [] tries idle frees = subst (λ (r : Pass). IsIdle r.errand) (sym frees) idle
 frees-idle h p q (block ∷ blocks) tries idle (next, of, tells, frees) = frees-idle h next q blocks tries tells.called.idle frees

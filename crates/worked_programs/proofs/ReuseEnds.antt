@@ -16,7 +16,7 @@ use Rattle.errand_steps.specs.Points.{is_idle}
 use Rattle.sound_state.specs.Turns.{gives_small, one_if, refuses_small}
 use Rattle.sound_state.specs.TurnStages.{lacks_answer, is_unneeded, turn_stage_of}
 use Rattle.step_machine.specs.Moments.{IsServed}
-use Rattle.live_heap.specs.declared.heap.Heap.{Heap}
+use Rattle.live_heap.specs.Heaps.{HeapFields}
 use Rattle.live_heap.specs.declared.pass.Pass.{Pass}
 use Rattle.live_heap.specs.Endings.{AreAllIdle, ClosedFields, HasClosed, HasTakenIn}
 use Rattle.live_heap.specs.Passes.{AreFrom, IsFresh, IsOf, seen}
@@ -33,10 +33,10 @@ use Rattle.worked_programs.proofs.ReuseRounds.{Fits, all-leave, one-freed, round
 
 -- the laws of heaps and histories on which these lemmas stand
 abbrev pub AreServed : Type 0
-AreServed = (h : Heap) (p : Pass) → IsOf h p → IsServed h.layout p.errand.caller p.errand (seen p)
+AreServed = (h : HeapFields) (p : Pass) → IsOf h p → IsServed h.layout p.errand.caller p.errand (seen p)
 
 abbrev pub LosesNothing : Type 0
-LosesNothing = (h : Heap) (p : Pass) → IsOf h p → h.layout.callers ≡ 1 → p.errand.lost ≡ 0
+LosesNothing = (h : HeapFields) (p : Pass) → IsOf h p → h.layout.callers ≡ 1 → p.errand.lost ≡ 0
 
 abbrev pub IsWeaker : Type 0
 IsWeaker = (g : Geometry) (history : List Event) → IsLegal g history → IsLegalWithoutCounts g history
@@ -67,7 +67,7 @@ idle-answered (point.Large p o) idle = let e : false ≡ true = idle in absurd (
 
 -- what is counted in the closed heap is what the pass has counted
 pub worked-counts :
-    (P : Event → Bool) (h : Heap) (c : Cache) (sum : ℕ) (d : Cache) (gives frees : ℕ) → Fits P gives → ((place : ℕ) → one P (Free 0 place) ≡ frees)
+    (P : Event → Bool) (h : HeapFields) (c : Cache) (sum : ℕ) (d : Cache) (gives frees : ℕ) → Fits P gives → ((place : ℕ) → one P (Free 0 place) ≡ frees)
     → IsOpened h c → HasWorked h c sum d → Counts P 0 (gives + frees) d.pass
 worked-counts P h c sum d gives frees fits weighs opened worked =
     let (class, small) = three-small in
@@ -78,7 +78,7 @@ worked-counts P h c sum d gives frees fits weighs opened worked =
     one-freed P h worked.mid.pass d.pass _ _ gives frees (all-leave (stacks_in worked.mid) ∙ at.all) weighs worked.flushed.1
     (at.counts P gives fits)
 
-pub worked-hits : (h : Heap) (c : Cache) (sum : ℕ) (d : Cache) → IsOpened h c → HasWorked h c sum d → d.hits ≡ ROUNDS - 1
+pub worked-hits : (h : HeapFields) (c : Cache) (sum : ℕ) (d : Cache) → IsOpened h c → HasWorked h c sum d → d.hits ≡ ROUNDS - 1
 worked-hits h c sum d opened worked =
     let (class, small) = three-small in
     let first =
@@ -101,7 +101,7 @@ refuses-fits = record { looks = λ caller class. refl; alloc = λ place. refl; w
 
 -- the pass has taken one turn
 pub worked-turns :
-    (h : Heap) (c : Cache) (sum : ℕ) (d : Cache) → AreServed → LosesNothing → IsWeaker → IsOpened h c → HasWorked h c sum d → d.pass.errand.turns ≡ 1
+    (h : HeapFields) (c : Cache) (sum : ℕ) (d : Cache) → AreServed → LosesNothing → IsWeaker → IsOpened h c → HasWorked h c sum d → d.pass.errand.turns ≡ 1
 worked-turns h c sum d served loses weaker opened worked =
     let of = worked.rests.0.hand.of in
     let is = served h d.pass of in
@@ -126,7 +126,7 @@ worked-turns h c sum d served loses weaker opened worked =
 
 -- no block is live
 pub worked-nothing :
-    (h : Heap) (c : Cache) (sum : ℕ) (d : Cache) (closed : ClosedFields) → CountsBlocks → IsOpened h c → HasWorked h c sum d
+    (h : HeapFields) (c : Cache) (sum : ℕ) (d : Cache) (closed : ClosedFields) → CountsBlocks → IsOpened h c → HasWorked h c sum d
     → HasClosed h (d.pass ∷ []) closed → IsLegalWithoutCounts closed.geometry closed.events → pool_of closed.events ≡ []
 worked-nothing h c sum d closed counted opened worked has legal =
     let events = closed.events in
@@ -144,7 +144,7 @@ worked-nothing h c sum d closed counted opened worked has legal =
 
 -- the pass of a new heap with one caller
 pub only-pass :
-    (h : Heap) (passes : List Pass) (p : Pass) → AreFrom h 0 passes → length passes ≡ 1 → p ≡ slice_index_or passes 0 p
+    (h : HeapFields) (passes : List Pass) (p : Pass) → AreFrom h 0 passes → length passes ≡ 1 → p ≡ slice_index_or passes 0 p
     → IsFresh h p × (p.errand.caller ≡ 0) × IsIdle p.errand
 only-pass h [] p from all is = absurd (omega (arith, all))
 only-pass h (x ∷ passes) p (fresh, first, others) all is =
@@ -152,7 +152,7 @@ only-pass h (x ∷ passes) p (fresh, first, others) all is =
 
 -- the one pass that goes into the closing is in no call
 pub only-idle :
-    (h : Heap) (p : Pass) (passes : List Pass) → IsAtRest h p → passes ≡ p ∷ [] → h.layout.callers ≡ 1 → AreAllIdle h passes
+    (h : HeapFields) (p : Pass) (passes : List Pass) → IsAtRest h p → passes ≡ p ∷ [] → h.layout.callers ≡ 1 → AreAllIdle h passes
 only-idle h p passes rests is alone = record {
   all = ap length is ∙ sym alone;
   each =

@@ -12,7 +12,7 @@ use Rattle.pool_model.specs.Calls as ended
 use Rattle.errand_steps.specs.declared.reply.Reply.TheVariants as reply
 use Rattle.errand_steps.specs.Calls.{alloc, free, read, write}
 use Rattle.live_heap.specs.declared.block.Block.{Block}
-use Rattle.live_heap.specs.declared.heap.Heap.{Heap}
+use Rattle.live_heap.specs.Heaps.{HeapFields}
 use Rattle.live_heap.specs.declared.pass.Pass.{Pass}
 use Rattle.block_cache.specs.declared.cache.Cache.{Cache}
 use Rattle.block_cache.specs.declared.magazines.Magazines.{Magazines}
@@ -74,7 +74,7 @@ pub record Fits (P : Event → Bool) (gives : ℕ) : Type 0 where
   pub write : (place i v : ℕ) → one P (Write 0 place i v) ≡ 0
 
 -- the magazine of a class has so many blocks, and the others have none; so many allocations were served; and of those of the heap there was none, or one
-pub record Stands (h : Heap) (class : ℕ) (begun : Bool) (blocks hits : ℕ) (c : Cache) : Type 0 where
+pub record Stands (h : HeapFields) (class : ℕ) (begun : Bool) (blocks hits : ℕ) (c : Cache) : Type 0 where
   pub rests : RestsAt h c
   pub depth : c.magazines.depth ≡ DEPTH
   pub here : length (magazine_in c class) ≡ blocks
@@ -93,7 +93,7 @@ same-all c d keeps = ap (λ (m : Magazines). length (all_in (stacks_of m.stacks.
 
 -- before the first round
 pub stands-first :
-    (h : Heap) (class : ℕ) (c : Cache) → RestsAt h c → c.magazines.depth ≡ DEPTH → cached_in c ≡ [] → c.hits ≡ 0
+    (h : HeapFields) (class : ℕ) (c : Cache) → RestsAt h c → c.magazines.depth ≡ DEPTH → cached_in c ≡ [] → c.hits ≡ 0
     → ((P : Event → Bool) → Counts P 0 0 c.pass) → Stands h class false 0 0 c
 stands-first h class c rests depth empty hits counts = record {
   rests = rests;
@@ -106,7 +106,7 @@ stands-first h class c rests depth empty hits counts = record {
 
 -- the first allocation is the heap's
 first-alloc :
-    (h : Heap) (class : ℕ) (c d : Cache) (place : ℕ) (need : Need) → need_of 3 ≡ Small class → Stands h class false 0 0 c
+    (h : HeapFields) (class : ℕ) (c d : Cache) (place : ℕ) (need : Need) → need_of 3 ≡ Small class → Stands h class false 0 0 c
     → Makes h c (alloc 3) (reply.Given place need) d → Stands h class true 0 0 d
 first-alloc h class c d place need small at makes =
     elim makes.0.made [
@@ -136,7 +136,7 @@ first-alloc h class c d place need small at makes =
 
 -- each later one is served by the magazine
 later-alloc :
-    (h : Heap) (class hits : ℕ) (c d : Cache) (place : ℕ) (need : Need) → need_of 3 ≡ Small class → Stands h class true 1 hits c
+    (h : HeapFields) (class hits : ℕ) (c d : Cache) (place : ℕ) (need : Need) → need_of 3 ≡ Small class → Stands h class true 1 hits c
     → Makes h c (alloc 3) (reply.Given place need) d → Stands h class true 0 (suc hits) d
 later-alloc h class hits c d place need small at makes =
     elim makes.0.made [
@@ -161,7 +161,7 @@ later-alloc h class hits c d place need small at makes =
 
 -- a write and a read change nothing of it
 write-stands :
-    (h : Heap) (class hits : ℕ) (c d : Cache) (place : ℕ) (need : Need) (i v : ℕ) → Stands h class true 0 hits c
+    (h : HeapFields) (class hits : ℕ) (c d : Cache) (place : ℕ) (need : Need) (i v : ℕ) → Stands h class true 0 hits c
     → Makes h c (write place need i v) reply.Wrote d → Stands h class true 0 hits d
 write-stands h class hits c d place need i v at makes =
     elim makes.0.made [
@@ -183,7 +183,7 @@ write-stands h class hits c d place need i v at makes =
     ]
 
 read-stands :
-    (h : Heap) (class hits : ℕ) (c d : Cache) (place : ℕ) (need : Need) (i word : ℕ) → Stands h class true 0 hits c
+    (h : HeapFields) (class hits : ℕ) (c d : Cache) (place : ℕ) (need : Need) (i word : ℕ) → Stands h class true 0 hits c
     → Makes h c (read place need i) (reply.Word word) d → Stands h class true 0 hits d
 read-stands h class hits c d place need i word at makes =
     elim makes.0.made [
@@ -205,7 +205,7 @@ read-stands h class hits c d place need i word at makes =
 
 -- the free lays the block on its magazine
 free-stands :
-    (h : Heap) (class hits : ℕ) (c d : Cache) (place : ℕ) (need : Need) → need ≡ Small class → Stands h class true 0 hits c
+    (h : HeapFields) (class hits : ℕ) (c d : Cache) (place : ℕ) (need : Need) → need ≡ Small class → Stands h class true 0 hits c
     → Makes h c (free place need) reply.Freed d → Stands h class true 1 hits d
 free-stands h class hits c d place need small at makes =
     elim makes.0.made [
@@ -230,7 +230,7 @@ free-stands h class hits c d place need small at makes =
 
 -- behind the allocation of a round
 rest-stands :
-    (h : Heap) (class hits : ℕ) (c1 c2 c3 d : Cache) (place word : ℕ) → need_of 3 ≡ Small class → Stands h class true 0 hits c1
+    (h : HeapFields) (class hits : ℕ) (c1 c2 c3 d : Cache) (place word : ℕ) → need_of 3 ≡ Small class → Stands h class true 0 hits c1
     → Makes h c1 (write place (need_of 3) 1 word) reply.Wrote c2 → Makes h c2 (read place (need_of 3) 1) (reply.Word word) c3
     → Makes h c3 (free place (need_of 3)) reply.Freed d → Stands h class true 1 hits d
 rest-stands h class hits c1 c2 c3 d place word small at m2 m3 m4 =
@@ -239,7 +239,7 @@ rest-stands h class hits c1 c2 c3 d place word small at m2 m3 m4 =
     free-stands h class hits c3 d place (need_of 3) small three m4
 
 first-round :
-    (h : Heap) (class word : ℕ) (c d : Cache) → need_of 3 ≡ Small class → Stands h class false 0 0 c → IsRound h c word d → Stands h class true 1 0 d
+    (h : HeapFields) (class word : ℕ) (c d : Cache) → need_of 3 ≡ Small class → Stands h class false 0 0 c → IsRound h c word d → Stands h class true 1 0 d
 first-round h class word c d small at (place, made) =
     let (c1, m1, r1) = made in
     let (c2, m2, r2) = r1 in
@@ -249,7 +249,7 @@ first-round h class word c d small at (place, made) =
     (rest-stands h class 0 c1 c2 c3 c4 place word small (first-alloc h class c c1 place (need_of 3) small at m1) m2 m3 m4)
 
 later-round :
-    (h : Heap) (class hits word : ℕ) (c d : Cache) → need_of 3 ≡ Small class → Stands h class true 1 hits c → IsRound h c word d
+    (h : HeapFields) (class hits word : ℕ) (c d : Cache) → need_of 3 ≡ Small class → Stands h class true 1 hits c → IsRound h c word d
     → Stands h class true 1 (suc hits) d
 later-round h class hits word c d small at (place, made) =
     let (c1, m1, r1) = made in
@@ -261,7 +261,7 @@ later-round h class hits word c d small at (place, made) =
 
 -- behind one round and so many more
 pub rounds-stand :
-    (h : Heap) (class more : ℕ) (c d : Cache) → need_of 3 ≡ Small class → Stands h class false 0 0 c → MakesRounds h c (suc more) d
+    (h : HeapFields) (class more : ℕ) (c d : Cache) → need_of 3 ≡ Small class → Stands h class false 0 0 c → MakesRounds h c (suc more) d
     → Stands h class true 1 more d
 rounds-stand h class zero c d small at (mid, none, round) = first-round h class 0 mid d small (subst (Stands h class false 0 0) (sym none) at) round
 rounds-stand h class (suc more) c d small at (mid, rounds, round) =
@@ -269,7 +269,7 @@ rounds-stand h class (suc more) c d small at (mid, rounds, round) =
 
 -- where one block leaves the magazines, one is freed
 pub one-freed :
-    (P : Event → Bool) (h : Heap) (p q : Pass) (blocks : List Block) (tries gives frees : ℕ) → length blocks ≡ 1
+    (P : Event → Bool) (h : HeapFields) (p q : Pass) (blocks : List Block) (tries gives frees : ℕ) → length blocks ≡ 1
     → ((place : ℕ) → one P (Free 0 place) ≡ frees) → Frees h p blocks tries q → Counts P 0 gives p → Counts P 0 (gives + frees) q
 one-freed P h p q [] tries gives frees single weighs freed_all had = absurd (omega (arith, single))
 one-freed P h p q (block ∷ []) tries gives frees single weighs (next, of, tells, last) had =

@@ -9,7 +9,7 @@ use Rattle.errand_steps.specs.declared.reply.Reply.{Reply}
 use Rattle.errand_steps.specs.declared.reply.Reply.TheVariants as reply
 use Rattle.errand_steps.specs.Calls.{Call, alloc, free, put, read, take, write}
 use Rattle.call_events.specs.Made.{LeadsBy, Made, answered}
-use Rattle.live_heap.specs.declared.heap.Heap.{Heap}
+use Rattle.live_heap.specs.Heaps.{HeapFields}
 use Rattle.live_heap.specs.declared.pass.Pass.{Pass}
 use Rattle.live_heap.specs.Calls.{IsInterrupted}
 use Rattle.live_heap.specs.Endings.{ClosedFields, HasClosed}
@@ -23,11 +23,11 @@ use Rattle.worked_programs.specs.declared.embedded.Stop.{Stop}
 use Rattle.worked_programs.specs.declared.embedded.Stop.TheVariants as stop
 
 -- a pass of the heap makes a whole call; a word that it reads is the one that was written there, if any was
-abbrev pub Makes : Heap → Pass → Call → Reply → Pass → Type 0
+abbrev pub Makes : HeapFields → Pass → Call → Reply → Pass → Type 0
 Makes h p call answer q = IsWhole h p call answer h q × TellsContents call answer q
 
 -- a pass made this call, which was answered so, and the program goes no further
-abbrev pub Stops : Heap → Pass → Call → Stop → Pass → Type 0
+abbrev pub Stops : HeapFields → Pass → Call → Stop → Pass → Type 0
 Stops h p call stop.Refused q = Makes h p call reply.Refused q
 Stops h p call stop.Spent q = Makes h p call reply.Spent q
 Stops h p call stop.Busy q = IsInterrupted p call 0 p TRIES q
@@ -56,7 +56,7 @@ second_calls place need handed =
     ∷ []
 
 -- the first pass has made its calls, and read this word
-pub record Keeps (h : Heap) (first : Pass) (kept : ℕ) (p : Pass) : Type 0 where
+pub record Keeps (h : HeapFields) (first : Pass) (kept : ℕ) (p : Pass) : Type 0 where
   pub place : ℕ
   pub need : Need
   pub other : ℕ
@@ -64,7 +64,7 @@ pub record Keeps (h : Heap) (first : Pass) (kept : ℕ) (p : Pass) : Type 0 wher
   pub made : LeadsBy (Makes h) first (first_calls place need other wide kept) p
 
 -- the second pass has made its calls, and read this word
-pub record Fetches (h : Heap) (second : Pass) (handed : ℕ) (q : Pass) : Type 0 where
+pub record Fetches (h : HeapFields) (second : Pass) (handed : ℕ) (q : Pass) : Type 0 where
   pub place : ℕ
   pub need : Need
   pub made : LeadsBy (Makes h) second (second_calls place need handed) q
@@ -91,12 +91,12 @@ pub record HasStoppedBy {S : Type 0} (makes : S → Call → Reply → S → Typ
   pub stops : ends last call stop to
 
 -- a pass was stopped by the next one of its calls
-abbrev pub HasStopped : Heap → Pass → (List Made → Call → Type 0) → Stop → Type 0
+abbrev pub HasStopped : HeapFields → Pass → (List Made → Call → Type 0) → Stop → Type 0
 HasStopped h from IsNext stop = (q : Pass) × HasStoppedBy (Makes h) (Stops h) IsNext from stop q
 
 -- a call that was answered so has stopped the first one of the two passes of a new heap, or the second one behind all calls of the first
 pub record WasStopped (stop : Stop) : Type 0 where
-  pub heap : Heap
+  pub heap : HeapFields
   pub first : Pass
   pub second : Pass
   pub fresh : AreFrom heap 0 (first ∷ second ∷ [])
@@ -106,7 +106,7 @@ pub record WasStopped (stop : Stop) : Type 0 where
 
 -- the two passes of a new heap have made their calls, and then it was closed: the first pass read what it wrote, behind its other calls, and so did the second one behind the hand-over; and no block is live
 pub record HasRun (report : Report) : Type 0 where
-  pub heap : Heap
+  pub heap : HeapFields
   pub first : Pass
   pub second : Pass
   pub fresh : AreFrom heap 0 (first ∷ second ∷ [])

@@ -1,3 +1,4 @@
 pub mod Embedded
 pub mod Pipes
+pub mod Relay
 pub mod Reuse

@@ -8,7 +8,7 @@ use Rattle.errand_steps.specs.Calls.{Call, alloc, free, read, write}
 use Rattle.call_events.specs.Made.{LeadsBy, Made, answered}
 use Rattle.sound_state.specs.Sums.{sum_below}
 use Rattle.live_heap.specs.declared.answers.FreeAnswer.TheVariants as free_answer
-use Rattle.live_heap.specs.declared.heap.Heap.{Heap}
+use Rattle.live_heap.specs.Heaps.{HeapFields}
 use Rattle.live_heap.specs.Calls.{IsInterrupted}
 use Rattle.live_heap.specs.Endings.{HasClosed}
 use Rattle.live_heap.specs.Passes.{IsFresh}
@@ -24,11 +24,11 @@ use Rattle.worked_programs.specs.declared.reuse.Reused.{Reused}
 use Rattle.worked_programs.specs.Embedded.{HasStoppedBy}
 
 -- a whole call through a cache of this heap, whose magazines stay as deep
-abbrev pub Makes : Heap → Cache → Call → Reply → Cache → Type 0
+abbrev pub Makes : HeapFields → Cache → Call → Reply → Cache → Type 0
 Makes h c call answer d = IsWholeCall h c call answer d × (d.magazines.depth ≡ c.magazines.depth)
 
 -- a call through a cache was answered so, and the program goes no further
-abbrev pub Stops : Heap → Cache → Call → Stop → Cache → Type 0
+abbrev pub Stops : HeapFields → Cache → Call → Stop → Cache → Type 0
 Stops h c call stop.Refused d = Makes h c call reply.Refused d
 Stops h c call stop.Spent d = Makes h c call reply.Spent d
 Stops h c call stop.Busy d = IsInterrupted c.pass call 0 c.pass TRIES d.pass × KeepsMagazines c d
@@ -44,11 +44,11 @@ round_calls place word =
     ∷ []
 
 -- a round has been made
-abbrev pub IsRound : Heap → Cache → ℕ → Cache → Type 0
+abbrev pub IsRound : HeapFields → Cache → ℕ → Cache → Type 0
 IsRound h c word d = (place : ℕ) × LeadsBy (Makes h) c (round_calls place word) d
 
 -- so many rounds have been made, one after the other, each with its number as the word
-abbrev pub MakesRounds : Heap → Cache → ℕ → Cache → Type 0
+abbrev pub MakesRounds : HeapFields → Cache → ℕ → Cache → Type 0
 MakesRounds h c zero d = d ≡ c
 MakesRounds h c (suc rounds) d = (mid : Cache) × MakesRounds h c rounds mid × IsRound h mid rounds d
 
@@ -58,11 +58,11 @@ IsNextOfRound word calls call =
     (place : ℕ) × (answer : Reply) × (rest : List Made) × (round_calls place word ≡ calls ++ answered call answer ∷ rest)
 
 -- a round was stopped by the next one of its calls
-abbrev pub HasStopped : Heap → Cache → ℕ → Stop → Cache → Type 0
+abbrev pub HasStopped : HeapFields → Cache → ℕ → Stop → Cache → Type 0
 HasStopped h c word told d = HasStoppedBy (Makes h) (Stops h) (IsNextOfRound word) c told d
 
 -- behind fewer rounds than all, the next one was stopped
-pub record HasStoppedRounds (h : Heap) (c : Cache) (told : Stop) (d : Cache) : Type 0 where
+pub record HasStoppedRounds (h : HeapFields) (c : Cache) (told : Stop) (d : Cache) : Type 0 where
   pub rounds : ℕ
   pub few : rounds < ROUNDS
   pub mid : Cache
@@ -70,13 +70,13 @@ pub record HasStoppedRounds (h : Heap) (c : Cache) (told : Stop) (d : Cache) : T
   pub stopped : HasStopped h mid rounds told d
 
 -- a round was stopped; or all were made, and one of the frees that empty the magazines was interrupted
-abbrev pub HasStoppedWork : Heap → Cache → Stop → Cache → Type 0
+abbrev pub HasStoppedWork : HeapFields → Cache → Stop → Cache → Type 0
 HasStoppedWork h c told d =
     HasStoppedRounds h c told d
     ⊎ ((mid : Cache) × MakesRounds h c ROUNDS mid × FlushTells h mid TRIES free_answer.Busy d × (told ≡ stop.Busy))
 
 -- a new heap with one caller, and a cache in front of its pass that has no block
-pub record IsOpened (h : Heap) (c : Cache) : Type 0 where
+pub record IsOpened (h : HeapFields) (c : Cache) : Type 0 where
   pub alone : h.layout.callers ≡ 1
   pub fresh : IsFresh h c.pass
   pub first : c.pass.errand.caller ≡ 0
@@ -86,7 +86,7 @@ pub record IsOpened (h : Heap) (c : Cache) : Type 0 where
   pub hits : c.hits ≡ 0
 
 -- all rounds have been made, in which words were read that add up to this, and then the magazines were emptied
-pub record HasWorked (h : Heap) (c : Cache) (sum : ℕ) (d : Cache) : Type 0 where
+pub record HasWorked (h : HeapFields) (c : Cache) (sum : ℕ) (d : Cache) : Type 0 where
   pub mid : Cache
   pub rounds : MakesRounds h c ROUNDS mid
   pub sum_is : sum ≡ sum_below ROUNDS (λ word. word)
@@ -97,7 +97,7 @@ pub record HasWorked (h : Heap) (c : Cache) (sum : ℕ) (d : Cache) : Type 0 whe
 
 -- a call that was answered so has stopped the work with a new heap through a cache
 pub record WasStopped (told : Stop) : Type 0 where
-  pub heap : Heap
+  pub heap : HeapFields
   pub cache : Cache
   pub opened : IsOpened heap cache
   pub last : Cache
@@ -105,7 +105,7 @@ pub record WasStopped (told : Stop) : Type 0 where
 
 -- a new heap was worked with through a cache and closed. A magazine served each allocation but the first one, which took the only turn; and no block is live
 pub record HasReused (reused : Reused) : Type 0 where
-  pub heap : Heap
+  pub heap : HeapFields
   pub cache : Cache
   pub opened : IsOpened heap cache
   pub last : Cache

@@ -1,7 +1,8 @@
 //! A program of two threads with a pipe between them: one sends a word in a block of the heap, and the other
-//! receives the block, reads the word and frees the block.
+//! receives the block, reads the word and frees the block. The heap's rule says that what lies on a shelf begins with
+//! that word. So whoever takes it has the word: no history is asked, and the heap is open still.
 
-ghost use Rattle.std.specs.Prelude.{◌≡◌, ◌<◌, ◌^◌, None};
+ghost use Rattle.std.specs.Prelude.{◌≡◌, ◌<◌, ◌^◌, None, IfOk, IfSome};
 ghost use Rattle.block_pipe.specs.Ends.{IsReceiver, IsSender};
 ghost use Rattle.live_heap.specs.Whole.{IsAtRest};
 
@@ -14,8 +15,11 @@ use live_heap::answers::AllocAnswer;
 use live_heap::heap::Heap;
 use live_heap::laws::blocks::given_blocks_have_enough_words;
 use live_heap::laws::passes_keep_their_blocks;
+use live_heap::laws::words::written_words_stay;
 use live_heap::pass::Pass;
+use live_heap::shelves::ShelfRule;
 use std::alloc::{AllocError, Global};
+use std::marker::{Brand, PhantomData};
 use std::sync::Wait;
 use std::thread;
 use std::thread::Threads;
@@ -23,21 +27,45 @@ use std::thread::Threads;
 /// How often a call may lose an exchange before the program gives it up.
 const TRIES: u32 = 1000;
 
+/// The word that is on its way. The call that opens the heap names it for the proof.
+pub trait Carried {
+    ghost use Rattle.std.specs.Prelude.{ℕ};
+
+    ghost word: { ℕ };
+}
+
+impl Carried for Brand {
+    ghost word = { 0 };
+}
+
+/// What lies on a shelf begins with the word that is on its way.
+pub struct BeginsWith<C> {
+    word: PhantomData<C>,
+}
+
+impl<C: Carried> ShelfRule for BeginsWith<C> {
+    ghost use Rattle.worked_programs.specs.Relay.{begins_with};
+
+    ghost allows = { begins_with C.word };
+}
+
 /// Sends the word in a block, and waits until the note of that is in the queue.
-fn give<R: Wait>(
+fn give<R: Wait, C: Carried>(
     rt: &R,
     pipe: &Pipe,
-    heap: &Heap,
+    heap: &Heap<BeginsWith<C>>,
     mut sender: Sender,
     mut pass: Pass,
     word: u64,
 ) -> Sender
     requires sender { IsSender pipe.now sender × (sender.pending ≡ None) × (sender.sent < 2 ^ 60) }
     requires pass { IsAtRest heap.now pass × (pass.errand.caller ≡ sender.number) }
+    requires word { word ≡ C.word }
     ensures { IsSender pipe.now result × (result.pending ≡ None) }
 {
     given_blocks_have_enough_words();
     passes_keep_their_blocks();
+    written_words_stay();
     let AllocAnswer::Given(block) = heap.alloc(&mut pass, 1, TRIES) else {
         return sender;
     };
@@ -51,27 +79,26 @@ fn give<R: Wait>(
     unreachable!()
 }
 
-/// Waits for a block, and answers its first word.
-fn take<R: Wait>(
+/// Waits for a block, and answers its first word, which is the one that was sent.
+fn take<R: Wait, C: Carried>(
     rt: &R,
     pipe: &Pipe,
-    heap: &Heap,
+    heap: &Heap<BeginsWith<C>>,
     mut receiver: Receiver,
     mut pass: Pass,
 ) -> (Receiver, Option<u64>)
     requires receiver { IsReceiver pipe.now receiver }
     requires pass { IsAtRest heap.now pass × (pass.errand.caller ≡ pipe.now.senders) }
-    ensures { IsReceiver pipe.now result.0 }
+    ensures receiver { IsReceiver pipe.now result.0 }
+    ensures word { IfSome result.1 (λ got. got ≡ C.word) }
 {
     passes_keep_their_blocks();
+    written_words_stay();
     for _ in rt.forever() {
         match receiver.recv(rt, pipe, heap, &mut pass) {
             Received::Nothing | Received::Missed { .. } => {}
             Received::Gone { .. } | Received::Other { .. } => return (receiver, None),
             Received::Got { block, .. } => {
-                if block.usable_words() == 0 {
-                    return (receiver, None);
-                }
                 let word = heap.read(&mut pass, &block, 0);
                 let _ = heap.free(&mut pass, block, TRIES);
                 return (receiver, Some(word));
@@ -81,13 +108,30 @@ fn take<R: Wait>(
     unreachable!()
 }
 
-/// Hands the word from one thread to another, and answers it where a note of it was pushed and popped.
+/// Hands the word from one thread to another: an answer is that word.
 pub fn relay<R: Threads + Wait + Sync>(
     rt: &R,
     alloc: Global,
     word: u64,
-) -> Result<Option<u64>, AllocError> {
-    let (heap, mut passes) = Heap::open(alloc, TWO_CALLERS)?;
+) -> Result<Option<u64>, AllocError>
+    ensures { IfOk result (λ told. IfSome told (λ got. got ≡ word)) }
+{
+    carry::<R, Brand>(rt, alloc, word)
+}
+
+/// The same, for the word that `C` names for the proof. It is answered where a note of it was pushed and popped.
+fn carry<R: Threads + Wait + Sync, C: Carried + Send + Sync>(
+    rt: &R,
+    alloc: Global,
+    word: u64,
+) -> Result<Option<u64>, AllocError>
+    requires { word ≡ C.word }
+    ensures { IfOk result (λ told. IfSome told (λ got. got ≡ C.word)) }
+{
+    let (heap, mut passes): (Heap<BeginsWith<C>>, Vec<Pass>) = Heap::open_with_rule(
+        alloc,
+        TWO_CALLERS,
+    )?;
     let (pipe, mut senders, receiver) = Pipe::open(alloc, 1, 1)?;
     let giver = passes.remove(0);
     let taker = passes.remove(0);
@@ -97,12 +141,12 @@ pub fn relay<R: Threads + Wait + Sync>(
         rt,
         move ||
             requires { IsSender line.now sender × (sender.pending ≡ None) × (sender.sent < 2 ^ 60)
-                × IsAtRest shared.now giver × (giver.errand.caller ≡ sender.number) }
+                × IsAtRest shared.now giver × (giver.errand.caller ≡ sender.number) × (word ≡ C.word) }
             ensures { IsSender line.entry.now result × (result.pending ≡ None) }
         { give(rt, line, shared, sender, giver, word) },
         move ||
             requires { IsReceiver line.now receiver × IsAtRest shared.now taker × (taker.errand.caller ≡ line.now.senders) }
-            ensures { IsReceiver line.entry.now result.0 }
+            ensures { IsReceiver line.entry.now result.0 × IfSome result.1 (λ got. got ≡ C.word) }
         { take(rt, line, shared, receiver, taker) },
     );
     let mut ends = Vec::with_capacity(alloc, 1)?;

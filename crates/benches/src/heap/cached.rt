@@ -67,7 +67,7 @@ fn given(answer: Resumed, tally: &mut Tally) -> Option<Block>
 impl Front for Cache {
     ghost use Rattle.std.specs.Prelude.{◌≡◌, ◌++◌, ◌∷◌, ◌↔◌, List};
     ghost use Rattle.live_heap.specs.declared.block.Block.{Block};
-    ghost use Rattle.live_heap.specs.declared.heap.Heap.{Heap};
+    ghost use Rattle.live_heap.specs.Heaps.{HeapFields};
     ghost use Rattle.block_cache.specs.declared.cache.Cache.{Cache};
     ghost use Rattle.block_cache.specs.Caches.{Holds};
     ghost use Rattle.block_cache.specs.Whole.{RestsAt};

@@ -4,7 +4,7 @@ ghost use Rattle.std.specs.Prelude.{◌≡◌, ◌<◌, ◌≤◌, ◌++◌, ◌
 ghost use Rattle.heap_geometry.specs.Need.{usable_words};
 ghost use Rattle.heap_geometry.specs.declared.limits.TheConstants.{LARGE_MOST, SHELVES};
 ghost use Rattle.live_heap.specs.declared.block.Block.{Block};
-ghost use Rattle.live_heap.specs.declared.heap.Heap.{Heap};
+ghost use Rattle.live_heap.specs.Heaps.{HeapFields};
 ghost use Rattle.live_heap.specs.Passes.{IsFresh};
 ghost use Rattle.benches.specs.Hands.{Rests, got_by};
 
@@ -20,7 +20,7 @@ use std::sync::Wait;
 /// Whole calls of one caller, which are gone on with until they have ended, with so many tries each time.
 pub trait Front: Drop {
     /// It is of this heap, in no call, and no block's words are out with it.
-    ghost rests: { Heap → Self → Type 0 };
+    ghost rests: { HeapFields → Self → Type 0 };
 
     /// Its caller holds these blocks, each once.
     ghost holds: { Self → List Block → Type 0 };
@@ -107,7 +107,7 @@ pub trait Front: Drop {
 impl Front for Pass {
     ghost use Rattle.std.specs.Prelude.{◌++◌, ◌∷◌, ◌↔◌, List};
     ghost use Rattle.live_heap.specs.declared.block.Block.{Block};
-    ghost use Rattle.live_heap.specs.declared.heap.Heap.{Heap};
+    ghost use Rattle.live_heap.specs.Heaps.{HeapFields};
     ghost use Rattle.live_heap.specs.declared.pass.Pass.{Pass};
     ghost use Rattle.live_heap.specs.Holdings.{Holds};
     ghost use Rattle.benches.specs.Hands.{Rests};

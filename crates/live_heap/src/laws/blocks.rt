@@ -14,7 +14,7 @@ ghost use Rattle.errand_steps.specs.Steps.{event_at};
 ghost use Rattle.call_events.specs.Stages.{stage_of};
 ghost use Rattle.step_machine.specs.Moments.{IsMoment};
 ghost use Rattle.live_heap.specs.declared.block.Block.{Block};
-ghost use Rattle.live_heap.specs.declared.heap.Heap.{Heap};
+ghost use Rattle.live_heap.specs.Heaps.{HeapFields};
 ghost use Rattle.live_heap.specs.declared.pass.Pass.{Pass};
 ghost use Rattle.live_heap.specs.Calls.{HasCalled, IsCalling};
 ghost use Rattle.live_heap.specs.Contents.{HasChanged, HasChangedSoFar, owned_after, owned_in, tells_last};
@@ -40,10 +40,10 @@ pub fn passes_see_more()
 /// its words, whatever other callers do in the meantime; no other block comes to it, or is lost. A closed
 /// heap has just what each pass owned.
 pub fn calls_change_their_block()
-    ensures called { (h : Heap) (p q : Pass) (call : Call) (steps : ℕ) (answer : Reply) → IsOf h q → HasCalled p call steps answer q
+    ensures called { (h : HeapFields) (p q : Pass) (call : Call) (steps : ℕ) (answer : Reply) → IsOf h q → HasCalled p call steps answer q
         → HasChanged p call answer q }
-    ensures whole { (h k : Heap) (p q : Pass) (call : Call) (answer : Reply) → IsWhole h p call answer k q → HasChanged p call answer q }
-    ensures calling { (h : Heap) (p q : Pass) (call : Call) (steps : ℕ) → IsOf h q → IsCalling p call steps q
+    ensures whole { (h k : HeapFields) (p q : Pass) (call : Call) (answer : Reply) → IsWhole h p call answer k q → HasChanged p call answer q }
+    ensures calling { (h : HeapFields) (p q : Pass) (call : Call) (steps : ℕ) → IsOf h q → IsCalling p call steps q
         → HasChangedSoFar p call (stage_of q.errand.point) q }
     ensures closed { (c : ClosedFields) (p : Pass) (place : ℕ) → IsResting c → HasTakenIn c p
         → owned_after c.events p.errand.caller place ≡ owned_in p place }
@@ -52,15 +52,15 @@ pub fn calls_change_their_block()
 /// The blocks in a pass's hand are all that its caller owns, each once: nothing at first, and then what each
 /// call makes of it, one that is under way too; and then the words of no block are out. Their order means nothing.
 pub fn passes_hold_exactly()
-    ensures fresh { (h : Heap) (p : Pass) → IsFresh h p → HoldsExactly p [] }
-    ensures called { (h : Heap) (p q : Pass) (call : Call) (steps : ℕ) (answer : Reply) (had has : List Block) → IsOf h p → IsOf h q
+    ensures fresh { (h : HeapFields) (p : Pass) → IsFresh h p → HoldsExactly p [] }
+    ensures called { (h : HeapFields) (p q : Pass) (call : Call) (steps : ℕ) (answer : Reply) (had has : List Block) → IsOf h p → IsOf h q
         → HasCalled p call steps answer q → ChangesHand call answer had has → HoldsExactly p had → HoldsExactly q has }
-    ensures whole { (h k : Heap) (p q : Pass) (call : Call) (answer : Reply) (had has : List Block) → IsOf h p
+    ensures whole { (h k : HeapFields) (p q : Pass) (call : Call) (answer : Reply) (had has : List Block) → IsOf h p
         → IsWhole h p call answer k q → ChangesHand call answer had has → HoldsExactly p had → HoldsExactly q has }
-    ensures calling { (h : Heap) (p q : Pass) (call : Call) (steps : ℕ) (had has : List Block) → IsOf h p → IsOf h q
+    ensures calling { (h : HeapFields) (p q : Pass) (call : Call) (steps : ℕ) (had has : List Block) → IsOf h p → IsOf h q
         → IsCalling p call steps q
         → ChangesHandSoFar call (stage_of q.errand.point) had has → HoldsExactly p had → HoldsExactly q has }
-    ensures home { (h : Heap) (p : Pass) (blocks : List Block) → IsOf h p → HoldsExactly p blocks → p.out ≡ 0 }
+    ensures home { (h : HeapFields) (p : Pass) (blocks : List Block) → IsOf h p → HoldsExactly p blocks → p.out ≡ 0 }
     ensures order { (p : Pass) (before after : List Block) (block : Block)
         → HoldsExactly p (before ++ block ∷ after) ↔ HoldsExactly p (block ∷ before ++ after) }
 {}

@@ -8,7 +8,7 @@ ghost use Rattle.errand_steps.specs.declared.told.Stepped.{Stepped};
 ghost use Rattle.errand_steps.specs.declared.told.Stepped.TheVariants as step;
 ghost use Rattle.errand_steps.specs.Begins.{IsIdle, alloc_answer};
 ghost use Rattle.errand_steps.specs.Calls.{Call, alloc, take};
-ghost use Rattle.live_heap.specs.declared.heap.Heap.{Heap};
+ghost use Rattle.live_heap.specs.Heaps.{HeapFields};
 ghost use Rattle.live_heap.specs.declared.block.Block.{Block};
 ghost use Rattle.live_heap.specs.declared.pass.Pass.{Pass};
 ghost use Rattle.live_heap.specs.Answers.{HasBegun, HasStepped, reply_of, with_lost};
@@ -22,13 +22,13 @@ ghost use Rattle.live_heap.specs.Whole.{OwnsFor};
 /// and a put end with their first step, a take with its second; one that misses has lost one exchange more. An
 /// allocation that its begin has not started leaves the pass as it was.
 pub fn calls_go_step_by_step()
-    ensures begins { (h : Heap) (p q : Pass) (call : Call) → IsOf h p → IsIdle p.errand → OwnsFor p call → HasStarted p call
+    ensures begins { (h : HeapFields) (p q : Pass) (call : Call) → IsOf h p → IsIdle p.errand → OwnsFor p call → HasStarted p call
         → HasBegun p call q → IsCalling p call 0 q }
     ensures goes_on { (first : Pass) (call : Call) (steps : ℕ) (p q : Pass) (told : Stepped Block) → IsCalling first call steps p
         → HasStepped p q told → ¬ IsDone told → IsCalling first call (suc steps) q }
     ensures ends { (first : Pass) (call : Call) (steps : ℕ) (p q : Pass) (end : Ending Block) → IsCalling first call steps p
         → HasStepped p q (step.Done end) → HasCalled first call steps (reply_of end) q }
-    ensures tells { (h : Heap) (first : Pass) (call : Call) (steps : ℕ) (p q : Pass) (end : Ending Block) → IsOf h first → IsOf h p
+    ensures tells { (h : HeapFields) (first : Pass) (call : Call) (steps : ℕ) (p q : Pass) (end : Ending Block) → IsOf h first → IsOf h p
         → IsOf h q → IsCalling first call steps p → HasStepped p q (step.Done end) → EndTells call end q }
     ensures last { (first : Pass) (call : Call) (steps : ℕ) (p q : Pass) (told : Stepped Block) → IsCalling first call steps p
         → IsLastStep call steps → HasStepped p q told → IsDone told }

@@ -14,7 +14,7 @@ ghost use Rattle.live_heap.specs.declared.answers.Full.{Full};
 ghost use Rattle.live_heap.specs.declared.answers.Resumed.{Resumed};
 ghost use Rattle.live_heap.specs.declared.answers.Taken.{Taken};
 ghost use Rattle.live_heap.specs.declared.block.Block.{Block};
-ghost use Rattle.live_heap.specs.declared.heap.Heap.{Heap};
+ghost use Rattle.live_heap.specs.Heaps.{HeapFields};
 ghost use Rattle.live_heap.specs.declared.pass.Pass.{Pass};
 ghost use Rattle.live_heap.specs.Answers.{AllocTells, FreeTells, HasStepped, IsTried, PutTellsFull, ResumeTells, TakeTells, reply_of};
 ghost use Rattle.live_heap.specs.Calls.{HasCalled, IsCalling};
@@ -35,28 +35,28 @@ pub fn hands_give_out_blocks()
 /// A hand goes through every whole call: what the call is about has left the hand, what it brings is in it
 /// behind the others, and an interrupted one waits with the others.
 pub fn hands_go_through_calls()
-    ensures alloc { (h : Heap) (p q : Pass) (blocks : List Block) (need tries : ℕ) (answer : AllocAnswer) → IsHand h p blocks
+    ensures alloc { (h : HeapFields) (p q : Pass) (blocks : List Block) (need tries : ℕ) (answer : AllocAnswer) → IsHand h p blocks
         → IsIdle p.errand → IsOf h q → AllocTells p need tries answer q → IsHand h q (blocks ++ given_by answer) }
-    ensures free { (h : Heap) (p q : Pass) (block : Block) (blocks : List Block) (tries : ℕ) (answer : FreeAnswer) → IsOf h p
+    ensures free { (h : HeapFields) (p q : Pass) (block : Block) (blocks : List Block) (tries : ℕ) (answer : FreeAnswer) → IsOf h p
         → Holds p (block ∷ blocks) → IsOf h q → FreeTells p block tries answer q → IsHand h q blocks }
-    ensures resumed { (h : Heap) (p q : Pass) (blocks : List Block) (tries : ℕ) (answer : Resumed) → IsHand h p blocks
+    ensures resumed { (h : HeapFields) (p q : Pass) (blocks : List Block) (tries : ℕ) (answer : Resumed) → IsHand h p blocks
         → IsBusy p.errand → IsOf h q
         → ((first : Pass) (call : Call) (made : ℕ) → IsOf h first → IsCalling first call made p → ResumeTells first call made p tries answer q)
         → IsHand h q (blocks ++ resumed_by answer) }
-    ensures put { (h : Heap) (p q : Pass) (block : Block) (blocks : List Block) (shelf : ℕ) (answer : Result (Unit {0}) Full) → IsOf h p
+    ensures put { (h : HeapFields) (p q : Pass) (block : Block) (blocks : List Block) (shelf : ℕ) (answer : Result (Unit {0}) Full) → IsOf h p
         → Holds p (block ∷ blocks) → IsOf h q → IfOk answer (λ _. HasCalled p (put block.place block.need shelf) 0 reply.Put q)
         → IfErr answer (λ full. PutTellsFull p block shelf full q) → IsHand h q (blocks ++ returned_by answer) }
-    ensures take { (h : Heap) (p q : Pass) (blocks : List Block) (shelf : ℕ) (answer : Taken) → IsOf h p → Holds p blocks → IsOf h q
+    ensures take { (h : HeapFields) (p q : Pass) (blocks : List Block) (shelf : ℕ) (answer : Taken) → IsOf h p → Holds p blocks → IsOf h q
         → TakeTells p shelf answer q → IsHand h q (blocks ++ taken_by answer) }
-    ensures ended { (h : Heap) (p q : Pass) (blocks : List Block) (call : Call) (steps : ℕ) (end : Ending Block) → IsOf h p → Holds p blocks
+    ensures ended { (h : HeapFields) (p q : Pass) (blocks : List Block) (call : Call) (steps : ℕ) (end : Ending Block) → IsOf h p → Holds p blocks
         → IsOf h q → All (λ block. LeavesPlace call block.place) blocks → HasCalled p call steps (reply_of end) q → EndTells call end q
         → IsHand h q (blocks ++ brought_by end) }
 {}
 
 /// And it goes through an allocation or a free that is made step by step.
 pub fn hands_go_through_steps()
-    ensures begun { (h : Heap) (p q : Pass) (blocks : List Block) (call : Call) → IsOf h p → Holds p blocks → IsOf h q
+    ensures begun { (h : HeapFields) (p q : Pass) (blocks : List Block) (call : Call) → IsOf h p → Holds p blocks → IsOf h q
         → All (λ block. LeavesPlace call block.place) blocks → IsTried call → IsCalling p call 0 q → IsHand h q blocks }
-    ensures stepped { (h : Heap) (p q : Pass) (blocks : List Block) (told : Stepped Block) → IsHand h p blocks → IsBusy p.errand → IsOf h q
+    ensures stepped { (h : HeapFields) (p q : Pass) (blocks : List Block) (told : Stepped Block) → IsHand h p blocks → IsBusy p.errand → IsOf h q
         → HasStepped p q told → IsHand h q (blocks ++ brought_in told) }
 {}

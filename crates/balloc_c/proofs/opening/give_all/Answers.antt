@@ -2,7 +2,7 @@ use Rattle.std.proofs.Common.{ℕ, arith, ◌≡◌, ◌+◌, ◌<◌, suc, List
 use Rattle.std.specs.Prelude.{slice_set}
 use Rattle.std.proofs.lemmas.List.{length-set}
 use Rattle.std.specs.Arc.{arc_value}
-use Rattle.live_heap.specs.declared.heap.Heap.{Heap}
+use Rattle.live_heap.specs.Heaps.{HeapFields}
 use Rattle.live_heap.specs.declared.pass.Pass.{Pass}
 use Rattle.live_heap.specs.Passes.{AreFrom, IsFresh}
 use Rattle.shared_heap.specs.declared.shared.SharedHeap.{SharedHeap}
@@ -24,7 +24,7 @@ loop-pass-init c =
       is_finite = tt;
       left =
           subst (λ (l : List Pass). AreFrom (arc_value c.in_ok-heap-2.heap).heap 0 l) rest
-          (subst (λ (h : Heap). AreFrom h 0 c.in_ok-heap.made.items) (sym same) c.in_ok-heap.ensures.passes.0);
+          (subst (λ (h : HeapFields). AreFrom h 0 c.in_ok-heap.made.items) (sym same) c.in_ok-heap.ensures.passes.0);
       count = omega (arith, ap length rest, c.in_ok-heap.ensures.passes.1, c.requires.callers);
       dealer = subst (λ (shared : SharedHeap). IsDealerOf shared 0 c.in_ok-shared.dealer) (sym c.in_ok-heap-2.ensures.ok) c.in_ok-shared.ensures.dealer;
       given = λ number low. absurd (omega (arith, low));
@@ -36,7 +36,7 @@ cached-requires-clause-fresh c =
     let i = c.loop-pass.invariant in
     let rest : c.loop-pass.pass-iterator.rest.items ≡ c.in-Some.pass ∷ c.next.new.self.rest.items = search rules in
     let left = subst (λ (l : List Pass). AreFrom h c.loop-pass.number l) rest i.left in
-    subst (λ (k : Heap). IsFresh k c.in-Some.pass) (sym (c.heap-own.ensures ∙ ap (λ (shared : SharedHeap). shared.heap) c.deref.ensures)) left.0
+    subst (λ (k : HeapFields). IsFresh k c.in-Some.pass) (sym (c.heap-own.ensures ∙ ap (λ (shared : SharedHeap). shared.heap) c.deref.ensures)) left.0
 
 pub loop-pass-preserved : goal.loop-pass-preserved
 loop-pass-preserved c =
@@ -84,6 +84,6 @@ returns c =
     let all : c.loop-pass.number ≡ c.args.geometry.callers =
     omega (arith, c.in-None.ensures.steps.0, c.loop-pass.pass-iterator.rest.ok.0, i.count, c.loop-pass.auto.passes, c.requires.callers) in (
       h,
-      ap (λ (shared : SharedHeap). shared.heap.layout) c.in_ok-heap-2.ensures.ok ∙ ap (λ (heap : Heap). heap.layout) c.in_ok-shared.ensures.heap ∙ c.in_ok-heap.ensures.heap,
+      ap (λ (shared : SharedHeap). shared.heap.layout) c.in_ok-heap-2.ensures.ok ∙ ap (λ (heap : HeapFields). heap.layout) c.in_ok-shared.ensures.heap ∙ c.in_ok-heap.ensures.heap,
       subst (λ (n : ℕ). HoldNew h c.args.depth n c.loop-pass.passes) all i.given,
     )

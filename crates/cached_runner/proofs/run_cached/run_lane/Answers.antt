@@ -1,5 +1,5 @@
 use Rattle.std.proofs.Common.{rules, ℕ, ◌∙◌, ap}
-use Rattle.live_heap.specs.declared.heap.Heap.{Heap}
+use Rattle.live_heap.specs.Heaps.{HeapFields}
 use Rattle.block_cache.specs.Whole.{HoldsAt}
 use Rattle.cached_runner.proofs.CacheRuns.{made-all, new-holds}
 use Rattle.cached_runner.proofs.run_cached.run_lane.Goals as goal
@@ -14,5 +14,5 @@ returns g c =
     let n = c.new-calls.ensures in
     let ran = made-all (g.G.Gate.passed c.args.gate.now) c.args.heap.now c.args.operations.now c.new-calls.result c.run.new.calls c.args.cache.now
     c.args.lane.now c.run.new.self c.requires.new n.cache n.heap e.stands e.ran e.ended e.passed in
-    let name = ap (λ (p : ℕ × Heap). p.0) e.base ∙ n.same in
+    let name = ap (λ (p : ℕ × HeapFields). p.0) e.base ∙ n.same in
     search rules

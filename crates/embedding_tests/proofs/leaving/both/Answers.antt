@@ -1,11 +1,11 @@
 use Rattle.std.proofs.Common.{ℕ, suc, ◌≡◌, List, [], ◌∷◌, ◌++◌, subst}
-use Rattle.live_heap.specs.declared.heap.Heap.{Heap}
+use Rattle.live_heap.specs.Heaps.{HeapFields}
 use Rattle.live_heap.specs.declared.pass.Pass.{Pass}
 use Rattle.live_heap.specs.Passes.{AreFrom, IsOf}
 use Rattle.embedding_tests.proofs.leaving.both.Goals as goal
 
 -- the last pass of a new heap, and those before it
-last-from : (h : Heap) (caller : ℕ) (ps : List Pass) (p : Pass) → AreFrom h caller (ps ++ p ∷ []) → AreFrom h caller ps × IsOf h p
+last-from : (h : HeapFields) (caller : ℕ) (ps : List Pass) (p : Pass) → AreFrom h caller (ps ++ p ∷ []) → AreFrom h caller ps × IsOf h p
 last-from h caller [] p from = (tt, from.0.of)
 last-from h caller (q ∷ ps) p from = let rest = last-from h (suc caller) ps p from.2 in ((from.0, from.1, rest.0), rest.1)
 

@@ -1,6 +1,6 @@
 use Rattle.std.proofs.Common.{rules, ℕ, ◌∙◌, sym, ap, subst}
 use Rattle.live_heap.specs.declared.block.Block.{Block}
-use Rattle.live_heap.specs.declared.heap.Heap.{Heap}
+use Rattle.live_heap.specs.Heaps.{HeapFields}
 use Rattle.live_heap.specs.declared.pass.Pass.{Pass}
 use Rattle.live_heap.specs.Passes.{OwnsAt}
 use Rattle.trace_lane.specs.Made.{HoldsBlocks}
@@ -20,5 +20,5 @@ returns g c =
     let n = c.new-calls.ensures in
     let ran = whole-run (g.G.Gate.passed c.args.gate.now) c.args.heap.now c.args.operations.now c.new-calls.result c.run.new.calls c.args.pass.now
     c.args.lane.now c.run.new.self c.requires.operations c.requires.stands c.requires.between n.pass n.heap e.stands e.holds e.ran e.ended e.passed in
-    let name = ap (λ (p : ℕ × Heap). p.0) e.base ∙ n.same in
+    let name = ap (λ (p : ℕ × HeapFields). p.0) e.base ∙ n.same in
     search rules

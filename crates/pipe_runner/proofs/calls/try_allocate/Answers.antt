@@ -3,7 +3,7 @@ use Rattle.errand_steps.specs.declared.reply.Reply.{Reply}
 use Rattle.errand_steps.specs.Calls.{alloc}
 use Rattle.lane_engine.specs.Whole.{allocated_as}
 use Rattle.live_heap.specs.declared.block.Block.{Block}
-use Rattle.live_heap.specs.declared.heap.Heap.{Heap}
+use Rattle.live_heap.specs.Heaps.{HeapFields}
 use Rattle.live_heap.specs.declared.pass.Pass.{Pass}
 use Rattle.live_heap.specs.Whole.{IsAtRest, IsWhole, MadeByPass}
 use Rattle.pipe_runner.specs.EndCalls.{GaveNone, HasTried}
@@ -25,9 +25,9 @@ returns-in_default g c =
       subst (λ (x : Pass). MadeByPass x (alloc 3) answer q) n.pass made,
       tt,
       refl,
-      subst (λ (k : Heap). IsAtRest k q) (ap (λ (x : ℕ × Heap). x.1) base ∙ n.heap) rest,
+      subst (λ (k : HeapFields). IsAtRest k q) (ap (λ (x : ℕ × HeapFields). x.1) base ∙ n.heap) rest,
     ) in
     let kept : KeepsBlocks h p q × HasTried (GaveNone 3) p q =
     (not-given h p q c.allocate.result c.requires.rest.0 c.in_default.not-Given whole, none-given h p q c.allocate.result c.in_default.not-Given whole) in
-    let name = ap (λ (x : ℕ × Heap). x.0) base ∙ n.same in
+    let name = ap (λ (x : ℕ × HeapFields). x.0) base ∙ n.same in
     search rules

@@ -4,6 +4,8 @@ use Rattle.errand_steps.specs.declared.reply.Reply.TheVariants as reply
 use Rattle.errand_steps.specs.Calls.{take}
 use Rattle.live_heap.specs.declared.answers.Taken.TheVariants as taken
 use Rattle.live_heap.specs.Answers.{TakeTells}
+use Rattle.live_heap.specs.Passes.{seen}
+use Rattle.live_heap.specs.Shelves.{MayLieOn}
 use Rattle.block_pipe.specs.declared.note.Note.{Note}
 use Rattle.block_pipe.specs.declared.pipe.Pipe.{Pipe}
 use Rattle.block_pipe.specs.declared.receiver.Receiver.{Receiver}
@@ -57,3 +59,13 @@ returns-then-place-note-clause-tells g c =
       refl,
       subst (λ (k : ℕ). TakeTells c.args.pass.now k (taken.Got block) c.take.new.pass) s.next.shelf c.in-Got.ensures.tells,
     )
+
+pub returns-then-place-note-clause-words : goal.returns-then-place-note-clause-words
+returns-then-place-note-clause-words g c =
+    let q = c.take.new.pass in
+    let note = c.in-Some.note in
+    let s = served c.args.pipe.now c.args.self.now c.note.new.self note c.note.ensures.of c.in-Some.ensures.kept c.in-Some.ensures.note in
+    subst (λ (k : ℕ). MayLieOn g.L.ShelfRule.allows (seen q) q.errand.caller c.in-Got.block.place k) s.next.shelf (c.in-Got.ensures.words c.in-Got.block refl)
+
+pub returns-else-place-note-clause-words : goal.returns-else-place-note-clause-words
+returns-else-place-note-clause-words g c = c.in-Got.ensures.words c.in-Got.block refl

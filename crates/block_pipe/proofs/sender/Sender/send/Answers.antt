@@ -1,4 +1,4 @@
-use Rattle.std.proofs.Common.{ℕ, ◌≡◌, ◌*◌, Some, refl, ap, ◌∙◌, subst}
+use Rattle.std.proofs.Common.{ℕ, ◌≡◌, ◌*◌, Some, refl, sym, ap, ◌∙◌, subst}
 use Rattle.crossbeam_queue.specs.Passes.{view}
 use Rattle.errand_steps.specs.declared.reply.Reply.TheVariants as reply
 use Rattle.errand_steps.specs.Calls.{put}
@@ -6,6 +6,8 @@ use Rattle.live_heap.specs.declared.block.Block.{Block}
 use Rattle.live_heap.specs.declared.pass.Pass.{Pass}
 use Rattle.live_heap.specs.Answers.{PutTellsFull}
 use Rattle.live_heap.specs.Calls.{HasCalled}
+use Rattle.live_heap.specs.Passes.{seen}
+use Rattle.live_heap.specs.Shelves.{MayLieOn}
 use Rattle.block_pipe.specs.declared.pipe.Pipe.{Pipe}
 use Rattle.block_pipe.specs.declared.rule.Known.{Known}
 use Rattle.block_pipe.specs.declared.sender.Sender.{Sender}
@@ -39,3 +41,8 @@ returns-else-flush-clause-tells g c =
       f.1 ∙ t.pending ∙ ap (λ (p : ℕ). Some (note_of pipe s.number s.sent p)) c.place-place.ensures,
       subst (HasHeld (pipe.senders * pipe.shelves)) (ap (λ e. view e) t.same.0) f.3,
     )
+
+pub put-requires-clause-words : goal.put-requires-clause-words
+put-requires-clause-words g c =
+    let p = c.args.pass.now in
+    subst (λ (k : ℕ). MayLieOn g.L.ShelfRule.allows (seen p) p.errand.caller c.args.block.place k) (sym c.shelf-shelf.ensures.value) c.requires.words

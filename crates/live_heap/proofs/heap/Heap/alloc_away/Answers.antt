@@ -6,7 +6,7 @@ use Rattle.live_heap.proofs.heap.Heap.alloc_away.Goals as goal
 
 pub alloc_ended-requires : goal.alloc_ended-requires
 alloc_ended-requires g c =
-    let (first, calling) = c.requires.1.0 in
+    let (first, calling) = c.requires.1.1.0 in
     let gone : HasGone c.args.self.now g.start c.args.tries (Some c.in-Some.ending) c.rejoin.new.pass =
     subst (λ o. HasGone c.args.self.now g.start c.args.tries o c.rejoin.new.pass) c.in-Some.is c.rejoin.ensures in
     let all = (gone.goes first (alloc c.args._need) 0 calling).called.ended.ended in

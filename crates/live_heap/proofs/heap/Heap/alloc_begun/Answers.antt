@@ -10,12 +10,12 @@ use Rattle.live_heap.proofs.CallsAnswers.{alloc-tells, begins-too_large, ended-n
 use Rattle.live_heap.proofs.heap.Heap.alloc_begun.Goals as goal
 
 pub go_on-requires-clause-busy : goal.go_on-requires-clause-busy
-go_on-requires-clause-busy c =
+go_on-requires-clause-busy g c =
     let b = c.begin_alloc.ensures in
     (alloc-calling c.args.pass.now c.begin_alloc.new.pass c.args.need b.begun c.requires.idle (sym b.answer ∙ c.in-Started.is)).busy
 
 pub alloc_ended-requires : goal.alloc_ended-requires
-alloc_ended-requires c =
+alloc_ended-requires g c =
     let b = c.begin_alloc.ensures in
     let calling = alloc-calling c.args.pass.now c.begin_alloc.new.pass c.args.need b.begun c.requires.idle (sym b.answer ∙ c.in-Started.is) in
     let G : Option (Ending Block) → Type 0 = λ o. GoesOn c.args.pass.now (alloc c.args.need) 0 c.begin_alloc.new.pass c.args.tries (reply_in o) c.go_on.new.pass in
@@ -24,34 +24,34 @@ alloc_ended-requires c =
     ending-of_alloc c.args.need c.in-Some.ending all.0 all.1
 
 pub returns-in-TooLarge-clause-too_large : goal.returns-in-TooLarge-clause-too_large
-returns-in-TooLarge-clause-too_large c =
+returns-in-TooLarge-clause-too_large g c =
     let b = c.begin_alloc.ensures in
     (λ is. begins-too_large c.args.pass.now.errand c.args.need (sym b.answer ∙ c.in-TooLarge.is), λ more. refl)
 
 pub returns-in-TooLarge-clause-tells : goal.returns-in-TooLarge-clause-tells
-returns-in-TooLarge-clause-tells c =
+returns-in-TooLarge-clause-tells g c =
     let b = c.begin_alloc.ensures in
     too_large-same c.args.pass.now c.begin_alloc.new.pass c.args.need (sym b.answer ∙ c.in-TooLarge.is) b.begun
 
 pub returns-in-Spent-clause-too_large : goal.returns-in-Spent-clause-too_large
-returns-in-Spent-clause-too_large c =
+returns-in-Spent-clause-too_large g c =
     let b = c.begin_alloc.ensures in
     (λ is. absurd (cc), λ more. absurd (spent-within c.args.pass.now.errand c.args.need (sym b.answer ∙ c.in-Spent.is) more))
 
 pub returns-in-Spent-clause-tells : goal.returns-in-Spent-clause-tells
-returns-in-Spent-clause-tells c =
+returns-in-Spent-clause-tells g c =
     let b = c.begin_alloc.ensures in
     inl (spent-at_once c.args.pass.now c.begin_alloc.new.pass c.args.need (sym b.answer ∙ c.in-Spent.is) b.begun)
 
 pub returns-in-Some-clause-too_large : goal.returns-in-Some-clause-too_large
-returns-in-Some-clause-too_large c =
+returns-in-Some-clause-too_large g c =
     let b = c.begin_alloc.ensures in (
       λ is. absurd (ended-not_too_large c.in-Some.ending (sym c.alloc_ended.ensures ∙ is)),
       λ more. absurd (started-within c.args.pass.now.errand c.args.need (sym b.answer ∙ c.in-Started.is) more),
     )
 
 pub returns-in-Some-clause-tells : goal.returns-in-Some-clause-tells
-returns-in-Some-clause-tells c =
+returns-in-Some-clause-tells g c =
     let b = c.begin_alloc.ensures in
     let p = c.args.pass.now in
     let q = c.go_on.new.pass in
@@ -64,12 +64,12 @@ returns-in-Some-clause-tells c =
     (ends-since p c.begin_alloc.new.pass (alloc c.args.need) c.args.tries q b.begun _ ends))
 
 pub returns-in-None-clause-too_large : goal.returns-in-None-clause-too_large
-returns-in-None-clause-too_large c =
+returns-in-None-clause-too_large g c =
     let b = c.begin_alloc.ensures in
     (λ is. absurd (cc), λ more. absurd (started-within c.args.pass.now.errand c.args.need (sym b.answer ∙ c.in-Started.is) more))
 
 pub returns-in-None-clause-tells : goal.returns-in-None-clause-tells
-returns-in-None-clause-tells c =
+returns-in-None-clause-tells g c =
     let b = c.begin_alloc.ensures in
     let p = c.args.pass.now in
     let q = c.go_on.new.pass in

@@ -5,7 +5,7 @@ use Rattle.live_heap.proofs.heap.Heap.alloc_on.Goals as goal
 
 pub alloc_ended-requires : goal.alloc_ended-requires
 alloc_ended-requires g c =
-    let (first, calling) = c.requires.1 in
+    let (first, calling) = c.requires.1.1 in
     let all = (c.in-Ok.ensures.ends.goes first (alloc c.args.need) 0 calling).called.ended.ended in
     ending-of_alloc c.args.need c.in-Ok.ending all.0 all.1
 

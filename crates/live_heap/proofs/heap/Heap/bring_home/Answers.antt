@@ -3,7 +3,7 @@ use Rattle.heap_geometry.specs.Need.{usable_words}
 use Rattle.plain_words.specs.Places.{laids, numbers}
 use Rattle.atomic_region.specs.Owned.{RegionId}
 use Rattle.atomic_region.specs.Region.{Me}
-use Rattle.live_heap.specs.declared.heap.Heap.{Heap}
+use Rattle.live_heap.specs.Heaps.{HeapFields}
 use Rattle.live_heap.specs.declared.pass.Pass.{Pass}
 use Rattle.live_heap.specs.declared.plain.Memory.{Memory}
 use Rattle.live_heap.specs.declared.view.View.{View}
@@ -17,7 +17,7 @@ use Rattle.live_heap.proofs.heap.Heap.bring_home.Goals as goal
 
 -- what a seat carries that has taken these words in
 carries :
-    (h : Heap) (p : Pass) (m : Memory) (ns : List ℕ) (me : Me View) → p.seat.me.1 ≡ [] → IsMemoryOf h m → m.words.places ≡ laids ns
+    (h : HeapFields) (p : Pass) (m : Memory) (ns : List ℕ) (me : Me View) → p.seat.me.1 ≡ [] → IsMemoryOf h m → m.words.places ≡ laids ns
     → me ≡ (p.seat.me.0, (m.words.first, m.words.places) ∷ p.seat.me.1) → me ≡ (view p, (m.block.place + 1, laids ns) ∷ [])
 carries h p m ns me empty memory are carry = carry ∙ (λ i. (p.seat.me.0, (memory.first i, are i) ∷ empty i))
 
@@ -25,7 +25,7 @@ carried-are : (v : View) (k : ℕ) (ns : List ℕ) (me : Me View) → me ≡ (v,
 carried-are v k ns me is = ap carried is ∙ numbers-laids ns
 
 pub carry-requires : goal.carry-requires
-carry-requires c =
+carry-requires g c =
     let h = c.args.self.now in
     let p = c.args.pass.now in
     let m = c.args.memory in
@@ -36,12 +36,12 @@ carry-requires c =
     (memory.at ∙ ap (λ (i : RegionId). i.at) (sym of.table), omega (arith, within, size, memory.first, memory.long))
 
 pub take_back-requires-clause-mark : goal.take_back-requires-clause-mark
-take_back-requires-clause-mark c =
+take_back-requires-clause-mark g c =
     let h = c.args.self.now in
     c.caller_mark-mark.ensures.place ∙ ap (λ n. mark_place h.layout (caller_mark h.layout n)) c.caller.ensures.value
 
 pub take_back-requires-clause-may : goal.take_back-requires-clause-may
-take_back-requires-clause-may c =
+take_back-requires-clause-may g c =
     let h = c.args.self.now in
     let p = c.args.pass.now in
     let m = c.args.memory in
@@ -53,7 +53,7 @@ take_back-requires-clause-may c =
     (λ i has. c.are_small.ensures i (omega (arith, has, c.words.ensures.long))) is)
 
 pub returns : goal.returns
-returns c =
+returns g c =
     let h = c.args.self.now in
     let p = c.args.pass.now in
     let m = c.args.memory in

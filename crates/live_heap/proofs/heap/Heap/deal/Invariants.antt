@@ -4,8 +4,8 @@ use Rattle.live_heap.specs.Views.{idle_view}
 use Rattle.live_heap.proofs.heap.Heap.deal.Given as goal
 
 abbrev pub invariant-loop-caller : goal.invariant-loop-caller
-invariant-loop-caller l = record {
-  table : l.rest.region ≡ l.self.table.shared.id;
+invariant-loop-caller g l = record {
+  table : l.rest.region ≡ l.self.region;
   me : l.rest.me ≡ (idle_view l.self.layout l.caller (l.self.layout.callers - l.caller), []);
   dealt : AreFrom l.self 0 l.passes.items;
   len : length l.passes.items ≡ l.caller;

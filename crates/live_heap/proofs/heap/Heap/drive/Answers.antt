@@ -6,7 +6,7 @@ use Rattle.live_heap.proofs.CallsAnswers.{step-moment}
 use Rattle.live_heap.proofs.heap.Heap.drive.Goals as goal
 
 pub loop-left-init : goal.loop-left-init
-loop-left-init g c = record { of = c.requires.0; going = c.requires.1 }
+loop-left-init g c = record { of = c.requires.1.0; going = c.requires.1.1.0; puts = c.requires.1.1.1 }
 
 pub unreachable-requires : goal.unreachable-requires
 unreachable-requires g c =
@@ -26,6 +26,7 @@ loop-left-preserved-in-More g c =
     let m = step-moment c.loop-left.pass c.step.new.pass _ _ c.in-More.is (c.step.ensures.busy i.going.busy) in
     record {
       of = c.step.ensures.of;
+      puts = c.step.ensures.puts;
       going =
           going-further c.args.self.now g.start c.args._tries c.loop-left.left c.loop-left.pass c.step.new.pass i.of c.loop-left-test.true
           i.going m ((c.step.ensures.busy i.going.busy).accesses, (c.step.ensures.busy i.going.busy).lent);
@@ -45,6 +46,7 @@ loop-left-preserved-in-Lost g c =
     let goes = goes-lost c.loop-left.pass.errand c.step.new.pass.errand _ _ m in
     record {
       of = c.step.ensures.of;
+      puts = c.step.ensures.puts;
       going =
           going-again c.args.self.now g.start c.args._tries c.loop-left.left c.loop-left.pass c.step.new.pass i.of c.loop-left-test.true
           i.going Lost (c.loop-left.left - 1) (omega (arith, c.loop-left-test.true)) m ((c.step.ensures.busy i.going.busy).accesses, (c.step.ensures.busy i.going.busy).lent) (inl refl) goes;
@@ -64,6 +66,7 @@ loop-left-preserved g c =
     let goes = goes-cleared c.loop-left.pass.errand c.step.new.pass.errand _ _ m in
     record {
       of = c.step.ensures.of;
+      puts = c.step.ensures.puts;
       going =
           going-again c.args.self.now g.start c.args._tries c.loop-left.left c.loop-left.pass c.step.new.pass i.of c.loop-left-test.true
           i.going Cleared (c.loop-left.left - 1) (omega (arith, c.loop-left-test.true)) m ((c.step.ensures.busy i.going.busy).accesses, (c.step.ensures.busy i.going.busy).lent) (inr refl) goes;

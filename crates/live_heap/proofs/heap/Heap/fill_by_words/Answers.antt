@@ -8,17 +8,17 @@ use Rattle.live_heap.proofs.WholeFill.{has-filled, own-within}
 use Rattle.live_heap.proofs.heap.Heap.fill_by_words.Goals as goal
 
 pub usable-i-end-requires : goal.usable-i-end-requires
-usable-i-end-requires c = (own-within c.args.self.now c.args.pass.now c.args.place c.args.need c.requires.of c.requires.owned.0).0
+usable-i-end-requires g c = (own-within c.args.self.now c.args.pass.now c.args.place c.args.need c.requires.of c.requires.owned.0).0
 
 pub write_word-requires : goal.write_word-requires
-write_word-requires c =
+write_word-requires g c =
     let place = c.args.place in
     let need = c.args.need in
     let so_far = has-filled c.args.self.now c.args.pass.now c.loop-i.pass place need c.args.from c.loop-i.i c.requires.of c.requires.idle c.loop-i.invariant in
     record { of = so_far.of; idle = so_far.idle; owned = so_far.keeps place need c.requires.owned; word = omega (arith, c.loop-i-test.true, c.usable-i-end.ensures) }
 
 pub loop-i-preserved : goal.loop-i-preserved
-loop-i-preserved c =
+loop-i-preserved g c =
     let h = c.args.self.now in
     let p = c.loop-i.pass in
     let q = c.write_word.new.pass in

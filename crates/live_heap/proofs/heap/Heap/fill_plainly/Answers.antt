@@ -13,11 +13,11 @@ use Rattle.live_heap.proofs.WholeFill.{counted-long, own-within, wrote-counted}
 use Rattle.live_heap.proofs.heap.Heap.fill_plainly.Goals as goal
 
 pub invariant_of-take_out : goal.invariant_of-take_out
-invariant_of-take_out c =
+invariant_of-take_out g c =
     record { is_need = (own-within c.args.self.now c.args.pass.now c.args.place c.args.need c.requires.of c.requires.owned.0).0 }
 
 pub returns : goal.returns
-returns c =
+returns g c =
     let h = c.args.self.now in
     let place = c.args.place in
     let need = c.args.need in

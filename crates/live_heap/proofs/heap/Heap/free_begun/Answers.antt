@@ -10,14 +10,14 @@ use Rattle.live_heap.proofs.CallsAnswers.{ends-since, free-tells, interrupted-si
 use Rattle.live_heap.proofs.heap.Heap.free_begun.Goals as goal
 
 pub go_on-requires-clause-busy : goal.go_on-requires-clause-busy
-go_on-requires-clause-busy c =
+go_on-requires-clause-busy g c =
     let p = c.args.pass.now in
     let call : Call = free c.args.block.place c.args.block.need in
     (other-calling p c.begin_free.new.pass call c.begin_free.ensures.begun c.requires.idle
     (heap-block c.args.self.now p c.args.block c.requires.of c.requires.owned) (λ words is. cc)).busy
 
 pub returns-in-Some : goal.returns-in-Some
-returns-in-Some c =
+returns-in-Some g c =
     let p = c.args.pass.now in
     let q = c.go_on.new.pass in
     let call : Call = free c.args.block.place c.args.block.need in
@@ -32,7 +32,7 @@ returns-in-Some c =
     }
 
 pub returns-in-None : goal.returns-in-None
-returns-in-None c =
+returns-in-None g c =
     let p = c.args.pass.now in
     let q = c.go_on.new.pass in
     let call : Call = free c.args.block.place c.args.block.need in

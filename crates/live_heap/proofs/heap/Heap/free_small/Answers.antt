@@ -14,20 +14,20 @@ use Rattle.live_heap.proofs.WalkLemmas.{walk-begins, walk-goes}
 use Rattle.live_heap.proofs.heap.Heap.free_small.Goals as goal
 
 pub free_on-requires : goal.free_on-requires
-free_on-requires c =
+free_on-requires g c =
     let r = c.requires in
     let p = c.args.pass.now in
     let place = c.args.block.place in
     let call : Call = free place (Small c.args.class) in
     let same = frees-from p place c.args.class c.free_from-prefix.result c.free_from-prefix.ensures in
     let rule = free-errand p.errand place (Small c.args.class) r.block (of-rule c.args.self.now p r.of) r.idle in
-    walk-begins p call p c.free_from-prefix.result Free same c.args.self.now c.args.tries r.of r.idle r.may (λ at same. subst (IsHome p) same r.home) r.idle rule r.tries (subst LinksNone (sym c.free_from-prefix.ensures) tt)
+    λ κs within. (within, walk-begins p call p c.free_from-prefix.result Free same c.args.self.now c.args.tries r.of r.idle r.may (λ at same. subst (IsHome p) same r.home) r.idle rule r.tries (subst LinksNone (sym c.free_from-prefix.ensures) tt))
 
 pub returns-clause-of : goal.returns-clause-of
-returns-clause-of c = c.free_on.ensures.1.of
+returns-clause-of g c = c.free_on.ensures.1.of
 
 pub returns-clause-tells : goal.returns-clause-tells
-returns-clause-tells c =
+returns-clause-tells g c =
     let p = c.args.pass.now in
     let q = c.free_on.new.pass in
     let block = c.args.block in

@@ -1,9 +1,11 @@
 use Rattle.std.specs.Prelude.{option_to_list, sum_by}
 use Rattle.std.proofs.lemmas.List.Sums.{sum_by-append}
-use Rattle.std.proofs.Common.{◌≡◌, ℕ, List, [], ◌∷◌, ◌++◌, length, All, sym, ap, ◌∙◌, subst, arith, length-append, append_assoc}
+use Rattle.std.proofs.Common.{◌≡◌, ℕ, List, [], ◌∷◌, ◌++◌, length, All, sym, ap, ◌∙◌, subst, arith, length-append, append_assoc, ◌<◌}
 use Rattle.errand_steps.specs.Begins.{IsIdle}
 use Rattle.atomic_region.specs.Region.{Me, Joins}
 use Rattle.heap_geometry.specs.declared.geometry.Geometry.{Geometry}
+use Rattle.atomic_region.specs.Owned.{RegionId}
+use Rattle.live_heap.specs.Heaps.{HeapFields}
 use Rattle.live_heap.specs.declared.view.Standing.{Standing}
 use Rattle.live_heap.specs.declared.view.View.{View}
 use Rattle.live_heap.specs.declared.pass.Pass.{Pass}
@@ -16,7 +18,7 @@ use Rattle.live_heap.proofs.Gathering.{front, last, one-idle, one-sum, all-idle,
 use Rattle.live_heap.proofs.heap.Heap.gather.Goals as goal
 
 pub join_seat-requires : goal.join_seat-requires
-join_seat-requires c =
+join_seat-requires g c =
     let h = c.args.self.now in
     let i = c.loop-pass.invariant in
     let P : Pass → Type 0 = λ p. IsOf h p × IsIdle p.errand × (p.out ≡ 0) in
@@ -24,17 +26,20 @@ join_seat-requires c =
     let mine = last (λ (p : Pass). IsOf h p × IsIdle p.errand × (p.out ≡ 0)) c.pop-in-loop-pass.new.self.items c.in-Some.pass taken in
     let v = c.loop-pass.seat.me.0 in
     let w = c.in-Some.pass.seat.me.0 in
-    let J : ℕ → Type 0 = λ place. Joins (PiecesHold h.table.shared.key) h.table.shared.id.words place c.loop-pass.seat.id v c.in-Some.pass.seat.id w (gathered v w) spent_view in (
-      i.table,
-      mine.0.table,
+    let inner = c.self.inside in
+    let reg = ap (λ (x : HeapFields). x.region) c.self.view_is in
+    let key = inner.laid.1 ∙ ap (λ (x : HeapFields). x.layout) c.self.view_is in
+    let J : ℕ → Type 0 = λ place. Joins (PiecesHold g.R.ShelfRule.allows inner.table.shared.key) inner.table.shared.id.words place c.loop-pass.seat.id v c.in-Some.pass.seat.id w (gathered v w) spent_view in (
+      i.table ∙ sym reg,
+      mine.0.table ∙ sym reg,
       c.start-start.ensures,
-      c.first_mark-mark.ensures.within,
-      subst J (ap (λ (g : Geometry). mark_place g 0) h.laid.1 ∙ sym c.first_mark-mark.ensures.place)
-          (joins-pieces h.table.shared.key h.table.shared.id.words c.loop-pass.seat.id v c.in-Some.pass.seat.id w i.settled mine.0.settled i.home (nothing-out h c.in-Some.pass mine.0 mine.2)),
+      subst (λ (z : RegionId). c.first_mark-mark.result < z.words) (sym reg) c.first_mark-mark.ensures.within,
+      subst J (ap (λ (k : Geometry). mark_place k 0) key ∙ sym c.first_mark-mark.ensures.place)
+          (joins-pieces inner.table.shared.key inner.table.shared.id.words c.loop-pass.seat.id v c.in-Some.pass.seat.id w i.settled mine.0.settled i.home (nothing-out h c.in-Some.pass mine.0 mine.2)),
     )
 
 pub loop-pass-preserved : goal.loop-pass-preserved
-loop-pass-preserved c =
+loop-pass-preserved g c =
     let h = c.args.self.now in
     let i = c.loop-pass.invariant in
     let P : Pass → Type 0 = λ p. IsOf h p × IsIdle p.errand × (p.out ≡ 0) in
@@ -73,7 +78,7 @@ loop-pass-preserved c =
     }
 
 pub loop-pass-init : goal.loop-pass-init
-loop-pass-init c =
+loop-pass-init g c =
     let h = c.args.self.now in
     let p = c.unwrap-seat.result in
     let items : c.args.passes.items ≡ c.pop.new.self.items ++ p ∷ [] =

@@ -7,9 +7,9 @@ use Rattle.live_heap.specs.Passes.{IsOf}
 use Rattle.live_heap.proofs.heap.Heap.gather.Given as goal
 
 abbrev pub invariant-loop-pass : goal.invariant-loop-pass
-invariant-loop-pass l = record {
+invariant-loop-pass g l = record {
   among : (taken : List Pass) × (l.fn.passes.items ≡ l.passes.items ++ taken) × All (IsIn l.seat.me.0) taken;
-  table : l.seat.region ≡ l.self.table.shared.id;
+  table : l.seat.region ≡ l.self.region;
   empty : l.seat.me.1 ≡ [];
   settled : l.seat.me.0.lays ≡ None;
   home : l.seat.me.0.lent ≡ [];
@@ -21,4 +21,4 @@ invariant-loop-pass l = record {
 }
 
 abbrev pub decreases-loop-pass : goal.decreases-loop-pass
-decreases-loop-pass l = vec_len l.passes
+decreases-loop-pass g l = vec_len l.passes

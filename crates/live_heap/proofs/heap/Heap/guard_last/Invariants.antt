@@ -2,6 +2,3 @@ use Rattle.live_heap.proofs.heap.Heap.guard_last.Given as goal
 
 abbrev pub ghost-stride : goal.ghost-stride
 ghost-stride g a = g.start
-
-abbrev pub ghost-stride-2 : goal.ghost-stride-2
-ghost-stride-2 g a = g.start

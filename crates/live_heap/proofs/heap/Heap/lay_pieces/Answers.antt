@@ -5,24 +5,24 @@ use Rattle.live_heap.proofs.LayLemmas.{has-next, knows-itself, knows-next, still
 use Rattle.live_heap.proofs.heap.Heap.lay_pieces.Goals as goal
 
 pub loop-piece-init : goal.loop-piece-init
-loop-piece-init c =
+loop-piece-init g c =
     let r = c.requires in
     record { region = refl; knows = knows-itself c.args.seat.now.me r.settled r.empty; ready = λ k from to. absurd (let no : ⊥ = omega (arith, from, to) in no) }
 
 pub lay_piece-requires-clause-empty : goal.lay_piece-requires-clause-empty
-lay_piece-requires-clause-empty c = ap (λ (m : Me View). m.1) c.loop-piece.invariant.knows
+lay_piece-requires-clause-empty g c = ap (λ (m : Me View). m.1) c.loop-piece.invariant.knows
 
 pub lay_piece-requires-clause-settled : goal.lay_piece-requires-clause-settled
-lay_piece-requires-clause-settled c = ap (λ (m : Me View). m.0.lays) c.loop-piece.invariant.knows
+lay_piece-requires-clause-settled g c = ap (λ (m : Me View). m.0.lays) c.loop-piece.invariant.knows
 
 pub lay_piece-requires-clause-opens : goal.lay_piece-requires-clause-opens
-lay_piece-requires-clause-opens c =
+lay_piece-requires-clause-opens g c =
     let k = c.loop-piece.piece in
     still-alone c.args.self.now.layout c.args.seat.now.me c.loop-piece.seat.me k c.loop-piece.invariant.knows
     (c.requires.opens k c.loop-piece.auto.piece c.loop-piece-test.true)
 
 pub loop-piece-preserved : goal.loop-piece-preserved
-loop-piece-preserved c =
+loop-piece-preserved g c =
     let i = c.loop-piece.invariant in
     let piece = c.loop-piece.piece in
     let me = c.loop-piece.seat.me in
@@ -35,4 +35,4 @@ loop-piece-preserved c =
     }
 
 pub returns-clause-ready : goal.returns-clause-ready
-returns-clause-ready c k from to = c.loop-piece.invariant.ready k from (omega (arith, to, c.loop-piece-test.false))
+returns-clause-ready g c k from to = c.loop-piece.invariant.ready k from (omega (arith, to, c.loop-piece-test.false))

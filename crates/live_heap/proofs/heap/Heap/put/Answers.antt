@@ -9,7 +9,7 @@ use Rattle.live_heap.proofs.heap.Heap.put.Goals as goal
 use Rattle.live_heap.proofs.heap.Heap.put.Goals.{in_default-via-in-Done+in_default, in_default-via-in_default}
 
 pub unreachable-requires : goal.unreachable-requires
-unreachable-requires c =
+unreachable-requires g c =
     let p = c.args.pass.now in
     let b = c.begin_put.new.pass in
     let block = c.args.block in
@@ -31,7 +31,7 @@ unreachable-requires c =
     ]
 
 pub returns-in-Done-Put-clause-put : goal.returns-in-Done-Put-clause-put
-returns-in-Done-Put-clause-put c =
+returns-in-Done-Put-clause-put g c =
     let p = c.args.pass.now in
     let b = c.begin_put.new.pass in
     let block = c.args.block in
@@ -42,7 +42,7 @@ returns-in-Done-Put-clause-put c =
     ends-one p call 0 b c.step.new.pass c.step.result Put (end.is ∙ ap Done end.field-0-is) (c.step.ensures.busy calling.busy) calling
 
 pub returns-in-Done-Full-clause-full : goal.returns-in-Done-Full-clause-full
-returns-in-Done-Full-clause-full c =
+returns-in-Done-Full-clause-full g c =
     let p = c.args.pass.now in
     let b = c.begin_put.new.pass in
     let block = c.args.block in
@@ -54,4 +54,4 @@ returns-in-Done-Full-clause-full c =
     (end.is ∙ ap Done end.field-0-is) (c.step.ensures.busy calling.busy) calling c.requires.owned.1
 
 pub returns-in-Done-Full-clause-put : goal.returns-in-Done-Full-clause-put
-returns-in-Done-Full-clause-put c = search rules
+returns-in-Done-Full-clause-put g c = search rules

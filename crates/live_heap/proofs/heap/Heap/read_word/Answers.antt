@@ -13,19 +13,19 @@ use Rattle.live_heap.proofs.Straight.{call-sight, ends-at_once, payload-within, 
 use Rattle.live_heap.proofs.heap.Heap.read_word.Goals as goal
 
 pub load_word-requires-clause-inside : goal.load_word-requires-clause-inside
-load_word-requires-clause-inside c =
+load_word-requires-clause-inside g c =
     let h = c.args.self.now in
     let p = c.args.pass.now in
     subst (λ g. c.args.place + 1 + c.args.i < arena_words g) (of-laid h p c.requires.of)
     (payload-within p.errand.geometry c.args.place c.args.need c.args.i (heap-at h p c.args.place c.args.need c.requires.of c.requires.owned.0) c.requires.word)
 
 pub load_word-requires-clause-sight : goal.load_word-requires-clause-sight
-load_word-requires-clause-sight c =
+load_word-requires-clause-sight g c =
     call-sight c.args.self.now c.args.pass.now (read c.args.place c.args.need c.args.i) c.requires.of c.requires.idle
     (record { block = c.requires.owned.0 }, c.requires.word) (λ at same. subst (IsHome c.args.pass.now) same c.requires.owned.1)
 
 pub returns : goal.returns
-returns c =
+returns g c =
     let h = c.args.self.now in
     let p = c.args.pass.now in
     let place = c.args.place in

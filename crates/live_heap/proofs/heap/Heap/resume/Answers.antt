@@ -7,10 +7,16 @@ use Rattle.live_heap.specs.declared.pass.Pass.{Pass}
 use Rattle.live_heap.specs.Answers.{ResumeTells, reply_in}
 use Rattle.live_heap.specs.Calls.{GoesOn}
 use Rattle.live_heap.proofs.CallsAnswers.{ending-of_tried, resume-tells}
+use Rattle.live_heap.proofs.PutsNone.{calling-puts}
 use Rattle.live_heap.proofs.heap.Heap.resume.Goals as goal
 
+pub go_on-requires-clause-puts : goal.go_on-requires-clause-puts
+go_on-requires-clause-puts g c =
+    let r = c.requires.under_way in
+    calling-puts g.R.ShelfRule.allows r.first c.args.pass.now r.call r.steps r.tried r.calling
+
 pub resumed_ended-requires : goal.resumed_ended-requires
-resumed_ended-requires c =
+resumed_ended-requires g c =
     let r = c.requires.under_way in
     let G : Option (Ending Block) → Type 0 = λ o. GoesOn r.first r.call r.steps c.args.pass.now c.args.tries (reply_in o) c.go_on.new.pass in
     let ends : G (Some c.in-Some.ending) = subst G c.in-Some.is (c.go_on.ensures.goes r.first r.call r.steps r.calling) in
@@ -18,7 +24,7 @@ resumed_ended-requires c =
     ending-of_tried r.call c.in-Some.ending all.0 r.tried all.1
 
 pub returns-in-Some-clause-tells : goal.returns-in-Some-clause-tells
-returns-in-Some-clause-tells c =
+returns-in-Some-clause-tells g c =
     let r = c.requires.under_way in
     let p = c.args.pass.now in
     let q = c.go_on.new.pass in

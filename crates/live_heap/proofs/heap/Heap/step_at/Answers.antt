@@ -7,6 +7,7 @@ use Rattle.errand_steps.specs.Errands.{ErrandFields, plan_of}
 use Rattle.errand_steps.proofs.PlanLemmas.{plan-exists}
 use Rattle.live_heap.specs.Pieces.{IsReady}
 use Rattle.live_heap.proofs.WalkLemmas.{links-none-ready, planned-at}
+use Rattle.live_heap.proofs.ShelvesKept.{block-puts}
 use Rattle.live_heap.proofs.heap.Heap.step_at.Goals as goal
 
 pub act-requires-clause-busy : goal.act-requires-clause-busy
@@ -30,3 +31,7 @@ act-requires-clause-ready g c =
     let h = c.args.self.now in
     subst (λ (e : ErrandFields). IsReady h.layout e.point c.args.seat.now.me.0) (sym c.requires.named)
     (links-none-ready h.layout c.args._at.now c.args._goes.now c.args.seat.now.me.0 c.requires.links_none)
+
+pub act-requires-clause-puts : goal.act-requires-clause-puts
+act-requires-clause-puts g c =
+    block-puts g.R.ShelfRule.allows c.args.seat.now.me.0.seen g.E.Doing.errand c.args._at.now c.args._goes.now (ap (λ (e : ErrandFields). e.point) c.requires.named)

@@ -4,8 +4,8 @@ use Rattle.live_heap.proofs.JoinLemmas.{rejoins}
 use Rattle.live_heap.proofs.WalkLemmas.{no-exit, strides}
 use Rattle.live_heap.proofs.heap.Heap.stride.Goals as goal
 
-pub returns-then-expects-clause-on : goal.returns-then-expects-clause-on
-returns-then-expects-clause-on g c =
+pub returns-then-is_at-clause-on : goal.returns-then-is_at-clause-on
+returns-then-is_at-clause-on g c =
     let e = c.walk-found.new.pass.errand in
     let counts = c.count.ensures ∙ ap (λ action. record e { won = raised (counts_won action c.walk-found.result) e.won }) c.plan_block-action.ensures in
     let none = no-exit c.settle_block-exit.result (c.is_none.ensures ∙ ap not c.if-is_none.true) in

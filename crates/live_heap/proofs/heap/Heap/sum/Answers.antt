@@ -10,10 +10,10 @@ use Rattle.live_heap.proofs.WholeLaws.{whole-keeps}
 use Rattle.live_heap.proofs.heap.Heap.sum.Goals as goal
 
 pub read_word-total-requires-clause-owned : goal.read_word-total-requires-clause-owned
-read_word-total-requires-clause-owned c = c.loop-i.invariant.keeps c.args.block.now c.requires.owned
+read_word-total-requires-clause-owned g c = c.loop-i.invariant.keeps c.args.block.now c.requires.owned
 
 pub loop-i-preserved : goal.loop-i-preserved
-loop-i-preserved c =
+loop-i-preserved g c =
     let h = c.args.self.now in
     let first = c.args.pass.now in
     let p = c.loop-i.pass in

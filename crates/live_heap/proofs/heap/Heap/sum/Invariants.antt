@@ -8,7 +8,7 @@ use Rattle.live_heap.specs.Words.{CallsOnWord}
 use Rattle.live_heap.proofs.heap.Heap.sum.Given as goal
 
 abbrev pub invariant-loop-i : goal.invariant-loop-i
-invariant-loop-i l = record {
+invariant-loop-i g l = record {
   of : IsOf l.self l.pass;
   idle : IsIdle l.pass.errand;
   keeps : (other : Block) → Owns l.fn.pass other → Owns l.pass other;

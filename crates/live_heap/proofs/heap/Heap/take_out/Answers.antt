@@ -16,23 +16,23 @@ use Rattle.live_heap.proofs.Taking.{first-lent, lends-own, long-lent, of-taken, 
 use Rattle.live_heap.proofs.heap.Heap.take_out.Goals as goal
 
 pub lend-requires-clause-mark : goal.lend-requires-clause-mark
-lend-requires-clause-mark c =
+lend-requires-clause-mark g c =
     let h = c.args.self.now in
     c.caller_mark-mark.ensures.place ∙ ap (λ n. mark_place h.layout (caller_mark h.layout n)) c.caller.ensures.value
 
 pub lend-requires-clause-may : goal.lend-requires-clause-may
-lend-requires-clause-may c =
+lend-requires-clause-may g c =
     lends-own c.args.self.now c.args.pass.now c.args.block.place c.args.block.need c.requires.of c.requires.idle c.requires.owned
 
 pub overflow_add-pass : goal.overflow_add-pass
-overflow_add-pass c =
+overflow_add-pass g c =
     record { fits = out-small c.args.self.now c.args.pass.now c.args.block.place c.args.block.need c.requires.of c.requires.owned }
 
 pub lift-words-requires : goal.lift-words-requires
-lift-words-requires c = only-range c.lend.new.seat.me _ _ (ap (λ (m : Me View). m.1) c.lend.ensures.lent.3)
+lift-words-requires g c = only-range c.lend.new.seat.me _ _ (ap (λ (m : Me View). m.1) c.lend.ensures.lent.3)
 
 pub returns : goal.returns
-returns c =
+returns g c =
     let h = c.args.self.now in
     let p = c.args.pass.now in
     let b = c.args.block in

@@ -10,19 +10,19 @@ use Rattle.live_heap.proofs.Straight.{call-sight, ends-at_once, payload-within, 
 use Rattle.live_heap.proofs.heap.Heap.write_word.Goals as goal
 
 pub store_word-requires-clause-inside : goal.store_word-requires-clause-inside
-store_word-requires-clause-inside c =
+store_word-requires-clause-inside g c =
     let h = c.args.self.now in
     let p = c.args.pass.now in
     subst (λ g. c.args.place + 1 + c.args.i < arena_words g) (of-laid h p c.requires.of)
     (payload-within p.errand.geometry c.args.place c.args.need c.args.i (heap-at h p c.args.place c.args.need c.requires.of c.requires.owned.0) c.requires.word)
 
 pub store_word-requires-clause-sight : goal.store_word-requires-clause-sight
-store_word-requires-clause-sight c =
+store_word-requires-clause-sight g c =
     call-sight c.args.self.now c.args.pass.now (write c.args.place c.args.need c.args.i c.args.v) c.requires.of c.requires.idle
     (record { block = c.requires.owned.0 }, c.requires.word, omega arith) (λ at same. subst (IsHome c.args.pass.now) same c.requires.owned.1)
 
 pub returns : goal.returns
-returns c =
+returns g c =
     let h = c.args.self.now in
     let p = c.args.pass.now in
     let place = c.args.place in

@@ -4,10 +4,10 @@ use Rattle.errand_steps.specs.Errands.{ErrandFields, open_errand}
 use Rattle.live_heap.specs.declared.pass.Pass.{Pass}
 use Rattle.live_heap.specs.Passes.{AreFrom}
 use Rattle.live_heap.proofs.Dealt.{fresh, AreFrom-push}
-use Rattle.live_heap.proofs.heap.Heap.open.Goals as goal
+use Rattle.live_heap.proofs.heap.Heap.open_with_rule.Goals as goal
 
 pub returns-clause-passes : goal.returns-clause-passes
-returns-clause-passes c =
+returns-clause-passes g c =
     let h = c.in_ok-heap.heap in
     let d = c.deal-seat.ensures in
     let ps = c.deal-seat.new.passes.items in
