@@ -50,7 +50,7 @@ class Watch(threading.Thread):
     def run(self):
         while not self.done.wait(EVERY):
             self.look()
-            if self.apart:
+            if self.apart and any(check["ppid"] == self.apart and kind_of(check) for check in self.seen.values()):
                 keep_apart(self.apart)
         for check in self.seen.values():
             self.write(check)
@@ -84,7 +84,8 @@ def check_of(process):
 
 
 def keep_apart(gate):
-    """Keeps the threads of this process on one processor, and those of all that it has started on all."""
+    """Keeps the threads of this process on one processor, and those of all that it has started on all. It has begun its
+    first check: how many at a time it has chosen before, by the processors that it might use then."""
     everywhere = os.sched_getaffinity(0)
     parents = {}
     for process in filter(str.isdigit, os.listdir("/proc")):
