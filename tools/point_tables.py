@@ -6,8 +6,8 @@ usage: python3 tools/point_tables.py
 A definition of crates/*/specs with a variant of a point or an exit on its left side is a table. It has a default line
 where a line of it names none. Prints each table with the types that it goes over, `default` where it has such a line,
 and whether docs/PROOFS.md, 'The tables over the points', leaves it out or has it in the wrong column. It ends with 1
-where that is so. The tables of a part's own specs are there by the names of superblock_parts, those with a default by
-their own. It reads lines, and proves nothing.
+where that is so. The tables of a part's own specs are there by the names of the one of superblocks, those with a default
+by their own. It reads lines, and proves nothing.
 """
 
 import re
@@ -15,7 +15,7 @@ import sys
 from pathlib import Path
 
 ROOT = Path(__file__).resolve().parent.parent
-PARTS = ("superblock_parts", "stack_parts", "hazard_parts", "partial_parts", "large_parts")
+PARTS = ("step_parts",)
 USED = re.compile(r"use Rattle\.[\w.]*\.(?:point|exit)\.(\w*(?:Point|Exit))\.TheVariants(?: as (\w+)|\.\{([^}]*)\})")
 LINE = re.compile(r"^([A-Za-z_][\w-]*)((?: +(?:\([^=]*?\)|[\w.\[\]]+))*) *=(?: |$)")
 

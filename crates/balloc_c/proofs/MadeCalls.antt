@@ -5,7 +5,7 @@ use Rattle.heap_geometry.specs.Need.{usable_words}
 use Rattle.errand_steps.specs.declared.reply.Reply.TheVariants as reply
 use Rattle.errand_steps.specs.Calls.{put, read, write}
 use Rattle.errand_steps.specs.Points.{is_idle}
-use Rattle.call_events.specs.Made.{LeadsBy, Sums, found_from, wrote}
+use Rattle.sound_laws.specs.events.Made.{LeadsBy, Sums, found_from, wrote}
 use Rattle.live_heap.specs.declared.answers.FreeAnswer.TheVariants as free_answer
 use Rattle.live_heap.specs.declared.answers.AllocAnswer.TheVariants as alloc_answer
 use Rattle.live_heap.specs.declared.answers.Full.{Full}

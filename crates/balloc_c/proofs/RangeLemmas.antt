@@ -6,8 +6,8 @@ use Rattle.heap_geometry.specs.declared.need.Need.{Need}
 use Rattle.errand_steps.specs.declared.reply.Reply.{Reply}
 use Rattle.errand_steps.specs.declared.reply.Reply.TheVariants as reply
 use Rattle.errand_steps.specs.Calls.{Call, write, read}
-use Rattle.call_events.specs.Made.{LeadsBy, answered, found_from}
-use Rattle.call_events.proofs.MadeLemmas.{found-more, leads-more}
+use Rattle.sound_laws.specs.events.Made.{LeadsBy, answered, found_from}
+use Rattle.sound_laws.proofs.events_lemmas.MadeLemmas.{found-more, leads-more}
 use Rattle.live_heap.specs.declared.block.Block.{Block}
 use Rattle.live_heap.specs.Heaps.{HeapFields}
 use Rattle.live_heap.specs.declared.pass.Pass.{Pass}

@@ -2,7 +2,7 @@
 
 ghost use Rattle.std.specs.Prelude.{◌≡◌, ◌<◌, ◌+◌, ◌≤◌, List, None, IfSome, length};
 ghost use Rattle.heap_geometry.specs.Need.{usable_words};
-ghost use Rattle.call_events.specs.Made.{LeadsBy, Sums, found_from, wrote};
+ghost use Rattle.sound_laws.specs.events.Made.{LeadsBy, Sums, found_from, wrote};
 ghost use Rattle.errand_steps.specs.Begins.{IsIdle};
 ghost use Rattle.live_heap.specs.declared.block.Block.{Block};
 ghost use Rattle.live_heap.specs.Words.{CallsOnWord};

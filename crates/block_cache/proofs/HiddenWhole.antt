@@ -18,7 +18,7 @@ use Rattle.live_heap.specs.Contents.{HasChanged, owned_in}
 use Rattle.live_heap.specs.Holdings.{Holds}
 use Rattle.live_heap.specs.Passes.{IsOf, seen}
 use Rattle.live_heap.specs.Whole.{HasEndedCall, IsWhole, MadeByPass, at_once, by_steps}
-use Rattle.call_events.specs.Ends.{HasEnded}
+use Rattle.sound_laws.specs.events.Ends.{HasEnded}
 use Rattle.pool_model.specs.declared.event.Event.{Event}
 use Rattle.pool_model.proofs.WellFormedLemmas.{sound-of, separate-found}
 use Rattle.pool_model.proofs.HistoryLemmas.{legal-weaker}

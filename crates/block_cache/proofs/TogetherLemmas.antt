@@ -17,8 +17,8 @@ use Rattle.errand_steps.specs.Begins.{IsIdle}
 use Rattle.errand_steps.specs.Points.{is_idle}
 use Rattle.errand_steps.specs.Calls.{Call, alloc, free}
 use Rattle.errand_steps.specs.tables.CallStage.{StageOfCall, asking, asking_run, refused, given, freeing, freed, none}
-use Rattle.call_events.specs.Stages.{stage_of}
-use Rattle.call_events.specs.UnderWay.{SoFar}
+use Rattle.sound_laws.specs.events.Stages.{stage_of}
+use Rattle.sound_laws.specs.events.UnderWay.{SoFar}
 use Rattle.live_heap.specs.declared.block.Block.{Block}
 use Rattle.live_heap.specs.Heaps.{HeapFields}
 use Rattle.live_heap.specs.declared.pass.Pass.{Pass}

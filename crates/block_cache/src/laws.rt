@@ -7,7 +7,7 @@ ghost use Rattle.errand_steps.specs.declared.reply.Reply.{Reply};
 ghost use Rattle.errand_steps.specs.declared.reply.Reply.TheVariants as reply;
 ghost use Rattle.errand_steps.specs.Begins.{IsIdle};
 ghost use Rattle.errand_steps.specs.Calls.{Call, alloc, free};
-ghost use Rattle.call_events.specs.Stages.{stage_of};
+ghost use Rattle.sound_laws.specs.events.Stages.{stage_of};
 ghost use Rattle.step_machine.specs.Keeping.{Hands, LeavesPlace};
 ghost use Rattle.live_heap.specs.declared.answers.AllocAnswer.{AllocAnswer};
 ghost use Rattle.live_heap.specs.declared.answers.AllocAnswer.TheVariants as answer;

@@ -5,7 +5,7 @@ use Rattle.errand_steps.specs.declared.reply.Reply.{Reply}
 use Rattle.errand_steps.specs.declared.reply.Reply.TheVariants as reply
 use Rattle.errand_steps.specs.Begins.{IsIdle}
 use Rattle.errand_steps.specs.Calls.{Call, free}
-use Rattle.call_events.specs.Made.{LeadsBy, Made, answered}
+use Rattle.sound_laws.specs.events.Made.{LeadsBy, Made, answered}
 use Rattle.live_heap.specs.declared.answers.Resumed.{Resumed}
 use Rattle.live_heap.specs.declared.block.Block.{Block}
 use Rattle.live_heap.specs.Heaps.{HeapFields}

@@ -6,7 +6,7 @@ use Rattle.errand_steps.specs.declared.reply.Reply.{Reply}
 use Rattle.errand_steps.specs.declared.reply.Reply.TheVariants as reply
 use Rattle.errand_steps.specs.Begins.{IsIdle}
 use Rattle.errand_steps.specs.Calls.{Call, alloc, free}
-use Rattle.call_events.specs.Made.{LeadsBy, Made}
+use Rattle.sound_laws.specs.events.Made.{LeadsBy, Made}
 use Rattle.heap_geometry.specs.Need.{need_of}
 use Rattle.live_heap.specs.declared.answers.AllocAnswer.{AllocAnswer}
 use Rattle.live_heap.specs.declared.answers.AllocAnswer.TheVariants as answer

@@ -5,7 +5,7 @@ ghost use Rattle.heap_geometry.specs.declared.limits.TheConstants.{LARGE_MOST};
 ghost use Rattle.heap_geometry.specs.Need.{usable_words};
 ghost use Rattle.errand_steps.specs.declared.reply.Reply.TheVariants as reply;
 ghost use Rattle.errand_steps.specs.Calls.{Call, alloc, free, read, write};
-ghost use Rattle.call_events.specs.Made.{LeadsBy, Sums, wrote};
+ghost use Rattle.sound_laws.specs.events.Made.{LeadsBy, Sums, wrote};
 ghost use Rattle.live_heap.specs.declared.pass.Pass.{Pass};
 ghost use Rattle.live_heap.specs.Answers.{IsResumable};
 ghost use Rattle.live_heap.specs.Calls.{IsCalling};

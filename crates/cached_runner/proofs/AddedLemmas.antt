@@ -22,10 +22,10 @@ use Rattle.errand_steps.specs.declared.told.Stepped.TheVariants as stepped
 use Rattle.errand_steps.specs.Begins.{free_begun}
 use Rattle.errand_steps.specs.Calls.{Call, alloc, begun_by, free, put, take, write}
 use Rattle.errand_steps.specs.Errands.{ErrandFields}
-use Rattle.call_events.specs.Ends.{end_of}
-use Rattle.call_events.specs.Made.{LeadsBy, Made, answered, found_from}
-use Rattle.call_events.specs.UnderWay.{IsUnderWay}
-use Rattle.call_events.proofs.OfferLemmas.{put-offers}
+use Rattle.sound_laws.specs.events.Ends.{end_of}
+use Rattle.sound_laws.specs.events.Made.{LeadsBy, Made, answered, found_from}
+use Rattle.sound_laws.specs.events.UnderWay.{IsUnderWay}
+use Rattle.sound_laws.proofs.events_lemmas.OfferLemmas.{put-offers}
 use Rattle.step_machine.specs.Cores.{OwnsAfter}
 use Rattle.live_heap.specs.declared.block.Block.{Block}
 use Rattle.live_heap.specs.Heaps.{HeapFields}

@@ -3,7 +3,7 @@ use Rattle.std.proofs.Common.{ℕ, zero, suc, ◌≡◌, ◌∷◌, ◌++◌, Li
 use Rattle.std.proofs.Math.ListN.{length-replicate}
 use Rattle.std.specs.List.{slice_index_or}
 use Rattle.heap_geometry.specs.declared.need.Need.{Need}
-use Rattle.call_events.specs.Made.{LeadsBy, Made}
+use Rattle.sound_laws.specs.events.Made.{LeadsBy, Made}
 use Rattle.trace_text.specs.declared.limits.TheConstants.{REGISTERS}
 use Rattle.trace_text.specs.declared.trace.Op.{Op}
 use Rattle.lane_outcomes.specs.declared.registers.Held.{Held}

@@ -8,7 +8,7 @@ use Rattle.heap_geometry.specs.Need.{need_of}
 use Rattle.errand_steps.specs.declared.reply.Reply.{Reply}
 use Rattle.errand_steps.specs.declared.reply.Reply.TheVariants as reply
 use Rattle.errand_steps.specs.Calls.{Call, alloc, free, take, write}
-use Rattle.call_events.specs.Made.{LeadsBy, Made, answered, found_from}
+use Rattle.sound_laws.specs.events.Made.{LeadsBy, Made, answered, found_from}
 use Rattle.live_heap.specs.declared.block.Block.{Block}
 use Rattle.live_heap.specs.Heaps.{HeapFields}
 use Rattle.live_heap.specs.Answers.{IsTried}

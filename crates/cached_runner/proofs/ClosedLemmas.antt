@@ -8,7 +8,7 @@ use Rattle.heap_geometry.specs.declared.geometry.Geometry.{Geometry}
 use Rattle.pool_model.specs.declared.event.Event.{Event}
 use Rattle.pool_model.specs.Histories.{own}
 use Rattle.pool_model.specs.Legal.{IsLegal}
-use Rattle.call_bounds.specs.Contention.{lost_of}
+use Rattle.sound_laws.specs.bounds.Contention.{lost_of}
 use Rattle.sound_state.specs.Sums.{callers_sum}
 use Rattle.sound_state.proofs.shared.SumLemmas.{term-sum}
 use Rattle.errand_steps.specs.Errands.{ErrandFields}

@@ -12,7 +12,7 @@ use Rattle.pool_model.specs.Pool.{Block as PoolBlock}
 use Rattle.errand_steps.specs.declared.reply.Reply.{Reply}
 use Rattle.errand_steps.specs.declared.reply.Reply.TheVariants as reply
 use Rattle.errand_steps.specs.Calls.{alloc, free}
-use Rattle.call_events.specs.Made.{LeadsBy, answered, wrote}
+use Rattle.sound_laws.specs.events.Made.{LeadsBy, answered, wrote}
 use Rattle.live_heap.specs.declared.block.Block.{Block}
 use Rattle.live_heap.specs.Heaps.{HeapFields}
 use Rattle.live_heap.specs.declared.pass.Pass.{Pass}

@@ -9,7 +9,7 @@ use Rattle.pool_model.proofs.OwnedLemmas.{owned-found}
 use Rattle.errand_steps.specs.declared.reply.Reply.{Reply}
 use Rattle.errand_steps.specs.declared.reply.Reply.TheVariants as reply
 use Rattle.errand_steps.specs.Calls.{Call, alloc, free, put, take}
-use Rattle.call_events.specs.Made.{LeadsBy, Made, answered, wrote}
+use Rattle.sound_laws.specs.events.Made.{LeadsBy, Made, answered, wrote}
 use Rattle.step_machine.specs.Cores.{OwnsAfter}
 use Rattle.step_machine.specs.Keeping.{LeavesPlace}
 use Rattle.live_heap.specs.declared.block.Block.{Block}

@@ -18,8 +18,8 @@ use Rattle.errand_steps.specs.declared.told.Ending.TheVariants as ending
 use Rattle.errand_steps.specs.declared.told.Stepped.TheVariants as stepped
 use Rattle.errand_steps.specs.Calls.{Call, alloc, begun_by, put, take}
 use Rattle.step_machine.specs.Moments.{IsServed}
-use Rattle.call_events.specs.Made.{LeadsBy, Made, answered, found_from, wrote}
-use Rattle.call_events.specs.UnderWay.{IsUnderWay}
+use Rattle.sound_laws.specs.events.Made.{LeadsBy, Made, answered, found_from, wrote}
+use Rattle.sound_laws.specs.events.UnderWay.{IsUnderWay}
 use Rattle.live_heap.specs.declared.block.Block.{Block}
 use Rattle.live_heap.specs.Heaps.{HeapFields}
 use Rattle.live_heap.specs.declared.pass.Pass.{Pass}

@@ -3,7 +3,7 @@ use Rattle.std.proofs.Common.{ℕ, zero, suc, true, ◌≡◌, ◌<◌, ◌≤�
 use Rattle.heap_geometry.specs.declared.geometry.Geometry.{Geometry}
 use Rattle.pool_model.specs.declared.event.Event.{Event}
 use Rattle.pool_model.specs.Histories.{own}
-use Rattle.call_events.specs.Made.{LeadsBy, Made}
+use Rattle.sound_laws.specs.events.Made.{LeadsBy, Made}
 use Rattle.live_heap.specs.Heaps.{HeapFields}
 use Rattle.live_heap.specs.Passes.{seen}
 use Rattle.trace_text.specs.declared.trace.Op.{Op}

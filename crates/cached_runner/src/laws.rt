@@ -5,7 +5,7 @@ ghost use Rattle.trace_text.specs.declared.trace.Trace.{Trace};
 ghost use Rattle.trace_text.specs.Traces.{IsTrace};
 ghost use Rattle.lane_outcomes.specs.declared.outcome.Outcome.{Outcome};
 ghost use Rattle.lane_outcomes.specs.declared.outcome.Outcome.TheVariants.{Spent};
-ghost use Rattle.call_bounds.specs.Contention.{lost_of};
+ghost use Rattle.sound_laws.specs.bounds.Contention.{lost_of};
 ghost use Rattle.sound_state.specs.Sums.{callers_sum};
 ghost use Rattle.step_machine.specs.Cores.{errand_at};
 ghost use Rattle.live_heap.specs.Heaps.{HeapFields};

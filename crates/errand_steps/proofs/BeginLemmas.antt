@@ -3,7 +3,7 @@ use Rattle.std.proofs.Common.{ℕ, ◌≡◌, ◌<◌, ◌∙◌, sym, ap, refl}
 use Rattle.heap_geometry.specs.Need.{block_count_of}
 use Rattle.heap_geometry.specs.Place.{block_place, frame_of, index_of}
 use Rattle.heap_geometry.specs.declared.need.Need.TheVariants.{Small}
-use Rattle.superblock_parts.specs.declared.point.BlockPoint.TheVariants.{LoadPrefix}
+use Rattle.step_parts.specs.declared.superblock.point.BlockPoint.TheVariants.{LoadPrefix}
 use Rattle.errand_steps.specs.declared.continuation.Continuation.TheVariants.{Free}
 use Rattle.errand_steps.specs.declared.point.Point.TheVariants.{Block}
 use Rattle.errand_steps.specs.Begins.{seat_of, free_begun}

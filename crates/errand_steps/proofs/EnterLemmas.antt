@@ -9,22 +9,22 @@ use Rattle.word_table.specs.Onwards.{IsOnward, told_onward}
 use Rattle.word_table.specs.Seats.{SeatFields, heap_of}
 use Rattle.word_table.specs.Sites.{IsSeatOf}
 use Rattle.word_table.proofs.SeatLemmas.{heap_of-within, block_count_of-least}
-use Rattle.superblock_parts.specs.declared.point.BlockPoint.{BlockPoint}
-use Rattle.superblock_parts.specs.declared.exit.BlockExit.{BlockExit}
-use Rattle.superblock_parts.specs.Points.{FitsBlock, FitsBlockExit, seat_of_block, seat_of_block_exit}
-use Rattle.stack_parts.specs.declared.point.StackPoint.{StackPoint}
-use Rattle.stack_parts.specs.declared.exit.StackExit.{StackExit}
-use Rattle.stack_parts.specs.Points.{FitsStack, FitsStackExit, seat_of_stack, seat_of_stack_exit}
-use Rattle.hazard_parts.specs.declared.point.DescPoint.{DescPoint}
-use Rattle.hazard_parts.specs.declared.exit.DescExit.{DescExit}
-use Rattle.hazard_parts.specs.declared.exit.DescExit.TheVariants as desc_exit
-use Rattle.hazard_parts.specs.Points.{FitsDesc, FitsDescExit, seat_of_desc, seat_of_desc_exit}
-use Rattle.partial_parts.specs.declared.point.PartialPoint.{PartialPoint}
-use Rattle.partial_parts.specs.declared.exit.PartialExit.{PartialExit}
-use Rattle.partial_parts.specs.Points.{FitsPartial, FitsPartialExit, seat_of_partial, seat_of_partial_exit}
-use Rattle.large_parts.specs.declared.point.LargePoint.{LargePoint}
-use Rattle.large_parts.specs.declared.exit.LargeExit.{LargeExit}
-use Rattle.large_parts.specs.Points.{FitsLarge, FitsLargeExit}
+use Rattle.step_parts.specs.declared.superblock.point.BlockPoint.{BlockPoint}
+use Rattle.step_parts.specs.declared.superblock.exit.BlockExit.{BlockExit}
+use Rattle.step_parts.specs.superblock.Points.{FitsBlock, FitsBlockExit, seat_of_block, seat_of_block_exit}
+use Rattle.step_parts.specs.declared.stack.point.StackPoint.{StackPoint}
+use Rattle.step_parts.specs.declared.stack.exit.StackExit.{StackExit}
+use Rattle.step_parts.specs.stack.Points.{FitsStack, FitsStackExit, seat_of_stack, seat_of_stack_exit}
+use Rattle.step_parts.specs.declared.hazard.point.DescPoint.{DescPoint}
+use Rattle.step_parts.specs.declared.hazard.exit.DescExit.{DescExit}
+use Rattle.step_parts.specs.declared.hazard.exit.DescExit.TheVariants as desc_exit
+use Rattle.step_parts.specs.hazard.Points.{FitsDesc, FitsDescExit, seat_of_desc, seat_of_desc_exit}
+use Rattle.step_parts.specs.declared.partial.point.PartialPoint.{PartialPoint}
+use Rattle.step_parts.specs.declared.partial.exit.PartialExit.{PartialExit}
+use Rattle.step_parts.specs.partial.Points.{FitsPartial, FitsPartialExit, seat_of_partial, seat_of_partial_exit}
+use Rattle.step_parts.specs.declared.large.point.LargePoint.{LargePoint}
+use Rattle.step_parts.specs.declared.large.exit.LargeExit.{LargeExit}
+use Rattle.step_parts.specs.large.Points.{FitsLarge, FitsLargeExit}
 use Rattle.errand_steps.specs.declared.continuation.Continuation.{Continuation}
 use Rattle.errand_steps.specs.Fits.{FitsContinuation}
 use Rattle.errand_steps.specs.tables.Descs.{spare_of_desc, pushed_by_desc, goes_desc}

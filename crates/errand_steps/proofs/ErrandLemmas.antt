@@ -8,8 +8,8 @@ use Rattle.heap_geometry.specs.declared.geometry.Geometry.{Geometry}
 use Rattle.word_table.specs.declared.action.Found.{Found}
 use Rattle.word_table.specs.Counts.{descriptor_count}
 use Rattle.word_table.specs.Seats.{SeatFields}
-use Rattle.hazard_parts.specs.Retired.{first_unheld, without}
-use Rattle.hazard_parts.proofs.PickLemmas.{some-listed}
+use Rattle.step_parts.specs.hazard.Retired.{first_unheld, without}
+use Rattle.step_parts.proofs.hazard_lemmas.PickLemmas.{some-listed}
 use Rattle.errand_steps.specs.declared.continuation.Continuation.{Continuation}
 use Rattle.errand_steps.specs.declared.point.Point.{Point}
 use Rattle.errand_steps.specs.declared.next.Next.{Next}

@@ -9,15 +9,15 @@ use Rattle.word_table.specs.declared.action.Found.{Found}
 use Rattle.word_table.specs.declared.seat.Site.{Site}
 use Rattle.word_table.specs.Sites.{IsSiteOf}
 use Rattle.word_table.proofs.SeatLemmas.{block_count_of-least}
-use Rattle.superblock_parts.specs.declared.point.BlockPoint.{BlockPoint}
-use Rattle.superblock_parts.specs.declared.point.BlockPoint.TheVariants as block
-use Rattle.stack_parts.specs.declared.point.StackPoint.{StackPoint}
-use Rattle.large_parts.specs.declared.point.LargePoint.{LargePoint}
-use Rattle.large_parts.specs.declared.point.LargePoint.TheVariants as large
-use Rattle.large_parts.specs.Points.{IsWantOf, first_wanted}
-use Rattle.large_parts.specs.Runs.{WantFields}
-use Rattle.large_parts.specs.Units.{IsFirstRun}
-use Rattle.large_parts.proofs.LowestLemmas.{first_run-exact}
+use Rattle.step_parts.specs.declared.superblock.point.BlockPoint.{BlockPoint}
+use Rattle.step_parts.specs.declared.superblock.point.BlockPoint.TheVariants as block
+use Rattle.step_parts.specs.declared.stack.point.StackPoint.{StackPoint}
+use Rattle.step_parts.specs.declared.large.point.LargePoint.{LargePoint}
+use Rattle.step_parts.specs.declared.large.point.LargePoint.TheVariants as large
+use Rattle.step_parts.specs.large.Points.{IsWantOf, first_wanted}
+use Rattle.step_parts.specs.large.Runs.{WantFields}
+use Rattle.step_parts.specs.large.Units.{IsFirstRun}
+use Rattle.step_parts.proofs.large_lemmas.LowestLemmas.{first_run-exact}
 use Rattle.pool_model.specs.declared.event.Event.{Event}
 use Rattle.pool_model.specs.declared.event.Event.TheVariants.{Alloc, Looked, Refuse, Free, Write, Put, Take, TakeNone}
 use Rattle.pool_model.specs.Histories.{caller_of}

@@ -3,7 +3,7 @@ use Rattle.std.proofs.Common.{ℕ, Bool, Option, Some, None, ◌≡◌, ◌<◌,
 use Rattle.word_table.specs.declared.action.Action.{Action}
 use Rattle.word_table.specs.declared.action.Found.{Found}
 use Rattle.word_table.specs.Seats.{SeatFields}
-use Rattle.hazard_parts.specs.Retired.{first_unheld}
+use Rattle.step_parts.specs.hazard.Retired.{first_unheld}
 use Rattle.errand_steps.specs.declared.continuation.Continuation.{Continuation}
 use Rattle.errand_steps.specs.declared.next.Next.{Next}
 use Rattle.errand_steps.specs.declared.next.Next.TheVariants.{At, End, Turn, Retire, Pick, Unlist}

@@ -8,8 +8,8 @@ use Rattle.word_table.specs.Counts.{descriptor_count}
 use Rattle.word_table.specs.Seats.{SeatFields}
 use Rattle.word_table.specs.Sites.{IsSeatOf}
 use Rattle.word_table.proofs.SeatLemmas.{block_count_of-least}
-use Rattle.stack_parts.specs.declared.point.Pile.{Pile}
-use Rattle.stack_parts.specs.Points.{IsBare, IsIndexOf}
+use Rattle.step_parts.specs.declared.stack.point.Pile.{Pile}
+use Rattle.step_parts.specs.stack.Points.{IsBare, IsIndexOf}
 use Rattle.errand_steps.specs.declared.continuation.Continuation.{Continuation}
 use Rattle.errand_steps.specs.declared.next.Next.{Next}
 use Rattle.errand_steps.specs.declared.next.Next.TheVariants.{At, End, Turn, Retire, Pick, Unlist}

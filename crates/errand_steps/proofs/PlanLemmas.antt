@@ -4,11 +4,11 @@ use Rattle.heap_geometry.specs.declared.geometry.Geometry.{Geometry}
 use Rattle.heap_geometry.specs.Geometry.{IsChecked}
 use Rattle.word_table.specs.Actions.{name_of}
 use Rattle.word_table.specs.Table.{Exists}
-use Rattle.superblock_parts.proofs.PointLemmas as block
-use Rattle.stack_parts.proofs.PointLemmas as stack
-use Rattle.hazard_parts.proofs.PointLemmas as desc
-use Rattle.partial_parts.proofs.PointLemmas as partial
-use Rattle.large_parts.proofs.PointLemmas as large
+use Rattle.step_parts.proofs.superblock_lemmas.PointLemmas as block
+use Rattle.step_parts.proofs.stack_lemmas.PointLemmas as stack
+use Rattle.step_parts.proofs.hazard_lemmas.PointLemmas as desc
+use Rattle.step_parts.proofs.partial_lemmas.PointLemmas as partial
+use Rattle.step_parts.proofs.large_lemmas.PointLemmas as large
 use Rattle.errand_steps.specs.declared.point.Point.{Point}
 use Rattle.errand_steps.specs.declared.point.Point.TheVariants.{Idle, Block, Stack, Desc, Partial, Large}
 use Rattle.errand_steps.specs.Fits.{FitsPoint}

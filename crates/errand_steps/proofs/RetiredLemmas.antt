@@ -3,7 +3,7 @@ use Rattle.std.proofs.Common.{ℕ, zero, suc, false, ◌≡◌, List, [], ◌∷
 use Rattle.std.specs.Prelude.{◌==◌, All, Contains}
 use Rattle.std.proofs.lemmas.Bool.{cond_both, eq-eqb, true≢false}
 use Rattle.std.proofs.lemmas.List.Elements.{All-head, All-tail, All-cons}
-use Rattle.hazard_parts.specs.Retired.{without}
+use Rattle.step_parts.specs.hazard.Retired.{without}
 
 -- what is in a list whose first element is another one is in the rest
 in-rest : (d x : ℕ) (xs : List ℕ) → Contains (x ∷ xs) d → (x == d) ≡ false → Contains xs d

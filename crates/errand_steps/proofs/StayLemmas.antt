@@ -4,13 +4,13 @@ use Rattle.word_table.specs.declared.action.Action.{Action}
 use Rattle.word_table.specs.declared.action.Found.{Found}
 use Rattle.word_table.specs.declared.onward.Onward.{Onward}
 use Rattle.word_table.specs.Onwards.{exit_by, point_by}
-use Rattle.stack_parts.specs.declared.exit.StackExit.{StackExit}
-use Rattle.stack_parts.specs.declared.point.StackPoint.{StackPoint}
-use Rattle.large_parts.specs.declared.exit.LargeExit.{LargeExit}
-use Rattle.large_parts.specs.declared.point.LargePoint.{LargePoint}
-use Rattle.large_parts.specs.Points.{is_on_word, settle_large_of}
-use Rattle.partial_parts.specs.declared.exit.PartialExit.{PartialExit}
-use Rattle.partial_parts.specs.declared.point.PartialPoint.{PartialPoint}
+use Rattle.step_parts.specs.declared.stack.exit.StackExit.{StackExit}
+use Rattle.step_parts.specs.declared.stack.point.StackPoint.{StackPoint}
+use Rattle.step_parts.specs.declared.large.exit.LargeExit.{LargeExit}
+use Rattle.step_parts.specs.declared.large.point.LargePoint.{LargePoint}
+use Rattle.step_parts.specs.large.Points.{is_on_word, settle_large_of}
+use Rattle.step_parts.specs.declared.partial.exit.PartialExit.{PartialExit}
+use Rattle.step_parts.specs.declared.partial.point.PartialPoint.{PartialPoint}
 use Rattle.errand_steps.specs.declared.continuation.Continuation.{Continuation}
 use Rattle.errand_steps.specs.declared.next.Next.TheVariants.{At, End}
 use Rattle.errand_steps.specs.declared.point.Point.{Point}

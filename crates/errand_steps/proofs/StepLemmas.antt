@@ -5,21 +5,21 @@ use Rattle.heap_geometry.specs.declared.geometry.Geometry.{Geometry}
 use Rattle.heap_geometry.specs.Geometry.{IsChecked}
 use Rattle.word_table.specs.declared.action.Found.{Found}
 use Rattle.word_table.specs.Onwards.{told_onward}
-use Rattle.superblock_parts.specs.declared.point.BlockPoint.{BlockPoint}
-use Rattle.superblock_parts.specs.Points.{settle_block_of}
-use Rattle.superblock_parts.proofs.PointLemmas as block
-use Rattle.stack_parts.specs.declared.point.StackPoint.{StackPoint}
-use Rattle.stack_parts.specs.Points.{settle_stack_of}
-use Rattle.stack_parts.proofs.PointLemmas as stack
-use Rattle.hazard_parts.specs.declared.point.DescPoint.{DescPoint}
-use Rattle.hazard_parts.specs.Points.{settle_desc_of}
-use Rattle.hazard_parts.proofs.PointLemmas as desc
-use Rattle.partial_parts.specs.declared.point.PartialPoint.{PartialPoint}
-use Rattle.partial_parts.specs.Points.{settle_partial_of}
-use Rattle.partial_parts.proofs.PointLemmas as partial
-use Rattle.large_parts.specs.declared.point.LargePoint.{LargePoint}
-use Rattle.large_parts.specs.Points.{settle_large_of}
-use Rattle.large_parts.proofs.PointLemmas as large
+use Rattle.step_parts.specs.declared.superblock.point.BlockPoint.{BlockPoint}
+use Rattle.step_parts.specs.superblock.Points.{settle_block_of}
+use Rattle.step_parts.proofs.superblock_lemmas.PointLemmas as block
+use Rattle.step_parts.specs.declared.stack.point.StackPoint.{StackPoint}
+use Rattle.step_parts.specs.stack.Points.{settle_stack_of}
+use Rattle.step_parts.proofs.stack_lemmas.PointLemmas as stack
+use Rattle.step_parts.specs.declared.hazard.point.DescPoint.{DescPoint}
+use Rattle.step_parts.specs.hazard.Points.{settle_desc_of}
+use Rattle.step_parts.proofs.hazard_lemmas.PointLemmas as desc
+use Rattle.step_parts.specs.declared.partial.point.PartialPoint.{PartialPoint}
+use Rattle.step_parts.specs.partial.Points.{settle_partial_of}
+use Rattle.step_parts.proofs.partial_lemmas.PointLemmas as partial
+use Rattle.step_parts.specs.declared.large.point.LargePoint.{LargePoint}
+use Rattle.step_parts.specs.large.Points.{settle_large_of}
+use Rattle.step_parts.proofs.large_lemmas.PointLemmas as large
 use Rattle.errand_steps.specs.declared.continuation.Continuation.{Continuation}
 use Rattle.errand_steps.specs.declared.point.Point.{Point}
 use Rattle.errand_steps.specs.declared.point.Point.TheVariants.{Idle, Block, Stack, Desc, Partial, Large}

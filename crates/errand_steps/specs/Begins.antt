@@ -7,8 +7,8 @@ use Rattle.heap_geometry.specs.Need.{IsNeed, need_of}
 use Rattle.heap_geometry.specs.Place.{frame_of, index_of, unit_of}
 use Rattle.pool_model.specs.WellFormed.{IsPlaceFor}
 use Rattle.word_table.specs.Seats.{SeatFields}
-use Rattle.superblock_parts.specs.declared.point.BlockPoint.TheVariants.{LoadActive, LoadPrefix}
-use Rattle.large_parts.specs.declared.point.LargePoint.TheVariants.{LoadUnits, LoadRunPrefix, StoreWord, LoadWord, PutBlock, LoadShelf}
+use Rattle.step_parts.specs.declared.superblock.point.BlockPoint.TheVariants.{LoadActive, LoadPrefix}
+use Rattle.step_parts.specs.declared.large.point.LargePoint.TheVariants.{LoadUnits, LoadRunPrefix, StoreWord, LoadWord, PutBlock, LoadShelf}
 use Rattle.errand_steps.specs.declared.continuation.Continuation.TheVariants.{Alloc, Free, Nothing}
 use Rattle.errand_steps.specs.declared.point.Point.{Point}
 use Rattle.errand_steps.specs.declared.point.Point.TheVariants as point

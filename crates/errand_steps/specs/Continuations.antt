@@ -2,18 +2,18 @@
 use Rattle.std.specs.Prelude.{ℕ, Bool, true, false, ◌≡◌, IsTrue}
 use Rattle.heap_geometry.specs.declared.need.Need.TheVariants as need
 use Rattle.heap_geometry.specs.Need.{need_of}
-use Rattle.superblock_parts.specs.declared.exit.BlockExit.{BlockExit}
-use Rattle.superblock_parts.specs.declared.exit.BlockExit.TheVariants as block_exit
-use Rattle.stack_parts.specs.declared.point.Pile.{Pile}
-use Rattle.stack_parts.specs.declared.point.Pile.TheVariants.{Frames, Partials}
-use Rattle.stack_parts.specs.declared.exit.StackExit.{StackExit}
-use Rattle.stack_parts.specs.declared.exit.StackExit.TheVariants as stack_exit
-use Rattle.hazard_parts.specs.declared.exit.DescExit.{DescExit}
-use Rattle.hazard_parts.specs.declared.exit.DescExit.TheVariants as desc_exit
-use Rattle.partial_parts.specs.declared.exit.PartialExit.{PartialExit}
-use Rattle.partial_parts.specs.declared.exit.PartialExit.TheVariants as partial_exit
-use Rattle.large_parts.specs.declared.exit.LargeExit.{LargeExit}
-use Rattle.large_parts.specs.declared.exit.LargeExit.TheVariants as large_exit
+use Rattle.step_parts.specs.declared.superblock.exit.BlockExit.{BlockExit}
+use Rattle.step_parts.specs.declared.superblock.exit.BlockExit.TheVariants as block_exit
+use Rattle.step_parts.specs.declared.stack.point.Pile.{Pile}
+use Rattle.step_parts.specs.declared.stack.point.Pile.TheVariants.{Frames, Partials}
+use Rattle.step_parts.specs.declared.stack.exit.StackExit.{StackExit}
+use Rattle.step_parts.specs.declared.stack.exit.StackExit.TheVariants as stack_exit
+use Rattle.step_parts.specs.declared.hazard.exit.DescExit.{DescExit}
+use Rattle.step_parts.specs.declared.hazard.exit.DescExit.TheVariants as desc_exit
+use Rattle.step_parts.specs.declared.partial.exit.PartialExit.{PartialExit}
+use Rattle.step_parts.specs.declared.partial.exit.PartialExit.TheVariants as partial_exit
+use Rattle.step_parts.specs.declared.large.exit.LargeExit.{LargeExit}
+use Rattle.step_parts.specs.declared.large.exit.LargeExit.TheVariants as large_exit
 use Rattle.errand_steps.specs.declared.continuation.Continuation.{Continuation}
 use Rattle.errand_steps.specs.declared.continuation.Continuation.TheVariants.{Alloc, TakeFrame, GiveBlock, Discard, Turn, Look, Refuse, Free, Remove, Clear, ClearSecond}
 use Rattle.errand_steps.specs.declared.continuation.Continuation.TheVariants.{Retire, PushFirst, Finish, EndFree, Nothing}

@@ -8,13 +8,13 @@ use Rattle.word_table.specs.declared.action.Action.TheVariants.{Load, Store, Cas
 use Rattle.word_table.specs.declared.action.Found.{Found}
 use Rattle.word_table.specs.Counts.{descriptor_count}
 use Rattle.word_table.specs.Seats.{SeatFields}
-use Rattle.superblock_parts.specs.declared.point.BlockPoint.TheVariants as block
-use Rattle.hazard_parts.specs.declared.limits.TheConstants.{HELD_MOST, RETIRED_MOST}
-use Rattle.hazard_parts.specs.declared.point.DescPoint.TheVariants as desc
-use Rattle.hazard_parts.specs.Retired.{first_unheld, without}
-use Rattle.partial_parts.specs.declared.point.PartialPoint.TheVariants as partial
-use Rattle.partial_parts.specs.Grants.{is_empty}
-use Rattle.large_parts.specs.declared.point.LargePoint.TheVariants as large
+use Rattle.step_parts.specs.declared.superblock.point.BlockPoint.TheVariants as block
+use Rattle.step_parts.specs.declared.hazard.limits.TheConstants.{HELD_MOST, RETIRED_MOST}
+use Rattle.step_parts.specs.declared.hazard.point.DescPoint.TheVariants as desc
+use Rattle.step_parts.specs.hazard.Retired.{first_unheld, without}
+use Rattle.step_parts.specs.declared.partial.point.PartialPoint.TheVariants as partial
+use Rattle.step_parts.specs.partial.Grants.{is_empty}
+use Rattle.step_parts.specs.declared.large.point.LargePoint.TheVariants as large
 use Rattle.errand_steps.specs.declared.continuation.Continuation.{Continuation}
 use Rattle.errand_steps.specs.declared.continuation.Continuation.TheVariants as continuation
 use Rattle.errand_steps.specs.declared.point.Point.{Point}

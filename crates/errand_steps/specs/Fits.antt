@@ -6,16 +6,16 @@ use Rattle.heap_geometry.specs.Need.{need_of}
 use Rattle.word_table.specs.Counts.{descriptor_count}
 use Rattle.word_table.specs.Seats.{SeatFields}
 use Rattle.word_table.specs.declared.seat.Site.{Site}
-use Rattle.superblock_parts.specs.declared.point.BlockPoint.{BlockPoint}
-use Rattle.superblock_parts.specs.Points.{IsBlockOf, FitsBlock, seat_of_block}
-use Rattle.stack_parts.specs.declared.point.StackPoint.{StackPoint}
-use Rattle.stack_parts.specs.Points.{FitsStack, seat_of_stack}
-use Rattle.hazard_parts.specs.declared.point.DescPoint.{DescPoint}
-use Rattle.hazard_parts.specs.Points.{FitsDesc, seat_of_desc}
-use Rattle.partial_parts.specs.declared.point.PartialPoint.{PartialPoint}
-use Rattle.partial_parts.specs.Points.{FitsPartial, seat_of_partial}
-use Rattle.large_parts.specs.declared.point.LargePoint.{LargePoint}
-use Rattle.large_parts.specs.Points.{FitsLarge}
+use Rattle.step_parts.specs.declared.superblock.point.BlockPoint.{BlockPoint}
+use Rattle.step_parts.specs.superblock.Points.{IsBlockOf, FitsBlock, seat_of_block}
+use Rattle.step_parts.specs.declared.stack.point.StackPoint.{StackPoint}
+use Rattle.step_parts.specs.stack.Points.{FitsStack, seat_of_stack}
+use Rattle.step_parts.specs.declared.hazard.point.DescPoint.{DescPoint}
+use Rattle.step_parts.specs.hazard.Points.{FitsDesc, seat_of_desc}
+use Rattle.step_parts.specs.declared.partial.point.PartialPoint.{PartialPoint}
+use Rattle.step_parts.specs.partial.Points.{FitsPartial, seat_of_partial}
+use Rattle.step_parts.specs.declared.large.point.LargePoint.{LargePoint}
+use Rattle.step_parts.specs.large.Points.{FitsLarge}
 use Rattle.errand_steps.specs.declared.continuation.Continuation.{Continuation}
 use Rattle.errand_steps.specs.declared.continuation.Continuation.TheVariants.{Alloc, TakeFrame, GiveBlock, Discard, Turn, Look, Refuse, Free, Remove, Clear, ClearSecond}
 use Rattle.errand_steps.specs.declared.continuation.Continuation.TheVariants.{Retire, PushFirst, Finish, EndFree, Nothing}

@@ -7,33 +7,33 @@ use Rattle.word_table.specs.declared.action.Found.{Found}
 use Rattle.word_table.specs.declared.onward.Onward.{Onward}
 use Rattle.word_table.specs.declared.onward.Onward.TheVariants.{Stays, Leaves}
 use Rattle.word_table.specs.Seats.{SeatFields, heap_of}
-use Rattle.superblock_parts.specs.declared.point.Share.TheVariants.{Grant}
-use Rattle.superblock_parts.specs.declared.point.BlockPoint.{BlockPoint}
-use Rattle.superblock_parts.specs.declared.point.BlockPoint.TheVariants as block
-use Rattle.superblock_parts.specs.declared.exit.BlockExit.{BlockExit}
-use Rattle.superblock_parts.specs.declared.exit.BlockExit.TheVariants as block_exit
-use Rattle.superblock_parts.specs.Points.{settle_block_of}
-use Rattle.stack_parts.specs.declared.point.Pile.{Pile}
-use Rattle.stack_parts.specs.declared.point.Pile.TheVariants.{Frames, Partials}
-use Rattle.stack_parts.specs.declared.point.StackPoint.{StackPoint}
-use Rattle.stack_parts.specs.declared.point.StackPoint.TheVariants as stack
-use Rattle.stack_parts.specs.declared.exit.StackExit.{StackExit}
-use Rattle.stack_parts.specs.declared.exit.StackExit.TheVariants as stack_exit
-use Rattle.stack_parts.specs.Points.{settle_stack_of}
-use Rattle.hazard_parts.specs.declared.point.DescPoint.{DescPoint}
-use Rattle.hazard_parts.specs.declared.point.DescPoint.TheVariants as desc
-use Rattle.hazard_parts.specs.declared.exit.DescExit.{DescExit}
-use Rattle.hazard_parts.specs.declared.exit.DescExit.TheVariants as desc_exit
-use Rattle.hazard_parts.specs.Points.{settle_desc_of}
-use Rattle.partial_parts.specs.declared.point.PartialPoint.{PartialPoint}
-use Rattle.partial_parts.specs.declared.point.PartialPoint.TheVariants as partial
-use Rattle.partial_parts.specs.declared.exit.PartialExit.{PartialExit}
-use Rattle.partial_parts.specs.declared.exit.PartialExit.TheVariants as partial_exit
-use Rattle.partial_parts.specs.Points.{settle_partial_of}
-use Rattle.large_parts.specs.declared.point.LargePoint.{LargePoint}
-use Rattle.large_parts.specs.declared.exit.LargeExit.{LargeExit}
-use Rattle.large_parts.specs.declared.exit.LargeExit.TheVariants as large_exit
-use Rattle.large_parts.specs.Points.{settle_large_of}
+use Rattle.step_parts.specs.declared.superblock.point.Share.TheVariants.{Grant}
+use Rattle.step_parts.specs.declared.superblock.point.BlockPoint.{BlockPoint}
+use Rattle.step_parts.specs.declared.superblock.point.BlockPoint.TheVariants as block
+use Rattle.step_parts.specs.declared.superblock.exit.BlockExit.{BlockExit}
+use Rattle.step_parts.specs.declared.superblock.exit.BlockExit.TheVariants as block_exit
+use Rattle.step_parts.specs.superblock.Points.{settle_block_of}
+use Rattle.step_parts.specs.declared.stack.point.Pile.{Pile}
+use Rattle.step_parts.specs.declared.stack.point.Pile.TheVariants.{Frames, Partials}
+use Rattle.step_parts.specs.declared.stack.point.StackPoint.{StackPoint}
+use Rattle.step_parts.specs.declared.stack.point.StackPoint.TheVariants as stack
+use Rattle.step_parts.specs.declared.stack.exit.StackExit.{StackExit}
+use Rattle.step_parts.specs.declared.stack.exit.StackExit.TheVariants as stack_exit
+use Rattle.step_parts.specs.stack.Points.{settle_stack_of}
+use Rattle.step_parts.specs.declared.hazard.point.DescPoint.{DescPoint}
+use Rattle.step_parts.specs.declared.hazard.point.DescPoint.TheVariants as desc
+use Rattle.step_parts.specs.declared.hazard.exit.DescExit.{DescExit}
+use Rattle.step_parts.specs.declared.hazard.exit.DescExit.TheVariants as desc_exit
+use Rattle.step_parts.specs.hazard.Points.{settle_desc_of}
+use Rattle.step_parts.specs.declared.partial.point.PartialPoint.{PartialPoint}
+use Rattle.step_parts.specs.declared.partial.point.PartialPoint.TheVariants as partial
+use Rattle.step_parts.specs.declared.partial.exit.PartialExit.{PartialExit}
+use Rattle.step_parts.specs.declared.partial.exit.PartialExit.TheVariants as partial_exit
+use Rattle.step_parts.specs.partial.Points.{settle_partial_of}
+use Rattle.step_parts.specs.declared.large.point.LargePoint.{LargePoint}
+use Rattle.step_parts.specs.declared.large.exit.LargeExit.{LargeExit}
+use Rattle.step_parts.specs.declared.large.exit.LargeExit.TheVariants as large_exit
+use Rattle.step_parts.specs.large.Points.{settle_large_of}
 use Rattle.errand_steps.specs.declared.continuation.Continuation.{Continuation}
 use Rattle.errand_steps.specs.declared.continuation.Continuation.TheVariants as continuation
 use Rattle.errand_steps.specs.declared.point.Point.{Point}

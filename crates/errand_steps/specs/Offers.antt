@@ -1,6 +1,6 @@
 -- What a put offers.
 use Rattle.std.specs.Prelude.{Option, Some, None}
-use Rattle.large_parts.specs.declared.point.LargePoint.TheVariants.{PutBlock}
+use Rattle.step_parts.specs.declared.large.point.LargePoint.TheVariants.{PutBlock}
 use Rattle.errand_steps.specs.declared.point.Point.{Point}
 use Rattle.errand_steps.specs.declared.point.Point.TheVariants.{Large}
 use Rattle.errand_steps.specs.declared.reply.Offer.{Offer}

@@ -5,11 +5,11 @@ use Rattle.word_table.specs.declared.action.Action.TheVariants as action
 use Rattle.word_table.specs.declared.name.WordName.TheVariants as name
 use Rattle.word_table.specs.declared.seat.Site.{Site}
 use Rattle.word_table.specs.Seats.{SeatFields}
-use Rattle.superblock_parts.specs.Points.{plan_block_of}
-use Rattle.stack_parts.specs.Points.{plan_stack_of}
-use Rattle.hazard_parts.specs.Points.{plan_desc_of}
-use Rattle.partial_parts.specs.Points.{plan_partial_of}
-use Rattle.large_parts.specs.Points.{plan_large_of}
+use Rattle.step_parts.specs.superblock.Points.{plan_block_of}
+use Rattle.step_parts.specs.stack.Points.{plan_stack_of}
+use Rattle.step_parts.specs.hazard.Points.{plan_desc_of}
+use Rattle.step_parts.specs.partial.Points.{plan_partial_of}
+use Rattle.step_parts.specs.large.Points.{plan_large_of}
 use Rattle.errand_steps.specs.declared.continuation.Continuation.{Continuation}
 use Rattle.errand_steps.specs.declared.continuation.Continuation.TheVariants.{Alloc, TakeFrame, GiveBlock, Discard, Turn, Look, Refuse, Free, Remove, Clear, ClearSecond, Retire, PushFirst, Finish, EndFree, Nothing}
 use Rattle.errand_steps.specs.declared.point.Point.{Point}

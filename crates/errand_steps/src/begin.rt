@@ -5,7 +5,7 @@ ghost use Rattle.heap_geometry.specs.Need.{usable_words};
 ghost use Rattle.heap_geometry.specs.declared.limits.TheConstants.{CLASSES, MAX_UNITS, SHELVES};
 ghost use Rattle.heap_geometry.specs.Place.{frame_of, index_of};
 ghost use Rattle.heap_geometry.specs.declared.need.Need.TheVariants.{Small};
-ghost use Rattle.superblock_parts.specs.declared.point.BlockPoint.TheVariants.{LoadActive, LoadPrefix};
+ghost use Rattle.step_parts.specs.declared.superblock.point.BlockPoint.TheVariants.{LoadActive, LoadPrefix};
 ghost use Rattle.errand_steps.specs.declared.continuation.Continuation.{Continuation};
 ghost use Rattle.errand_steps.specs.declared.point.Point.{Point};
 ghost use Rattle.errand_steps.specs.Errands.{is_spent, one_more};
@@ -17,10 +17,10 @@ use crate::point::Point;
 use crate::reply::Begun;
 use heap_geometry::need::{Need, class_of};
 use heap_geometry::place::{split_place, unit_of};
-use large_parts::point::LargePoint;
-use large_parts::run::UnitRun;
-use large_parts::want::Want;
-use superblock_parts::point::BlockPoint;
+use step_parts::large::point::LargePoint;
+use step_parts::large::run::UnitRun;
+use step_parts::large::want::Want;
+use step_parts::superblock::point::BlockPoint;
 use word_table::seat::Seat;
 
 impl Errand {

@@ -5,10 +5,10 @@ ghost use Rattle.errand_steps.specs.Errands.{counts_won, counts_lost, counts_cle
 ghost use Rattle.errand_steps.specs.Points.{plan_point_of};
 
 use crate::point::Point;
-use hazard_parts::point::DescPoint;
-use large_parts::point::LargePoint;
 use packed_words::anchor::{Anchor, AnchorState};
-use partial_parts::point::PartialPoint;
+use step_parts::hazard::point::DescPoint;
+use step_parts::large::point::LargePoint;
+use step_parts::partial::point::PartialPoint;
 use word_table::action::{Action, Found};
 
 /// Whether a step with this action is a won exchange that counts: its two numbers differ, or it is a

@@ -18,11 +18,11 @@ use crate::enter::partials::leave_partial;
 use crate::enter::stacks::leave_stack;
 use crate::next::Next;
 use crate::point::Point;
-use hazard_parts::point::{plan_desc, settle_desc};
-use large_parts::point::{plan_large, settle_large};
-use partial_parts::point::{plan_partial, settle_partial};
-use stack_parts::point::{plan_stack, settle_stack};
-use superblock_parts::point::{plan_block, settle_block};
+use step_parts::hazard::point::{plan_desc, settle_desc};
+use step_parts::large::point::{plan_large, settle_large};
+use step_parts::partial::point::{plan_partial, settle_partial};
+use step_parts::stack::point::{plan_stack, settle_stack};
+use step_parts::superblock::point::{plan_block, settle_block};
 use word_table::action::{Action, Found};
 use word_table::name::WordName;
 

@@ -1,7 +1,7 @@
 //! The event that a step adds to the history.
 
 ghost use Rattle.std.specs.Prelude.{◌≡◌};
-ghost use Rattle.large_parts.specs.Points.{first_wanted};
+ghost use Rattle.step_parts.specs.large.Points.{first_wanted};
 ghost use Rattle.errand_steps.specs.tables.Blocks.{block_event};
 ghost use Rattle.errand_steps.specs.tables.Stacks.{stack_event, empty_event};
 ghost use Rattle.errand_steps.specs.tables.LargeBlocks.{large_event, run_event};
@@ -10,11 +10,11 @@ ghost use Rattle.errand_steps.specs.Events.{won_event, event_of};
 use crate::continuation::asked;
 use crate::point::Point;
 use heap_geometry::place::place_of_unit;
-use large_parts::point::LargePoint;
-use large_parts::want::Want;
 use pool_model::event::Event;
-use stack_parts::point::{Pile, StackPoint};
-use superblock_parts::point::BlockPoint;
+use step_parts::large::point::LargePoint;
+use step_parts::large::want::Want;
+use step_parts::stack::point::{Pile, StackPoint};
+use step_parts::superblock::point::BlockPoint;
 use word_table::action::Found;
 
 /// The event of the step in which this caller's action found this; `None` where the step makes none.

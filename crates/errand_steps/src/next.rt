@@ -7,11 +7,11 @@ ghost use Rattle.errand_steps.specs.declared.point.Point.TheVariants.{Block, Sta
 use crate::continuation::Continuation;
 use crate::point::Point;
 use crate::reply::Reply;
-use hazard_parts::held::Held;
-use hazard_parts::point::DescPoint;
-use partial_parts::point::PartialPoint;
-use stack_parts::point::StackPoint;
-use superblock_parts::point::BlockPoint;
+use step_parts::hazard::held::Held;
+use step_parts::hazard::point::DescPoint;
+use step_parts::partial::point::PartialPoint;
+use step_parts::stack::point::StackPoint;
+use step_parts::superblock::point::BlockPoint;
 use word_table::seat::Seat;
 
 /// What follows a step, as far as it depends on the point alone.

@@ -1,11 +1,11 @@
 //! The points of all parts.
 
 use crate::continuation::Continuation;
-use hazard_parts::point::DescPoint;
-use large_parts::point::LargePoint;
-use partial_parts::point::PartialPoint;
-use stack_parts::point::StackPoint;
-use superblock_parts::point::BlockPoint;
+use step_parts::hazard::point::DescPoint;
+use step_parts::large::point::LargePoint;
+use step_parts::partial::point::PartialPoint;
+use step_parts::stack::point::StackPoint;
+use step_parts::superblock::point::BlockPoint;
 
 /// Where a caller stands: in no call, or at a point of a part, with what follows the part.
 #[derive(Clone, Copy)]

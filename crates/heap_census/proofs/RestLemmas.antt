@@ -19,9 +19,9 @@ use Rattle.word_table.specs.Occurs.{occurs}
 use Rattle.word_table.specs.declared.limits.TheConstants.{MAX_DESCRIPTORS, MOST_CREDITS}
 use Rattle.word_table.specs.Seats.{info_within}
 use Rattle.word_table.proofs.CountLemmas.{descriptor_count_within}
-use Rattle.stack_parts.specs.declared.point.Pile.TheVariants.{Frames, Partials}
-use Rattle.stack_parts.specs.Stacks.{next_in}
-use Rattle.partial_parts.specs.Grants.{is_empty}
+use Rattle.step_parts.specs.declared.stack.point.Pile.TheVariants.{Frames, Partials}
+use Rattle.step_parts.specs.stack.Stacks.{next_in}
+use Rattle.step_parts.specs.partial.Grants.{is_empty}
 use Rattle.errand_steps.specs.Steps.{State}
 use Rattle.sound_state.specs.Lists.{Lists, IsListed}
 use Rattle.sound_state.specs.Superblocks.{info_for, info_or_zero, anchor_for, errand_away, is_bound}

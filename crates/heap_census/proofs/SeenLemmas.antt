@@ -14,7 +14,7 @@ use Rattle.word_table.specs.Counts.{descriptor_count, word_count}
 use Rattle.word_table.specs.Table.{Exists, word_name}
 use Rattle.word_table.proofs.TableLemmas.{word_name-Exists}
 use Rattle.word_table.specs.Occurs.{occurs}
-use Rattle.partial_parts.specs.Grants.{is_empty}
+use Rattle.step_parts.specs.partial.Grants.{is_empty}
 use Rattle.errand_steps.specs.Steps.{State}
 use Rattle.sound_state.specs.Keepers.{active_keeps, word_keeps, full_keeps, in_words, in_lists, IsWithout, IsActive, IsPartlyUsed}
 use Rattle.sound_state.specs.Lists.{Lists}

@@ -4,8 +4,8 @@ use Rattle.std.specs.Prelude.{All}
 use Rattle.std.proofs.lemmas.List.Elements.{All-head, All-tail}
 use Rattle.packed_words.specs.Head.{head_of}
 use Rattle.word_table.specs.declared.name.WordName.TheVariants as name
-use Rattle.stack_parts.specs.declared.point.Pile.TheVariants.{Frames}
-use Rattle.stack_parts.specs.Stacks.{Stacked, next_in}
+use Rattle.step_parts.specs.declared.stack.point.Pile.TheVariants.{Frames}
+use Rattle.step_parts.specs.stack.Stacks.{Stacked, next_in}
 use Rattle.sound_state.specs.Lists.{Lists, IsListed}
 use Rattle.live_heap.specs.Endings.{ClosedFields, IsResting}
 use Rattle.heap_census.specs.Census.{closed_state}

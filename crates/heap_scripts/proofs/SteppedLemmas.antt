@@ -5,7 +5,7 @@ use Rattle.pool_model.specs.Calls.{Ended}
 use Rattle.errand_steps.specs.declared.told.Ending.{Ending}
 use Rattle.errand_steps.specs.declared.told.Ending.TheVariants as ending
 use Rattle.errand_steps.specs.Calls.{write, read}
-use Rattle.call_events.specs.Ends.{end_of}
+use Rattle.sound_laws.specs.events.Ends.{end_of}
 use Rattle.live_heap.specs.declared.block.Block.{Block}
 use Rattle.live_heap.specs.Answers.{reply_of}
 use Rattle.live_heap.specs.Hands.{brought_by}

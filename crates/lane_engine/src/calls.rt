@@ -8,7 +8,7 @@ ghost use Rattle.errand_steps.specs.declared.reply.Reply.{Reply};
 ghost use Rattle.errand_steps.specs.declared.reply.Reply.TheVariants as reply;
 ghost use Rattle.errand_steps.specs.Calls.{Call, alloc, free, put, take};
 ghost use Rattle.lane_engine.specs.Whole.{Copies, KeepBlocks, Maker, PutTells, TakeTells, allocated_as};
-ghost use Rattle.call_events.specs.Made.{LeadsBy, Sums, wrote};
+ghost use Rattle.sound_laws.specs.events.Made.{LeadsBy, Sums, wrote};
 
 use std::sync::Wait;
 use step_machine::token::Token;

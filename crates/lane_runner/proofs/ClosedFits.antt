@@ -11,7 +11,7 @@ use Rattle.pool_model.specs.Legal.{IsLegal}
 use Rattle.pool_model.proofs.HistoryLemmas.{own-append}
 use Rattle.pool_model.proofs.OwnerLemmas.{own-none}
 use Rattle.errand_steps.specs.Errands.{ErrandFields}
-use Rattle.call_bounds.specs.Contention.{lost_of}
+use Rattle.sound_laws.specs.bounds.Contention.{lost_of}
 use Rattle.sound_state.specs.Sums.{callers_sum}
 use Rattle.sound_state.proofs.shared.SumLemmas.{term-sum}
 use Rattle.step_machine.specs.Cores.{CoreFields, errand_at}

@@ -24,10 +24,10 @@ use Rattle.errand_steps.specs.Steps.{State, event_at, found_at, with_event}
 use Rattle.errand_steps.proofs.EventLemmas.{event_own}
 use Rattle.sound_state.specs.Moves.{is_step}
 use Rattle.sound_state.specs.Runs.{Move, begins, steps}
-use Rattle.call_bounds.specs.Contention.{lost_of}
+use Rattle.sound_laws.specs.bounds.Contention.{lost_of}
 use Rattle.sound_state.specs.Sums.{callers_sum}
 use Rattle.sound_state.proofs.shared.SumLemmas.{term-sum}
-use Rattle.call_bounds.proofs.CountLemmas.{count-append}
+use Rattle.sound_laws.proofs.bounds_lemmas.CountLemmas.{count-append}
 use Rattle.step_machine.specs.Cores.{CoreFields, IsCore, errand_at, state_of}
 use Rattle.step_machine.specs.Openings.{IsOpened}
 use Rattle.lane_engine.specs.declared.grip.Grip.{Grip}

@@ -17,7 +17,7 @@ use Rattle.trace_text.specs.declared.trace.Op.{Op}
 use Rattle.trace_text.specs.declared.trace.Trace.{Trace}
 use Rattle.errand_steps.specs.Begins.{IsIdle}
 use Rattle.errand_steps.specs.Calls.{Call}
-use Rattle.call_bounds.proofs.CountLemmas.{count-append}
+use Rattle.sound_laws.proofs.bounds_lemmas.CountLemmas.{count-append}
 use Rattle.sound_state.specs.Moves.{is_step}
 use Rattle.sound_state.specs.Runs.{Move, Moved, begins, steps}
 use Rattle.step_machine.specs.Cores.{CoreFields, errand_at, state_of}

@@ -10,13 +10,13 @@ use Rattle.pool_model.proofs.HistoryLemmas.{own-append}
 use Rattle.pool_model.proofs.OwnerLemmas.{own-none}
 use Rattle.trace_text.specs.declared.trace.Op.{Op}
 use Rattle.trace_text.specs.declared.trace.Op.TheVariants as op
-use Rattle.large_parts.specs.declared.point.LargePoint.TheVariants as large
-use Rattle.superblock_parts.specs.declared.point.BlockPoint.{BlockPoint}
-use Rattle.superblock_parts.specs.declared.point.BlockPoint.TheVariants as block
+use Rattle.step_parts.specs.declared.large.point.LargePoint.TheVariants as large
+use Rattle.step_parts.specs.declared.superblock.point.BlockPoint.{BlockPoint}
+use Rattle.step_parts.specs.declared.superblock.point.BlockPoint.TheVariants as block
 use Rattle.word_table.specs.Seats.{SeatFields}
-use Rattle.stack_parts.specs.Points.{seat_of_stack}
-use Rattle.hazard_parts.specs.Points.{seat_of_desc}
-use Rattle.partial_parts.specs.Points.{seat_of_partial}
+use Rattle.step_parts.specs.stack.Points.{seat_of_stack}
+use Rattle.step_parts.specs.hazard.Points.{seat_of_desc}
+use Rattle.step_parts.specs.partial.Points.{seat_of_partial}
 use Rattle.pool_model.specs.declared.event.Event.TheVariants.{Take, TakeNone}
 use Rattle.errand_steps.specs.declared.continuation.Continuation.{Continuation}
 use Rattle.errand_steps.specs.declared.continuation.Continuation.TheVariants as continuation
@@ -32,20 +32,20 @@ use Rattle.errand_steps.specs.Steps.{State, Step, event_at, found_at, with_event
 use Rattle.errand_steps.proofs.EventLemmas.{event_own}
 use Rattle.errand_steps.specs.tables.Blocks.{block_stage}
 use Rattle.errand_steps.specs.tables.CallStage.{continuation_stage}
-use Rattle.call_events.specs.UnderWay.{IsUnderWay, SoFar}
-use Rattle.call_bounds.specs.Alone.{alone_left, class_at, clearings, emptied_for, stale_words}
-use Rattle.call_bounds.specs.Expectations.{expects_of}
+use Rattle.sound_laws.specs.events.UnderWay.{IsUnderWay, SoFar}
+use Rattle.sound_laws.specs.bounds.Alone.{alone_left, class_at, clearings, emptied_for, stale_words}
+use Rattle.sound_laws.specs.bounds.Expectations.{expects_of}
 use Rattle.sound_state.specs.TurnStages.{in_turn}
-use Rattle.call_bounds.proofs.BegunWins.{begun-expects}
+use Rattle.sound_laws.proofs.bounds_lemmas.BegunWins.{begun-expects}
 use Rattle.std.specs.Prelude.{count_by}
 use Rattle.sound_state.specs.Moves.{is_step}
 use Rattle.sound_state.specs.Runs.{BeginsCall, Move, begins, steps}
 use Rattle.sound_state.specs.Sound.{IsSound}
-use Rattle.call_bounds.specs.StepsLeft.{steps_left}
+use Rattle.sound_laws.specs.bounds.StepsLeft.{steps_left}
 use Rattle.sound_state.specs.Turns.{one_if}
-use Rattle.call_bounds.proofs.AloneLemmas.{alone-falls, alone-stale}
-use Rattle.call_bounds.proofs.RunsAlone.{alone-below}
-use Rattle.call_bounds.proofs.StaleLemmas.{none-stale}
+use Rattle.sound_laws.proofs.bounds_lemmas.AloneLemmas.{alone-falls, alone-stale}
+use Rattle.sound_laws.proofs.bounds_lemmas.RunsAlone.{alone-below}
+use Rattle.sound_laws.proofs.bounds_lemmas.StaleLemmas.{none-stale}
 use Rattle.step_machine.specs.Cores.{CoreFields, IsCore, errand_at, state_of}
 use Rattle.step_machine.proofs.CoreLemmas.{core-sound}
 use Rattle.lane_engine.specs.declared.grip.Grip.{Grip}

@@ -24,7 +24,7 @@ use Rattle.trace_text.specs.declared.limits.TheConstants.{REGISTERS}
 use Rattle.trace_text.specs.declared.trace.Op.{Op}
 use Rattle.trace_text.specs.declared.trace.Op.TheVariants as op
 use Rattle.trace_text.specs.Traces.{IsOp}
-use Rattle.call_events.specs.Made.{LeadsBy, Made, answered, found_from, wrote}
+use Rattle.sound_laws.specs.events.Made.{LeadsBy, Made, answered, found_from, wrote}
 use Rattle.pass_calls.specs.declared.over_pass.PassCalls.{PassCalls}
 use Rattle.lane_outcomes.specs.declared.registers.Held.{Held}
 use Rattle.lane_outcomes.specs.declared.outcome.Outcome.{Outcome}

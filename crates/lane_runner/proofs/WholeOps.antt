@@ -18,8 +18,8 @@ use Rattle.errand_steps.specs.declared.told.Ending.TheVariants as ending
 use Rattle.errand_steps.specs.declared.told.Stepped.TheVariants as stepped
 use Rattle.errand_steps.specs.Offers.{offered_at}
 use Rattle.errand_steps.specs.Told.{GivesBack, ended_as}
-use Rattle.call_events.specs.UnderWay.{IsUnderWay}
-use Rattle.call_events.proofs.OfferLemmas.{put-offers}
+use Rattle.sound_laws.specs.events.UnderWay.{IsUnderWay}
+use Rattle.sound_laws.proofs.events_lemmas.OfferLemmas.{put-offers}
 use Rattle.step_machine.specs.Cores.{OwnsAfter}
 use Rattle.step_machine.specs.Moments.{IsMoment, IsServed}
 use Rattle.step_machine.proofs.MomentAnswers.{moment-caller}

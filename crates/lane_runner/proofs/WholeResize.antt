@@ -32,9 +32,9 @@ use Rattle.errand_steps.specs.declared.reply.Reply.{Reply}
 use Rattle.errand_steps.specs.declared.reply.Reply.TheVariants as reply
 use Rattle.errand_steps.specs.declared.told.Ending.TheVariants as ending
 use Rattle.errand_steps.specs.declared.told.Stepped.TheVariants as stepped
-use Rattle.call_events.specs.Ends.{HasEnded, end_of}
-use Rattle.call_events.specs.Made.{LeadsBy, Made, answered}
-use Rattle.call_events.specs.UnderWay.{IsUnderWay}
+use Rattle.sound_laws.specs.events.Ends.{HasEnded, end_of}
+use Rattle.sound_laws.specs.events.Made.{LeadsBy, Made, answered}
+use Rattle.sound_laws.specs.events.UnderWay.{IsUnderWay}
 use Rattle.step_machine.specs.Moments.{IsMoment, IsServed}
 use Rattle.live_heap.specs.Heaps.{HeapFields}
 use Rattle.live_heap.specs.declared.pass.Pass.{Pass}

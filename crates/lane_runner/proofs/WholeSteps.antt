@@ -17,8 +17,8 @@ use Rattle.errand_steps.specs.declared.reply.Reply.{Reply}
 use Rattle.errand_steps.specs.declared.told.Stepped.{Stepped}
 use Rattle.errand_steps.specs.declared.told.Stepped.TheVariants as stepped
 use Rattle.errand_steps.proofs.AnswerLemmas.{done-told}
-use Rattle.call_events.specs.UnderWay.{IsUnderWay}
-use Rattle.call_events.proofs.BeginsLemmas.{too_large-stays, spent-begins}
+use Rattle.sound_laws.specs.events.UnderWay.{IsUnderWay}
+use Rattle.sound_laws.proofs.events_lemmas.BeginsLemmas.{too_large-stays, spent-begins}
 use Rattle.sound_state.proofs.CountedLemmas.{steps-counted}
 use Rattle.step_machine.specs.Moments.{IsMoment}
 use Rattle.live_heap.specs.Heaps.{HeapFields}

@@ -20,7 +20,7 @@ use Rattle.live_heap.specs.Whole.{IsAtRest, MadeByPass, by_steps, at_once}
 use Rattle.trace_text.specs.declared.limits.TheConstants.{REGISTERS}
 use Rattle.trace_text.specs.declared.trace.Op.{Op}
 use Rattle.trace_text.specs.declared.trace.Op.TheVariants as op
-use Rattle.call_events.specs.Made.{LeadsBy, Made, answered, found_from}
+use Rattle.sound_laws.specs.events.Made.{LeadsBy, Made, answered, found_from}
 use Rattle.lane_outcomes.specs.declared.registers.Held.{Held}
 use Rattle.lane_outcomes.specs.declared.outcome.Outcome.{Outcome}
 use Rattle.lane_outcomes.specs.declared.outcome.Outcome.TheVariants as outcome

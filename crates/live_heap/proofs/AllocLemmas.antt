@@ -2,8 +2,8 @@
 use Rattle.std.proofs.Common.{ℕ, Option, None, Some, false, ◌≡◌, ◌≢◌, refl, arith}
 use Rattle.heap_geometry.specs.Need.{need_of}
 use Rattle.heap_geometry.specs.declared.need.Need.TheVariants.{Small}
-use Rattle.superblock_parts.specs.declared.point.BlockPoint.{BlockPoint}
-use Rattle.superblock_parts.specs.declared.point.BlockPoint.TheVariants.{LoadActive}
+use Rattle.step_parts.specs.declared.superblock.point.BlockPoint.{BlockPoint}
+use Rattle.step_parts.specs.declared.superblock.point.BlockPoint.TheVariants.{LoadActive}
 use Rattle.errand_steps.specs.declared.continuation.Continuation.TheVariants.{Alloc}
 use Rattle.errand_steps.specs.declared.reply.Begun.TheVariants as begun
 use Rattle.errand_steps.specs.declared.told.Ending.{Ending}

@@ -3,7 +3,7 @@ use Rattle.std.proofs.Common.{ℕ, ◌≡◌, ◌<◌, ◌*◌, ◌-◌, length,
 use Rattle.heap_geometry.specs.declared.geometry.Geometry.{Geometry}
 use Rattle.errand_steps.specs.Errands.{ErrandFields}
 use Rattle.errand_steps.specs.Steps.{State}
-use Rattle.call_bounds.specs.Contention.{lost_of}
+use Rattle.sound_laws.specs.bounds.Contention.{lost_of}
 use Rattle.sound_state.specs.Sums.{callers_sum, sum_below}
 use Rattle.step_machine.specs.Cores.{IsReached}
 use Rattle.step_machine.proofs.CoreLemmas.{run-won}

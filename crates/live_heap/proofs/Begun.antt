@@ -12,7 +12,7 @@ use Rattle.pool_model.proofs.PoolLemmas.{every-each, place-found}
 use Rattle.pool_model.proofs.WellFormedLemmas.{sound-of}
 use Rattle.errand_steps.specs.Begins.{IsIdle, IsHeapBlock, alloc_begun, free_begun, write_begun, read_begun, put_begun, take_begun}
 use Rattle.errand_steps.specs.Calls.{Call, alloc, free, put, read, take, write, begun_by}
-use Rattle.call_events.specs.UnderWay.{IsAboutBlock}
+use Rattle.sound_laws.specs.events.UnderWay.{IsAboutBlock}
 use Rattle.errand_steps.specs.Errands.{ErrandFields, IsErrand}
 use Rattle.sound_state.specs.Runs.{MayBegin}
 use Rattle.step_machine.specs.Cores.{OwnsAfter}

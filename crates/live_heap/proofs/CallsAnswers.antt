@@ -19,8 +19,8 @@ use Rattle.errand_steps.specs.Begins.{alloc_answer, begins_with, alloc_begun, fr
 use Rattle.errand_steps.specs.Calls.{Call, alloc, free, begun_by}
 use Rattle.errand_steps.specs.Errands.{ErrandFields}
 use Rattle.errand_steps.proofs.SpentLemmas.{begins-at_limit}
-use Rattle.call_events.specs.Ends.{end_of}
-use Rattle.call_events.proofs.BeginsLemmas.{too_large-stays, spent-begins}
+use Rattle.sound_laws.specs.events.Ends.{end_of}
+use Rattle.sound_laws.proofs.events_lemmas.BeginsLemmas.{too_large-stays, spent-begins}
 use Rattle.step_machine.specs.Cores.{OwnsAfter}
 use Rattle.step_machine.specs.Moments.{IsMoment}
 use Rattle.step_machine.proofs.MomentAnswers.{moment-geometry, moment-given, moment-got, moment-meant}

@@ -14,8 +14,8 @@ use Rattle.errand_steps.specs.Begins.{IsBusy}
 use Rattle.errand_steps.specs.Calls.{Call}
 use Rattle.errand_steps.specs.Errands.{ErrandFields, settle_of, answer_of, counts_lost, counts_cleared, course_of, raised, told}
 use Rattle.errand_steps.proofs.AnswerLemmas.{lost-told, cleared-told}
-use Rattle.call_bounds.specs.StepsLeft.{steps_left}
-use Rattle.call_bounds.proofs.LeftMost.{left-most}
+use Rattle.sound_laws.specs.bounds.StepsLeft.{steps_left}
+use Rattle.sound_laws.proofs.bounds_lemmas.LeftMost.{left-most}
 use Rattle.step_machine.specs.Moments.{IsMoment}
 use Rattle.live_heap.specs.Heaps.{HeapFields}
 use Rattle.live_heap.specs.declared.pass.Pass.{Pass}

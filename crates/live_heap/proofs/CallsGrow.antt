@@ -21,15 +21,15 @@ use Rattle.errand_steps.specs.declared.reply.Progress.TheVariants.{Done}
 use Rattle.errand_steps.specs.declared.reply.Reply.{Reply}
 use Rattle.errand_steps.proofs.AnswerLemmas.{done-told}
 use Rattle.errand_steps.proofs.EventLemmas.{event_own}
-use Rattle.call_events.specs.Ends.{HasEnded}
-use Rattle.call_events.specs.UnderWay.{IsAboutBlock, IsUnderWay}
-use Rattle.call_events.proofs.AnswerLemmas.{step-goes_on, step-ends}
-use Rattle.call_events.proofs.BeginsLemmas.{call-begins, started-busy, other-busy}
-use Rattle.call_bounds.specs.StepsLeft.{steps_left}
+use Rattle.sound_laws.specs.events.Ends.{HasEnded}
+use Rattle.sound_laws.specs.events.UnderWay.{IsAboutBlock, IsUnderWay}
+use Rattle.sound_laws.proofs.events_lemmas.AnswerLemmas.{step-goes_on, step-ends}
+use Rattle.sound_laws.proofs.events_lemmas.BeginsLemmas.{call-begins, started-busy, other-busy}
+use Rattle.sound_laws.specs.bounds.StepsLeft.{steps_left}
 use Rattle.sound_state.proofs.CountedLemmas.{without-counts}
-use Rattle.call_bounds.proofs.LeftMost.{left-most}
-use Rattle.call_bounds.proofs.LeftSteps.{steps-go_on}
-use Rattle.call_events.proofs.OwnEvents.{own-with_event, added-event}
+use Rattle.sound_laws.proofs.bounds_lemmas.LeftMost.{left-most}
+use Rattle.sound_laws.proofs.bounds_lemmas.LeftSteps.{steps-go_on}
+use Rattle.sound_laws.proofs.events_lemmas.OwnEvents.{own-with_event, added-event}
 use Rattle.sound_state.proofs.shared.ClearedLemmas.{cleared-far}
 use Rattle.step_machine.specs.Moments.{IsMoment}
 use Rattle.step_machine.proofs.MomentAnswers.{moment-own_after, settle-caller}

@@ -10,10 +10,10 @@ use Rattle.packed_words.specs.declared.shelf.ShelfWord.TheVariants as lies
 use Rattle.packed_words.specs.Shelf.{shelf_of, shelf_word}
 use Rattle.word_table.specs.Actions.{is_won}
 use Rattle.word_table.specs.declared.action.Found.{Found as Find}
-use Rattle.large_parts.specs.declared.exit.LargeExit.TheVariants as large_exit
-use Rattle.large_parts.specs.declared.point.LargePoint.{LargePoint}
-use Rattle.large_parts.specs.declared.point.LargePoint.TheVariants as large
-use Rattle.large_parts.specs.Points.{after_shelf}
+use Rattle.step_parts.specs.declared.large.exit.LargeExit.TheVariants as large_exit
+use Rattle.step_parts.specs.declared.large.point.LargePoint.{LargePoint}
+use Rattle.step_parts.specs.declared.large.point.LargePoint.TheVariants as large
+use Rattle.step_parts.specs.large.Points.{after_shelf}
 use Rattle.pool_model.specs.declared.event.Event.{Event}
 use Rattle.pool_model.specs.declared.owner.Owner.TheVariants.{Shelf}
 use Rattle.pool_model.specs.Pool.{Block as PoolBlock, block_at, pool_of}
@@ -36,10 +36,10 @@ use Rattle.errand_steps.specs.Calls.{Call, begun_by, write, read, put, take}
 use Rattle.errand_steps.specs.Errands.{ErrandFields, after_list, after_turn, answer_of, counts_cleared, counts_lost, counts_won, course_of, one_more, plan_of, settle_of, told as told_by}
 use Rattle.errand_steps.specs.Nexts.{leave_large, next_of}
 use Rattle.errand_steps.specs.Points.{plan_point_of}
-use Rattle.call_events.specs.UnderWay.{IsUnderWay}
-use Rattle.call_events.proofs.OfferLemmas.{put-offers}
+use Rattle.sound_laws.specs.events.UnderWay.{IsUnderWay}
+use Rattle.sound_laws.proofs.events_lemmas.OfferLemmas.{put-offers}
 use Rattle.sound_state.specs.Answers.{StandsAt}
-use Rattle.call_bounds.specs.StepsLeft.{steps_left}
+use Rattle.sound_laws.specs.bounds.StepsLeft.{steps_left}
 use Rattle.errand_steps.proofs.BegunErrands.{idle-is}
 use Rattle.step_machine.specs.Cores.{OwnsAfter}
 use Rattle.step_machine.specs.Moments.{IsMoment}

@@ -22,10 +22,10 @@ use Rattle.pool_model.specs.Owned.{if_of}
 use Rattle.errand_steps.specs.declared.reply.Reply.{Reply}
 use Rattle.errand_steps.specs.declared.reply.Reply.TheVariants as reply
 use Rattle.errand_steps.specs.Calls.{Call, alloc, free, put, read, take, write}
-use Rattle.call_events.specs.Ends.{HasEnded, end_of}
+use Rattle.sound_laws.specs.events.Ends.{HasEnded, end_of}
 use Rattle.errand_steps.specs.tables.CallStage.{StageOfCall, asking, asking_run, freed, freeing, given, putting, reading, refused, taking, writing}
-use Rattle.call_events.specs.Stages.{stage_of}
-use Rattle.call_events.specs.UnderWay.{HasLooked, SoFar}
+use Rattle.sound_laws.specs.events.Stages.{stage_of}
+use Rattle.sound_laws.specs.events.UnderWay.{HasLooked, SoFar}
 use Rattle.live_heap.specs.Heaps.{HeapFields}
 use Rattle.live_heap.specs.declared.pass.Pass.{Pass}
 use Rattle.live_heap.specs.Calls.{HasCalled, IsCalling}

@@ -16,10 +16,10 @@ use Rattle.atomic_region.specs.Region as region
 use Rattle.atomic_region.specs.Region.{with_number, Goes}
 use Rattle.atomic_region.specs.Region.Act.{keeps, takes, gives}
 use Rattle.sound_state.proofs.CountedLemmas.{without-counts}
-use Rattle.first_uses.specs.Pieces.{piece_count, piece_start, piece_words}
+use Rattle.sound_laws.specs.uses.Pieces.{piece_count, piece_start, piece_words}
 use Rattle.errand_steps.specs.Openers.{Opens}
-use Rattle.first_uses.proofs.Opened.{opened-by_one}
-use Rattle.first_uses.proofs.PieceLemmas.{word-inside}
+use Rattle.sound_laws.proofs.uses_lemmas.Opened.{opened-by_one}
+use Rattle.sound_laws.proofs.uses_lemmas.PieceLemmas.{word-inside}
 use Rattle.step_machine.proofs.CoreLemmas.{run-sound}
 use Rattle.pool_model.specs.declared.event.Event.{Event}
 use Rattle.live_heap.specs.declared.view.Lent.{Lent}

@@ -21,8 +21,8 @@ use Rattle.placed_words.proofs.WordsLemmas.{at-words_at, length-words_at}
 use Rattle.plain_words.specs.Places.{Place, laid, number, numbers, place_at, AllHere, IsLaid}
 use Rattle.atomic_region.specs.Region.{Final, Seen, State}
 use Rattle.errand_steps.specs.Begins.{IsIdle}
-use Rattle.first_uses.specs.Pieces.{piece_count, piece_of, piece_start}
-use Rattle.first_uses.proofs.PieceLemmas.{word-among}
+use Rattle.sound_laws.specs.uses.Pieces.{piece_count, piece_of, piece_start}
+use Rattle.sound_laws.proofs.uses_lemmas.PieceLemmas.{word-among}
 use Rattle.pool_model.specs.declared.event.Event.{Event}
 use Rattle.live_heap.specs.declared.view.Lent.{Lent}
 use Rattle.live_heap.specs.declared.view.Standing.{Standing}

@@ -9,7 +9,7 @@ use Rattle.pool_model.specs.declared.event.Event.{Event}
 use Rattle.errand_steps.specs.Errands.{ErrandFields, open_errand}
 use Rattle.errand_steps.specs.Openings.{opening}
 use Rattle.errand_steps.specs.Steps.{State}
-use Rattle.call_bounds.specs.Wins.{no_wins}
+use Rattle.sound_laws.specs.bounds.Wins.{no_wins}
 use Rattle.step_machine.specs.Cores.{IsReached}
 use Rattle.step_machine.specs.Moments.{IsServed}
 use Rattle.step_machine.proofs.MomentLemmas.{reached-served}

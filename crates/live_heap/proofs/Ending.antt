@@ -17,11 +17,11 @@ use Rattle.pool_model.specs.Legal.{IsLegal}
 use Rattle.errand_steps.specs.Begins.{IsIdle}
 use Rattle.errand_steps.specs.Errands.{ErrandFields}
 use Rattle.errand_steps.specs.Openings.{opening, IsOpening}
-use Rattle.call_bounds.specs.Contention.{is_by, lost_of, won_of}
+use Rattle.sound_laws.specs.bounds.Contention.{is_by, lost_of, won_of}
 use Rattle.sound_state.specs.Moves.{is_step_of}
 use Rattle.sound_state.specs.Sums.{callers_sum}
-use Rattle.call_bounds.specs.Wins.{Win}
-use Rattle.call_bounds.proofs.CountLemmas.{count-append}
+use Rattle.sound_laws.specs.bounds.Wins.{Win}
+use Rattle.sound_laws.proofs.bounds_lemmas.CountLemmas.{count-append}
 use Rattle.step_machine.specs.Cores.{IsReached, errand_at, no_errand}
 use Rattle.step_machine.proofs.CoreLemmas.{run-sound, run-won}
 use Rattle.live_heap.specs.declared.pass.Pass.{Pass}

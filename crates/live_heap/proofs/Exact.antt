@@ -16,8 +16,8 @@ use Rattle.errand_steps.specs.declared.reply.Reply.{Reply}
 use Rattle.errand_steps.specs.declared.reply.Reply.TheVariants as reply
 use Rattle.errand_steps.specs.Calls.{Call, alloc, free, put, take, write}
 use Rattle.errand_steps.specs.tables.CallStage.{StageOfCall, freed, given}
-use Rattle.call_events.specs.Stages.{stage_of}
-use Rattle.call_events.specs.UnderWay.{SoFar}
+use Rattle.sound_laws.specs.events.Stages.{stage_of}
+use Rattle.sound_laws.specs.events.UnderWay.{SoFar}
 use Rattle.step_machine.specs.Cores.{OwnsAfter}
 use Rattle.live_heap.specs.declared.block.Block.{Block}
 use Rattle.live_heap.specs.Heaps.{HeapFields}

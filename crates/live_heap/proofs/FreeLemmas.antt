@@ -2,8 +2,8 @@
 use Rattle.std.proofs.Common.{ℕ, Option, None, Some, ◌≡◌, refl}
 use Rattle.heap_geometry.specs.Place.{frame_of, index_of}
 use Rattle.heap_geometry.specs.declared.need.Need.TheVariants.{Small}
-use Rattle.superblock_parts.specs.declared.point.BlockPoint.{BlockPoint}
-use Rattle.superblock_parts.specs.declared.point.BlockPoint.TheVariants.{LoadPrefix}
+use Rattle.step_parts.specs.declared.superblock.point.BlockPoint.{BlockPoint}
+use Rattle.step_parts.specs.declared.superblock.point.BlockPoint.TheVariants.{LoadPrefix}
 use Rattle.errand_steps.specs.declared.continuation.Continuation.TheVariants.{Free}
 use Rattle.errand_steps.specs.declared.told.Ending.{Ending}
 use Rattle.errand_steps.specs.Begins.{IsHeapBlock, IsIdle, free_begun, seat_of}

@@ -2,11 +2,11 @@
 use Rattle.std.proofs.Common.{ℕ, suc, ◌≡◌, ◌≢◌, Bool, true, false, eq-eqb, ne_eqb, List, [], ◌∷◌, ◌++◌, length, Option, Some, None, refl, sym, ap, ◌∙◌, arith, length-append, append_assoc}
 use Rattle.std.specs.Prelude.{if◌then◌else◌, count_by, option_to_list}
 use Rattle.std.proofs.lemmas.List.{append-nil}
-use Rattle.call_bounds.specs.Contention.{is_by}
+use Rattle.sound_laws.specs.bounds.Contention.{is_by}
 use Rattle.sound_state.specs.Moves.{is_step_of}
 use Rattle.sound_state.specs.Runs.{Move, begins, steps}
-use Rattle.call_bounds.specs.Wins.{Win, win_at, win_list_after, offers}
-use Rattle.call_bounds.proofs.CountLemmas.{count-append}
+use Rattle.sound_laws.specs.bounds.Wins.{Win, win_at, win_list_after, offers}
+use Rattle.sound_laws.proofs.bounds_lemmas.CountLemmas.{count-append}
 use Rattle.errand_steps.specs.Calls.{Call}
 use Rattle.errand_steps.specs.Errands.{counts_won}
 use Rattle.errand_steps.specs.Steps.{State, action_at, found_at, name_at}

@@ -1,7 +1,7 @@
 -- A call that was made without an errand, and goes on by it.
 use Rattle.std.proofs.Common.{ℕ, ◌≡◌, ◌<◌, ◌-◌, inl, inr, Option, None, Some, refl, sym, ap, ◌∙◌, subst, arith}
 use Rattle.word_table.specs.declared.action.Found.{Found as Find}
-use Rattle.superblock_parts.specs.declared.point.BlockPoint.{BlockPoint}
+use Rattle.step_parts.specs.declared.superblock.point.BlockPoint.{BlockPoint}
 use Rattle.errand_steps.specs.declared.continuation.Continuation.{Continuation}
 use Rattle.errand_steps.specs.declared.reply.Progress.{Progress}
 use Rattle.errand_steps.specs.declared.reply.Progress.TheVariants.{Idle, More, Lost, Cleared, Done}

@@ -16,7 +16,7 @@ use Rattle.errand_steps.specs.Calls.{Call, write, put, take}
 use Rattle.errand_steps.specs.Errands.{ErrandFields}
 use Rattle.errand_steps.specs.Steps.{State, event_at, found_at, with_event}
 use Rattle.errand_steps.proofs.EventLemmas.{event_own}
-use Rattle.call_events.specs.Ends.{HasEnded}
+use Rattle.sound_laws.specs.events.Ends.{HasEnded}
 use Rattle.sound_state.specs.Answers.{IsMeant}
 use Rattle.step_machine.specs.Moments.{IsMoment}
 use Rattle.step_machine.proofs.MomentAnswers.{moment-caller, moment-meant}

@@ -2,11 +2,11 @@
 use Rattle.std.proofs.Common.{ℕ, ◌<◌, ◌≤◌, ◌+◌, ◌*◌, length, arith, subst}
 use Rattle.std.specs.Prelude.{◌-◌, ◌^◌, count_by}
 use Rattle.pool_model.specs.Legal.{IsLegal}
-use Rattle.call_bounds.specs.Contention.{lost_of, won_of}
+use Rattle.sound_laws.specs.bounds.Contention.{lost_of, won_of}
 use Rattle.sound_state.specs.Sound.{IsSound}
 use Rattle.sound_state.specs.Sums.{callers_sum}
 use Rattle.sound_state.specs.Turns.{gives_small, refuses_small}
-use Rattle.call_bounds.proofs.LossLemmas.{losses-bounded}
+use Rattle.sound_laws.proofs.bounds_lemmas.LossLemmas.{losses-bounded}
 use Rattle.step_machine.specs.Cores.{errand_at, state_of}
 use Rattle.step_machine.proofs.CoreLemmas.{core-sound, run-won}
 use Rattle.live_heap.specs.Endings.{ClosedFields, IsResting, machine_of}

@@ -24,8 +24,8 @@ use Rattle.errand_steps.specs.declared.reply.Reply.TheVariants as reply
 use Rattle.errand_steps.specs.Calls.{Call, alloc, free, write, read, put, take, begun_by}
 use Rattle.errand_steps.specs.Errands.{ErrandFields}
 use Rattle.errand_steps.specs.Steps.{event_at}
-use Rattle.call_events.specs.Ends.{HasEnded, end_of}
-use Rattle.call_events.specs.Stages.{stage_of}
+use Rattle.sound_laws.specs.events.Ends.{HasEnded, end_of}
+use Rattle.sound_laws.specs.events.Stages.{stage_of}
 use Rattle.step_machine.specs.Cores.{OwnsAfter}
 use Rattle.step_machine.specs.Keeping.{AllSpare, LeavesPlace, LeavesAtEnd}
 use Rattle.step_machine.specs.Moments.{IsMoment}

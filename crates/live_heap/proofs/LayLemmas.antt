@@ -7,7 +7,7 @@ use prog.Atomic.{either}
 use Rattle.heap_geometry.specs.declared.geometry.Geometry.{Geometry}
 use Rattle.plain_words.specs.Places.{Place, blanks, laids, AllHere}
 use Rattle.placed_words.specs.Places.{placed_count}
-use Rattle.first_uses.specs.Pieces.{piece_count, piece_start, piece_words}
+use Rattle.sound_laws.specs.uses.Pieces.{piece_count, piece_start, piece_words}
 use Rattle.atomic_region.specs.Region as region
 use Rattle.atomic_region.specs.Region.{Me, Range, rest}
 use Rattle.errand_steps.specs.declared.point.Pieces.{Pieces}

@@ -33,7 +33,7 @@ use Rattle.pool_model.specs.Pool.{Block, block_at, pool_of}
 use Rattle.pool_model.proofs.HistoryLemmas.{legal-weaker}
 use Rattle.pool_model.proofs.OwnerLemmas.{others-keep_all}
 use Rattle.pool_model.proofs.PoolLemmas.{place-found}
-use Rattle.large_parts.specs.declared.point.LargePoint.TheVariants as large
+use Rattle.step_parts.specs.declared.large.point.LargePoint.TheVariants as large
 use Rattle.errand_steps.specs.declared.continuation.Continuation.TheVariants.{Nothing}
 use Rattle.errand_steps.specs.declared.point.Point.TheVariants as point
 use Rattle.errand_steps.specs.Begins.{IsHeapBlock, IsIdle, read_begun}
@@ -48,10 +48,10 @@ use Rattle.sound_state.proofs.CountedLemmas.{without-counts}
 use Rattle.sound_state.proofs.shared.ListFacts.{written-within}
 use Rattle.sound_state.proofs.shared.OverlapLemmas.{formed-at, live-apart}
 use Rattle.sound_state.proofs.shared.TieLemmas.{one-live}
-use Rattle.first_uses.specs.Pieces.{piece_of}
-use Rattle.first_uses.specs.Uses.{IsUnused}
-use Rattle.first_uses.proofs.InUse.{InUse, point-in_use}
-use Rattle.first_uses.proofs.PieceLemmas.{word-among}
+use Rattle.sound_laws.specs.uses.Pieces.{piece_of}
+use Rattle.sound_laws.specs.uses.Uses.{IsUnused}
+use Rattle.sound_laws.proofs.uses_lemmas.InUse.{InUse, point-in_use}
+use Rattle.sound_laws.proofs.uses_lemmas.PieceLemmas.{word-among}
 use Rattle.step_machine.specs.Cores.{OwnsAfter, made_with}
 use Rattle.step_machine.proofs.CoreLemmas.{run-longer, run-sound}
 use Rattle.live_heap.specs.declared.view.Lent.{Lent}

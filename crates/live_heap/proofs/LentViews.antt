@@ -9,8 +9,8 @@ use Rattle.atomic_table.proofs.Lists.{at_set, set_else, set_here}
 use Rattle.heap_geometry.specs.declared.geometry.Geometry.{Geometry}
 use Rattle.word_table.specs.Occurs.{occurs}
 use Rattle.plain_words.specs.Places.{Place, laid, place_at}
-use Rattle.first_uses.specs.Pieces.{piece_count, piece_of}
-use Rattle.first_uses.proofs.PieceLemmas.{word-among}
+use Rattle.sound_laws.specs.uses.Pieces.{piece_count, piece_of}
+use Rattle.sound_laws.proofs.uses_lemmas.PieceLemmas.{word-among}
 use Rattle.live_heap.specs.declared.view.Lent.{Lent}
 use Rattle.live_heap.specs.declared.view.View.{View}
 use Rattle.live_heap.specs.Lending.{with_lent}

@@ -25,10 +25,10 @@ use Rattle.atomic_region.specs.Region.{with_number, Goes}
 use Rattle.atomic_region.specs.Region.Act.{keeps}
 use Rattle.errand_steps.specs.Begins.{IsBusy}
 use Rattle.errand_steps.specs.Errands.{ErrandFields, plan_of}
-use Rattle.first_uses.specs.Pieces.{piece_count, piece_of, piece_start, piece_words}
+use Rattle.sound_laws.specs.uses.Pieces.{piece_count, piece_of, piece_start, piece_words}
 use Rattle.errand_steps.specs.Openers.{Opens}
-use Rattle.first_uses.specs.Uses.{IsUnused}
-use Rattle.first_uses.proofs.PieceLemmas.{word-inside, word-among}
+use Rattle.sound_laws.specs.uses.Uses.{IsUnused}
+use Rattle.sound_laws.proofs.uses_lemmas.PieceLemmas.{word-inside, word-among}
 use Rattle.heap_geometry.specs.Need.{usable_words}
 use Rattle.pool_model.specs.declared.event.Event.{Event}
 use Rattle.pool_model.specs.declared.owner.Owner.TheVariants.{Caller}

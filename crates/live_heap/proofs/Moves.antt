@@ -38,7 +38,7 @@ use Rattle.sound_state.specs.Recalls.{IsOwned}
 use Rattle.sound_state.specs.Moves.{is_step_of}
 use Rattle.sound_state.specs.Runs.{MayBegin, BeginsCall, Move, begins, steps}
 use Rattle.sound_state.specs.Sound.{IsSound, IsOwnErrand}
-use Rattle.call_bounds.specs.Wins.{Win, Wins, win_list_after, win_at}
+use Rattle.sound_laws.specs.bounds.Wins.{Win, Wins, win_list_after, win_at}
 use Rattle.owned_words.specs.Accesses.{AccessesWord}
 use Rattle.owned_words.specs.Leaving.{concerned}
 use Rattle.owned_words.proofs.GivenAway.{stays-unconcerned}
@@ -58,11 +58,11 @@ use Rattle.live_heap.specs.Lending.{with_lent}
 use Rattle.live_heap.specs.Sights.{IsBegun, TakesStep, after_events, found_in}
 use Rattle.live_heap.specs.Shelves.{AllowedWords, AlwaysByRule, PutsByRule}
 use Rattle.sound_state.proofs.CountedLemmas.{without-counts}
-use Rattle.first_uses.specs.Pieces.{piece_of}
+use Rattle.sound_laws.specs.uses.Pieces.{piece_of}
 use Rattle.errand_steps.specs.Openers.{Opens}
-use Rattle.first_uses.specs.Uses.{IsUnused}
-use Rattle.first_uses.proofs.InUse.{InUse, point-in_use}
-use Rattle.first_uses.proofs.Leaving.{unused-stays}
+use Rattle.sound_laws.specs.uses.Uses.{IsUnused}
+use Rattle.sound_laws.proofs.uses_lemmas.InUse.{InUse, point-in_use}
+use Rattle.sound_laws.proofs.uses_lemmas.Leaving.{unused-stays}
 use Rattle.live_heap.proofs.Alone.{reached-alone}
 use Rattle.live_heap.proofs.ShelvesKept.{always-step}
 use Rattle.live_heap.proofs.Growing.{IsBy, begin-uncounted, own-between, own-gone, own-others, rest-none, starts-event, starts-more, starts-self, step-counted, steps-others, wins-others}

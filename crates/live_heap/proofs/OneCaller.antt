@@ -6,8 +6,8 @@ use Rattle.heap_geometry.specs.declared.geometry.Geometry.{Geometry}
 use Rattle.heap_geometry.specs.declared.need.Need.{Need}
 use Rattle.word_table.specs.declared.action.Found.{Found as Find}
 use Rattle.word_table.specs.declared.seat.Site.{Site}
-use Rattle.partial_parts.specs.declared.point.PartialPoint.TheVariants as partial
-use Rattle.partial_parts.specs.Points.{seat_of_partial}
+use Rattle.step_parts.specs.declared.partial.point.PartialPoint.TheVariants as partial
+use Rattle.step_parts.specs.partial.Points.{seat_of_partial}
 use Rattle.pool_model.specs.declared.event.Event.{Event}
 use Rattle.errand_steps.specs.declared.continuation.Continuation.{Continuation}
 use Rattle.errand_steps.specs.declared.continuation.Continuation.TheVariants.{Alloc}
@@ -22,9 +22,9 @@ use Rattle.errand_steps.specs.Events.{event_of}
 use Rattle.errand_steps.specs.Fits.{FitsContinuation, FitsPoint}
 use Rattle.errand_steps.specs.Steps.{with_event}
 use Rattle.errand_steps.specs.tables.CallStage.{StageOfCall, asking, asking_run, refused, given, freeing, freed, writing, reading, putting, taking, none}
-use Rattle.call_events.specs.Stages.{stage_of}
-use Rattle.call_events.specs.UnderWay.{IsUnderWay, SoFar}
-use Rattle.call_events.proofs.AnswerLemmas.{step-goes_on}
+use Rattle.sound_laws.specs.events.Stages.{stage_of}
+use Rattle.sound_laws.specs.events.UnderWay.{IsUnderWay, SoFar}
+use Rattle.sound_laws.proofs.events_lemmas.AnswerLemmas.{step-goes_on}
 use Rattle.step_machine.specs.Moments.{IsMoment}
 use Rattle.step_machine.proofs.MomentAnswers.{settle-caller}
 use Rattle.live_heap.specs.declared.answers.FreeAnswer.TheVariants as free_answer

@@ -13,9 +13,9 @@ use Rattle.plain_words.specs.Places.{Place, laid, place_at, AllHere, IsHere}
 use Rattle.errand_steps.specs.Begins.{IsIdle}
 use Rattle.errand_steps.specs.Openings.{opening}
 use Rattle.step_machine.specs.Firsts.{IsTable}
-use Rattle.first_uses.specs.Pieces.{piece_count, piece_of, piece_start}
-use Rattle.first_uses.proofs.Opening.{unused-first}
-use Rattle.first_uses.proofs.PieceLemmas.{word-among, word-inside}
+use Rattle.sound_laws.specs.uses.Pieces.{piece_count, piece_of, piece_start}
+use Rattle.sound_laws.proofs.uses_lemmas.Opening.{unused-first}
+use Rattle.sound_laws.proofs.uses_lemmas.PieceLemmas.{word-among, word-inside}
 use Rattle.live_heap.specs.declared.view.Standing.{Standing}
 use Rattle.live_heap.specs.declared.view.View.{View}
 use Rattle.live_heap.specs.Pieces.{AreLaidOut, Status, mark_count, mark_of, place_as, shown}

@@ -13,11 +13,11 @@ use Rattle.word_table.specs.declared.name.WordName.{WordName}
 use Rattle.word_table.specs.declared.name.WordName.TheVariants.{FrameHead, ListHead}
 use Rattle.word_table.specs.Actions.{found_by, name_of}
 use Rattle.word_table.specs.Seats.{SeatFields}
-use Rattle.stack_parts.specs.declared.point.Pile.TheVariants.{Frames, Partials}
-use Rattle.stack_parts.specs.declared.point.StackPoint.TheVariants as stack
-use Rattle.large_parts.specs.declared.point.LargePoint.TheVariants as large
-use Rattle.large_parts.specs.Points.{after_take, first_wanted}
-use Rattle.large_parts.specs.Runs.{WantFields}
+use Rattle.step_parts.specs.declared.stack.point.Pile.TheVariants.{Frames, Partials}
+use Rattle.step_parts.specs.declared.stack.point.StackPoint.TheVariants as stack
+use Rattle.step_parts.specs.declared.large.point.LargePoint.TheVariants as large
+use Rattle.step_parts.specs.large.Points.{after_take, first_wanted}
+use Rattle.step_parts.specs.large.Runs.{WantFields}
 use Rattle.pool_model.specs.declared.event.Event.{Event}
 use Rattle.pool_model.specs.declared.event.Event.TheVariants as event
 use Rattle.errand_steps.specs.declared.continuation.Continuation.{Continuation}

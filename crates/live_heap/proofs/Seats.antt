@@ -18,7 +18,7 @@ use Rattle.word_table.proofs.NameLemmas.{exists-true, true-Exists}
 use Rattle.word_table.proofs.WordLemmas.{word_in-nowhere}
 use Rattle.step_machine.specs.Firsts.{IsTable}
 use Rattle.step_machine.proofs.FirstLemmas.{table-words}
-use Rattle.call_bounds.specs.Wins.{no_wins}
+use Rattle.sound_laws.specs.bounds.Wins.{no_wins}
 use Rattle.step_machine.specs.Cores.{IsReached, no_errand}
 use Rattle.live_heap.specs.declared.view.Standing.{Standing}
 use Rattle.live_heap.specs.declared.view.View.{View}

@@ -7,8 +7,8 @@ use Rattle.word_table.specs.Counts.{arena_words, word_count}
 use Rattle.placed_words.specs.Places.{placed_count}
 use Rattle.placed_words.proofs.PlaceLemmas.{place-least}
 use Rattle.plain_words.specs.Places.{Place, laid, place_at, put}
-use Rattle.first_uses.specs.Pieces.{piece_count, piece_of, piece_start, piece_words}
-use Rattle.first_uses.proofs.PieceLemmas.{below-true, beyond-false, word-inside, word-among}
+use Rattle.sound_laws.specs.uses.Pieces.{piece_count, piece_of, piece_start, piece_words}
+use Rattle.sound_laws.proofs.uses_lemmas.PieceLemmas.{below-true, beyond-false, word-inside, word-among}
 use Rattle.live_heap.specs.Pieces.{Status, mark_count, mark_of, place_as, mark_place, shown}
 use Rattle.live_heap.proofs.PutPlaces.{at-put_before, at-put_in, at-put_behind}
 

@@ -8,8 +8,8 @@ use Rattle.errand_steps.specs.Begins.{alloc_answer, IsIdle, put_begun, read_begu
 use Rattle.errand_steps.specs.Calls.{Call, alloc, begun_by, free, write, read, put, take}
 use Rattle.errand_steps.specs.Errands.{ErrandFields}
 use Rattle.errand_steps.specs.tables.CallStage.{StageOfCall, putting}
-use Rattle.call_events.specs.Stages.{stage_of}
-use Rattle.call_events.specs.UnderWay.{SoFar}
+use Rattle.sound_laws.specs.events.Stages.{stage_of}
+use Rattle.sound_laws.specs.events.UnderWay.{SoFar}
 use Rattle.owned_words.specs.Leaving.{concerned, concerned_at}
 use Rattle.owned_words.proofs.Concerned.{the-one}
 use Rattle.heap_geometry.specs.declared.need.Need.{Need}

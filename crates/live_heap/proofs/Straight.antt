@@ -11,7 +11,7 @@ use Rattle.word_table.specs.declared.action.Found.{Found as Find}
 use Rattle.word_table.specs.declared.name.WordName.TheVariants.{Arena}
 use Rattle.word_table.specs.Counts.{arena_words, word_count}
 use Rattle.word_table.specs.Table.{start_of, word_index, words_in}
-use Rattle.large_parts.specs.declared.point.LargePoint.TheVariants as large
+use Rattle.step_parts.specs.declared.large.point.LargePoint.TheVariants as large
 use Rattle.errand_steps.specs.declared.continuation.Continuation.TheVariants.{Nothing}
 use Rattle.errand_steps.specs.declared.point.Point.{Point}
 use Rattle.errand_steps.specs.declared.point.Point.TheVariants as point
@@ -26,7 +26,7 @@ use Rattle.errand_steps.specs.Nexts.{next_of}
 use Rattle.errand_steps.specs.Points.{plan_point_of}
 use Rattle.errand_steps.specs.Offers.{offered_at}
 use Rattle.errand_steps.specs.Told.{GivesBack}
-use Rattle.call_events.specs.UnderWay.{IsAboutBlock}
+use Rattle.sound_laws.specs.events.UnderWay.{IsAboutBlock}
 use Rattle.sound_state.specs.Runs.{MayBegin}
 use Rattle.errand_steps.proofs.BegunErrands.{idle-is}
 use Rattle.live_heap.specs.declared.block.Block.{Block}

@@ -9,7 +9,7 @@ use Rattle.plain_words.specs.Places.{Place, laid, laids, numbers}
 use Rattle.atomic_region.specs.Region.{Me, Range, rest}
 use Rattle.atomic_region.specs.declared.shared.Seat.{Seat}
 use Rattle.errand_steps.specs.Begins.{IsIdle}
-use Rattle.call_events.specs.Made.{LeadsBy}
+use Rattle.sound_laws.specs.events.Made.{LeadsBy}
 use Rattle.owned_words.proofs.Concerned.{idle-concerned}
 use Rattle.step_machine.specs.Cores.{OwnsAfter}
 use Rattle.live_heap.specs.Heaps.{HeapFields}

@@ -8,11 +8,11 @@ use Rattle.word_table.specs.declared.action.Found.{Found as Find}
 use Rattle.word_table.specs.declared.onward.Onward.{Onward}
 use Rattle.word_table.specs.declared.onward.Onward.TheVariants.{Stays, Leaves}
 use Rattle.word_table.specs.Onwards.{exit_by, point_by}
-use Rattle.superblock_parts.specs.declared.exit.BlockExit.{BlockExit}
-use Rattle.superblock_parts.specs.declared.point.BlockPoint.{BlockPoint}
-use Rattle.superblock_parts.specs.declared.point.BlockPoint.TheVariants as block
+use Rattle.step_parts.specs.declared.superblock.exit.BlockExit.{BlockExit}
+use Rattle.step_parts.specs.declared.superblock.point.BlockPoint.{BlockPoint}
+use Rattle.step_parts.specs.declared.superblock.point.BlockPoint.TheVariants as block
 use Rattle.heap_geometry.specs.declared.geometry.Geometry.{Geometry}
-use Rattle.superblock_parts.specs.Points.{plan_block_of, settle_block_of}
+use Rattle.step_parts.specs.superblock.Points.{plan_block_of, settle_block_of}
 use Rattle.errand_steps.specs.declared.continuation.Continuation.{Continuation}
 use Rattle.errand_steps.specs.declared.next.Next.TheVariants as next
 use Rattle.errand_steps.specs.declared.point.Point.{Point}

@@ -12,7 +12,7 @@ use Rattle.errand_steps.specs.declared.reply.Reply.TheVariants as reply
 use Rattle.errand_steps.specs.declared.told.Ending.TheVariants as ending
 use Rattle.errand_steps.specs.Begins.{IsIdle}
 use Rattle.errand_steps.specs.Calls.{Call, begun_by, write}
-use Rattle.call_events.specs.Made.{LeadsBy, answered, wrote}
+use Rattle.sound_laws.specs.events.Made.{LeadsBy, answered, wrote}
 use Rattle.step_machine.specs.Cores.{OwnsAfter}
 use Rattle.live_heap.specs.Heaps.{HeapFields}
 use Rattle.live_heap.specs.declared.pass.Pass.{Pass}

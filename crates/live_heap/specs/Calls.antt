@@ -9,8 +9,8 @@ use Rattle.errand_steps.specs.declared.reply.Reply.{Reply}
 use Rattle.errand_steps.specs.Begins.{IsBusy, IsIdle}
 use Rattle.errand_steps.specs.Calls.{Call, begun_by}
 use Rattle.errand_steps.specs.Errands.{ErrandFields}
-use Rattle.call_events.specs.Ends.{HasEnded}
-use Rattle.call_events.specs.UnderWay.{IsUnderWay}
+use Rattle.sound_laws.specs.events.Ends.{HasEnded}
+use Rattle.sound_laws.specs.events.UnderWay.{IsUnderWay}
 use Rattle.step_machine.specs.Moments.{IsMoment}
 use Rattle.live_heap.specs.declared.pass.Pass.{Pass}
 use Rattle.live_heap.specs.Passes.{accesses, seen, view}

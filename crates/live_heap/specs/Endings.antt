@@ -9,10 +9,10 @@ use Rattle.pool_model.specs.Histories.{Begins, own}
 use Rattle.errand_steps.specs.Begins.{IsIdle}
 use Rattle.errand_steps.specs.Errands.{ErrandFields}
 use Rattle.errand_steps.specs.Openings.{opening, IsOpening}
-use Rattle.call_bounds.specs.Contention.{lost_of, won_of}
+use Rattle.sound_laws.specs.bounds.Contention.{lost_of, won_of}
 use Rattle.sound_state.specs.Moves.{is_step_of}
 use Rattle.sound_state.specs.Sums.{callers_sum}
-use Rattle.call_bounds.specs.Wins.{Win}
+use Rattle.sound_laws.specs.bounds.Wins.{Win}
 use Rattle.step_machine.specs.Cores.{CoreFields, IsCore, errand_at, no_errand}
 use Rattle.live_heap.specs.Heaps.{HeapFields}
 use Rattle.live_heap.specs.declared.pass.Pass.{Pass}

@@ -3,9 +3,9 @@ use Rattle.std.specs.Prelude.{ℕ, Option, None, Some, ◌≡◌, ◌<◌, ◌�
 use Rattle.heap_geometry.specs.declared.limits.TheConstants.{CALL_STEPS}
 use Rattle.atomic_region.specs.declared.shared.Seat.{Seat}
 use Rattle.word_table.specs.declared.action.Found.{Found as Find}
-use Rattle.superblock_parts.specs.declared.point.BlockPoint.{BlockPoint}
-use Rattle.superblock_parts.specs.declared.point.BlockPoint.TheVariants as block
-use Rattle.superblock_parts.specs.declared.exit.BlockExit.{BlockExit}
+use Rattle.step_parts.specs.declared.superblock.point.BlockPoint.{BlockPoint}
+use Rattle.step_parts.specs.declared.superblock.point.BlockPoint.TheVariants as block
+use Rattle.step_parts.specs.declared.superblock.exit.BlockExit.{BlockExit}
 use Rattle.pool_model.specs.Histories.{Begins}
 use Rattle.errand_steps.specs.declared.continuation.Continuation.{Continuation}
 use Rattle.errand_steps.specs.declared.next.Next.TheVariants.{End}
@@ -16,7 +16,7 @@ use Rattle.errand_steps.specs.Offers.{offered_at}
 use Rattle.errand_steps.specs.Calls.{Call, begun_by}
 use Rattle.errand_steps.specs.Errands.{ErrandFields, IsErrand, answer_of, settle_of}
 use Rattle.errand_steps.specs.Nexts.{leave_block}
-use Rattle.call_bounds.specs.StepsLeft.{steps_left}
+use Rattle.sound_laws.specs.bounds.StepsLeft.{steps_left}
 use Rattle.live_heap.specs.declared.answers.AllocAnswer.{AllocAnswer}
 use Rattle.live_heap.specs.declared.answers.FreeAnswer.{FreeAnswer}
 use Rattle.live_heap.specs.declared.block.Block.{Block}

@@ -9,7 +9,7 @@ use Rattle.plain_words.specs.Lends.{with_words}
 use Rattle.plain_words.specs.Places.{laids}
 use Rattle.errand_steps.specs.declared.reply.Reply.TheVariants as reply
 use Rattle.errand_steps.specs.Calls.{write}
-use Rattle.call_events.specs.Made.{Made, answered}
+use Rattle.sound_laws.specs.events.Made.{Made, answered}
 use Rattle.live_heap.specs.Heaps.{HeapFields}
 use Rattle.live_heap.specs.declared.plain.Memory.{Memory}
 use Rattle.live_heap.specs.declared.pass.Pass.{Pass}

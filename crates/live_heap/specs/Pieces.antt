@@ -9,11 +9,11 @@ use Rattle.word_table.specs.Words.{word_in}
 use Rattle.placed_words.specs.Places.{placed_count, words_at}
 use Rattle.plain_words.specs.Places.{Place, blanks, laid, laids, numbers, place_at}
 use Rattle.atomic_region.specs.Region.{Me, State as RegionState}
-use Rattle.first_uses.specs.Pieces.{piece_count, piece_of, piece_start, piece_words}
+use Rattle.sound_laws.specs.uses.Pieces.{piece_count, piece_of, piece_start, piece_words}
 use Rattle.errand_steps.specs.declared.point.Pieces.{Pieces}
 use Rattle.errand_steps.specs.declared.point.Point.{Point}
 use Rattle.errand_steps.specs.Openers.{Opens}
-use Rattle.first_uses.specs.Uses.{IsUnused}
+use Rattle.sound_laws.specs.uses.Uses.{IsUnused}
 use Rattle.heap_geometry.specs.Need.{usable_words}
 use Rattle.placed_words.specs.declared.placement.TheConstants.{APART}
 use Rattle.pool_model.specs.declared.event.Event.{Event}

@@ -12,10 +12,10 @@ use Rattle.pool_model.specs.Histories.{Begins, own}
 use Rattle.errand_steps.specs.Errands.{ErrandFields, open_errand}
 use Rattle.errand_steps.specs.Openings.{opening, IsOpening}
 use Rattle.errand_steps.specs.Steps.{State}
-use Rattle.call_bounds.specs.Contention.{is_by}
+use Rattle.sound_laws.specs.bounds.Contention.{is_by}
 use Rattle.sound_state.specs.Moves.{is_step_of}
 use Rattle.sound_state.specs.Runs.{Move}
-use Rattle.call_bounds.specs.Wins.{Win}
+use Rattle.sound_laws.specs.bounds.Wins.{Win}
 use Rattle.step_machine.specs.Cores.{IsReached, no_errand}
 use Rattle.live_heap.specs.declared.view.Standing.{Standing}
 use Rattle.live_heap.specs.declared.view.View.{View}

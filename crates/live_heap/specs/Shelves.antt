@@ -1,7 +1,7 @@
 -- Which words may lie on which shelf, as a heap's rule says it.
 use Rattle.std.specs.Prelude.{ℕ, ◌≡◌, List, Option, Some}
 use Rattle.heap_geometry.specs.declared.need.Need.{Need}
-use Rattle.large_parts.specs.declared.point.LargePoint.TheVariants.{PutBlock}
+use Rattle.step_parts.specs.declared.large.point.LargePoint.TheVariants.{PutBlock}
 use Rattle.pool_model.specs.declared.event.Event.{Event}
 use Rattle.pool_model.specs.declared.owner.Owner.TheVariants.{Shelf}
 use Rattle.pool_model.specs.Histories.{Begins}

@@ -4,7 +4,7 @@ ghost use Rattle.std.specs.Prelude.{◌≡◌, ◌+◌};
 ghost use Rattle.heap_geometry.specs.Need.{usable_words};
 ghost use Rattle.errand_steps.specs.Begins.{IsIdle};
 ghost use Rattle.live_heap.specs.declared.block.Block.{Block};
-ghost use Rattle.call_events.specs.Made.{LeadsBy, Sums, wrote};
+ghost use Rattle.sound_laws.specs.events.Made.{LeadsBy, Sums, wrote};
 ghost use Rattle.live_heap.specs.Passes.{IsOf, Owns, OwnsAt, accesses, view};
 ghost use Rattle.live_heap.specs.Words.{CallsOnWord};
 

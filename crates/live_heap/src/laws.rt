@@ -14,7 +14,7 @@ ghost use Rattle.errand_steps.specs.declared.reply.Reply.{Reply};
 ghost use Rattle.errand_steps.specs.declared.reply.Reply.TheVariants as reply;
 ghost use Rattle.errand_steps.specs.Calls.{Call, alloc, free};
 ghost use Rattle.errand_steps.specs.Errands.{ErrandFields};
-ghost use Rattle.call_bounds.specs.Contention.{lost_of, won_of};
+ghost use Rattle.sound_laws.specs.bounds.Contention.{lost_of, won_of};
 ghost use Rattle.sound_state.specs.Sound.{IsSound};
 ghost use Rattle.sound_state.specs.Sums.{callers_sum};
 ghost use Rattle.sound_state.specs.Turns.{gives_small, refuses_small};

@@ -2,7 +2,7 @@
 
 ghost use Rattle.std.specs.Prelude.{ℕ, ◌≡◌, ◌<◌, ◌≤◌, ◌+◌, [], None};
 ghost use Rattle.word_table.specs.Counts.{arena_words};
-ghost use Rattle.first_uses.specs.Pieces.{piece_count, piece_of, piece_start, piece_words};
+ghost use Rattle.sound_laws.specs.uses.Pieces.{piece_count, piece_of, piece_start, piece_words};
 ghost use Rattle.live_heap.specs.Pieces.{EachOf, HasLaid, IsReady, IsSoleOpener, KnowsMore, mark_count};
 ghost use Rattle.live_heap.specs.Sights.{IsSightOf};
 ghost use Rattle.word_table.specs.Occurs.{occurs};

@@ -4,7 +4,7 @@ ghost use Rattle.std.specs.Prelude.{◌≡◌, ◌≢◌, ◌<◌, ◌+◌, [], 
 ghost use Rattle.heap_geometry.specs.Need.{usable_words};
 ghost use Rattle.plain_words.specs.Places.{numbers};
 ghost use Rattle.errand_steps.specs.Begins.{IsIdle};
-ghost use Rattle.call_events.specs.Made.{LeadsBy, wrote};
+ghost use Rattle.sound_laws.specs.events.Made.{LeadsBy, wrote};
 ghost use Rattle.live_heap.specs.declared.block.Block.{Block};
 ghost use Rattle.live_heap.specs.declared.plain.Memory.{Memory};
 ghost use Rattle.live_heap.specs.Lending.{HasLent, HasReturned, MayLend, MayReturn, TellsWritten, numbers_from};

@@ -26,7 +26,7 @@ use crate::shelves::ShelfRule;
 use crate::strides::Expected;
 use errand_steps::continuation::Continuation;
 use errand_steps::told::Ending;
-use superblock_parts::point::BlockPoint;
+use step_parts::superblock::point::BlockPoint;
 use word_table::action::Found;
 
 impl<R: ShelfRule> Heap<R> {

@@ -12,8 +12,8 @@ use crate::shelves::ShelfRule;
 use errand_steps::continuation::Continuation;
 use errand_steps::told::Ending;
 use heap_geometry::need::Need;
-use superblock_parts::exit::BlockExit;
-use superblock_parts::point::{BlockPoint, plan_block, settle_block};
+use step_parts::superblock::exit::BlockExit;
+use step_parts::superblock::point::{BlockPoint, plan_block, settle_block};
 use word_table::action::Found;
 
 /// What a straight way expects of the point that a step leads to.

@@ -38,7 +38,7 @@ pub struct Won {
 }
 
 impl Model for Won {
-    ghost use Rattle.call_bounds.specs.Wins.{Win};
+    ghost use Rattle.sound_laws.specs.bounds.Wins.{Win};
 
     ghost Value = { Win };
 

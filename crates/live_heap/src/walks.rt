@@ -2,7 +2,7 @@
 //! by it.
 
 ghost use Rattle.std.specs.Prelude.{◌≡◌, ◌<◌};
-ghost use Rattle.superblock_parts.specs.Points.{plan_block_of};
+ghost use Rattle.step_parts.specs.superblock.Points.{plan_block_of};
 ghost use Rattle.errand_steps.specs.Errands.{IsErrand};
 ghost use Rattle.errand_steps.specs.declared.point.Point.TheVariants as point;
 ghost use Rattle.live_heap.specs.declared.pass.Pass.{Pass};
@@ -23,7 +23,7 @@ use errand_steps::errand::{Errand, plan};
 use errand_steps::reply::Progress;
 use errand_steps::told::{Ending, Stepped, ended};
 use std::marker::Brand;
-use superblock_parts::point::BlockPoint;
+use step_parts::superblock::point::BlockPoint;
 use word_table::action::{Action, Found};
 
 impl<R: ShelfRule> Heap<R> {

@@ -7,8 +7,8 @@ use Rattle.errand_steps.specs.Begins.{IsIdle, read_begun, write_begun}
 use Rattle.errand_steps.specs.Calls.{Call, alloc, free, write, read, put, take, begun_by}
 use Rattle.errand_steps.specs.Errands.{ErrandFields, settle_of}
 use Rattle.errand_steps.specs.Steps.{State, Step, found_at}
-use Rattle.call_events.specs.Stages.{stage_of}
-use Rattle.call_events.specs.UnderWay.{IsAboutBlock}
+use Rattle.sound_laws.specs.events.Stages.{stage_of}
+use Rattle.sound_laws.specs.events.UnderWay.{IsAboutBlock}
 use Rattle.step_machine.specs.Keeping.{LeavesPlace}
 use Rattle.owned_words.specs.Leaving.{IsAbout, leaving, leaving_at}
 use Rattle.owned_words.proofs.Concerned.{begins-concerned, idle-concerned, leaving-concerned, none-there}

@@ -5,7 +5,7 @@ use Rattle.heap_geometry.specs.declared.need.Need.{Need}
 use Rattle.heap_geometry.specs.declared.need.Need.TheVariants as need
 use Rattle.heap_geometry.specs.Need.{need_of}
 use Rattle.word_table.specs.declared.action.Found.{Found}
-use Rattle.large_parts.specs.declared.point.LargePoint.TheVariants as large
+use Rattle.step_parts.specs.declared.large.point.LargePoint.TheVariants as large
 use Rattle.errand_steps.specs.declared.point.Point.{Point}
 use Rattle.errand_steps.specs.declared.point.Point.TheVariants.{Large}
 use Rattle.errand_steps.specs.tables.CallStage.{StageOfCall, freeing, putting, writing, reading}
@@ -14,8 +14,8 @@ use Rattle.errand_steps.specs.Calls.{Call, alloc, free, write, read, put, take, 
 use Rattle.errand_steps.specs.Errands.{ErrandFields, is_spent, settle_of}
 use Rattle.errand_steps.specs.Points.{is_idle}
 use Rattle.errand_steps.proofs.BeginLemmas.{frame_is, index_is}
-use Rattle.call_events.specs.Stages.{stage_of}
-use Rattle.call_events.specs.UnderWay.{IsAboutBlock}
+use Rattle.sound_laws.specs.events.Stages.{stage_of}
+use Rattle.sound_laws.specs.events.UnderWay.{IsAboutBlock}
 use Rattle.owned_words.specs.Accesses.{AccessesWord}
 use Rattle.owned_words.specs.Leaving.{IsAbout, concerned, concerned_at, leaving, leaving_at}
 use Rattle.owned_words.proofs.KeptStages.{IsKept, settles-kept}

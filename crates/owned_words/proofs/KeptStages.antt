@@ -3,13 +3,13 @@ use Rattle.std.proofs.Common.{ℕ, true, Option, Some, None, ◌≡◌, arith, r
 use Rattle.std.proofs.lemmas.Bool.{cases_Bool}
 use Rattle.word_table.specs.declared.action.Found.{Found}
 use Rattle.word_table.specs.Seats.{SeatFields}
-use Rattle.superblock_parts.specs.declared.point.BlockPoint.{BlockPoint}
-use Rattle.superblock_parts.specs.declared.point.BlockPoint.TheVariants as block
-use Rattle.stack_parts.specs.declared.point.StackPoint.{StackPoint}
-use Rattle.hazard_parts.specs.declared.point.DescPoint.{DescPoint}
-use Rattle.hazard_parts.specs.Retired.{first_unheld}
-use Rattle.partial_parts.specs.declared.point.PartialPoint.{PartialPoint}
-use Rattle.large_parts.specs.declared.point.LargePoint.{LargePoint}
+use Rattle.step_parts.specs.declared.superblock.point.BlockPoint.{BlockPoint}
+use Rattle.step_parts.specs.declared.superblock.point.BlockPoint.TheVariants as block
+use Rattle.step_parts.specs.declared.stack.point.StackPoint.{StackPoint}
+use Rattle.step_parts.specs.declared.hazard.point.DescPoint.{DescPoint}
+use Rattle.step_parts.specs.hazard.Retired.{first_unheld}
+use Rattle.step_parts.specs.declared.partial.point.PartialPoint.{PartialPoint}
+use Rattle.step_parts.specs.declared.large.point.LargePoint.{LargePoint}
 use Rattle.errand_steps.specs.declared.continuation.Continuation.{Continuation}
 use Rattle.errand_steps.specs.declared.next.Next.{Next}
 use Rattle.errand_steps.specs.declared.next.Next.TheVariants as next
@@ -18,7 +18,7 @@ use Rattle.errand_steps.specs.declared.point.Point.TheVariants.{Idle, Block, Sta
 use Rattle.errand_steps.specs.tables.CallStage.{StageOfCall, continuation_stage, freeing, putting, writing, reading}
 use Rattle.errand_steps.specs.Errands.{ErrandFields, after_list, after_turn, course_of, is_full, picked, point_after, settle_of}
 use Rattle.errand_steps.specs.Nexts.{next_of, resumed}
-use Rattle.call_events.specs.Stages.{stage_of}
+use Rattle.sound_laws.specs.events.Stages.{stage_of}
 
 -- the stage now is about no block, or it is the stage before
 abbrev pub IsKept : StageOfCall → StageOfCall → Type 0

@@ -13,8 +13,8 @@ use Rattle.pool_model.specs.Pool.{Block as Live}
 use Rattle.pool_model.specs.WellFormed.{IsPlaceFor}
 use Rattle.word_table.specs.Counts.{arena_words}
 use Rattle.word_table.specs.declared.name.WordName.TheVariants as name
-use Rattle.superblock_parts.specs.declared.point.BlockPoint.TheVariants as block
-use Rattle.large_parts.specs.declared.point.LargePoint.TheVariants as large
+use Rattle.step_parts.specs.declared.superblock.point.BlockPoint.TheVariants as block
+use Rattle.step_parts.specs.declared.large.point.LargePoint.TheVariants as large
 use Rattle.sound_state.proofs.shared.ArenaNames.{arena_place, stack-elsewhere, desc-elsewhere, partial-elsewhere, not-arena}
 use Rattle.sound_state.proofs.shared.FrameLemmas.{in-hand-waits, one-in-frame}
 use Rattle.sound_state.proofs.shared.OverlapLemmas.{formed-at, live-apart}

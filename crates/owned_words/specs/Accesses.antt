@@ -1,6 +1,6 @@
 -- Which steps are on a usable word.
 use Rattle.std.specs.Prelude.{ℕ, ◌≡◌}
-use Rattle.large_parts.specs.declared.point.LargePoint.TheVariants as large
+use Rattle.step_parts.specs.declared.large.point.LargePoint.TheVariants as large
 use Rattle.errand_steps.specs.declared.point.Point.{Point}
 use Rattle.errand_steps.specs.declared.point.Point.TheVariants.{Large}
 

@@ -3,7 +3,7 @@ use Rattle.std.specs.Prelude.{ℕ, ◌≡◌, List, [], ◌∷◌}
 use Rattle.errand_steps.specs.declared.point.Point.{Point}
 use Rattle.errand_steps.specs.tables.CallStage.{StageOfCall, freeing, putting, writing, reading}
 use Rattle.errand_steps.specs.Calls.{Call, free, put, write, read}
-use Rattle.call_events.specs.Stages.{stage_of}
+use Rattle.sound_laws.specs.events.Stages.{stage_of}
 
 -- the place of the block that a call at this stage is about to give away, by a free or by a put; there is none at any other stage
 abbrev pub leaving_at : StageOfCall → List ℕ

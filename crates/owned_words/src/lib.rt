@@ -19,7 +19,7 @@ ghost use Rattle.errand_steps.specs.Events.{event_of};
 ghost use Rattle.errand_steps.specs.Steps.{State, Step, event_at, name_at};
 ghost use Rattle.sound_state.specs.Recalls.{IsOwned};
 ghost use Rattle.sound_state.specs.Sound.{IsSoundWithoutCounts};
-ghost use Rattle.call_events.specs.UnderWay.{IsAboutBlock};
+ghost use Rattle.sound_laws.specs.events.UnderWay.{IsAboutBlock};
 ghost use Rattle.step_machine.specs.Cores.{OwnsAfter};
 ghost use Rattle.step_machine.specs.Keeping.{LeavesPlace};
 ghost use Rattle.owned_words.specs.Accesses.{AccessesWord};

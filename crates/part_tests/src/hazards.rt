@@ -5,12 +5,12 @@ ghost use Rattle.std.specs.Prelude.{[], ◌∷◌, ◌≡◌};
 use crate::expect::expect;
 use crate::heaps::seat_of;
 use crate::walk::{Row, leave, load, lost, stays, store, walk, won};
-use hazard_parts::exit::DescExit;
-use hazard_parts::held::Held;
-use hazard_parts::point::DescPoint;
-use hazard_parts::retired::Retired;
 use heap_geometry::geometry::Geometry;
 use std::process::Abort;
+use step_parts::hazard::exit::DescExit;
+use step_parts::hazard::held::Held;
+use step_parts::hazard::point::DescPoint;
+use step_parts::hazard::retired::Retired;
 use word_table::name::WordName::{DescHead, Hazard, Next};
 use word_table::seat::Seat;
 

@@ -3,12 +3,12 @@
 use crate::expect::expect;
 use heap_geometry::geometry::Geometry;
 use heap_geometry::need::Need;
-use large_parts::exit::LargeExit;
-use large_parts::point::{LargePoint, plan_large, settle_large};
-use large_parts::run::UnitRun;
-use large_parts::units::first_run;
-use large_parts::want::Want;
 use std::process::Abort;
+use step_parts::large::exit::LargeExit;
+use step_parts::large::point::{LargePoint, plan_large, settle_large};
+use step_parts::large::run::UnitRun;
+use step_parts::large::units::first_run;
+use step_parts::large::want::Want;
 use word_table::action::{Action, apply};
 use word_table::name::WordName::{Arena, Shelf, Units};
 

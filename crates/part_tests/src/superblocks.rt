@@ -5,8 +5,8 @@ use crate::heaps::{first_site, seat_of};
 use crate::walk::{Row, leave, load, lost, stays, store, walk, won};
 use heap_geometry::geometry::Geometry;
 use std::process::Abort;
-use superblock_parts::exit::BlockExit;
-use superblock_parts::point::{BlockPoint, Share};
+use step_parts::superblock::exit::BlockExit;
+use step_parts::superblock::point::{BlockPoint, Share};
 use word_table::name::WordName::{Active, Anchor, Arena, Hazard, Info};
 use word_table::seat::{Seat, Site};
 

@@ -1,15 +1,15 @@
 //! A walk through the points of one part of the algorithm, each step of which finds a given word.
 
 use crate::expect::expect;
-use hazard_parts::exit::DescExit;
-use hazard_parts::point::{DescPoint, plan_desc, settle_desc};
-use partial_parts::exit::PartialExit;
-use partial_parts::point::{PartialPoint, plan_partial, settle_partial};
-use stack_parts::exit::StackExit;
-use stack_parts::point::{StackPoint, plan_stack, settle_stack};
 use std::process::Abort;
-use superblock_parts::exit::BlockExit;
-use superblock_parts::point::{BlockPoint, plan_block, settle_block};
+use step_parts::hazard::exit::DescExit;
+use step_parts::hazard::point::{DescPoint, plan_desc, settle_desc};
+use step_parts::partial::exit::PartialExit;
+use step_parts::partial::point::{PartialPoint, plan_partial, settle_partial};
+use step_parts::stack::exit::StackExit;
+use step_parts::stack::point::{StackPoint, plan_stack, settle_stack};
+use step_parts::superblock::exit::BlockExit;
+use step_parts::superblock::point::{BlockPoint, plan_block, settle_block};
 use word_table::action::{Action, Found};
 use word_table::name::WordName;
 

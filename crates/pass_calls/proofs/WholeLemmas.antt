@@ -17,7 +17,7 @@ use Rattle.live_heap.specs.Answers.{AllocTells, IsResumable, ResumeTells}
 use Rattle.live_heap.specs.declared.answers.AllocAnswer.TheVariants as answer
 use Rattle.live_heap.specs.Calls.{IsCalling}
 use Rattle.live_heap.specs.Passes.{IsHome, IsOf, seen, view}
-use Rattle.call_events.specs.Made.{LeadsBy, Made}
+use Rattle.sound_laws.specs.events.Made.{LeadsBy, Made}
 use Rattle.step_machine.specs.Cores.{OwnsAfter}
 use Rattle.live_heap.specs.Whole.{HasEndedCall, IsWhole, MadeByPass, by_steps, at_once, ResumesTo}
 use Rattle.live_heap.specs.Words.{CallsOnWord}

@@ -16,7 +16,7 @@ use Rattle.shelf_laws.specs.Quiet.{HandsNothingOver}
 use Rattle.errand_steps.specs.declared.reply.Reply.{Reply}
 use Rattle.errand_steps.specs.declared.reply.Reply.TheVariants as reply
 use Rattle.errand_steps.specs.Calls.{Call, alloc, put, read, take, write}
-use Rattle.call_events.specs.Ends.{end_of}
+use Rattle.sound_laws.specs.events.Ends.{end_of}
 use Rattle.step_machine.specs.Keeping.{LeavesPlace}
 use Rattle.lane_engine.specs.declared.calls.Allocated.{Allocated}
 use Rattle.lane_engine.specs.declared.calls.Allocated.TheVariants as allocated

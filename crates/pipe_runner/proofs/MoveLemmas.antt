@@ -14,7 +14,7 @@ use Rattle.shelf_laws.proofs.GrowLemmas.{count-cons, parcels-none}
 use Rattle.shelf_laws.proofs.OwnLemmas.{puts-own, quiet-more, takes-own, turns-stay}
 use Rattle.errand_steps.specs.declared.reply.Reply.{Reply}
 use Rattle.errand_steps.specs.Calls.{Call}
-use Rattle.call_events.specs.Ends.{end_of}
+use Rattle.sound_laws.specs.events.Ends.{end_of}
 use Rattle.live_heap.specs.Heaps.{HeapFields}
 use Rattle.live_heap.specs.declared.pass.Pass.{Pass}
 use Rattle.live_heap.specs.Calls.{HasCalled}

@@ -3,7 +3,7 @@ use Rattle.std.specs.Prelude.{ℕ, suc, ◌≡◌, ◌<◌, ◌+◌, ◌%◌, �
 use Rattle.heap_geometry.specs.declared.need.Need.{Need}
 use Rattle.errand_steps.specs.declared.reply.Reply.TheVariants as reply
 use Rattle.errand_steps.specs.Calls.{alloc, free, put, take, write}
-use Rattle.call_events.specs.Made.{LeadsBy, Made, answered, found_from}
+use Rattle.sound_laws.specs.events.Made.{LeadsBy, Made, answered, found_from}
 use Rattle.live_heap.specs.declared.block.Block.{Block}
 use Rattle.live_heap.specs.Heaps.{HeapFields}
 use Rattle.live_heap.specs.declared.pass.Pass.{Pass}

@@ -7,7 +7,7 @@ ghost use Rattle.errand_steps.specs.Calls.{alloc, free};
 ghost use Rattle.pool_model.specs.Pool.{Block as PoolBlock, fresh_block};
 ghost use Rattle.live_heap.specs.Contents.{owned_in};
 ghost use Rattle.live_heap.specs.Passes.{Owns};
-ghost use Rattle.call_events.specs.Made.{LeadsBy, found_from};
+ghost use Rattle.sound_laws.specs.events.Made.{LeadsBy, found_from};
 ghost use Rattle.live_heap.specs.Whole.{IsAtRest, IsWhole, MadeByPass};
 ghost use Rattle.pipe_runner.specs.EndCalls.{GaveNone, HasTried, with_found, words_from, wrote_from};
 ghost use Rattle.pipe_runner.specs.Messages.{HasThreeWords, three_from, with_word, with_words};

@@ -25,9 +25,9 @@ pub use Rattle.errand_steps.specs.declared.point.Point.{Point}
 pub use Rattle.errand_steps.specs.declared.point.Point.TheVariants.{Block, Desc, Idle, Large, Partial, Stack}
 pub use Rattle.errand_steps.specs.declared.reply.Progress.TheVariants.{Done}
 pub use Rattle.errand_steps.specs.declared.reply.Reply.{Reply}
-pub use Rattle.hazard_parts.specs.Points.{after_hazard, after_head, after_next, named_in, plan_desc_of, settle_desc_of}
-pub use Rattle.hazard_parts.specs.Retired.{first_unheld}
-pub use Rattle.hazard_parts.specs.declared.point.DescPoint.{DescPoint}
+pub use Rattle.step_parts.specs.hazard.Points.{after_hazard, after_head, after_next, named_in, plan_desc_of, settle_desc_of}
+pub use Rattle.step_parts.specs.hazard.Retired.{first_unheld}
+pub use Rattle.step_parts.specs.declared.hazard.point.DescPoint.{DescPoint}
 pub use Rattle.heap_geometry.proofs.PlaceLemmas.{frame_of-block_place, block-within}
 pub use Rattle.heap_geometry.specs.Geometry.{IsChecked}
 pub use Rattle.heap_geometry.specs.Need.{block_count_of, usable_words}
@@ -37,10 +37,10 @@ pub use Rattle.heap_geometry.specs.declared.geometry.Geometry.{Geometry}
 pub use Rattle.heap_geometry.specs.declared.limits.TheConstants.{CLASSES, CALL_STEPS, SHELVES, SMALL_MOST}
 pub use Rattle.heap_geometry.specs.declared.need.Need.{Need}
 pub use Rattle.heap_geometry.specs.declared.need.Need.TheVariants.{Small, TooLarge}
-pub use Rattle.large_parts.specs.Points.{after_shelf, first_wanted, plan_large_of, settle_large_of}
-pub use Rattle.large_parts.specs.Runs.{RunFields, WantFields}
-pub use Rattle.large_parts.specs.declared.exit.LargeExit.{LargeExit}
-pub use Rattle.large_parts.specs.declared.point.LargePoint.{LargePoint}
+pub use Rattle.step_parts.specs.large.Points.{after_shelf, first_wanted, plan_large_of, settle_large_of}
+pub use Rattle.step_parts.specs.large.Runs.{RunFields, WantFields}
+pub use Rattle.step_parts.specs.declared.large.exit.LargeExit.{LargeExit}
+pub use Rattle.step_parts.specs.declared.large.point.LargePoint.{LargePoint}
 pub use Rattle.packed_words.proofs.ActiveLemmas.{active-exact}
 pub use Rattle.packed_words.proofs.AnchorLemmas.{anchor_of-anchor_word, anchor_word-below}
 pub use Rattle.packed_words.proofs.ExactLemmas.{reads}
@@ -65,10 +65,10 @@ pub use Rattle.packed_words.specs.declared.active.ActiveWord.TheVariants.{Held, 
 pub use Rattle.packed_words.specs.declared.prefix.Prefix.{Prefix}
 pub use Rattle.packed_words.specs.declared.shelf.ShelfWord.{ShelfWord}
 pub use Rattle.packed_words.specs.declared.widths.TheConstants.{AVAIL_BITS, COUNT_BITS, CREDIT_BITS, TAG_BITS}
-pub use Rattle.partial_parts.specs.Grants.{is_empty}
-pub use Rattle.partial_parts.specs.Points.{plan_partial_of, seat_of_partial, settle_partial_of, slot_of}
-pub use Rattle.partial_parts.specs.declared.exit.PartialExit.{PartialExit}
-pub use Rattle.partial_parts.specs.declared.point.PartialPoint.{PartialPoint}
+pub use Rattle.step_parts.specs.partial.Grants.{is_empty}
+pub use Rattle.step_parts.specs.partial.Points.{plan_partial_of, seat_of_partial, settle_partial_of, slot_of}
+pub use Rattle.step_parts.specs.declared.partial.exit.PartialExit.{PartialExit}
+pub use Rattle.step_parts.specs.declared.partial.point.PartialPoint.{PartialPoint}
 pub use Rattle.pool_model.proofs.HistoryLemmas.{EachAfter-push, own-append, pool_of-push}
 pub use Rattle.pool_model.proofs.PoolLemmas.{place-found, block_at-past, every-each, every-found}
 pub use Rattle.pool_model.proofs.WellFormedLemmas.{sound-of, class_span, found-itself, large-frame, sound-differ}
@@ -112,21 +112,21 @@ pub use Rattle.errand_steps.specs.tables.TurnStage.{continuation_turn_stage, out
 pub use Rattle.sound_state.specs.TurnStages.{lacks_partial}
 pub use Rattle.sound_state.specs.Turns.{IsTurned, emptied_out, gives_small, one_if, pops_left, refuses_small, cleared_of, errand_discards, errand_pops}
 pub use Rattle.sound_state.specs.Turns.{is_small_alloc, is_small_free, turn_open, turn_unanswered, turn_unframed, turn_unlisted, turns_of}
-pub use Rattle.stack_parts.specs.Piles.{head_name, next_name, pile_limit}
-pub use Rattle.stack_parts.specs.Points.{after_below, plan_stack_of, seat_of_stack, settle_stack_of}
-pub use Rattle.stack_parts.specs.Stacks.{Stacked, next_in}
-pub use Rattle.stack_parts.specs.declared.exit.StackExit.{StackExit}
-pub use Rattle.stack_parts.specs.declared.point.Pile.{Pile}
-pub use Rattle.stack_parts.specs.declared.point.Pile.TheVariants.{Frames, Partials}
-pub use Rattle.stack_parts.specs.declared.point.StackPoint.{StackPoint}
-pub use Rattle.superblock_parts.proofs.ChainLemmas.{chain_of-first, occurs-here, occurs-more}
-pub use Rattle.superblock_parts.specs.Anchors.{new_credits, is_last, more_of, new_anchor, popped_state, taken_off}
-pub use Rattle.superblock_parts.specs.Chains.{link_in, prefix_name, chain_of}
-pub use Rattle.superblock_parts.specs.Points.{FitsBlock, after_active, after_anchor, after_info, after_push_anchor, after_return_anchor, plan_block_of}
-pub use Rattle.superblock_parts.specs.Points.{settle_block_of}
-pub use Rattle.superblock_parts.specs.declared.point.BlockPoint.{BlockPoint}
-pub use Rattle.superblock_parts.specs.declared.point.Share.{Share}
-pub use Rattle.superblock_parts.specs.declared.point.Share.TheVariants.{Credit, Grant, LastCredit}
+pub use Rattle.step_parts.specs.stack.Piles.{head_name, next_name, pile_limit}
+pub use Rattle.step_parts.specs.stack.Points.{after_below, plan_stack_of, seat_of_stack, settle_stack_of}
+pub use Rattle.step_parts.specs.stack.Stacks.{Stacked, next_in}
+pub use Rattle.step_parts.specs.declared.stack.exit.StackExit.{StackExit}
+pub use Rattle.step_parts.specs.declared.stack.point.Pile.{Pile}
+pub use Rattle.step_parts.specs.declared.stack.point.Pile.TheVariants.{Frames, Partials}
+pub use Rattle.step_parts.specs.declared.stack.point.StackPoint.{StackPoint}
+pub use Rattle.step_parts.proofs.superblock_lemmas.ChainLemmas.{chain_of-first, occurs-here, occurs-more}
+pub use Rattle.step_parts.specs.superblock.Anchors.{new_credits, is_last, more_of, new_anchor, popped_state, taken_off}
+pub use Rattle.step_parts.specs.superblock.Chains.{link_in, prefix_name, chain_of}
+pub use Rattle.step_parts.specs.superblock.Points.{FitsBlock, after_active, after_anchor, after_info, after_push_anchor, after_return_anchor, plan_block_of}
+pub use Rattle.step_parts.specs.superblock.Points.{settle_block_of}
+pub use Rattle.step_parts.specs.declared.superblock.point.BlockPoint.{BlockPoint}
+pub use Rattle.step_parts.specs.declared.superblock.point.Share.{Share}
+pub use Rattle.step_parts.specs.declared.superblock.point.Share.TheVariants.{Credit, Grant, LastCredit}
 pub use Rattle.word_table.proofs.CountLemmas.{descriptor_count_within}
 pub use Rattle.word_table.proofs.NameLemmas.{cases_name}
 pub use Rattle.word_table.proofs.SeatLemmas.{block_count_of-least, block_count_of-most}

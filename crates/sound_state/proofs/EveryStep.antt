@@ -4,10 +4,10 @@ use Rattle.std.proofs.lemmas.Bool.{cases_eq, cases_Bool}
 use Rattle.sound_state.proofs.Common.{Geometry, head_of, SeatFields, Site, BlockPoint, DescPoint, PartialPoint, is_empty, Pile, StackPoint, head_name, Continuation, Point}
 use Rattle.sound_state.proofs.Common.{Idle, Block, Stack, Desc, Partial, Large, asked, plan_point_of, State, Step, IsSoundWithoutCounts, anchor_for, clears, is_idle}
 use Rattle.sound_state.proofs.Common.{LargePoint, shelf_word}
-use Rattle.superblock_parts.specs.declared.point.BlockPoint.TheVariants as block
-use Rattle.hazard_parts.specs.declared.point.DescPoint.TheVariants as desc
-use Rattle.partial_parts.specs.declared.point.PartialPoint.TheVariants as partial
-use Rattle.stack_parts.specs.declared.point.StackPoint.TheVariants as stack
+use Rattle.step_parts.specs.declared.superblock.point.BlockPoint.TheVariants as block
+use Rattle.step_parts.specs.declared.hazard.point.DescPoint.TheVariants as desc
+use Rattle.step_parts.specs.declared.partial.point.PartialPoint.TheVariants as partial
+use Rattle.step_parts.specs.declared.stack.point.StackPoint.TheVariants as stack
 use Rattle.errand_steps.specs.declared.continuation.Continuation.TheVariants as continuation
 use Rattle.errand_steps.specs.Continuations.{is_finish, is_clearing}
 use Rattle.sound_state.proofs.descriptors.DescPushes.{push_desc-sound}
@@ -26,7 +26,7 @@ use Rattle.sound_state.proofs.stacks.StackRetires.{push_top-sound}
 use Rattle.sound_state.proofs.tellings.ConfirmSteps.{confirm_empty-sound}
 use Rattle.packed_words.specs.declared.shelf.ShelfWord.TheVariants as shelf
 use Rattle.word_table.specs.declared.name.WordName.TheVariants as name
-use Rattle.large_parts.specs.declared.point.LargePoint.TheVariants as large
+use Rattle.step_parts.specs.declared.large.point.LargePoint.TheVariants as large
 use Rattle.sound_state.proofs.large.TouchFrees.{free_run-sound}
 use Rattle.sound_state.proofs.large.TouchPrefix.{store_run_prefix-sound}
 use Rattle.sound_state.proofs.large.TouchShelves.{put_block-sound, take_block-sound, confirm_nothing-sound}

@@ -7,9 +7,9 @@ use Rattle.heap_geometry.specs.Need.{need_of, usable_words}
 use Rattle.packed_words.specs.declared.shelf.ShelfWord.TheVariants as lies
 use Rattle.packed_words.specs.Shelf.{shelf_word}
 use Rattle.word_table.specs.declared.name.WordName.TheVariants as name
-use Rattle.large_parts.specs.declared.point.LargePoint.{LargePoint}
-use Rattle.large_parts.specs.declared.point.LargePoint.TheVariants as large
-use Rattle.large_parts.specs.Runs.{RunFields}
+use Rattle.step_parts.specs.declared.large.point.LargePoint.{LargePoint}
+use Rattle.step_parts.specs.declared.large.point.LargePoint.TheVariants as large
+use Rattle.step_parts.specs.large.Runs.{RunFields}
 use Rattle.pool_model.specs.declared.event.Event.{Event}
 use Rattle.pool_model.specs.declared.event.Event.TheVariants.{Refuse, Free, Write, Put, Take, TakeNone}
 use Rattle.pool_model.specs.declared.owner.Owner.TheVariants.{Caller, Shelf}

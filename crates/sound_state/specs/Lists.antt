@@ -6,8 +6,8 @@ use Rattle.packed_words.specs.Head.{head_of}
 use Rattle.word_table.specs.declared.name.WordName.{WordName}
 use Rattle.word_table.specs.declared.name.WordName.TheVariants as name
 use Rattle.word_table.specs.Counts.{descriptor_count}
-use Rattle.stack_parts.specs.declared.point.Pile.TheVariants.{Frames, Partials}
-use Rattle.stack_parts.specs.Stacks.{Stacked, next_in}
+use Rattle.step_parts.specs.declared.stack.point.Pile.TheVariants.{Frames, Partials}
+use Rattle.step_parts.specs.stack.Stacks.{Stacked, next_in}
 
 -- the free frames, the available descriptors, and the partial superblocks of each class, from the top on
 pub record Lists : Type 0 where

@@ -12,12 +12,12 @@ use Rattle.word_table.specs.declared.name.WordName.{WordName}
 use Rattle.word_table.specs.declared.name.WordName.TheVariants as name
 use Rattle.word_table.specs.Seats.{SeatFields}
 use Rattle.word_table.specs.Occurs.{occurs}
-use Rattle.superblock_parts.specs.Anchors.{new_link}
-use Rattle.superblock_parts.specs.Chains.{prefix_name}
-use Rattle.stack_parts.specs.declared.point.Pile.{Pile}
-use Rattle.stack_parts.specs.declared.point.Pile.TheVariants.{Frames, Partials}
-use Rattle.stack_parts.specs.Piles.{head_name, next_name, pile_limit}
-use Rattle.partial_parts.specs.Grants.{is_empty}
+use Rattle.step_parts.specs.superblock.Anchors.{new_link}
+use Rattle.step_parts.specs.superblock.Chains.{prefix_name}
+use Rattle.step_parts.specs.declared.stack.point.Pile.{Pile}
+use Rattle.step_parts.specs.declared.stack.point.Pile.TheVariants.{Frames, Partials}
+use Rattle.step_parts.specs.stack.Piles.{head_name, next_name, pile_limit}
+use Rattle.step_parts.specs.partial.Grants.{is_empty}
 use Rattle.pool_model.specs.declared.event.Event.{Event}
 use Rattle.pool_model.specs.declared.event.Event.TheVariants.{Looked, Refuse}
 use Rattle.pool_model.specs.declared.owner.Owner.TheVariants.{Caller}

@@ -13,8 +13,8 @@ use Rattle.word_table.specs.Seats.{info_in}
 use Rattle.word_table.specs.declared.name.WordName.{WordName}
 use Rattle.word_table.specs.declared.name.WordName.TheVariants as name
 use Rattle.word_table.specs.Occurs.{occurs}
-use Rattle.superblock_parts.specs.Chains.{chain_of, link_in}
-use Rattle.partial_parts.specs.Grants.{is_empty}
+use Rattle.step_parts.specs.superblock.Chains.{chain_of, link_in}
+use Rattle.step_parts.specs.partial.Grants.{is_empty}
 use Rattle.pool_model.specs.Pool.{Block, block_at, pool_of}
 use Rattle.errand_steps.specs.Errands.{ErrandFields}
 use Rattle.errand_steps.specs.Steps.{State}

@@ -6,7 +6,7 @@ use Rattle.heap_geometry.specs.declared.limits.TheConstants.{CLASSES, SMALL_MOST
 use Rattle.packed_words.specs.Head.{head_of}
 use Rattle.word_table.specs.declared.name.WordName.TheVariants as name
 use Rattle.word_table.specs.Counts.{descriptor_count}
-use Rattle.partial_parts.specs.Grants.{is_empty}
+use Rattle.step_parts.specs.partial.Grants.{is_empty}
 use Rattle.pool_model.specs.declared.event.Event.{Event}
 use Rattle.pool_model.specs.declared.event.Event.TheVariants.{Alloc, Refuse, Free}
 use Rattle.errand_steps.specs.declared.continuation.Continuation.{Continuation}

@@ -8,15 +8,15 @@ use Rattle.errand_steps.specs.Begins.{IsIdle}
 use Rattle.errand_steps.specs.Errands.{ErrandFields, one_more}
 use Rattle.errand_steps.specs.Steps.{State, Step, Run}
 use Rattle.errand_steps.specs.declared.reply.Progress.{Progress}
-use Rattle.call_bounds.specs.Alone.{alone_left, clearings, stale_words}
-use Rattle.call_bounds.specs.Expectations.{expects_of}
+use Rattle.sound_laws.specs.bounds.Alone.{alone_left, clearings, stale_words}
+use Rattle.sound_laws.specs.bounds.Expectations.{expects_of}
 use Rattle.errand_steps.specs.Calls.{Call, begun_by}
 use Rattle.sound_state.specs.Sound.{IsSound}
 use Rattle.sound_state.proofs.RunLemmas.{runs-sound}
-use Rattle.call_bounds.proofs.AloneLemmas.{alone-falls}
-use Rattle.call_bounds.proofs.RunsAlone.{LeadsAlone, runs-alone, idle-stays, alone-most, alone-below, leads-few}
-use Rattle.call_bounds.proofs.StaleLemmas.{none-stale}
-use Rattle.call_bounds.proofs.BegunWins.{begun-expects}
+use Rattle.sound_laws.proofs.bounds_lemmas.AloneLemmas.{alone-falls}
+use Rattle.sound_laws.proofs.bounds_lemmas.RunsAlone.{LeadsAlone, runs-alone, idle-stays, alone-most, alone-below, leads-few}
+use Rattle.sound_laws.proofs.bounds_lemmas.StaleLemmas.{none-stale}
+use Rattle.sound_laws.proofs.bounds_lemmas.BegunWins.{begun-expects}
 use Rattle.step_machine.specs.Cores.{CoreFields, errand_at, state_of}
 use Rattle.step_machine.specs.Steps.{IsStepped, RunsAlone, stepped, counted}
 

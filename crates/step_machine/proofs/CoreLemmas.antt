@@ -15,20 +15,20 @@ use Rattle.errand_steps.specs.Calls.{Call, begun_by}
 use Rattle.errand_steps.specs.Errands.{ErrandFields}
 use Rattle.errand_steps.specs.Openings.{opening, installed}
 use Rattle.errand_steps.specs.Steps.{State, Moves}
-use Rattle.call_bounds.specs.Made.{made_by}
+use Rattle.sound_laws.specs.bounds.Made.{made_by}
 use Rattle.sound_state.specs.Moves.{is_step}
 use Rattle.sound_state.specs.Runs.{BeginsCall, MayBegin, Move, Moved, begins, steps}
 use Rattle.sound_state.specs.Sound.{IsSound, IsOwnErrand}
-use Rattle.call_bounds.specs.Wins.{no_wins}
-use Rattle.call_bounds.specs.Won.{IsWon}
+use Rattle.sound_laws.specs.bounds.Wins.{no_wins}
+use Rattle.sound_laws.specs.bounds.Won.{IsWon}
 use Rattle.sound_state.proofs.CountedLemmas.{without-counts}
 use Rattle.sound_state.proofs.ReachLemmas.{reached-sound}
 use Rattle.sound_state.proofs.beginnings.BegunLemmas.{owned-block}
 use Rattle.sound_state.proofs.beginnings.InstalledLemmas.{open_installed-sound}
 use Rattle.sound_state.proofs.beginnings.OpeningLemmas.{opening-sound}
-use Rattle.call_bounds.proofs.CountLemmas.{count-append}
-use Rattle.call_bounds.proofs.FirstWins.{first-won}
-use Rattle.call_bounds.proofs.MadeLemmas.{made-reached, made-more, made-won}
+use Rattle.sound_laws.proofs.bounds_lemmas.CountLemmas.{count-append}
+use Rattle.sound_laws.proofs.bounds_lemmas.FirstWins.{first-won}
+use Rattle.sound_laws.proofs.bounds_lemmas.MadeLemmas.{made-reached, made-more, made-won}
 use Rattle.step_machine.specs.Cores.{CoreFields, IsCore, IsFirst, IsLonger, IsReached, OwnsBlock, errand_at, made_with, no_errand, state_of, with_errand}
 
 -- the state before the first step is sound, and nothing is won in it

@@ -18,7 +18,7 @@ use Rattle.word_table.specs.declared.name.WordName.{WordName}
 use Rattle.errand_steps.specs.Errands.{ErrandFields, open_errand}
 use Rattle.errand_steps.specs.Openings.{opening, installed, IsOpening}
 use Rattle.errand_steps.specs.Steps.{State}
-use Rattle.call_bounds.specs.Wins.{no_wins}
+use Rattle.sound_laws.specs.bounds.Wins.{no_wins}
 use Rattle.step_machine.specs.Cores.{IsCore, IsFirst, IsReached, no_errand, state_of}
 use Rattle.step_machine.specs.Firsts.{AreErrands, IsTable}
 use Rattle.step_machine.specs.Openings.{first_words}

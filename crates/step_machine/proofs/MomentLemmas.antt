@@ -9,7 +9,7 @@ use Rattle.errand_steps.specs.Errands.{ErrandFields, answer_of}
 use Rattle.errand_steps.specs.Steps.{State, Step, event_at, found_at, with_event}
 use Rattle.errand_steps.proofs.EventLemmas.{event_own}
 use Rattle.sound_state.specs.Sound.{IsSound, IsOwnErrand}
-use Rattle.call_bounds.proofs.TurnBounds.{turns-bounded}
+use Rattle.sound_laws.proofs.bounds_lemmas.TurnBounds.{turns-bounded}
 use Rattle.step_machine.specs.Cores.{CoreFields, IsCore, IsReached, errand_at, state_of}
 use Rattle.step_machine.specs.Moments.{IsMoment, HasSeenMore, IsServed}
 use Rattle.step_machine.specs.Steps.{IsStepped}

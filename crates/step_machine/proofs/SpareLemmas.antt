@@ -9,7 +9,7 @@ use Rattle.pool_model.specs.Calls.{Ended, EventsOf, IsGiving, IsRefusing, IsSpen
 use Rattle.pool_model.specs.Calls as ended
 use Rattle.errand_steps.specs.Calls.{Call, alloc, free, write, read, put, take}
 use Rattle.errand_steps.specs.tables.CallStage.{StageOfCall, asking, asking_run, refused, given, freeing, freed, writing, reading, putting, taking}
-use Rattle.call_events.specs.UnderWay.{SoFar, HasLooked}
+use Rattle.sound_laws.specs.events.UnderWay.{SoFar, HasLooked}
 use Rattle.step_machine.specs.Keeping.{AllSpare, LeavesPlace, LeavesAtEnd}
 
 spare-looks : (place caller class count : ℕ) (events : List Event) → AllSpare place events → AllSpare place (looks caller class count ++ events)

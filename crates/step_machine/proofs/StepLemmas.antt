@@ -9,7 +9,7 @@ use Rattle.step_machine.specs.Cores.{CoreFields, IsCore, errand_at, state_of}
 use Rattle.errand_steps.specs.Steps.{State, Step, ScheduleSlot, Run, IsSame, name_at}
 use Rattle.step_machine.specs.Steps.{stepped, counted}
 use Rattle.sound_state.specs.Runs.{steps}
-use Rattle.call_bounds.proofs.MadeLemmas.{step-one}
+use Rattle.sound_laws.proofs.bounds_lemmas.MadeLemmas.{step-one}
 use Rattle.step_machine.proofs.CoreLemmas.{moves-set, run-more}
 
 -- what a step makes of the lists is a step of the state

@@ -12,10 +12,10 @@ use Rattle.pool_model.specs.Pool.{Block, block_at, pool_of}
 use Rattle.errand_steps.specs.Errands.{ErrandFields, one_more, open_errand}
 use Rattle.errand_steps.specs.Openings.{opening, installed, IsOpening}
 use Rattle.errand_steps.specs.Steps.{State}
-use Rattle.call_bounds.specs.Made.{ReachesWith, made_by}
+use Rattle.sound_laws.specs.bounds.Made.{ReachesWith, made_by}
 use Rattle.sound_state.specs.Moves.{is_step}
 use Rattle.sound_state.specs.Runs.{Move}
-use Rattle.call_bounds.specs.Wins.{Wins, no_wins}
+use Rattle.sound_laws.specs.bounds.Wins.{Wins, no_wins}
 
 -- the heap's numbers, the table of its words, the errand of each caller, the events so far, and how many steps were made
 pub record CoreFields : Type 0 where

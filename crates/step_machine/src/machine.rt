@@ -24,7 +24,7 @@ ghost use Rattle.step_machine.specs.Replies.{Replies, RepliesPart, replied_in, e
 ghost use Rattle.step_machine.specs.Seen.{seen};
 ghost use Rattle.step_machine.specs.Steps.{IsStepped, IsNext, AnswersSo, RunsPart, counted, RunsAlone};
 ghost use Rattle.errand_steps.specs.Errands.{ErrandFields};
-ghost use Rattle.call_bounds.specs.Alone.{clearings, stale_words};
+ghost use Rattle.sound_laws.specs.bounds.Alone.{clearings, stale_words};
 
 use crate::first::{first_errands, first_table};
 use crate::seen::seen_at;

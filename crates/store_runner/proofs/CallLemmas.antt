@@ -11,7 +11,7 @@ use Rattle.live_heap.specs.declared.answers.FreeAnswer.TheVariants as free_answe
 use Rattle.live_heap.specs.declared.block.Block.{Block}
 use Rattle.live_heap.specs.Answers.{AllocTells, FreeTells, IsSpentAtOnce}
 use Rattle.live_heap.specs.Whole.{MadeByPass, at_once, by_steps}
-use Rattle.call_events.specs.Made.{LeadsBy, Made, answered}
+use Rattle.sound_laws.specs.events.Made.{LeadsBy, Made, answered}
 use Rattle.live_heap.specs.Passes.{seen}
 use Rattle.pool_model.specs.Histories.{Begins}
 use Rattle.live_heap.proofs.LawsKept.{called-grows}

@@ -1,6 +1,6 @@
 -- How many blocks a caller was given and freed between two moments, and by which calls.
 use Rattle.std.specs.Prelude.{ℕ, ◌≡◌, ◌+◌, List}
-use Rattle.call_events.specs.Made.{LeadsBy, Made}
+use Rattle.sound_laws.specs.events.Made.{LeadsBy, Made}
 use Rattle.live_heap.specs.declared.pass.Pass.{Pass}
 use Rattle.live_heap.specs.Whole.{MadeByPass}
 use Rattle.typed_store.specs.declared.store.Stored.{Stored}

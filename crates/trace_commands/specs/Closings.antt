@@ -4,7 +4,7 @@ use Rattle.std.specs.Fmt.{decimal}
 use Rattle.heap_geometry.specs.declared.geometry.Geometry.{Geometry}
 use Rattle.pool_model.specs.declared.event.Event.{Event}
 use Rattle.errand_steps.specs.Errands.{ErrandFields}
-use Rattle.call_bounds.specs.Contention.{lost_of as lost_by}
+use Rattle.sound_laws.specs.bounds.Contention.{lost_of as lost_by}
 use Rattle.sound_state.specs.Sums.{callers_sum}
 use Rattle.step_machine.specs.Cores.{CoreFields, errand_at}
 use Rattle.trace_text.specs.Text.{line}

@@ -22,8 +22,8 @@ use Rattle.pool_model.proofs.WellFormedLemmas.{sound-of}
 use Rattle.word_table.specs.Actions.{is_won}
 use Rattle.word_table.specs.declared.action.Found.{Found}
 use Rattle.word_table.specs.declared.name.WordName.TheVariants as name
-use Rattle.large_parts.specs.declared.point.LargePoint.{LargePoint}
-use Rattle.large_parts.specs.declared.point.LargePoint.TheVariants as large
+use Rattle.step_parts.specs.declared.large.point.LargePoint.{LargePoint}
+use Rattle.step_parts.specs.declared.large.point.LargePoint.TheVariants as large
 use Rattle.errand_steps.specs.Begins.{IsIdle, IsBusy, IsHeapBlock, alloc_answer, begins_alloc, alloc_begun, free_begun, write_begun, read_begun, put_begun, take_begun}
 use Rattle.errand_steps.specs.Calls.{Call, alloc, free, write, read, put, take, begun_by}
 use Rattle.errand_steps.specs.Errands.{ErrandFields, IsErrand, plan_of, settle_of, answer_of, course_of, is_spent, begins_turn, after_list, counts_lost}
@@ -48,16 +48,16 @@ use Rattle.errand_steps.specs.declared.told.Stepped.TheVariants as stepped
 use Rattle.errand_steps.proofs.AnswerLemmas.{done-told}
 use Rattle.errand_steps.proofs.EventLemmas.{event_own}
 use Rattle.errand_steps.proofs.SpentLemmas.{ends-spent, begins-at_limit}
-use Rattle.call_events.specs.Ends.{end_of, HasEnded}
-use Rattle.call_events.specs.UnderWay.{IsAboutBlock, IsUnderWay}
-use Rattle.call_events.proofs.AnswerLemmas.{step-goes_on, step-ends}
-use Rattle.call_events.proofs.BeginsLemmas.{call-begins, started-busy, spent-begins, other-busy}
-use Rattle.call_events.proofs.OfferLemmas.{put-offers}
+use Rattle.sound_laws.specs.events.Ends.{end_of, HasEnded}
+use Rattle.sound_laws.specs.events.UnderWay.{IsAboutBlock, IsUnderWay}
+use Rattle.sound_laws.proofs.events_lemmas.AnswerLemmas.{step-goes_on, step-ends}
+use Rattle.sound_laws.proofs.events_lemmas.BeginsLemmas.{call-begins, started-busy, spent-begins, other-busy}
+use Rattle.sound_laws.proofs.events_lemmas.OfferLemmas.{put-offers}
 use Rattle.sound_state.specs.Answers.{IsMeant, StandsAt}
 use Rattle.sound_state.specs.Recalls.{IsOwned}
 use Rattle.sound_state.proofs.CountedLemmas.{without-counts, steps-counted}
 use Rattle.sound_state.proofs.answers.StepAnswers.{answers-meant}
-use Rattle.call_events.proofs.OwnEvents.{own-with_event}
+use Rattle.sound_laws.proofs.events_lemmas.OwnEvents.{own-with_event}
 use Rattle.lane_outcomes.specs.Rows.{IsWord, IsFullShelf}
 use Rattle.step_machine.specs.Cores.{OwnsAfter}
 use Rattle.step_machine.specs.Moments.{IsMoment, IsServed}

@@ -14,7 +14,7 @@ use Rattle.errand_steps.specs.Begins.{alloc_answer}
 use Rattle.errand_steps.specs.Calls.{Call, alloc, free, write, read, put, take}
 use Rattle.errand_steps.specs.Errands.{ErrandFields}
 use Rattle.errand_steps.specs.declared.reply.Begun.TheVariants as begun
-use Rattle.call_events.specs.UnderWay.{IsUnderWay}
+use Rattle.sound_laws.specs.events.UnderWay.{IsUnderWay}
 use Rattle.step_machine.specs.Cores.{OwnsAfter}
 use Rattle.step_machine.specs.Moments.{IsServed}
 use Rattle.trace_text.specs.declared.limits.TheConstants.{REGISTERS}

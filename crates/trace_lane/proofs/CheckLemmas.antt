@@ -14,9 +14,9 @@ use Rattle.pool_model.proofs.WellFormedLemmas.{sound-of}
 use Rattle.errand_steps.specs.Errands.{ErrandFields}
 use Rattle.errand_steps.specs.declared.point.Point.{Point}
 use Rattle.errand_steps.specs.Calls as call
-use Rattle.call_events.specs.UnderWay.{IsUnderWay}
+use Rattle.sound_laws.specs.events.UnderWay.{IsUnderWay}
 use Rattle.step_machine.specs.Moments.{HasSeenMore}
-use Rattle.call_events.proofs.MadeLemmas.{sum-one}
+use Rattle.sound_laws.proofs.events_lemmas.MadeLemmas.{sum-one}
 use Rattle.lane_outcomes.specs.declared.registers.Held.{Held}
 use Rattle.lane_outcomes.specs.Rows.{IsSumOf, IsWord}
 use Rattle.lane_outcomes.specs.Standing.{OwnsHeld}

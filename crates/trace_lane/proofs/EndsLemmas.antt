@@ -16,8 +16,8 @@ use Rattle.pool_model.proofs.HistoryLemmas.{own-append}
 use Rattle.errand_steps.specs.Calls.{Call, read as read_call, take as take_call}
 use Rattle.errand_steps.specs.Errands.{ErrandFields}
 use Rattle.errand_steps.specs.tables.CallStage.{StageOfCall as CallStage, taking}
-use Rattle.call_events.specs.Stages.{stage_of}
-use Rattle.call_events.specs.UnderWay.{IsUnderWay, SoFar}
+use Rattle.sound_laws.specs.events.Stages.{stage_of}
+use Rattle.sound_laws.specs.events.UnderWay.{IsUnderWay, SoFar}
 use Rattle.step_machine.specs.Moments.{HasSeenMore}
 use Rattle.trace_text.specs.declared.trace.Op.{Op}
 use Rattle.trace_text.specs.declared.trace.Op.TheVariants as op

@@ -20,7 +20,7 @@ use Rattle.errand_steps.specs.declared.told.Ending.TheVariants as ending
 use Rattle.errand_steps.specs.declared.told.Stepped.TheVariants as stepped
 use Rattle.errand_steps.specs.Calls.{Call, write}
 use Rattle.errand_steps.specs.Errands.{ErrandFields}
-use Rattle.call_events.specs.UnderWay.{IsUnderWay}
+use Rattle.sound_laws.specs.events.UnderWay.{IsUnderWay}
 use Rattle.step_machine.specs.Moments.{IsServed}
 use Rattle.trace_text.specs.declared.limits.TheConstants.{REGISTERS}
 use Rattle.trace_text.specs.declared.trace.Op.{Op}

@@ -8,7 +8,7 @@ use Rattle.errand_steps.specs.declared.told.Stepped.{Stepped}
 use Rattle.errand_steps.specs.Begins.{IsBusy}
 use Rattle.errand_steps.specs.Errands.{ErrandFields}
 use Rattle.errand_steps.specs.Calls.{alloc, free, write, read, put, take}
-use Rattle.call_events.proofs.EndLemmas.{way-busy}
+use Rattle.sound_laws.proofs.events_lemmas.EndLemmas.{way-busy}
 use Rattle.sound_state.specs.Runs.{steps}
 use Rattle.step_machine.specs.Cores.{CoreFields, IsCore, errand_at}
 use Rattle.step_machine.specs.Moments.{HasSeenMore, IsServed}

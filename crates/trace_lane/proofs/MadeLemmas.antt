@@ -15,7 +15,7 @@ use Rattle.errand_steps.specs.Calls.{Call, alloc, free, write, put, take}
 use Rattle.step_machine.specs.Keeping.{LeavesPlace}
 use Rattle.trace_text.specs.declared.trace.Op.{Op}
 use Rattle.trace_text.specs.declared.trace.Op.TheVariants as op
-use Rattle.call_events.specs.Made.{LeadsBy, Made, Sums, answered, found_from, wrote}
+use Rattle.sound_laws.specs.events.Made.{LeadsBy, Made, Sums, answered, found_from, wrote}
 use Rattle.lane_engine.specs.Whole.{Copies, KeepBlocks, Maker, copied, copied_word}
 use Rattle.lane_engine.proofs.CopyLemmas.{copied-past, copied-read}
 use Rattle.lane_outcomes.specs.declared.registers.Held.{Held}

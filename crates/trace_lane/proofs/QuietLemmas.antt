@@ -17,7 +17,7 @@ use Rattle.pool_model.proofs.OwnerLemmas.{free-elsewhere, others-keep, owner-one
 use Rattle.pool_model.proofs.PoolLemmas.{block_at-past, block_at-without_other, block_at-changed_other}
 use Rattle.errand_steps.specs.Calls.{alloc}
 use Rattle.errand_steps.specs.tables.CallStage.{StageOfCall, asking, asking_run, refused, given}
-use Rattle.call_events.specs.UnderWay.{HasLooked, SoFar}
+use Rattle.sound_laws.specs.events.UnderWay.{HasLooked, SoFar}
 
 -- the event neither gives the block at this place away nor writes into it; none of the events does
 abbrev pub Quiet : ℕ → Event → Type 0

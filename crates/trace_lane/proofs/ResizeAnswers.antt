@@ -17,7 +17,7 @@ use Rattle.pool_model.proofs.HistoryLemmas.{legal-weaker}
 use Rattle.pool_model.proofs.NeedOfLemmas.{need_of-within}
 use Rattle.errand_steps.specs.Calls.{Call, free, read, write}
 use Rattle.errand_steps.specs.Errands.{ErrandFields}
-use Rattle.call_events.specs.UnderWay.{IsUnderWay}
+use Rattle.sound_laws.specs.events.UnderWay.{IsUnderWay}
 use Rattle.step_machine.specs.Moments.{IsServed}
 use Rattle.trace_text.specs.declared.limits.TheConstants.{REGISTERS}
 use Rattle.trace_text.specs.declared.trace.Op.{Op}

@@ -9,7 +9,7 @@ use Rattle.errand_steps.specs.Calls.{Call, alloc, free, put, take}
 use Rattle.trace_text.specs.declared.limits.TheConstants.{REGISTERS}
 use Rattle.trace_text.specs.declared.trace.Op.{Op}
 use Rattle.trace_text.specs.declared.trace.Op.TheVariants as op
-use Rattle.call_events.specs.Made.{LeadsBy, Made, answered, found_from, wrote}
+use Rattle.sound_laws.specs.events.Made.{LeadsBy, Made, answered, found_from, wrote}
 use Rattle.lane_engine.specs.Whole.{Maker, copied}
 use Rattle.lane_outcomes.specs.declared.registers.Held.{Held}
 use Rattle.lane_outcomes.specs.declared.outcome.Outcome.{Outcome}

@@ -9,7 +9,7 @@ use Rattle.pool_model.specs.Histories.{own, Begins}
 use Rattle.pool_model.specs.Pool.{Block, Pool, block_at, pool_of}
 use Rattle.errand_steps.specs.declared.point.Point.{Point}
 use Rattle.errand_steps.specs.Calls as call
-use Rattle.call_events.specs.UnderWay.{IsUnderWay}
+use Rattle.sound_laws.specs.events.UnderWay.{IsUnderWay}
 use Rattle.trace_text.specs.declared.trace.Op.{Op}
 use Rattle.trace_text.specs.declared.trace.Op.TheVariants as op
 use Rattle.lane_outcomes.specs.declared.registers.Held.{Held}

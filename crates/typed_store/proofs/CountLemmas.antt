@@ -13,7 +13,7 @@ use Rattle.pool_model.specs.Histories.{own}
 use Rattle.errand_steps.specs.declared.reply.Reply.{Reply}
 use Rattle.errand_steps.specs.declared.reply.Reply.TheVariants as reply
 use Rattle.errand_steps.specs.Calls.{Call, alloc, free, read, write}
-use Rattle.call_events.specs.Ends.{HasEnded, end_of}
+use Rattle.sound_laws.specs.events.Ends.{HasEnded, end_of}
 use Rattle.live_heap.specs.declared.pass.Pass.{Pass}
 use Rattle.live_heap.specs.Calls.{HasCalled}
 use Rattle.live_heap.specs.Passes.{seen}

@@ -7,8 +7,8 @@ use Rattle.pool_model.specs.Histories.{Begins, own}
 use Rattle.errand_steps.specs.Calls.{Call, read, write}
 use Rattle.errand_steps.specs.declared.reply.Reply.{Reply}
 use Rattle.errand_steps.specs.declared.reply.Reply.TheVariants as reply
-use Rattle.call_events.specs.Ends.{HasEnded}
-use Rattle.call_events.specs.Made.{LeadsBy, Made, answered}
+use Rattle.sound_laws.specs.events.Ends.{HasEnded}
+use Rattle.sound_laws.specs.events.Made.{LeadsBy, Made, answered}
 use Rattle.live_heap.specs.Heaps.{HeapFields}
 use Rattle.live_heap.specs.declared.pass.Pass.{Pass}
 use Rattle.live_heap.specs.Passes.{accesses, seen}

@@ -16,7 +16,7 @@ use Rattle.errand_steps.specs.declared.reply.Reply.{Reply}
 use Rattle.errand_steps.specs.declared.reply.Reply.TheVariants as reply
 use Rattle.errand_steps.specs.Begins.{IsIdle}
 use Rattle.errand_steps.specs.Calls.{Call, read, write}
-use Rattle.call_events.specs.Made.{LeadsBy, Made, answered}
+use Rattle.sound_laws.specs.events.Made.{LeadsBy, Made, answered}
 use Rattle.live_heap.specs.declared.block.Block.{Block}
 use Rattle.live_heap.specs.Heaps.{HeapFields}
 use Rattle.live_heap.specs.declared.pass.Pass.{Pass}
@@ -29,7 +29,7 @@ use Rattle.live_heap.proofs.Changes.{called-changes}
 use Rattle.live_heap.proofs.Exact.{called-exact}
 use Rattle.live_heap.proofs.LawsKept.{stays-home}
 use Rattle.typed_store.specs.Nodes.{node_at, node_of}
-use Rattle.call_events.specs.Ends.{HasEnded}
+use Rattle.sound_laws.specs.events.Ends.{HasEnded}
 use Rattle.pool_model.specs.declared.event.Event.{Event}
 use Rattle.pool_model.specs.Counts.{is_alloc, is_free}
 use Rattle.typed_store.specs.Passings.{KeepsWords, Rests}

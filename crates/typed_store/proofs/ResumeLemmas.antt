@@ -141,7 +141,7 @@ busy-on h s tries q u same of tells = record {
 
 -- an allocation frees nothing, and a free gives, refuses and spends nothing
 pub never : (p q : Pass) (call : Call) (steps : ℕ) (answer : Rattle.errand_steps.specs.declared.reply.Reply.Reply)
-    → Rattle.call_events.specs.Ends.end_of call answer ≡ None → HasCalled p call steps answer q → ⊥
+    → Rattle.sound_laws.specs.events.Ends.end_of call answer ≡ None → HasCalled p call steps answer q → ⊥
 never p q call steps answer none called = none-some called.ended.ended.0 (sym none ∙ called.ended.ended.1)
 
 -- the store waits for the free of a block

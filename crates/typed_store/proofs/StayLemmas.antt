@@ -5,7 +5,7 @@ use Rattle.std.specs.List.{AllZip}
 use Rattle.std.proofs.lemmas.List.Elements.{All-head, All-tail}
 use Rattle.std.proofs.lemmas.Option.{none-some}
 use Rattle.errand_steps.specs.tables.CallStage.{StageOfCall, freed, given}
-use Rattle.call_events.specs.Stages.{stage_of}
+use Rattle.sound_laws.specs.events.Stages.{stage_of}
 use Rattle.pool_model.specs.Pool.{Block as PoolBlock}
 use Rattle.errand_steps.specs.declared.reply.Reply.TheVariants as reply
 use Rattle.errand_steps.specs.Calls.{alloc, free}

@@ -6,7 +6,7 @@ use Rattle.errand_steps.specs.declared.reply.Reply.TheVariants as reply
 use Rattle.pool_model.specs.declared.event.Event.{Event}
 use Rattle.pool_model.specs.declared.event.Event.TheVariants.{Write}
 use Rattle.errand_steps.specs.Calls.{Call, read, write}
-use Rattle.call_events.specs.Made.{LeadsBy, Made, answered, found_from}
+use Rattle.sound_laws.specs.events.Made.{LeadsBy, Made, answered, found_from}
 use Rattle.live_heap.specs.declared.block.Block.{Block}
 use Rattle.live_heap.specs.Heaps.{HeapFields}
 use Rattle.live_heap.specs.declared.pass.Pass.{Pass}

@@ -1,7 +1,7 @@
 //! Laws of stores: theorems about the definitions, on a function that does nothing.
 
 ghost use Rattle.std.specs.Prelude.{ℕ, ◌≡◌, ◌+◌, ◌++◌, List, All, Some, length, slice_get};
-ghost use Rattle.call_events.specs.Made.{Made};
+ghost use Rattle.sound_laws.specs.events.Made.{Made};
 ghost use Rattle.live_heap.specs.declared.block.Block.{Block};
 ghost use Rattle.live_heap.specs.Heaps.{HeapFields};
 ghost use Rattle.live_heap.specs.declared.pass.Pass.{Pass};

@@ -7,7 +7,7 @@ use Rattle.errand_steps.specs.declared.reply.Reply.TheVariants as reply
 use Rattle.errand_steps.specs.Begins.{IsIdle}
 use Rattle.errand_steps.specs.Calls.{Call, alloc, read, take, write}
 use Rattle.errand_steps.specs.Errands.{ErrandFields}
-use Rattle.call_events.specs.Made.{LeadsBy, Made, answered}
+use Rattle.sound_laws.specs.events.Made.{LeadsBy, Made, answered}
 use Rattle.step_machine.specs.Cores.{OwnsAfter}
 use Rattle.step_machine.specs.Keeping.{Hands, LeavesPlace}
 use Rattle.live_heap.specs.Heaps.{HeapFields}

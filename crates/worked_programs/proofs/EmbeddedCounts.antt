@@ -13,8 +13,8 @@ use Rattle.pool_model.specs.Histories.{caller_of, own}
 use Rattle.errand_steps.specs.declared.reply.Reply.{Reply}
 use Rattle.errand_steps.specs.declared.reply.Reply.TheVariants as reply
 use Rattle.errand_steps.specs.Calls.{Call, alloc, free, put, read, take, write}
-use Rattle.call_events.specs.Ends.{end_of}
-use Rattle.call_events.specs.Made.{LeadsBy}
+use Rattle.sound_laws.specs.events.Ends.{end_of}
+use Rattle.sound_laws.specs.events.Made.{LeadsBy}
 use Rattle.live_heap.specs.Heaps.{HeapFields}
 use Rattle.live_heap.specs.declared.pass.Pass.{Pass}
 use Rattle.live_heap.specs.Passes.{seen}

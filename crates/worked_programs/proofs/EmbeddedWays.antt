@@ -18,7 +18,7 @@ use Rattle.pool_model.proofs.OwnedLemmas.{owned-found}
 use Rattle.errand_steps.specs.declared.reply.Reply.{Reply}
 use Rattle.errand_steps.specs.declared.reply.Reply.TheVariants as reply
 use Rattle.errand_steps.specs.Calls.{Call, alloc, free, put, read, take, write}
-use Rattle.call_events.specs.Made.{LeadsBy}
+use Rattle.sound_laws.specs.events.Made.{LeadsBy}
 use Rattle.live_heap.specs.Heaps.{HeapFields}
 use Rattle.live_heap.specs.declared.pass.Pass.{Pass}
 use Rattle.live_heap.specs.Calls.{HasCalled}

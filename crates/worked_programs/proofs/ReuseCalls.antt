@@ -8,8 +8,8 @@ use Rattle.errand_steps.specs.declared.reply.Reply.{Reply}
 use Rattle.errand_steps.specs.declared.reply.Reply.TheVariants as reply
 use Rattle.errand_steps.specs.Begins.{IsIdle}
 use Rattle.errand_steps.specs.Calls.{Call, alloc, free, read, write}
-use Rattle.call_events.specs.Made.{LeadsBy, Made, answered}
-use Rattle.call_events.proofs.MadeLemmas.{leads-more}
+use Rattle.sound_laws.specs.events.Made.{LeadsBy, Made, answered}
+use Rattle.sound_laws.proofs.events_lemmas.MadeLemmas.{leads-more}
 use Rattle.live_heap.specs.declared.answers.AllocAnswer.{AllocAnswer}
 use Rattle.live_heap.specs.declared.answers.AllocAnswer.TheVariants as answer
 use Rattle.live_heap.specs.declared.answers.FreeAnswer.{FreeAnswer}

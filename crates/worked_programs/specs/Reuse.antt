@@ -5,7 +5,7 @@ use Rattle.pool_model.specs.Pool.{pool_of}
 use Rattle.errand_steps.specs.declared.reply.Reply.{Reply}
 use Rattle.errand_steps.specs.declared.reply.Reply.TheVariants as reply
 use Rattle.errand_steps.specs.Calls.{Call, alloc, free, read, write}
-use Rattle.call_events.specs.Made.{LeadsBy, Made, answered}
+use Rattle.sound_laws.specs.events.Made.{LeadsBy, Made, answered}
 use Rattle.sound_state.specs.Sums.{sum_below}
 use Rattle.live_heap.specs.declared.answers.FreeAnswer.TheVariants as free_answer
 use Rattle.live_heap.specs.Heaps.{HeapFields}

@@ -13,13 +13,13 @@ use Rattle.word_table.specs.Seats.{SeatFields}
 use Rattle.word_table.specs.Sites.{info_at, active_name}
 use Rattle.word_table.specs.declared.name.WordName.TheVariants as name
 use Rattle.word_table.specs.declared.seat.Site.{Site}
-use Rattle.superblock_parts.specs.Anchors.{new_credits, new_anchor}
-use Rattle.superblock_parts.specs.Chains.{prefix_name}
-use Rattle.superblock_parts.specs.Points.{seat_of_block}
-use Rattle.superblock_parts.specs.declared.point.BlockPoint.TheVariants as block
-use Rattle.superblock_parts.specs.declared.point.BlockPoint.{BlockPoint}
-use Rattle.superblock_parts.specs.declared.point.Share.TheVariants.{Grant, Credit, LastCredit}
-use Rattle.superblock_parts.specs.declared.point.Share.{Share}
+use Rattle.step_parts.specs.superblock.Anchors.{new_credits, new_anchor}
+use Rattle.step_parts.specs.superblock.Chains.{prefix_name}
+use Rattle.step_parts.specs.superblock.Points.{seat_of_block}
+use Rattle.step_parts.specs.declared.superblock.point.BlockPoint.TheVariants as block
+use Rattle.step_parts.specs.declared.superblock.point.BlockPoint.{BlockPoint}
+use Rattle.step_parts.specs.declared.superblock.point.Share.TheVariants.{Grant, Credit, LastCredit}
+use Rattle.step_parts.specs.declared.superblock.point.Share.{Share}
 use Rattle.pool_model.specs.declared.event.Event.TheVariants as event
 use Rattle.pool_model.specs.declared.event.Event.{Event}
 use Rattle.errand_steps.specs.Continuations.{is_alloc, is_free}

@@ -3,8 +3,8 @@ use Rattle.std.specs.Prelude.{Bool, List, [], ◌∷◌, ℕ, ◌+◌, ◌-◌, 
 use Rattle.heap_geometry.specs.declared.geometry.Geometry.{Geometry}
 use Rattle.word_table.specs.Seats.{SeatFields}
 use Rattle.word_table.specs.declared.name.WordName.TheVariants as name
-use Rattle.hazard_parts.specs.declared.point.DescPoint.TheVariants as desc
-use Rattle.hazard_parts.specs.declared.point.DescPoint.{DescPoint}
+use Rattle.step_parts.specs.declared.hazard.point.DescPoint.TheVariants as desc
+use Rattle.step_parts.specs.declared.hazard.point.DescPoint.{DescPoint}
 use Rattle.errand_steps.specs.Continuations.{is_alloc, clears, resumes}
 use Rattle.errand_steps.specs.declared.continuation.Continuation.{Continuation}
 use Rattle.errand_steps.specs.tables.Expected.{Expected, expect, continuation_expects}

@@ -6,10 +6,10 @@ use Rattle.heap_geometry.specs.declared.need.Need.TheVariants.{Large}
 use Rattle.packed_words.specs.Shelf.{shelf_word}
 use Rattle.packed_words.specs.declared.shelf.ShelfWord.TheVariants as lies
 use Rattle.word_table.specs.declared.name.WordName.TheVariants as name
-use Rattle.large_parts.specs.Points.{first_wanted}
-use Rattle.large_parts.specs.Runs.{WantFields}
-use Rattle.large_parts.specs.declared.point.LargePoint.TheVariants as large
-use Rattle.large_parts.specs.declared.point.LargePoint.{LargePoint}
+use Rattle.step_parts.specs.large.Points.{first_wanted}
+use Rattle.step_parts.specs.large.Runs.{WantFields}
+use Rattle.step_parts.specs.declared.large.point.LargePoint.TheVariants as large
+use Rattle.step_parts.specs.declared.large.point.LargePoint.{LargePoint}
 use Rattle.pool_model.specs.declared.event.Event.TheVariants as event
 use Rattle.pool_model.specs.declared.event.Event.{Event}
 use Rattle.errand_steps.specs.Continuations.{IsRunFor, is_last}

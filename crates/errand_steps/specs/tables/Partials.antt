@@ -2,9 +2,9 @@
 use Rattle.std.specs.Prelude.{Bool, List, [], ◌∷◌, ◌+◌, ℕ, ◌-◌}
 use Rattle.heap_geometry.specs.declared.geometry.Geometry.{Geometry}
 use Rattle.word_table.specs.Sites.{slot_name}
-use Rattle.partial_parts.specs.Points.{slot_of}
-use Rattle.partial_parts.specs.declared.point.PartialPoint.TheVariants as partial
-use Rattle.partial_parts.specs.declared.point.PartialPoint.{PartialPoint}
+use Rattle.step_parts.specs.partial.Points.{slot_of}
+use Rattle.step_parts.specs.declared.partial.point.PartialPoint.TheVariants as partial
+use Rattle.step_parts.specs.declared.partial.point.PartialPoint.{PartialPoint}
 use Rattle.errand_steps.specs.Continuations.{is_alloc, is_free, fills, is_finish, is_clearing}
 use Rattle.errand_steps.specs.declared.continuation.Continuation.TheVariants as continuation
 use Rattle.errand_steps.specs.declared.continuation.Continuation.{Continuation}

@@ -6,7 +6,7 @@ use Rattle.packed_words.specs.Head.{HeadFields}
 use Rattle.word_table.specs.Seats.{SeatFields}
 use Rattle.word_table.specs.declared.name.WordName.{WordName}
 use Rattle.word_table.specs.declared.seat.Site.{Site}
-use Rattle.stack_parts.specs.declared.point.Pile.{Pile}
+use Rattle.step_parts.specs.declared.stack.point.Pile.{Pile}
 use Rattle.errand_steps.specs.Points.{site_of}
 use Rattle.errand_steps.specs.declared.continuation.Continuation.TheVariants as continuation
 use Rattle.errand_steps.specs.declared.continuation.Continuation.{Continuation}

@@ -3,11 +3,11 @@ use Rattle.std.specs.Prelude.{Bool, ℕ, Option, Some, None, List, ◌∷◌, �
 use Rattle.heap_geometry.specs.declared.geometry.Geometry.{Geometry}
 use Rattle.packed_words.specs.Head.{HeadFields, head_word}
 use Rattle.word_table.specs.Seats.{SeatFields}
-use Rattle.stack_parts.specs.Piles.{next_name, head_name}
-use Rattle.stack_parts.specs.declared.point.Pile.TheVariants.{Frames, Partials}
-use Rattle.stack_parts.specs.declared.point.Pile.{Pile}
-use Rattle.stack_parts.specs.declared.point.StackPoint.TheVariants as stack
-use Rattle.stack_parts.specs.declared.point.StackPoint.{StackPoint}
+use Rattle.step_parts.specs.stack.Piles.{next_name, head_name}
+use Rattle.step_parts.specs.declared.stack.point.Pile.TheVariants.{Frames, Partials}
+use Rattle.step_parts.specs.declared.stack.point.Pile.{Pile}
+use Rattle.step_parts.specs.declared.stack.point.StackPoint.TheVariants as stack
+use Rattle.step_parts.specs.declared.stack.point.StackPoint.{StackPoint}
 use Rattle.pool_model.specs.declared.event.Event.TheVariants as event
 use Rattle.pool_model.specs.declared.event.Event.{Event}
 use Rattle.errand_steps.specs.Continuations.{pops, confirms, pushes}

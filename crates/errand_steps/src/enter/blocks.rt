@@ -2,19 +2,19 @@
 
 ghost use Rattle.std.specs.Prelude.{◌≡◌};
 ghost use Rattle.heap_geometry.specs.Place.{block_place};
-ghost use Rattle.stack_parts.specs.declared.point.Pile.{Pile};
-ghost use Rattle.stack_parts.specs.declared.point.StackPoint.{StackPoint};
-ghost use Rattle.superblock_parts.specs.declared.exit.BlockExit.{BlockExit};
+ghost use Rattle.step_parts.specs.declared.stack.point.Pile.{Pile};
+ghost use Rattle.step_parts.specs.declared.stack.point.StackPoint.{StackPoint};
+ghost use Rattle.step_parts.specs.declared.superblock.exit.BlockExit.{BlockExit};
 ghost use Rattle.errand_steps.specs.Nexts.{leave_block, finish};
 
 use crate::continuation::{Continuation, asked};
 use crate::next::Next;
 use crate::reply::Reply;
-use hazard_parts::point::DescPoint;
 use heap_geometry::need::Need;
-use partial_parts::point::PartialPoint;
-use stack_parts::point::{Pile, StackPoint};
-use superblock_parts::exit::BlockExit;
+use step_parts::hazard::point::DescPoint;
+use step_parts::partial::point::PartialPoint;
+use step_parts::stack::point::{Pile, StackPoint};
+use step_parts::superblock::exit::BlockExit;
 use word_table::seat::{Seat, Site};
 
 /// What follows where a superblock is left by this exit.

@@ -6,8 +6,8 @@ ghost use Rattle.errand_steps.specs.Nexts.{leave_desc, cleared};
 use crate::continuation::{Continuation, asked};
 use crate::next::Next;
 use crate::reply::Reply;
-use hazard_parts::exit::DescExit;
-use stack_parts::point::{Pile, StackPoint};
+use step_parts::hazard::exit::DescExit;
+use step_parts::stack::point::{Pile, StackPoint};
 use word_table::seat::Seat;
 
 /// What follows where the descriptors or the hazard words are left by this exit.

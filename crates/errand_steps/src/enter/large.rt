@@ -9,8 +9,8 @@ ghost use Rattle.errand_steps.specs.Nexts.{leave_large};
 use crate::point::Point;
 use crate::reply::Reply;
 use heap_geometry::need::Need;
-use large_parts::exit::LargeExit;
-use large_parts::point::exit_on_word;
+use step_parts::large::exit::LargeExit;
+use step_parts::large::point::exit_on_word;
 use word_table::action::Found;
 
 /// The reply with which the call ends where a large block, a usable word or a shelf is left by this exit.

@@ -1,17 +1,17 @@
 //! From a partial superblock.
 
 ghost use Rattle.std.specs.Prelude.{◌≡◌};
-ghost use Rattle.stack_parts.specs.declared.point.Pile.{Pile};
-ghost use Rattle.stack_parts.specs.declared.point.StackPoint.{StackPoint};
+ghost use Rattle.step_parts.specs.declared.stack.point.Pile.{Pile};
+ghost use Rattle.step_parts.specs.declared.stack.point.StackPoint.{StackPoint};
 ghost use Rattle.errand_steps.specs.Nexts.{leave_partial, listed_empty, listed_partial};
 
 use crate::continuation::{Continuation, asked};
 use crate::enter::stacks::{push_partial, put_away};
 use crate::next::Next;
-use hazard_parts::point::DescPoint;
-use partial_parts::exit::PartialExit;
-use stack_parts::point::{Pile, StackPoint};
-use superblock_parts::point::{BlockPoint, Share};
+use step_parts::hazard::point::DescPoint;
+use step_parts::partial::exit::PartialExit;
+use step_parts::stack::point::{Pile, StackPoint};
+use step_parts::superblock::point::{BlockPoint, Share};
 use word_table::seat::Seat;
 
 /// What follows where a partial superblock is left by this exit.

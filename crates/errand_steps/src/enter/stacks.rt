@@ -1,20 +1,20 @@
 //! From a stack.
 
 ghost use Rattle.std.specs.Prelude.{◌≡◌};
-ghost use Rattle.stack_parts.specs.declared.point.Pile.{Pile};
-ghost use Rattle.stack_parts.specs.declared.point.StackPoint.{StackPoint};
+ghost use Rattle.step_parts.specs.declared.stack.point.Pile.{Pile};
+ghost use Rattle.step_parts.specs.declared.stack.point.StackPoint.{StackPoint};
 ghost use Rattle.errand_steps.specs.Nexts.{leave_stack, put_away, found_empty, confirmed_empty, popped};
 
 use crate::continuation::Continuation;
 use crate::enter::blocks::finish;
 use crate::next::Next;
 use crate::reply::Reply;
-use hazard_parts::point::DescPoint;
 use packed_words::head::Head;
-use partial_parts::point::PartialPoint;
-use stack_parts::exit::StackExit;
-use stack_parts::point::{Pile, StackPoint};
-use superblock_parts::point::BlockPoint;
+use step_parts::hazard::point::DescPoint;
+use step_parts::partial::point::PartialPoint;
+use step_parts::stack::exit::StackExit;
+use step_parts::stack::point::{Pile, StackPoint};
+use step_parts::superblock::point::BlockPoint;
 use word_table::seat::{Seat, Site};
 
 /// What follows where a stack is left by this exit.

@@ -11,7 +11,7 @@ ghost use Rattle.errand_steps.specs.declared.reply.Reply.TheVariants as reply;
 ghost use Rattle.errand_steps.specs.Calls.{Call, alloc};
 ghost use Rattle.errand_steps.specs.Errands.{ErrandFields};
 ghost use Rattle.errand_steps.specs.Steps.{event_at};
-ghost use Rattle.call_events.specs.Stages.{stage_of};
+ghost use Rattle.sound_laws.specs.events.Stages.{stage_of};
 ghost use Rattle.step_machine.specs.Moments.{IsMoment};
 ghost use Rattle.live_heap.specs.declared.block.Block.{Block};
 ghost use Rattle.live_heap.specs.Heaps.{HeapFields};

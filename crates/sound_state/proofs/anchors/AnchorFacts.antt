@@ -5,7 +5,7 @@ use Rattle.sound_state.proofs.Common.{holds_of, errand_has, Lists, IsSoundWith, 
 use Rattle.sound_state.proofs.Common.{kept_among, waiting_of, word_reserves, reserved_of, anchor_of-anchor_word, new_anchor, making, IsSo}
 use Rattle.std.specs.List.{AllByRecursion}
 use Rattle.word_table.specs.declared.name.WordName.TheVariants as name
-use Rattle.superblock_parts.specs.declared.point.BlockPoint.TheVariants as block
+use Rattle.step_parts.specs.declared.superblock.point.BlockPoint.TheVariants as block
 use Rattle.sound_state.proofs.shared.UnplacedLemmas.{IsUnplaced, way-unplaced}
 use Rattle.sound_state.proofs.anchors.NewSuperblocks.{unbound-reserves}
 use Rattle.sound_state.proofs.shared.SumLemmas.{callers-none, sum-least, term-sum}

@@ -5,7 +5,7 @@ use Rattle.std.specs.List.{AllByRecursion}
 use Rattle.sound_state.proofs.Common.{Geometry, Site, is_empty, own, Point, ErrandFields, State, on_its_way, Lists, IsLocated, IsSo, recalls_of}
 use Rattle.sound_state.proofs.Common.{IsSoundWith, callers_sum, kept_among, is_bound, errand_keeps, IsEmptied, IsRemembered}
 use Rattle.sound_state.proofs.Common.{Part, bindings, chains, single}
-use Rattle.superblock_parts.specs.declared.point.BlockPoint.TheVariants as block
+use Rattle.step_parts.specs.declared.superblock.point.BlockPoint.TheVariants as block
 use Rattle.errand_steps.specs.declared.point.Point.TheVariants as point
 use Rattle.sound_state.proofs.shared.MakingWeights.{it-here, making-ways, is_it}
 use Rattle.sound_state.proofs.shared.RecallEffects.{IsSteadyWord, Leaves, IsLeft, lies-still, remembered-left}

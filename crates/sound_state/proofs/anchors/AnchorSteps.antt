@@ -4,7 +4,7 @@ use Rattle.sound_state.proofs.Common.{block_count_of, block_place, frame_of-bloc
 use Rattle.sound_state.proofs.Common.{Continuation, Block, event_of, next_of, plan_point_of, holds_of, IsLocated, recalls_of, info_or_zero, is_there, live_at}
 use Rattle.sound_state.proofs.Common.{info-exact, info_at, new_anchor}
 use Rattle.word_table.specs.declared.name.WordName.TheVariants as name
-use Rattle.superblock_parts.specs.declared.point.BlockPoint.TheVariants as block
+use Rattle.step_parts.specs.declared.superblock.point.BlockPoint.TheVariants as block
 use Rattle.pool_model.specs.Pool.{Block as Live}
 use Rattle.sound_state.proofs.anchors.AnchorFacts.{Anchors, MakesAnchor}
 use Rattle.sound_state.proofs.shared.MakingPlaces.{is-making, live-unmade}

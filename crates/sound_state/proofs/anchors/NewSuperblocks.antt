@@ -8,7 +8,7 @@ use Rattle.sound_state.proofs.Common.{Geometry, CLASSES, block_count_of, block_p
 use Rattle.sound_state.proofs.Common.{BlockPoint, Share, Point, State, holds_before_pop, holds_of, word_keeps, Lists, IsSo, recalls_of, IsSoundWith, words_sum, callers_sum}
 use Rattle.sound_state.proofs.Common.{Superblock, IsChained, is_bound, free_chain, live_at, word_reserves, reserved_among, errand_reserves, reserved_of}
 use Rattle.sound_state.proofs.Common.{block_count_of-least, block_count_of-most, new_anchor, chain_of, block_holds, active_keeps, AreMade, block_recalls, offered}
-use Rattle.superblock_parts.specs.Anchors.{new_link}
+use Rattle.step_parts.specs.superblock.Anchors.{new_link}
 use Rattle.errand_steps.specs.declared.point.Point.TheVariants as point
 use Rattle.sound_state.proofs.beginnings.OpeningLists.{indexes, indexes-before, indexes-once, indexes-end, indexes-chained}
 use Rattle.sound_state.proofs.shared.SumLemmas.{sum-none, term-sum, callers-none}

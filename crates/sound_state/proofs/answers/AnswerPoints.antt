@@ -4,10 +4,10 @@ use Rattle.heap_geometry.specs.declared.need.Need.TheVariants as need
 use Rattle.sound_state.proofs.Common.{block_place, Found, BlockPoint, StackPoint, DescPoint, PartialPoint, LargePoint, Continuation, Reply, ErrandFields, Onward}
 use Rattle.sound_state.proofs.Common.{settle_block_of, settle_stack_of, settle_desc_of, settle_partial_of, LargeExit, WantFields, enter_block, enter_stack, enter_desc}
 use Rattle.sound_state.proofs.Common.{enter_partial, enter_large}
-use Rattle.superblock_parts.specs.declared.point.BlockPoint.TheVariants as block
-use Rattle.stack_parts.specs.declared.point.StackPoint.TheVariants as stack
-use Rattle.hazard_parts.specs.declared.point.DescPoint.TheVariants as desc
-use Rattle.large_parts.specs.Points.{after_take}
+use Rattle.step_parts.specs.declared.superblock.point.BlockPoint.TheVariants as block
+use Rattle.step_parts.specs.declared.stack.point.StackPoint.TheVariants as stack
+use Rattle.step_parts.specs.declared.hazard.point.DescPoint.TheVariants as desc
+use Rattle.step_parts.specs.large.Points.{after_take}
 use Rattle.errand_steps.specs.declared.continuation.Continuation.TheVariants as continuation
 use Rattle.errand_steps.specs.declared.reply.Reply.TheVariants as reply
 use Rattle.errand_steps.specs.Nexts.{leave_large}

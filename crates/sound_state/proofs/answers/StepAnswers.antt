@@ -11,9 +11,9 @@ use Rattle.heap_geometry.specs.declared.need.Need.TheVariants as need
 use Rattle.packed_words.specs.declared.shelf.ShelfWord.TheVariants as lies
 use Rattle.word_table.specs.declared.name.WordName.TheVariants as name
 use Rattle.word_table.specs.declared.onward.Onward.TheVariants.{Stays}
-use Rattle.large_parts.specs.declared.exit.LargeExit.TheVariants as exit
-use Rattle.large_parts.specs.declared.point.LargePoint.TheVariants as large
-use Rattle.large_parts.specs.Points.{after_take, payload_name}
+use Rattle.step_parts.specs.declared.large.exit.LargeExit.TheVariants as exit
+use Rattle.step_parts.specs.declared.large.point.LargePoint.TheVariants as large
+use Rattle.step_parts.specs.large.Points.{after_take, payload_name}
 use Rattle.pool_model.specs.declared.event.Event.TheVariants.{Free}
 use Rattle.pool_model.specs.declared.owner.Owner.TheVariants.{Shelf}
 use Rattle.pool_model.proofs.HistoryLemmas.{EachAfter-last}
@@ -31,9 +31,9 @@ use Rattle.sound_state.proofs.shared.PointLemmas.{fits-now, hands-at, recalled-a
 use Rattle.sound_state.proofs.shared.ShelfFacts.{owned-or-none, shelf-fits}
 use Rattle.sound_state.proofs.shared.StepLemmas.{found_from}
 use Rattle.sound_state.proofs.shared.WordFacts.{payload-uncut}
-use Rattle.superblock_parts.specs.declared.point.BlockPoint.TheVariants as block
-use Rattle.stack_parts.specs.declared.point.StackPoint.TheVariants as stack
-use Rattle.hazard_parts.specs.declared.point.DescPoint.TheVariants as desc
+use Rattle.step_parts.specs.declared.superblock.point.BlockPoint.TheVariants as block
+use Rattle.step_parts.specs.declared.stack.point.StackPoint.TheVariants as stack
+use Rattle.step_parts.specs.declared.hazard.point.DescPoint.TheVariants as desc
 use Rattle.sound_state.proofs.shared.EventFacts.{refused-ends}
 
 -- a caller that has no turn left begins none

@@ -7,8 +7,8 @@ use Rattle.sound_state.proofs.Common.{BlockPoint, Share, block_at, pool_of, plac
 use Rattle.sound_state.proofs.Common.{holds_of, Lists, IsSo, IsOwned, recalls_of, IsSoundWith, sum_below, words_sum, callers_sum, Superblock}
 use Rattle.sound_state.proofs.Common.{IsChained, superblock_of, free_chain, live_at, is_there, info_for, is_bound, waiting_of, reserved_of, word_reserves, reserved_among}
 use Rattle.sound_state.proofs.Common.{errand_reserves, kept_among, errand_keeps, FitsBlock, keep, reserve, block_handed, block_holds, block_recalls}
-use Rattle.superblock_parts.specs.declared.point.BlockPoint.TheVariants as block
-use Rattle.superblock_parts.proofs.ChainLemmas.{chain_of-length}
+use Rattle.step_parts.specs.declared.superblock.point.BlockPoint.TheVariants as block
+use Rattle.step_parts.proofs.superblock_lemmas.ChainLemmas.{chain_of-length}
 use Rattle.pool_model.specs.Pool.{Block}
 use Rattle.pool_model.specs.Legal.{IsBare}
 use Rattle.errand_steps.specs.declared.point.Point.TheVariants as point

@@ -4,7 +4,7 @@ use Rattle.sound_state.proofs.Common.{Geometry, CLASSES, ActiveWord, Null, Held,
 use Rattle.sound_state.proofs.Common.{ErrandFields, State, fills_frame, errand_frames, holds_of, Lists, sum_below, words_sum, callers_sum, info_for, is_bound, waiting_of}
 use Rattle.sound_state.proofs.Common.{word_name-Exists}
 use Rattle.word_table.specs.declared.name.WordName.TheVariants as name
-use Rattle.superblock_parts.specs.declared.point.BlockPoint.TheVariants as block
+use Rattle.step_parts.specs.declared.superblock.point.BlockPoint.TheVariants as block
 use Rattle.errand_steps.specs.declared.point.Point.TheVariants as point
 use Rattle.sound_state.proofs.shared.HeapNames.{active_one, actives-most}
 use Rattle.sound_state.proofs.shared.WeightSums.{words-together, callers-together}

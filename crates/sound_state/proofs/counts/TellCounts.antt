@@ -4,7 +4,7 @@ use Rattle.std.proofs.lemmas.Option.{none-some}
 use Rattle.sound_state.proofs.Common.{Geometry, CLASSES, Need, HeadFields, head_of, SeatFields, BlockPoint, Pile, StackPoint, head_name, LargePoint, Event, pool_of}
 use Rattle.sound_state.proofs.Common.{Continuation, Point, event_of, FitsPoint, asked, plan_point_of, State, found_at, Holding, holds_of, Lists, IsSoundWith, IsHead}
 use Rattle.sound_state.proofs.Common.{head_word, head_of-head_word, Pool, FitsInStack, confirms, stack_holds, continuation_holds}
-use Rattle.stack_parts.specs.Points.{IsBare}
+use Rattle.step_parts.specs.stack.Points.{IsBare}
 use Rattle.pool_model.specs.Legal.{IsCounted, IsCountedFor, IsCrowded, IsWorn}
 use Rattle.errand_steps.specs.declared.point.Point.TheVariants as point
 use Rattle.errand_steps.specs.Events.{won_event}

@@ -8,9 +8,9 @@ use Rattle.sound_state.proofs.Common.{Unlist, Continuation, Point, Block, Desc, 
 use Rattle.sound_state.proofs.Common.{pushed_by, next_of, plan_point_of, State, Moves, found_at, with_event, passed_by, held_by, holds_of, IsWithout, Lists, IsSo}
 use Rattle.sound_state.proofs.Common.{recalls_of, IsSoundWith, waits_in, IsErrand, plan_of, after_turn, begins_turn, point_after, counts_won, resumed, nothing}
 use Rattle.word_table.specs.declared.name.WordName.TheVariants as name
-use Rattle.superblock_parts.specs.declared.point.BlockPoint.TheVariants as block
-use Rattle.hazard_parts.specs.Retired.{without}
-use Rattle.hazard_parts.specs.declared.point.DescPoint.TheVariants as desc
+use Rattle.step_parts.specs.declared.superblock.point.BlockPoint.TheVariants as block
+use Rattle.step_parts.specs.hazard.Retired.{without}
+use Rattle.step_parts.specs.declared.hazard.point.DescPoint.TheVariants as desc
 use Rattle.errand_steps.specs.declared.continuation.Continuation.TheVariants as continuation
 use Rattle.errand_steps.specs.declared.reply.Reply.TheVariants as reply
 use Rattle.errand_steps.specs.Continuations.{resumes}

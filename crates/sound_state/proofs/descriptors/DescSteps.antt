@@ -6,7 +6,7 @@ use Rattle.sound_state.proofs.Common.{Geometry, Found, name_of, after_action, de
 use Rattle.sound_state.proofs.Common.{ErrandFields, counts_cleared, raised, event_of, next_of, plan_point_of, State, Moves, found_at, with_event, IsGuard, holds_of}
 use Rattle.sound_state.proofs.Common.{IsWithout, Lists, IsSo, recalls_of}
 use Rattle.word_table.specs.declared.name.WordName.TheVariants as name
-use Rattle.hazard_parts.specs.declared.point.DescPoint.TheVariants as desc
+use Rattle.step_parts.specs.declared.hazard.point.DescPoint.TheVariants as desc
 use Rattle.sound_state.proofs.shared.HasLemmas.{ways-one}
 use Rattle.sound_state.proofs.shared.ShownLemmas.{with_available}
 use Rattle.sound_state.proofs.descriptors.DescRecalls.{recalls-popped}

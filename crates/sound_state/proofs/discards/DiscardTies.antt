@@ -3,7 +3,7 @@ use Rattle.std.proofs.Common.{ℕ, ◌≡◌, ◌≢◌, ap, sym, subst, ◌∙�
 use Rattle.sound_state.proofs.Common.{Geometry, Need, Small, block_place, frame_of-block_place, Site, block_at, pool_of, ErrandFields, State, Lists, IsLocated, IsOwned}
 use Rattle.sound_state.proofs.Common.{IsSoundWithoutCounts, IsSoundWith, info_for, IsTied, IsLive, IsBlockOfDesc}
 use Rattle.word_table.specs.declared.name.WordName.TheVariants as name
-use Rattle.superblock_parts.specs.Points.{IsBlockOf}
+use Rattle.step_parts.specs.superblock.Points.{IsBlockOf}
 use Rattle.pool_model.specs.Pool.{Block}
 use Rattle.sound_state.proofs.discards.DiscardEffects.{Discards}
 use Rattle.sound_state.proofs.discards.DiscardFacts.{discarded-descs, discarded-bound, nothing-there, discarded-holds}

@@ -2,7 +2,7 @@
 use Rattle.std.proofs.Common.{ℕ, Some, ◌≡◌, ◌≤◌, ◌+◌, arith, ◌⊎◌}
 use Rattle.sound_state.proofs.Common.{WordName, name_of, after_action, SeatFields, Continuation, Point, pushed_by, plan_point_of, partly_used, holds_of, kept_among}
 use Rattle.word_table.specs.declared.name.WordName.TheVariants as name
-use Rattle.hazard_parts.specs.declared.point.DescPoint.TheVariants as desc
+use Rattle.step_parts.specs.declared.hazard.point.DescPoint.TheVariants as desc
 use Rattle.errand_steps.specs.declared.point.Point.TheVariants as point
 
 -- the word is neither a next word of a descriptor nor the head of the available ones

@@ -5,7 +5,7 @@ use Rattle.sound_state.proofs.Common.{Geometry, WordName, after_action, descript
 use Rattle.sound_state.proofs.Common.{pushed_by, plan_point_of, State, Step, name_at, errand_has, Lists, recalls_of, IsSoundWithoutCounts, IsSoundWith, callers_sum}
 use Rattle.sound_state.proofs.Common.{occurs-here, occurs-more}
 use Rattle.word_table.specs.declared.name.WordName.TheVariants as name
-use Rattle.hazard_parts.specs.declared.point.DescPoint.TheVariants as desc
+use Rattle.step_parts.specs.declared.hazard.point.DescPoint.TheVariants as desc
 use Rattle.errand_steps.specs.declared.point.Point.TheVariants as point
 use Rattle.sound_state.specs.Guarding.{IsAvailable}
 use Rattle.sound_state.proofs.guards.AvailPoints.{PopsAvailable, HeadGoes, head-point, next-point}

@@ -10,11 +10,11 @@ use Rattle.sound_state.proofs.Common.{Onward, settle_block_of, StackExit, settle
 use Rattle.sound_state.proofs.Common.{settle_partial_of, LargeExit, settle_large_of, enter_block, enter_stack, enter_desc, enter_partial, enter_large}
 use Rattle.word_table.specs.declared.name.WordName.TheVariants as name
 use Rattle.word_table.specs.declared.onward.Onward.TheVariants.{Stays, Leaves}
-use Rattle.superblock_parts.specs.declared.exit.BlockExit.{BlockExit}
-use Rattle.hazard_parts.specs.declared.exit.DescExit.TheVariants.{Scanned}
-use Rattle.hazard_parts.specs.declared.point.DescPoint.TheVariants as desc
-use Rattle.hazard_parts.specs.Points.{FitsDesc}
-use Rattle.hazard_parts.proofs.PickLemmas.{named-here}
+use Rattle.step_parts.specs.declared.superblock.exit.BlockExit.{BlockExit}
+use Rattle.step_parts.specs.declared.hazard.exit.DescExit.TheVariants.{Scanned}
+use Rattle.step_parts.specs.declared.hazard.point.DescPoint.TheVariants as desc
+use Rattle.step_parts.specs.hazard.Points.{FitsDesc}
+use Rattle.step_parts.proofs.hazard_lemmas.PickLemmas.{named-here}
 use Rattle.errand_steps.specs.declared.point.Point.TheVariants as point
 use Rattle.errand_steps.specs.tables.Descs.{passed_by_desc, held_by_desc}
 use Rattle.sound_state.proofs.shared.GuardEffects.{scans}

@@ -4,7 +4,7 @@ use Rattle.std.proofs.lemmas.List.{get_or_default}
 use Rattle.std.proofs.lemmas.Option.{none-some}
 use Rattle.sound_state.proofs.Common.{Found, SeatFields, Continuation, Next, At, End, Retire, Pick, Unlist, Point, ErrandFields, settle_of, course_of, pushed_by, next_of}
 use Rattle.sound_state.proofs.Common.{passed_by, held_by, first_unheld, Turn, after_list, after_turn, picked, turned, point_after, resumed}
-use Rattle.hazard_parts.proofs.PickLemmas.{some-listed, some-free}
+use Rattle.step_parts.proofs.hazard_lemmas.PickLemmas.{some-listed, some-free}
 use Rattle.errand_steps.specs.declared.point.Point.TheVariants as point
 use Rattle.errand_steps.specs.Errands.{list_after}
 use Rattle.sound_state.proofs.guards.GuardNexts.{NextNotes, next_pushed, pushed-next}

@@ -9,7 +9,7 @@ use Rattle.sound_state.proofs.Common.{next_of, plan_point_of, State, Step, found
 use Rattle.sound_state.proofs.Common.{IsSo, recalls_of, IsSoundWithoutCounts, IsSoundWith, waits_in, word_stock, stock_among, word_reserves, first_unheld, Guards}
 use Rattle.sound_state.proofs.Common.{IsPlain}
 use Rattle.word_table.specs.declared.name.WordName.TheVariants as name
-use Rattle.hazard_parts.specs.declared.point.DescPoint.TheVariants as desc
+use Rattle.step_parts.specs.declared.hazard.point.DescPoint.TheVariants as desc
 use Rattle.sound_state.proofs.shared.ShownLemmas.{GuardsAnew, MayGuard}
 use Rattle.sound_state.proofs.shared.StepLemmas.{PointStands, TurnGoes, at_point, settle-at, found_from, actives-stay, words-stay, settle-next, LeadsOrEnds}
 use Rattle.sound_state.proofs.shared.PointLemmas.{fits-now, excepts-with, stands-with, recalled-at}

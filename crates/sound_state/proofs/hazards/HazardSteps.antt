@@ -8,12 +8,12 @@ use Rattle.std.proofs.lemmas.Grind.{get_or-set_at}
 use Rattle.sound_state.proofs.Common.{Geometry, Site, descriptor_count, SeatFields, occurs, AnchorFields, Stacked, next_in, Frames, Partials, Continuation, At, End, Point}
 use Rattle.sound_state.proofs.Common.{Block, Stack, Desc, event_of, next_of, plan_point_of, State, Step, holds_of, passed_by, held_by, Lists, recalls_of}
 use Rattle.sound_state.proofs.Common.{IsSoundWithoutCounts, IsSoundWith, callers_sum, errand_away, named_in, first_unheld, Guards}
-use Rattle.hazard_parts.proofs.PickLemmas.{some-listed, some-free, named-here}
+use Rattle.step_parts.proofs.hazard_lemmas.PickLemmas.{some-listed, some-free, named-here}
 use Rattle.errand_steps.specs.declared.reply.Reply.TheVariants as reply
 use Rattle.word_table.specs.declared.name.WordName.TheVariants as name
-use Rattle.superblock_parts.specs.declared.point.BlockPoint.TheVariants as block
-use Rattle.stack_parts.specs.declared.point.StackPoint.TheVariants as stack
-use Rattle.hazard_parts.specs.declared.point.DescPoint.TheVariants as desc
+use Rattle.step_parts.specs.declared.superblock.point.BlockPoint.TheVariants as block
+use Rattle.step_parts.specs.declared.stack.point.StackPoint.TheVariants as stack
+use Rattle.step_parts.specs.declared.hazard.point.DescPoint.TheVariants as desc
 use Rattle.errand_steps.specs.declared.continuation.Continuation.TheVariants as continuation
 use Rattle.sound_state.proofs.hazards.HazardLemmas.{GoesHazard, picked_point, store-own, read-hazard, plain-guards, leads-at, picks-at}
 use Rattle.sound_state.proofs.quiet.QuietDescs.{reload_desc_head_other-sound}

@@ -3,7 +3,7 @@ use Rattle.std.proofs.Common.{ℕ, false, ◌≡◌, ◌<◌, refl, arith, ap, s
 use Rattle.sound_state.proofs.Common.{Geometry, active_word, anchor_of, Null, Held, Site, active_name, IsSiteOf, new_credits, Continuation, Point, Block, event_of, next_of}
 use Rattle.sound_state.proofs.Common.{asked, plan_point_of, State, Step, holds_of, Lists, recalls_of, IsLocated, IsSoundWithoutCounts, IsSoundWith, anchor_for, is_bound}
 use Rattle.sound_state.proofs.Common.{IsActiveWord, anchor_of-anchor_word, new_anchor}
-use Rattle.superblock_parts.specs.declared.point.BlockPoint.TheVariants as block
+use Rattle.step_parts.specs.declared.superblock.point.BlockPoint.TheVariants as block
 use Rattle.sound_state.proofs.installs.InstallEffects.{Installs, installed_word}
 use Rattle.sound_state.proofs.installs.InstallTies.{installed-legal}
 use Rattle.sound_state.proofs.shared.PointLemmas.{fits-at, the-alloc, small-asked, recalled-at}

@@ -11,7 +11,7 @@ use Rattle.sound_state.proofs.Common.{errand_reserves, reserved_among, waiting_o
 use Rattle.sound_state.proofs.Common.{refuses_small, pops_left, chain_of, Caller, clear, places_of, IsRemembered, out_of_turn, stock_of, is_small_alloc, is_small_free}
 use Rattle.sound_state.proofs.Common.{IsSaidWord, Part, bindings, places, chains, stacks, link_words, availables, events, single, constant}
 use Rattle.word_table.specs.declared.name.WordName.TheVariants as name
-use Rattle.superblock_parts.proofs.ChainLemmas.{chain_of-same}
+use Rattle.step_parts.proofs.superblock_lemmas.ChainLemmas.{chain_of-same}
 use Rattle.pool_model.specs.Pool.{Block}
 use Rattle.sound_state.proofs.shared.BackedRecalls.{AllRead, remembered-stays}
 use Rattle.sound_state.proofs.shared.CallerLemmas.{KeepsCounts}

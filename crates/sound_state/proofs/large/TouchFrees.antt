@@ -9,10 +9,10 @@ use Rattle.sound_state.proofs.Common.{next_of, plan_point_of, State, holds_of, L
 use Rattle.sound_state.proofs.Common.{unit_place, RunFields, Caller, IsAllowed, pool_of-push, sound-differ, IsCovered}
 use Rattle.heap_geometry.specs.declared.need.Need.TheVariants as need
 use Rattle.word_table.specs.declared.name.WordName.TheVariants as name
-use Rattle.large_parts.specs.declared.point.LargePoint.TheVariants as large
-use Rattle.large_parts.specs.Points.{IsRunAt}
-use Rattle.large_parts.specs.Units.{IsInRun, other_bits, without_run}
-use Rattle.large_parts.proofs.UnitLemmas.{without_run-inside, without_run-outside}
+use Rattle.step_parts.specs.declared.large.point.LargePoint.TheVariants as large
+use Rattle.step_parts.specs.large.Points.{IsRunAt}
+use Rattle.step_parts.specs.large.Units.{IsInRun, other_bits, without_run}
+use Rattle.step_parts.proofs.large_lemmas.UnitLemmas.{without_run-inside, without_run-outside}
 use Rattle.pool_model.specs.declared.event.Event.TheVariants.{Free}
 use Rattle.pool_model.specs.Pool.{Block, without}
 use Rattle.pool_model.proofs.PoolLemmas.{block_at-without_other, block_at-without_same}

@@ -9,8 +9,8 @@ use Rattle.sound_state.proofs.Common.{usable_words, unit_place, block-within, pr
 use Rattle.heap_geometry.specs.declared.need.Need.TheVariants as need
 use Rattle.packed_words.specs.declared.prefix.Prefix.TheVariants as prefix
 use Rattle.word_table.specs.declared.name.WordName.TheVariants as name
-use Rattle.large_parts.specs.declared.point.LargePoint.TheVariants as large
-use Rattle.large_parts.specs.Points.{IsRunAt}
+use Rattle.step_parts.specs.declared.large.point.LargePoint.TheVariants as large
+use Rattle.step_parts.specs.large.Points.{IsRunAt}
 use Rattle.pool_model.specs.Pool.{Block}
 use Rattle.errand_steps.specs.declared.reply.Reply.TheVariants as reply
 use Rattle.sound_state.proofs.shared.ArenaNames.{arena_place}

@@ -7,7 +7,7 @@ use Rattle.sound_state.proofs.Common.{errand_frames, waiting, holds_of, Lists, I
 use Rattle.sound_state.proofs.Common.{FitsBlock, block_recalls}
 use Rattle.sound_state.proofs.Common.{Part}
 use Rattle.word_table.specs.declared.name.WordName.TheVariants as name
-use Rattle.superblock_parts.specs.declared.point.BlockPoint.TheVariants as block
+use Rattle.step_parts.specs.declared.superblock.point.BlockPoint.TheVariants as block
 use Rattle.errand_steps.specs.declared.point.Point.TheVariants as point
 use Rattle.errand_steps.specs.tables.Blocks as holding
 use Rattle.sound_state.proofs.shared.BackedRecalls.{AllRead}

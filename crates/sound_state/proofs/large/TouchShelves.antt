@@ -6,7 +6,7 @@ use Rattle.sound_state.proofs.Common.{next_of, plan_point_of, State, holds_of, L
 use Rattle.sound_state.proofs.Common.{TakeNone, Caller, IsAllowed, IsEmptyShelf, Pool, handed_to, pool_after, pool_of-push}
 use Rattle.packed_words.specs.declared.shelf.ShelfWord.TheVariants as shelf
 use Rattle.word_table.specs.declared.name.WordName.TheVariants as name
-use Rattle.large_parts.specs.declared.point.LargePoint.TheVariants as large
+use Rattle.step_parts.specs.declared.large.point.LargePoint.TheVariants as large
 use Rattle.pool_model.specs.declared.owner.Owner.{Owner}
 use Rattle.pool_model.specs.declared.owner.Owner.TheVariants.{Shelf}
 use Rattle.pool_model.specs.Pool.{Block, with_changed}

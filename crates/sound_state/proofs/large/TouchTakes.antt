@@ -14,12 +14,12 @@ use Rattle.heap_geometry.specs.declared.need.Need.TheVariants as need
 use Rattle.heap_geometry.specs.Need.{IsNeed}
 use Rattle.heap_geometry.specs.Place.{IsApart, run_span}
 use Rattle.word_table.specs.declared.name.WordName.TheVariants as name
-use Rattle.large_parts.specs.declared.point.LargePoint.TheVariants as large
-use Rattle.large_parts.specs.Units.{IsInRun, IsFirstRun, IsLowestRun, run_bits, with_run}
-use Rattle.large_parts.specs.Units as units
-use Rattle.large_parts.specs.Points.{units_taken}
-use Rattle.large_parts.proofs.LowestLemmas.{first_run-exact}
-use Rattle.large_parts.proofs.UnitLemmas.{run_bits-mask, with_run-inside, with_run-outside}
+use Rattle.step_parts.specs.declared.large.point.LargePoint.TheVariants as large
+use Rattle.step_parts.specs.large.Units.{IsInRun, IsFirstRun, IsLowestRun, run_bits, with_run}
+use Rattle.step_parts.specs.large.Units as units
+use Rattle.step_parts.specs.large.Points.{units_taken}
+use Rattle.step_parts.proofs.large_lemmas.LowestLemmas.{first_run-exact}
+use Rattle.step_parts.proofs.large_lemmas.UnitLemmas.{run_bits-mask, with_run-inside, with_run-outside}
 use Rattle.pool_model.specs.declared.event.Event.TheVariants.{Alloc}
 use Rattle.pool_model.specs.Legal.{IsClear, IsRefusable}
 use Rattle.pool_model.specs.Pool.{Block, span_of}

@@ -9,7 +9,7 @@ use Rattle.sound_state.proofs.Common.{Caller, IsAllowed, IsPlaceFor, IsWellForme
 use Rattle.heap_geometry.specs.declared.need.Need.TheVariants as need
 use Rattle.heap_geometry.proofs.PlaceLemmas.{frame-apart}
 use Rattle.word_table.specs.declared.name.WordName.TheVariants as name
-use Rattle.large_parts.specs.declared.point.LargePoint.TheVariants as large
+use Rattle.step_parts.specs.declared.large.point.LargePoint.TheVariants as large
 use Rattle.pool_model.specs.declared.owner.Owner.TheVariants.{Shelf}
 use Rattle.pool_model.specs.Pool.{Block, written}
 use Rattle.errand_steps.specs.declared.reply.Reply.TheVariants as reply

@@ -5,9 +5,9 @@ use Rattle.sound_state.proofs.Common.{Geometry, AnchorFields, anchor_of, anchor_
 use Rattle.sound_state.proofs.Common.{asked, plan_point_of, State, Step, holds_of, Lists, recalls_of, IsSoundWithoutCounts, IsSoundWith, anchor_for, IsAnchor}
 use Rattle.sound_state.proofs.Common.{TAG_BITS, anchor_of-anchor_word, more_of, Cas, nothing, block_handed, IsSo}
 use Rattle.word_table.specs.declared.name.WordName.TheVariants as name
-use Rattle.superblock_parts.specs.Anchors.{popped}
-use Rattle.superblock_parts.specs.Points as points
-use Rattle.superblock_parts.specs.declared.point.BlockPoint.TheVariants as block
+use Rattle.step_parts.specs.superblock.Anchors.{popped}
+use Rattle.step_parts.specs.superblock.Points as points
+use Rattle.step_parts.specs.declared.superblock.point.BlockPoint.TheVariants as block
 use Rattle.errand_steps.specs.tables.Blocks as hold
 use Rattle.sound_state.proofs.shared.PointLemmas.{fits-at, the-alloc, small-asked, recalled-at}
 use Rattle.sound_state.proofs.pops.PopEffects.{Pops, popped_anchor}

@@ -2,7 +2,7 @@
 use Rattle.std.proofs.Common.{ℕ, Bool, ◌≡◌}
 use Rattle.sound_state.proofs.Common.{AnchorFields, anchor_word, Site, Continuation, Block, Lists, IsSoundWith}
 use Rattle.word_table.specs.declared.name.WordName.TheVariants as name
-use Rattle.superblock_parts.specs.declared.point.BlockPoint.TheVariants as block
+use Rattle.step_parts.specs.declared.superblock.point.BlockPoint.TheVariants as block
 use Rattle.sound_state.proofs.pushes.PushSteps.{push-pushes}
 use Rattle.sound_state.proofs.pushes.PushTies.{pushed-legal}
 use Rattle.sound_state.proofs.quiet.QuietExchanges.{push_block-lost}

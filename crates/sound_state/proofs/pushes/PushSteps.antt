@@ -12,13 +12,13 @@ use Rattle.heap_geometry.specs.declared.need.Need.TheVariants as need
 use Rattle.packed_words.specs.declared.anchor.AnchorState.{AnchorState as Phase}
 use Rattle.packed_words.specs.declared.anchor.AnchorState.TheVariants as phase
 use Rattle.word_table.specs.declared.name.WordName.TheVariants as name
-use Rattle.superblock_parts.specs.Anchors.{pushed}
-use Rattle.superblock_parts.specs.Points as points
-use Rattle.superblock_parts.specs.declared.exit.BlockExit.TheVariants as block_exit
-use Rattle.superblock_parts.specs.declared.point.BlockPoint.TheVariants as block
-use Rattle.stack_parts.specs.declared.point.StackPoint.TheVariants as stack
-use Rattle.hazard_parts.specs.declared.point.DescPoint.TheVariants as desc
-use Rattle.partial_parts.specs.declared.point.PartialPoint.TheVariants as partial
+use Rattle.step_parts.specs.superblock.Anchors.{pushed}
+use Rattle.step_parts.specs.superblock.Points as points
+use Rattle.step_parts.specs.declared.superblock.exit.BlockExit.TheVariants as block_exit
+use Rattle.step_parts.specs.declared.superblock.point.BlockPoint.TheVariants as block
+use Rattle.step_parts.specs.declared.stack.point.StackPoint.TheVariants as stack
+use Rattle.step_parts.specs.declared.hazard.point.DescPoint.TheVariants as desc
+use Rattle.step_parts.specs.declared.partial.point.PartialPoint.TheVariants as partial
 use Rattle.errand_steps.specs.declared.continuation.Continuation.TheVariants as continuation
 use Rattle.errand_steps.specs.declared.reply.Reply.TheVariants as reply
 use Rattle.errand_steps.specs.Nexts.{leave_block}

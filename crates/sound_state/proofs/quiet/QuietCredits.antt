@@ -6,7 +6,7 @@ use Rattle.std.proofs.lemmas.List.Elements.{All-nil, All-cons, All-head}
 use Rattle.sound_state.proofs.Common.{Geometry, IsChecked, Null, Held, active_word, active_of, Site, descriptor_count, SeatFields, active_name, Exists, Credit}
 use Rattle.sound_state.proofs.Common.{LastCredit, Continuation, Point, Block, At, event_of, next_of, plan_point_of, State, Step, Kept, holds_of, reserving, IsKeptAs}
 use Rattle.sound_state.proofs.Common.{word_keeps, Lists, IsSo, recalls_of, IsSoundWithoutCounts, IsSoundWith, is_bound, IsActiveWord, Cas, heap_of, IsActive}
-use Rattle.superblock_parts.specs.declared.point.BlockPoint.TheVariants as block
+use Rattle.step_parts.specs.declared.superblock.point.BlockPoint.TheVariants as block
 use Rattle.sound_state.proofs.shared.PointLemmas.{alike-goes, fits-at, fits-now, goes-on}
 use Rattle.sound_state.proofs.quiet.QuietExchanges.{lost-onward}
 use Rattle.sound_state.proofs.shared.CreditLemmas.{actives-written, active-bound, word-keeps-away}

@@ -4,8 +4,8 @@ use Rattle.std.proofs.lemmas.List.Elements.{All-cons, All-from_recursion}
 use Rattle.sound_state.proofs.Common.{Geometry, SeatFields, DescPoint, Continuation, At, Desc, event_of, next_of, plan_point_of, State, holds_of, Lists, recalls_of, IsSo}
 use Rattle.sound_state.proofs.Common.{IsSoundWith, waits_in, after_next}
 use Rattle.word_table.specs.declared.name.WordName.TheVariants as name
-use Rattle.hazard_parts.specs.declared.point.DescPoint.TheVariants as desc
-use Rattle.hazard_parts.specs.Points.{link_in}
+use Rattle.step_parts.specs.declared.hazard.point.DescPoint.TheVariants as desc
+use Rattle.step_parts.specs.hazard.Points.{link_in}
 use Rattle.sound_state.proofs.quiet.QuietExchanges.{lost-onward, lost-steady}
 use Rattle.sound_state.proofs.quiet.QuietSteps.{StepsSteadily, LeadsQuietly, leads-on, onward, quietly, steady-at}
 use Rattle.sound_state.proofs.shared.PointLemmas.{HoldsBlocks, blocks-go, none-kept-as, so-at, weigh-stays, recalled-at}

@@ -4,7 +4,7 @@ use Rattle.std.proofs.lemmas.Bool.{cond-false}
 use Rattle.sound_state.proofs.Common.{Geometry, AnchorFields, anchor_word, WordName, Site, name_of, Share, Continuation, Point, Block, counts_cleared, event_of, next_of}
 use Rattle.sound_state.proofs.Common.{plan_point_of, State, Step, holds_of, recalls_of, IsSoundWithoutCounts, Cas, found_by}
 use Rattle.word_table.specs.declared.name.WordName.TheVariants as name
-use Rattle.superblock_parts.specs.declared.point.BlockPoint.TheVariants as block
+use Rattle.step_parts.specs.declared.superblock.point.BlockPoint.TheVariants as block
 use Rattle.sound_state.proofs.quiet.QuietSteps.{StepsSteadily, LeadsOn, LeadsQuietly, leads-on, quiet-steady, steady-at}
 use Rattle.sound_state.proofs.shared.CreditLemmas.{lost_with}
 use Rattle.sound_state.proofs.shared.StepLemmas.{found_from}

@@ -2,7 +2,7 @@
 use Rattle.std.proofs.Common.{ℕ, ◌≢◌, refl, arith}
 use Rattle.sound_state.proofs.Common.{Continuation, Large, event_of, next_of, plan_point_of, holds_of, recalls_of, WantFields, RunFields, Need, shelf_word}
 use Rattle.word_table.specs.declared.name.WordName.TheVariants as name
-use Rattle.large_parts.specs.declared.point.LargePoint.TheVariants as large
+use Rattle.step_parts.specs.declared.large.point.LargePoint.TheVariants as large
 use Rattle.sound_state.proofs.quiet.QuietExchanges.{lost-onward}
 use Rattle.sound_state.proofs.quiet.QuietSteps.{onward}
 use Rattle.sound_state.proofs.shared.KeepsSound.{KeepsSound, KeepsSoundWhere}

@@ -7,8 +7,8 @@ use Rattle.sound_state.proofs.Common.{Geometry, CLASSES, HeadFields, WordName, n
 use Rattle.sound_state.proofs.Common.{next_name, Continuation, Point, Stack, Desc, pushed_by, ErrandFields, event_of, next_of, plan_point_of, State, Step, errand_frames}
 use Rattle.sound_state.proofs.Common.{holds_of, errand_has, Lists, IsSo, recalls_of, IsSoundWith, callers_sum, pile_limit, IsErrand, IsSaidWord, resumed_recalls}
 use Rattle.word_table.specs.declared.name.WordName.TheVariants as name
-use Rattle.stack_parts.specs.declared.point.StackPoint.TheVariants as stack
-use Rattle.hazard_parts.specs.declared.point.DescPoint.TheVariants as desc
+use Rattle.step_parts.specs.declared.stack.point.StackPoint.TheVariants as stack
+use Rattle.step_parts.specs.declared.hazard.point.DescPoint.TheVariants as desc
 use Rattle.errand_steps.specs.tables.Stacks.{pushed_too}
 use Rattle.sound_state.proofs.shared.ListFacts.{contains-occurs}
 use Rattle.sound_state.proofs.stores.StoreFields.{IsLone, between, LoneKept}

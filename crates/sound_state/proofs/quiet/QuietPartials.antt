@@ -12,11 +12,11 @@ use Rattle.sound_state.proofs.Common.{anchor_for, info_for, waits_in, heap_of, a
 use Rattle.sound_state.proofs.Common.{IsEmptied}
 use Rattle.word_table.specs.declared.name.WordName.TheVariants as name
 use Rattle.word_table.specs.declared.onward.Onward.TheVariants.{Leaves}
-use Rattle.partial_parts.specs.declared.exit.PartialExit.TheVariants as exit
-use Rattle.partial_parts.specs.declared.point.PartialPoint.TheVariants as partial
-use Rattle.partial_parts.specs.Points.{after_taken_info, after_live, after_put}
-use Rattle.stack_parts.specs.declared.point.StackPoint.TheVariants as stack
-use Rattle.hazard_parts.specs.declared.point.DescPoint.TheVariants as desc
+use Rattle.step_parts.specs.declared.partial.exit.PartialExit.TheVariants as exit
+use Rattle.step_parts.specs.declared.partial.point.PartialPoint.TheVariants as partial
+use Rattle.step_parts.specs.partial.Points.{after_taken_info, after_live, after_put}
+use Rattle.step_parts.specs.declared.stack.point.StackPoint.TheVariants as stack
+use Rattle.step_parts.specs.declared.hazard.point.DescPoint.TheVariants as desc
 use Rattle.errand_steps.specs.Continuations.{fills}
 use Rattle.errand_steps.specs.declared.continuation.Continuation.TheVariants.{Alloc, Finish, Free, ClearSecond, Retire}
 use Rattle.errand_steps.specs.Nexts.{leave_partial}

@@ -6,7 +6,7 @@ use Rattle.sound_state.proofs.Common.{next_of, plan_point_of, State, holds_of, h
 use Rattle.sound_state.proofs.Common.{anchor_for, superblock_of, free_chain, reserved_of, reserved_among, errand_reserves, InfoFields, info_within, anchor_in, after_info}
 use Rattle.sound_state.proofs.Common.{after_anchor, occurs-here}
 use Rattle.word_table.specs.declared.name.WordName.TheVariants as name
-use Rattle.superblock_parts.specs.declared.point.BlockPoint.TheVariants as block
+use Rattle.step_parts.specs.declared.superblock.point.BlockPoint.TheVariants as block
 use Rattle.sound_state.specs.Recalls.{IsPopped}
 use Rattle.sound_state.proofs.shared.PointLemmas.{so-at, recalled-at}
 use Rattle.sound_state.proofs.quiet.QuietSteps.{LeadsQuietly, leads-on, onward, quietly}

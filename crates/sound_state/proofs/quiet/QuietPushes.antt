@@ -10,8 +10,8 @@ use Rattle.packed_words.specs.declared.prefix.Prefix.TheVariants.{Small, Large}
 use Rattle.packed_words.specs.Fields.{Reads}
 use Rattle.packed_words.specs.Prefix.{IsPrefix}
 use Rattle.word_table.specs.declared.name.WordName.TheVariants as name
-use Rattle.superblock_parts.specs.declared.point.BlockPoint.TheVariants as block
-use Rattle.superblock_parts.specs.Points.{after_prefix}
+use Rattle.step_parts.specs.declared.superblock.point.BlockPoint.TheVariants as block
+use Rattle.step_parts.specs.superblock.Points.{after_prefix}
 use Rattle.sound_state.proofs.quiet.QuietSteps.{StepsSteadily, leads-on, onward, quiet-steady, steadily}
 use Rattle.sound_state.proofs.shared.OwnerLemmas.{begins-owned, prefix-ties, begins-free}
 use Rattle.sound_state.proofs.shared.PointLemmas.{blocks-go, fits-at, hazard-at, weigh-stays, goes-on}

@@ -6,9 +6,9 @@ use Rattle.sound_state.proofs.Common.{Geometry, HeadFields, head_of, SeatFields,
 use Rattle.sound_state.proofs.Common.{event_of, next_of, plan_point_of, State, holds_of, IsSo, recalls_of, head_word, pile_limit, after_below, Clear, enter_stack, list_of}
 use Rattle.sound_state.proofs.Common.{continuation_recalls, End}
 use Rattle.word_table.specs.declared.onward.Onward.TheVariants.{Stays, Leaves}
-use Rattle.stack_parts.specs.declared.exit.StackExit.TheVariants as exit
-use Rattle.stack_parts.specs.declared.point.StackPoint.TheVariants as stack
-use Rattle.stack_parts.specs.Points.{after_top}
+use Rattle.step_parts.specs.declared.stack.exit.StackExit.TheVariants as exit
+use Rattle.step_parts.specs.declared.stack.point.StackPoint.TheVariants as stack
+use Rattle.step_parts.specs.stack.Points.{after_top}
 use Rattle.errand_steps.specs.Nexts.{found_empty}
 use Rattle.sound_state.proofs.quiet.QuietExchanges.{lost-onward}
 use Rattle.sound_state.proofs.quiet.QuietLemmas.{HoldsSame}

@@ -4,8 +4,8 @@ use Rattle.sound_state.proofs.Common.{Geometry, Site, SeatFields, is_empty, IsSi
 use Rattle.sound_state.proofs.Common.{recalls_of, IsSoundWith, anchor_for, Clear, guarded}
 use Rattle.packed_words.specs.declared.anchor.AnchorState.TheVariants as phase
 use Rattle.word_table.specs.declared.name.WordName.TheVariants as name
-use Rattle.hazard_parts.specs.declared.point.DescPoint.TheVariants as desc
-use Rattle.partial_parts.specs.declared.point.PartialPoint.TheVariants as partial
+use Rattle.step_parts.specs.declared.hazard.point.DescPoint.TheVariants as desc
+use Rattle.step_parts.specs.declared.partial.point.PartialPoint.TheVariants as partial
 use Rattle.word_table.specs.Sites.{IsDescOf}
 use Rattle.errand_steps.specs.declared.continuation.Continuation.TheVariants.{Alloc, Look, EndFree, Retire}
 use Rattle.errand_steps.specs.declared.reply.Reply.TheVariants as reply

@@ -5,7 +5,7 @@ use Rattle.std.proofs.lemmas.List.Elements.{recursion_from_All}
 use Rattle.std.proofs.lemmas.Option.{none-some}
 use Rattle.sound_state.proofs.Common.{Geometry, descriptor_count, Site, occurs, BlockPoint, Point, State, errand_frames, fills_frame, waiting, holds_of, Lists, IsSo}
 use Rattle.sound_state.proofs.Common.{IsLocated, recalls_of, IsSoundWith, callers_sum, kept_among, errand_keeps, waiting_of, is_bound, info_for}
-use Rattle.superblock_parts.specs.declared.point.BlockPoint.TheVariants as block
+use Rattle.step_parts.specs.declared.superblock.point.BlockPoint.TheVariants as block
 use Rattle.errand_steps.specs.declared.point.Point.TheVariants as point
 use Rattle.sound_state.proofs.shared.SumLemmas.{some-term, term-sum, two-terms}
 

@@ -4,7 +4,7 @@ use Rattle.std.proofs.lemmas.Option.{none-some}
 use Rattle.sound_state.proofs.Common.{Geometry, descriptor_count, occurs, DescPoint, ErrandFields, spare_of, pushed_by, State, Moves, IsGuarded, IsGuard, IsHazard}
 use Rattle.sound_state.proofs.Common.{passed_by, held_by, holds_of, errand_has, Lists, IsSoundWith, callers_sum, errand_away, clear}
 use Rattle.word_table.specs.declared.name.WordName.TheVariants as name
-use Rattle.hazard_parts.specs.declared.point.DescPoint.TheVariants as desc
+use Rattle.step_parts.specs.declared.hazard.point.DescPoint.TheVariants as desc
 use Rattle.sound_state.proofs.shared.ListFacts.{contains-occurs}
 use Rattle.sound_state.proofs.shared.ShownLemmas.{IsUnretired, guarded-goes}
 use Rattle.sound_state.proofs.shared.SumLemmas.{term-sum}

@@ -5,7 +5,7 @@ use Rattle.std.proofs.lemmas.Option.{none-some}
 use Rattle.sound_state.proofs.Common.{Geometry, SeatFields, Continuation, Point, Idle, ErrandFields, spare_of, pushed_by, State, passed_by, held_by, Kept, holds_of}
 use Rattle.sound_state.proofs.Common.{IsWithout, Lists, IsSo, recalls_of, waits_in, scan_begins, no_words, HazardState, nothing, Block, Event, in_turn, is_unneeded}
 use Rattle.sound_state.proofs.Common.{lacks_answer, lacks_frame, lacks_partial, one_if, pops_left, turn_stage_of}
-use Rattle.superblock_parts.specs.declared.point.BlockPoint.TheVariants as block
+use Rattle.step_parts.specs.declared.superblock.point.BlockPoint.TheVariants as block
 use Rattle.sound_state.proofs.shared.ShownLemmas.{MayGoOn, MayGuard, MayStand}
 use Rattle.sound_state.proofs.shared.StepLemmas.{HoldsException}
 use Rattle.sound_state.proofs.shared.TieLemmas.{Excepts, IsSaidAt}

@@ -5,7 +5,7 @@ use Rattle.sound_state.proofs.Common.{block_place, Geometry, Need, SeatFields, b
 use Rattle.sound_state.proofs.Common.{IsSoundWith, Caller, Handed, Freed, IsExcepted, IsBlockOfDesc}
 use Rattle.heap_geometry.specs.declared.need.Need.TheVariants as need
 use Rattle.word_table.specs.declared.name.WordName.TheVariants as name
-use Rattle.superblock_parts.specs.declared.point.BlockPoint.TheVariants as block
+use Rattle.step_parts.specs.declared.superblock.point.BlockPoint.TheVariants as block
 use Rattle.pool_model.specs.Pool.{Block as Live}
 use Rattle.pool_model.specs.declared.owner.Owner.TheVariants.{Shelf}
 use Rattle.pool_model.specs.declared.owner.Owner.{Owner}

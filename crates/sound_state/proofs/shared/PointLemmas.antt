@@ -10,7 +10,7 @@ use Rattle.sound_state.proofs.Common.{Recall, IsSoundWithoutCounts, IsSoundWith,
 use Rattle.sound_state.proofs.Common.{errand_keeps, word_reserves, reserved_among, kept_among, FitsContinuation, is_alloc, plan-exists}
 use Rattle.heap_geometry.specs.declared.need.Need.TheVariants as need
 use Rattle.word_table.specs.declared.name.WordName.TheVariants as name
-use Rattle.hazard_parts.specs.declared.point.DescPoint.TheVariants as desc
+use Rattle.step_parts.specs.declared.hazard.point.DescPoint.TheVariants as desc
 use Rattle.errand_steps.specs.declared.continuation.Continuation.TheVariants as continuation
 use Rattle.errand_steps.specs.Continuations.{is_free}
 use Rattle.sound_state.proofs.shared.BackedRecalls.{fits-own}

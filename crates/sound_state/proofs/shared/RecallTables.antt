@@ -9,8 +9,8 @@ use Rattle.sound_state.proofs.Common.{goes_desc, Handed, Freed, reserve, block_h
 use Rattle.sound_state.proofs.Common.{stack_recalls, desc_recalls, partial_recalls, large_recalls}
 use Rattle.sound_state.proofs.Common.{Part, bindings, chains, link_words, single}
 use Rattle.word_table.specs.declared.name.WordName.TheVariants as name
-use Rattle.superblock_parts.specs.Points.{IsBlockOf}
-use Rattle.superblock_parts.specs.declared.point.BlockPoint.TheVariants as block
+use Rattle.step_parts.specs.superblock.Points.{IsBlockOf}
+use Rattle.step_parts.specs.declared.superblock.point.BlockPoint.TheVariants as block
 use Rattle.errand_steps.specs.declared.continuation.Continuation.TheVariants as continuation
 use Rattle.errand_steps.specs.declared.point.Point.TheVariants as point
 use Rattle.errand_steps.specs.Points.{site_of}

@@ -7,7 +7,7 @@ use Rattle.sound_state.proofs.Common.{occurs, Partials, Stacked, next_in, Contin
 use Rattle.sound_state.proofs.Common.{full_keeps, errand_has, Lists, word_stock, full_stock, errand_stock, stock_among, waits_in, IsSoundWith, IsSoundWithoutCounts}
 use Rattle.sound_state.proofs.Common.{sum_below, words_sum, callers_sum, anchor_for, info_for, InfoFields, active_keeps, places_of, stock_of}
 use Rattle.word_table.specs.declared.name.WordName.TheVariants as name
-use Rattle.hazard_parts.specs.declared.point.DescPoint.TheVariants as desc
+use Rattle.step_parts.specs.declared.hazard.point.DescPoint.TheVariants as desc
 use Rattle.errand_steps.specs.declared.point.Point.TheVariants as point
 use Rattle.sound_state.proofs.shared.HolderLemmas.{zero-active}
 use Rattle.sound_state.proofs.shared.KeptCounts.{named_among, named-most, kept-named}

@@ -2,7 +2,7 @@
 use Rattle.std.proofs.Common.{ℕ, ◌≡◌, ◌<◌, ◌≤◌, ◌+◌, List, [], ◌∷◌, length, refl, arith, sym, ◌∙◌, ◌==◌, if◌then◌else◌, eq-eqb, ne_eqb}
 use Rattle.std.proofs.lemmas.Bool.{cond-true, cond-false}
 use Rattle.sound_state.proofs.Common.{occurs, sum_below, Superblock, IsChained, free_chain, occurs-here, occurs-more, held_back}
-use Rattle.superblock_parts.proofs.ChainLemmas.{chain_of-length}
+use Rattle.step_parts.proofs.superblock_lemmas.ChainLemmas.{chain_of-length}
 use Rattle.sound_state.proofs.shared.SumLemmas.{sum-same, sum-none, sum-one, sum-ones, sum-plus}
 
 -- numbers that are all below a bound occur as often, counted by number, as their list is long

@@ -4,7 +4,7 @@ use Rattle.std.proofs.lemmas.List.Elements.{recursion_from_All}
 use Rattle.sound_state.proofs.Common.{block_count_of, Geometry, anchor_of, Site, new_credits, ErrandFields, State, Continuation, Point, waiting, holds_of, Lists, IsSo}
 use Rattle.sound_state.proofs.Common.{recalls_of, IsSoundWith, sum_below, callers_sum, anchor_for, info_for, superblock_of, reserved_of, reserved_among, errand_reserves}
 use Rattle.sound_state.proofs.Common.{errand_keeps, anchor_of-anchor_word, new_anchor}
-use Rattle.superblock_parts.specs.declared.point.BlockPoint.TheVariants as block
+use Rattle.step_parts.specs.declared.superblock.point.BlockPoint.TheVariants as block
 use Rattle.errand_steps.specs.declared.point.Point.TheVariants as point
 use Rattle.sound_state.proofs.shared.PointLemmas.{fits-at, so-at}
 use Rattle.sound_state.proofs.shared.SumLemmas.{term-sum}

@@ -5,7 +5,7 @@ use Rattle.sound_state.proofs.Common.{info_or_zero, active-exact, IsActiveWord, 
 use Rattle.sound_state.proofs.Common.{info_within, IsSeatOf, info_at}
 use Rattle.packed_words.specs.Info.{IsInfo}
 use Rattle.packed_words.specs.declared.shelf.ShelfWord.TheVariants as shelf
-use Rattle.hazard_parts.specs.Points.{link_in}
+use Rattle.step_parts.specs.hazard.Points.{link_in}
 
 -- an active word has room for any descriptor and its credits, and says them
 pub held-fits : (g : Geometry) (d credits : ℕ) → IsChecked g → d < descriptor_count g → credits < 2 ^ CREDIT_BITS → IsActiveWord (Held d credits)

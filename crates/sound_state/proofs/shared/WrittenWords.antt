@@ -11,19 +11,19 @@ use Rattle.sound_state.proofs.Common.{shelf-exact, link_of, AVAIL_BITS, COUNT_BI
 use Rattle.sound_state.proofs.Common.{descriptor_count_within, is_last, new_credits, first_wanted, Pile, Frames, Partials, pile_limit, Share, BlockPoint, StackPoint}
 use Rattle.sound_state.proofs.Common.{DescPoint, PartialPoint, LargePoint, FitsBlock, plan_block_of, plan_stack_of, plan_desc_of, plan_partial_of, plan_large_of, Point}
 use Rattle.sound_state.proofs.Common.{Idle, Block, Stack, Desc, Partial, Large, FitsPoint, plan_point_of, new_anchor, block_count_of}
-use Rattle.superblock_parts.specs.declared.point.BlockPoint.TheVariants as block
-use Rattle.superblock_parts.specs.Anchors.{popped, returned, pushed, pushed_state, new_link}
-use Rattle.superblock_parts.specs.Points.{credit_taken}
-use Rattle.stack_parts.specs.Points.{FitsStack}
-use Rattle.hazard_parts.specs.Points.{FitsDesc}
-use Rattle.partial_parts.specs.declared.point.PartialPoint.TheVariants as partial
-use Rattle.partial_parts.specs.Grants.{granted}
-use Rattle.partial_parts.specs.Points.{FitsPartial}
-use Rattle.large_parts.specs.declared.point.LargePoint.TheVariants as large
-use Rattle.large_parts.specs.Points.{FitsLarge, units_taken}
-use Rattle.large_parts.specs.Units.{IsFirstRun}
-use Rattle.large_parts.proofs.LowestLemmas.{first_run-exact}
-use Rattle.large_parts.proofs.UnitLemmas.{with_run-below, without_run-below}
+use Rattle.step_parts.specs.declared.superblock.point.BlockPoint.TheVariants as block
+use Rattle.step_parts.specs.superblock.Anchors.{popped, returned, pushed, pushed_state, new_link}
+use Rattle.step_parts.specs.superblock.Points.{credit_taken}
+use Rattle.step_parts.specs.stack.Points.{FitsStack}
+use Rattle.step_parts.specs.hazard.Points.{FitsDesc}
+use Rattle.step_parts.specs.declared.partial.point.PartialPoint.TheVariants as partial
+use Rattle.step_parts.specs.partial.Grants.{granted}
+use Rattle.step_parts.specs.partial.Points.{FitsPartial}
+use Rattle.step_parts.specs.declared.large.point.LargePoint.TheVariants as large
+use Rattle.step_parts.specs.large.Points.{FitsLarge, units_taken}
+use Rattle.step_parts.specs.large.Units.{IsFirstRun}
+use Rattle.step_parts.proofs.large_lemmas.LowestLemmas.{first_run-exact}
+use Rattle.step_parts.proofs.large_lemmas.UnitLemmas.{with_run-below, without_run-below}
 use Rattle.sound_state.proofs.shared.WordFacts.{held-fits, name-below, site-info}
 
 -- an exchange leaves a word where the one that it would write is one

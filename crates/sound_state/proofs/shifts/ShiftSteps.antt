@@ -12,11 +12,11 @@ use Rattle.sound_state.proofs.Common.{Cas, heap_of, block_count_of-most, Handed,
 use Rattle.heap_geometry.specs.declared.need.Need.TheVariants as need
 use Rattle.packed_words.specs.declared.anchor.AnchorState.{AnchorState as Phase}
 use Rattle.packed_words.specs.declared.anchor.AnchorState.TheVariants as phase
-use Rattle.partial_parts.specs.declared.point.PartialPoint.TheVariants as partial
-use Rattle.partial_parts.specs.Grants.{grant_more, granted, granted_state}
+use Rattle.step_parts.specs.declared.partial.point.PartialPoint.TheVariants as partial
+use Rattle.step_parts.specs.partial.Grants.{grant_more, granted, granted_state}
 use Rattle.word_table.specs.declared.name.WordName.TheVariants as name
-use Rattle.superblock_parts.specs.Anchors.{returned}
-use Rattle.superblock_parts.specs.declared.point.BlockPoint.TheVariants as block
+use Rattle.step_parts.specs.superblock.Anchors.{returned}
+use Rattle.step_parts.specs.declared.superblock.point.BlockPoint.TheVariants as block
 use Rattle.errand_steps.specs.declared.continuation.Continuation.TheVariants as continuation
 use Rattle.sound_state.proofs.quiet.QuietExchanges.{return_credits-lost}
 use Rattle.sound_state.proofs.quiet.QuietPartials.{grant_lost-sound}

@@ -10,8 +10,8 @@ use Rattle.sound_state.proofs.Common.{IsHazard, anchor_for, kept_among, reserved
 use Rattle.sound_state.proofs.Common.{stock_among, IsHead, head_word, head_of-head_word, plan_of, one_more, is_full, is_spent, scan_begins, counts_won, pushes, clear, keep}
 use Rattle.sound_state.proofs.Common.{continuation_holds, list_of}
 use Rattle.word_table.specs.declared.name.WordName.TheVariants as name
-use Rattle.superblock_parts.specs.declared.point.BlockPoint.TheVariants as block
-use Rattle.stack_parts.specs.declared.point.StackPoint.TheVariants as stack
+use Rattle.step_parts.specs.declared.superblock.point.BlockPoint.TheVariants as block
+use Rattle.step_parts.specs.declared.stack.point.StackPoint.TheVariants as stack
 use Rattle.errand_steps.specs.declared.continuation.Continuation.TheVariants as continuation
 use Rattle.packed_words.specs.declared.anchor.AnchorState.TheVariants as phase
 use Rattle.sound_state.proofs.shared.ListFacts.{occurs-push}

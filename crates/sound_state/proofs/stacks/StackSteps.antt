@@ -12,11 +12,11 @@ use Rattle.sound_state.proofs.Common.{IsSoundWith, waits_in, IsHead, head_word, 
 use Rattle.sound_state.proofs.Common.{continuation_recalls}
 use Rattle.packed_words.specs.declared.widths.TheConstants.{TOP_BITS, HEAD_TAG_BITS}
 use Rattle.word_table.specs.declared.name.WordName.TheVariants as name
-use Rattle.superblock_parts.specs.declared.point.BlockPoint.TheVariants as block
-use Rattle.stack_parts.specs.declared.point.StackPoint.TheVariants as stack
-use Rattle.stack_parts.specs.Piles.{popped_head, pushed_head}
-use Rattle.hazard_parts.specs.declared.point.DescPoint.TheVariants as desc
-use Rattle.partial_parts.specs.declared.point.PartialPoint.TheVariants as partial
+use Rattle.step_parts.specs.declared.superblock.point.BlockPoint.TheVariants as block
+use Rattle.step_parts.specs.declared.stack.point.StackPoint.TheVariants as stack
+use Rattle.step_parts.specs.stack.Piles.{popped_head, pushed_head}
+use Rattle.step_parts.specs.declared.hazard.point.DescPoint.TheVariants as desc
+use Rattle.step_parts.specs.declared.partial.point.PartialPoint.TheVariants as partial
 use Rattle.errand_steps.specs.declared.continuation.Continuation.TheVariants as continuation
 use Rattle.errand_steps.specs.Nexts.{popped}
 use Rattle.errand_steps.specs.Continuations.{pops}

@@ -8,8 +8,8 @@ use Rattle.sound_state.proofs.Common.{event_of, next_of, plan_point_of, State, p
 use Rattle.sound_state.proofs.Common.{ErrandFields, Holding, Part, part_of, places, single, info_or_zero, errand_keeps}
 use Rattle.sound_state.proofs.Common.{InfoFields, info_word, info-exact, info_within, info_at}
 use Rattle.word_table.specs.declared.name.WordName.TheVariants as name
-use Rattle.superblock_parts.specs.declared.point.BlockPoint.TheVariants as block
-use Rattle.partial_parts.specs.declared.point.PartialPoint.TheVariants as partial
+use Rattle.step_parts.specs.declared.superblock.point.BlockPoint.TheVariants as block
+use Rattle.step_parts.specs.declared.partial.point.PartialPoint.TheVariants as partial
 use Rattle.sound_state.proofs.shared.UnplacedLemmas.{way-unplaced, IsUnplaced}
 use Rattle.sound_state.proofs.shared.WordFacts.{site-heap, site-info}
 use Rattle.sound_state.proofs.stores.StoreFields.{between}

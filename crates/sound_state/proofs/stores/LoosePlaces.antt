@@ -11,7 +11,7 @@ use Rattle.sound_state.proofs.Common.{info_for, is_bound, superblock_of, free_ch
 use Rattle.sound_state.proofs.Common.{class_span, making, IsExcepted}
 use Rattle.heap_geometry.specs.declared.need.Need.TheVariants.{Large}
 use Rattle.word_table.specs.declared.name.WordName.TheVariants as name
-use Rattle.superblock_parts.specs.declared.point.BlockPoint.TheVariants as block
+use Rattle.step_parts.specs.declared.superblock.point.BlockPoint.TheVariants as block
 use Rattle.pool_model.specs.Pool.{Block}
 use Rattle.pool_model.proofs.WellFormedLemmas.{small-frame}
 use Rattle.errand_steps.specs.declared.point.Point.TheVariants as point

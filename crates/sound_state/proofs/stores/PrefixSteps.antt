@@ -12,10 +12,10 @@ use Rattle.sound_state.proofs.Common.{block_holds, making, AreMade, block_recall
 use Rattle.heap_geometry.specs.declared.need.Need.TheVariants as need
 use Rattle.packed_words.specs.declared.prefix.Prefix.TheVariants.{Small}
 use Rattle.word_table.specs.declared.name.WordName.TheVariants as name
-use Rattle.superblock_parts.specs.Anchors.{new_link}
-use Rattle.superblock_parts.specs.Points.{after_link}
-use Rattle.superblock_parts.proofs.ChainLemmas.{prefix_name-apart}
-use Rattle.superblock_parts.specs.declared.point.BlockPoint.TheVariants as block
+use Rattle.step_parts.specs.superblock.Anchors.{new_link}
+use Rattle.step_parts.specs.superblock.Points.{after_link}
+use Rattle.step_parts.proofs.superblock_lemmas.ChainLemmas.{prefix_name-apart}
+use Rattle.step_parts.specs.declared.superblock.point.BlockPoint.TheVariants as block
 use Rattle.pool_model.specs.Pool.{Block as Live}
 use Rattle.errand_steps.specs.declared.reply.Reply.TheVariants as reply
 use Rattle.sound_state.proofs.shared.FrameLemmas.{one-in-frame}

@@ -9,7 +9,7 @@ use Rattle.sound_state.proofs.Common.{callers_sum, Superblock, AreChained, IsCha
 use Rattle.sound_state.proofs.Common.{is_bound, waiting_of, word_reserves, errand_reserves, IsTied, IsLive, IsTurned, Guards, IsActive, list_of, IsStocked}
 use Rattle.sound_state.proofs.Common.{IsExcepted, Part, bindings, places, chains, stacks, link_words, availables, events, single, constant, IsRemembered}
 use Rattle.word_table.specs.declared.name.WordName.TheVariants as name
-use Rattle.superblock_parts.proofs.ChainLemmas.{chain_of-same}
+use Rattle.step_parts.proofs.superblock_lemmas.ChainLemmas.{chain_of-same}
 use Rattle.pool_model.specs.Pool.{Block}
 use Rattle.sound_state.proofs.shared.HolderLemmas.{IsHolderWeight, keeps-holder, reserves-holder, stock-holder}
 use Rattle.sound_state.proofs.shared.StackedLemmas.{stacked-agrees}

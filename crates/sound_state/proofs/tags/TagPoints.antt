@@ -5,8 +5,8 @@ use Rattle.sound_state.proofs.Common.{PartialPoint, Point, FitsPoint, plan_point
 use Rattle.sound_state.proofs.Common.{Action, FitsBlock, plan_block_of, plan_stack_of, plan_desc_of, plan_large_of, plan_partial_of, block_holds}
 use Rattle.word_table.specs.declared.name.WordName.TheVariants as name
 use Rattle.word_table.specs.Actions.{is_won}
-use Rattle.superblock_parts.specs.Anchors.{popped, pushed}
-use Rattle.partial_parts.specs.Points.{FitsPartial}
+use Rattle.step_parts.specs.superblock.Anchors.{popped, pushed}
+use Rattle.step_parts.specs.partial.Points.{FitsPartial}
 use Rattle.errand_steps.specs.tables.Blocks.{pops_block}
 use Rattle.sound_state.specs.Tags.{pops_at}
 use Rattle.sound_state.proofs.shared.WrittenWords.{popped-fits, returned-fits, granted-fits, pushed-fits}

@@ -12,7 +12,7 @@ ghost use Rattle.word_table.specs.Counts.{descriptor_count};
 ghost use Rattle.word_table.specs.Seats.{SeatFields};
 ghost use Rattle.word_table.specs.Occurs.{occurs};
 ghost use Rattle.pool_model.specs.Pool.{Block, block_at, span_of, pool_of};
-ghost use Rattle.hazard_parts.specs.declared.point.DescPoint.TheVariants.{LoadDescHead};
+ghost use Rattle.step_parts.specs.declared.hazard.point.DescPoint.TheVariants.{LoadDescHead};
 ghost use Rattle.errand_steps.specs.declared.continuation.Continuation.{Continuation};
 ghost use Rattle.errand_steps.specs.declared.point.Point.TheVariants as point;
 ghost use Rattle.errand_steps.specs.Steps.{State};

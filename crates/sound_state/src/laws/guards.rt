@@ -4,7 +4,7 @@ ghost use Rattle.std.specs.Prelude.{ℕ, List, Some, ◌≡◌, ◌≢◌, ◌<�
 ghost use Rattle.heap_geometry.specs.declared.geometry.Geometry.{Geometry};
 ghost use Rattle.word_table.specs.declared.name.WordName.TheVariants as name;
 ghost use Rattle.word_table.specs.Seats.{SeatFields};
-ghost use Rattle.hazard_parts.specs.declared.point.DescPoint.TheVariants.{PopDesc};
+ghost use Rattle.step_parts.specs.declared.hazard.point.DescPoint.TheVariants.{PopDesc};
 ghost use Rattle.errand_steps.specs.declared.continuation.Continuation.{Continuation};
 ghost use Rattle.errand_steps.specs.declared.point.Point.TheVariants as point;
 ghost use Rattle.errand_steps.specs.Fits.{pushed_by};

@@ -1,6 +1,6 @@
 use Rattle.std.proofs.Common.{List}
 use Rattle.errand_steps.specs.Begins.{IsIdle}
-use Rattle.call_events.specs.Made.{LeadsBy, wrote}
+use Rattle.sound_laws.specs.events.Made.{LeadsBy, wrote}
 use Rattle.live_heap.specs.declared.block.Block.{Block}
 use Rattle.live_heap.specs.Words.{CallsOnWord}
 use Rattle.block_cache.specs.Caches.{Holds, HoldsBlock, IsCache, KeepsMagazines}

@@ -1,8 +1,8 @@
 use Rattle.std.proofs.Common.{◌+◌, ◌%◌, ◌^◌, sym, subst}
 use Rattle.errand_steps.specs.declared.reply.Reply.TheVariants as reply
 use Rattle.errand_steps.specs.Calls.{Call, write}
-use Rattle.call_events.specs.Made.{LeadsBy, wrote}
-use Rattle.call_events.proofs.MadeLemmas.{leads-more, wrote-more}
+use Rattle.sound_laws.specs.events.Made.{LeadsBy, wrote}
+use Rattle.sound_laws.proofs.events_lemmas.MadeLemmas.{leads-more, wrote-more}
 use Rattle.cached_calls.specs.Calls.{IsCachedCall}
 use Rattle.cached_calls.proofs.over_cache.fill_words.Goals as goal
 

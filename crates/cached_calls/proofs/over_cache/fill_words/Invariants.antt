@@ -1,4 +1,4 @@
-use Rattle.call_events.specs.Made.{LeadsBy, wrote}
+use Rattle.sound_laws.specs.events.Made.{LeadsBy, wrote}
 use Rattle.block_cache.specs.Whole.{HoldsAt, RestsAt}
 use Rattle.cached_calls.specs.Calls.{IsCachedCall}
 use Rattle.cached_calls.proofs.over_cache.fill_words.Given as goal

@@ -2,8 +2,8 @@ use Rattle.std.proofs.Common.{◌+◌, ◌∷◌, ◌++◌, [], ap, arith, lengt
 use Rattle.errand_steps.specs.declared.reply.Reply.{Reply}
 use Rattle.errand_steps.specs.declared.reply.Reply.TheVariants as reply
 use Rattle.errand_steps.specs.Calls.{Call, read}
-use Rattle.call_events.specs.Made.{LeadsBy, found_from}
-use Rattle.call_events.proofs.MadeLemmas.{found-more, leads-more, sum-one}
+use Rattle.sound_laws.specs.events.Made.{LeadsBy, found_from}
+use Rattle.sound_laws.proofs.events_lemmas.MadeLemmas.{found-more, leads-more, sum-one}
 use Rattle.cached_calls.specs.Calls.{IsCachedCall}
 use Rattle.cached_calls.proofs.over_cache.sum_words.Goals as goal
 

@@ -1,6 +1,6 @@
 use Rattle.std.proofs.Common.{ℕ, List, length, ◌≡◌, ◌%◌, ◌^◌}
 use Rattle.std.specs.Prelude.{sum}
-use Rattle.call_events.specs.Made.{LeadsBy, found_from}
+use Rattle.sound_laws.specs.events.Made.{LeadsBy, found_from}
 use Rattle.block_cache.specs.Whole.{HoldsAt, RestsAt}
 use Rattle.cached_calls.specs.Calls.{IsCachedCall}
 use Rattle.cached_calls.proofs.over_cache.sum_words.Given as goal

@@ -1,7 +1,7 @@
 use Rattle.std.proofs.Common.{ap}
 use Rattle.errand_steps.specs.declared.point.Point.TheVariants.{Stack, Partial}
-use Rattle.stack_parts.specs.Points.{settle_stack_of}
-use Rattle.partial_parts.specs.Points.{settle_partial_of}
+use Rattle.step_parts.specs.stack.Points.{settle_stack_of}
+use Rattle.step_parts.specs.partial.Points.{settle_partial_of}
 use Rattle.errand_steps.specs.Nexts.{next_of}
 use Rattle.errand_steps.proofs.StayLemmas.{left_partial, left_stack}
 use Rattle.errand_steps.proofs.enter.settle_point.Goals as goal

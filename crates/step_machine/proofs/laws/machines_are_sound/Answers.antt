@@ -1,6 +1,6 @@
 use Rattle.std.proofs.Common.{arith}
-use Rattle.call_bounds.proofs.LossLemmas.{losses-bounded}
-use Rattle.call_bounds.proofs.TurnBounds.{turns-bounded}
+use Rattle.sound_laws.proofs.bounds_lemmas.LossLemmas.{losses-bounded}
+use Rattle.sound_laws.proofs.bounds_lemmas.TurnBounds.{turns-bounded}
 use Rattle.step_machine.specs.Cores.{state_of}
 use Rattle.step_machine.proofs.CoreLemmas.{core-sound, run-won}
 use Rattle.step_machine.proofs.laws.machines_are_sound.Goals as goal

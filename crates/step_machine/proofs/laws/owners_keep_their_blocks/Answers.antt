@@ -1,4 +1,4 @@
-use Rattle.call_events.specs.Stages.{stage_of}
+use Rattle.sound_laws.specs.events.Stages.{stage_of}
 use Rattle.step_machine.proofs.KeepLemmas.{owns-rest}
 use Rattle.step_machine.proofs.SpareLemmas.{so_far-spares, events-spare}
 use Rattle.step_machine.proofs.laws.owners_keep_their_blocks.Goals as goal

@@ -5,8 +5,8 @@ use Rattle.live_heap.specs.Contents.{word_in, word_of}
 use Rattle.live_heap.proofs.WordsKept.{read-word}
 use Rattle.errand_steps.specs.declared.reply.Reply.TheVariants as reply
 use Rattle.errand_steps.specs.Calls.{read}
-use Rattle.call_events.specs.Made.{Made, answered, found_from}
-use Rattle.call_events.proofs.MadeLemmas.{found-more}
+use Rattle.sound_laws.specs.events.Made.{Made, answered, found_from}
+use Rattle.sound_laws.proofs.events_lemmas.MadeLemmas.{found-more}
 use Rattle.typed_store.specs.Walks.{LedBy}
 use Rattle.typed_store.proofs.PassLemmas.{led-once, read-reads, reads-on, same-owns}
 use Rattle.typed_store.proofs.ReadLemmas.{led-more}

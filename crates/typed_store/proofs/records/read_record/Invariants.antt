@@ -1,7 +1,7 @@
 use Rattle.std.proofs.Common.{ℕ, ◌≡◌, ◌<◌, ◌∷◌, List, length}
 use Rattle.std.specs.List.{slice_get}
 use Rattle.std.specs.Vec.{vec_capacity, vec_len}
-use Rattle.call_events.specs.Made.{found_from}
+use Rattle.sound_laws.specs.events.Made.{found_from}
 use Rattle.typed_store.specs.Passings.{KeepsWords}
 use Rattle.typed_store.specs.Records.{IsRecord}
 use Rattle.typed_store.specs.Walks.{LedBy}

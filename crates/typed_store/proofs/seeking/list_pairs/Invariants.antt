@@ -3,7 +3,7 @@ use Rattle.std.specs.Vec.{vec_capacity, vec_len}
 use Rattle.live_heap.specs.Contents.{owned_in}
 use Rattle.typed_store.specs.Nodes.{Spells, nodes_at}
 use Rattle.typed_store.specs.Passings.{IsPassing, KeepsWords}
-use Rattle.call_events.specs.Made.{Made}
+use Rattle.sound_laws.specs.events.Made.{Made}
 use Rattle.typed_store.specs.Walks.{LedBy, ReadsAlong}
 use Rattle.typed_store.proofs.seeking.list_pairs.Given as goal
 

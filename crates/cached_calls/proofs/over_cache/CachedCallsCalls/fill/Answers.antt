@@ -1,5 +1,5 @@
 use Rattle.heap_geometry.specs.Need.{usable_words}
-use Rattle.call_events.specs.Made.{wrote}
+use Rattle.sound_laws.specs.events.Made.{wrote}
 use Rattle.cached_calls.proofs.ThroughLemmas.{caches-lead}
 use Rattle.cached_calls.proofs.over_cache.CachedCallsCalls.fill.Goals as goal
 

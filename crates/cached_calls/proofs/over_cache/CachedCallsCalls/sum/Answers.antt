@@ -1,4 +1,4 @@
-use Rattle.call_events.specs.Made.{found_from}
+use Rattle.sound_laws.specs.events.Made.{found_from}
 use Rattle.cached_calls.proofs.ThroughLemmas.{caches-lead}
 use Rattle.cached_calls.proofs.over_cache.CachedCallsCalls.sum.Goals as goal
 

@@ -5,7 +5,7 @@ use Rattle.word_table.specs.Table.{Exists, word_index}
 use Rattle.word_table.specs.Words.{word_in}
 use Rattle.word_table.specs.declared.name.WordName.TheVariants.{Arena}
 use Rattle.placed_words.specs.Places.{place}
-use Rattle.first_uses.specs.Pieces.{piece_of}
+use Rattle.sound_laws.specs.uses.Pieces.{piece_of}
 use Rattle.live_heap.specs.Endings.{ClosedFields}
 use Rattle.live_heap.specs.Pieces.{mark_place}
 use Rattle.live_heap.proofs.ClosedPieces.{named-word, word-there, word-zero}

@@ -1,6 +1,6 @@
 use Rattle.std.proofs.Common.{◌+◌, ◌*◌}
 use Rattle.heap_geometry.specs.declared.limits.TheConstants.{CALL_STEPS}
-use Rattle.call_bounds.specs.StepsLeft.{steps_left}
+use Rattle.sound_laws.specs.bounds.StepsLeft.{steps_left}
 use Rattle.live_heap.specs.Passes.{IsOf, seen}
 use Rattle.live_heap.specs.Shelves.{PutsByRule}
 use Rattle.live_heap.specs.Going.{IsGoing}

@@ -1,4 +1,4 @@
-use Rattle.call_events.specs.Made.{LeadsBy, wrote}
+use Rattle.sound_laws.specs.events.Made.{LeadsBy, wrote}
 use Rattle.live_heap.specs.Words.{CallsOnWord}
 use Rattle.live_heap.proofs.heap.Heap.fill_by_words.Given as goal
 

@@ -5,7 +5,7 @@ use Rattle.plain_words.specs.Places.{laid}
 use Rattle.atomic_region.specs.Owned.{RegionId}
 use Rattle.atomic_region.specs.Region.{Me}
 use Rattle.placed_words.specs.Places.{placed_count}
-use Rattle.first_uses.specs.Pieces.{piece_start, piece_words}
+use Rattle.sound_laws.specs.uses.Pieces.{piece_start, piece_words}
 use Rattle.live_heap.specs.Heaps.{HeapFields}
 use Rattle.live_heap.specs.declared.view.View.{View}
 use Rattle.live_heap.proofs.LayLemmas.{all-here, filled, first-is, found-laid, laid-from, mark-within, may-claim, may-publish, only-range, piece-within, so-many, took-out}

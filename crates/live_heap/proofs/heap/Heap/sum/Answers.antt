@@ -2,9 +2,9 @@ use Rattle.std.proofs.Common.{◌+◌, ◌∷◌, ◌++◌, [], ap, arith, lengt
 use Rattle.errand_steps.specs.declared.reply.Reply.{Reply}
 use Rattle.errand_steps.specs.declared.reply.Reply.TheVariants as reply
 use Rattle.errand_steps.specs.Calls.{Call, read}
-use Rattle.call_events.specs.Made.{LeadsBy, found_from}
+use Rattle.sound_laws.specs.events.Made.{LeadsBy, found_from}
 use Rattle.live_heap.specs.Words.{CallsOnWord}
-use Rattle.call_events.proofs.MadeLemmas.{found-more, leads-more, sum-one}
+use Rattle.sound_laws.proofs.events_lemmas.MadeLemmas.{found-more, leads-more, sum-one}
 use Rattle.live_heap.proofs.MadeLemmas.{word-whole}
 use Rattle.live_heap.proofs.WholeLaws.{whole-keeps}
 use Rattle.live_heap.proofs.heap.Heap.sum.Goals as goal

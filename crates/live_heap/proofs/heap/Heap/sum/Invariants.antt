@@ -2,7 +2,7 @@ use Rattle.std.proofs.Common.{ℕ, List, length, ◌≡◌, ◌+◌, ◌%◌, �
 use Rattle.std.specs.Prelude.{sum}
 use Rattle.errand_steps.specs.Begins.{IsIdle}
 use Rattle.live_heap.specs.declared.block.Block.{Block}
-use Rattle.call_events.specs.Made.{LeadsBy, found_from}
+use Rattle.sound_laws.specs.events.Made.{LeadsBy, found_from}
 use Rattle.live_heap.specs.Passes.{IsOf, Owns, accesses, view}
 use Rattle.live_heap.specs.Words.{CallsOnWord}
 use Rattle.live_heap.proofs.heap.Heap.sum.Given as goal

@@ -1,5 +1,5 @@
 use Rattle.heap_geometry.specs.Need.{usable_words}
-use Rattle.call_events.specs.Made.{wrote}
+use Rattle.sound_laws.specs.events.Made.{wrote}
 use Rattle.pass_calls.proofs.WholeLemmas.{words-lead}
 use Rattle.pass_calls.proofs.over_pass.PassCallsCalls.fill.Goals as goal
 

@@ -1,4 +1,4 @@
-use Rattle.call_events.specs.Made.{found_from}
+use Rattle.sound_laws.specs.events.Made.{found_from}
 use Rattle.pass_calls.proofs.WholeLemmas.{words-lead}
 use Rattle.pass_calls.proofs.over_pass.PassCallsCalls.sum.Goals as goal
 

@@ -1,4 +1,4 @@
-use Rattle.call_bounds.specs.Alone.{alone_left}
+use Rattle.sound_laws.specs.bounds.Alone.{alone_left}
 use Rattle.step_machine.specs.Cores.{state_of}
 use Rattle.step_machine.proofs.AloneLemmas.{IsSoFar}
 use Rattle.step_machine.proofs.machine.Core.run_alone.Given as goal

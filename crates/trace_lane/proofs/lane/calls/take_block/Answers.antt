@@ -1,8 +1,8 @@
 use Rattle.std.proofs.Common.{◌++◌, ◌∷◌, [], refl, ◌∙◌}
 use Rattle.errand_steps.specs.declared.reply.Reply.TheVariants as reply
 use Rattle.errand_steps.specs.Calls.{take}
-use Rattle.call_events.specs.Made.{answered}
-use Rattle.call_events.proofs.MadeLemmas.{leads-more}
+use Rattle.sound_laws.specs.events.Made.{answered}
+use Rattle.sound_laws.proofs.events_lemmas.MadeLemmas.{leads-more}
 use Rattle.trace_lane.proofs.MadeLemmas.{leads-keep, leave-misses, misses-more}
 use Rattle.trace_lane.proofs.lane.calls.take_block.Goals as goal
 

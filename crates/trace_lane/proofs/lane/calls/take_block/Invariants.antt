@@ -1,5 +1,5 @@
 use Rattle.std.proofs.Common.{List, ◌≡◌}
-use Rattle.call_events.specs.Made.{LeadsBy, Made}
+use Rattle.sound_laws.specs.events.Made.{LeadsBy, Made}
 use Rattle.trace_lane.specs.Made.{AreMisses}
 use Rattle.trace_lane.proofs.lane.calls.take_block.Given as goal
 

@@ -1,9 +1,0 @@
-use Rattle.call_events.specs.Stages.{stage_of}
-use Rattle.call_events.proofs.EndLemmas.{can-end, way-busy}
-use Rattle.call_events.proofs.calls_under_way_can_end.Goals as goal
-
-pub returns-clause-busy : goal.returns-clause-busy
-returns-clause-busy c = way-busy
-
-pub returns-clause-so_far : goal.returns-clause-so_far
-returns-clause-so_far c = λ caller call point events so. can-end caller call (stage_of point) events so

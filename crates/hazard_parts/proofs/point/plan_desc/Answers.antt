@@ -1,8 +1,0 @@
-use Rattle.std.proofs.Common.{rules}
-use Rattle.hazard_parts.proofs.point.plan_desc.Goals as goal
-
-pub returns-in-ClearAfterPop : goal.returns-in-ClearAfterPop
-returns-in-ClearAfterPop c = search rules
-
-pub returns-in-PushDesc : goal.returns-in-PushDesc
-returns-in-PushDesc c = search rules

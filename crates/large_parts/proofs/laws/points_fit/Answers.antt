@@ -1,8 +1,0 @@
-use Rattle.large_parts.proofs.PointLemmas.{plan-exists, settle-fits}
-use Rattle.large_parts.proofs.laws.points_fit.Goals as goal
-
-pub returns-clause-names : goal.returns-clause-names
-returns-clause-names c = plan-exists
-
-pub returns-clause-keeps : goal.returns-clause-keeps
-returns-clause-keeps c = settle-fits

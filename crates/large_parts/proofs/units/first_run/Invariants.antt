@@ -1,6 +1,0 @@
-use Rattle.std.proofs.Common.{ℕ, false, ◌≡◌, ◌<◌}
-use Rattle.large_parts.specs.Units.{is_free}
-use Rattle.large_parts.proofs.units.first_run.Given as goal
-
-abbrev pub invariant-loop-first : goal.invariant-loop-first
-invariant-loop-first l = (u : ℕ) → u < l.first → is_free l.bits u l.n ≡ false

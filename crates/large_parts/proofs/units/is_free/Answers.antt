@@ -1,5 +1,0 @@
-use Rattle.large_parts.proofs.UnitLemmas.{mask_test}
-use Rattle.large_parts.proofs.units.is_free.Goals as goal
-
-pub returns : goal.returns
-returns c = mask_test c.args.bits c.args.first c.args.units c.run_bits.result c.run_bits.ensures

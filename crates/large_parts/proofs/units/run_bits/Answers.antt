@@ -1,6 +1,0 @@
-use Rattle.large_parts.proofs.UnitLemmas.{run_bits-shifts}
-use Rattle.large_parts.proofs.units.run_bits.Goals as goal
-
-pub returns : goal.returns
-returns c =
-    rw c.from.ensures (rw c.from-2.ensures (run_bits-shifts c.args.first c.args.units c.requires.some c.requires.within))

@@ -1,8 +1,0 @@
-use Rattle.std.proofs.Common.{rules}
-use Rattle.partial_parts.proofs.point.plan_partial.Goals as goal
-
-pub returns-in-StoreOwner : goal.returns-in-StoreOwner
-returns-in-StoreOwner c = search rules
-
-pub returns-in-PutSlot : goal.returns-in-PutSlot
-returns-in-PutSlot c = search rules

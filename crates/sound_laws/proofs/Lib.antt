@@ -1,0 +1,3 @@
+pub mod bounds_lemmas
+pub mod events_lemmas
+pub mod uses_lemmas

@@ -1,0 +1,3 @@
+pub mod bounds
+pub mod events
+pub mod uses

@@ -1,8 +1,0 @@
-use Rattle.stack_parts.proofs.StackLemmas.{stacked-off, stacked-elsewhere}
-use Rattle.stack_parts.proofs.laws.other_words_leave_a_stack.Goals as goal
-
-pub returns-clause-next : goal.returns-clause-next
-returns-clause-next c = stacked-off
-
-pub returns-clause-other : goal.returns-clause-other
-returns-clause-other c = stacked-elsewhere

@@ -1,5 +1,0 @@
-use Rattle.std.proofs.Common.{rules}
-use Rattle.stack_parts.proofs.point.settle_stack.Goals as goal
-
-pub returns-then-found : goal.returns-then-found
-returns-then-found c = search rules

@@ -1,0 +1,5 @@
+pub mod hazard
+pub mod large
+pub mod partial
+pub mod stack
+pub mod superblock

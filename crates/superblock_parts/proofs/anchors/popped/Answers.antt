@@ -1,5 +1,0 @@
-use Rattle.std.proofs.Common.{rules}
-use Rattle.superblock_parts.proofs.anchors.popped.Goals as goal
-
-pub returns : goal.returns
-returns c = search rules

@@ -1,5 +1,0 @@
-use Rattle.std.proofs.Common.{rules}
-use Rattle.superblock_parts.proofs.point.plan_block.Goals as goal
-
-pub returns-in-StoreLink : goal.returns-in-StoreLink
-returns-in-StoreLink c = search rules

@@ -1,7 +1,0 @@
-use Rattle.std.proofs.Common.{rules}
-use Rattle.packed_words.specs.Active.{active_word}
-use Rattle.superblock_parts.proofs.words.held_word.Goals as goal
-
-pub returns : goal.returns
-unfolding active_word
-returns c = search rules
