@@ -2,7 +2,7 @@
 
 ghost use Rattle.std.specs.Prelude.{◌≡◌, ◌<◌, ◌+◌, ◌≤◌, List, None, IfSome, length};
 ghost use Rattle.heap_geometry.specs.Need.{usable_words};
-ghost use Rattle.sound_laws.specs.events.Made.{LeadsBy, Sums, found_from, wrote};
+ghost use Rattle.sound_laws.specs.events.Made.{LeadsBy, found_from};
 ghost use Rattle.errand_steps.specs.Begins.{IsIdle};
 ghost use Rattle.live_heap.specs.declared.block.Block.{Block};
 ghost use Rattle.live_heap.specs.Words.{CallsOnWord};
@@ -98,7 +98,7 @@ pub fn fill(
     let Some(block) = table.block(index) else {
         return Err(Refusal::NoBlock);
     };
-    fill_words(heap, cache, block, from);
+    cache.fill(heap, block, from);
     Ok(())
 }
 
@@ -117,7 +117,7 @@ pub fn sum(heap: &Heap, cache: &mut Cache, table: &Table, number: u64) -> Result
     let Some(block) = table.block(index) else {
         return Err(Refusal::NoBlock);
     };
-    Ok(sum_words(heap, cache, block))
+    Ok(cache.sum(heap, block))
 }
 
 /// Where a range of a block ends; nowhere, if the block hasn't all its words.
@@ -163,34 +163,4 @@ fn read_words(heap: &Heap, cache: &mut Cache, block: &Block, from: u32, end: u32
     for i in from..end {
         words[(i - from) as usize] = cache.read(heap, block, i);
     }
-}
-
-/// Writes all words of a block: word i with from + i, modulo 2^64.
-fn fill_words(heap: &Heap, cache: &mut Cache, block: &Block, from: u64)
-    requires cache { IsCache heap.now cache.old }
-    requires idle { IsIdle cache.old.pass.errand }
-    requires held { HoldsBlock cache.old block.now }
-    ensures cache { IsCache heap.now cache.new }
-    ensures holds { (held : List Block) → Holds cache.old held → Holds cache.new held }
-    ensures wrote { Asked (λ p q. LeadsBy (CallsOnWord heap.now) p (wrote block.now.place block.now.need from (usable_words block.now.need)) q) cache.old cache.new }
-{
-    for i in 0..block.usable_words() {
-        cache.write(heap, block, i, from.wrapping_add(u64::from(i)));
-    }
-}
-
-/// Reads all words of a block, and adds them up, modulo 2^64.
-fn sum_words(heap: &Heap, cache: &mut Cache, block: &Block) -> u64
-    requires cache { IsCache heap.now cache.old }
-    requires idle { IsIdle cache.old.pass.errand }
-    requires held { HoldsBlock cache.old block.now }
-    ensures cache { IsCache heap.now cache.new }
-    ensures holds { (held : List Block) → Holds cache.old held → Holds cache.new held }
-    ensures sums { Asked (λ p q. Sums (CallsOnWord heap.now) p block.now.place block.now.need result q) cache.old cache.new }
-{
-    let mut total = 0u64;
-    for i in 0..block.usable_words() {
-        total = total.wrapping_add(cache.read(heap, block, i));
-    }
-    total
 }

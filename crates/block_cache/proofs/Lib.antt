@@ -6,3 +6,4 @@ pub mod HiddenWhole
 pub mod MagazineLemmas
 pub mod TogetherLemmas
 pub mod WholeLemmas
+pub mod WordLemmas

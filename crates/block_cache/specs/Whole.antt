@@ -46,6 +46,10 @@ pub record IsWholeCall (h : HeapFields) (c : Cache) (call : Call) (answer : Repl
   pub after : RestsAt h d
   pub made : MadeByCache h c call answer d
 
+-- a whole call that leaves the magazines as they are
+abbrev pub IsWholeOnWord : HeapFields → Cache → Call → Reply → Cache → Type 0
+IsWholeOnWord h c call answer d = IsWholeCall h c call answer d × KeepsMagazines c d
+
 -- an allocation has ended, and its answer is this reply
 abbrev pub EndsAs : AllocAnswer → Reply → Type 0
 EndsAs (answer.Given block) told = told ≡ reply.Given block.place block.need

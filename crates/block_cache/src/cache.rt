@@ -11,6 +11,7 @@ ghost use Rattle.errand_steps.specs.declared.reply.Reply.TheVariants as reply;
 ghost use Rattle.errand_steps.specs.Begins.{IsBusy, IsIdle, alloc_answer};
 ghost use Rattle.errand_steps.specs.Calls.{Call, put, read, write};
 ghost use Rattle.errand_steps.specs.Points.{is_idle};
+ghost use Rattle.sound_laws.specs.events.Made.{LeadsBy, Sums, wrote};
 ghost use Rattle.live_heap.specs.declared.block.Block.{Block};
 ghost use Rattle.live_heap.specs.Heaps.{HeapFields};
 ghost use Rattle.live_heap.specs.declared.pass.Pass.{Pass};
@@ -18,6 +19,7 @@ ghost use Rattle.live_heap.specs.Answers.{AllocTells, FreeTells, IsContents, Put
 ghost use Rattle.live_heap.specs.Calls.{HasCalled, IsCalling};
 ghost use Rattle.live_heap.specs.Hands.{given_by, resumed_by, returned_by, taken_by};
 ghost use Rattle.live_heap.specs.Passes.{IsOf, seen};
+ghost use Rattle.live_heap.specs.Words.{CallsOnWord};
 ghost use Rattle.block_cache.specs.Accounts.{HasAll};
 ghost use Rattle.block_cache.specs.Caches.{HasFor, HasKept, HasRoom, HasServed, Holds, HoldsBlock, IsCache, KeepsMagazines, cached_in, magazine_in, stacks_in};
 
@@ -193,6 +195,37 @@ impl Cache {
         ensures holds { (held : List Block) → Holds self.old held → Holds self.new held }
     {
         heap.read(&mut self.pass, block, i)
+    }
+
+    /// Fills a block that the caller holds: word i with from + i, modulo 2^64. A block of three words or more is
+    /// written as plain memory.
+    pub fn fill(&mut self, heap: &Heap, block: &Block, from: u64)
+        requires cache { IsCache heap.now self.old }
+        requires idle { IsIdle self.old.pass.errand }
+        requires held { HoldsBlock self.old block.now }
+        ensures cache { IsCache heap.now self.new }
+        ensures idle { IsIdle self.new.pass.errand }
+        ensures wrote { LeadsBy (CallsOnWord heap.now) self.old.pass
+            (wrote block.now.place block.now.need from (usable_words block.now.need)) self.new.pass }
+        ensures keeps { KeepsMagazines self.old self.new }
+        ensures holds { (held : List Block) → Holds self.old held → Holds self.new held }
+    {
+        heap.fill(&mut self.pass, block, from);
+    }
+
+    /// The sum of the words of a block that the caller holds, modulo 2^64. A word that its owners have not
+    /// written since the block was given is some number.
+    pub fn sum(&mut self, heap: &Heap, block: &Block) -> u64
+        requires cache { IsCache heap.now self.old }
+        requires idle { IsIdle self.old.pass.errand }
+        requires held { HoldsBlock self.old block.now }
+        ensures cache { IsCache heap.now self.new }
+        ensures idle { IsIdle self.new.pass.errand }
+        ensures sums { Sums (CallsOnWord heap.now) self.old.pass block.now.place block.now.need result self.new.pass }
+        ensures keeps { KeepsMagazines self.old self.new }
+        ensures holds { (held : List Block) → Holds self.old held → Holds self.new held }
+    {
+        heap.sum(&mut self.pass, block)
     }
 
     /// Puts a block that the caller holds on a shelf, from where any pass may take it.

@@ -7,6 +7,7 @@ ghost use Rattle.errand_steps.specs.declared.reply.Reply.{Reply};
 ghost use Rattle.errand_steps.specs.declared.reply.Reply.TheVariants as reply;
 ghost use Rattle.errand_steps.specs.Begins.{IsIdle};
 ghost use Rattle.errand_steps.specs.Calls.{Call, alloc, free};
+ghost use Rattle.sound_laws.specs.events.Made.{LeadsBy, Sums, wrote};
 ghost use Rattle.sound_laws.specs.events.Stages.{stage_of};
 ghost use Rattle.step_machine.specs.Keeping.{Hands, LeavesPlace};
 ghost use Rattle.live_heap.specs.declared.answers.AllocAnswer.{AllocAnswer};
@@ -20,13 +21,14 @@ ghost use Rattle.live_heap.specs.Answers.{AllocTells, FreeTells};
 ghost use Rattle.live_heap.specs.Holdings.{HoldsExactly};
 ghost use Rattle.live_heap.specs.Passes.{IsOf};
 ghost use Rattle.live_heap.specs.Whole.{HasEndedCall};
+ghost use Rattle.live_heap.specs.Words.{CallsOnWord};
 ghost use Rattle.block_cache.specs.declared.cache.Cache.{Cache};
 ghost use Rattle.block_cache.specs.Accounts.{IsAmong, KeepsUnderWay};
 ghost use Rattle.block_cache.specs.Caches.{HasFor, HasKept, HasRoom, HasServed, Holds, HoldsBlock, IsCache, KeepsMagazines, cached_in, stacks_in};
 ghost use Rattle.block_cache.specs.Flushes.{FlushTells, HasStopped};
 ghost use Rattle.block_cache.specs.Hidden.{Shows, ShowsSame};
 ghost use Rattle.block_cache.specs.Magazines.{leaving};
-ghost use Rattle.block_cache.specs.Whole.{Asks, EndsAs, HoldsAt, IsWholeCall, RestsAt};
+ghost use Rattle.block_cache.specs.Whole.{Asks, EndsAs, HoldsAt, IsWholeCall, IsWholeOnWord, RestsAt};
 
 /// The blocks that the caller of a cache holds, those in its magazines and the one that a call under way
 /// keeps are together all that it owns, each once. It holds what it owned when the cache was opened; what
@@ -54,6 +56,17 @@ pub fn ended_calls_are_whole()
         → IsWholeCall h c (free block.place block.need) reply.Freed d }
     ensures asked { (h : HeapFields) (c d : Cache) (call : Call) (ended : Reply) → RestsAt h c → IsCache h d → Asks c call
         → HasEndedCall c.pass call ended d.pass → KeepsMagazines c d → IsWholeCall h c call ended d }
+{}
+
+/// A fill or a sum of a block that the caller holds is as many whole calls through the cache, one on each word,
+/// which leave the magazines as they are.
+pub fn calls_on_words_are_whole()
+    ensures fill { (h : HeapFields) (c d : Cache) (place : ℕ) (need : Need) (from count : ℕ) → RestsAt h c → HoldsAt c place need
+        → LeadsBy (CallsOnWord h) c.pass (wrote place need from count) d.pass → KeepsMagazines c d
+        → LeadsBy (IsWholeOnWord h) c (wrote place need from count) d }
+    ensures sum { (h : HeapFields) (c d : Cache) (place : ℕ) (need : Need) (total : ℕ) → RestsAt h c → HoldsAt c place need
+        → Sums (CallsOnWord h) c.pass place need total d.pass → KeepsMagazines c d
+        → Sums (IsWholeOnWord h) c place need total d }
 {}
 
 /// What a whole call through a cache leaves and hands out: its caller holds what it held, but for the block

@@ -24,6 +24,7 @@ use Rattle.block_cache.specs.declared.cache.Cache.{Cache}
 use Rattle.block_cache.specs.declared.magazines.Magazines.{Magazines}
 use Rattle.block_cache.specs.Caches.{HasFor, HasKept, HasRoom, HasServed, KeepsMagazines, cached_in}
 use Rattle.block_cache.specs.Magazines.{all_in, stacks_of}
+use Rattle.block_cache.specs.Whole.{IsWholeOnWord}
 use Rattle.cached_calls.specs.declared.over_cache.CachedCalls.{CachedCalls}
 use Rattle.cached_calls.specs.Calls.{IsCachedCall}
 
@@ -90,6 +91,12 @@ pub caches-lead :
     → LeadsBy (λ f call answer g. IsCachedCall f.heap.now f.cache.now call answer g.cache.now × (g.heap.now ≡ f.heap.now)) (with_cache e c) made (with_cache e d)
 caches-lead e c d [] leads = ap (with_cache e) leads
 caches-lead e c d (m ∷ made) (t, one, leads) = (with_cache e t, (one, refl), caches-lead e t d made leads)
+
+pub words-lead :
+    (e : CachedCalls) (c d : Cache) (made : List Made) → LeadsBy (IsWholeOnWord e.heap.now) c made d
+    → LeadsBy (λ f call answer g. IsCachedCall f.heap.now f.cache.now call answer g.cache.now × (g.heap.now ≡ f.heap.now)) (with_cache e c) made (with_cache e d)
+words-lead e c d [] leads = ap (with_cache e) leads
+words-lead e c d (m ∷ made) (t, one, leads) = (with_cache e t, ((one.0, keeps-depth c t one.1), refl), words-lead e t d made leads)
 
 -- an allocation that is under way found no block in a magazine, and a free under way no room in one
 pub busy-asks :

@@ -1,11 +1,10 @@
 //! A cache in front of a heap, whose lane makes whole calls.
 
-ghost use Rattle.std.specs.Prelude.{ℕ, ◌≡◌, ◌<◌, ◌≤◌, ◌%◌, ◌^◌};
+ghost use Rattle.std.specs.Prelude.{ℕ, ◌≡◌, ◌<◌, ◌≤◌};
 ghost use Rattle.heap_geometry.specs.declared.limits.TheConstants.{LARGE_MOST};
 ghost use Rattle.heap_geometry.specs.Need.{usable_words};
 ghost use Rattle.errand_steps.specs.declared.reply.Reply.TheVariants as reply;
 ghost use Rattle.errand_steps.specs.Calls.{Call, alloc, free, read, write};
-ghost use Rattle.sound_laws.specs.events.Made.{LeadsBy, Sums, wrote};
 ghost use Rattle.live_heap.specs.declared.pass.Pass.{Pass};
 ghost use Rattle.live_heap.specs.Answers.{IsResumable};
 ghost use Rattle.live_heap.specs.Calls.{IsCalling};
@@ -17,7 +16,7 @@ ghost use Rattle.block_cache.specs.Whole.{HoldsAt, RestsAt};
 ghost use Rattle.cached_calls.specs.Calls.{HasEmptied, IsCachedCall};
 
 use block_cache::cache::Cache;
-use block_cache::laws::{ended_calls_are_whole, whole_calls_keep_blocks};
+use block_cache::laws::{calls_on_words_are_whole, ended_calls_are_whole, whole_calls_keep_blocks};
 use lane_engine::calls::{Allocated, Calls, Taken};
 use live_heap::answers::{AllocAnswer, FreeAnswer, Resumed, Taken as Found};
 use live_heap::block::Block;
@@ -144,35 +143,6 @@ fn read_word(heap: &Heap, cache: &mut Cache, block: &Block, i: u32) -> u64
     cache.read(heap, block, i)
 }
 
-/// Fills the caller's block: word i with from + i, modulo 2^64.
-fn fill_words(heap: &Heap, cache: &mut Cache, block: &Block, from: u64)
-    requires rests { RestsAt heap.now cache.old }
-    requires held { HoldsAt cache.old block.now.place block.now.need }
-    ensures rests { RestsAt heap.now cache.new }
-    ensures called { LeadsBy (IsCachedCall heap.now) cache.old
-        (wrote block.now.place block.now.need from (usable_words block.now.need)) cache.new }
-{
-    whole_calls_keep_blocks();
-    for i in 0..block.usable_words() {
-        write_word(heap, cache, block, i, from.wrapping_add(u64::from(i)));
-    }
-}
-
-/// The sum of the words of the caller's block, modulo 2^64.
-fn sum_words(heap: &Heap, cache: &mut Cache, block: &Block) -> u64
-    requires rests { RestsAt heap.now cache.old }
-    requires held { HoldsAt cache.old block.now.place block.now.need }
-    ensures rests { RestsAt heap.now cache.new }
-    ensures called { Sums (IsCachedCall heap.now) cache.old block.now.place block.now.need result cache.new }
-{
-    whole_calls_keep_blocks();
-    let mut total = 0u64;
-    for i in 0..block.usable_words() {
-        total = total.wrapping_add(read_word(heap, cache, block, i));
-    }
-    total
-}
-
 /// Reads a word of the caller's block; past the block's end it is 0, and nothing is read.
 fn read_or_zero(heap: &Heap, cache: &mut Cache, block: &Block, i: u32) -> u64
     requires rests { RestsAt heap.now cache.old }
@@ -255,11 +225,13 @@ impl<'a> Calls for CachedCalls<'a> {
     }
 
     fn fill(&mut self, held: &Block, from: u64) {
-        fill_words(self.heap, self.cache, held, from);
+        calls_on_words_are_whole();
+        self.cache.fill(self.heap, held, from);
     }
 
     fn sum(&mut self, held: &Block) -> u64 {
-        sum_words(self.heap, self.cache, held)
+        calls_on_words_are_whole();
+        self.cache.sum(self.heap, held)
     }
 
     fn copy(&mut self, from: &Block, to: &Block) {

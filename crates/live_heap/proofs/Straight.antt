@@ -1,10 +1,12 @@
 -- Calls on usable words, which are one step each.
-use Rattle.std.proofs.Common.{ℕ, ◌≡◌, ◌≢◌, ◌<◌, ◌≤◌, ◌+◌, ◌^◌, refl, sym, ap, arith, pow_pos}
+use Rattle.std.proofs.Common.{ℕ, ◌≡◌, ◌≢◌, ◌<◌, ◌≤◌, ◌+◌, ◌*◌, ◌%◌, ◌^◌, ◌∙◌, refl, sym, ap, arith, pow_pos}
+use Rattle.std.proofs.lemmas.Nat.{mul-mod_second}
 use Rattle.heap_geometry.specs.declared.geometry.Geometry.{Geometry}
 use Rattle.heap_geometry.specs.declared.need.Need.{Need}
 use Rattle.heap_geometry.specs.declared.need.Need.TheVariants.{Small, Large, TooLarge}
 use Rattle.heap_geometry.specs.Geometry.{IsChecked}
 use Rattle.heap_geometry.specs.Need.{usable_words}
+use Rattle.heap_geometry.proofs.NeedLemmas.{double}
 use Rattle.heap_geometry.proofs.PlaceLemmas.{block-within}
 use Rattle.word_table.specs.declared.action.Action.TheVariants.{Load, Store}
 use Rattle.word_table.specs.declared.action.Found.{Found as Find}
@@ -57,6 +59,21 @@ payload-end g place (Small class) (needs, (frame, index, has, within, is)) =
     omega (arith, block-within class index within, is, has, pow_pos (class + 1))
 payload-end g place (Large units) (needs, (unit, within, is)) = omega (arith, is, within, needs.0)
 payload-end g place TooLarge (needs, nowhere) = absurd nowhere
+
+-- a block's prefix word has an even number
+heap-even : (g : Geometry) (place : ℕ) (n : Need) → IsHeapBlock g place n → place % 2 ≡ 0
+heap-even g place (Small class) (needs, (frame, index, has, within, is)) =
+    let width : 2 ^ (class + 1) % 2 ≡ 0 = omega (arith, double class) in
+    let nothing : index * 0 % 2 ≡ 0 = omega arith in
+    let even : index * 2 ^ (class + 1) % 2 ≡ 0 =
+    sym (mul-mod_second index (2 ^ (class + 1)) 2) ∙ ap (λ k. index * k % 2) width ∙ nothing in
+    omega (arith, is, even)
+heap-even g place (Large units) (needs, (unit, within, is)) = omega (arith, is)
+heap-even g place TooLarge (needs, nowhere) = absurd nowhere
+
+-- so its first usable word has an odd one
+pub payload-odd : (g : Geometry) (place first : ℕ) (n : Need) → IsHeapBlock g place n → first ≡ place + 1 → first % 2 ≡ 1
+payload-odd g place first n own is = omega (arith, is, heap-even g place n own)
 
 -- the arena is within the table, and its words are no more than a number of 32 bits says
 pub arena-within : (g : Geometry) (k : ℕ) → k < arena_words g → k < word_count g

@@ -1,6 +1,6 @@
 //! How the usable words of a block go out with its owner's pass, as plain memory, and come back.
 
-ghost use Rattle.std.specs.Prelude.{◌≡◌, ◌≢◌, ◌<◌, ◌+◌, [], ◌++◌, length};
+ghost use Rattle.std.specs.Prelude.{◌≡◌, ◌≢◌, ◌<◌, ◌+◌, ◌%◌, [], ◌++◌, length};
 ghost use Rattle.heap_geometry.specs.Need.{usable_words};
 ghost use Rattle.plain_words.specs.Places.{numbers};
 ghost use Rattle.errand_steps.specs.Begins.{IsIdle};
@@ -30,7 +30,8 @@ use std::marker::Brand;
 impl<R: ShelfRule> Heap<R> {
     /// Takes the usable words of the pass's block out: from now on they are plain memory, of whoever has what this returns,
     /// on any thread. The pass makes its other calls as before; it can free the block or put it on a shelf, and write or
-    /// read its words by a call, once the words are home again.
+    /// read its words by a call, once the words are home again. The first of them is aligned to 16 bytes: it stands at an
+    /// odd number, and the region's first word stands 8 bytes behind a multiple of 16 (`Backing` of plain_words).
     pub fn take_out(&self, pass: &mut Pass, block: Block) -> Memory
         requires of { IsOf self.now pass.old }
         requires idle { IsIdle pass.old.errand }
@@ -39,6 +40,7 @@ impl<R: ShelfRule> Heap<R> {
         ensures idle { IsIdle pass.new.errand }
         ensures memory { IsMemoryOf self.now result }
         ensures block { result.block ≡ block }
+        ensures aligned { result.words.first % 2 ≡ 1 }
         ensures taken { HasTaken pass.new result }
         ensures before { before_taking pass.new block.place ≡ pass.old }
         ensures keeps { (other : Block) → Owns pass.old other → other.place ≢ block.place → Owns pass.new other }

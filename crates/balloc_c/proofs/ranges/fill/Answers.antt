@@ -6,8 +6,8 @@ use Rattle.balloc_c.proofs.Slots.{held-at}
 use Rattle.balloc_c.proofs.MadeCalls.{fill-answers}
 use Rattle.balloc_c.proofs.ranges.fill.Goals as goal
 
-pub fill_words-requires-clause-held : goal.fill_words-requires-clause-held
-fill_words-requires-clause-held c =
+pub fill-requires-clause-held : goal.fill-requires-clause-held
+fill-requires-clause-held c =
     let h = c.args.heap.now in
     let s = c.args.cache.now in
     let t = c.args.table.now in
@@ -19,8 +19,8 @@ fill_words-requires-clause-held c =
 pub returns-clause-tends : goal.returns-clause-tends
 returns-clause-tends c =
     record {
-      cache = c.fill_words.ensures.cache;
-      holds = c.fill_words.ensures.holds (blocks_of c.args.table.now.slots.items) c.requires.tends.holds;
+      cache = c.fill.ensures.cache;
+      holds = c.fill.ensures.holds (blocks_of c.args.table.now.slots.items) c.requires.tends.holds;
     }
 
 pub returns-clause-answers : goal.returns-clause-answers
@@ -32,4 +32,4 @@ returns-clause-answers c =
     let is : block_at t.slots.items c.in-Some.index ≡ Some block = sym c.block.ensures ∙ c.in-Some-block.is in
     let idle : IsIdle s.pass.errand = search rules in
     let names : named t c.args.number ≡ Some block = c.in-Some.ensures.found.2 ∙ is in
-    fill-answers h s t c.args.number c.args.from block c.fill_words.new.cache idle names c.requires.tends.cache.hand.of c.fill_words.ensures.wrote
+    fill-answers h s t c.args.number c.args.from block c.fill.new.self idle names c.requires.tends.cache.hand.of (c.fill.ensures.wrote, c.fill.ensures.keeps)

@@ -6,8 +6,8 @@ use Rattle.balloc_c.proofs.Slots.{held-at}
 use Rattle.balloc_c.proofs.MadeCalls.{sum-answers}
 use Rattle.balloc_c.proofs.ranges.sum.Goals as goal
 
-pub sum_words-requires-clause-held : goal.sum_words-requires-clause-held
-sum_words-requires-clause-held c =
+pub sum-requires-clause-held : goal.sum-requires-clause-held
+sum-requires-clause-held c =
     let h = c.args.heap.now in
     let s = c.args.cache.now in
     let t = c.args.table.now in
@@ -19,8 +19,8 @@ sum_words-requires-clause-held c =
 pub returns-clause-tends : goal.returns-clause-tends
 returns-clause-tends c =
     record {
-      cache = c.sum_words.ensures.cache;
-      holds = c.sum_words.ensures.holds (blocks_of c.args.table.now.slots.items) c.requires.tends.holds;
+      cache = c.sum.ensures.cache;
+      holds = c.sum.ensures.holds (blocks_of c.args.table.now.slots.items) c.requires.tends.holds;
     }
 
 pub returns-clause-answers : goal.returns-clause-answers
@@ -32,4 +32,4 @@ returns-clause-answers c =
     let is : block_at t.slots.items c.in-Some.index ≡ Some block = sym c.block.ensures ∙ c.in-Some-block.is in
     let idle : IsIdle s.pass.errand = search rules in
     let names : named t c.args.number ≡ Some block = c.in-Some.ensures.found.2 ∙ is in
-    sum-answers h s t c.args.number c.sum_words.result block c.sum_words.new.cache idle names c.requires.tends.cache.hand.of c.sum_words.ensures.sums
+    sum-answers h s t c.args.number c.sum.result block c.sum.new.self idle names c.requires.tends.cache.hand.of (c.sum.ensures.sums, c.sum.ensures.keeps)

@@ -10,8 +10,10 @@ use Rattle.live_heap.specs.Lending.{lent_block}
 use Rattle.live_heap.specs.Memory.{before_taking}
 use Rattle.live_heap.specs.Passes.{IsOf, Owns, accesses_of, view}
 use Rattle.live_heap.specs.Pieces.{caller_mark, mark_place}
+use Rattle.live_heap.proofs.Begun.{heap-at}
 use Rattle.live_heap.proofs.BlockCounts.{out-small}
 use Rattle.live_heap.proofs.LayLemmas.{only-range}
+use Rattle.live_heap.proofs.Straight.{payload-odd}
 use Rattle.live_heap.proofs.Taking.{first-lent, lends-own, long-lent, of-taken, owns-else, taken-is, taken_by, told-lent, view-lent, was-before, words-lent}
 use Rattle.live_heap.proofs.heap.Heap.take_out.Goals as goal
 
@@ -67,6 +69,7 @@ returns g c =
         laid = (lent.0, places);
       };
       block = refl;
+      aligned = payload-odd p.errand.geometry b.place words.first b.need (heap-at h p b.place b.need c.requires.of c.requires.owned.0) first;
       taken = (0, lent_block b.place b.need lent.0, ap (λ (l : List Lent). get_elem? l 0) now, refl, refl);
       before = t.1;
       keeps = t.2;
