@@ -11,7 +11,7 @@ ghost use Rattle.errand_steps.specs.declared.reply.Reply.TheVariants as reply;
 ghost use Rattle.errand_steps.specs.Begins.{IsBusy, IsIdle, alloc_answer};
 ghost use Rattle.errand_steps.specs.Calls.{Call, put, read, write};
 ghost use Rattle.errand_steps.specs.Points.{is_idle};
-ghost use Rattle.sound_laws.specs.events.Made.{LeadsBy, Sums, wrote};
+ghost use Rattle.sound_laws.specs.events.Made.{Copies, LeadsBy, Sums, wrote};
 ghost use Rattle.live_heap.specs.declared.block.Block.{Block};
 ghost use Rattle.live_heap.specs.Heaps.{HeapFields};
 ghost use Rattle.live_heap.specs.declared.pass.Pass.{Pass};
@@ -211,6 +211,22 @@ impl Cache {
         ensures holds { (held : List Block) → Holds self.old held → Holds self.new held }
     {
         heap.fill(&mut self.pass, block, from);
+    }
+
+    /// Copies a block that the caller holds into another one that it holds, the first word first: each word is read
+    /// and then written. What the other one has beyond them is filled with 0.
+    pub fn copy(&mut self, heap: &Heap, from: &Block, to: &Block)
+        requires cache { IsCache heap.now self.old }
+        requires idle { IsIdle self.old.pass.errand }
+        requires held { HoldsBlock self.old from.now }
+        requires held_too { HoldsBlock self.old to.now }
+        ensures cache { IsCache heap.now self.new }
+        ensures idle { IsIdle self.new.pass.errand }
+        ensures copied { Copies (CallsOnWord heap.now) self.old.pass from.now.place from.now.need to.now.place to.now.need self.new.pass }
+        ensures keeps { KeepsMagazines self.old self.new }
+        ensures holds { (held : List Block) → Holds self.old held → Holds self.new held }
+    {
+        heap.copy(&mut self.pass, from, to);
     }
 
     /// The sum of the words of a block that the caller holds, modulo 2^64. A word that its owners have not

@@ -7,7 +7,7 @@ ghost use Rattle.errand_steps.specs.declared.reply.Reply.{Reply};
 ghost use Rattle.errand_steps.specs.declared.reply.Reply.TheVariants as reply;
 ghost use Rattle.errand_steps.specs.Begins.{IsIdle};
 ghost use Rattle.errand_steps.specs.Calls.{Call, alloc, free};
-ghost use Rattle.sound_laws.specs.events.Made.{LeadsBy, Sums, wrote};
+ghost use Rattle.sound_laws.specs.events.Made.{Copies, LeadsBy, Sums, wrote};
 ghost use Rattle.sound_laws.specs.events.Stages.{stage_of};
 ghost use Rattle.step_machine.specs.Keeping.{Hands, LeavesPlace};
 ghost use Rattle.live_heap.specs.declared.answers.AllocAnswer.{AllocAnswer};
@@ -58,7 +58,7 @@ pub fn ended_calls_are_whole()
         → HasEndedCall c.pass call ended d.pass → KeepsMagazines c d → IsWholeCall h c call ended d }
 {}
 
-/// A fill or a sum of a block that the caller holds is as many whole calls through the cache, one on each word,
+/// A fill, a sum or a copy of blocks that the caller holds is as many whole calls through the cache, each on a word,
 /// which leave the magazines as they are.
 pub fn calls_on_words_are_whole()
     ensures fill { (h : HeapFields) (c d : Cache) (place : ℕ) (need : Need) (from count : ℕ) → RestsAt h c → HoldsAt c place need
@@ -67,6 +67,9 @@ pub fn calls_on_words_are_whole()
     ensures sum { (h : HeapFields) (c d : Cache) (place : ℕ) (need : Need) (total : ℕ) → RestsAt h c → HoldsAt c place need
         → Sums (CallsOnWord h) c.pass place need total d.pass → KeepsMagazines c d
         → Sums (IsWholeOnWord h) c place need total d }
+    ensures copy { (h : HeapFields) (c d : Cache) (from : ℕ) (from_need : Need) (to : ℕ) (to_need : Need) → RestsAt h c
+        → HoldsAt c from from_need → HoldsAt c to to_need → Copies (CallsOnWord h) c.pass from from_need to to_need d.pass → KeepsMagazines c d
+        → Copies (IsWholeOnWord h) c from from_need to to_need d }
 {}
 
 /// What a whole call through a cache leaves and hands out: its caller holds what it held, but for the block

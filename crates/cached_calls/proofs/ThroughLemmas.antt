@@ -1,8 +1,7 @@
 -- A call through a cache that was interrupted, and goes on to its end; and calls of a cache, for what holds it.
-use Rattle.std.proofs.Common.{ℕ, ◌≡◌, ◌∷◌, List, [], inl, inr, refl, sym, ap, ◌∙◌, subst}
+use Rattle.std.proofs.Common.{ℕ, ◌≡◌, ◌∷◌, List, [], refl, sym, ap, ◌∙◌}
 use Rattle.std.proofs.lemmas.Option.{none-some}
 use Rattle.heap_geometry.specs.declared.need.Need.{Need}
-use Rattle.errand_steps.specs.declared.reply.Reply.{Reply}
 use Rattle.errand_steps.specs.declared.reply.Reply.TheVariants as reply
 use Rattle.errand_steps.specs.Begins.{IsIdle}
 use Rattle.errand_steps.specs.Calls.{Call, alloc, free}
@@ -15,7 +14,6 @@ use Rattle.live_heap.specs.declared.answers.FreeAnswer.TheVariants as free_answe
 use Rattle.live_heap.specs.declared.answers.Resumed.{Resumed}
 use Rattle.live_heap.specs.declared.answers.Resumed.TheVariants as resumed
 use Rattle.live_heap.specs.declared.block.Block.{Block}
-use Rattle.live_heap.specs.Heaps.{HeapFields}
 use Rattle.live_heap.specs.declared.pass.Pass.{Pass}
 use Rattle.live_heap.specs.Answers.{IsResumable, ResumeTells}
 use Rattle.live_heap.specs.Calls.{IsCalling}
@@ -85,13 +83,7 @@ same-cached c d keeps = ap (λ (m : Magazines). all_in (stacks_of m.stacks.items
 abbrev pub with_cache : CachedCalls → Cache → CachedCalls
 with_cache e c = record e { cache = record e.cache { now = c } }
 
--- calls of a cache are calls of the struct that has it
-pub caches-lead :
-    (e : CachedCalls) (c d : Cache) (made : List Made) → LeadsBy (IsCachedCall e.heap.now) c made d
-    → LeadsBy (λ f call answer g. IsCachedCall f.heap.now f.cache.now call answer g.cache.now × (g.heap.now ≡ f.heap.now)) (with_cache e c) made (with_cache e d)
-caches-lead e c d [] leads = ap (with_cache e) leads
-caches-lead e c d (m ∷ made) (t, one, leads) = (with_cache e t, (one, refl), caches-lead e t d made leads)
-
+-- calls on words through a cache are calls of the struct that has it
 pub words-lead :
     (e : CachedCalls) (c d : Cache) (made : List Made) → LeadsBy (IsWholeOnWord e.heap.now) c made d
     → LeadsBy (λ f call answer g. IsCachedCall f.heap.now f.cache.now call answer g.cache.now × (g.heap.now ≡ f.heap.now)) (with_cache e c) made (with_cache e d)

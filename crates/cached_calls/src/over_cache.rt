@@ -2,15 +2,14 @@
 
 ghost use Rattle.std.specs.Prelude.{ℕ, ◌≡◌, ◌<◌, ◌≤◌};
 ghost use Rattle.heap_geometry.specs.declared.limits.TheConstants.{LARGE_MOST};
-ghost use Rattle.heap_geometry.specs.Need.{usable_words};
 ghost use Rattle.errand_steps.specs.declared.reply.Reply.TheVariants as reply;
-ghost use Rattle.errand_steps.specs.Calls.{Call, alloc, free, read, write};
+ghost use Rattle.errand_steps.specs.Calls.{Call, alloc, free};
 ghost use Rattle.live_heap.specs.declared.pass.Pass.{Pass};
 ghost use Rattle.live_heap.specs.Answers.{IsResumable};
 ghost use Rattle.live_heap.specs.Calls.{IsCalling};
 ghost use Rattle.live_heap.specs.Passes.{IsOf};
 ghost use Rattle.live_heap.specs.Whole.{ResumesTo};
-ghost use Rattle.lane_engine.specs.Whole.{Copies, allocated_as};
+ghost use Rattle.lane_engine.specs.Whole.{allocated_as};
 ghost use Rattle.block_cache.specs.Caches.{IsCache, KeepsMagazines};
 ghost use Rattle.block_cache.specs.Whole.{HoldsAt, RestsAt};
 ghost use Rattle.cached_calls.specs.Calls.{HasEmptied, IsCachedCall};
@@ -121,61 +120,6 @@ fn free_block<R: Wait>(rt: &R, heap: &Heap, cache: &mut Cache, last: &mut u64, b
     }
 }
 
-/// Writes a word of the caller's block.
-fn write_word(heap: &Heap, cache: &mut Cache, block: &Block, i: u32, v: u64)
-    requires rests { RestsAt heap.now cache.old }
-    requires held { HoldsAt cache.old block.now.place block.now.need }
-    requires word { i < usable_words block.now.need }
-    ensures { IsCachedCall heap.now cache.old (write block.now.place block.now.need i v) reply.Wrote cache.new }
-{
-    ended_calls_are_whole();
-    cache.write(heap, block, i, v);
-}
-
-/// Reads a word of the caller's block.
-fn read_word(heap: &Heap, cache: &mut Cache, block: &Block, i: u32) -> u64
-    requires rests { RestsAt heap.now cache.old }
-    requires held { HoldsAt cache.old block.now.place block.now.need }
-    requires word { i < usable_words block.now.need }
-    ensures { IsCachedCall heap.now cache.old (read block.now.place block.now.need i) (reply.Word result) cache.new }
-{
-    ended_calls_are_whole();
-    cache.read(heap, block, i)
-}
-
-/// Reads a word of the caller's block; past the block's end it is 0, and nothing is read.
-fn read_or_zero(heap: &Heap, cache: &mut Cache, block: &Block, i: u32) -> u64
-    requires rests { RestsAt heap.now cache.old }
-    requires held { HoldsAt cache.old block.now.place block.now.need }
-    ensures read { i < usable_words block.now.need
-        → IsCachedCall heap.now cache.old (read block.now.place block.now.need i) (reply.Word result) cache.new }
-    ensures past { usable_words block.now.need ≤ i → (cache.new ≡ cache.old) × (result ≡ 0) }
-    ensures rests { RestsAt heap.now cache.new }
-    ensures keeps { (other : Block) → HoldsAt cache.old other.place other.need → HoldsAt cache.new other.place other.need }
-{
-    whole_calls_keep_blocks();
-    if i < block.usable_words() {
-        read_word(heap, cache, block, i)
-    } else {
-        0
-    }
-}
-
-/// Copies the words of the caller's block into another one of its blocks, and fills the rest of that with 0.
-fn copy_words(heap: &Heap, cache: &mut Cache, from: &Block, to: &Block)
-    requires rests { RestsAt heap.now cache.old }
-    requires held { HoldsAt cache.old from.now.place from.now.need }
-    requires held_too { HoldsAt cache.old to.now.place to.now.need }
-    ensures rests { RestsAt heap.now cache.new }
-    ensures copied { Copies (IsCachedCall heap.now) cache.old from.now.place from.now.need to.now.place to.now.need cache.new }
-{
-    whole_calls_keep_blocks();
-    for i in 0..to.usable_words() {
-        let word = read_or_zero(heap, cache, from, i);
-        write_word(heap, cache, to, i, word);
-    }
-}
-
 /// Empties all magazines, by frees of the heap.
 pub fn empty<R: Wait>(rt: &R, heap: &Heap, cache: &mut Cache)
     requires rests { RestsAt heap.now cache.old }
@@ -235,7 +179,8 @@ impl<'a> Calls for CachedCalls<'a> {
     }
 
     fn copy(&mut self, from: &Block, to: &Block) {
-        copy_words(self.heap, self.cache, from, to);
+        calls_on_words_are_whole();
+        self.cache.copy(self.heap, from, to);
     }
 
     fn put(&mut self, held: Block, shelf: u8) -> Option<Block> {

@@ -8,12 +8,11 @@ use Rattle.heap_geometry.specs.Need.{need_of}
 use Rattle.errand_steps.specs.declared.reply.Reply.{Reply}
 use Rattle.errand_steps.specs.declared.reply.Reply.TheVariants as reply
 use Rattle.errand_steps.specs.Calls.{Call, alloc, free, take, write}
-use Rattle.sound_laws.specs.events.Made.{LeadsBy, Made, answered, found_from}
+use Rattle.sound_laws.specs.events.Made.{LeadsBy, Made, answered, copied_word, found_from}
 use Rattle.live_heap.specs.declared.block.Block.{Block}
 use Rattle.live_heap.specs.Heaps.{HeapFields}
 use Rattle.live_heap.specs.Answers.{IsTried}
-use Rattle.lane_engine.specs.Whole.{copied_word}
-use Rattle.lane_engine.proofs.CopyLemmas.{copied-past, copied-read}
+use Rattle.sound_laws.proofs.events_lemmas.CopyLemmas.{copied-past, copied-read}
 use Rattle.trace_lane.specs.Made.{AreMisses}
 use Rattle.lane_runner.specs.Threads.{WholeAt}
 use Rattle.block_cache.specs.declared.cache.Cache.{Cache}

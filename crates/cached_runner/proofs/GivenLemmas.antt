@@ -6,13 +6,13 @@ use Rattle.heap_geometry.specs.declared.need.Need.{Need}
 use Rattle.heap_geometry.specs.Need.{need_of, usable_words}
 use Rattle.pool_model.specs.declared.event.Event.{Event}
 use Rattle.pool_model.specs.declared.event.Event.TheVariants.{Free}
-use Rattle.pool_model.specs.Calls.{EventsOf, alloc_given}
+use Rattle.pool_model.specs.Calls.{alloc_given}
 use Rattle.pool_model.specs.Calls as ended
 use Rattle.pool_model.specs.Pool.{Block as PoolBlock}
 use Rattle.errand_steps.specs.declared.reply.Reply.{Reply}
 use Rattle.errand_steps.specs.declared.reply.Reply.TheVariants as reply
 use Rattle.errand_steps.specs.Calls.{alloc, free}
-use Rattle.sound_laws.specs.events.Made.{LeadsBy, answered, wrote}
+use Rattle.sound_laws.specs.events.Made.{LeadsBy, answered, copied, wrote}
 use Rattle.live_heap.specs.declared.block.Block.{Block}
 use Rattle.live_heap.specs.Heaps.{HeapFields}
 use Rattle.live_heap.specs.declared.pass.Pass.{Pass}
@@ -20,7 +20,6 @@ use Rattle.live_heap.specs.Contents.{IsGiven as IsGivenTo, owned_in}
 use Rattle.live_heap.specs.Passes.{seen}
 use Rattle.live_heap.proofs.Changes.{called-changes}
 use Rattle.trace_text.specs.declared.trace.Op.TheVariants as op
-use Rattle.lane_engine.specs.Whole.{copied}
 use Rattle.lane_outcomes.specs.declared.registers.Held.{Held}
 use Rattle.lane_outcomes.specs.declared.outcome.Outcome.TheVariants as outcome
 use Rattle.lane_outcomes.specs.Lane.{Position, filling, held_in, writing}

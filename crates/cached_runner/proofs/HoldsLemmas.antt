@@ -9,7 +9,7 @@ use Rattle.pool_model.proofs.OwnedLemmas.{owned-found}
 use Rattle.errand_steps.specs.declared.reply.Reply.{Reply}
 use Rattle.errand_steps.specs.declared.reply.Reply.TheVariants as reply
 use Rattle.errand_steps.specs.Calls.{Call, alloc, free, put, take}
-use Rattle.sound_laws.specs.events.Made.{LeadsBy, Made, answered, wrote}
+use Rattle.sound_laws.specs.events.Made.{LeadsBy, Made, answered, copied, wrote}
 use Rattle.step_machine.specs.Cores.{OwnsAfter}
 use Rattle.step_machine.specs.Keeping.{LeavesPlace}
 use Rattle.live_heap.specs.declared.block.Block.{Block}
@@ -21,7 +21,6 @@ use Rattle.live_heap.proofs.Changes.{called-changes}
 use Rattle.live_heap.proofs.LawsKept.{stays-home}
 use Rattle.trace_text.specs.declared.trace.Op.{Op}
 use Rattle.trace_text.specs.declared.trace.Op.TheVariants as op
-use Rattle.lane_engine.specs.Whole.{copied}
 use Rattle.lane_outcomes.specs.declared.registers.Held.{Held}
 use Rattle.lane_outcomes.specs.declared.outcome.Outcome.{Outcome}
 use Rattle.lane_outcomes.specs.declared.outcome.Outcome.TheVariants as outcome

@@ -1,12 +1,10 @@
 -- What whole calls answer, whoever makes them.
-use Rattle.std.specs.Prelude.{ℕ, ◌≡◌, ◌≢◌, ◌∷◌, List, [], Option, Some, None, length, min, nat_lt, if◌then◌else◌}
-use Rattle.std.specs.List.{flat_map, range_with_len, slice_index_or}
+use Rattle.std.specs.Prelude.{ℕ, ◌≡◌, ◌≢◌, Option, Some, None}
 use Rattle.heap_geometry.specs.declared.need.Need.{Need}
-use Rattle.heap_geometry.specs.Need.{need_of, usable_words}
+use Rattle.heap_geometry.specs.Need.{need_of}
 use Rattle.errand_steps.specs.declared.reply.Reply.{Reply}
 use Rattle.errand_steps.specs.declared.reply.Reply.TheVariants as reply
-use Rattle.errand_steps.specs.Calls.{Call, alloc, read, write}
-use Rattle.sound_laws.specs.events.Made.{LeadsBy, Made, answered}
+use Rattle.errand_steps.specs.Calls.{Call, alloc}
 use Rattle.step_machine.specs.Keeping.{Hands, LeavesPlace}
 use Rattle.lane_engine.specs.declared.calls.Allocated.{Allocated}
 use Rattle.lane_engine.specs.declared.calls.Allocated.TheVariants as allocated
@@ -53,22 +51,3 @@ pub record KeepBlocks {S : Type 0} (maker : Maker S) : Type 0 where
       → maker.owns s other had → other ≢ place
   pub serves :
       (s t : S) (words place : ℕ) (need : Need) → maker.called s (alloc words) (reply.Given place need) t → need ≡ need_of words
-
--- word i of a block is copied into another one, where these of its words are read: a read of the one, and then a write of what it found into
--- the other; where it is none of these, a write of 0
-abbrev pub copied_word : ℕ → Need → ℕ → Need → List ℕ → ℕ → List Made
-copied_word from from_need to to_need words i =
-    if nat_lt i (length words) then
-    answered (read from from_need i) (reply.Word (slice_index_or words i 0))
-    ∷ answered (write to to_need i (slice_index_or words i 0)) reply.Wrote ∷ []
-    else answered (write to to_need i 0) reply.Wrote ∷ []
-
--- the first words of a block, so many, are copied into another one, in their order
-abbrev pub copied : ℕ → Need → ℕ → Need → List ℕ → ℕ → List Made
-copied from from_need to to_need words count = flat_map (copied_word from from_need to to_need words) (range_with_len 0 count)
-
--- the copies of all usable words of a block led from one state to another: as many words are read as both blocks have
-abbrev pub Copies : {S : Type 0} → (S → Call → Reply → S → Type 0) → S → ℕ → Need → ℕ → Need → S → Type 0
-Copies called before from from_need to to_need after =
-    (words : List ℕ) × (length words ≡ min (usable_words from_need) (usable_words to_need))
-    × LeadsBy called before (copied from from_need to to_need words (usable_words to_need)) after

@@ -7,8 +7,8 @@ ghost use Rattle.heap_geometry.specs.Need.{usable_words};
 ghost use Rattle.errand_steps.specs.declared.reply.Reply.{Reply};
 ghost use Rattle.errand_steps.specs.declared.reply.Reply.TheVariants as reply;
 ghost use Rattle.errand_steps.specs.Calls.{Call, alloc, free, put, take};
-ghost use Rattle.lane_engine.specs.Whole.{Copies, KeepBlocks, Maker, PutTells, TakeTells, allocated_as};
-ghost use Rattle.sound_laws.specs.events.Made.{LeadsBy, Sums, wrote};
+ghost use Rattle.lane_engine.specs.Whole.{KeepBlocks, Maker, PutTells, TakeTells, allocated_as};
+ghost use Rattle.sound_laws.specs.events.Made.{Copies, LeadsBy, Sums, wrote};
 
 use std::sync::Wait;
 use step_machine::token::Token;

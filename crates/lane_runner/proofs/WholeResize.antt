@@ -33,7 +33,7 @@ use Rattle.errand_steps.specs.declared.reply.Reply.TheVariants as reply
 use Rattle.errand_steps.specs.declared.told.Ending.TheVariants as ending
 use Rattle.errand_steps.specs.declared.told.Stepped.TheVariants as stepped
 use Rattle.sound_laws.specs.events.Ends.{HasEnded, end_of}
-use Rattle.sound_laws.specs.events.Made.{LeadsBy, Made, answered}
+use Rattle.sound_laws.specs.events.Made.{LeadsBy, Made, answered, copied, copied_word}
 use Rattle.sound_laws.specs.events.UnderWay.{IsUnderWay}
 use Rattle.step_machine.specs.Moments.{IsMoment, IsServed}
 use Rattle.live_heap.specs.Heaps.{HeapFields}
@@ -47,8 +47,7 @@ use Rattle.live_heap.proofs.Changes.{called-changes}
 use Rattle.trace_text.specs.declared.trace.Op.{Op}
 use Rattle.trace_text.specs.declared.trace.Op.TheVariants as op
 use Rattle.lane_engine.specs.Told.{HasStepped}
-use Rattle.lane_engine.specs.Whole.{copied, copied_word}
-use Rattle.lane_engine.proofs.CopyLemmas.{copied-past, copied-read}
+use Rattle.sound_laws.proofs.events_lemmas.CopyLemmas.{copied-past, copied-read}
 use Rattle.lane_outcomes.specs.declared.registers.Held.{Held}
 use Rattle.lane_outcomes.specs.declared.outcome.Outcome.{Outcome}
 use Rattle.lane_outcomes.specs.declared.outcome.Outcome.TheVariants as outcome

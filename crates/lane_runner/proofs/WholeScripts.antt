@@ -18,8 +18,7 @@ use Rattle.live_heap.specs.Heaps.{HeapFields}
 use Rattle.live_heap.specs.declared.pass.Pass.{Pass}
 use Rattle.live_heap.specs.Passes.{seen}
 use Rattle.live_heap.specs.Whole.{IsAtRest}
-use Rattle.sound_laws.specs.events.Made.{LeadsBy, Made, answered, found_from, wrote}
-use Rattle.lane_engine.specs.Whole.{copied, copied_word}
+use Rattle.sound_laws.specs.events.Made.{LeadsBy, Made, answered, copied, copied_word, found_from, wrote}
 use Rattle.lane_outcomes.specs.declared.registers.Held.{Held}
 use Rattle.lane_outcomes.specs.declared.outcome.Outcome.{Outcome}
 use Rattle.lane_outcomes.specs.declared.outcome.Outcome.TheVariants as outcome

@@ -1,8 +1,8 @@
--- The usable words of a block come back with their pass: each is written in the machine's run, one after the other, and then they are home. Other blocks of the pass may be out still: then the caller's mark stays as it is.
-use Rattle.std.proofs.Common.{ℕ, zero, suc, ◌≡◌, ◌≢◌, ◌<◌, ◌≤◌, ◌+◌, ◌-◌, ◌^◌, ◌⊎◌, None, List, [], ◌∷◌, ◌++◌, length, refl, arith, sym, ap, subst, inl, inr, ◌∙◌, ⊎_elim, get_or-set_same, get_or-set_other, length-set, append_assoc}
+-- The usable words of a block come back with their pass: calls on words are made in the machine's run, one after the other, and then they are home. Other blocks of the pass may be out still: then the caller's mark stays as it is.
+use Rattle.std.proofs.Common.{ℕ, zero, suc, ◌≡◌, ◌≢◌, ◌<◌, ◌≤◌, ◌+◌, ◌-◌, ◌^◌, ◌⊎◌, None, Some, List, [], ◌∷◌, ◌++◌, length, refl, arith, sym, ap, subst, inl, inr, ◌∙◌, ⊎_elim, get_or-set_same, get_or-set_other, length-set}
 use Rattle.std.specs.Prelude.{slice_index, slice_set}
 use Rattle.std.proofs.lemmas.Bool.{cases_eq, cases_lt}
-use Rattle.std.proofs.lemmas.List.{length-append, length-map, set-set, set_at}
+use Rattle.std.proofs.lemmas.List.{length-map, set-get_or, set-set}
 use mathlib.Core.Option.{some, some-injective, some-ne-none}
 use lib.ListN.{get_elem?}
 use Rattle.atomic_table.proofs.Lists.{at_set, set_again, set_else, set_here}
@@ -18,67 +18,150 @@ use Rattle.atomic_region.specs.Region as region
 use Rattle.atomic_region.specs.Region.{Goes, Range, given_back, rest, with_number}
 use Rattle.atomic_region.specs.Region.Act.{gives}
 use Rattle.errand_steps.specs.Begins.{IsIdle}
+use Rattle.errand_steps.specs.declared.reply.Reply.{Reply}
+use Rattle.errand_steps.specs.declared.reply.Reply.TheVariants as reply
+use Rattle.errand_steps.specs.Calls.{Call, begun_by, read, write}
 use Rattle.errand_steps.specs.Errands.{ErrandFields}
+use Rattle.sound_laws.specs.events.Made.{Made}
 use Rattle.live_heap.specs.declared.view.Lent.{Lent}
 use Rattle.live_heap.specs.declared.view.Standing.{Standing}
 use Rattle.live_heap.specs.declared.view.View.{View}
-use Rattle.live_heap.specs.Lending.{HasReturned, MayReturn, WritesOn, lent_block, with_lent}
+use Rattle.live_heap.specs.Lending.{AreAmong, AreElsewhere, ComesBy, Finds, HasReturned, LeadTo, LeadsTo, MakesOn, MayReturn, lent_block, with_lent}
 use Rattle.live_heap.specs.Pieces.{AreLaidOut, AreLent, IsLent, IsOut, PiecesHold, Status, caller_mark, mark_of, mark_place}
 use Rattle.live_heap.specs.Pieces.Status.{blank, out}
 use Rattle.live_heap.specs.Rule.{KeptTable}
+use Rattle.live_heap.specs.Sights.{TakesStep}
 use Rattle.live_heap.specs.Shelves.{AllowedWords}
 use Rattle.live_heap.proofs.LentPlaces.{out-on}
 use Rattle.live_heap.proofs.LentViews.{kept-lent, laid-lent, laid-marked, view-within}
 use Rattle.live_heap.proofs.PutPlaces.{at-put_before, at-put_behind, at-put_in}
 use Rattle.live_heap.proofs.Shows.{arena-placed}
-use Rattle.live_heap.proofs.OneWrite.{AreElsewhere, HasAway, middle-else, middle-here, middle-or, sole, word-written}
+use Rattle.live_heap.proofs.OneWord.{HasAway, middle-else, middle-here, middle-or, sole, word-made}
 
--- the numbers with others written over them, one after the other, from the word i on
-written : List ℕ → ℕ → List ℕ → List ℕ
-written old i [] = old
-written old i (x ∷ xs) = written (slice_set old i x) (suc i) xs
+-- who stands where a list begins is its first one
+first-of : (b x : Lent) (rest : List Lent) → get_elem? (b ∷ rest) 0 ≡ some x → x ≡ b
+first-of b x rest at = sym (some-injective b x at)
 
-written-over : (front old xs : List ℕ) → length old ≡ length xs → written (front ++ old) (length front) xs ≡ front ++ xs
-unfolding written
-written-over front [] [] same = refl
-written-over front (o ∷ os) [] same = absurd (omega (arith, same))
-written-over front [] (x ∷ xs) same = absurd (omega (arith, same))
-written-over front (o ∷ os) (x ∷ xs) same =
-    let split : (front ++ x ∷ []) ++ os ≡ front ++ x ∷ os = append_assoc front (x ∷ []) os in
-    let long : length (front ++ x ∷ []) ≡ suc (length front) = omega (arith, length-append front (x ∷ [])) in
-    ap (λ (l : List ℕ). written l (suc (length front)) xs) (set_at front o os x (length front) refl ∙ sym split)
-    ∙ ap (λ n. written ((front ++ x ∷ []) ++ os) n xs) (sym long)
-    ∙ written-over (front ++ x ∷ []) os xs (omega (arith, same))
-    ∙ append_assoc front (x ∷ []) xs
+-- the rule where a call on a word has been made, and where several have, one after the other
+HasMadeOne :
+    AllowedWords → Geometry → List Place → List View → ℕ → View → ErrandFields → ℕ → Need → List ℕ → List Lent → List Lent → List Lent → Call → Reply → Type 0
+HasMadeOne rule g places views id v e place need new front back shown call answer =
+    (u : View) × (n : ℕ) × Finds call answer n × TakesStep (begun_by e call) n (with_lent v shown) (with_lent u shown)
+    × HasAway rule g places (slice_set views id u) id u e place need new front back
 
--- where all are written over, nothing old is left
-written-all : (old xs : List ℕ) → length old ≡ length xs → written old 0 xs ≡ xs
-written-all old xs same = written-over [] old xs same
+HasMade :
+    AllowedWords → Geometry → List Place → List View → ℕ → View → ErrandFields → ℕ → Need → List ℕ → List Lent → List Lent → List Lent → List Made → Type 0
+HasMade rule g places views id v e place need new front back shown made =
+    (w : View) × MakesOn e (with_lent v shown) made (with_lent w shown)
+    × HasAway rule g places (slice_set views id w) id w e place need new front back
 
--- the rule where the words from i on are written with these numbers, one after the other
-HasWritten : AllowedWords → Geometry → List Place → List View → ℕ → View → ErrandFields → ℕ → Need → List ℕ → List Lent → List Lent → ℕ → List ℕ → Type 0
-HasWritten rule g places views id v e place need old front back i xs =
-    (w : View) × WritesOn e place need (with_lent v (front ++ back)) i xs (with_lent w (front ++ back))
-    × HasAway rule g places (slice_set views id w) id w e place need (written old i xs) front back
+module _ {rule : AllowedWords} (g : Geometry) (places : List Place) (id : ℕ) (e : ErrandFields) (place : ℕ) (need : Need) (front back shown : List Lent)
+    (checked : IsChecked g) (idle : IsIdle e) (others : AreElsewhere place (front ++ back)) (among : AreAmong shown (front ++ back)) where
+  -- a write to the block
+  wrote-one :
+      (views : List View) (v : View) (old : List ℕ) (i x : ℕ) → HasAway rule g places views id v e place need old front back → i < usable_words need
+      → x < 2 ^ 64 → HasMadeOne rule g places views id v e place need (slice_set old i x) front back shown (write place need i x) reply.Wrote
+  unfolding HasMadeOne
+  wrote-one views v old i x s inside small =
+      let one = word-made g places views id v e place need old front back i (Some x) checked idle inside small others s shown among in
+      (one.0, slice_index old i, tt, one.2, one.1)
 
-writes-on :
-    {rule : AllowedWords} (g : Geometry) (places : List Place) (views : List View) (id : ℕ) (v : View) (e : ErrandFields) (place : ℕ) (need : Need) (old : List ℕ)
-    (front back : List Lent) (i : ℕ) (xs : List ℕ) → IsChecked g → IsIdle e → i + length xs ≤ usable_words need
-    → ((j : ℕ) → j < length xs → slice_index xs j < 2 ^ 64) → AreElsewhere place (front ++ back)
-    → HasAway rule g places views id v e place need old front back → HasWritten rule g places views id v e place need old front back i xs
-unfolding HasWritten written
-writes-on {rule} g places views id v e place need old front back i [] checked idle inside small others s =
-    (v, refl, subst (λ (vs : List View). HasAway rule g places vs id v e place need old front back) (sym (set_again views id v s.at)) s)
-writes-on {rule} g places views id v e place need old front back i (x ∷ xs) checked idle inside small others s =
-    let one = word-written g places views id v e place need old front back i x checked idle (omega (arith, inside)) (small 0 (omega arith)) others s in
-    let u = one.0 in
-    let rest = writes-on g places (slice_set views id u) id u e place need (slice_set old i x) front back (suc i) xs checked idle (omega (arith, inside))
-    (λ j below. small (suc j) (omega (arith, below))) others one.1 in (
-      rest.0,
-      (with_lent u (front ++ back), one.2.0, one.2.1, rest.1),
-      subst (λ (vs : List View). HasAway rule g places vs id rest.0 e place need (written (slice_set old i x) (suc i) xs) front back)
-          (set-set views id u rest.0) rest.2,
-    )
+  -- a read of the one next to it
+  module _ (views : List View) (v : View) (old : List ℕ) (b : Lent) (rest : List Lent) (first : front ≡ []) (second : back ≡ b ∷ rest)
+      (once : AreElsewhere b.place rest) (apart : b.place ≢ place) (hidden : AreElsewhere b.place shown) (i : ℕ) (inside : i < usable_words b.need)
+      (s : HasAway rule g places views id v e place need old front back) where
+    abbrev own : Lent
+    own = lent_block place need old
+
+    order : front ++ own ∷ back ≡ own ∷ b ∷ rest
+    order = ap (λ (l : List Lent). l ++ own ∷ back) first ∙ ap (λ (l : List Lent). own ∷ l) second
+
+    other_away : HasAway rule g places views id v e b.place b.need b.numbers (own ∷ []) rest
+    other_away = record {
+      words = s.words;
+      held = s.held;
+      whole = s.whole;
+      laid_out = s.laid_out;
+      lent = s.lent;
+      at = s.at;
+      before = s.before;
+      one = s.one;
+      stands = s.stands;
+      mine = s.mine;
+      away = s.away ∙ order;
+    }
+
+    elsewhere : AreElsewhere b.place (own ∷ rest)
+    elsewhere zero x at same = apart (sym (ap (λ (l : Lent). l.place) (some-injective own x at) ∙ same))
+    elsewhere (suc n) x at same = once n x at same
+
+    seen_among : AreAmong shown (own ∷ rest)
+    seen_among n x at =
+        let m = among n x at in
+        let there : get_elem? (b ∷ rest) m.0 ≡ some x =
+        subst (λ (l : List Lent). get_elem? l m.0 ≡ some x) (ap (λ (l : List Lent). l ++ back) first ∙ second) m.1 in
+        behind m.0 there
+      where
+        behind : (m : ℕ) → get_elem? (b ∷ rest) m ≡ some x → (k : ℕ) × (get_elem? (own ∷ rest) k ≡ some x)
+        behind zero there = absurd (hidden n x at (ap (λ (l : Lent). l.place) (first-of b x rest there)))
+        behind (suc m) there = (suc m, there)
+
+    read-one : HasMadeOne rule g places views id v e place need old front back shown (read b.place b.need i) (reply.Word (slice_index b.numbers i))
+    unfolding HasMadeOne
+    read-one =
+        let one = word-made g places views id v e b.place b.need b.numbers (own ∷ []) rest i None checked idle inside tt elsewhere other_away shown seen_among in
+        let z = one.0 in
+        let t = one.1 in
+        let still : slice_set b.numbers i (slice_index b.numbers i) ≡ b.numbers = set-get_or b.numbers i 0 in
+        let same : z.lent ≡ front ++ own ∷ back =
+        t.away ∙ ap (λ (l : List ℕ). own ∷ lent_block b.place b.need l ∷ rest) still ∙ sym order in
+        let now : HasAway rule g places (slice_set views id z) id z e place need old front back = record {
+          words = t.words;
+          held = t.held;
+          whole = t.whole;
+          laid_out = t.laid_out;
+          lent = t.lent;
+          at = t.at;
+          before = t.before;
+          one = t.one;
+          stands = t.stands;
+          mine = t.mine;
+          away = same;
+        } in
+        (z, slice_index b.numbers i, refl, one.2, now)
+
+  one-made :
+      (views : List View) (v : View) (old new : List ℕ) (call : Call) (answer : Reply) → LeadsTo place need front back shown old call answer new
+      → HasAway rule g places views id v e place need old front back → HasMadeOne rule g places views id v e place need new front back shown call answer
+  one-made views v old new (write at n i x) reply.Wrote (here, serves, inside, small, is) s =
+      subst (λ (l : List ℕ). HasMadeOne rule g places views id v e place need l front back shown (write at n i x) reply.Wrote) (sym is)
+      (subst (λ k. HasMadeOne rule g places views id v e place need (slice_set old i x) front back shown (write k n i x) reply.Wrote) (sym here)
+      (subst (λ m. HasMadeOne rule g places views id v e place need (slice_set old i x) front back shown (write place m i x) reply.Wrote) (sym serves)
+      (wrote-one views v old i x s inside small)))
+  one-made views v old new (read at n i) (reply.Word word) (b, (first, rest, second, once), apart, hidden, here, serves, inside, is, same) s =
+      subst (λ (l : List ℕ). HasMadeOne rule g places views id v e place need l front back shown (read at n i) (reply.Word word)) (sym same)
+      (subst (λ w. HasMadeOne rule g places views id v e place need old front back shown (read at n i) (reply.Word w)) is
+      (subst (λ k. HasMadeOne rule g places views id v e place need old front back shown (read k n i) (reply.Word (slice_index b.numbers i))) (sym here)
+      (subst (λ m. HasMadeOne rule g places views id v e place need old front back shown (read b.place m i) (reply.Word (slice_index b.numbers i))) (sym serves)
+      (read-one views v old b rest first second once apart hidden i inside s))))
+  one-made views v old new call answer bad s = absurd bad
+
+  makes-on :
+      (views : List View) (v : View) (old new : List ℕ) (made : List Made) → LeadTo place need front back shown old made new
+      → HasAway rule g places views id v e place need old front back → HasMade rule g places views id v e place need new front back shown made
+  unfolding HasMade HasMadeOne
+  makes-on views v old new [] same s =
+      let now : HasAway rule g places views id v e place need new front back =
+      subst (λ (l : List ℕ). HasAway rule g places views id v e place need l front back) (sym same) s in
+      (v, refl, subst (λ (vs : List View). HasAway rule g places vs id v e place need new front back) (sym (set_again views id v s.at)) now)
+  makes-on views v old new (one ∷ more) (next, leads, rest) s =
+      let done = one-made views v old next one.call one.answer leads s in
+      let u = done.0 in
+      let t = makes-on (slice_set views id u) u next new more rest done.4 in (
+        t.0,
+        (with_lent u shown, done.1, done.2, done.3, t.1),
+        subst (λ (vs : List View). HasAway rule g places vs id t.0 e place need new front back) (set-set views id u t.0) t.2,
+      )
 
 -- a number of a row that is laid
 at-laids : (ns : List ℕ) (j : ℕ) → j < length ns → place_at (laids ns) j ≡ laid (slice_index ns j)
@@ -260,10 +343,13 @@ module _ {rule : AllowedWords} (g : Geometry) (places : List Place) (views : Lis
   unfolding held_now kept-lent
   home-again = (s.words, (s.held.0, held_now), whole_now, laid_now, lent_now)
 
--- the words of a block that are out with a pass come back by a step that leaves st as the caller's mark, each written with the number that is in it
-module _ {rule : AllowedWords} (g : Geometry) (id : ℕ) (me : region.Me View) (e : ErrandFields) (place : ℕ) (need : Need) (numbers : List ℕ) (checked : IsChecked g)
-    (may : MayReturn me e place need numbers) (s : region.State View) (good : PiecesHold rule g s) (at : get_elem? s.views id ≡ some me.0) where
-  away : HasAway rule g s.places s.views id me.0 e place need may.old may.front may.back
+-- the words of a block that are out with a pass come back by a step that leaves st as the caller's mark, and the calls are made
+module _ {rule : AllowedWords} (g : Geometry) (id : ℕ) (me : region.Me View) (e : ErrandFields) (own : Lent) (made : List Made) (shown : List Lent) (checked : IsChecked g)
+    (may : MayReturn me e own made shown) (s : region.State View) (good : PiecesHold rule g s) (at : get_elem? s.views id ≡ some me.0) where
+  abbrev c : ComesBy me.0.lent own made shown
+  c = may.comes
+
+  away : HasAway rule g s.places s.views id me.0 e own.place own.need c.old c.front c.back
   away = record {
     words = good.0;
     held = good.1;
@@ -274,56 +360,55 @@ module _ {rule : AllowedWords} (g : Geometry) (id : ℕ) (me : region.Me View) (
     before = may.before;
     one = may.one;
     stands = may.stands;
-    owned = may.owned;
-    away = may.lent;
+    mine = may.mine;
+    away = c.is;
   }
 
   abbrev mark : ℕ
   mark = mark_place g (caller_mark g e.caller)
 
   mark_is : place_at s.places mark ≡ laid 1
-  mark_is = marked g s.places s.views id me.0 e place need may.old may.front may.back out (inl refl) away
+  mark_is = marked g s.places s.views id me.0 e own.place own.need c.old c.front c.back out (inl refl) away
 
   goes-back :
-      (st : Status) → (st ≡ out) ⊎ (may.front ++ may.back ≡ [])
-      → Goes (PiecesHold rule g) s (with_number s.places mark (mark_of st)) id me (λ after. HasReturned e place need numbers me.0 after)
-  unfolding HasWritten
+      (st : Status) → (st ≡ out) ⊎ (c.front ++ c.back ≡ [])
+      → Goes (PiecesHold rule g) s (with_number s.places mark (mark_of st)) id me (λ after. HasReturned e own made shown me.0 after)
+  unfolding HasMade
   goes-back st fits =
-      let length_old = (block g s.places s.views id me.0 e place need may.old may.front may.back st fits away).long in
-      let t = writes-on g s.places s.views id me.0 e place need may.old may.front may.back 0 numbers checked may.idle (omega (arith, may.long))
-      (λ j below. may.small j (omega (arith, below, may.long))) may.others away in
-      let b : HasAway rule g s.places (slice_set s.views id t.0) id t.0 e place need numbers may.front may.back =
-      subst (λ ns. HasAway rule g s.places (slice_set s.views id t.0) id t.0 e place need ns may.front may.back)
-      (written-all may.old numbers (length_old ∙ sym may.long)) t.2 in
+      let out_block = block g s.places s.views id me.0 e own.place own.need c.old c.front c.back st fits away in
+      let t =
+      makes-on g s.places id e own.place own.need c.front c.back shown checked may.idle may.others c.among s.views me.0 c.old own.numbers made
+      (c.leads out_block.long) away in
       let ps : List Place = with_number s.places mark (mark_of st) in
-      let w : View = with_lent t.0 (may.front ++ may.back) in
+      let w : View = with_lent t.0 (c.front ++ c.back) in
       let H : List Range → Type 0 = λ r. PiecesHold rule g record { places = given_back ps r; views = slice_set s.views id w } in (
         w,
         gives,
         tt,
         subst H (sym may.ranges)
-            (subst (λ (vs : List View). PiecesHold rule g record { places = put ps (place + 1) (laids numbers); views = vs }) (set-set s.views id t.0 w)
-            (home-again g s.places (slice_set s.views id t.0) id t.0 e place need numbers may.front may.back st fits b)),
-        (may.front, may.old, may.back, may.lent, t.1, ap rest may.ranges),
+            (subst (λ (vs : List View). PiecesHold rule g record { places = put ps (own.place + 1) (laids own.numbers); views = vs })
+            (set-set s.views id t.0 w)
+            (home-again g s.places (slice_set s.views id t.0) id t.0 e own.place own.need own.numbers c.front c.back st fits t.2)),
+        (c.front, c.old, c.back, c.is, t.0, t.1, ap (λ (r : List Range). let x : region.Me View = (w, r) in x) (ap rest may.ranges)),
       )
 
 -- where no other block is out with the pass, the words may come back with a store that clears the caller's mark
 pub may-return_last :
-    {rule : AllowedWords} (g : Geometry) (size id : ℕ) (me : region.Me View) (e : ErrandFields) (place : ℕ) (need : Need) (numbers : List ℕ) → IsChecked g
-    → (m : MayReturn me e place need numbers) → m.front ++ m.back ≡ []
-    → region.Allows (PiecesHold rule g) size id me (mark_place g (caller_mark g e.caller)) (λ _. 0) (λ _ after. HasReturned e place need numbers me.0 after)
-may-return_last {rule} g _ id me e place need numbers checked may none s good _ at =
-    let is = mark_is g id me e place need numbers checked may s good at in
-    (is ∙ ap laid (sym (ap number is)), λ small. goes-back g id me e place need numbers checked may s good at blank (inr none))
+    {rule : AllowedWords} (g : Geometry) (size id : ℕ) (me : region.Me View) (e : ErrandFields) (block : Lent) (made : List Made) (shown : List Lent)
+    → IsChecked g → (m : MayReturn me e block made shown) → m.comes.front ++ m.comes.back ≡ []
+    → region.Allows (PiecesHold rule g) size id me (mark_place g (caller_mark g e.caller)) (λ _. 0) (λ _ after. HasReturned e block made shown me.0 after)
+may-return_last {rule} g _ id me e block made shown checked may none s good _ at =
+    let is = mark_is g id me e block made shown checked may s good at in
+    (is ∙ ap laid (sym (ap number is)), λ small. goes-back g id me e block made shown checked may s good at blank (inr none))
 
 -- where others are, with a load of it: the mark stays
 pub may-return_one :
-    {rule : AllowedWords} (g : Geometry) (size id : ℕ) (me : region.Me View) (e : ErrandFields) (place : ℕ) (need : Need) (numbers : List ℕ) → IsChecked g
-    → (m : MayReturn me e place need numbers) → 0 < length (m.front ++ m.back)
-    → region.Allows (PiecesHold rule g) size id me (mark_place g (caller_mark g e.caller)) (λ n. n) (λ _ after. HasReturned e place need numbers me.0 after)
-may-return_one {rule} g _ id me e place need numbers checked may _ s good _ at =
-    let is = mark_is g id me e place need numbers checked may s good at in
+    {rule : AllowedWords} (g : Geometry) (size id : ℕ) (me : region.Me View) (e : ErrandFields) (block : Lent) (made : List Made) (shown : List Lent)
+    → IsChecked g → (m : MayReturn me e block made shown) → 0 < length (m.comes.front ++ m.comes.back)
+    → region.Allows (PiecesHold rule g) size id me (mark_place g (caller_mark g e.caller)) (λ n. n) (λ _ after. HasReturned e block made shown me.0 after)
+may-return_one {rule} g _ id me e block made shown checked may _ s good _ at =
+    let is = mark_is g id me e block made shown checked may s good at in
     let stays : 1 ≡ number_at s.places (mark_place g (caller_mark g e.caller)) = sym (ap number is) in
     let F : ℕ → Type 0 = λ x.
-    Goes (PiecesHold rule g) s (with_number s.places (mark_place g (caller_mark g e.caller)) x) id me (λ after. HasReturned e place need numbers me.0 after) in
-    (is ∙ ap laid stays, λ small. subst F stays (goes-back g id me e place need numbers checked may s good at out (inl refl)))
+    Goes (PiecesHold rule g) s (with_number s.places (mark_place g (caller_mark g e.caller)) x) id me (λ after. HasReturned e block made shown me.0 after) in
+    (is ∙ ap laid stays, λ small. subst F stays (goes-back g id me e block made shown checked may s good at out (inl refl)))

@@ -3,6 +3,7 @@ pub mod AllocLemmas
 pub mod Alone
 pub mod Begun
 pub mod BlockCounts
+pub mod Bringing
 pub mod CallsAnswers
 pub mod CallsCounts
 pub mod CallsGrow
@@ -11,6 +12,7 @@ pub mod Changes
 pub mod Claiming
 pub mod ClosedPieces
 pub mod ComesBack
+pub mod Copying
 pub mod Dealt
 pub mod Ending
 pub mod Enough
@@ -37,7 +39,7 @@ pub mod Memories
 pub mod Memory
 pub mod Moves
 pub mod OneCaller
-pub mod OneWrite
+pub mod OneWord
 pub mod OutBlocks
 pub mod Owned
 pub mod PieceEnds
@@ -57,6 +59,6 @@ pub mod TakenByRule
 pub mod Taking
 pub mod Totals
 pub mod WalkLemmas
-pub mod WholeFill
+pub mod WordCalls
 pub mod WholeLaws
 pub mod WordsKept

@@ -1,6 +1,7 @@
 -- The words of a block go out with a pass, and come back: what the pass is meanwhile and after.
-use Rattle.std.proofs.Common.{ℕ, zero, suc, ◌≡◌, ◌≢◌, ◌<◌, ◌+◌, ◌-◌, ◌^◌, List, [], ◌∷◌, ◌++◌, length, slice_index, refl, sym, ap, ◌∙◌, subst, arith}
-use Rattle.std.proofs.lemmas.List.{length-map}
+use Rattle.std.proofs.Common.{ℕ, zero, suc, ◌≡◌, ◌≢◌, ◌<◌, ◌≤◌, ◌+◌, ◌-◌, ◌^◌, List, [], ◌∷◌, ◌++◌, length, slice_index, refl, sym, ap, ◌∙◌, subst, arith, append_assoc}
+use Rattle.std.specs.Prelude.{slice_set}
+use Rattle.std.proofs.lemmas.List.{length-append, length-map, set_at}
 use mathlib.Core.Option.{some, some-injective}
 use lib.ListN.{get_elem?}
 use Rattle.heap_geometry.specs.declared.need.Need.{Need}
@@ -9,21 +10,20 @@ use Rattle.plain_words.specs.Places.{Place, laid, laids, numbers}
 use Rattle.atomic_region.specs.Region.{Me, Range, rest}
 use Rattle.atomic_region.specs.declared.shared.Seat.{Seat}
 use Rattle.errand_steps.specs.Begins.{IsIdle}
-use Rattle.sound_laws.specs.events.Made.{LeadsBy}
+use Rattle.sound_laws.specs.events.Made.{Made}
 use Rattle.owned_words.proofs.Concerned.{idle-concerned}
 use Rattle.step_machine.specs.Cores.{OwnsAfter}
 use Rattle.live_heap.specs.Heaps.{HeapFields}
 use Rattle.live_heap.specs.declared.pass.Pass.{Pass}
+use Rattle.live_heap.specs.declared.plain.Memory.{Memory}
 use Rattle.live_heap.specs.declared.view.Lent.{Lent}
 use Rattle.live_heap.specs.declared.view.View.{View}
-use Rattle.live_heap.specs.Lending.{HasLent, HasReturned, MayLend, MayReturn, TellsWritten, lent_block, with_lent}
-use Rattle.live_heap.specs.Memory.{IsTaken, all_but, before_taking, writes_from}
-use Rattle.live_heap.specs.Passes.{IsOf, OwnsAt, accesses, seen, view}
-use Rattle.live_heap.specs.Words.{CallsOnWord}
+use Rattle.live_heap.specs.Lending.{ComesBy, HasLent, LeadTo, MayLend, MayReturn, TellsWritten, lent_block, with_lent}
+use Rattle.live_heap.specs.Memory.{IsMemoryOf, IsTaken, all_but, before_taking, writes_from}
+use Rattle.live_heap.specs.Passes.{IsOf, OwnsAt, seen, view}
 use Rattle.live_heap.proofs.Gathering.{before-idle}
 use Rattle.live_heap.proofs.LayLemmas.{range-is}
 use Rattle.live_heap.proofs.OutBlocks.{all-but-first, all-but-is, cut-at, here-at, one-less, skip, skip-at, skip-once, skip-other, still-at}
-use Rattle.live_heap.proofs.WholeFill.{has-written, writes-lead}
 
 -- a pass in no call may take the words of its block out
 pub lends-own :
@@ -184,93 +184,103 @@ module _ (h : HeapFields) (p : Pass) (of : IsOf h p) (front : List Lent) (b : Le
   parted-before =
       ap (parted p) (ap (all_but b.place) split ∙ all-but-is b.place front b back refl others-else)
 
-  -- its words may come back
-  pub returns-own :
-      IsIdle p.errand → (numbers : List ℕ) → length numbers ≡ usable_words b.need
-      → ((i : ℕ) → i < usable_words b.need → slice_index numbers i < 2 ^ 64)
-      → MayReturn (view p, (b.place + 1, laids numbers) ∷ []) p.errand b.place b.need numbers
-  returns-own idle numbers long small = record {
-    before = of.before;
-    one = of.one;
-    stands = before-idle (seen p) of.before.errand p.errand of.begun idle;
-    idle = idle;
-    owned = of.mine (length front) b stands;
-    front = front;
-    back = back;
-    old = b.numbers;
-    lent = split;
-    others = others-else;
-    ranges = refl;
-    long = long;
-    small = small;
-  }
-
 -- the pass owns a block whose words are out with it
 pub taken-owned : (h : HeapFields) (p : Pass) (place : ℕ) (need : Need) → IsOf h p → IsTaken p place need → OwnsAfter (seen p) p.errand.caller place need
 taken-owned h p place need of (n, b, at, is-place, is-need) =
     subst (λ m. OwnsAfter (seen p) p.errand.caller place m) is-need
     (subst (λ k. OwnsAfter (seen p) p.errand.caller k b.need) is-place (of.mine n b at))
 
--- the numbers in the words that a seat carries
-abbrev pub carried : Me View → List ℕ
-carried me = carried_in me.1
-  where
-    carried_in : List Range → List ℕ
-    carried_in [] = []
-    carried_in (x ∷ xs) = numbers x.1
-
 -- a seat that carries the words of a block that is out with its pass may give them back
 pub may-return :
-    (h : HeapFields) (p : Pass) (place : ℕ) (need : Need) (ns : List ℕ) (me : Me View) → IsOf h p → IsIdle p.errand → IsTaken p place need
-    → length ns ≡ usable_words need → ((i : ℕ) → i < usable_words need → slice_index ns i < 2 ^ 64)
-    → me ≡ (view p, (place + 1, laids ns) ∷ []) → MayReturn me p.errand place need ns
-may-return h p place need ns me of idle (n, b, at, is-place, is-need) long small is =
+    (h : HeapFields) (p : Pass) (block : Lent) (made : List Made) (shown : List Lent) (me : Me View) → IsOf h p → IsIdle p.errand
+    → ComesBy (view p).lent block made shown → length block.numbers ≡ usable_words block.need
+    → me ≡ (view p, (block.place + 1, laids block.numbers) ∷ []) → MayReturn me p.errand block made shown
+may-return h p block made shown me of idle comes long is =
+    subst (λ (m : Me View). MayReturn m p.errand block made shown) (sym is) (record {
+      before = of.before;
+      one = of.one;
+      stands = before-idle (seen p) of.before.errand p.errand of.begun idle;
+      idle = idle;
+      mine = of.mine;
+      comes = comes;
+      others = others-else h p of comes.front (lent_block block.place block.need comes.old) comes.back comes.is;
+      ranges = refl;
+      long = long;
+    })
+
+-- where the words of a block are out with a pass, some calls lead to what is in them
+pub comes-at :
+    (h : HeapFields) (p : Pass) (block : Lent) (made : List Made) → IsOf h p → IsTaken p block.place block.need
+    → ((front back : List Lent) (old : List ℕ) → length old ≡ usable_words block.need
+    → LeadTo block.place block.need front back (all_but block.place (view p).lent) old made block.numbers)
+    → ComesBy (view p).lent block made (all_but block.place (view p).lent)
+comes-at h p block made of (n, b, at, is-place, is-need) leads =
     let cut = cut-at (view p).lent n b at in
-    let M : ℕ → Need → Type 0 = λ k m.
-    length ns ≡ usable_words m → ((i : ℕ) → i < usable_words m → slice_index ns i < 2 ^ 64) → MayReturn (view p, (k + 1, laids ns) ∷ []) p.errand k m ns in
-    let own : M b.place b.need = returns-own h p of cut.0 b cut.1 cut.2 idle ns in
-    let there : M place need = subst (λ m. M place m) is-need (subst (λ k. M k b.need) is-place own) in
-    subst (λ (m : Me View). MayReturn m p.errand place need ns) (sym is) (there long small)
-
--- the seat has another view, and nothing out
-seat-at : (s t : Seat View) → t.region ≡ s.region → t.id ≡ s.id → t.me.1 ≡ [] → record s { me = (t.me.0, []) } ≡ t
-seat-at s t region id empty = λ i. record s { region = sym region i; id = sym id i; me = (t.me.0, sym empty i) }
-
--- a pass has the words of a block home again
-pub record IsBack (h : HeapFields) (p : Pass) (place : ℕ) (need : Need) (numbers : List ℕ) (q : Pass) : Type 0 where
-  pub of : IsOf h q
-  pub idle : IsIdle q.errand
-  pub owned : OwnsAt q place need
-  pub keeps : (other : ℕ) (had : Need) → OwnsAt p other had → OwnsAt q other had
-  pub others :
-      (n : ℕ) (x : Lent) → get_elem? (view p).lent n ≡ some x → x.place ≢ place → (m : ℕ) × (get_elem? (view q).lent m ≡ some x)
-  pub wrote : LeadsBy (CallsOnWord h) (before_taking p place) (writes_from place need 0 numbers) q
-  pub accesses : accesses q ≡ usable_words need + accesses p
-
-pub comes-back :
-    (h : HeapFields) (p : Pass) (place : ℕ) (need : Need) (numbers : List ℕ) (seat : Seat View) → IsOf h p → IsIdle p.errand
-    → HasReturned p.errand place need numbers (view p) seat.me → length numbers ≡ usable_words need
-    → ((i : ℕ) → i < usable_words need → slice_index numbers i < 2 ^ 64) → seat.region ≡ p.seat.region → seat.id ≡ p.seat.id
-    → IsBack h p place need numbers (record { seat = seat; errand = p.errand; out = p.out - 1 })
-comes-back h p place need numbers seat of idle (front, old, back, split, on, empty) long small region id =
-    let b = lent_block place need old in
-    let q : Pass = record { seat = seat; errand = p.errand; out = p.out - 1 } in
-    let now = parted p (front ++ back) in
-    let own = owns-parted h p of front b back split in
-    let was = of-parted h p of front b back split in
-    let leads : LeadsBy (CallsOnWord h) now (writes_from place need 0 numbers) q =
-    subst (λ (s : Seat View). LeadsBy (CallsOnWord h) now (writes_from place need 0 numbers) (record { seat = s; errand = p.errand; out = p.out - 1 }))
-    (seat-at p.seat seat region id empty)
-    (writes-lead h now place need 0 numbers seat.me.0 was idle own (omega (arith, long)) (λ k has. small k (omega (arith, has, long))) on) in
-    let has = has-written h now q place need 0 numbers was idle leads in
+    let same : b ≡ lent_block block.place block.need b.numbers = λ i. record { place = is-place i; need = is-need i; numbers = b.numbers } in
+    let is : (view p).lent ≡ cut.0 ++ lent_block block.place block.need b.numbers ∷ cut.1 =
+    cut.2 ∙ ap (λ (x : Lent). cut.0 ++ x ∷ cut.1) same in
+    let left =
+    ap (all_but block.place) is
+    ∙ all-but-is block.place cut.0 (lent_block block.place block.need b.numbers) cut.1 refl
+    (others-else h p of cut.0 (lent_block block.place block.need b.numbers) cut.1 is) in
     record {
-      of = has.of;
-      idle = has.idle;
-      owned = has.keeps place need own;
-      keeps = λ other had owns. has.keeps other had (keeps-parted h p of front b back split other had owns);
-      others = λ n x at else.
-          let t = stays-out h p of front b back split n x at else in
-          (t.0, subst (λ (l : List Lent). get_elem? l t.0 ≡ some x) (sym has.lent) t.1);
-      wrote = subst (λ (r : Pass). LeadsBy (CallsOnWord h) r (writes_from place need 0 numbers) q) (sym (parted-before h p of front b back split)) leads;
-      accesses = has.accesses ∙ ap (λ n. n + accesses p) long;
+      front = cut.0;
+      back = cut.1;
+      old = b.numbers;
+      is = is;
+      among = λ m x there. (m, subst (λ (l : List Lent). get_elem? l m ≡ some x) left there);
+      leads = leads cut.0 cut.1 b.numbers;
     }
+
+-- the writes of all its numbers lead a block to them
+writes-over :
+    (place : ℕ) (need : Need) (before behind shown : List Lent) (front old numbers : List ℕ) → length old ≡ length numbers
+    → length front + length numbers ≤ usable_words need → ((k : ℕ) → k < length numbers → slice_index numbers k < 2 ^ 64)
+    → LeadTo place need before behind shown (front ++ old) (writes_from place need (length front) numbers) (front ++ numbers)
+writes-over place need before behind shown front [] [] same within small = refl
+writes-over place need before behind shown front (o ∷ os) [] same within small = absurd (omega (arith, same))
+writes-over place need before behind shown front [] (x ∷ xs) same within small = absurd (omega (arith, same))
+writes-over place need before behind shown front (o ∷ os) (x ∷ xs) same within small =
+    let long : length (front ++ x ∷ []) ≡ suc (length front) = omega (arith, length-append front (x ∷ [])) in
+    let next : (front ++ x ∷ []) ++ os ≡ slice_set (front ++ o ∷ os) (length front) x =
+    append_assoc front (x ∷ []) os ∙ sym (set_at front o os x (length front) refl) in
+    let rest =
+    writes-over place need before behind shown (front ++ x ∷ []) os xs (omega (arith, same)) (omega (arith, within, long))
+    (λ k has. small (suc k) (omega (arith, has))) in
+    let from : LeadTo place need before behind shown ((front ++ x ∷ []) ++ os) (writes_from place need (suc (length front)) xs) ((front ++ x ∷ []) ++ xs) =
+    subst (λ n. LeadTo place need before behind shown ((front ++ x ∷ []) ++ os) (writes_from place need n xs) ((front ++ x ∷ []) ++ xs)) long rest in (
+      (front ++ x ∷ []) ++ os,
+      (refl, refl, omega (arith, within), small 0 (omega arith), next),
+      subst (λ (l : List ℕ). LeadTo place need before behind shown ((front ++ x ∷ []) ++ os) (writes_from place need (suc (length front)) xs) l)
+          (append_assoc front (x ∷ []) xs) from,
+    )
+
+pub writes-all :
+    (place : ℕ) (need : Need) (before behind shown : List Lent) (old numbers : List ℕ) → length old ≡ usable_words need
+    → length numbers ≡ usable_words need → ((k : ℕ) → k < usable_words need → slice_index numbers k < 2 ^ 64)
+    → LeadTo place need before behind shown old (writes_from place need 0 numbers) numbers
+writes-all place need before behind shown old numbers long_old long small =
+    writes-over place need before behind shown [] old numbers (long_old ∙ sym long) (omega (arith, long)) (λ k has. small k (omega (arith, has, long)))
+
+-- a pass owns a block whose words come back
+pub came-owned :
+    (h : HeapFields) (p : Pass) (block : Lent) (made : List Made) (shown : List Lent) → IsOf h p → ComesBy (view p).lent block made shown
+    → OwnsAfter (seen p) p.errand.caller block.place block.need
+came-owned h p block made shown of comes =
+    of.mine (length comes.front) (lent_block block.place block.need comes.old)
+    (subst (λ (l : List Lent). get_elem? l (length comes.front) ≡ some (lent_block block.place block.need comes.old)) (sym comes.is)
+    (here-at comes.front (lent_block block.place block.need comes.old) comes.back))
+
+-- the words of memory are laid with their numbers, and as many as the block has
+pub laid-numbers : (ns : List ℕ) (places : List Place) → places ≡ laids ns → places ≡ laids (numbers places)
+laid-numbers ns places are = are ∙ ap laids (sym (ap numbers are ∙ numbers-laids ns))
+
+pub long-numbers : (ns : List ℕ) (places : List Place) → places ≡ laids ns → length (numbers places) ≡ length places
+long-numbers ns places are = ap length (ap numbers are ∙ numbers-laids ns) ∙ sym (length-map ns laid) ∙ ap length (sym are)
+
+-- what a seat carries that has taken these words in
+pub carries :
+    (h : HeapFields) (p : Pass) (m : Memory) (me : Me View) → p.seat.me.1 ≡ [] → IsMemoryOf h m
+    → me ≡ (p.seat.me.0, (m.words.first, m.words.places) ∷ p.seat.me.1) → me ≡ (view p, (m.block.place + 1, laids (numbers m.words.places)) ∷ [])
+carries h p m me empty memory carry =
+    let are = laid-numbers memory.laid.0 m.words.places memory.laid.1 in carry ∙ (λ i. (p.seat.me.0, (memory.first i, are i) ∷ empty i))

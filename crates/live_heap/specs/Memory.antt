@@ -6,7 +6,7 @@ use lib.ListN.{get_elem?}
 use Rattle.heap_geometry.specs.declared.need.Need.{Need}
 use Rattle.heap_geometry.specs.Need.{usable_words}
 use Rattle.plain_words.specs.Lends.{with_words}
-use Rattle.plain_words.specs.Places.{laids}
+use Rattle.plain_words.specs.Places.{laids, numbers}
 use Rattle.errand_steps.specs.declared.reply.Reply.TheVariants as reply
 use Rattle.errand_steps.specs.Calls.{write}
 use Rattle.sound_laws.specs.events.Made.{Made, answered}
@@ -15,7 +15,7 @@ use Rattle.live_heap.specs.declared.plain.Memory.{Memory}
 use Rattle.live_heap.specs.declared.pass.Pass.{Pass}
 use Rattle.live_heap.specs.declared.view.Lent.{Lent}
 use Rattle.live_heap.specs.contracts.plain.Memory.{the_row}
-use Rattle.live_heap.specs.Lending.{with_lent}
+use Rattle.live_heap.specs.Lending.{lent_block, with_lent}
 use Rattle.live_heap.specs.Passes.{view}
 
 -- the words are all the usable words of the block, in this heap's memory, and each is laid
@@ -57,3 +57,13 @@ before_taking p place = record {
 abbrev pub writes_from : ℕ → Need → ℕ → List ℕ → List Made
 writes_from place need i [] = []
 writes_from place need i (x ∷ xs) = answered (write place need i x) reply.Wrote ∷ writes_from place need (suc i) xs
+
+-- the pass has the words of this block out, which went out last with these numbers, and of others
+abbrev pub IsLastTaken : Pass → Memory → List ℕ → List Lent → Type 0
+IsLastTaken p m numbers others = (view p).lent ≡ lent_block m.block.place m.block.need numbers ∷ others
+
+-- of the two blocks that went out last this one went first, and its words are as they went
+abbrev pub HasTakenBoth : Pass → Memory → Memory → Type 0
+HasTakenBoth p first last =
+    (old : List ℕ) × (others : List Lent)
+    × IsLastTaken p last old (lent_block first.block.place first.block.need (numbers first.words.places) ∷ others)

@@ -1,10 +1,12 @@
-//! What fills a block and sums it: whole calls on its usable words, each once, in their order.
+//! What fills a block, sums it, and copies it into another one: whole calls on usable words, in their order.
 
-ghost use Rattle.std.specs.Prelude.{◌≡◌, ◌+◌};
+ghost use Rattle.std.specs.Prelude.{◌≡◌, ◌<◌, ◌≤◌, ◌+◌};
 ghost use Rattle.heap_geometry.specs.Need.{usable_words};
+ghost use Rattle.errand_steps.specs.declared.reply.Reply.TheVariants as reply;
 ghost use Rattle.errand_steps.specs.Begins.{IsIdle};
+ghost use Rattle.errand_steps.specs.Calls.{read};
 ghost use Rattle.live_heap.specs.declared.block.Block.{Block};
-ghost use Rattle.sound_laws.specs.events.Made.{LeadsBy, Sums, wrote};
+ghost use Rattle.sound_laws.specs.events.Made.{Copies, LeadsBy, Sums, wrote};
 ghost use Rattle.live_heap.specs.Passes.{IsOf, Owns, OwnsAt, accesses, view};
 ghost use Rattle.live_heap.specs.Words.{CallsOnWord};
 
@@ -14,7 +16,7 @@ use crate::pass::Pass;
 use crate::shelves::ShelfRule;
 use heap_geometry::need::{Need, usable};
 
-/// Fewer words are filled one by one: what takes words out and gives them back costs as much as two writes or three.
+/// Fewer words are filled and copied one by one: what takes words out and gives them back costs as much as two writes or three.
 const FEW_WORDS: u32 = 3;
 
 impl<R: ShelfRule> Heap<R> {
@@ -46,6 +48,65 @@ impl<R: ShelfRule> Heap<R> {
     {
         for i in 0..usable(need) {
             self.write_word(pass, place, need, i, from.wrapping_add(u64::from(i)));
+        }
+    }
+
+    /// Copies the pass's block into another one of its blocks, the first word first: each word is read and then
+    /// written. What the other one has beyond them is filled with 0.
+    pub fn copy(&self, pass: &mut Pass, from: &Block, to: &Block)
+        requires of { IsOf self.now pass.old }
+        requires idle { IsIdle pass.old.errand }
+        requires owned { Owns pass.old from.now }
+        requires owned_too { Owns pass.old to.now }
+        ensures of { IsOf self.now pass.new }
+        ensures idle { IsIdle pass.new.errand }
+        ensures keeps { (other : Block) → Owns pass.old other → Owns pass.new other }
+        ensures lent { (view pass.new).lent ≡ (view pass.old).lent }
+        ensures copied { Copies (CallsOnWord self.now) pass.old from.now.place from.now.need to.now.place to.now.need pass.new }
+    {
+        let source = Block {
+            place: from.place,
+            need: from.need,
+        };
+        let target = Block {
+            place: to.place,
+            need: to.need,
+        };
+        if from.place == to.place || to.usable_words() < FEW_WORDS {
+            self.copy_by_words(pass, source, target);
+        } else {
+            self.copy_plainly(pass, source, target);
+        }
+    }
+
+    /// Copies a block into another one, word by word, and fills the rest of that with 0.
+    fn copy_by_words(&self, pass: &mut Pass, from: Block, to: Block)
+        requires of { IsOf self.now pass.old }
+        requires idle { IsIdle pass.old.errand }
+        requires owned { Owns pass.old from }
+        requires owned_too { Owns pass.old to }
+        ensures { Copies (CallsOnWord self.now) pass.old from.place from.need to.place to.need pass.new }
+    {
+        for i in 0..usable(to.need) {
+            let word = self.read_or_zero(pass, from.place, from.need, i);
+            self.write_word(pass, to.place, to.need, i, word);
+        }
+    }
+
+    /// Reads a word of the block that lies at this place and serves this need; past its end it is 0, and nothing is read.
+    fn read_or_zero(&self, pass: &mut Pass, place: u32, need: Need, i: u32) -> u64
+        requires of { IsOf self.now pass.old }
+        requires idle { IsIdle pass.old.errand }
+        requires owned { OwnsAt pass.old place need }
+        ensures read { i < usable_words need → CallsOnWord self.now pass.old (read place need i) (reply.Word result) pass.new }
+        ensures past { usable_words need ≤ i → (pass.new ≡ pass.old) × (result ≡ 0) }
+        ensures rests { IsOf self.now pass.new × IsIdle pass.new.errand }
+        ensures keeps { (other : Block) → Owns pass.old other → Owns pass.new other }
+    {
+        if i < usable(need) {
+            self.read_word(pass, place, need, i)
+        } else {
+            0
         }
     }
 

@@ -1,15 +1,16 @@
 //! How the usable words of a block go out with its owner's pass, as plain memory, and come back.
 
-ghost use Rattle.std.specs.Prelude.{◌≡◌, ◌≢◌, ◌<◌, ◌+◌, ◌%◌, [], ◌++◌, length};
+ghost use Rattle.std.specs.Prelude.{◌≡◌, ◌≢◌, ◌<◌, ◌+◌, ◌-◌, ◌%◌, List, [], ◌++◌, length, slice_index_or};
 ghost use Rattle.heap_geometry.specs.Need.{usable_words};
 ghost use Rattle.plain_words.specs.Places.{numbers};
 ghost use Rattle.errand_steps.specs.Begins.{IsIdle};
-ghost use Rattle.sound_laws.specs.events.Made.{LeadsBy, wrote};
+ghost use Rattle.sound_laws.specs.events.Made.{Copies, LeadsBy, wrote};
 ghost use Rattle.live_heap.specs.declared.block.Block.{Block};
 ghost use Rattle.live_heap.specs.declared.plain.Memory.{Memory};
-ghost use Rattle.live_heap.specs.Lending.{HasLent, HasReturned, MayLend, MayReturn, TellsWritten, numbers_from};
-ghost use Rattle.live_heap.specs.Memory.{HasTaken, IsMemoryOf, before_taking, writes_from};
-ghost use Rattle.live_heap.specs.Passes.{IsOf, Owns, OwnsAt, accesses, seen};
+ghost use Rattle.live_heap.specs.declared.view.Lent.{Lent};
+ghost use Rattle.live_heap.specs.Lending.{ComesBy, HasLent, HasReturned, MayLend, MayReturn, TellsWritten, copy_of, lent_block, numbers_from};
+ghost use Rattle.live_heap.specs.Memory.{HasTaken, HasTakenBoth, IsLastTaken, IsMemoryOf, before_taking, writes_from};
+ghost use Rattle.live_heap.specs.Passes.{IsOf, Owns, OwnsAt, accesses, seen, view};
 ghost use Rattle.live_heap.specs.Pieces.{caller_mark, mark_place};
 ghost use Rattle.live_heap.specs.Words.{CallsOnWord};
 
@@ -41,6 +42,7 @@ impl<R: ShelfRule> Heap<R> {
         ensures memory { IsMemoryOf self.now result }
         ensures block { result.block ≡ block }
         ensures aligned { result.words.first % 2 ≡ 1 }
+        ensures last { IsLastTaken pass.new result (numbers result.words.places) (view pass.old).lent }
         ensures taken { HasTaken pass.new result }
         ensures before { before_taking pass.new block.place ≡ pass.old }
         ensures keeps { (other : Block) → Owns pass.old other → other.place ≢ block.place → Owns pass.new other }
@@ -79,11 +81,61 @@ impl<R: ShelfRule> Heap<R> {
         ensures wrote { LeadsBy (CallsOnWord self.now) (before_taking pass.old memory.block.place) (writes_from memory.block.place memory.block.need 0 (numbers memory.words.places)) pass.new }
         ensures accesses { accesses pass.new ≡ usable_words memory.block.need + accesses pass.old }
     {
-        let mark = self.caller_mark(pass.errand.caller());
         are_small(memory.words(self));
+        self.bring::<Brand>(pass, memory)
+    }
+
+    /// Gives the usable words of one block back that have been copied, as plain memory, from those of the other one, and
+    /// are 0 behind them. Both went out last, the other one first, and that stays out as it went. Each word is read and
+    /// then written.
+    fn bring_copy(&self, pass: &mut Pass, from: &Memory, to: Memory) -> Block
+        requires of { IsOf self.now pass.old }
+        requires idle { IsIdle pass.old.errand }
+        requires memory { IsMemoryOf self.now from.now × IsMemoryOf self.now to }
+        requires taken { HasTakenBoth pass.old from.now to }
+        requires copied { numbers to.words.places ≡ copy_of (numbers from.now.words.places) (usable_words to.block.need) }
+        ensures of { IsOf self.now pass.new }
+        ensures idle { IsIdle pass.new.errand }
+        ensures block { result ≡ to.block }
+        ensures stays { (others : List Lent) × IsLastTaken pass.new from.now (numbers from.now.words.places) others }
+        ensures copied { Copies (CallsOnWord self.now) (before_taking (before_taking pass.old to.block.place) from.now.block.place)
+            from.now.block.place from.now.block.need to.block.place to.block.need (before_taking pass.new from.now.block.place) }
+    {
+        are_small(to.words(self));
+        self.bring::<Brand>(pass, to)
+    }
+
+    /// Gives the usable words of the block back that went out last, as they went: no call is made.
+    fn put_back(&self, pass: &mut Pass, memory: Memory) -> Block
+        requires of { IsOf self.now pass.old }
+        requires idle { IsIdle pass.old.errand }
+        requires memory { IsMemoryOf self.now memory }
+        requires taken { (others : List Lent) × IsLastTaken pass.old memory (numbers memory.words.places) others }
+        ensures block { result ≡ memory.block }
+        ensures same { pass.new ≡ before_taking pass.old memory.block.place }
+    {
+        self.bring::<Brand>(pass, memory)
+    }
+
+    /// Gives the usable words of one of the blocks back that are out with the pass. `L` names for the proof which calls on
+    /// words were made meanwhile.
+    fn bring<L: Lending>(&self, pass: &mut Pass, memory: Memory) -> Block
+        requires of { IsOf self.now pass.old }
+        requires idle { IsIdle pass.old.errand }
+        requires memory { IsMemoryOf self.now memory }
+        requires owner { L.owner ≡ pass.old.errand }
+        requires block { L.block ≡ lent_block memory.block.place memory.block.need (numbers memory.words.places) }
+        requires comes { ComesBy (view pass.old).lent L.block L.made L.shown }
+        ensures block { result ≡ memory.block }
+        ensures errand { pass.new.errand ≡ pass.old.errand }
+        ensures out { pass.new.out ≡ pass.old.out - 1 }
+        ensures seat { (pass.new.seat.region ≡ pass.old.seat.region) × (pass.new.seat.id ≡ pass.old.seat.id) }
+        ensures returned { HasReturned L.owner L.block L.made L.shown (view pass.old) pass.new.seat.me }
+    {
+        let mark = self.caller_mark(pass.errand.caller());
         let Memory { block, words } = memory;
         pass.seat.carry(words);
-        self.take_back::<Brand>(
+        self.take_back::<L>(
             &mut pass.seat,
             &pass.errand,
             mark,
@@ -106,6 +158,23 @@ impl<R: ShelfRule> Heap<R> {
         let mut memory = self.take_out(pass, Block { place, need });
         count_from(memory.words_mut(self), from);
         let _ = self.bring_home(pass, memory);
+    }
+
+    /// Copies the usable words of a block into another one, as plain memory, and fills the rest of that with 0. Both go
+    /// out with the pass and come back within the call.
+    pub(crate) fn copy_plainly(&self, pass: &mut Pass, from: Block, to: Block)
+        requires of { IsOf self.now pass.old }
+        requires idle { IsIdle pass.old.errand }
+        requires owned { Owns pass.old from }
+        requires owned_too { Owns pass.old to }
+        requires apart { from.place ≢ to.place }
+        ensures { Copies (CallsOnWord self.now) pass.old from.place from.need to.place to.need pass.new }
+    {
+        let from = self.take_out(pass, from);
+        let mut to = self.take_out(pass, to);
+        copy_and_clear(from.words(self), to.words_mut(self));
+        let _ = self.bring_copy(pass, &from, to);
+        let _ = self.put_back(pass, from);
     }
 
     /// Takes out the usable words of the block that `L` names for the proof, beside the blocks that are out already. The
@@ -180,8 +249,8 @@ impl<R: ShelfRule> Heap<R> {
         self.table.shared.load::<Lends<L>>(seat, start, mark);
     }
 
-    /// Gives back the usable words of the block that `L` names for the proof: each is written with the number that is in
-    /// it. Where no other block's words are out, the caller's mark says so from now on.
+    /// Gives back the usable words of the block that `L` names for the proof, and with them the calls on words that it
+    /// names are made. Where no other block's words are out, the caller's mark says so from now on.
     fn take_back<L: Lending>(
         &self,
         seat: &mut Seat<View>,
@@ -195,9 +264,9 @@ impl<R: ShelfRule> Heap<R> {
         requires mark { mark ≡ mark_place self.now.layout (caller_mark self.now.layout L.owner.caller) }
         requires within { mark < self.now.region.words }
         requires counted { length seat.old.me.0.lent ≡ out }
-        requires may { MayReturn seat.old.me L.owner L.block.place L.block.need L.block.numbers }
+        requires may { MayReturn seat.old.me L.owner L.block L.made L.shown }
         ensures seat { (seat.new.region ≡ seat.old.region) × (seat.new.id ≡ seat.old.id) }
-        ensures returned { HasReturned L.owner L.block.place L.block.need L.block.numbers seat.old.me.0 seat.new.me }
+        ensures returned { HasReturned L.owner L.block L.made L.shown seat.old.me.0 seat.new.me }
     {
         if out == 1 {
             self.return_last::<L>(seat, errand, mark, place, need);
@@ -206,8 +275,8 @@ impl<R: ShelfRule> Heap<R> {
         }
     }
 
-    /// Gives back the usable words of the block that `L` names for the proof, the last that the pass has out: each is
-    /// written with the number that is in it. The caller's mark says that nothing is out any more.
+    /// Gives back the usable words of the block that `L` names for the proof, the last that the pass has out. The
+    /// caller's mark says that nothing is out any more.
     fn return_last<L: Lending>(
         &self,
         seat: &mut Seat<View>,
@@ -219,9 +288,9 @@ impl<R: ShelfRule> Heap<R> {
         requires table { seat.old.region ≡ self.now.region }
         requires mark { mark ≡ mark_place self.now.layout (caller_mark self.now.layout L.owner.caller) }
         requires within { mark < self.now.region.words }
-        requires may { (m : MayReturn seat.old.me L.owner L.block.place L.block.need L.block.numbers) × (m.front ++ m.back ≡ []) }
+        requires may { (m : MayReturn seat.old.me L.owner L.block L.made L.shown) × (m.comes.front ++ m.comes.back ≡ []) }
         ensures seat { (seat.new.region ≡ seat.old.region) × (seat.new.id ≡ seat.old.id) }
-        ensures returned { HasReturned L.owner L.block.place L.block.need L.block.numbers seat.old.me.0 seat.new.me }
+        ensures returned { HasReturned L.owner L.block L.made L.shown seat.old.me.0 seat.new.me }
     {
         let start = self.table.start();
         self.table
@@ -229,8 +298,8 @@ impl<R: ShelfRule> Heap<R> {
             .store::<Returns<L>>(seat, start, mark, BLANK);
     }
 
-    /// Gives back the usable words of the block that `L` names for the proof, one of several that the pass has out: each
-    /// is written with the number that is in it. The caller's mark stays as it is.
+    /// Gives back the usable words of the block that `L` names for the proof, one of several that the pass has out. The
+    /// caller's mark stays as it is.
     fn return_one<L: Lending>(
         &self,
         seat: &mut Seat<View>,
@@ -242,9 +311,9 @@ impl<R: ShelfRule> Heap<R> {
         requires table { seat.old.region ≡ self.now.region }
         requires mark { mark ≡ mark_place self.now.layout (caller_mark self.now.layout L.owner.caller) }
         requires within { mark < self.now.region.words }
-        requires may { (m : MayReturn seat.old.me L.owner L.block.place L.block.need L.block.numbers) × (0 < length (m.front ++ m.back)) }
+        requires may { (m : MayReturn seat.old.me L.owner L.block L.made L.shown) × (0 < length (m.comes.front ++ m.comes.back)) }
         ensures seat { (seat.new.region ≡ seat.old.region) × (seat.new.id ≡ seat.old.id) }
-        ensures returned { HasReturned L.owner L.block.place L.block.need L.block.numbers seat.old.me.0 seat.new.me }
+        ensures returned { HasReturned L.owner L.block L.made L.shown seat.old.me.0 seat.new.me }
     {
         let start = self.table.start();
         self.table.shared.load::<Returns<L>>(seat, start, mark);
@@ -259,6 +328,22 @@ impl<R: ShelfRule> Heap<R> {
         let behind = APART * (self.layout.geometry().callers - caller);
         self.table.count() - behind as usize
     }
+}
+
+/// Copies a slice into another one, as far as both go, and fills the rest of that with 0.
+fn copy_and_clear(from: &[u64], to: &mut [u64])
+    ensures { to.new ≡ copy_of from.now (length to.old) }
+{
+    for i in 0..to.len() {
+        to[i] = word_or_zero(from, i);
+    }
+}
+
+/// A word of a slice; past its end it is 0.
+fn word_or_zero(words: &[u64], i: usize) -> u64
+    ensures { result ≡ slice_index_or words.now i 0 }
+{
+    if i < words.len() { words[i] } else { 0 }
 }
 
 /// Fills a slice: word i with from + i, modulo 2^64.

@@ -100,24 +100,36 @@ impl<L: Laying> Play<View> for Lays<L> {
     ghost then = { λ st before n after. HasLaid L.piece before.0 after };
 }
 
-/// The caller's errand and a block of its own, with the numbers that are in its words. Each step that takes the words out
-/// or gives them back names it for the proof.
+/// The caller's errand and a block of its own, with the numbers that are in its words; the calls on words that are made
+/// when they come back, and the blocks that are shown as out meanwhile. Each step that takes the words out or gives them
+/// back names it for the proof.
 pub trait Lending {
     ghost use Rattle.errand_steps.specs.Errands.{ErrandFields};
+    ghost use Rattle.std.specs.Prelude.{List};
+    ghost use Rattle.sound_laws.specs.events.Made.{Made};
     ghost use Rattle.live_heap.specs.declared.view.Lent.{Lent};
 
     ghost owner: { ErrandFields };
 
     ghost block: { Lent };
+
+    ghost made: { List Made };
+
+    ghost shown: { List Lent };
 }
 
 impl Lending for Brand {
     ghost use Rattle.live_heap.specs.Lending.{no_block};
     ghost use Rattle.step_machine.specs.Cores.{no_errand};
+    ghost use Rattle.std.specs.Prelude.{[]};
 
     ghost owner = { no_errand };
 
     ghost block = { no_block };
+
+    ghost made = { [] };
+
+    ghost shown = { [] };
 }
 
 /// The usable words of the block go out with the pass.
@@ -131,7 +143,7 @@ impl<L: Lending> Play<View> for Lends<L> {
     ghost then = { λ st before n after. HasLent L.block.place L.block.need before.0 after };
 }
 
-/// They come back, each written with the number that is in it.
+/// They come back, and the calls are made.
 pub struct Returns<L> {
     block: PhantomData<L>,
 }
@@ -139,7 +151,7 @@ pub struct Returns<L> {
 impl<L: Lending> Play<View> for Returns<L> {
     ghost use Rattle.live_heap.specs.Lending.{HasReturned};
 
-    ghost then = { λ st before n after. HasReturned L.owner L.block.place L.block.need L.block.numbers before.0 after };
+    ghost then = { λ st before n after. HasReturned L.owner L.block L.made L.shown before.0 after };
 }
 
 /// The first caller stays with one seat, and the others go to another.

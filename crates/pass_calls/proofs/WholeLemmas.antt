@@ -19,7 +19,7 @@ use Rattle.live_heap.specs.Calls.{IsCalling}
 use Rattle.live_heap.specs.Passes.{IsHome, IsOf, seen, view}
 use Rattle.sound_laws.specs.events.Made.{LeadsBy, Made}
 use Rattle.step_machine.specs.Cores.{OwnsAfter}
-use Rattle.live_heap.specs.Whole.{HasEndedCall, IsWhole, MadeByPass, by_steps, at_once, ResumesTo}
+use Rattle.live_heap.specs.Whole.{HasEndedCall, MadeByPass, by_steps, at_once, ResumesTo}
 use Rattle.live_heap.specs.Words.{CallsOnWord}
 use Rattle.pass_calls.specs.declared.over_pass.PassCalls.{PassCalls}
 use Rattle.pass_calls.specs.Passes.{pass_maker}
@@ -102,11 +102,3 @@ pub words-lead :
 words-lead e p q [] of leads = ap (with_pass e) leads
 words-lead e p q (m ∷ made) of (t, one, leads) =
     (with_pass e t, (of, (by_steps (0, one.called), one.owned, refl, (one.of, one.called.idle))), words-lead e t q made one.of leads)
-
--- whole calls of a pass are whole calls of the struct that has it
-pub passes-lead :
-    (e : PassCalls) (p q : Pass) (made : List Made) → IsOf e.heap.now p
-    → LeadsBy (λ p call answer q. IsWhole e.heap.now p call answer e.heap.now q) p made q
-    → LeadsBy pass_maker.called (with_pass e p) made (with_pass e q)
-passes-lead e p q [] of leads = ap (with_pass e) leads
-passes-lead e p q (m ∷ made) of (t, one, leads) = (with_pass e t, (of, one), passes-lead e t q made one.3.0 leads)

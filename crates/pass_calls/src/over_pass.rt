@@ -1,14 +1,11 @@
 //! A pass of a heap, whose lane makes whole calls.
 
-ghost use Rattle.std.specs.Prelude.{ℕ, ◌≡◌, ◌<◌, ◌≤◌, ◌^◌};
-ghost use Rattle.heap_geometry.specs.Need.{usable_words};
-ghost use Rattle.errand_steps.specs.declared.reply.Reply.TheVariants as reply;
-ghost use Rattle.errand_steps.specs.Calls.{Call, read};
+ghost use Rattle.std.specs.Prelude.{ℕ, ◌≡◌, ◌<◌};
+ghost use Rattle.errand_steps.specs.Calls.{Call};
 ghost use Rattle.live_heap.specs.Answers.{IsResumable};
 ghost use Rattle.live_heap.specs.Calls.{IsCalling};
-ghost use Rattle.live_heap.specs.Passes.{IsOf, Owns};
-ghost use Rattle.live_heap.specs.Whole.{IsAtRest, IsWhole, ResumesTo};
-ghost use Rattle.lane_engine.specs.Whole.{Copies};
+ghost use Rattle.live_heap.specs.Passes.{IsOf};
+ghost use Rattle.live_heap.specs.Whole.{IsAtRest, ResumesTo};
 
 use lane_engine::calls::{Allocated, Calls, Taken};
 use live_heap::answers::{AllocAnswer, FreeAnswer, Resumed, Taken as Found};
@@ -70,40 +67,6 @@ fn go_on<R: Wait>(rt: &R, heap: &Heap, pass: &mut Pass, last: &mut u64) -> Resum
     unreachable!()
 }
 
-/// Reads a word of the pass's block; past the block's end it is 0, and nothing is read.
-fn read_or_zero(heap: &Heap, pass: &mut Pass, block: &Block, i: u32) -> u64
-    requires rests { IsAtRest heap.now pass.old }
-    requires owned { Owns pass.old block.now }
-    ensures read { i < usable_words block.now.need
-        → IsWhole heap.now pass.old (read block.now.place block.now.need i) (reply.Word result) heap.now pass.new }
-    ensures past { usable_words block.now.need ≤ i → (pass.new ≡ pass.old) × (result ≡ 0) }
-    ensures rests { IsAtRest heap.now pass.new }
-    ensures keeps { (other : Block) → Owns pass.old other → Owns pass.new other }
-{
-    whole_calls_keep_blocks();
-    if i < block.usable_words() {
-        heap.read(pass, block, i)
-    } else {
-        0
-    }
-}
-
-/// Copies the words of the pass's block into another one of its blocks, and fills the rest of that with 0.
-fn copy_words(heap: &Heap, pass: &mut Pass, from: &Block, to: &Block)
-    requires rests { IsAtRest heap.now pass.old }
-    requires owned { Owns pass.old from.now }
-    requires owned_too { Owns pass.old to.now }
-    ensures rests { IsAtRest heap.now pass.new }
-    ensures copied { Copies (λ p call answer q. IsWhole heap.now p call answer heap.now q) pass.old from.now.place from.now.need
-        to.now.place to.now.need pass.new }
-{
-    whole_calls_keep_blocks();
-    for i in 0..to.usable_words() {
-        let word = read_or_zero(heap, pass, from, i);
-        heap.write(pass, to, i, word);
-    }
-}
-
 impl<'a> PassCalls<'a> {
     /// Whole calls of this pass.
     pub fn new(heap: &'a Heap, pass: &'a mut Pass) -> PassCalls<'a>
@@ -160,7 +123,7 @@ impl<'a> Calls for PassCalls<'a> {
     }
 
     fn copy(&mut self, from: &Block, to: &Block) {
-        copy_words(self.heap, self.pass, from, to);
+        self.heap.copy(self.pass, from, to);
     }
 
     fn put(&mut self, held: Block, shelf: u8) -> Option<Block> {

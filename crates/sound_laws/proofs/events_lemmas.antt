@@ -2,6 +2,7 @@ pub mod AnswerLemmas
 pub mod BeginsLemmas
 pub mod CallRuns
 pub mod CallSteps
+pub mod CopyLemmas
 pub mod CourseLemmas
 pub mod EndLemmas
 pub mod EventLists

@@ -15,9 +15,9 @@ use Rattle.errand_steps.specs.Calls.{Call, alloc, free, write, put, take}
 use Rattle.step_machine.specs.Keeping.{LeavesPlace}
 use Rattle.trace_text.specs.declared.trace.Op.{Op}
 use Rattle.trace_text.specs.declared.trace.Op.TheVariants as op
-use Rattle.sound_laws.specs.events.Made.{LeadsBy, Made, Sums, answered, found_from, wrote}
-use Rattle.lane_engine.specs.Whole.{Copies, KeepBlocks, Maker, copied, copied_word}
-use Rattle.lane_engine.proofs.CopyLemmas.{copied-past, copied-read}
+use Rattle.sound_laws.specs.events.Made.{Copies, LeadsBy, Made, Sums, answered, copied, copied_word, found_from, wrote}
+use Rattle.lane_engine.specs.Whole.{KeepBlocks, Maker}
+use Rattle.sound_laws.proofs.events_lemmas.CopyLemmas.{copied-past, copied-read}
 use Rattle.lane_outcomes.specs.declared.registers.Held.{Held}
 use Rattle.lane_outcomes.specs.declared.outcome.Outcome.{Outcome}
 use Rattle.lane_outcomes.specs.declared.outcome.Outcome.TheVariants as outcome

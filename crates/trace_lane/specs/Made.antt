@@ -9,8 +9,8 @@ use Rattle.errand_steps.specs.Calls.{Call, alloc, free, put, take}
 use Rattle.trace_text.specs.declared.limits.TheConstants.{REGISTERS}
 use Rattle.trace_text.specs.declared.trace.Op.{Op}
 use Rattle.trace_text.specs.declared.trace.Op.TheVariants as op
-use Rattle.sound_laws.specs.events.Made.{LeadsBy, Made, answered, found_from, wrote}
-use Rattle.lane_engine.specs.Whole.{Maker, copied}
+use Rattle.sound_laws.specs.events.Made.{LeadsBy, Made, answered, copied, found_from, wrote}
+use Rattle.lane_engine.specs.Whole.{Maker}
 use Rattle.lane_outcomes.specs.declared.registers.Held.{Held}
 use Rattle.lane_outcomes.specs.declared.outcome.Outcome.{Outcome}
 use Rattle.lane_outcomes.specs.declared.outcome.Outcome.TheVariants as outcome

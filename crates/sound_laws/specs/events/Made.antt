@@ -1,6 +1,6 @@
 -- Whole calls one after the other, each with its answer.
-use Rattle.std.specs.Prelude.{ℕ, suc, ◌≡◌, ◌+◌, ◌%◌, ◌^◌, ◌∷◌, List, [], map, sum, length}
-use Rattle.std.specs.List.{range_with_len}
+use Rattle.std.specs.Prelude.{ℕ, suc, ◌≡◌, ◌+◌, ◌%◌, ◌^◌, ◌∷◌, List, [], map, sum, length, min, nat_lt, if◌then◌else◌}
+use Rattle.std.specs.List.{flat_map, range_with_len, slice_index_or}
 use Rattle.heap_geometry.specs.declared.need.Need.{Need}
 use Rattle.heap_geometry.specs.Need.{usable_words}
 use Rattle.errand_steps.specs.declared.reply.Reply.{Reply}
@@ -34,3 +34,22 @@ abbrev pub Sums : {S : Type 0} → (S → Call → Reply → S → Type 0) → S
 Sums called before place need total after =
     (words : List ℕ) × (length words ≡ usable_words need) × (total ≡ sum words % 2 ^ 64)
     × LeadsBy called before (found_from place need 0 words) after
+
+-- word i of a block is copied into another one, where these of its words are read: a read of the one, and then a write of what it found into
+-- the other; where it is none of these, a write of 0
+abbrev pub copied_word : ℕ → Need → ℕ → Need → List ℕ → ℕ → List Made
+copied_word from from_need to to_need words i =
+    if nat_lt i (length words) then
+    answered (read from from_need i) (reply.Word (slice_index_or words i 0))
+    ∷ answered (write to to_need i (slice_index_or words i 0)) reply.Wrote ∷ []
+    else answered (write to to_need i 0) reply.Wrote ∷ []
+
+-- the first words of a block, so many, are copied into another one, in their order
+abbrev pub copied : ℕ → Need → ℕ → Need → List ℕ → ℕ → List Made
+copied from from_need to to_need words count = flat_map (copied_word from from_need to to_need words) (range_with_len 0 count)
+
+-- the copies of all usable words of a block led from one state to another: as many words are read as both blocks have
+abbrev pub Copies : {S : Type 0} → (S → Call → Reply → S → Type 0) → S → ℕ → Need → ℕ → Need → S → Type 0
+Copies called before from from_need to to_need after =
+    (words : List ℕ) × (length words ≡ min (usable_words from_need) (usable_words to_need))
+    × LeadsBy called before (copied from from_need to to_need words (usable_words to_need)) after

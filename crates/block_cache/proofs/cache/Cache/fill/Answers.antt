@@ -10,6 +10,6 @@ returns c =
     let from = c.args.from in
     let count = usable_words b.need in
     let on =
-    goes-on c.args.heap.now c.args.self.now b.place b.need (wrote b.place b.need from count) c.fill.new.pass (c.requires.cache, c.requires.idle)
-    c.requires.held (wrote-on b.place b.need from count) c.fill.ensures.wrote in
+    goes-on c.args.heap.now c.args.self.now (wrote b.place b.need from count) c.fill.new.pass (c.requires.cache, c.requires.idle)
+    (wrote-on c.args.self.now b.place b.need from count c.requires.held) c.fill.ensures.wrote in
     record { cache = on.rests.0; idle = on.rests.1; wrote = c.fill.ensures.wrote; keeps = record { magazines = refl; hits = refl }; holds = on.holds }

@@ -1,88 +1,76 @@
-use Rattle.std.proofs.Common.{ℕ, ◌≡◌, ◌<◌, ◌+◌, ◌^◌, List, [], ◌∷◌, length, slice_index, sym, ap, ◌∙◌, subst, arith}
+use Rattle.std.proofs.Common.{ℕ, ◌≡◌, ◌<◌, ◌+◌, ◌^◌, List, length, slice_index, sym, ap, ◌∙◌, subst, arith}
+use mathlib.Core.Option.{some}
+use lib.ListN.{get_elem?}
 use Rattle.heap_geometry.specs.Need.{usable_words}
-use Rattle.plain_words.specs.Places.{laids, numbers}
-use Rattle.atomic_region.specs.Owned.{RegionId}
-use Rattle.atomic_region.specs.Region.{Me}
-use Rattle.live_heap.specs.Heaps.{HeapFields}
+use Rattle.plain_words.specs.Places.{numbers}
+use Rattle.sound_laws.specs.events.Made.{LeadsBy}
 use Rattle.live_heap.specs.declared.pass.Pass.{Pass}
-use Rattle.live_heap.specs.declared.plain.Memory.{Memory}
-use Rattle.live_heap.specs.declared.view.View.{View}
-use Rattle.live_heap.specs.Lending.{HasReturned, MayReturn}
-use Rattle.live_heap.specs.Memory.{IsMemoryOf}
-use Rattle.live_heap.specs.Passes.{view}
-use Rattle.live_heap.specs.Pieces.{caller_mark, mark_place}
-use Rattle.live_heap.proofs.Taking.{carried, comes-back, may-return, numbers-laids, taken-owned}
-use Rattle.live_heap.proofs.WholeFill.{own-within}
+use Rattle.live_heap.specs.declared.view.Lent.{Lent}
+use Rattle.live_heap.specs.Lending.{lent_block}
+use Rattle.live_heap.specs.Memory.{all_but, before_taking, writes_from}
+use Rattle.live_heap.specs.Passes.{Owns, accesses, view}
+use Rattle.live_heap.specs.Words.{CallsOnWord}
+use Rattle.live_heap.proofs.Bringing.{calls-came, keeps-left, of-left, owns-left, stays-left}
+use Rattle.live_heap.proofs.Taking.{comes-at, long-numbers, numbers-laids, writes-all}
+use Rattle.live_heap.proofs.WordCalls.{has-made, on-writes, own-writes, writes-long}
 use Rattle.live_heap.proofs.heap.Heap.bring_home.Goals as goal
 
--- what a seat carries that has taken these words in
-carries :
-    (h : HeapFields) (p : Pass) (m : Memory) (ns : List ℕ) (me : Me View) → p.seat.me.1 ≡ [] → IsMemoryOf h m → m.words.places ≡ laids ns
-    → me ≡ (p.seat.me.0, (m.words.first, m.words.places) ∷ p.seat.me.1) → me ≡ (view p, (m.block.place + 1, laids ns) ∷ [])
-carries h p m ns me empty memory are carry = carry ∙ (λ i. (p.seat.me.0, (memory.first i, are i) ∷ empty i))
+-- the numbers in the words are of 64 bits, where those of a slice with them are
+small-numbers :
+    (places ws : List ℕ) → places ≡ ws → ((i : ℕ) → i < length ws → slice_index ws i < 2 ^ 64) → (i : ℕ) → i < length ws
+    → slice_index places i < 2 ^ 64
+small-numbers places ws are small i has = subst (λ l. slice_index l i < 2 ^ 64) (sym are) (small i has)
 
-carried-are : (v : View) (k : ℕ) (ns : List ℕ) (me : Me View) → me ≡ (v, (k, laids ns) ∷ []) → carried me ≡ ns
-carried-are v k ns me is = ap carried is ∙ numbers-laids ns
-
-pub carry-requires : goal.carry-requires
-carry-requires g c =
+pub bring-requires-clause-comes : goal.bring-requires-clause-comes
+bring-requires-clause-comes g c =
     let h = c.args.self.now in
     let p = c.args.pass.now in
     let m = c.args.memory in
-    let of = c.requires.of in
     let memory = c.requires.memory in
-    let size = ap (λ (i : RegionId). i.words) of.table in
-    let within = (own-within h p m.block.place m.block.need of (taken-owned h p m.block.place m.block.need of c.requires.taken)).1 in
-    (memory.at ∙ ap (λ (i : RegionId). i.at) (sym of.table), omega (arith, within, size, memory.first, memory.long))
-
-pub take_back-requires-clause-mark : goal.take_back-requires-clause-mark
-take_back-requires-clause-mark g c =
-    let h = c.args.self.now in
-    c.caller_mark-mark.ensures.place ∙ ap (λ n. mark_place h.layout (caller_mark h.layout n)) c.caller.ensures.value
-
-pub take_back-requires-clause-may : goal.take_back-requires-clause-may
-take_back-requires-clause-may g c =
-    let h = c.args.self.now in
-    let p = c.args.pass.now in
-    let m = c.args.memory in
-    let ns = c.words.result.now in
-    let me = c.carry.new.self.me in
-    let is = carries h p m ns me c.requires.of.empty c.requires.memory c.words.ensures.value c.carry.ensures.2 in
-    subst (λ l. MayReturn me p.errand m.block.place m.block.need l) (sym (carried-are (view p) (m.block.place + 1) ns me is))
-    (may-return h p m.block.place m.block.need ns me c.requires.of c.requires.idle c.requires.taken c.words.ensures.long
-    (λ i has. c.are_small.ensures i (omega (arith, has, c.words.ensures.long))) is)
+    let ns = numbers m.words.places in
+    let place = m.block.place in
+    let need = m.block.need in
+    let are : ns ≡ c.words.result.now = ap numbers c.words.ensures.value ∙ numbers-laids c.words.result.now in
+    let long = long-numbers memory.laid.0 m.words.places memory.laid.1 ∙ memory.long in
+    let small = small-numbers ns c.words.result.now are c.are_small.ensures in
+    let shown = all_but place (view p).lent in
+    comes-at h p (lent_block place need ns) (writes_from place need 0 ns) c.requires.of c.requires.taken
+    (λ front back old long_old. writes-all place need front back shown old ns long_old long (λ k has. small k (omega (arith, has, c.words.ensures.long))))
 
 pub returns : goal.returns
 returns g c =
     let h = c.args.self.now in
     let p = c.args.pass.now in
     let m = c.args.memory in
-    let ns = c.words.result.now in
-    let me = c.carry.new.self.me in
-    let e = c.take_back.ensures in
-    let seat = c.take_back.new.seat in
-    let is = carries h p m ns me c.requires.of.empty c.requires.memory c.words.ensures.value c.carry.ensures.2 in
-    let here : me.0 ≡ view p = ap (λ (x : Me View). x.0) is in
-    let are : numbers m.words.places ≡ ns = ap numbers c.words.ensures.value ∙ numbers-laids ns in
-    let all = carried-are (view p) (m.block.place + 1) ns me is ∙ sym are in
-    let long : length (numbers m.words.places) ≡ usable_words m.block.need = ap length are ∙ c.words.ensures.long in
-    let small : (i : ℕ) → i < usable_words m.block.need → slice_index (numbers m.words.places) i < 2 ^ 64 =
-    λ i has. subst (λ l. slice_index l i < 2 ^ 64) (sym are) (c.are_small.ensures i (omega (arith, has, c.words.ensures.long))) in
-    let returned : HasReturned p.errand m.block.place m.block.need (numbers m.words.places) (view p) seat.me =
-    subst (λ (v : View). HasReturned p.errand m.block.place m.block.need (numbers m.words.places) v seat.me) here
-    (subst (λ l. HasReturned p.errand m.block.place m.block.need l me.0 seat.me) all e.returned) in
-    let back =
-    comes-back h p m.block.place m.block.need (numbers m.words.places) seat c.requires.of c.requires.idle returned long small
-    (e.seat.0 ∙ c.carry.ensures.0) (e.seat.1 ∙ c.carry.ensures.1) in
+    let of = c.requires.of in
+    let memory = c.requires.memory in
+    let place = m.block.place in
+    let need = m.block.need in
+    let ns = numbers m.words.places in
+    let block = lent_block place need ns in
+    let made = writes_from place need 0 ns in
+    let shown = all_but place (view p).lent in
+    let q = c.bring.new.pass in
+    let r = before_taking p place in
+    let e = c.bring.ensures in
+    let are : ns ≡ c.words.result.now = ap numbers c.words.ensures.value ∙ numbers-laids c.words.result.now in
+    let long : length ns ≡ usable_words need = long-numbers memory.laid.0 m.words.places memory.laid.1 ∙ memory.long in
+    let small = small-numbers ns c.words.result.now are c.are_small.ensures in
+    let was = of-left h p of block made shown q.seat e.returned in
+    let owned = owns-left h p of block made shown q.seat e.returned in
+    let own = own-writes r place need 0 ns owned (omega (arith, long)) (λ k has. small k (omega (arith, has, long, c.words.ensures.long))) in
+    let same : record { seat = q.seat; errand = p.errand; out = r.out } ≡ q = λ i. record { seat = q.seat; errand = sym e.errand i; out = sym e.out i } in
+    let leads = subst (λ (x : Pass). LeadsBy (CallsOnWord h) r made x) same (calls-came h p of block made q.seat c.requires.idle e.returned e.seat.0 e.seat.1 own) in
+    let has = has-made h r q made was c.requires.idle (on-writes place need 0 ns) leads in
     record {
-      of = back.of;
-      idle = back.idle;
-      block = λ i. m.block;
-      owned = back.owned;
-      keeps = λ other. back.keeps other.place other.need;
-      others = λ other has else.
-          let t = back.others has.0 has.1 has.2 (λ same. else (sym has.3 ∙ same)) in
-          (t.0, has.1, t.1, has.3, has.4);
-      wrote = back.wrote;
-      accesses = back.accesses;
+      of = has.of;
+      idle = has.idle;
+      block = e.block;
+      owned = subst (Owns q) (sym e.block) (has.keeps place need owned);
+      keeps = λ other had. has.keeps other.place other.need (keeps-left h p of block made shown q.seat e.returned other.place other.need had);
+      others = λ other had else.
+          let t = stays-left h p of block made shown q.seat e.returned had.0 had.1 had.2 (λ same. else (sym had.3 ∙ same)) in
+          (t.0, had.1, subst (λ (l : List Lent). get_elem? l t.0 ≡ some had.1) (sym has.lent) t.1, had.3, had.4);
+      wrote = leads;
+      accesses = has.accesses ∙ ap (λ n. n + accesses p) (writes-long place need 0 ns ∙ long);
     }

@@ -1,6 +1,13 @@
+use Rattle.plain_words.specs.Places.{numbers}
 use Rattle.live_heap.specs.Lending.{lent_block}
-use Rattle.live_heap.proofs.Taking.{carried}
+use Rattle.live_heap.specs.Memory.{all_but, writes_from}
+use Rattle.live_heap.specs.Passes.{view}
 use Rattle.live_heap.proofs.heap.Heap.bring_home.Given as goal
 
-abbrev pub ghosts-take_back : goal.ghosts-take_back
-ghosts-take_back g a = record { owner = a.errand.now; block = lent_block a.place a.need (carried a.seat.now.me) }
+abbrev pub ghosts-bring : goal.ghosts-bring
+ghosts-bring g a = record {
+  owner = a.pass.now.errand;
+  block = lent_block a.memory.block.place a.memory.block.need (numbers a.memory.words.places);
+  made = writes_from a.memory.block.place a.memory.block.need 0 (numbers a.memory.words.places);
+  shown = all_but a.memory.block.place (view a.pass.now).lent;
+}

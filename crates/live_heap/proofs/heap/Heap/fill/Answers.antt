@@ -1,5 +1,5 @@
 use Rattle.heap_geometry.specs.Need.{usable_words}
-use Rattle.live_heap.proofs.WholeFill.{has-filled}
+use Rattle.live_heap.proofs.WordCalls.{has-filled}
 use Rattle.live_heap.proofs.heap.Heap.fill.Goals as goal
 
 pub returns-then-usable_words-lt-FEW_WORDS : goal.returns-then-usable_words-lt-FEW_WORDS

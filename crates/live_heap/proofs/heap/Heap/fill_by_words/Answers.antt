@@ -4,7 +4,7 @@ use Rattle.errand_steps.specs.Calls.{Call, write}
 use Rattle.sound_laws.specs.events.Made.{LeadsBy, wrote}
 use Rattle.sound_laws.proofs.events_lemmas.MadeLemmas.{leads-more, wrote-more}
 use Rattle.live_heap.specs.Words.{CallsOnWord}
-use Rattle.live_heap.proofs.WholeFill.{has-filled, own-within}
+use Rattle.live_heap.proofs.WordCalls.{has-filled, own-within}
 use Rattle.live_heap.proofs.heap.Heap.fill_by_words.Goals as goal
 
 pub usable-i-end-requires : goal.usable-i-end-requires

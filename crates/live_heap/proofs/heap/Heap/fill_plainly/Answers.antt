@@ -9,7 +9,7 @@ use Rattle.live_heap.specs.Lending.{numbers_from}
 use Rattle.live_heap.specs.Memory.{before_taking, with_numbers, writes_from}
 use Rattle.live_heap.specs.Words.{CallsOnWord}
 use Rattle.live_heap.proofs.Memories.{numbers-now}
-use Rattle.live_heap.proofs.WholeFill.{counted-long, own-within, wrote-counted}
+use Rattle.live_heap.proofs.WordCalls.{counted-long, own-within, wrote-counted}
 use Rattle.live_heap.proofs.heap.Heap.fill_plainly.Goals as goal
 
 pub invariant_of-take_out : goal.invariant_of-take_out

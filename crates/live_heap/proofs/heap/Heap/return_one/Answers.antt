@@ -18,13 +18,15 @@ load-requires g c =
     let id = inner.table.shared.id in
     let seat = c.args.seat.now in
     let block = g.L.Lending.block in
+    let made = g.L.Lending.made in
+    let shown = g.L.Lending.shown in
     let Returns : Geometry → ℕ → Type 0 = λ key mark.
     region.Allows (PiecesHold g.R.ShelfRule.allows key) id.words seat.id seat.me mark (λ n. n)
-    (λ _ after. HasReturned g.L.Lending.owner block.place block.need block.numbers seat.me.0 after) in (
+    (λ _ after. HasReturned g.L.Lending.owner block made shown seat.me.0 after) in (
       r.table ∙ sym reg,
       c.start-start.ensures,
       subst (λ (z : RegionId). c.args.mark < z.words) (sym reg) r.within,
       subst (λ key. Returns key c.args.mark) (sym key)
           (subst (Returns h.layout) (sym r.mark)
-          (may-return_one h.layout id.words seat.id seat.me g.L.Lending.owner block.place block.need block.numbers h.checked r.may.0 r.may.1)),
+          (may-return_one h.layout id.words seat.id seat.me g.L.Lending.owner block made shown h.checked r.may.0 r.may.1)),
     )

@@ -13,12 +13,14 @@ pub return_last-requires-clause-may : goal.return_last-requires-clause-may
 return_last-requires-clause-may g c =
     let m = c.requires.may in
     let L = g.L.Lending.block in
-    let more = ap length m.lent ∙ one-less m.front (lent_block L.place L.need m.old) m.back in
-    (m, none-left (m.front ++ m.back) (omega arith))
+    let k = m.comes in
+    let more = ap length k.is ∙ one-less k.front (lent_block L.place L.need k.old) k.back in
+    (m, none-left (k.front ++ k.back) (omega arith))
 
 pub return_one-requires-clause-may : goal.return_one-requires-clause-may
 return_one-requires-clause-may g c =
     let m = c.requires.may in
     let L = g.L.Lending.block in
-    let more = ap length m.lent ∙ one-less m.front (lent_block L.place L.need m.old) m.back in
+    let k = m.comes in
+    let more = ap length k.is ∙ one-less k.front (lent_block L.place L.need k.old) k.back in
     (m, omega arith)

@@ -1,5 +1,6 @@
-use Rattle.std.proofs.Common.{suc, ◌≡◌, ◌≢◌, ◌+◌, List, ◌∷◌, refl, ap, ◌∙◌, subst}
+use Rattle.std.proofs.Common.{ℕ, sym, suc, ◌≡◌, ◌≢◌, ◌+◌, List, ◌∷◌, refl, ap, ◌∙◌, subst}
 use lib.ListN.{get_elem?}
+use Rattle.plain_words.specs.Places.{numbers}
 use Rattle.atomic_region.specs.Owned.{RegionId}
 use Rattle.atomic_region.specs.Region.{Me}
 use Rattle.live_heap.specs.declared.block.Block.{Block}
@@ -14,7 +15,7 @@ use Rattle.live_heap.proofs.Begun.{heap-at}
 use Rattle.live_heap.proofs.BlockCounts.{out-small}
 use Rattle.live_heap.proofs.LayLemmas.{only-range}
 use Rattle.live_heap.proofs.Straight.{payload-odd}
-use Rattle.live_heap.proofs.Taking.{first-lent, lends-own, long-lent, of-taken, owns-else, taken-is, taken_by, told-lent, view-lent, was-before, words-lent}
+use Rattle.live_heap.proofs.Taking.{first-lent, lends-own, long-lent, numbers-laids, of-taken, owns-else, taken-is, taken_by, told-lent, view-lent, was-before, words-lent}
 use Rattle.live_heap.proofs.heap.Heap.take_out.Goals as goal
 
 pub lend-requires-clause-mark : goal.lend-requires-clause-mark
@@ -70,6 +71,8 @@ returns g c =
       };
       block = refl;
       aligned = payload-odd p.errand.geometry b.place words.first b.need (heap-at h p b.place b.need c.requires.of c.requires.owned.0) first;
+      last =
+          now ∙ ap (λ (l : List ℕ). lent_block b.place b.need l ∷ (view p).lent) (sym (ap numbers places ∙ numbers-laids lent.0));
       taken = (0, lent_block b.place b.need lent.0, ap (λ (l : List Lent). get_elem? l 0) now, refl, refl);
       before = t.1;
       keeps = t.2;

@@ -5,7 +5,7 @@ use Rattle.heap_geometry.specs.Need.{usable_words}
 use Rattle.errand_steps.specs.declared.reply.Reply.{Reply}
 use Rattle.errand_steps.specs.declared.reply.Reply.TheVariants as reply
 use Rattle.errand_steps.specs.Calls.{alloc}
-use Rattle.lane_engine.specs.Whole.{copied}
+use Rattle.sound_laws.specs.events.Made.{copied}
 use Rattle.trace_lane.proofs.MadeLemmas.{asked-full, leads-keep, leave-copied, made-resized, made-respent, made-unresized}
 use Rattle.trace_lane.proofs.lane.LaneState.make_resize.Goals as goal
 

@@ -1,4 +1,4 @@
--- One usable word of a block that is out with its owner's pass is written, in the machine's run: the word is out, so the region's places stay as they are. The blocks before and behind it stay out.
+-- One usable word of a block that is out with its owner's pass is written or read, in the machine's run: the word is out, so the region's places stay as they are. The blocks before and behind it stay out.
 use Rattle.std.proofs.Common.{ℕ, eqb, zero, suc, ◌≡◌, ◌≢◌, ◌<◌, ◌+◌, ◌^◌, Option, Some, None, List, [], ◌∷◌, ◌++◌, ◌⊎◌, length, refl, arith, sym, ap, subst, inl, inr, ◌∙◌, ⊎_elim, get_or-set_same, get_or-set_other, length-set}
 use Rattle.std.specs.Prelude.{Contains, slice_index, slice_set}
 use Rattle.std.proofs.lemmas.Bool.{cases_Bool, cases_eq}
@@ -11,7 +11,6 @@ use Rattle.heap_geometry.specs.declared.need.Need.{Need}
 use Rattle.heap_geometry.specs.Geometry.{IsChecked}
 use Rattle.heap_geometry.specs.Need.{usable_words}
 use Rattle.word_table.specs.declared.action.Action.{Action}
-use Rattle.word_table.specs.declared.action.Action.TheVariants.{Store}
 use Rattle.word_table.specs.declared.action.Found.{Found as Find}
 use Rattle.word_table.specs.declared.name.WordName.TheVariants.{Arena}
 use Rattle.word_table.specs.Actions.{name_of, after_action}
@@ -20,7 +19,8 @@ use Rattle.word_table.specs.Table.{word_index}
 use Rattle.placed_words.specs.Places as placed
 use Rattle.placed_words.specs.Places.{words_at}
 use Rattle.placed_words.proofs.KindLemmas.{start-place}
-use Rattle.plain_words.specs.Places.{Place, laid, place_at}
+use Rattle.placed_words.proofs.WordsLemmas.{at-words_at}
+use Rattle.plain_words.specs.Places.{Place, laid, number, place_at}
 use Rattle.pool_model.specs.declared.event.Event.{Event}
 use Rattle.pool_model.specs.declared.event.Event.TheVariants.{Write}
 use Rattle.pool_model.specs.declared.owner.Owner.TheVariants.{Caller}
@@ -28,11 +28,13 @@ use Rattle.pool_model.specs.Histories.{caller_of}
 use Rattle.pool_model.specs.Legal.{IsLegalWithoutCounts}
 use Rattle.pool_model.specs.Pool.{Block, pool_of}
 use Rattle.pool_model.proofs.PoolLemmas.{place-found}
-use Rattle.errand_steps.specs.Begins.{IsBusy, IsIdle, write_begun}
-use Rattle.errand_steps.specs.Calls.{Call, begun_by, write}
-use Rattle.errand_steps.specs.Errands.{ErrandFields, plan_of}
+use Rattle.errand_steps.specs.Begins.{IsBusy, IsIdle, read_begun, write_begun}
+use Rattle.errand_steps.specs.Calls.{Call, begun_by, read, write}
+use Rattle.errand_steps.specs.Errands.{ErrandFields, plan_of, settle_of}
 use Rattle.errand_steps.specs.Events.{event_of}
 use Rattle.errand_steps.specs.Steps.{State, with_event}
+use Rattle.sound_state.specs.Recalls.{IsOwned}
+use Rattle.sound_state.specs.Runs.{MayBegin}
 use Rattle.sound_state.specs.Sound.{IsSoundWithoutCounts}
 use Rattle.sound_state.proofs.CountedLemmas.{without-counts}
 use Rattle.sound_state.proofs.shared.OverlapLemmas.{live-apart}
@@ -45,23 +47,23 @@ use Rattle.step_machine.proofs.KeepLemmas.{owns-rest}
 use Rattle.live_heap.specs.declared.view.Lent.{Lent}
 use Rattle.live_heap.specs.declared.view.Standing.{Standing}
 use Rattle.live_heap.specs.declared.view.View.{View}
-use Rattle.live_heap.specs.Lending.{lent_block, with_lent}
-use Rattle.live_heap.specs.Pieces.{AreLaidOut, AreLent, IsLent, IsOut, caller_mark, mark_of, mark_place}
+use Rattle.live_heap.specs.Lending.{AreAmong, AreElsewhere, lent_block, with_lent}
+use Rattle.live_heap.specs.Pieces.{AreLaidOut, AreLent, IsLent, IsOut, IsReady, caller_mark, mark_of, mark_place}
 use Rattle.live_heap.specs.Pieces.Status.{out}
 use Rattle.live_heap.specs.Rule.{KeptTable, WordsHold, state_with}
-use Rattle.live_heap.specs.Sights.{IsBegun, TakesStep}
-use Rattle.live_heap.specs.Shelves.{AllowedWords}
+use Rattle.live_heap.specs.Sights.{AreOwned, IsBegun, TakesStep, after_events}
+use Rattle.live_heap.specs.Shelves.{AllowedWords, PutsByRule}
 use Rattle.live_heap.proofs.LentPlaces.{out-on}
 use Rattle.live_heap.proofs.LentViews.{kept-lent, laid-lent, view-within}
-use Rattle.live_heap.proofs.Memory.{stepped, table_now}
-use Rattle.live_heap.proofs.ShelvesKept.{write-puts}
+use Rattle.live_heap.proofs.Memory.{below, stepped, table_now, usable, usable-shown}
+use Rattle.live_heap.proofs.ShelvesKept.{read-puts, write-puts}
 use Rattle.live_heap.proofs.Moves.{begun-caller, event, events_now, events_then, kept_then, standing_then, steps_then, view_then, words_then}
 use Rattle.live_heap.proofs.Shows.{arena-placed}
-use Rattle.live_heap.proofs.Straight.{arena-short, write-busy, write-plan, write-ready, write-settles}
+use Rattle.live_heap.proofs.Straight.{arena-short, read-busy, read-plan, read-ready, read-settles, write-busy, write-plan, write-ready, write-settles}
 
--- all of the blocks lie at other places
-abbrev pub AreElsewhere : ℕ → List Lent → Type 0
-AreElsewhere place blocks = (n : ℕ) (b : Lent) → get_elem? blocks n ≡ some b → b.place ≢ place
+in-one : (place at : ℕ) → Contains (place ∷ []) at → at ≡ place
+in-one place at (zero, below, is) = sym is
+in-one place at (suc k, below, is) = absurd (omega arith)
 
 -- the rule of the region where the pass `id` has this view: it stands for one caller, whose errand is e, and has the words of this block out, and of those before and behind it
 pub record HasAway (rule : AllowedWords) (g : Geometry) (places : List Place) (views : List View) (id : ℕ) (v : View) (e : ErrandFields) (place : ℕ) (need : Need) (numbers : List ℕ) (front back : List Lent) : Type 0 where
@@ -74,7 +76,7 @@ pub record HasAway (rule : AllowedWords) (g : Geometry) (places : List Place) (v
   pub before : Standing
   pub one : v.callers ≡ before ∷ []
   pub stands : before.errand ≡ e
-  pub owned : OwnsAfter v.seen e.caller place need
+  pub mine : AreOwned v e.caller
   pub away : v.lent ≡ front ++ lent_block place need numbers ∷ back
 
 -- who is found in a list of one is that one
@@ -105,16 +107,73 @@ middle-else [] back x y m found = (suc m, found)
 middle-else (z ∷ zs) back x y zero found = (0, found)
 middle-else (z ∷ zs) back x y (suc m) found = let t = middle-else zs back x y m found in (suc t.0, t.1)
 
--- a write is about its own block
-write-concerned : (e : ErrandFields) (place : ℕ) (n : Need) (i v at : ℕ) → Contains (concerned (begun_by e (write place n i v)).point) at → at ≡ place
-unfolding write_begun
-write-concerned e place n i v at there = in-one there
-  where
-    in-one : Contains (place ∷ []) at → at ≡ place
-    in-one (zero, below, is) = sym is
-    in-one (suc k, below, is) = absurd (omega arith)
+-- the call that writes this number to the word, or where there is none reads it; and the number that is in it then
+abbrev pub on_word : ℕ → Need → ℕ → Option ℕ → Call
+on_word place need i (Some x) = write place need i x
+on_word place need i None = read place need i
 
--- a write gives no block away
+abbrev pub left_by : Option ℕ → ℕ → ℕ
+left_by (Some x) n = x
+left_by None n = n
+
+-- what it writes is a number of 64 bits
+abbrev pub IsSmall : Option ℕ → Type 0
+IsSmall (Some x) = x < 2 ^ 64
+IsSmall None = Unit {0}
+
+on-busy : (e : ErrandFields) (place : ℕ) (n : Need) (i : ℕ) (does : Option ℕ) → IsBusy (begun_by e (on_word place n i does))
+on-busy e place n i (Some x) = write-busy e place n i x
+on-busy e place n i None = read-busy e place n i
+
+on-ready : (g : Geometry) (e : ErrandFields) (place : ℕ) (n : Need) (i : ℕ) (does : Option ℕ) (u : View) → IsReady g (begun_by e (on_word place n i does)).point u
+on-ready g e place n i (Some x) u = write-ready g e place n i x u
+on-ready g e place n i None u = read-ready g e place n i u
+
+on-puts :
+    (rule : AllowedWords) (seen : List Event) (e : ErrandFields) (place : ℕ) (n : Need) (i : ℕ) (does : Option ℕ)
+    → PutsByRule rule seen (begun_by e (on_word place n i does))
+on-puts rule seen e place n i (Some x) = write-puts rule seen e place n i x
+on-puts rule seen e place n i None = read-puts rule seen e place n i
+
+on-settles :
+    (e : ErrandFields) (place : ℕ) (n : Need) (i : ℕ) (does : Option ℕ) (x : Find) → IsIdle e → e ≡ settle_of (begun_by e (on_word place n i does)) x
+on-settles e place n i (Some v) x idle = write-settles e place n i v x idle
+on-settles e place n i None x idle = read-settles e place n i x idle
+
+on-names :
+    (e : ErrandFields) (place : ℕ) (n : Need) (i : ℕ) (does : Option ℕ) → place + 1 + i < 2 ^ 32
+    → name_of (plan_of (begun_by e (on_word place n i does))) ≡ Arena (place + 1 + i)
+on-names e place n i (Some x) short = ap name_of (write-plan e place n i x short)
+on-names e place n i None short = ap name_of (read-plan e place n i short)
+
+on-leaves :
+    (e : ErrandFields) (place : ℕ) (n : Need) (i : ℕ) (does : Option ℕ) (found : ℕ) → place + 1 + i < 2 ^ 32
+    → after_action (plan_of (begun_by e (on_word place n i does))) found ≡ left_by does found
+on-leaves e place n i (Some x) found short = ap (λ (a : Action). after_action a found) (write-plan e place n i x short)
+on-leaves e place n i None found short = ap (λ (a : Action). after_action a found) (read-plan e place n i short)
+
+on-may :
+    (s : State) (caller place : ℕ) (n : Need) (i : ℕ) (does : Option ℕ) → IsOwned s caller place n → i < usable_words n → IsSmall does
+    → MayBegin s caller (on_word place n i does)
+on-may s caller place n i (Some x) owned inside small = (owned, inside, small)
+on-may s caller place n i None owned inside small = (owned, inside)
+
+-- it is about its own block
+on-concerned : (e : ErrandFields) (place : ℕ) (n : Need) (i : ℕ) (does : Option ℕ) (at : ℕ) → Contains (concerned (begun_by e (on_word place n i does)).point) at → at ≡ place
+unfolding write_begun read_begun
+on-concerned e place n i (Some x) at there = in-one place at there
+on-concerned e place n i None at there = in-one place at there
+
+-- a read makes no event, and a write gives no block away
+read-spares :
+    (e : ErrandFields) (place : ℕ) (n : Need) (i : ℕ) (x : Find) (caller at : ℕ) (it : Event)
+    → event_of caller (begun_by e (read place n i)).point x ≡ Some it → Spares at it
+unfolding read_begun event_of
+read-spares e place n i x caller at it is = elim (cases_Bool x.won) [
+  | inl won ↦ let said : None ≡ Some it = rw won at is in absurd (let no : ⊥ = cc in no)
+  | inr lost ↦ let said : None ≡ Some it = rw lost at is in absurd (let no : ⊥ = cc in no)
+]
+
 write-spares :
     (e : ErrandFields) (place : ℕ) (n : Need) (i v : ℕ) (x : Find) (caller at : ℕ) (it : Event)
     → event_of caller (begun_by e (write place n i v)).point x ≡ Some it → Spares at it
@@ -138,6 +197,12 @@ owns-next g log (Some x) caller at need legal spares owns =
       | inr other ↦ rw other tt
     ])
     owns
+
+on-spares :
+    (e : ErrandFields) (place : ℕ) (n : Need) (i : ℕ) (does : Option ℕ) (x : Find) (caller at : ℕ) (it : Event)
+    → event_of caller (begun_by e (on_word place n i does)).point x ≡ Some it → Spares at it
+on-spares e place n i (Some v) x caller at it is = write-spares e place n i v x caller at it is
+on-spares e place n i None x caller at it is = read-spares e place n i x caller at it is
 
 -- the usable words of two blocks are apart
 owned-apart :
@@ -163,11 +228,18 @@ owned-apart g s c d p q n m i j sound (a, live_a, owner_a, need_a) (b, live_b, o
 HeldWith : AllowedWords → Geometry → List ℕ → List View → List Event → Type 0
 HeldWith rule g words views events = (k : KeptTable rule g words views) × (k.events ≡ events)
 
-module _ {rule : AllowedWords} (g : Geometry) (places : List Place) (views : List View) (id : ℕ) (v : View) (e : ErrandFields) (place : ℕ) (need : Need) (old : List ℕ) (front back : List Lent) (i x : ℕ)
-    (checked : IsChecked g) (idle : IsIdle e) (inside : i < usable_words need) (small : x < 2 ^ 64) (others : AreElsewhere place (front ++ back))
-    (s : HasAway rule g places views id v e place need old front back) where
+module _ {rule : AllowedWords} (g : Geometry) (places : List Place) (views : List View) (id : ℕ) (v : View) (e : ErrandFields) (place : ℕ) (need : Need) (old : List ℕ) (front back : List Lent) (i : ℕ)
+    (does : Option ℕ) (checked : IsChecked g) (idle : IsIdle e) (inside : i < usable_words need) (small : IsSmall does)
+    (others : AreElsewhere place (front ++ back)) (s : HasAway rule g places views id v e place need old front back) where
   abbrev call : Call
-  call = write place need i x
+  call = on_word place need i does
+
+  -- the number that is in the word, before and then
+  abbrev was : ℕ
+  was = slice_index old i
+
+  abbrev x : ℕ
+  x = left_by does was
 
   abbrev begun : ErrandFields
   begun = begun_by e call
@@ -178,22 +250,25 @@ module _ {rule : AllowedWords} (g : Geometry) (places : List Place) (views : Lis
   abbrev table : List ℕ
   table = words_at g s.words
 
+  among_out : get_elem? v.lent (length front) ≡ some (lent_block place need old)
+  among_out = ap (λ (l : List Lent). get_elem? l (length front)) s.away ∙ middle-here front back (lent_block place need old)
+
   may : IsBegun v.seen s.before.errand begun
   may = inr (
     call,
     subst IsIdle (sym s.stands) idle,
-    (record { block = subst (λ (f : ErrandFields). OwnsAfter v.seen f.caller place need) (sym s.stands) s.owned }, inside, small),
+    on-may (after_events v.seen) s.before.errand.caller place need i does
+        (record { block = subst (λ (f : ErrandFields). OwnsAfter v.seen f.caller place need) (sym s.stands) (s.mine (length front) (lent_block place need old) among_out) }) inside small,
     ap (λ (f : ErrandFields). begun_by f call) (sym s.stands),
   )
 
   busy : IsBusy begun
-  busy = write-busy e place need i x
+  busy = on-busy e place need i does
 
   -- the block as it was out
   block : IsOut g k.events s.whole v (lent_block place need old)
   block =
-      s.lent.blocks id (length front) v (lent_block place need old) s.at
-      (ap (λ (l : List Lent). get_elem? l (length front)) s.away ∙ middle-here front back (lent_block place need old))
+      s.lent.blocks id (length front) v (lent_block place need old) s.at among_out
 
   -- a block that is out with the pass is its caller's
   owner_is : (b : Lent) (o : IsOut g k.events s.whole v b) → o.owner ≡ s.before
@@ -214,21 +289,30 @@ module _ {rule : AllowedWords} (g : Geometry) (places : List Place) (views : Lis
   in_arena : place + 1 + i < arena_words g
   in_arena = omega (arith, block.within, inside)
 
-  plan : plan_of begun ≡ Store (Arena (place + 1 + i)) x
-  plan = write-plan e place need i x (arena-short g (place + 1 + i) checked in_arena)
+  short : place + 1 + i < 2 ^ 32
+  short = arena-short g (place + 1 + i) checked in_arena
 
   -- the word's place, and what is stored there
   abbrev p : ℕ
   p = placed.place g (word_index g (name_of (plan_of begun)))
 
   at_word : p ≡ place + 1 + i
-  at_word = ap (λ (a : Action). placed.place g (word_index g (name_of a))) plan ∙ sym (start-place g (Arena (place + 1 + i)) checked in_arena)
+  at_word = ap (λ n. placed.place g (word_index g n)) (on-names e place need i does short) ∙ sym (start-place g (Arena (place + 1 + i)) checked in_arena)
+
+  -- the word holds the block's number
+  holds : slice_index s.words p ≡ was
+  holds =
+      let ready = on-ready g e place need i does v in
+      ap number
+      (sym (usable-shown g s.words s.laid_out.status p (usable g s.words s.whole views id v s.before begun k s.at s.one may busy checked s.held.0 ready s.laid_out))
+      ∙ sym (s.laid_out.each p (omega (arith, at_word, in_arena, s.laid_out.long, arena-placed g)))
+      ∙ ap (place_at s.whole) at_word ∙ block.words i inside)
 
   abbrev new : ℕ
   new = after_action (plan_of begun) (slice_index s.words p)
 
   new_is : new ≡ x
-  new_is = ap (λ (a : Action). after_action a (slice_index s.words p)) plan
+  new_is = on-leaves e place need i does (slice_index s.words p) short ∙ ap (left_by does) holds
 
   abbrev words_now : List ℕ
   words_now = slice_set s.words p new
@@ -267,19 +351,19 @@ module _ {rule : AllowedWords} (g : Geometry) (places : List Place) (views : Lis
   unfolding HeldWith kept-lent
   held_now =
       let words_after = words_then g table views id v s.before begun k s.at s.one may busy in
-      let kept = kept_then g table views id v s.before begun k s.at s.one may busy (write-puts rule v.seen e place need i x) in
+      let kept = kept_then g table views id v s.before begun k s.at s.one may busy (on-puts rule v.seen e place need i does) in
       subst (λ (vs : List View). HeldWith rule g (words_at g words_now) vs events_after) (set-set views id w u)
       (subst (λ (ws : List ℕ). HeldWith rule g ws (slice_set views_then id u) events_after)
-      (sym (table_now g s.words s.whole views id v s.before begun k s.at s.one may busy checked s.held.0 (write-ready g e place need i x v) s.laid_out)) (
+      (sym (table_now g s.words s.whole views id v s.before begun k s.at s.one may busy checked s.held.0 (on-ready g e place need i does v) s.laid_out)) (
         kept-lent g words_after views_then id w blocks_now there kept,
-        events_then g table views id v s.before begun k s.at s.one may busy (write-puts rule v.seen e place need i x),
+        events_then g table views id v s.before begun k s.at s.one may busy (on-puts rule v.seen e place need i does),
       ))
 
   laid_now : AreLaidOut g words_now whole_now views_now
   laid_now =
       subst (AreLaidOut g words_now whole_now) (set-set views id w u)
       (laid-lent g words_now views_then id w blocks_now whole_now there
-      (stepped g s.words s.whole views id v s.before begun k s.at s.one may busy checked s.held.0 (write-ready g e place need i x v) s.laid_out))
+      (stepped g s.words s.whole views id v s.before begun k s.at s.one may busy checked s.held.0 (on-ready g e place need i does v) s.laid_out))
 
   legal_now : IsLegalWithoutCounts g events_after
   unfolding HeldWith
@@ -291,7 +375,7 @@ module _ {rule : AllowedWords} (g : Geometry) (places : List Place) (views : Lis
   owned_now : (c q : ℕ) (n : Need) → OwnsAfter k.events c q n → OwnsAfter events_after c q n
   owned_now c q n owns =
       owns-next g k.events (event g table views id v s.before begun k s.at s.one may busy) c q n legal_now
-      (λ it is. write-spares e place need i x _ _ q it is) owns
+      (λ it is. on-spares e place need i does _ _ q it is) owns
 
   -- what isn't the word's place is as it was
   elsewhere : (j : ℕ) → j ≢ p → place_at whole_now j ≡ place_at s.whole j
@@ -337,7 +421,7 @@ module _ {rule : AllowedWords} (g : Geometry) (places : List Place) (views : Lis
       ]
 
   settled : e ≡ (standing_then g table views id v s.before begun k s.at s.one may busy).errand
-  settled = write-settles e place need i x _ idle
+  settled = on-settles e place need i does _ idle
 
   mark_still : (c : ℕ) → place_at whole_now (mark_place g (caller_mark g c)) ≡ place_at s.whole (mark_place g (caller_mark g c))
   mark_still c = elsewhere (mark_place g (caller_mark g c)) (mark_apart c)
@@ -445,12 +529,31 @@ module _ {rule : AllowedWords} (g : Geometry) (places : List Place) (views : Lis
         (at_set views id m u y at_y);
   }
 
-  -- the word is written: the block's number for it is x, and the caller is in no call again; the step is seen where just the blocks before and behind it are out
-  pub word-written :
-      (z : View) × HasAway rule g places (slice_set views id z) id z e place need (slice_set old i x) front back
-      × ((n : ℕ) × TakesStep (begun_by e (write place need i x)) n (with_lent v (front ++ back)) (with_lent z (front ++ back)))
+  -- the caller owns what is out with it
+  mine_now : AreOwned u e.caller
+  mine_now n b at = elim (middle-or front back (lent_block place need numbers_now) b n at) [
+    | inl same ↦
+        subst (λ (c : Lent). OwnsAfter events_after e.caller c.place c.need) (sym same)
+        (owned_now e.caller place need (owned_was (lent_block place need old) block))
+    | inr aside ↦ owned_now e.caller b.place b.need (owned_was b (other_out aside.0 b aside.1))
+  ]
+
+  -- the number that the step finds
+  abbrev found : ℕ
+  found = slice_index table (word_index g (name_of (plan_of begun)))
+
+  found_is : found ≡ was
+  found_is =
+      at-words_at g s.words (word_index g (name_of (plan_of begun)))
+      (below g s.words s.whole views id v s.before begun k s.at s.one may busy checked s.held.0 (on-ready g e place need i does v) s.laid_out)
+      ∙ holds
+
+  -- the step is made: the block's number for the word is x, and the caller is in no call again. It is seen where no blocks are out but some of those before and behind it
+  pub word-made :
+      (shown : List Lent) → AreAmong shown (front ++ back) → (z : View) × HasAway rule g places (slice_set views id z) id z e place need (slice_set old i x) front back
+      × TakesStep (begun_by e call) was (with_lent v shown) (with_lent z shown)
   unfolding HeldWith
-  word-written =
+  word-made shown among =
       let after = standing_then g table views id v s.before begun k s.at s.one may busy in (
         u,
         record {
@@ -463,13 +566,11 @@ module _ {rule : AllowedWords} (g : Geometry) (places : List Place) (views : Lis
           before = after;
           one = refl;
           stands = sym settled;
-          owned = owned_now e.caller place need (owned_was (lent_block place need old) block);
+          mine = mine_now;
           away = refl;
         },
-        (
-          _,
-          steps_then g table views id v s.before begun k s.at s.one may busy (front ++ back)
-              (λ n b found. subst (λ c. OwnsAfter k.events c b.place b.need) (sym (begun-caller e call)) (owned_was b (other_out n b found)))
-              (λ n b found there. others n b found (write-concerned e place need i x b.place there)),
-        ),
+        subst (λ n. TakesStep begun n (with_lent v shown) (with_lent u shown)) found_is
+            (steps_then g table views id v s.before begun k s.at s.one may busy shown
+            (λ n b at. let m = among n b at in subst (λ c. OwnsAfter k.events c b.place b.need) (sym (begun-caller e call)) (owned_was b (other_out m.0 b m.1)))
+            (λ n b at there. let m = among n b at in others m.0 b m.1 (on-concerned e place need i does b.place there))),
       )

@@ -11,9 +11,8 @@ use Rattle.heap_geometry.specs.Need.{usable_words}
 use Rattle.errand_steps.specs.declared.reply.Reply.{Reply}
 use Rattle.errand_steps.specs.declared.reply.Reply.TheVariants as reply
 use Rattle.errand_steps.specs.Calls.{Call, read, write}
-use Rattle.sound_laws.specs.events.Made.{LeadsBy, answered}
+use Rattle.sound_laws.specs.events.Made.{LeadsBy, answered, copied, copied_word}
 use Rattle.sound_laws.proofs.events_lemmas.MadeLemmas.{leads-more}
-use Rattle.lane_engine.specs.Whole.{copied, copied_word}
 
 -- numbered pieces in a row, with one more
 pub pieces-more :
