@@ -11,8 +11,8 @@ edits begin and end with, and of its edits; when by the clock the first two bega
 the one below it that was proved last. Then come the longest chain of proofs by processor time, each of a crate that stands
 on the one before, and what ran last. A check that ends within half a second is not seen.
 
-`--apart` keeps rt's own threads on one processor and its checks on all: the threads read texts by turns, and on several
-processors each turn waits for the one before (docs/TESTING.md has how much that took). It changes nothing else.
+`--apart` keeps rt's own threads on one processor and its checks on all, until each crate's proof is told: the threads read
+texts by turns, and on several processors each turn waits for the one before (docs/TESTING.md has how much that took).
 `--keep` writes what was read, the lines as `log` and a line of JSON for each check as `samples`. `--picture` draws
 docs/pictures/gate.svg. Of several runs in a file of samples, `--read` takes the one with most checks, or that of PROCESS.
 `--on` tells too how long the same checks would take on N processors, each one in as many seconds as it took of a processor
@@ -38,6 +38,7 @@ GRID = "#dfe3e8"
 FILLS = {PROOF: STRONG, TESTS: FREE, BASE: HELD, EDITS: LIVE}
 TICKS = os.sysconf("SC_CLK_TCK")
 EVERY = 0.5
+REPORTED = re.compile(r"rt: (\w+) (?:proved|NOT PROVED|is kept)")
 
 
 class Watch(threading.Thread):
@@ -52,6 +53,12 @@ class Watch(threading.Thread):
             self.look()
             if self.apart and any(check["ppid"] == self.apart and kind_of(check) for check in self.seen.values()):
                 keep_apart(self.apart)
+
+    def let_go(self):
+        """Leaves all processors to rt again, and so to the tests and programs that it starts."""
+        gate, self.apart = self.apart, None
+        if gate:
+            spread(gate)
         for check in self.seen.values():
             self.write(check)
 
@@ -105,6 +112,15 @@ def keep_apart(gate):
             continue
 
 
+def spread(process):
+    """Lets the threads of this process use all processors."""
+    try:
+        for thread in os.listdir(f"/proc/{process}/task"):
+            os.sched_setaffinity(int(thread), os.sched_getaffinity(0))
+    except OSError:
+        pass
+
+
 def busy_seconds():
     """The seconds that all processors of the machine have worked since it started, but what a host took."""
     with open("/proc/stat") as file:
@@ -118,9 +134,13 @@ def watched(words, keep, apart):
     gate = subprocess.Popen(["rt", "ci", *words], cwd=TOP, stdout=subprocess.PIPE, stderr=subprocess.STDOUT, text=True)
     watch = Watch(checks.append, gate.pid if apart else None)
     watch.start()
+    left = set(read_crates())
     for line in gate.stdout:
         lines.append((time.time() - start, line.rstrip("\n")))
         print(stamped(start, *lines[-1]), flush=True)
+        left -= set(REPORTED.findall(line))
+        if not left:
+            watch.let_go()
     status = gate.wait()
     watch.done.set()
     watch.join()
