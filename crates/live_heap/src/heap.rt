@@ -19,7 +19,7 @@ use atomic_region::{Closed, Region, Seat};
 use errand_steps::errand::Errand;
 use heap_geometry::geometry::Geometry;
 use placed_words::placement::Placement;
-use plain_words::Room;
+use plain_words::{Room, Start};
 use std::alloc::{AllocError, Global};
 use std::marker::Model;
 use word_table::name::WordName;
@@ -127,6 +127,13 @@ impl<R: ShelfRule> Heap<R> {
         ensures checked { IsChecked result }
     {
         self.layout.geometry()
+    }
+
+    /// Where the heap's memory begins: 8 bytes behind a multiple of 16. It owns nothing.
+    pub fn start(&self) -> Start
+        ensures { result.at ≡ self.now.region.at }
+    {
+        self.table.start()
     }
 
     /// The place of a word in memory.

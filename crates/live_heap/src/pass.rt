@@ -33,6 +33,13 @@ impl Pass {
         self.errand.idle()
     }
 
+    /// How many blocks' words are out with it, as plain memory.
+    pub fn out(&self) -> u32
+        ensures { result ≡ self.now.out }
+    {
+        self.out
+    }
+
     /// How many turns it has begun, at most the turn limit.
     pub fn turns(&self) -> u64
         ensures value { result ≡ self.now.errand.turns }

@@ -2,7 +2,7 @@
 
 ghost use Rattle.std.specs.Prelude.{ℕ, ◌≡◌, ◌<◌, ◌^◌, length, slice_index};
 ghost use Rattle.std.specs.Borrow.{sem};
-ghost use Rattle.heap_geometry.specs.Need.{usable_words};
+ghost use Rattle.heap_geometry.specs.Need.{IsNeed, usable_words};
 ghost use Rattle.plain_words.specs.Places.{laids};
 
 use crate::block::Block;
@@ -11,8 +11,9 @@ use crate::shelves::ShelfRule;
 use heap_geometry::need::Need;
 use plain_words::PlainWords;
 
-/// A block of a pass whose usable words are out, as plain memory of whoever has this. It can't be copied, cloned or made.
-/// One that is dropped keeps its words out for ever, and the heap's memory stays allocated.
+/// A block of a pass whose usable words are out, as plain memory of whoever has this. It can't be copied or cloned, and is
+/// made of its words alone (`of_words`). One that is dropped keeps its words out for ever, and the heap's memory stays
+/// allocated.
 #[derive(Drop)]
 pub struct Memory {
     pub(crate) block: Block,
@@ -44,6 +45,28 @@ impl Memory {
         let first = self.block.place() as usize + 1;
         let count = self.block.usable_words() as usize;
         self.words.slice_mut(start, first, count)
+    }
+
+    /// The words alone, as plain memory of whoever has them. Where their block lies, and what it serves, is to be kept
+    /// elsewhere: `of_words` asks for both.
+    pub fn into_words(self) -> PlainWords
+        ensures { result ≡ self.words }
+    {
+        let Memory { block: _, words } = self;
+        words
+    }
+
+    /// Plain memory as the words of the block at this place, that serves this need. Whether they are that block's, and
+    /// are out with a pass, `bring_home` asks.
+    pub fn of_words(place: u32, need: Need, words: PlainWords) -> Memory
+        requires { IsNeed need }
+        ensures block { (result.block.place ≡ place) × (result.block.need ≡ need) }
+        ensures words { result.words ≡ words }
+    {
+        Memory {
+            block: Block { place, need },
+            words,
+        }
     }
 
     /// How many usable words the block has, at most 131,071.
