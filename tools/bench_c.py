@@ -3,8 +3,9 @@
 
     tools/bench_c.py [--count N] [--runs N] [--threads LIST]
 
-Each thread makes N (count) rounds of one kind, over the static library of crate balloc_c, without magazines and
-with magazines for 64 blocks of a class, and over each allocator of the machine:
+Run it when calls from C or the heap's calls have changed, for the figures of docs/PERFORMANCE.md. Each thread makes N
+(count) rounds of one kind, over the static library of crate balloc_c, without magazines and with magazines for 64 blocks of
+a class, and over each allocator of the machine:
 
     pair      a block of one word is allocated and freed
     block     a block of 31 words is allocated, written by a range, read by a range and freed; over malloc a range

@@ -5,8 +5,9 @@
     tools/bench_heap.py caches [--count N] [--runs N] [--threads N,..]
     tools/bench_heap.py stress [--cached] [--rounds N] [--steps N] [--threads N,..] [--seed N]
 
-It builds crates/benches where that is not built yet, and a small C program beside it by `cc`, which
-makes pairs of malloc and free of the same size on as many threads. Each thread makes N (count):
+Run it when the heap's calls or a cache have changed, for the figures of docs/PERFORMANCE.md; `stress` before a release. It
+builds crates/benches where that is not built yet, and a small C program beside it by `cc`, which makes pairs of malloc and
+free of the same size on as many threads. Each thread makes N (count):
 
     bare    atomic loads, compares and exchanges, and stores at random places of as many words
     steps   steps of allocations of one word and of their frees

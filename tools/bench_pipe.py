@@ -3,8 +3,9 @@
 
     tools/bench_pipe.py [--count N] [--runs N] [--senders K,..] [--balloc PROGRAM]
 
-Each of K senders sends N messages (count, at most 100,000) of three words to one receiver, which folds the
-words of each sender and frees the block:
+Run it when pipes, shelves or the rounds of `pipe` have changed, for the figures of docs/PERFORMANCE.md. Each of K senders
+sends N messages (count, at most 100,000) of three words to one receiver, which folds the words of each sender and frees the
+block:
 
     pipe      `balloc pipe K N START`
     ring      the same in C: a block of malloc a message, and a bounded ring of pointers with room for 8 of

@@ -3,11 +3,11 @@
 
     tools/bench_steps.py [--count N] [--runs N]
 
-It builds crates/benches where that is not built yet, and runs it: `machine bare` makes loads, compares and
-stores at random places of a table of as many words as the heap has, `hold` steps of 16 callers in turn
-that never free, `all` steps of 16 callers in turn that make calls of all kinds. Each figure is the least
-processor time (user) of some runs, divided by their number of steps or accesses; the opening of the heap
-and the sums that are printed are taken off by a run with a count of 0.
+Run it when the machine or what decides a step has changed, for the figures of docs/PERFORMANCE.md. It builds crates/benches
+where that is not built yet, and runs it: `machine bare` makes loads, compares and stores at random places of a table of as
+many words as the heap has, `hold` steps of 16 callers in turn that never free, `all` steps of 16 callers in turn that make
+calls of all kinds. Each figure is the least processor time (user) of some runs, divided by their number of steps or
+accesses; the opening of the heap and the sums that are printed are taken off by a run with a count of 0.
 """
 import argparse
 import os

@@ -3,7 +3,8 @@
 
     tools/bench_store.py [--count N] [--runs N]
 
-One thread makes N (count) pairs of `push_front` and `pop_front`, the second of which frees the node's block:
+Run it when stores have changed, for the figures of docs/PERFORMANCE.md. One thread makes N (count) pairs of `push_front`
+and `pop_front`, the second of which frees the node's block:
 
     store     `benches store pairs`
     heap      `benches heap pairs`, an allocation of one word and its free alone

@@ -3,9 +3,10 @@
 
     tools/beside.py [--runs N] PROGRAM PROGRAM TRACE..
 
-Both programs replay each trace in turns, the first one N times and the second one N times, so that both see
-the same load. The lines say the medians in milliseconds, by the clock and of processor time, and what the
-second one's are of the first one's. Each run must end well; texts may differ where lanes race.
+Run it behind a change that may cost time, with the program of the tree before it and that of the tree behind it. Both
+programs replay each trace in turns, the first one N times and the second one N times, so that both see the same load. The
+lines say the medians in milliseconds, by the clock and of processor time, and what the second one's are of the first one's.
+Each run must end well; texts may differ where lanes race.
 """
 import argparse
 import os

@@ -1,12 +1,13 @@
 #!/usr/bin/env python3
 """Compares the clauses of all public functions at two revisions.
 
-usage: python3 tools/compare_clauses.py BEFORE AFTER
+    tools/compare_clauses.py BEFORE AFTER
 
-BEFORE and AFTER are revisions of git. A function is the same one by its name and by the type or the trait that has it,
-wherever its file lies. Prints how many functions stand as they were, and then each one that moved to another file, that
-changed, that went and that came, a changed one with the clauses that went (-) and came (+). Where names were changed on
-the way, change them in a copy of BEFORE first (tools/rename.py) and commit that: so renames are left apart.
+Run it behind a change that was to leave the clauses as they are, and before a release, for what CHANGELOG.md has to say of
+them. BEFORE and AFTER are revisions of git. A function is the same one by its name and by the type or the trait that has
+it, wherever its file lies. Prints how many functions stand as they were, and then each one that moved to another file, that
+changed, that went and that came, a changed one with the clauses that went (-) and came (+). A name that was changed on the
+way shows in each clause that has it.
 """
 
 import re

@@ -4,6 +4,7 @@
     tools/gate_times.py [--apart] [--keep FOLDER] [--on N] [--behind CRATE] [--picture] [WORD..]   runs `rt ci WORD..` at the top of the tree
     tools/gate_times.py --read LOG SAMPLES [--of PROCESS] [--on N] [--behind CRATE] [--picture]   tells it of a run that has ended
 
+Run it once at the end of a batch, for the table and the picture of docs/TESTING.md, on a machine that does nothing else.
 While the gate runs, its checks are looked at twice a second: what each proves and the processor time it has taken. Each
 line of the gate is printed with the clock and the seconds since the start. At the end stands a table in Markdown, in the
 order of crates.txt: of each crate the seconds of processor time of its proof, of its tests' proof, of the proofs that its
@@ -12,7 +13,7 @@ the one below it that was proved last. Then come the longest chain of proofs by 
 on the one before, and what ran last. A check that ends within half a second is not seen.
 
 `--apart` keeps rt's own threads on one processor and its checks on all, until each crate's proof is told: the threads read
-texts by turns, and on several processors each turn waits for the one before (docs/TESTING.md has how much that took).
+texts by turns, and on several processors each turn waits for the one before.
 `--keep` writes what was read, the lines as `log` and a line of JSON for each check as `samples`. `--picture` draws
 docs/pictures/gate.svg. Of several runs in a file of samples, `--read` takes the one with most checks, or that of PROCESS.
 `--on` tells too how long the same checks would take on N processors, each one in as many seconds as it took of a processor

@@ -1,8 +1,11 @@
 #!/usr/bin/env python3
-"""Draws the pictures of docs/: `python3 tools/pictures.py`, at the top of the repository.
+"""Draws the pictures of docs/ that show no figures.
 
-Each picture has a light ground of its own, so that it reads the same on a light and on a dark page.
-The picture of the crates is made from crates.txt; the others are drawn from the numbers below.
+    tools/pictures.py
+
+Run it when crates.txt has changed, or what a picture shows of the algorithm: the picture of the crates is made from
+crates.txt, the others are drawn from the numbers below. tools/plots.py draws those of figures, and gate_times.py that of
+the gate. Each picture has a light ground of its own, so that it reads the same on a light and on a dark page.
 """
 
 from pathlib import Path
@@ -132,7 +135,7 @@ def draw_crates():
             picture.path(f"M{x + wide / 2:.0f} {y + high:.0f} L{a + wide / 2:.0f} {b:.0f}", arrow=False, colour=FAINT)
     for name, (x, y) in places.items():
         picture.labelled(x, y, wide, high, name, STRONG if name in ("sound_state", "trace_commands") else BOX)
-    picture.save("crates.svg")
+    return {"crates.svg": picture}
 
 
 def draw_superblock(picture, x, y, words, live, chain, reserved, caption):
@@ -175,7 +178,7 @@ def draw_pop():
         picture.box(x, y, 22, 18, fill)
         picture.text(x + 30, y + 14, words, 13, "start")
     picture.text(540, y + 14, "each block once", 13, "start", FAINT)
-    picture.save("pop.svg")
+    return {"pop.svg": picture}
 
 
 def draw_states():
@@ -220,7 +223,7 @@ def draw_states():
         450, 412, "ACTIVE stands in an active word or a hand, PARTIAL and EMPTY in a slot, a list or a hand, FULL nowhere.",
         13, colour=FAINT,
     )
-    picture.save("states.svg")
+    return {"states.svg": picture}
 
 
 def draw_descriptor():
@@ -258,7 +261,7 @@ def draw_descriptor():
     picture.path("M390 106 L390 217", dashed=True)
     step(398, 160, "not needed:", "start")
     step(398, 176, "Discard, Refuse", "start")
-    picture.save("descriptor.svg")
+    return {"descriptor.svg": picture}
 
 
 def draw_words(name, title, moments, rows):
@@ -275,11 +278,11 @@ def draw_words(name, title, moments, rows):
         for column, value in enumerate(values):
             changed = column > 0 and value != values[column - 1]
             picture.labelled(20 + first + column * wide, y, wide - 8, high - 8, value, HELD if changed else "#ffffff", size=11)
-    picture.save(name)
+    return {name: picture}
 
 
 def draw_tour():
-    draw_words(
+    tag = draw_words(
         "tour_tag.svg", "The tag tells a reused block apart",
         ["lane 0 has read", "lane 1 has popped 64", "lane 1 has freed them", "lane 0 has popped"],
         [
@@ -290,7 +293,7 @@ def draw_tour():
             ("lane 0 recalls", "avail 1, tag 0, link 2", "avail 1, tag 0, link 2", "avail 1, tag 0, link 2", "nothing"),
         ],
     )
-    draw_words(
+    credit = draw_words(
         "tour_credit.svg", "Two want the last credit",
         ["both have read", "lane 1 has taken it", "lane 0 has a new one", "both are given"],
         [
@@ -301,7 +304,7 @@ def draw_tour():
             ("lane 1 has reserved", "nothing", "a block of 0", "a block of 0", "nothing"),
         ],
     )
-    draw_words(
+    free = draw_words(
         "tour_free.svg", "A slow free",
         ["lane 0 made EMPTY", "lane 1 was refused", "refused twice", "lane 0 has ended"],
         [
@@ -313,7 +316,7 @@ def draw_tour():
             ("DescHead", "1", "2", "1", "2"),
         ],
     )
-    draw_words(
+    install = draw_words(
         "tour_install.svg", "Two installs",
         ["lane 0 is ready", "lane 1 has installed", "lane 0 gave back", "lane 0 is given"],
         [
@@ -323,11 +326,21 @@ def draw_tour():
             ("FrameHead", "frame 1", "empty", "frame 0", "frame 0"),
         ],
     )
+    return {**tag, **credit, **free, **install}
+
+
+def drawings():
+    """Each picture by the name of its file."""
+    return {**draw_tour(), **draw_crates(), **draw_pop(), **draw_states(), **draw_descriptor()}
+
+
+def complaints():
+    """The files that are other than what would be drawn now."""
+    for name, picture in drawings().items():
+        if not (PICTURES / name).is_file() or (PICTURES / name).read_text() != picture.drawn():
+            yield f"docs/pictures/{name} is other than tools/pictures.py draws it"
 
 
 if __name__ == "__main__":
-    draw_tour()
-    draw_crates()
-    draw_pop()
-    draw_states()
-    draw_descriptor()
+    for name, picture in drawings().items():
+        picture.save(name)

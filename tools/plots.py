@@ -4,10 +4,10 @@
     tools/plots.py            draws each picture of PLOTS anew
     tools/plots.py --check    draws none, and ends with 1 where a picture or a figure is another than its table's
 
-A picture is drawn from the table that it stands below on the page, and from nothing else: of several tables it is the
-last one above the picture. Bars are one for each cell of some columns, by rows; lines go over the numbers of one
-column, with a panel for each kind of row. Both stand over a scale of powers of two, so that a ratio has the same
-length everywhere. Nothing is measured here.
+Run it when a table of docs/PERFORMANCE.md has changed; tools/check.py checks it too. A picture is drawn from the table that
+it stands below on the page, and from nothing else: of several tables it is the last one above the picture. Bars are one for
+each cell of some columns, by rows; lines go over the numbers of one column, with a panel for each kind of row. Both stand
+over a scale of powers of two, so that a ratio has the same length everywhere. Nothing is measured here.
 
 The check also holds each number of the page's first table against the section that its row leads to, and each number
 of a column "to the best" against the others of its row.
@@ -216,7 +216,9 @@ def sections():
 def complaints(tables):
     for name in PLOTS:
         path = PICTURES / name
-        if not path.exists() or path.read_text() != draw(name, tables).drawn():
+        if f"(pictures/{name})" not in PAGE.read_text():
+            yield f"the page doesn't show {name}"
+        elif not path.exists() or path.read_text() != draw(name, tables).drawn():
             yield f"{name} isn't drawn from its table"
     texts = sections()
     for row in tables[0][2]:

@@ -1,4 +1,6 @@
-"""What the benches share: programs that are built, runs that are timed, and the allocators of the machine."""
+"""What the benches share: programs that are built, runs that are timed, and the allocators of the machine. It is no tool of
+its own.
+"""
 import glob
 import os
 import resource

@@ -2,15 +2,15 @@
 """Tries the wrong bodies that no proof refuses, and only a run tells from the right ones: the edits in
 test-must-fail/ of a crate.
 
-usage: python3 tools/try_bodies.py [CRATE ..]
+    tools/try_bodies.py [CRATE ..]
 
-Such a file is an edit as those in must-fail/, with lines `# fails: CRATE TEST`, which name a test, or
-`# fails: PROGRAM`, which name a program with its stored run. Each body of the named crates, or of all, is put in
-place in a copy of the work tree. There its crate has to be proved, by `rt check`: a body that a proof refuses
-belongs into must-fail/. Then each test that it names has to fail, and each program has to write something else, or
-to end with another status, than what is stored. Prints what was seen of each body, and ends with 1 where one was
-refused or not noticed. On a machine where `rt ci` has passed a body takes minutes: what stands on the edited crate
-is checked again.
+Run it when a crate with such edits or one of the tests that they name has changed, and before a release. Such a file is an
+edit as those in must-fail/, with lines `# fails: CRATE TEST`, which name a test, or `# fails: PROGRAM`, which name a
+program with its stored run. Each body of the named crates, or of all, is put in place in a copy of the work tree. There its
+crate has to be proved, by `rt check`: a body that a proof refuses belongs into must-fail/. Then each test that it names has
+to fail, and each program has to write something else, or to end with another status, than what is stored. Prints what was
+seen of each body, and ends with 1 where one was refused or not noticed. On a machine where `rt ci` has passed a body takes
+minutes: what stands on the edited crate is checked again.
 """
 
 import subprocess

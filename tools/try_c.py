@@ -3,11 +3,11 @@
 
     tools/try_c.py [--rounds N] [--sanitize]
 
-Outside of the gate. It needs `rt` and its kit, a C compiler (`cc`, or $CC) with threads, for first.c as C++ a `c++` (or
-$CXX), and for examples/rust a `rustc`, without which these are left out. Where the library isn't built yet, `rt lib` builds it. Each program ends
-with 0 where all went as it should. With --sanitize the C programs are built again under the address and undefined
-behaviour sanitizers, and under the thread sanitizer: these see the program's own code and its calls of malloc, and not
-the library's accesses.
+Run it when balloc_c, its header or an example has changed; the gate builds no C. It needs `rt` and its kit, a C compiler
+(`cc`, or $CC) with threads, for first.c as C++ a `c++` (or $CXX), and for examples/rust a `rustc`, without which these are
+left out. Where the library isn't built yet, `rt lib` builds it. Each program ends with 0 where all went as it should. With
+--sanitize the C programs are built again under the address and undefined behaviour sanitizers, and under the thread
+sanitizer: these see the program's own code and its calls of malloc, and not the library's accesses.
 """
 import argparse
 import os

@@ -1,25 +1,24 @@
 #!/usr/bin/env python3
 """Makes random scripts of calls on heaps of all sorts: whole calls on one heap, steps on another beside it.
 
-usage: python3 tools/try_calls.py PROGRAM MODEL SEED SCRIPTS CALLS
+    tools/try_calls.py PROGRAM MODEL SEED SCRIPTS CALLS
 
-PROGRAM is the built one, as crates/benches/out/benches. It draws each script from its number, and counts the
-answers, places and counts of callers that differ behind a call, and the words that differ at the end.
-MODEL is the folder of the independent program of the same specification, or `-`. It makes the same script by
-itself, step by step, and has to come to the same sums: calls and their answers, steps, exchanges, cleared
-superblocks, and all words. The last line sums up; ends with 1 where anything differs, and says where.
+Run it when a call of the heap has changed, above all where it makes its steps in a row. PROGRAM is the built one, as
+crates/benches/out/benches. It draws each script from its number, and counts the answers, places and counts of callers that
+differ behind a call, and the words that differ at the end. MODEL is the folder of the independent program of the same
+specification, or `-`. It makes the same script by itself, step by step, and has to come to the same sums: calls and their
+answers, steps, exchanges, cleared superblocks, and all words. The last line sums up; ends with 1 where anything differs,
+and says where.
 """
 
 import random
-import subprocess
 import sys
-from concurrent.futures import ThreadPoolExecutor
+from collections import Counter
 
-from limits import CALL_STEPS, CLASSES, LARGE_MOST, MAX_TURNS, SMALL_MOST
+from random_runs import CALL_STEPS, CLASSES, LARGE_MOST, MAX_TURNS, SMALL_MOST, of_model, scripts
 
 WORD = 1 << 64
 LEAST_WIDE = 300
-SCRIPTS_AT_ONCE = 20
 ENOUGH = 1 << 32
 
 
@@ -174,39 +173,24 @@ def turns_of(seed):
     return 40 if seed % 5 == 0 else MAX_TURNS
 
 
-def by_program(program, scripts):
-    """What these scripts, each a number, a count of calls and a heap, come to in the program."""
-    words = [str(word) for seed, calls, heap in scripts for word in ("heap", "script", seed, calls, *heap)]
-    ran = subprocess.run([program, *words], stdout=subprocess.PIPE, text=True)
-    lines = [line.split() for line in ran.stdout.splitlines()]
-    return [dict(zip(line[::2], map(int, line[1::2]))) for line in lines], ran.returncode
-
-
 def main():
-    program, model, seed, scripts, calls = sys.argv[1:]
+    program, model, seed, count, calls = sys.argv[1:]
     rng = random.Random(int(seed))
-    plans = [(int(seed) + number, int(calls), heap_of(rng)) for number in range(int(scripts))]
-    rows = [plans[at : at + SCRIPTS_AT_ONCE] for at in range(0, len(plans), SCRIPTS_AT_ONCE)]
-    core = None
-    if model != "-":
-        sys.path.insert(0, model)
-        import core
-    all_sums, wrong = {}, 0
-    with ThreadPoolExecutor(2) as pool:
-        for row, (sums, status) in zip(rows, pool.map(lambda row: by_program(program, row), rows)):
-            if status != 0 or len(sums) != len(row):
-                wrong += 1
-                print("status", status, "behind", *row[max(len(sums), 1) - 1])
-            for (number, count, heap), told in zip(row, sums):
-                differed = told.pop("differed")
-                expected = told if core is None else by_model(core, number, count, (*heap, turns_of(number)))
-                if differed or told != expected:
-                    wrong += 1
-                    print("script", number, "calls", count, "heap", *heap, "differed", differed, told, "and not", expected)
-                for name, amount in told.items():
-                    all_sums[name] = all_sums.get(name, 0) + amount
-    all_sums.pop("words", None)
-    print("scripts", scripts, *(f"{name} {amount}" for name, amount in all_sums.items()), "wrong", wrong)
+    plans = [("heap", "script", int(seed) + number, int(calls), *heap_of(rng)) for number in range(int(count))]
+    core = None if model == "-" else of_model(model, "core")
+    sums, wrong = Counter(), 0
+    for (_, _, number, made, *heap), told in scripts(program, plans):
+        if told is None:
+            wrong += 1
+            continue
+        differed = told.pop("differed")
+        expected = told if core is None else by_model(core, number, made, (*heap, turns_of(number)))
+        if differed or told != expected:
+            wrong += 1
+            print("script", number, "calls", made, "heap", *heap, "differed", differed, told, "and not", expected)
+        sums.update(told)
+    sums.pop("words", None)
+    print("scripts", count, *(f"{name} {amount}" for name, amount in sums.items()), "wrong", wrong)
     return 1 if wrong else 0
 
 

@@ -1,14 +1,15 @@
 #!/usr/bin/env python3
 """Tries the wrong bodies that the gate leaves out: the edits in also-must-fail/ of a crate.
 
-usage: python3 tools/try_edits.py [CRATE ..]
+    tools/try_edits.py [CRATE ..]
 
-The gate tries the few edits of a crate that tell most, those in must-fail/. This tries the others, of the named
-crates or of all, in a copy of the work tree where they stand in place of those: `rt ci` with these crates' names, which
-takes what an earlier run of it proved on this machine, proves each crate once more and tries each edit over
-that. Where the kit's `rt ci` takes no names, `rt must-fail` does it, which first proves what lies below on one
-processor. Prints what rt says of each edit, and at the end how many were refused and how long it took; ends with
-1 where one is not.
+Run it with the name of a crate whose contracts, definitions or answers have changed, and of those above whose contracts
+cite them, and with none before a release. The gate tries the few edits of a crate that tell most, those in must-fail/. This
+tries the others, of the named crates or of all, in a copy of the work tree where they stand in place of those: `rt ci` with
+these crates' names, which takes what an earlier run of it proved on this machine, proves each crate once more and tries
+each edit over that. Where the kit's `rt ci` takes no names, `rt must-fail` does it, which first proves what lies below on
+one processor. Prints what rt says of each edit, and at the end how many were refused and how long it took; ends with 1
+where one is not.
 """
 
 import resource

@@ -1,8 +1,11 @@
 #!/usr/bin/env python3
 """Makes each allocation, each read and each write of a run fail in turn, and checks how the run ends.
 
-usage: python3 tools/try_failures.py PROGRAM, at the top of the repository; PROGRAM is the built one, as
-crates/balloc/out/balloc. Needs gcc. Ends with 1 where a run says something untrue.
+    tools/try_failures.py PROGRAM
+
+Run it when a command, an edge or what takes memory has changed, and before a release: it alone sees the statuses 4, 5 and 6
+of the built program. PROGRAM is the built one, as crates/balloc/out/balloc. Needs gcc. Ends with 1 where a run says
+something untrue.
 
 A run of `replay`, one of `census` and one of `cache` on the plain trace, a run of `schedule` on each of four races,
 one of `replay` on the race of two lanes for a superblock, and a pipeline and a store, which have no input, are made

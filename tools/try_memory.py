@@ -4,10 +4,11 @@ blocks freed, and after it closes; and again after it was opened and closed many
 
     tools/try_memory.py [--frames N] [--rounds N]
 
-Outside of the gate. It needs `rt` and its kit, and a C compiler. It builds a small C program over the static library of
-crate balloc_c, which `rt lib` builds where it isn't built yet. Held is what of the process lies in memory, mapped its whole
-address space, in KiB. It ends with 1 where opening holds more than 16 MiB, where a frame in use holds more than its own
-bytes and an eighth, or where closing leaves more than 1 MiB, of held or of mapped memory.
+Run it when the heap is opened, laid or closed in another way. It needs `rt` and its kit, and a C compiler. It builds a
+small C program over the static library of crate balloc_c, which `rt lib` builds where it isn't built yet. Held is what of
+the process lies in memory, mapped its whole address space, in KiB. It ends with 1 where opening holds more than 16 MiB,
+where a frame in use holds more than its own bytes and an eighth, or where closing leaves more than 1 MiB, of held or of
+mapped memory.
 """
 import argparse
 import os

@@ -21,6 +21,13 @@
 #include <stddef.h>
 #include <stdint.h>
 
+/* The version of this page and of the library behind it; CHANGELOG.md says what changed. MAJOR rises where a program has to
+ * be changed (while it is 0, MINOR does), MINOR where a name or a code is added, and PATCH where all names, numbers and
+ * layouts stay. A program is built with the page of the very library that it is linked with. */
+#define BALLOC_VERSION_MAJOR 0
+#define BALLOC_VERSION_MINOR 1
+#define BALLOC_VERSION_PATCH 0
+
 #ifdef __cplusplus
 extern "C" {
 #define BALLOC_ALIGNED alignas(64)

@@ -1,21 +1,17 @@
-#!/usr/bin/env python3
-"""Lists the definitions by cases over points and exits, and compares them with docs/PROOFS.md.
-
-usage: python3 tools/point_tables.py
+"""The definitions by cases over points and exits, beside 'The tables over the points' in docs/PROOFS.md.
 
 A definition of crates/*/specs with a variant of a point or an exit on its left side is a table. It has a default line
-where a line of it names none. Prints each table with the types that it goes over, `default` where it has such a line,
-and whether docs/PROOFS.md, 'The tables over the points', leaves it out or has it in the wrong column. It ends with 1
-where that is so. The tables of a part's own specs are there by the names of the one of superblocks, those with a default
-by their own. It reads lines, and proves nothing.
+where a line of it names none. The document has each of them, in the column that is its own; the tables of a part's own
+specs are there by the names of the one of superblocks, those with a default by their own. The listing has each table with
+the types that it goes over, and `default` where it has such a line. It reads lines, and proves nothing.
 """
 
 import re
-import sys
-from pathlib import Path
 
-ROOT = Path(__file__).resolve().parent.parent
+from checks import ROOT
+
 PARTS = ("step_parts",)
+HEADING = "### The tables over the points"
 USED = re.compile(r"use Rattle\.[\w.]*\.(?:point|exit)\.(\w*(?:Point|Exit))\.TheVariants(?: as (\w+)|\.\{([^}]*)\})")
 LINE = re.compile(r"^([A-Za-z_][\w-]*)((?: +(?:\([^=]*?\)|[\w.\[\]]+))*) *=(?: |$)")
 
@@ -48,8 +44,10 @@ def tables():
 
 
 def complaints():
-    """What docs/PROOFS.md leaves out, or has in the wrong column."""
-    section = (ROOT / "docs" / "PROOFS.md").read_text().split("### The tables over the points")[1]
+    before, heading, section = (ROOT / "docs" / "PROOFS.md").read_text().partition(HEADING)
+    if not heading:
+        yield f"docs/PROOFS.md has no heading {HEADING}"
+        return
     told = set(re.findall(r"`(\w+)`", section))
     columns = {}
     for line in section.splitlines():
@@ -66,9 +64,10 @@ def complaints():
             yield f"docs/PROOFS.md has not `{name}` of {crate}"
 
 
-if __name__ == "__main__":
+def listing():
     for crate, name, over, default in tables():
-        print(crate, name, ", ".join(sorted(over)), "default" if default else "")
-    found = list(complaints())
-    print(*found, sep="\n")
-    sys.exit(1 if found else 0)
+        yield " ".join(filter(None, [crate, name, ", ".join(sorted(over)), "default" if default else ""]))
+
+
+def summary():
+    return f"{len(list(tables()))} tables over the points"

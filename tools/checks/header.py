@@ -1,24 +1,23 @@
-#!/usr/bin/env python3
-"""Compares crates/balloc_c/include/balloc.h with the exports of the crate: each function with its parameters and their
-order, each code with its number, the limits of a heap, and the layout of a pass. Each comment of a function names only codes that there are.
-
-Usage, at the top of the repository: python3 tools/check_header.py
-Needs nothing but Python. Ends with status 1 where something differs.
+"""crates/balloc_c/include/balloc.h beside the exports of the crate: each function with its parameters and their order, each
+code with its number, the limits of a heap, and the layout of a pass and of a census. Each comment of a function names only
+codes that there are. The header's version is that of the first heading of CHANGELOG.md.
 """
+
 import re
-import sys
+
+from checks import ROOT
 
 CRATE = "crates/balloc_c"
 LIMITS = {"BALLOC_MOST_FRAMES": "MAX_FRAMES", "BALLOC_MOST_HEAPS": "MAX_HEAPS", "BALLOC_MOST_UNITS": "MAX_UNITS",
           "BALLOC_MOST_PASSES": "MAX_CALLERS", "BALLOC_MOST_TURNS": "MAX_TURNS", "BALLOC_MOST_WORDS": "LARGE_MOST",
           "BALLOC_MOST_DEPTH": "DEEPEST", "BALLOC_SHELVES": "SHELVES", "BALLOC_CLASSES": "CLASSES"}
+VERSION = ["BALLOC_VERSION_MAJOR", "BALLOC_VERSION_MINOR", "BALLOC_VERSION_PATCH"]
 STRUCTS = {"PassHandle": "balloc_pass", "Counted": "balloc_census"}
 TYPES = {"bool": "bool", "u8": "uint8_t", "u32": "uint32_t", "u64": "uint64_t", "i32": "int32_t"}
 
 
 def text_of(path):
-    with open(path, encoding="utf-8") as source:
-        return source.read()
+    return (ROOT / path).read_text(encoding="utf-8")
 
 
 def c_parameters(name, kind):
@@ -89,54 +88,70 @@ def camel_as_constant(name):
     return "BALLOC_" + re.sub(r"(?<!^)(?=[A-Z])", "_", name).upper()
 
 
-def main():
-    library = text_of(f"{CRATE}/src/lib.rt")
-    header = text_of(f"{CRATE}/include/balloc.h")
-    problems = []
+def defined(header):
+    """Each macro that is a number."""
+    return {name: int(number) for name, number in re.findall(r"^#define (BALLOC_\w+) (\d+)$", header, flags=re.M)}
 
+
+def functions(library, header):
     exports, declarations = exported(library), declared(header)
     for name in sorted(exports.keys() | declarations.keys()):
         if exports.get(name) != declarations.get(name):
-            problems.append(f"{name}: exported as {exports.get(name)}, declared as {declarations.get(name)}")
+            yield f"{name}: exported as {exports.get(name)}, declared as {declarations.get(name)}"
 
-    codes = {camel_as_constant(name): int(number)
-             for name, number in re.findall(r"Refusal::(\w+) => (-?\d+),", text_of(f"{CRATE}/src/refusal.rt"))}
+
+def codes(library, header):
+    ours = {camel_as_constant(name): int(number)
+            for name, number in re.findall(r"Refusal::(\w+) => (-?\d+),", text_of(f"{CRATE}/src/refusal.rt"))}
     for name, number in re.findall(r"^const (\w+): i32 = (-?\d+);", library, flags=re.M):
-        codes["BALLOC_" + name] = int(number)
-    constants = {name: int(number) for name, number in re.findall(r"(BALLOC_\w+) = (-?\d+)", header)}
-    for name in sorted(codes.keys() | constants.keys()):
-        if codes.get(name) != constants.get(name):
-            problems.append(f"{name}: {codes.get(name)} in the crate, {constants.get(name)} in the header")
-
-    limits = dict(re.findall(r"^(?:pub )?const (\w+): \w+ = (\w+);",
-                             text_of("crates/heap_geometry/src/limits.rt") + text_of(f"{CRATE}/src/opening.rt"), flags=re.M))
-    defined = dict(re.findall(r"^#define (BALLOC_\w+) (\d+)$", header, flags=re.M))
-    for name in sorted(LIMITS.keys() | defined.keys()):
-        limit = limits.get(LIMITS.get(name))
-        if limit is None or int(limit.replace("_", ""), 0) != int(defined.get(name, -1)):
-            problems.append(f"{name}: {limit} in the crate, {defined.get(name)} in the header")
-
+        ours["BALLOC_" + name] = int(number)
+    theirs = {name: int(number) for name, number in re.findall(r"(BALLOC_\w+) = (-?\d+)", header)}
+    for name in sorted(ours.keys() | theirs.keys()):
+        if ours.get(name) != theirs.get(name):
+            yield f"{name}: {ours.get(name)} in the crate, {theirs.get(name)} in the header"
     for comment, name in re.findall(r"/\*((?:(?!\*/).)*?)\*/\s*int32_t (balloc_\w+)\(", header, flags=re.S):
-        named = set(re.findall(r"BALLOC_\w+", comment)) - defined.keys()
-        for constant in sorted(named - constants.keys()):
-            problems.append(f"{name}: its comment names {constant}, which there is not")
+        named = set(re.findall(r"BALLOC_\w+", comment)) - defined(header).keys()
+        for constant in sorted(named - theirs.keys()):
+            yield f"{name}: its comment names {constant}, which there is not"
         if "BALLOC_DONE" not in named:
-            problems.append(f"{name}: its comment doesn't name its codes")
+            yield f"{name}: its comment doesn't name its codes"
 
+
+def limits(header):
+    source = text_of("crates/heap_geometry/src/limits.rt") + text_of(f"{CRATE}/src/opening.rt")
+    ours = {name: int(number.replace("_", ""), 0)
+            for name, number in re.findall(r"^(?:pub )?const (\w+): \w+ = (\w+);", source, flags=re.M)}
+    theirs = {name: number for name, number in defined(header).items() if name not in VERSION}
+    for name in sorted(LIMITS.keys() | theirs.keys()):
+        if name not in LIMITS or name not in theirs or ours.get(LIMITS[name]) != theirs[name]:
+            yield f"{name}: {ours.get(LIMITS.get(name))} in the crate, {theirs.get(name)} in the header"
+
+
+def layouts(header):
     handle = re.search(r"pub struct PassHandle \{(.*?)\n\}", text_of(f"{CRATE}/src/handle.rt"), flags=re.S).group(1)
     fields = re.findall(r"^    (?:pub )?(\w+): ([^{}\n]+),$", handle, flags=re.M)
     if fields != [("live", "bool"), ("held", "Held"), ("rest", "[u64; 6]")]:
-        problems.append(f"a pass has other fields than the header's: {fields}")
-
+        yield f"a pass has other fields than the header's: {fields}"
     for name, wanted in {"balloc_class_count": class_fields(), "balloc_census": census_fields()}.items():
         if struct_fields(header, name) != wanted:
-            problems.append(f"{name}: {struct_fields(header, name)} in the header, {wanted} in the crates")
-
-    for problem in problems:
-        print(problem)
-    print(f"{len(exports)} exports, {len(codes)} codes and {len(defined)} limits compared, {len(problems)} differences")
-    return 1 if problems else 0
+            yield f"{name}: {struct_fields(header, name)} in the header, {wanted} in the crates"
 
 
-if __name__ == "__main__":
-    sys.exit(main())
+def version(header):
+    said = ".".join(str(defined(header).get(name)) for name in VERSION)
+    told = re.search(r"^## (\S+)", text_of("CHANGELOG.md"), flags=re.M)
+    if told is None or told.group(1).rstrip(",:") != said:
+        yield f"the header has version {said}, and CHANGELOG.md begins with {told and told.group(1)}"
+
+
+def complaints():
+    library, header = text_of(f"{CRATE}/src/lib.rt"), text_of(f"{CRATE}/include/balloc.h")
+    for found in (functions(library, header), codes(library, header), limits(header), layouts(header), version(header)):
+        for what in found:
+            yield f"balloc.h: {what}"
+
+
+def summary():
+    header = text_of(f"{CRATE}/include/balloc.h")
+    numbers = re.findall(r"BALLOC_\w+ = -?\d", header)
+    return f"{len(declared(header))} functions, {len(numbers)} codes and {len(LIMITS)} limits of balloc.h"
