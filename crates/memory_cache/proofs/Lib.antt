@@ -1,0 +1,5 @@
+pub mod KeptLemmas
+pub mod ListLemmas
+pub mod MagazineLemmas
+pub mod RoomLemmas
+pub mod SettledLemmas
