@@ -1,5 +1,5 @@
 -- What calls make of a desk.
-use Rattle.std.proofs.Common.{◌≡◌, ◌≢◌, ℕ, ◌<◌, List, [], slice_index_or, Option, Some, None, IfSome, refl, sym, ap, ◌∙◌, subst, inl, inr}
+use Rattle.std.proofs.Common.{◌≡◌, ◌≢◌, ℕ, ◌<◌, List, [], slice_index_or, Option, Some, None, IfSome, sym, ap, ◌∙◌, subst, inl, inr}
 use Rattle.std.proofs.lemmas.Bool.{cases_eq}
 use Rattle.std.proofs.lemmas.List.Elements.{All-nil}
 use Rattle.heap_geometry.specs.declared.need.Need.{Need}
@@ -17,7 +17,7 @@ use Rattle.memory_cache.specs.Settled.{IsSettled}
 use Rattle.memory_cache.specs.declared.cache.MemoryCache.{MemoryCache}
 use Rattle.heap_allocator.specs.declared.desk.Desk.{Desk}
 use Rattle.heap_allocator.specs.declared.desk.Entry.{Entry}
-use Rattle.heap_allocator.specs.Desks.{AreAtPlaces, HoldsEntries, IsDesk, IsEntryOf}
+use Rattle.heap_allocator.specs.Desks.{HoldsEntries, IsDesk, IsEntryOf}
 
 mapped : {C : Type 0} (P Q : C → Type 0) → ((c : C) → P c → Q c) → (o : Option C) → IfSome o P → IfSome o Q
 mapped P Q f None is = tt

@@ -1,13 +1,13 @@
 //! What stands behind an allocator: its cache, and which blocks are out with collections.
 
-ghost use Rattle.std.specs.Prelude.{ℕ, true, false, ◌≡◌, ◌≢◌, ◌<◌, ◌≤◌, [], Some, IfSome};
+ghost use Rattle.std.specs.Prelude.{ℕ, true, false, ◌≡◌, ◌≢◌, ◌<◌, ◌≤◌, ◌⊎◌, [], Some, None, IfSome, IsSomeAnd};
 ghost use Rattle.slab.specs.Slab.{get};
 ghost use Rattle.heap_geometry.specs.Need.{need_of, usable_words};
-ghost use Rattle.errand_steps.specs.Begins.{IsIdle};
+ghost use Rattle.errand_steps.specs.Begins.{IsBusy, IsIdle};
 ghost use Rattle.live_heap.specs.Holdings.{HoldsExactly};
 ghost use Rattle.live_heap.specs.Passes.{IsOf};
 ghost use Rattle.live_heap.specs.declared.plain.Memory.{Memory};
-ghost use Rattle.memory_cache.specs.Caches.{IsCache, IsHeld};
+ghost use Rattle.memory_cache.specs.Caches.{IsCache, IsHeld, StaysOpen};
 ghost use Rattle.memory_cache.specs.Rooms.{IsRoomOf};
 ghost use Rattle.heap_allocator.specs.declared.desk.Entry.{Entry};
 ghost use Rattle.heap_allocator.specs.Desks.{HoldsEntries, IsDesk, IsEntryOf};
@@ -43,6 +43,7 @@ impl Desk {
         ensures desk { IsDesk heap.now self.new }
         ensures given { IfSome result (λ given. IsRoomOf heap.now given.1 × (words ≤ usable_words given.1.block.need)
             × (given.1.block.need ≡ need_of words)) }
+        ensures entered { IfSome result (λ given. (e : Entry) × (get self.new.out given.0 ≡ Some e) × IsEntryOf given.1 e) }
     {
         if self.out.reserve(1).is_err() {
             return None;
@@ -67,6 +68,8 @@ impl Desk {
         requires desk { IsDesk heap.now self.old }
         requires room { IsRoomOf heap.now memory }
         ensures desk { IsDesk heap.now self.new }
+        ensures back { (e : Entry) → get self.old.out key ≡ Some e → IsEntryOf memory e
+            → (self.old.cache ≡ None) ⊎ (get self.new.out key ≡ None) ⊎ IsSomeAnd self.new.cache (λ cache. IsBusy cache.pass.errand) }
     {
         let key = key as usize;
         if !self.is_out(key, &memory) {
@@ -86,6 +89,7 @@ impl Desk {
         requires desk { IsDesk heap.now self.old }
         ensures desk { IsDesk heap.now self.new }
         ensures closed { IfSome result (λ pass. IsOf heap.now pass × IsIdle pass.errand × HoldsExactly pass [] × (pass.out ≡ 0)) }
+        ensures open { result ≡ None → (self.old.cache ≡ None) ⊎ IsSomeAnd self.new.cache StaysOpen }
     {
         match self.cache.take()?.close(heap, self.tries) {
             Ok(pass) => Some(pass),
@@ -98,7 +102,8 @@ impl Desk {
 
     /// Whether the memory is out under this key.
     fn is_out(&self, key: usize, memory: &Memory) -> bool
-        ensures { result ≡ true → (e : Entry) × (get self.now.out key ≡ Some e) × IsEntryOf memory.now e }
+        ensures out { result ≡ true → (e : Entry) × (get self.now.out key ≡ Some e) × IsEntryOf memory.now e }
+        ensures not_out { result ≡ false → (e : Entry) → get self.now.out key ≡ Some e → ¬ IsEntryOf memory.now e }
     {
         match self.out.get(key) {
             Some(entry) => entry.place == memory.place() && entry.need == memory.need(),
@@ -115,7 +120,7 @@ fn give_back(cache: &mut MemoryCache, heap: &Heap, memory: Memory, tries: u32) -
     requires tries { 0 < tries }
     ensures cache { IsCache heap.now cache.new }
     ensures keeps { (other : Memory) → IsHeld cache.old other → other.block.place ≢ memory.block.place → IsHeld cache.new other }
-    ensures back { result ≡ false → IsHeld cache.new memory }
+    ensures back { result ≡ false → IsHeld cache.new memory × IsBusy cache.new.pass.errand }
 {
     let mut left = memory;
     for _attempt in 0..u32::MAX {

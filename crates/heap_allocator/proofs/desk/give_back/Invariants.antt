@@ -1,5 +1,6 @@
--- The memory is still the caller's, and so is all that was.
-use Rattle.std.proofs.Common.{◌≡◌, ◌≢◌}
+-- The memory is still the caller's, and so is all that was; behind an attempt a call is under way.
+use Rattle.std.proofs.Common.{◌≡◌, ◌≢◌, ◌<◌}
+use Rattle.errand_steps.specs.Begins.{IsBusy}
 use Rattle.live_heap.specs.declared.plain.Memory.{Memory}
 use Rattle.memory_cache.specs.Caches.{IsCache, IsHeld}
 use Rattle.heap_allocator.proofs.desk.give_back.Given as goal
@@ -10,4 +11,5 @@ invariant-loop-attempt l = record {
   same : l.left ≡ l.fn.memory;
   held : IsHeld l.cache l.fn.memory;
   keeps : (other : Memory) → IsHeld l.fn.cache other → other.block.place ≢ l.fn.memory.block.place → IsHeld l.cache other;
+  busy : 0 < l._attempt → IsBusy l.cache.pass.errand;
 }

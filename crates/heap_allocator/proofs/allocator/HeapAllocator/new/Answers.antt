@@ -1,5 +1,5 @@
 -- The desk has a cache of a settled pass, and no entry.
-use Rattle.std.proofs.Common.{◌≡◌, ap, ◌∙◌, arith}
+use Rattle.std.proofs.Common.{ap, ◌∙◌, arith}
 use Rattle.heap_allocator.specs.declared.desk.Desk.{Desk}
 use Rattle.heap_allocator.proofs.DeskLemmas.{begins, settles}
 use Rattle.heap_allocator.proofs.allocator.HeapAllocator.new.Goals as goal
