@@ -1,5 +1,5 @@
 -- The heap was closed with its one pass, which held nothing.
-use Rattle.std.proofs.Common.{◌≡◌, ℕ, length, ap, ◌∙◌, arith}
+use Rattle.std.proofs.Common.{◌≡◌, length, ap, ◌∙◌, arith}
 use Rattle.heap_geometry.specs.declared.geometry.Geometry.{Geometry}
 use Rattle.heap_collections.proofs.Ends.{one-pass}
 use Rattle.heap_collections.proofs.alone.end.Goals as goal

@@ -1,5 +1,5 @@
 -- Each thing is one more of the three, and the map has it for the first time.
-use Rattle.std.proofs.Common.{◌≡◌, ◌≤◌, ℕ, None, false, is_some, ap, ◌∙◌, vec_len, btree_map_len, arith}
+use Rattle.std.proofs.Common.{◌≡◌, None, false, is_some, ap, ◌∙◌, arith}
 use Rattle.std.proofs.lemmas.Grind.{common_steps}
 use Rattle.std.specs.Ordering.{nat_cmp}
 use Rattle.std.specs.BTreeMap.{get}

@@ -1,5 +1,5 @@
 -- The heap was closed with its two passes, which held nothing.
-use Rattle.std.proofs.Common.{◌≡◌, ℕ, ◌*◌, length, sym, ap, ◌∙◌, arith}
+use Rattle.std.proofs.Common.{◌≡◌, ◌*◌, length, sym, ap, ◌∙◌, arith}
 use Rattle.heap_geometry.specs.declared.geometry.Geometry.{Geometry}
 use Rattle.heap_collections.proofs.Ends.{all-idle, comes-back, two-passes}
 use Rattle.heap_collections.proofs.shared.share.Goals as goal
