@@ -27,9 +27,8 @@ use Rattle.std_alloc.proofs.boxed.Box.TheLaws.{the_row_laws as box_laws}
 use Rattle.std_heap.specs.contracts.Global as global
 use Rattle.std_heap.specs.contracts.GlobalAllocator.TheImpl.{ghosts}
 use Rattle.std_heap.proofs.Global.TheLaws.{the_row_laws as global_laws}
-use Rattle.live_heap.specs.Heaps.{HeapFields}
 use Rattle.heap_allocator.specs.Cells.{kept_at, kept_val, known}
-use Rattle.heap_allocator.specs.Desks.{IsDesk}
+use Rattle.heap_allocator.specs.Desks.{IsDeskOf, Owner}
 use Rattle.heap_allocator.specs.contracts.desk.Desk as desk
 use Rattle.heap_allocator.proofs.desk.Desk.TheLaws.{the_row_laws as desk_laws}
 use Rattle.heap_allocator.specs.contracts.slot.Slot as slot
@@ -48,14 +47,14 @@ Fields = inside.the_row
 abbrev pub slot_type : Ty
 slot_type = lone Fields.mir
 
--- where there is a desk, it is one of this heap
-abbrev pub Keeps : HeapFields → Held.Denot → Type 0
-Keeps h x = IfSome x (λ d. IsDesk h d.value)
+-- where there is a desk, it is one of this owner
+abbrev pub Keeps : Owner → Held.Denot → Type 0
+Keeps h x = IfSome x (λ d. IsDeskOf h d.value)
 
-abbrev keeps_in : HeapFields → Fields.Denot → Type 0
+abbrev keeps_in : Owner → Fields.Denot → Type 0
 keeps_in h i = Keeps h i.desk
 
-abbrev pub contents : HeapFields → List Val → Fml
+abbrev pub contents : Owner → List Val → Fml
 contents h = kept_val Fields (keeps_in h)
 
 pub held_Lawful : {M : Type 1} {𝓤 : Ura M} (𝓛 : Logic 𝓤) → Lawful 𝓛 Held
@@ -68,12 +67,12 @@ quiet None f = tt
 quiet (Some d) f = tt
 
 -- what shuts the cell at b, o again, with the lifetime κ and the token back
-abbrev pub Open : {M : Type 1} {𝓤 : Ura M} (𝓛 : Logic 𝓤) → HeapFields → ℕ → ℕ → Lft → Share → Item 𝓤
+abbrev pub Open : {M : Type 1} {𝓤 : Ura M} (𝓛 : Logic 𝓤) → Owner → ℕ → ℕ → Lft → Share → Item 𝓤
 Open {𝓤 = 𝓤} 𝓛 h b o κ q =
     ‵ (ftok (less every (b, o)))
     ⊛ raw (wand 𝓤 (sep 𝓤 (sem 𝓛 (kept_at Fields (keeps_in h) b o)) (𝓛.A.tok (less every (b, o)))) (𝓛.H.⇛ (sep 𝓤 (𝓛.A.lft κ q) (𝓛.A.tok every))))
 
-module _ {M : Type 1} {𝓤 : Ura M} {𝓛 : Logic 𝓤} {K : Type 0} {Γ : List (Item 𝓤)} {G : Goal 𝓤 𝓛.H} (h : HeapFields) where
+module _ {M : Type 1} {𝓤 : Ura M} {𝓛 : Logic 𝓤} {K : Type 0} {Γ : List (Item 𝓤)} {G : Goal 𝓤 𝓛.H} (h : Owner) where
   open 𝓛 use {H, A}
 
   -- the fields are one machine value; and are made of it
@@ -89,7 +88,7 @@ module _ {M : Type 1} {𝓤 : Ura M} {𝓛 : Logic 𝓤} {K : Type 0} {Γ : List
       use1 𝓛 (‵ (Fields.own_val i (round v ∷ []))) (wraps held 𝓛 [] [] x v) $ nothing t $ fpack t (Keeps h x) (λ _. ftrue) is $
       move t (1 ∷ 0 ∷ []) $ fjoin t $ fpack t Fields.Denot (λ j. fsep (Fields.own_val j (round v ∷ [])) (known (keeps_in h j))) i $ s)
 
-module _ {M : Type 1} {𝓤 : Ura M} {𝓛 : Logic 𝓤} {K : Type 0} {Γ : List (Item 𝓤)} {G : Goal 𝓤 𝓛.H} (h : HeapFields) (b o : ℕ) where
+module _ {M : Type 1} {𝓤 : Ura M} {𝓛 : Logic 𝓤} {K : Type 0} {Γ : List (Item 𝓤)} {G : Goal 𝓤 𝓛.H} (h : Owner) (b o : ℕ) where
   open 𝓛 use {H, A}
 
   pub opens_slot : K → Soaks G → {κ : Lft} {q : Share}

@@ -27,3 +27,15 @@ pub record IsDesk (h : HeapFields) (d : Desk) : Type 0 where
   pub tries : 0 < d.tries
   pub held : IfSome d.cache (HoldsEntries d.out)
   pub once : AreAtPlaces d.out
+
+-- its cache, where it has one, is of a pass of the caller with this number
+abbrev pub IsCallers : ℕ → Desk → Type 0
+IsCallers caller d = IfSome d.cache (λ c. c.pass.errand.caller ≡ caller)
+
+-- whose pass stands behind an allocator: a heap, and the number of a caller of it
+pub record Owner : Type 0 where
+  pub heap : HeapFields
+  pub caller : ℕ
+
+abbrev pub IsDeskOf : Owner → Desk → Type 0
+IsDeskOf o d = IsDesk o.heap d × IsCallers o.caller d

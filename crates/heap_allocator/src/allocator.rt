@@ -9,7 +9,7 @@ ghost use Rattle.live_heap.specs.Holdings.{HoldsExactly};
 ghost use Rattle.live_heap.specs.Passes.{IsOf};
 ghost use Rattle.memory_cache.specs.Rooms.{IsRoomOf};
 ghost use Rattle.heap_allocator.specs.declared.allocator.TheConstants.{HALF, MOST_BYTES};
-ghost use Rattle.heap_allocator.specs.Desks.{IsDesk};
+ghost use Rattle.heap_allocator.specs.Desks.{IsDeskOf};
 ghost use Rattle.heap_allocator.specs.Pieces.{IsBlockFor, piece_token, words_for, words_of};
 ghost use Rattle.heap_allocator.specs.Served.{IsServed};
 
@@ -33,8 +33,9 @@ const HALF: u64 = 1 << 32;
 /// An allocator over a pass of a heap, for collections of the thread that has it.
 pub struct HeapAllocator<'h> {
     heap: &'h Heap,
+    caller: u32,
     slot: Slot,
-    ghost same: { slot ≡ heap.now },
+    ghost same: { slot ≡ record { heap = heap.now; caller = caller } },
 }
 
 /// There was no memory; the pass comes back.
@@ -59,8 +60,10 @@ impl<'h> HeapAllocator<'h> {
         requires few { depth ≤ 64 }
         requires tries { 0 < tries }
         ensures heap { IfOk result (λ allocator. allocator.heap.now ≡ heap.now) }
+        ensures caller { IfOk result (λ allocator. allocator.caller ≡ pass.errand.caller) }
         ensures refused { IfErr result (λ refused. refused.pass ≡ pass) }
     {
+        let caller = pass.caller();
         let desk = Desk {
             cache: None,
             out: Slab::new(alloc),
@@ -72,8 +75,8 @@ impl<'h> HeapAllocator<'h> {
         match MemoryCache::open(alloc, pass, depth) {
             Ok(cache) => {
                 desk.cache = Some(cache);
-                let slot = Slot::new(heap, Some(desk));
-                Ok(HeapAllocator { heap, slot })
+                let slot = Slot::new(heap, caller, Some(desk));
+                Ok(HeapAllocator { heap, caller, slot })
             }
             Err(refused) => Err(Refused { pass: refused.pass }),
         }
@@ -84,22 +87,23 @@ impl<'h> HeapAllocator<'h> {
     pub fn close(self) -> Result<Pass, HeapAllocator<'h>>
         ensures of { IfOk result (λ pass. IsOf self.entry.heap.now pass × IsIdle pass.errand) }
         ensures nothing { IfOk result (λ pass. HoldsExactly pass [] × (pass.out ≡ 0)) }
-        ensures heap { IfErr result (λ allocator. allocator.heap.now ≡ self.entry.heap.now) }
+        ensures caller { IfOk result (λ pass. pass.errand.caller ≡ self.entry.caller) }
+        ensures same { IfErr result (λ allocator. (allocator.heap.now ≡ self.entry.heap.now) × (allocator.caller ≡ self.entry.caller)) }
     {
-        let HeapAllocator { heap, slot } = self;
+        let HeapAllocator { heap, caller, slot } = self;
         let mut desk = slot.into_inner();
-        match closed(heap, &mut desk) {
+        match closed(heap, caller, &mut desk) {
             Some(pass) => Ok(pass),
             None => {
-                let slot = Slot::new(heap, desk);
-                Err(HeapAllocator { heap, slot })
+                let slot = Slot::new(heap, caller, desk);
+                Err(HeapAllocator { heap, caller, slot })
             }
         }
     }
 
     /// A piece of so many bytes.
     pub(crate) fn take(&self, size: usize, align: usize) -> Option<Piece>
-        ensures { IfSome result (λ p. IsServed self.now.slot.region.at p × (p.size ≡ size) × (align ≤ 8)) }
+        ensures { IfSome result (λ p. IsServed self.now.slot.heap.region.at p × (p.size ≡ size) × (align ≤ 8)) }
     {
         if align > 8 || size > MOST_BYTES {
             return None;
@@ -113,7 +117,7 @@ impl<'h> HeapAllocator<'h> {
 
     /// Takes a piece back.
     pub(crate) fn give(&self, piece: Piece)
-        requires { IsServed self.now.slot.region.at piece }
+        requires { IsServed self.now.slot.heap.region.at piece }
     {
         let Some(mut desk) = self.slot.replace(None) else {
             return;
@@ -126,7 +130,7 @@ impl<'h> HeapAllocator<'h> {
 }
 
 unsafe impl<'h> Allocator for HeapAllocator<'h> {
-    ghost dealloc_token = { λ a. piece_token a.slot.region.at };
+    ghost dealloc_token = { λ a. piece_token a.slot.heap.region.at };
 
     fn allocate(&self, size: usize, align: usize) -> Result<*mut u8, AllocError> {
         match self.take(size, align) {
@@ -143,15 +147,20 @@ unsafe impl<'h> Allocator for HeapAllocator<'h> {
 impl<'h> Drop for HeapAllocator<'h> {
     /// The pass is lost, and what it has out stays out.
     fn drop(self) {
-        let HeapAllocator { heap: _, slot } = self;
+        let HeapAllocator {
+            heap: _,
+            caller: _,
+            slot,
+        } = self;
         drop(slot.into_inner());
     }
 }
 
 /// The pass of a desk, where there is one and it can be closed.
-fn closed(heap: &Heap, desk: &mut Option<Box<Desk>>) -> Option<Pass>
-    requires desk { IfSome desk.old (λ desk. IsDesk heap.now desk.value) }
-    ensures desk { IfSome desk.new (λ desk. IsDesk heap.now desk.value) }
+fn closed(heap: &Heap, _caller: u32, desk: &mut Option<Box<Desk>>) -> Option<Pass>
+    requires desk { IfSome desk.old (λ desk. IsDeskOf (record { heap = heap.now; caller = _caller }) desk.value) }
+    ensures desk { IfSome desk.new (λ desk. IsDeskOf (record { heap = heap.now; caller = _caller }) desk.value) }
+    ensures caller { IfSome result (λ pass. pass.errand.caller ≡ _caller) }
     ensures closed { IfSome result (λ pass. IsOf heap.now pass × IsIdle pass.errand × HoldsExactly pass [] × (pass.out ≡ 0)) }
 {
     match desk {

@@ -10,7 +10,7 @@ ghost use Rattle.live_heap.specs.declared.plain.Memory.{Memory};
 ghost use Rattle.memory_cache.specs.Caches.{IsCache, IsHeld, StaysOpen};
 ghost use Rattle.memory_cache.specs.Rooms.{IsRoomOf};
 ghost use Rattle.heap_allocator.specs.declared.desk.Entry.{Entry};
-ghost use Rattle.heap_allocator.specs.Desks.{HoldsEntries, IsDesk, IsEntryOf};
+ghost use Rattle.heap_allocator.specs.Desks.{HoldsEntries, IsCallers, IsDesk, IsEntryOf};
 
 use heap_geometry::need::Need;
 use live_heap::heap::Heap;
@@ -43,6 +43,7 @@ impl Desk {
         ensures desk { IsDesk heap.now self.new }
         ensures given { IfSome result (λ given. IsRoomOf heap.now given.1 × (words ≤ usable_words given.1.block.need)
             × (given.1.block.need ≡ need_of words)) }
+        ensures caller { (caller : ℕ) → IsCallers caller self.old → IsCallers caller self.new }
         ensures entered { IfSome result (λ given. (e : Entry) × (get self.new.out given.0 ≡ Some e) × IsEntryOf given.1 e) }
     {
         if self.out.reserve(1).is_err() {
@@ -68,6 +69,7 @@ impl Desk {
         requires desk { IsDesk heap.now self.old }
         requires room { IsRoomOf heap.now memory }
         ensures desk { IsDesk heap.now self.new }
+        ensures caller { (caller : ℕ) → IsCallers caller self.old → IsCallers caller self.new }
         ensures back { (e : Entry) → get self.old.out key ≡ Some e → IsEntryOf memory e
             → (self.old.cache ≡ None) ⊎ (get self.new.out key ≡ None) ⊎ IsSomeAnd self.new.cache (λ cache. IsBusy cache.pass.errand) }
     {
@@ -89,6 +91,8 @@ impl Desk {
         requires desk { IsDesk heap.now self.old }
         ensures desk { IsDesk heap.now self.new }
         ensures closed { IfSome result (λ pass. IsOf heap.now pass × IsIdle pass.errand × HoldsExactly pass [] × (pass.out ≡ 0)) }
+        ensures caller { (caller : ℕ) → IsCallers caller self.old
+            → IsCallers caller self.new × IfSome result (λ pass. pass.errand.caller ≡ caller) }
         ensures open { result ≡ None → (self.old.cache ≡ None) ⊎ IsSomeAnd self.new.cache StaysOpen }
     {
         match self.cache.take()?.close(heap, self.tries) {
@@ -119,6 +123,7 @@ fn give_back(cache: &mut MemoryCache, heap: &Heap, memory: Memory, tries: u32) -
     requires held { IsHeld cache.old memory }
     requires tries { 0 < tries }
     ensures cache { IsCache heap.now cache.new }
+    ensures caller { cache.new.pass.errand.caller ≡ cache.old.pass.errand.caller }
     ensures keeps { (other : Memory) → IsHeld cache.old other → other.block.place ≢ memory.block.place → IsHeld cache.new other }
     ensures back { result ≡ false → IsHeld cache.new memory × IsBusy cache.new.pass.errand }
 {

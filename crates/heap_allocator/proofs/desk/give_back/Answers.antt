@@ -17,6 +17,7 @@ loop-attempt-preserved c =
       cache = c.give.ensures.cache;
       same = same;
       held = subst P same c.in-Err.ensures.back.1;
+      caller = c.give.ensures.caller ∙ is.caller;
       busy = λ _. c.in-Err.ensures.back.2;
       keeps = λ other held ne. c.give.ensures.keeps other (is.keeps other held ne) (λ e. ne (e ∙ ap (λ (m : Memory). m.block.place) is.same));
     }

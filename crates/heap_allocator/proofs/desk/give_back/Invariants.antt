@@ -11,5 +11,6 @@ invariant-loop-attempt l = record {
   same : l.left ≡ l.fn.memory;
   held : IsHeld l.cache l.fn.memory;
   keeps : (other : Memory) → IsHeld l.fn.cache other → other.block.place ≢ l.fn.memory.block.place → IsHeld l.cache other;
+  caller : l.cache.pass.errand.caller ≡ l.fn.cache.pass.errand.caller;
   busy : 0 < l._attempt → IsBusy l.cache.pass.errand;
 }

@@ -32,7 +32,7 @@ allocate_spec 𝓤 𝓛 𝓜 𝓡 wired =
     let H = 𝓛.H in let 𝓣 = tables 𝓤 H 𝓜 𝓡 𝓡.env in let c = clauses 𝓛 𝓜.mem 𝓡.returns in let fn : Fn = code.function in let ps = ended.signature.params in
     let hs : Stays ps ended.kept = (stay_dropped (param_of 0 ps) ended.kept.0, (stay_dropped (param_of 1 ps) ended.kept.1.0, (stay_dropped (param_of 2 ps) ended.kept.1.1.0, tt))) in
     proved_at 𝓛 ended hs c 𝓜 𝓡 (Goes-dropped 𝓛 2 (param_of 0 ps) ended.kept.0 (λ κs x f. refl), (Goes-dropped 𝓛 2 (param_of 1 ps) ended.kept.1.0 (λ κs x f. refl), (Goes-dropped 𝓛 2 (param_of 2 ps) ended.kept.1.1.0 (λ κs x f. refl), tt))) #self fn (code.unfolded 𝓤 H 𝓜 𝓡 wired) (λ z are.
-    let Post : Val → SProp 𝓤 = (walk_of 𝓛 ended hs c).post z in let κs = z.0.0 in let a = z.0.3 in let p : Ptr = a.0.now.slot.region.at in let τ : Ty = z.1 in let n : ℕ = a.1.0 in let al : ℕ = a.1.1.0 in
+    let Post : Val → SProp 𝓤 = (walk_of 𝓛 ended hs c).post z in let κs = z.0.0 in let a = z.0.3 in let p : Ptr = a.0.now.slot.heap.region.at in let τ : Ty = z.1 in let n : ℕ = a.1.0 in let al : ℕ = a.1.1.0 in
     let k = triple_of 𝓛 taking.signature (taking.spec 𝓛 𝓜.mem 𝓡.returns) in let vs : List Val = vptr a.0.ref_ptr.0 a.0.ref_ptr.1 ∷ vint w64 n ∷ vint w64 al ∷ [] in let y : k.Ghost = ((κs, z.0.1, z.0.2, a, z.0.4), tt) in
     let same : k.args y ≡ vs = λ i. are.0.0 i ++ (are.1.0.0 i ++ (are.1.1.0.0 i ++ [])) in let Asked : Type 0 = (capped (size τ) ≡ n) × (capped (align τ) ≡ al) in
     qed 𝓛 ((raw (alive 𝓛 ended.signature κs z.0.1) ⊛ ‵ (owns (types_at ps κs) a z.0.4)) ∷ raw (fact 𝓤 Asked) ∷ []) ∵ move ! (1 ∷ []) $ heard ! Asked (λ asked. split ! $ join ! $ nothing ! $ move ! (1 ∷ 0 ∷ []) $ join ! $ use1 𝓛 (raw (k.pre y)) (id⊢ 𝓤 _) $

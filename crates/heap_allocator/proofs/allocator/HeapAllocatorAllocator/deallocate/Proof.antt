@@ -30,7 +30,7 @@ deallocate_spec 𝓤 𝓛 𝓜 𝓡 wired =
     let H = 𝓛.H in let 𝓣 = tables 𝓤 H 𝓜 𝓡 𝓡.env in let c = clauses 𝓛 𝓜.mem 𝓡.returns in let fn : Fn = code.function in let ps = ended.signature.params in
     let hs : Stays ps ended.kept = (stay_dropped (param_of 0 ps) ended.kept.0, (stay_dropped (param_of 1 ps) ended.kept.1.0, (stay_dropped (param_of 2 ps) ended.kept.1.1.0, (stay_dropped (param_of 3 ps) ended.kept.1.1.1.0, tt)))) in
     proved_at 𝓛 ended hs c 𝓜 𝓡 (Goes-dropped 𝓛 2 (param_of 0 ps) ended.kept.0 (λ κs x f. refl), (Goes-dropped 𝓛 2 (param_of 1 ps) ended.kept.1.0 (λ κs x f. refl), (Goes-dropped 𝓛 2 (param_of 2 ps) ended.kept.1.1.0 (λ κs x f. refl), (Goes-dropped 𝓛 2 (param_of 3 ps) ended.kept.1.1.1.0 (λ κs x f. refl), tt)))) #self fn (code.unfolded 𝓤 H 𝓜 𝓡 wired) (λ z are.
-    let Post : Val → SProp 𝓤 = (walk_of 𝓛 ended hs c).post z in let κs = z.0.0 in let a = z.0.3 in let p : Ptr = a.0.now.slot.region.at in let τ : Ty = z.1 in let from : Ptr = a.1.0 in let n : ℕ = a.1.1.0 in let al : ℕ = a.1.1.1.0 in let me : Val = vptr a.0.ref_ptr.0 a.0.ref_ptr.1 in
+    let Post : Val → SProp 𝓤 = (walk_of 𝓛 ended hs c).post z in let κs = z.0.0 in let a = z.0.3 in let p : Ptr = a.0.now.slot.heap.region.at in let τ : Ty = z.1 in let from : Ptr = a.1.0 in let n : ℕ = a.1.1.0 in let al : ℕ = a.1.1.1.0 in let me : Val = vptr a.0.ref_ptr.0 a.0.ref_ptr.1 in
     let k = triple_of 𝓛 giving.signature (giving.spec 𝓛 𝓜.mem 𝓡.returns) in let Asked : Type 0 = (capped (size τ) ≡ n) × (capped (align τ) ≡ al) in
     qed 𝓛 ((raw (alive 𝓛 ended.signature κs z.0.1) ⊛ ‵ (owns (types_at ps κs) a z.0.4)) ∷ (raw (fact 𝓤 Asked) ⊛ ‵ (room_for τ from) ⊛ ‵ (piece_token p τ from)) ∷ []) ∵
     move ! (1 ∷ []) $ split3 ! $ heard ! Asked (λ asked. move ! (1 ∷ []) $ fpick ! (λ word. fpick ! (λ count. fpick ! (λ label. fpick ! (λ out. move ! (1 ∷ 0 ∷ []) $

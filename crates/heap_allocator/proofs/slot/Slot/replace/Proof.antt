@@ -21,7 +21,7 @@ use Rattle.core.proofs.alloc.Calls.{Goes-blank}
 use Rattle.core.proofs.alloc.Shapes.{after}
 use Rattle.core.proofs.cell.Inside.{one}
 use Rattle.std.proofs.raw_atomic.Walks.{leaves}
-use Rattle.live_heap.specs.Heaps.{HeapFields}
+use Rattle.heap_allocator.specs.Desks.{Owner}
 use Rattle.heap_allocator.proofs.Cell.{quiet, Held, Keeps, held_Lawful, opens_slot, shuts_slot}
 use Rattle.heap_allocator.proofs.Walks.{param_at, with_token, proved_with_token}
 use Rattle.heap_allocator.specs.contracts.slot.Slot.replace.{ended, clauses}
@@ -49,7 +49,7 @@ replace_spec 𝓤 𝓛 𝓜 𝓡 wired =
     let q : Share = z.0.1.0 in
     let b = a.0.ref_ptr.0 in
     let o = a.0.ref_ptr.1 in
-    let h : HeapFields = a.0.now in
+    let h : Owner = a.0.now in
     let new = a.1.0 in
     let got = one (layout Held) vss.1.0 ((held_Lawful 𝓛).typed new vss.1.0 are.1.0) in
     let w : Val = got.0 in
