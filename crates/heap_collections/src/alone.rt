@@ -2,13 +2,13 @@
 
 ghost use Rattle.std.specs.Prelude.{◌≡◌, ◌≤◌, ◌*◌, IfOk, IfSome};
 ghost use Rattle.heap_geometry.specs.Geometry.{IsChecked};
-ghost use Rattle.heap_collections.specs.Shared.{HasEnded};
+ghost use Rattle.heap_collections.specs.Shared.{OwnNothing};
 
 use crate::work::overflow;
 use heap_geometry::geometry::Geometry;
 use live_heap::closed::Closed;
 use live_heap::heap::Heap;
-use live_heap::laws::blocks::passes_hold_exactly;
+use live_heap::laws::blocks::{calls_change_their_block, passes_hold_exactly};
 use std::alloc::{AllocError, Global};
 
 /// How long a list was when the memory ended, how many things were built behind that, and what is left of the heap.
@@ -33,13 +33,14 @@ fn one_caller() -> Geometry
     }
 }
 
-/// Fills the heap with a list, drops it, and builds collections of so many things. The heap closes with a
-/// pass that holds no blocks.
+/// Fills the heap with a list, drops it, and builds collections of so many things. The heap closes, and its
+/// caller owns no block in it.
 pub fn end(alloc: Global, things: u32) -> Result<Option<Ended>, AllocError>
     requires { things ≤ 1000 }
     ensures built { IfOk result (λ told. IfSome told (λ ended. ended.built ≡ 3 * things)) }
-    ensures nothing { IfOk result (λ told. IfSome told (λ ended. HasEnded 1 ended.closed)) }
+    ensures nothing { IfOk result (λ told. IfSome told (λ ended. OwnNothing ended.closed)) }
 {
+    calls_change_their_block();
     passes_hold_exactly();
     let (heap, mut passes) = Heap::open(alloc, one_caller())?;
     let Some((most, built, pass)) = overflow(alloc, &heap, passes.remove(0), things) else {

@@ -2,13 +2,13 @@
 
 ghost use Rattle.std.specs.Prelude.{◌≡◌, ◌≤◌, ◌*◌, IfOk, IfSome};
 ghost use Rattle.heap_geometry.specs.Geometry.{IsChecked};
-ghost use Rattle.heap_collections.specs.Shared.{HasNothing, HasEnded};
+ghost use Rattle.heap_collections.specs.Shared.{ComesBack, HasNothing, OwnNothing};
 
 use crate::work::work;
 use heap_geometry::geometry::Geometry;
 use live_heap::closed::Closed;
 use live_heap::heap::Heap;
-use live_heap::laws::blocks::passes_hold_exactly;
+use live_heap::laws::blocks::{calls_change_their_block, passes_hold_exactly};
 use std::alloc::{AllocError, Global};
 use std::thread;
 use std::thread::Threads;
@@ -35,8 +35,8 @@ fn two_callers() -> Geometry
     }
 }
 
-/// Two threads build collections of so many things at once and drop them. Each hands its count over, and the heap closes
-/// with passes that hold no blocks. None where a thread had no memory for all of that, or a call of the heap stayed under way.
+/// Two threads build collections of so many things at once and drop them. Each hands its count over, and the heap closes:
+/// no caller owns a block in it. None where a thread had no memory for all of that, or a call of the heap stayed under way.
 pub fn share<R: Threads + Sync>(
     rt: &R,
     alloc: Global,
@@ -44,8 +44,9 @@ pub fn share<R: Threads + Sync>(
 ) -> Result<Option<Report>, AllocError>
     requires { things ≤ 1000 }
     ensures counts { IfOk result (λ told. IfSome told (λ report. (report.one ≡ 3 * things) × (report.other ≡ 3 * things))) }
-    ensures nothing { IfOk result (λ told. IfSome told (λ report. HasEnded 2 report.closed)) }
+    ensures nothing { IfOk result (λ told. IfSome told (λ report. OwnNothing report.closed)) }
 {
+    calls_change_their_block();
     passes_hold_exactly();
     let (heap, mut passes) = Heap::open(alloc, two_callers())?;
     let second = passes.remove(1);
@@ -55,11 +56,11 @@ pub fn share<R: Threads + Sync>(
         rt,
         move ||
             requires { HasNothing shared.now first × (things ≤ 1000) }
-            ensures { IfSome result (λ done. (done.0 ≡ 3 * things) × HasNothing shared.entry.now done.1) }
+            ensures { IfSome result (λ done. (done.0 ≡ 3 * things) × ComesBack shared.entry.now first done.1) }
         { work(alloc, shared, first, things) },
         move ||
             requires { HasNothing shared.now second × (things ≤ 1000) }
-            ensures { IfSome result (λ done. (done.0 ≡ 3 * things) × HasNothing shared.entry.now done.1) }
+            ensures { IfSome result (λ done. (done.0 ≡ 3 * things) × ComesBack shared.entry.now second done.1) }
         { work(alloc, shared, second, things) },
     );
     let (Some((one, first)), Some((other, second))) = (one, other) else {

@@ -1,7 +1,7 @@
 //! A thread's work over a pass.
 
 ghost use Rattle.std.specs.Prelude.{◌≡◌, ◌≤◌, ◌*◌, IfSome};
-ghost use Rattle.heap_collections.specs.Shared.{HasNothing};
+ghost use Rattle.heap_collections.specs.Shared.{ComesBack, HasNothing};
 
 use crate::build::{build, fill};
 use heap_allocator::HeapAllocator;
@@ -18,7 +18,7 @@ const TRIES: u32 = 1000;
 /// An allocator over the pass, where there is memory for it.
 fn open<'h>(alloc: Global, heap: &'h Heap, pass: Pass) -> Option<HeapAllocator<'h>>
     requires { HasNothing heap.now pass }
-    ensures { IfSome result (λ allocator. allocator.heap.now ≡ heap.now) }
+    ensures { IfSome result (λ allocator. (allocator.heap.now ≡ heap.now) × (allocator.caller ≡ pass.errand.caller)) }
 {
     HeapAllocator::new(alloc, heap, pass, DEPTH, TRIES).ok()
 }
@@ -27,7 +27,7 @@ fn open<'h>(alloc: Global, heap: &'h Heap, pass: Pass) -> Option<HeapAllocator<'
 pub fn work(alloc: Global, heap: &Heap, pass: Pass, things: u32) -> Option<(u32, Pass)>
     requires pass { HasNothing heap.now pass }
     requires few { things ≤ 1000 }
-    ensures { IfSome result (λ done. (done.0 ≡ 3 * things) × HasNothing heap.now done.1) }
+    ensures { IfSome result (λ done. (done.0 ≡ 3 * things) × ComesBack heap.now pass done.1) }
 {
     let allocator = open(alloc, heap, pass)?;
     let built = build(&allocator, things).ok();
@@ -39,7 +39,7 @@ pub fn work(alloc: Global, heap: &Heap, pass: Pass, things: u32) -> Option<(u32,
 pub fn overflow(alloc: Global, heap: &Heap, pass: Pass, things: u32) -> Option<(u32, u32, Pass)>
     requires pass { HasNothing heap.now pass }
     requires few { things ≤ 1000 }
-    ensures { IfSome result (λ done. (done.1 ≡ 3 * things) × HasNothing heap.now done.2) }
+    ensures { IfSome result (λ done. (done.1 ≡ 3 * things) × ComesBack heap.now pass done.2) }
 {
     let allocator = open(alloc, heap, pass)?;
     let most = fill(&allocator);

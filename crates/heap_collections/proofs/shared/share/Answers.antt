@@ -1,7 +1,7 @@
 -- The heap was closed with its two passes, which held nothing.
-use Rattle.std.proofs.Common.{◌≡◌, ◌*◌, length, sym, ap, ◌∙◌, arith}
+use Rattle.std.proofs.Common.{◌≡◌, ◌*◌, length, ap, ◌∙◌, arith}
 use Rattle.heap_geometry.specs.declared.geometry.Geometry.{Geometry}
-use Rattle.heap_collections.proofs.Ends.{all-idle, comes-back, two-passes}
+use Rattle.heap_collections.proofs.Ends.{both-callers, both-idle, both-own-nothing, comes-back, two-passes}
 use Rattle.heap_collections.proofs.shared.share.Goals as goal
 
 pub close-requires : goal.close-requires
@@ -11,12 +11,12 @@ close-requires g c =
     let none : length c.remove-first.new.self.items ≡ 0 =
     omega (arith, c.remove-first.ensures.len, c.remove-second.ensures.len, c.in_ok-heap.ensures.passes.1, c.two_callers.ensures.callers) in
     let both = c.in-Some-Some in
-    let two =
-    two-passes h c.remove-first.new.self.items c.push_reserved.new.self.items c.push_reserved-2.new.self.items both.first both.second none
-    c.push_reserved.ensures.items c.push_reserved-2.ensures.items
-    (comes-back h (3 * c.args.things) c.join-one.result.0 (both.one, both.first) both.is-0 c.join-one.ensures.first)
-    (comes-back h (3 * c.args.things) c.join-one.result.1 (both.other, both.second) both.is-1 c.join-one.ensures.second) in
-    all-idle h c.push_reserved-2.new.self.items (two.1 ∙ sym callers) two.0
+    let is =
+    two-passes c.remove-first.new.self.items c.push_reserved.new.self.items c.push_reserved-2.new.self.items both.first both.second none
+    c.push_reserved.ensures.items c.push_reserved-2.ensures.items in
+    both-idle h c.push_reserved-2.new.self.items both.first both.second callers is
+    (comes-back h (3 * c.args.things) c.remove-first.result c.join-one.result.0 (both.one, both.first) both.is-0 c.join-one.ensures.first).0
+    (comes-back h (3 * c.args.things) c.remove-second.result c.join-one.result.1 (both.other, both.second) both.is-1 c.join-one.ensures.second).0
 
 pub returns-in-Ok-clause-nothing : goal.returns-in-Ok-clause-nothing
 returns-in-Ok-clause-nothing g c =
@@ -25,9 +25,14 @@ returns-in-Ok-clause-nothing g c =
     let none : length c.remove-first.new.self.items ≡ 0 =
     omega (arith, c.remove-first.ensures.len, c.remove-second.ensures.len, c.in_ok-heap.ensures.passes.1, c.two_callers.ensures.callers) in
     let both = c.in-Some-Some in
-    let two =
-    two-passes h c.remove-first.new.self.items c.push_reserved.new.self.items c.push_reserved-2.new.self.items both.first both.second none
-    c.push_reserved.ensures.items c.push_reserved-2.ensures.items
-    (comes-back h (3 * c.args.things) c.join-one.result.0 (both.one, both.first) both.is-0 c.join-one.ensures.first)
-    (comes-back h (3 * c.args.things) c.join-one.result.1 (both.other, both.second) both.is-1 c.join-one.ensures.second) in
-    record { heap = h; all = c.push_reserved-2.new.self.items; nothing = two.0; number = two.1; callers = callers; closed = c.in-Ok.ensures.closed }
+    let is =
+    two-passes c.remove-first.new.self.items c.push_reserved.new.self.items c.push_reserved-2.new.self.items both.first both.second none
+    c.push_reserved.ensures.items c.push_reserved-2.ensures.items in
+    let first = comes-back h (3 * c.args.things) c.remove-first.result c.join-one.result.0 (both.one, both.first) both.is-0 c.join-one.ensures.first in
+    let second = comes-back h (3 * c.args.things) c.remove-second.result c.join-one.result.1 (both.other, both.second) both.is-1 c.join-one.ensures.second in
+    let numbers =
+    both-callers h c.in_ok-heap.passes.items c.remove-second.new.self.items c.remove-first.result c.remove-second.result c.in_ok-heap.ensures.passes.0
+    (c.in_ok-heap.ensures.passes.1 ∙ c.two_callers.ensures.callers) c.remove-second.ensures.value c.remove-second.ensures.by_index.2
+    c.remove-first.ensures.value in
+    both-own-nothing c.calls_change_their_block.ensures.closed h c.in-Ok.closed c.push_reserved-2.new.self.items both.first both.second callers is
+    c.in-Ok.ensures.closed c.in-Ok.ensures.rests first.0 second.0 (first.1 ∙ numbers.0) (second.1 ∙ numbers.1)
