@@ -1,0 +1,6 @@
+pub mod Cell
+pub mod DeskLemmas
+pub mod Handing
+pub mod Rooms
+pub mod Values
+pub mod Walks

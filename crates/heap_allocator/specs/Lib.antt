@@ -1,0 +1,4 @@
+pub mod Cells
+pub mod Desks
+pub mod Pieces
+pub mod Served

@@ -1,0 +1,10 @@
+-- A piece, as the heap that gave it out knows it.
+use Rattle.std.specs.Prelude.{◌≡◌}
+use denote.RawPtr.{Ptr}
+use Rattle.heap_allocator.specs.declared.piece.Piece.{Piece}
+use Rattle.heap_allocator.specs.Pieces.{IsBlockFor}
+
+-- it lies in memory that begins at p, in a block for its bytes
+pub record IsServed (p : Ptr) (x : Piece) : Type 0 where
+  pub begins : x.at ≡ p
+  pub block : IsBlockFor x.size x.first x.count x.label

@@ -1,0 +1,23 @@
+-- Collections in a heap that is shared by threads.
+use Rattle.std.specs.Prelude.{ℕ, ◌≡◌, ◌<◌, [], None}
+use Rattle.errand_steps.specs.Begins.{IsIdle}
+use Rattle.live_heap.specs.Contents.{owned_after}
+use Rattle.live_heap.specs.Endings.{ClosedFields}
+use Rattle.live_heap.specs.Heaps.{HeapFields}
+use Rattle.live_heap.specs.Holdings.{HoldsExactly}
+use Rattle.live_heap.specs.declared.pass.Pass.{Pass}
+use Rattle.live_heap.specs.Passes.{IsOf}
+
+-- a pass of the heap that is in no call and holds no blocks
+pub record HasNothing (h : HeapFields) (p : Pass) : Type 0 where
+  pub of : IsOf h p
+  pub idle : IsIdle p.errand
+  pub holds : HoldsExactly p []
+
+-- a pass has come back that is the same caller's, with nothing
+abbrev pub ComesBack : HeapFields → Pass → Pass → Type 0
+ComesBack h p q = HasNothing h q × (q.errand.caller ≡ p.errand.caller)
+
+-- no caller of a closed heap owns a block in it
+abbrev pub OwnNothing : ClosedFields → Type 0
+OwnNothing c = (caller place : ℕ) → caller < c.geometry.callers → owned_after c.events caller place ≡ None
