@@ -11,17 +11,17 @@ from checks import ROOT, listed_crates
 ALL = 25_000
 MOST = {
     "docs/PROOFS.md": 5_500,
-    "docs/ALLOCATOR.md": 3_600,
+    "docs/ALLOCATOR.md": 4_100,
     "docs/TRACES.md": 2_700,
     "docs/ARCHITECTURE.md": 2_500,
     "docs/DECISIONS.md": 2_500,
     "docs/IDEA.md": 1_600,
     "docs/PERFORMANCE.md": 1_500,
-    "docs/STEPS.md": 1_500,
+    "docs/STEPS.md": 600,
     "docs/TOUR.md": 1_200,
     "docs/TESTING.md": 1_000,
     "docs/OPEN.md": 900,
-    "README.md": 900,
+    "README.md": 950,
 }
 # These have a most of their own, and don't count in the sum.
 BESIDE = {"CONTRIBUTING.md": 1_200, "CHANGELOG.md": 900}
