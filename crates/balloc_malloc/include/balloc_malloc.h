@@ -1,0 +1,92 @@
+/* Memory of a lock-free heap by pointers, proved: what an allocator's symbols of C can be written over. What a C
+ * caller owes is on this page, and nothing else is:
+ *
+ * - A seat is a variable of the caller's, one for each thread, and begins as all bytes zero. It is never copied, and its
+ *   bytes are not the caller's to touch.
+ * - One call at a time is made with a seat. It may go from one thread to another by a lock, by the start or the end of a
+ *   thread, or by a SEQ_CST atomic.
+ * - Each pointer points to an object of its type, or to `count` of them, for the call alone; no two overlap.
+ * - Memory goes back once, to the seat that told it, and nobody touches it from then on. Until then its first 8 bytes,
+ *   the label, are as the library wrote them; what lies behind them is the caller's. Where give answers
+ *   BALLOC_MALLOC_BUSY the memory has not gone back.
+ * - malloc, realloc and free of the program that this library is linked with come from one allocator, another one than
+ *   this. Only balloc_malloc_open uses them; no call is made from a signal handler.
+ */
+#ifndef BALLOC_MALLOC_H
+#define BALLOC_MALLOC_H
+
+#include <stddef.h>
+#include <stdint.h>
+
+#ifdef __cplusplus
+extern "C" {
+#define BALLOC_MALLOC_ALIGNED alignas(64)
+#else
+#define BALLOC_MALLOC_ALIGNED _Alignas(64)
+#endif
+
+/* A seat, which fills a cache line of its own. */
+typedef struct balloc_seat {
+    BALLOC_MALLOC_ALIGNED unsigned char bytes[64];
+} balloc_seat;
+
+/* The most of each number of a heap, and the most bytes behind a label: of the memory of a heap without large blocks. */
+#define BALLOC_MALLOC_MOST_FRAMES 4096
+#define BALLOC_MALLOC_MOST_HEAPS 16
+#define BALLOC_MALLOC_MOST_SEATS 16
+#define BALLOC_MALLOC_MOST_DEPTH 64
+#define BALLOC_MALLOC_MOST_BYTES 16368
+
+enum {
+    BALLOC_MALLOC_DONE = 0,        /* the call was made */
+    BALLOC_MALLOC_REFUSED = 1,     /* the heap has no block left for so many bytes */
+    BALLOC_MALLOC_TOO_LARGE = 2,   /* no block of any heap has so many bytes */
+    BALLOC_MALLOC_SPENT = 3,       /* the seat's pass has taken all its turns, 2^36 - 1 */
+    BALLOC_MALLOC_BUSY = 4,        /* after many lost exchanges a call of the heap is under way: this one's, or an
+                                      earlier one's of this seat. The seat's next take or give goes on with it */
+    BALLOC_MALLOC_EMPTY = 5,       /* the seat has no pass */
+    BALLOC_MALLOC_BAD_NUMBERS = 6, /* a number of the heap is out of its range, or a seat has a pass already */
+    BALLOC_MALLOC_NO_MEMORY = 7    /* no memory for the heap */
+};
+
+/* Opens a heap with so many frames of 4,096 words (1 to BALLOC_MALLOC_MOST_FRAMES) and processor heaps (1 to
+ * BALLOC_MALLOC_MOST_HEAPS), and puts a pass of it into each of the `count` seats (1 to BALLOC_MALLOC_MOST_SEATS). A seat
+ * keeps at most `depth` pieces of memory of each size that it gets back (0 to BALLOC_MALLOC_MOST_DEPTH; 0: none), and
+ * gives them again with no step on a word that others share. Tells where the heap's memory begins, and how many bytes it
+ * has: all memory that these seats tell lies there. A heap isn't closed. Where it answers anything but
+ * BALLOC_MALLOC_DONE nothing is told, and the seats are as they were, or empty as they were.
+ * BALLOC_MALLOC_DONE, BALLOC_MALLOC_BAD_NUMBERS, BALLOC_MALLOC_NO_MEMORY */
+uint32_t balloc_malloc_open(uint32_t frames, uint32_t heaps, uint32_t depth, balloc_seat *seats, size_t count, void **memory,
+                            size_t *bytes);
+
+/* Tells memory: 8 bytes of a label, aligned to 16 bytes, and at least `bytes` bytes behind them, which hold anything.
+ * Where it answers anything but BALLOC_MALLOC_DONE it tells NULL.
+ * BALLOC_MALLOC_DONE, BALLOC_MALLOC_REFUSED, BALLOC_MALLOC_TOO_LARGE, BALLOC_MALLOC_SPENT, BALLOC_MALLOC_BUSY,
+ * BALLOC_MALLOC_EMPTY */
+uint32_t balloc_malloc_take(balloc_seat *seat, size_t bytes, void **memory);
+
+/* Gives memory back that this seat told, and that was not given back since: by the pointer that was told.
+ * BALLOC_MALLOC_DONE, BALLOC_MALLOC_BUSY */
+uint32_t balloc_malloc_give(balloc_seat *seat, void *memory);
+
+/* Tells how many bytes behind the label of such memory may be used: as many as were asked for, or more.
+ * BALLOC_MALLOC_DONE */
+uint32_t balloc_malloc_usable(balloc_seat *seat, void *memory, size_t *bytes);
+
+/* Tells memory of at least `bytes` bytes behind its label, with what such memory has, as far as both go: this memory, where
+ * it has as many; else other memory, which is told in its place, and this one has gone back. What stands behind the label
+ * of this one has been written once, each whole word. Where it answers anything but BALLOC_MALLOC_DONE it tells this
+ * memory, which stays as it was.
+ * BALLOC_MALLOC_DONE, BALLOC_MALLOC_REFUSED, BALLOC_MALLOC_TOO_LARGE, BALLOC_MALLOC_SPENT, BALLOC_MALLOC_BUSY */
+uint32_t balloc_malloc_resize(balloc_seat *seat, void *memory, size_t bytes, void **moved);
+
+/* Tells how many of the seat's takes needed no step of the heap, and how many blocks are out with it, those that it keeps
+ * too.
+ * BALLOC_MALLOC_DONE, BALLOC_MALLOC_EMPTY */
+uint32_t balloc_malloc_counts(balloc_seat *seat, uint64_t *hits, uint64_t *out);
+
+#ifdef __cplusplus
+}
+#endif
+
+#endif

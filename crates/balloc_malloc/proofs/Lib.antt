@@ -1,0 +1,10 @@
+mod Calling
+mod Firsts
+mod Giving
+mod Lots
+mod Moving
+mod Rooms
+mod Seal
+mod SeatLemmas
+mod Taking
+mod Values

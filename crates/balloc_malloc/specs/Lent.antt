@@ -1,0 +1,25 @@
+-- What a borrow of a tenant leaves behind.
+use Rattle.std.specs.Prelude.{Option, Some, refl, true}
+use Rattle.std.specs.Borrow.{Lends, LendsIf, MutBor, Fml}
+use Rattle.balloc_malloc.specs.declared.tenant.Tenant.{Tenant}
+use Rattle.balloc_malloc.specs.declared.held.Held.{Held}
+use Rattle.balloc_malloc.specs.declared.seat.Seat.{Seat}
+use Rattle.balloc_malloc.specs.contracts.tenant.Tenant as tenant
+use Rattle.balloc_malloc.specs.contracts.held.Held as held
+use Rattle.balloc_malloc.specs.contracts.seat.Seat as seat
+
+-- what is held, with this tenant
+abbrev pub with_tenant : Held → Tenant → Held
+with_tenant h w = record h { tenant = Some w }
+
+-- when the borrow ends, what is held is the tenant as the borrow leaves it
+abbrev pub LendsHeld : MutBor Held → MutBor Tenant → Fml
+LendsHeld s r = Lends held.the_row tenant.the_row s r (with_tenant s.now)
+
+-- the seat that has this tenant
+abbrev pub holding : Seat → Tenant → Seat
+holding h w = record { live = true; held = with_tenant h.held w; rest = h.rest; is_live = refl }
+
+-- the same of a seat; one that lends nothing is as it was
+abbrev pub LendsTenant : MutBor Seat → Option (MutBor Tenant) → Fml
+LendsTenant s r = LendsIf seat.the_row tenant.the_row s r (holding s.now) s.now

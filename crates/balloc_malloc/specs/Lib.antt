@@ -1,0 +1,12 @@
+pub mod Codes
+pub mod Counts
+pub mod Gives
+pub mod Handing
+pub mod Labels
+pub mod Lent
+pub mod Opened
+pub mod Out
+pub mod Owned
+pub mod Takes
+pub mod Resizes
+pub mod Tenants

@@ -1,0 +1,163 @@
+//! Memory of the heap for C, by pointers: what a library to preload asks for. `include/balloc_malloc.h` declares the
+//! same.
+//!
+//! A seat is a thread's: it has a pass of the heap with magazines of memory, or nothing. Memory goes out to C with a
+//! label in the first word of its block, which tells where the block lies and what it serves, and C gives it back by
+//! the same pointer.
+#![tactic(auto)]
+
+mod calls;
+mod codes;
+mod handed;
+mod handing;
+mod held;
+mod label;
+mod opening;
+mod parts;
+mod seat;
+mod spot;
+mod tenant;
+
+ghost use Rattle.std.specs.Prelude.{ℕ, ◌≡◌, Result, Some, length};
+ghost use Rattle.std.specs.Borrow.{sem};
+ghost use Rattle.live_heap.specs.declared.plain.Memory.{Memory};
+ghost use Rattle.plain_words.specs.declared.plain.Start.{Start};
+ghost use Rattle.balloc_malloc.specs.declared.codes.TheConstants.{DONE as MADE};
+ghost use Rattle.balloc_malloc.specs.Counts.{TellsCounts, TellsMemory};
+ghost use Rattle.balloc_malloc.specs.Gives.{GivesBy, bytes_of};
+ghost use Rattle.balloc_malloc.specs.Handing.{handed, words_own};
+ghost use Rattle.balloc_malloc.specs.Opened.{Opens, numbers};
+ghost use Rattle.balloc_malloc.specs.Out.{HasOut};
+ghost use Rattle.balloc_malloc.specs.Resizes.{IsNumbered, ResizesBy};
+ghost use Rattle.balloc_malloc.specs.Takes.{TakesBy};
+
+use calls::{give, resize, take, usable};
+use codes::{DONE, EMPTY};
+use handed::Handed;
+use heap_geometry::geometry::Geometry;
+use heap_geometry::limits::MAX_TURNS;
+use opening::open_all;
+use placed_words::placement::Placement;
+use seat::Seat;
+use spot::Spot;
+use std::alloc::Global;
+
+/// Opens a heap with one caller for each seat and puts a pass of it into each, with magazines of this depth. Tells
+/// where its memory begins, and how many bytes of it blocks lie in.
+#[unsafe(no_mangle)]
+pub extern "C" fn balloc_malloc_open(
+    alloc: Global,
+    frames: u32,
+    heaps: u32,
+    depth: u32,
+    seats: &mut [Seat],
+    memory: &mut Spot,
+    bytes: &mut usize,
+) -> u32
+    ensures opened { (outcome : Result Start ℕ) × Opens seats.old (numbers frames heaps (length seats.old)) depth outcome seats.new
+        × TellsMemory (numbers frames heaps (length seats.old)) outcome result memory.old bytes.old memory.new bytes.new }
+{
+    let geometry = Geometry {
+        frames,
+        heaps,
+        units: 0,
+        callers: seats.len().min(1000) as u32,
+        turn_limit: MAX_TURNS,
+    };
+    match open_all(alloc, geometry, depth, seats) {
+        Ok(start) => {
+            *memory = Spot::of(start);
+            *bytes = 8 * Placement::new(geometry).count() as usize;
+            DONE
+        }
+        Err(code) => code,
+    }
+}
+
+/// Memory of at least so many bytes behind its label, to which the pointer leads.
+#[unsafe(no_mangle)]
+pub extern "C" fn balloc_malloc_take(seat: &mut Seat, bytes: usize, memory: &mut *mut u64) -> u32
+    ensures* memory { sem 𝓛 (handed (λ words. TakesBy seat.old.held.tenant bytes result words memory.new seat.new.held.tenant)) }
+{
+    let Handed { memory: at, code } = take(seat, bytes);
+    *memory = at;
+    code
+}
+
+/// Takes memory back that this seat gave and that was not given back since.
+#[unsafe(no_mangle)]
+pub unsafe extern "C" fn balloc_malloc_give(seat: &mut Seat, memory: *mut u64) -> u32
+    ghost lot: { Memory }
+    requires out { HasOut seat.old.held.tenant lot memory }
+    requires* words { sem 𝓛 (words_own (Some lot.words)) }
+    ensures* words { sem 𝓛 (handed (λ words. GivesBy seat.old.held.tenant lot result words seat.new.held.tenant)) }
+{
+    let handed = Handed {
+        memory,
+        code: EMPTY,
+    };
+    let Handed { memory: _, code } = give(seat, handed);
+    code
+}
+
+/// Memory of at least so many bytes behind its label, with what this one has, as far as both go: this one, where it has
+/// as many; else another one, and this one is given back.
+#[unsafe(no_mangle)]
+pub unsafe extern "C" fn balloc_malloc_resize(
+    seat: &mut Seat,
+    memory: *mut u64,
+    bytes: usize,
+    moved: &mut *mut u64,
+) -> u32
+    ghost lot: { Memory }
+    requires out { HasOut seat.old.held.tenant lot memory }
+    requires numbered { IsNumbered lot }
+    requires* words { sem 𝓛 (words_own (Some lot.words)) }
+    ensures* words { sem 𝓛 (handed (λ words. ResizesBy seat.old.held.tenant lot memory bytes result words moved.new seat.new.held.tenant)) }
+{
+    let handed = Handed {
+        memory,
+        code: EMPTY,
+    };
+    let Handed { memory: at, code } = resize(seat, handed, bytes);
+    *moved = at;
+    code
+}
+
+/// How many bytes of memory may be used, behind its label.
+#[unsafe(no_mangle)]
+pub unsafe extern "C" fn balloc_malloc_usable(
+    seat: &mut Seat,
+    memory: *mut u64,
+    bytes: &mut usize,
+) -> u32
+    ghost lot: { Memory }
+    requires out { HasOut seat.old.held.tenant lot memory }
+    requires* words { sem 𝓛 (words_own (Some lot.words)) }
+    ensures* words { sem 𝓛 (words_own (Some lot.words)) }
+    ensures told { (result ≡ MADE) × (bytes.new ≡ bytes_of lot) × (seat.new.held.tenant ≡ seat.old.held.tenant) }
+{
+    let handed = Handed {
+        memory,
+        code: EMPTY,
+    };
+    let Handed { memory: _, code } = usable(seat, handed, bytes);
+    code
+}
+
+/// How many of its takes a magazine served, and how many blocks are out, those in magazines too.
+#[unsafe(no_mangle)]
+pub extern "C" fn balloc_malloc_counts(seat: &mut Seat, hits: &mut u64, out: &mut u64) -> u32
+    ensures told { TellsCounts seat.old.held.tenant result (hits.old, out.old) (hits.new, out.new) }
+    ensures same { seat.new.held.tenant ≡ seat.old.held.tenant }
+{
+    match seat.tenant() {
+        Some(tenant) => {
+            let (seat_hits, seat_out) = tenant.counts();
+            *hits = seat_hits;
+            *out = seat_out;
+            DONE
+        }
+        None => EMPTY,
+    }
+}
