@@ -20,7 +20,7 @@ MOST = {
     "docs/STEPS.md": 600,
     "docs/TOUR.md": 1_200,
     "docs/TESTING.md": 1_000,
-    "docs/OPEN.md": 900,
+    "docs/OPEN.md": 950,
     "README.md": 950,
 }
 # These have a most of their own, and don't count in the sum.
