@@ -16,7 +16,7 @@ import argparse
 import tempfile
 
 import timed
-from try_c import CRATE, libraries
+from try_c import HEADERS, libraries
 
 COMMON = r"""
 #define _GNU_SOURCE
@@ -205,7 +205,7 @@ def main():
     parser.add_argument("--runs", type=int, default=7)
     parser.add_argument("--threads", default="1,2,4")
     said = parser.parse_args()
-    linked = [*libraries(), "-lm", "-I", f"{CRATE}/include"]
+    linked = [*libraries("balloc_c"), "-lm", *HEADERS]
     print(timed.heading(said))
     with tempfile.TemporaryDirectory() as folder:
         our = timed.compiled(OURS, "ours", folder, linked)

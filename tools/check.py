@@ -1,5 +1,5 @@
 #!/usr/bin/env python3
-"""Compares what the documents, the header for C and the pictures say with the tree; no gate does.
+"""Compares what the documents, the headers for C and the pictures say with the tree; no gate does.
 
     tools/check.py [NAME ..]          all that needs no built program, or those that are named
     tools/check.py traces PROGRAM     the traces of traces/ beside their reports; PROGRAM is the built one, as
@@ -10,7 +10,7 @@ Run it before each commit, which takes some seconds, and `traces` once the progr
     documents   names, links, quotes and lists that lead nowhere, and counts that the tree hasn't
     words       the words of each document and of all, beside the most that they may have
     twice       sentences that stand in two places
-    header      balloc.h beside the exports of balloc_c, and its version
+    header      balloc.h and balloc_malloc.h beside the exports of their crates, and the version
     points      the tables over the points, beside docs/PROOFS.md
     pictures    the pictures beside what they are drawn from, and the figures of docs/PERFORMANCE.md beside each other
     steps       the tables of docs/STEPS.md beside the code

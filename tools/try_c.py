@@ -1,9 +1,10 @@
 #!/usr/bin/env python3
-"""Builds and runs the programs of examples/c and examples/rust over the static library of crate balloc_c.
+"""Builds and runs the programs of examples/c and examples/rust over the static libraries of balloc_c and balloc_malloc.
 
     tools/try_c.py [--rounds N] [--sanitize]
 
-Run it when balloc_c, its header or an example has changed; the gate builds no C. It needs `rt` and its kit, a C compiler
+Run it when one of these, its header or an example has changed; the gate builds no C. What a preloaded malloc serves is
+tried by tools/try_malloc.py. It needs `rt` and its kit, a C compiler
 (`cc`, or $CC) with threads, for first.c as C++ a `c++` (or $CXX), and for examples/rust a `rustc`, without which these are
 left out. Where the library isn't built yet, `rt lib` builds it. Each program ends with 0 where all went as it should. With
 --sanitize the C programs are built again under the address and undefined behaviour sanitizers, and under the thread
@@ -17,7 +18,7 @@ import sys
 import tempfile
 
 TOP = os.path.dirname(os.path.dirname(os.path.abspath(__file__)))
-CRATE = f"{TOP}/crates/balloc_c"
+HEADERS = [f"-I{TOP}/crates/{crate}/include" for crate in ["balloc_c", "balloc_malloc"]]
 
 
 def kit_folder():
@@ -26,22 +27,22 @@ def kit_folder():
     return os.path.dirname(os.path.realpath(page))
 
 
-def libraries():
-    ours = f"{CRATE}/out/libballoc_c.a"
+def libraries(crate):
+    ours = f"{TOP}/crates/{crate}/out/lib{crate}.a"
     if not os.path.exists(ours):
-        subprocess.run(["rt", "lib"], cwd=CRATE, check=True)
+        subprocess.run(["rt", "lib"], cwd=f"{TOP}/crates/{crate}", check=True)
     return [ours, f"{kit_folder()}/c/liblibc_c.a"]
 
 
 def build_c(source, program, linked, flags):
     compiler = os.environ.get("CC", "cc")
-    subprocess.run([compiler, "-std=c11", "-O2", "-g", "-Wall", "-Wextra", "-Werror", f"-I{CRATE}/include", *flags, source,
+    subprocess.run([compiler, "-std=c11", "-O2", "-g", "-Wall", "-Wextra", "-Werror", *HEADERS, *flags, source,
                     "-o", program, *linked, "-pthread", "-lm"], check=True)
 
 
 def build_cpp(source, program, linked, flags):
     compiler = os.environ.get("CXX", "c++")
-    subprocess.run([compiler, "-x", "c++", "-std=c++17", "-O2", "-Wall", "-Wextra", "-Werror", f"-I{CRATE}/include", *flags, source,
+    subprocess.run([compiler, "-x", "c++", "-std=c++17", "-O2", "-Wall", "-Wextra", "-Werror", *HEADERS, *flags, source,
                     "-x", "none", "-o", program, *linked, "-pthread", "-lm"], check=True)
 
 
@@ -61,7 +62,7 @@ def main():
     parser.add_argument("--rounds", type=int, default=100000)
     parser.add_argument("--sanitize", action="store_true")
     options = parser.parse_args()
-    linked, rounds, failed = libraries(), str(options.rounds), 0
+    linked, rounds, failed = libraries("balloc_c"), str(options.rounds), 0
     kinds = {"": []}
     if options.sanitize:
         kinds |= {" (address)": ["-fsanitize=address,undefined"], " (thread)": ["-fsanitize=thread"]}
@@ -78,6 +79,8 @@ def main():
             build_c(f"{TOP}/examples/c/hostile.c", program, linked, flags)
             for depth in ["0", "8"]:
                 failed += run(f"hostile{kind}, magazines of {depth}", program, ["4", rounds, depth])
+        build_c(f"{TOP}/examples/c/pointers.c", program, libraries("balloc_malloc"), [])
+        failed += run("pointers", program, [])
         if shutil.which("rustc"):
             build_rust(f"{TOP}/examples/rust/main.rs", program, linked)
             failed += run("rust", program, [rounds])

@@ -1,19 +1,40 @@
-"""crates/balloc_c/include/balloc.h beside the exports of the crate: each function with its parameters and their order, each
-code with its number, the limits of a heap, and the layout of a pass and of a census. Each comment of a function names only
-codes that there are. The header's version is that of the first heading of CHANGELOG.md.
+"""balloc.h and balloc_malloc.h, each beside the exports of its crate: each function with its parameters and their order,
+each code with its number, and the limits of a heap; of balloc.h the layout of a pass and of a census, too. Each comment of
+a function names only codes that there are. The version of balloc.h is that of the first heading of CHANGELOG.md.
 """
 
 import re
+from typing import NamedTuple
 
 from checks import ROOT
 
+
+class Page(NamedTuple):
+    """A header of a crate: how its macros and codes begin, which files of the crate have the codes, what each limit is."""
+    crate: str
+    name: str
+    prefix: str
+    code_files: list
+    limits: dict
+
+    def text(self):
+        return text_of(f"{self.crate}/include/{self.name}")
+
+
 CRATE = "crates/balloc_c"
-LIMITS = {"BALLOC_MOST_FRAMES": "MAX_FRAMES", "BALLOC_MOST_HEAPS": "MAX_HEAPS", "BALLOC_MOST_UNITS": "MAX_UNITS",
-          "BALLOC_MOST_PASSES": "MAX_CALLERS", "BALLOC_MOST_TURNS": "MAX_TURNS", "BALLOC_MOST_WORDS": "LARGE_MOST",
-          "BALLOC_MOST_DEPTH": "DEEPEST", "BALLOC_SHELVES": "SHELVES", "BALLOC_CLASSES": "CLASSES"}
+PAGES = [
+    Page(CRATE, "balloc.h", "BALLOC_", ["lib.rt", "refusal.rt"],
+         {"MOST_FRAMES": "MAX_FRAMES", "MOST_HEAPS": "MAX_HEAPS", "MOST_UNITS": "MAX_UNITS", "MOST_PASSES": "MAX_CALLERS",
+          "MOST_TURNS": "MAX_TURNS", "MOST_WORDS": "LARGE_MOST", "MOST_DEPTH": "DEEPEST", "SHELVES": "SHELVES",
+          "CLASSES": "CLASSES"}),
+    Page("crates/balloc_malloc", "balloc_malloc.h", "BALLOC_MALLOC_", ["codes.rt"],
+         {"MOST_FRAMES": "MAX_FRAMES", "MOST_HEAPS": "MAX_HEAPS", "MOST_SEATS": "MAX_CALLERS", "MOST_DEPTH": "DEEPEST",
+          "MOST_BYTES": "8 * (SMALL_MOST - 1)"}),
+]
 VERSION = ["BALLOC_VERSION_MAJOR", "BALLOC_VERSION_MINOR", "BALLOC_VERSION_PATCH"]
-STRUCTS = {"PassHandle": "balloc_pass", "Counted": "balloc_census"}
-TYPES = {"bool": "bool", "u8": "uint8_t", "u32": "uint32_t", "u64": "uint64_t", "i32": "int32_t"}
+TYPES = {"bool": "bool", "u8": "uint8_t", "u32": "uint32_t", "u64": "uint64_t", "i32": "int32_t", "usize": "size_t",
+         "*mut u64": "void *", "Spot": "void *", "Seat": "balloc_seat", "PassHandle": "balloc_pass",
+         "Counted": "balloc_census"}
 
 
 def text_of(path):
@@ -24,19 +45,18 @@ def c_parameters(name, kind):
     """The parameters of C for one of Rattle."""
     if kind == "Global":
         return []
-    reference = re.fullmatch(r"&(mut )?(\[)?(\w+)\]?", kind)
+    reference = re.fullmatch(r"&(mut )?(\[)?(.+?)\]?", kind)
     if reference is None:
-        return [f"{TYPES[kind]} {name}"]
+        return [f"{TYPES[kind]} {name}".replace("* ", "*")]
     changes, is_slice, inner = reference.groups()
-    pointed = STRUCTS.get(inner) or TYPES[inner]
-    pointer = f"{'' if changes else 'const '}{pointed} *{name}"
+    pointer = f"{'' if changes else 'const '}{TYPES[inner]} *{name}".replace("* ", "*")
     return [pointer, "size_t count"] if is_slice else [pointer]
 
 
 def exported(source):
     """Each export as its name and C's parameters."""
     found = {}
-    pattern = r'#\[unsafe\(no_mangle\)\]\s*pub extern "C" fn (\w+)\((.*?)\)\s*->\s*(\w+)'
+    pattern = r'#\[unsafe\(no_mangle\)\]\s*pub (?:unsafe )?extern "C" fn (\w+)\((.*?)\)\s*->\s*(\w+)'
     for name, inside, result in re.findall(pattern, source, flags=re.S):
         parameters = []
         for part in filter(None, (part.strip() for part in inside.split(","))):
@@ -84,8 +104,15 @@ def struct_fields(header, name):
             for field in names.split(",")]
 
 
-def camel_as_constant(name):
-    return "BALLOC_" + re.sub(r"(?<!^)(?=[A-Z])", "_", name).upper()
+def constants(source):
+    """Each constant that is a number."""
+    return {name: int(number.replace("_", ""), 0)
+            for name, number in re.findall(r"^(?:pub )?const (\w+): \w+ = (-?\d\w*);", source, flags=re.M)}
+
+
+def value_of(limit, there):
+    """What a limit of a page stands for, or None where a constant of it isn't there."""
+    return eval(limit, {}, there) if set(re.findall(r"[A-Z_]+", limit)) <= there.keys() else None
 
 
 def defined(header):
@@ -93,38 +120,40 @@ def defined(header):
     return {name: int(number) for name, number in re.findall(r"^#define (BALLOC_\w+) (\d+)$", header, flags=re.M)}
 
 
-def functions(library, header):
-    exports, declarations = exported(library), declared(header)
+def functions(page, header):
+    exports, declarations = exported(text_of(f"{page.crate}/src/lib.rt")), declared(header)
     for name in sorted(exports.keys() | declarations.keys()):
         if exports.get(name) != declarations.get(name):
             yield f"{name}: exported as {exports.get(name)}, declared as {declarations.get(name)}"
 
 
-def codes(library, header):
-    ours = {camel_as_constant(name): int(number)
-            for name, number in re.findall(r"Refusal::(\w+) => (-?\d+),", text_of(f"{CRATE}/src/refusal.rt"))}
-    for name, number in re.findall(r"^const (\w+): i32 = (-?\d+);", library, flags=re.M):
-        ours["BALLOC_" + name] = int(number)
-    theirs = {name: int(number) for name, number in re.findall(r"(BALLOC_\w+) = (-?\d+)", header)}
+def differences(ours, theirs):
+    """Of the crate's numbers and the header's."""
     for name in sorted(ours.keys() | theirs.keys()):
-        if ours.get(name) != theirs.get(name):
+        if name not in theirs or ours.get(name) != theirs[name]:
             yield f"{name}: {ours.get(name)} in the crate, {theirs.get(name)} in the header"
-    for comment, name in re.findall(r"/\*((?:(?!\*/).)*?)\*/\s*int32_t (balloc_\w+)\(", header, flags=re.S):
+
+
+def codes(page, header):
+    source = "".join(text_of(f"{page.crate}/src/{file}") for file in page.code_files)
+    ours = {page.prefix + name: number for name, number in constants(source).items()}
+    for name, number in re.findall(r"Refusal::(\w+) => (-?\d+),", source):
+        ours[page.prefix + re.sub(r"(?<!^)(?=[A-Z])", "_", name).upper()] = int(number)
+    theirs = {name: int(number) for name, number in re.findall(r"(BALLOC_\w+) = (-?\d+)", header)}
+    yield from differences(ours, theirs)
+    for comment, name in re.findall(r"/\*((?:(?!\*/).)*?)\*/\s*\w+ (balloc_\w+)\(", header, flags=re.S):
         named = set(re.findall(r"BALLOC_\w+", comment)) - defined(header).keys()
         for constant in sorted(named - theirs.keys()):
             yield f"{name}: its comment names {constant}, which there is not"
-        if "BALLOC_DONE" not in named:
+        if page.prefix + "DONE" not in named:
             yield f"{name}: its comment doesn't name its codes"
 
 
-def limits(header):
-    source = text_of("crates/heap_geometry/src/limits.rt") + text_of(f"{CRATE}/src/opening.rt")
-    ours = {name: int(number.replace("_", ""), 0)
-            for name, number in re.findall(r"^(?:pub )?const (\w+): \w+ = (\w+);", source, flags=re.M)}
+def limits(page, header):
+    there = constants(text_of("crates/heap_geometry/src/limits.rt") + text_of(f"{page.crate}/src/opening.rt"))
+    ours = {page.prefix + name: value_of(limit, there) for name, limit in page.limits.items()}
     theirs = {name: number for name, number in defined(header).items() if name not in VERSION}
-    for name in sorted(LIMITS.keys() | theirs.keys()):
-        if name not in LIMITS or name not in theirs or ours.get(LIMITS[name]) != theirs[name]:
-            yield f"{name}: {ours.get(LIMITS.get(name))} in the crate, {theirs.get(name)} in the header"
+    yield from differences(ours, theirs)
 
 
 def layouts(header):
@@ -145,13 +174,20 @@ def version(header):
 
 
 def complaints():
-    library, header = text_of(f"{CRATE}/src/lib.rt"), text_of(f"{CRATE}/include/balloc.h")
-    for found in (functions(library, header), codes(library, header), limits(header), layouts(header), version(header)):
-        for what in found:
-            yield f"balloc.h: {what}"
+    for page in PAGES:
+        header = page.text()
+        found = [functions(page, header), codes(page, header), limits(page, header)]
+        if page.crate == CRATE:
+            found += [layouts(header), version(header)]
+        for part in found:
+            for what in part:
+                yield f"{page.name}: {what}"
 
 
 def summary():
-    header = text_of(f"{CRATE}/include/balloc.h")
-    numbers = re.findall(r"BALLOC_\w+ = -?\d", header)
-    return f"{len(declared(header))} functions, {len(numbers)} codes and {len(LIMITS)} limits of balloc.h"
+    counts = []
+    for page in PAGES:
+        header = page.text()
+        calls, numbers = len(declared(header)), len(re.findall(r"BALLOC_\w+ = -?\d", header))
+        counts.append(f"{calls} functions, {numbers} codes and {len(page.limits)} limits of {page.name}")
+    return "; ".join(counts)

@@ -21,7 +21,7 @@ MOST = {
     "docs/TOUR.md": 1_200,
     "docs/TESTING.md": 1_000,
     "docs/OPEN.md": 950,
-    "README.md": 950,
+    "README.md": 920,
 }
 # These have a most of their own, and don't count in the sum.
 BESIDE = {"CONTRIBUTING.md": 1_200, "CHANGELOG.md": 900}

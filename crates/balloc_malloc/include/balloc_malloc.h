@@ -8,9 +8,13 @@
  * - Each pointer points to an object of its type, or to `count` of them, for the call alone; no two overlap.
  * - Memory goes back once, to the seat that told it, and nobody touches it from then on. Until then its first 8 bytes,
  *   the label, are as the library wrote them; what lies behind them is the caller's. Where give answers
- *   BALLOC_MALLOC_BUSY the memory has not gone back.
+ *   BALLOC_MALLOC_BUSY the memory has not gone back. Other threads may use it meanwhile, as any memory of C; what they do
+ *   with it comes before it goes back, by one of the ways above.
+ * - Each word behind the label of memory that is resized has been written.
  * - malloc, realloc and free of the program that this library is linked with come from one allocator, another one than
  *   this. Only balloc_malloc_open uses them; no call is made from a signal handler.
+ *
+ * balloc.h has the version of both headers.
  */
 #ifndef BALLOC_MALLOC_H
 #define BALLOC_MALLOC_H
@@ -30,7 +34,8 @@ typedef struct balloc_seat {
     BALLOC_MALLOC_ALIGNED unsigned char bytes[64];
 } balloc_seat;
 
-/* The most of each number of a heap, and the most bytes behind a label: of the memory of a heap without large blocks. */
+/* The most of each number of a heap, and the most bytes behind a label, since these heaps have no
+ * large blocks: a take of more is refused, whatever is free. */
 #define BALLOC_MALLOC_MOST_FRAMES 4096
 #define BALLOC_MALLOC_MOST_HEAPS 16
 #define BALLOC_MALLOC_MOST_SEATS 16
@@ -39,11 +44,12 @@ typedef struct balloc_seat {
 
 enum {
     BALLOC_MALLOC_DONE = 0,        /* the call was made */
-    BALLOC_MALLOC_REFUSED = 1,     /* the heap has no block left for so many bytes */
-    BALLOC_MALLOC_TOO_LARGE = 2,   /* no block of any heap has so many bytes */
+    BALLOC_MALLOC_REFUSED = 1,     /* the heap has no block left for so many bytes, or never has one */
+    BALLOC_MALLOC_TOO_LARGE = 2,   /* more bytes than a block of any kind of heap has, 1,048,560 */
     BALLOC_MALLOC_SPENT = 3,       /* the seat's pass has taken all its turns, 2^36 - 1 */
     BALLOC_MALLOC_BUSY = 4,        /* after many lost exchanges a call of the heap is under way: this one's, or an
-                                      earlier one's of this seat. The seat's next take or give goes on with it */
+                                      earlier one's of this seat. The seat's next take or give goes on with
+                                      it, and frees what an interrupted take got: so make the call again */
     BALLOC_MALLOC_EMPTY = 5,       /* the seat has no pass */
     BALLOC_MALLOC_BAD_NUMBERS = 6, /* a number of the heap is out of its range, or a seat has a pass already */
     BALLOC_MALLOC_NO_MEMORY = 7    /* no memory for the heap */
@@ -59,7 +65,8 @@ enum {
 uint32_t balloc_malloc_open(uint32_t frames, uint32_t heaps, uint32_t depth, balloc_seat *seats, size_t count, void **memory,
                             size_t *bytes);
 
-/* Tells memory: 8 bytes of a label, aligned to 16 bytes, and at least `bytes` bytes behind them, which hold anything.
+/* Tells where a label of 8 bytes lies, at a multiple of 16. The caller's bytes begin 8 behind it: at least `bytes`, which
+ * hold anything.
  * Where it answers anything but BALLOC_MALLOC_DONE it tells NULL.
  * BALLOC_MALLOC_DONE, BALLOC_MALLOC_REFUSED, BALLOC_MALLOC_TOO_LARGE, BALLOC_MALLOC_SPENT, BALLOC_MALLOC_BUSY,
  * BALLOC_MALLOC_EMPTY */
