@@ -28,7 +28,7 @@ AreEmpty seats = (number : ℕ) → held_at seats number ≡ None
 
 -- the numbers are in their ranges, and magazines have room for so many pieces
 abbrev pub Fit : Geometry → ℕ → Type 0
-Fit g depth = IsChecked g × (depth ≤ 64)
+Fit g depth = IsChecked g × (depth ≤ 4096)
 
 -- the pass of this caller of the heap, which has made no step and has no block; its magazines are empty, and have room for so many each
 pub record IsNew (h : HeapFields) (number depth : ℕ) (tenant : Tenant) : Type 0 where

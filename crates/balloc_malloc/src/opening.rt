@@ -20,7 +20,7 @@ use std::alloc::{AllocError, Global};
 use std::sync::Arc;
 
 /// A magazine has room for so many pieces of memory at most.
-const DEEPEST: u32 = 64;
+const DEEPEST: u32 = 4096;
 
 /// Opens a heap, and puts a pass into each seat. Where that fails the seats are empty as before, or one wasn't and
 /// all are as they were.
@@ -49,7 +49,7 @@ pub fn open_all(
 }
 
 /// The numbers, where each is in its range.
-fn checked(geometry: Geometry, depth: u32) -> Option<(Geometry, u8)>
+fn checked(geometry: Geometry, depth: u32) -> Option<(Geometry, u16)>
     ensures some { IfSome result (λ numbers. (numbers.0 ≡ geometry) × (numbers.1 ≡ depth) × Fit geometry depth) }
     ensures none { result ≡ None → ¬ Fit geometry depth }
 {
@@ -57,7 +57,7 @@ fn checked(geometry: Geometry, depth: u32) -> Option<(Geometry, u8)>
         return None;
     }
     match geometry.check() {
-        Ok(geometry) => Some((geometry, depth as u8)),
+        Ok(geometry) => Some((geometry, depth as u16)),
         Err(_) => None,
     }
 }
@@ -88,7 +88,7 @@ fn empty_all(alloc: Global, seats: &mut [Seat])
 fn give_all(
     alloc: Global,
     geometry: Geometry,
-    depth: u8,
+    depth: u16,
     seats: &mut [Seat],
 ) -> Result<Start, AllocError>
     requires fit { Fit geometry depth }
@@ -111,9 +111,9 @@ fn give_all(
 }
 
 /// The pass with magazines of this depth.
-fn cached(alloc: Global, heap: &Heap, pass: Pass, depth: u8) -> Result<MemoryCache, AllocError>
+fn cached(alloc: Global, heap: &Heap, pass: Pass, depth: u16) -> Result<MemoryCache, AllocError>
     requires fresh { IsFresh heap.now pass }
-    requires few { depth ≤ 64 }
+    requires few { depth ≤ 4096 }
     ensures cache { IfOk result (λ cache. IsCache heap.now cache) }
     ensures new { IfOk result (λ cache. (cache.pass ≡ pass) × (kept_in cache ≡ []) × (cache.magazines.depth ≡ depth) × (cache.hits ≡ 0)) }
 {

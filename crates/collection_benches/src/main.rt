@@ -24,7 +24,7 @@ use std::thread::Threads;
 use std::{env, io, thread};
 
 /// How many blocks of a class a magazine keeps.
-const DEPTH: u8 = 64;
+const DEPTH: u16 = 1024;
 
 /// How many exchanges a call may lose.
 const TRIES: u32 = 1000;

@@ -45,19 +45,19 @@ pub struct Refused {
 }
 
 impl<'h> HeapAllocator<'h> {
-    /// An allocator over a pass that holds no blocks, with magazines for so many pieces of each class, at most 64. A call
+    /// An allocator over a pass that holds no blocks, with magazines for so many pieces of each class, at most 4,096. A call
     /// of the heap has so many tries. All memory but for the table of what is out is taken here.
     pub fn new(
         alloc: Global,
         heap: &'h Heap,
         pass: Pass,
-        depth: u8,
+        depth: u16,
         tries: u32,
     ) -> Result<HeapAllocator<'h>, Refused>
         requires of { IsOf heap.now pass }
         requires idle { IsIdle pass.errand }
         requires holds { HoldsExactly pass [] }
-        requires few { depth ≤ 64 }
+        requires few { depth ≤ 4096 }
         requires tries { 0 < tries }
         ensures heap { IfOk result (λ allocator. allocator.heap.now ≡ heap.now) }
         ensures caller { IfOk result (λ allocator. allocator.caller ≡ pass.errand.caller) }

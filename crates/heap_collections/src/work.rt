@@ -10,7 +10,7 @@ use live_heap::pass::Pass;
 use std::alloc::Global;
 
 /// How many pieces of each class an allocator keeps.
-const DEPTH: u8 = 4;
+const DEPTH: u16 = 4;
 
 /// How often a call of the heap may lose an exchange before it is given up.
 const TRIES: u32 = 1000;

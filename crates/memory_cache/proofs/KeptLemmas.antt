@@ -90,7 +90,7 @@ refilled h c p m hits is pass depth ready kept =
     record {
       pass = pass;
       magazines = subst (λ k. AreForClasses k m.stacks.items) (sym depth) ready;
-      few = subst (λ k. k ≤ 64) (sym depth) is.few;
+      few = subst (λ k. k ≤ 4096) (sym depth) is.few;
       kept = kept;
     }
 

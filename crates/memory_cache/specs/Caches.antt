@@ -37,7 +37,7 @@ AreKept h p (m ∷ ms) = (IsRoomOf h m × HasTaken p m) × LieApart m ms × AreK
 pub record IsCache (h : HeapFields) (c : MemoryCache) : Type 0 where
   pub pass : IsPassFor h c.pass
   pub magazines : AreForClasses c.magazines.depth c.magazines.stacks.items
-  pub few : c.magazines.depth ≤ 64
+  pub few : c.magazines.depth ≤ 4096
   pub kept : AreKept h c.pass (kept_in c)
 
 -- a cache's caller holds this memory: it is out with the pass, and in no magazine

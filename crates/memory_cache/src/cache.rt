@@ -35,10 +35,10 @@ pub struct MemoryCache {
 }
 
 impl MemoryCache {
-    /// A cache in front of the pass, with empty magazines for so many pieces each, at most 64: with 0 none keeps
+    /// A cache in front of the pass, with empty magazines for so many pieces each, at most 4,096: with 0 none keeps
     /// any. All memory for them is taken here. A pass that holds no blocks is settled.
-    pub fn open(alloc: Global, pass: Pass, depth: u8) -> Result<MemoryCache, CacheRefused>
-        requires few { depth ≤ 64 }
+    pub fn open(alloc: Global, pass: Pass, depth: u16) -> Result<MemoryCache, CacheRefused>
+        requires few { depth ≤ 4096 }
         ensures cache { IfOk result (λ cache. (h : HeapFields) → IsSettled h pass → IsCache h cache) }
         ensures pass { IfOk result (λ cache. cache.pass ≡ pass) }
         ensures empty { IfOk result (λ cache. kept_in cache ≡ []) }

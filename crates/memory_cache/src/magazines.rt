@@ -13,12 +13,12 @@ use std::alloc::{AllocError, Global};
 #[derive(Drop)]
 pub struct Magazines {
     pub(crate) stacks: Vec<Vec<Memory>>,
-    pub(crate) depth: u8,
+    pub(crate) depth: u16,
 }
 
 impl Magazines {
     /// Empty magazines for so many pieces each. All memory is taken here.
-    pub(crate) fn new(alloc: Global, depth: u8) -> Result<Magazines, AllocError>
+    pub(crate) fn new(alloc: Global, depth: u16) -> Result<Magazines, AllocError>
         ensures ready { IfOk result (λ m. AreForClasses depth m.stacks.items) }
         ensures empty { IfOk result (λ m. all_in (stacks_of m.stacks.items) ≡ []) }
         ensures depth { IfOk result (λ m. m.depth ≡ depth) }
