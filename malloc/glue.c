@@ -14,7 +14,7 @@
 
 #define EXPORT __attribute__((visibility("default")))
 #define COUNT(at) atomic_store_explicit(&(at), (at) + 1, memory_order_relaxed) /* by one thread; others only look */
-enum { HEAPS = 512, SEATS = 16, DEPTH = 64, FRAMES = 512, MOST_BYTES = 16360, WORD = 8, DONE = BALLOC_MALLOC_DONE };
+enum { HEAPS = 512, SEATS = 16, DEPTH = 512, FRAMES = 512, MOST_BYTES = 16360, WORD = 8, DONE = BALLOC_MALLOC_DONE };
 extern void *__libc_malloc(size_t), *__libc_calloc(size_t, size_t), *__libc_realloc(void *, size_t);
 extern void *__libc_memalign(size_t, size_t), __libc_free(void *);
 typedef struct seat {

@@ -54,14 +54,14 @@ class Watch(threading.Thread):
             self.look()
             if self.apart and any(check["ppid"] == self.apart and kind_of(check) for check in self.seen.values()):
                 keep_apart(self.apart)
+        for check in self.seen.values():
+            self.write(check)
 
     def let_go(self):
         """Leaves all processors to rt again, and so to the tests and programs that it starts."""
         gate, self.apart = self.apart, None
         if gate:
             spread(gate)
-        for check in self.seen.values():
-            self.write(check)
 
     def look(self):
         """Takes note of each check that runs now, and writes those that have ended."""
