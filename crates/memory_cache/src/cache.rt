@@ -58,7 +58,7 @@ impl MemoryCache {
 
     /// Memory of at least so many words; some of them may never have been written. Where the magazine for them has
     /// a piece it is that, the last one, without a step; else a block is allocated for it.
-    #[inline]
+    #[inline(always)]
     pub fn take(&mut self, heap: &Heap, words: u32, tries: u32) -> MemoryAnswer
         requires cache { IsCache heap.now self.old }
         requires tries { 0 < tries }
@@ -110,7 +110,7 @@ impl MemoryCache {
 
     /// Takes memory back that the caller holds. Where the magazine of its class has room it is kept there, without
     /// a step; else its block is freed. It comes back where a call is under way that doesn't end within the tries.
-    #[inline]
+    #[inline(always)]
     pub fn give(&mut self, heap: &Heap, memory: Memory, tries: u32) -> Result<(), Memory>
         requires cache { IsCache heap.now self.old }
         requires room { IsRoomOf heap.now memory }
