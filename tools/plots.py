@@ -51,7 +51,6 @@ PLOTS = {
     "cached_runs.svg": Bars("Whole runs through caches", ["`cache 64`", *ALLOCATORS], "milliseconds by the clock"),
     "cached_lanes.svg": Lines("Lanes against time, through caches", ["`cache 64`", *ALLOCATORS], "milliseconds by the clock",
                               "lanes", "trace"),
-    "live_blocks.svg": Lines("Live blocks against time", ["processor ms"], "milliseconds of processor time", "live blocks"),
     "pipe.svg": Bars("A message of a pipeline", ["pipe", *ALLOCATORS, "rounds, glibc"], PROCESSOR),
 }
 
