@@ -16,7 +16,7 @@ MOST = {
     "docs/ARCHITECTURE.md": 2_500,
     "docs/DECISIONS.md": 2_500,
     "docs/IDEA.md": 1_600,
-    "docs/PERFORMANCE.md": 1_500,
+    "docs/PERFORMANCE.md": 1_800,
     "docs/STEPS.md": 600,
     "docs/TOUR.md": 1_200,
     "docs/TESTING.md": 1_000,
