@@ -1,7 +1,7 @@
 /* The symbols of malloc over balloc's heaps. What decides is crates/balloc_malloc; here is what that can't have: a thread's
- * own variables, its first call and its end, and the names. In front of the caller's memory stand the library's label and
- * our word: the seat that told it, and how many bytes may be used. Only the seat's thread makes calls with it: others put
- * what they free on its list. What no seat gives is the C library's, and goes back there. README.md has the rest. */
+ * own variables, its first call and its end, and the names. In front of the caller's memory stands the heap's own word
+ * alone: which seat told it, and its kind, is noted aside, in a byte for each 16. Only the seat's thread makes calls with it:
+ * others put what they free on its list. What no seat gives is the C library's, and goes back there. README.md has the rest. */
 #define _GNU_SOURCE
 #include "balloc_malloc.h"
 #include <dlfcn.h>
@@ -11,140 +11,140 @@
 #include <stdio.h>
 #include <stdlib.h>
 #include <string.h>
-
+#include <sys/mman.h>
 #define EXPORT __attribute__((visibility("default")))
 #define COUNT(at) atomic_store_explicit(&(at), (at) + 1, memory_order_relaxed) /* by one thread; others only look */
-enum { HEAPS = 512, SEATS = 16, DEPTH = 512, FRAMES = 512, MOST_BYTES = 16360, WORD = 8, DONE = BALLOC_MALLOC_DONE };
+enum { HEAPS = 256, SEATS = 16, DEPTH = 2048, FRAMES = 512, WORD = 8, DONE = BALLOC_MALLOC_DONE, OPEN = PROT_READ | PROT_WRITE };
+static const size_t SLOT = 1 << 28, ALL = (size_t)HEAPS << 28, MOST = BALLOC_MALLOC_MOST_BYTES;
 extern void *__libc_malloc(size_t), *__libc_calloc(size_t, size_t), *__libc_realloc(void *, size_t);
 extern void *__libc_memalign(size_t, size_t), __libc_free(void *);
 typedef struct seat {
-    _Alignas(64) _Atomic(void *) owner;  /* the `me` of its thread; NULL where it is free */
-    struct seat *next;                   /* a thread's seats stand in a ring */
-    _Atomic size_t given, freed;
-    size_t enough;                       /* its heap refused: it is asked first again once fewer blocks are out */
-    _Alignas(64) _Atomic(size_t *) list; /* what other threads freed: our word of each has where the next one's label is */
+    _Alignas(64) _Atomic(void *) owner; /* the `me` of its thread; NULL where it is free */
+    struct seat *next;                  /* a thread's seats stand in a ring */
+    balloc_seat *pass; size_t number;   /* counted as if slots began at address 0 */
+    _Atomic size_t given[16], freed[16], awaits; /* by kind; its heap refused: it is asked first again once as many are freed */
+    _Alignas(64) _Atomic(void **) list; /* what other threads freed: in each stands where the next one is */
 } seat;
-
 static balloc_seat passes[HEAPS * SEATS];
 static seat seats[HEAPS * SEATS];
-static struct { void *memory; size_t bytes; } heaps[HEAPS];
-static _Atomic size_t opened;
+static size_t sizes[HEAPS]; static pthread_key_t at_end;
+static _Atomic size_t opened, region = 1ull << 63; /* where the heaps' slots begin, and the notes behind them; first, nowhere */
+static uint8_t *notes; /* where the note of address 0 would be */
 static atomic_flag door = ATOMIC_FLAG_INIT; /* who finds it closed uses the C library; so may a forked child for ever */
-static pthread_key_t at_end;
 static _Thread_local struct { seat *first; size_t from; } me; /* from: the heap from which on it looks for a seat */
-static inline size_t *label_of(void *p) { return (size_t *)p - 2; }
-static inline size_t word_of(void *p) { return ((size_t *)p)[-1]; }
-static inline balloc_seat *pass_of(seat *s) { return &passes[s - seats]; }
-static inline size_t out_of(seat *s) { return s->given - s->freed; }
-static inline void *tell(seat *s, size_t *label, size_t n) { label[1] = (size_t)(s - seats) << 32 | n; return label + 2; }
-static inline int is_power(size_t a) { return a && !(a & (a - 1)); }
-
-/* The seat of memory. NULL for the C library's, whose own word in front may name a seat, but one of a heap elsewhere. */
-static inline seat *seat_of(void *p)
+static inline int is_ours(void *p) { return (size_t)p - region < ALL; }
+static inline uint8_t *note_of(void *p) { return notes + (size_t)p / 16; }
+static inline size_t number_of(void *p) { return (size_t)p / SLOT * SEATS + *note_of(p) / 16; }
+static inline size_t bytes_of(void *p) { return balloc_malloc_bytes(*note_of(p) % 16); }
+/* What the library asks for when it opens a heap: the heap's words, far more than all else, begin its slot. */
+void *glue_malloc(size_t n)
 {
-    size_t number = p ? word_of(p) >> 32 : HEAPS * SEATS, h = number / SEATS;
-    return h < opened && (size_t)p - (size_t)heaps[h].memory < heaps[h].bytes ? &seats[number] : NULL;
+    void *slot = (void *)(region + opened * SLOT);
+    return n < MOST * FRAMES ? __libc_malloc(n) : n < SLOT && !mprotect(slot, n, OPEN) ? slot : NULL;
 }
-
-static void give(seat *s, size_t *label)
+void glue_free(void *p) { if (!is_ours(p)) __libc_free(p); }
+static size_t sum(_Atomic size_t *counts) { size_t all = 0; for (int k = 0; k < 16; k++) all += counts[k]; return all; }
+static inline uint32_t take(seat *s, size_t n, void **p)
 {
-    if (s->owner == &me && balloc_malloc_give(pass_of(s), label) == DONE) {
-        COUNT(s->freed);
-        if (out_of(s) < s->enough) s->enough = 0, me.first = s;
-    } else { /* another thread's; or a call of the heap is under way, and its thread gives it later */
-        size_t *top = s->list;
-        do label[1] = (size_t)top; while (!atomic_compare_exchange_weak(&s->list, &top, label));
-    }
+    uint32_t kind = balloc_malloc_take(s->pass, n, p);
+    if (kind < BALLOC_MALLOC_KINDS) COUNT(s->given[kind % 16]), *note_of(*p) = s->number % SEATS << 4 | kind;
+    return kind;
 }
-
+static inline int give(seat *s, void *p) /* a heap's memory begins a word behind its slot */
+{
+    uint32_t kind = *note_of(p) % 16, code = balloc_malloc_give(s->pass, (size_t)p % SLOT / WORD - 2, kind);
+    return code == DONE && (COUNT(s->freed[kind]), 1);
+}
+static __attribute__((noinline)) void give_or_push(void **p)
+{
+    seat *s = &seats[number_of(p) - region / SLOT * SEATS];
+    if (s->owner != &me || !give(s, p)) for (void **top = s->list; *p = top, !atomic_compare_exchange_weak(&s->list, &top, p);) {}
+    else if (s->awaits && sum(s->freed) >= s->awaits) me.first = s, s->awaits = 0;
+}
+EXPORT void free(void *p) /* most often of the first seat: its words are then on their way before the note is read */
+{
+    if (!is_ours(p)) return __libc_free(p);
+    if (!me.first || me.first->number != number_of(p) || !give(me.first, p)) give_or_push(p);
+}
 static void leave(void *first) /* at the thread's end */
 {
-    me.first = NULL, me.from = 0;
-    for (seat *s = first, *next; s; s = next != first ? next : NULL) next = s->next, s->owner = NULL;
+    me.first = NULL, me.from = 0; for (seat *s = first, *next; s; s = next != first ? next : NULL) next = s->next, s->owner = NULL;
 }
-
-/* A seat of a heap where this thread has none. A heap that is opened since others refused is larger than the first one. */
-static seat *sit(void)
+static int open_heap(size_t h) /* the first one takes the addresses of all; what is opened since others refused is larger */
+{
+    const int how = MAP_PRIVATE | MAP_ANONYMOUS | MAP_NORESERVE, frames = FRAMES << (me.from < 3 ? me.from : 3);
+    void *words, *all = region >> 63 ? mmap(NULL, ALL + ALL / 16 + SLOT, PROT_NONE, how, -1, 0) : NULL;
+    if (h == HEAPS || all == MAP_FAILED || (all && pthread_key_create(&at_end, leave))) return 0;
+    if (all) region = ((size_t)all + SLOT - 1) / SLOT * SLOT;
+    notes = (uint8_t *)region + ALL - region / 16;
+    return DONE == balloc_malloc_open(frames, SEATS, DEPTH, &passes[h * SEATS], SEATS, &words, &sizes[h])
+        && (size_t)words == region + h * SLOT + WORD && !mprotect(note_of(words), sizes[h] / 16 + 1, OPEN);
+}
+static seat *sit(void) /* on a seat of a heap where this thread has none */
 {
     size_t i = me.from * SEATS;
     if (me.from > HEAPS || atomic_flag_test_and_set(&door)) return NULL;
     while (i < opened * SEATS && seats[i].owner) i++;
-    size_t h = i / SEATS;
-    if (h == opened && h < HEAPS && DONE == balloc_malloc_open(FRAMES << (me.from < 3 ? me.from : 3), SEATS, DEPTH, &passes[i],
-            SEATS, &heaps[h].memory, &heaps[h].bytes) && (h || !pthread_key_create(&at_end, leave))) opened++;
-    seat *found = h < opened && !pthread_setspecific(at_end, &seats[i]) ? &seats[i] : NULL;
-    me.from = found ? h + 1 : HEAPS + 1; /* where there is none it looks no more */
+    if (i == opened * SEATS && open_heap(opened)) opened++;
+    seat *found = i < opened * SEATS && !pthread_setspecific(at_end, &seats[i]) ? &seats[i] : NULL;
+    me.from = found ? i / SEATS + 1 : HEAPS + 1; /* where there is none it looks no more */
     if (found) found->next = me.first ? me.first->next : found, *(me.first ? &me.first->next : &me.first) = found;
-    if (found) found->owner = &me;
-    atomic_flag_clear(&door);
-    return found;
+    if (found) found->pass = &passes[i], found->number = region / SLOT * SEATS + i, found->owner = &me;
+    return atomic_flag_clear(&door), found;
 }
-
-EXPORT void *malloc(size_t n)
+static __attribute__((noinline)) void *search(size_t n) /* from seat to seat of the ring, and then on new ones */
 {
-    int code = DONE; /* from seat to seat of the ring, and then to new ones */
-    for (seat *s = n > MOST_BYTES ? NULL : me.first ? me.first : sit(); s;
+    uint32_t code = DONE;
+    for (seat *s = n > MOST ? NULL : me.first ? me.first : sit(); s;
          s = s->next != me.first ? s->next : code == BALLOC_MALLOC_REFUSED || code == BALLOC_MALLOC_SPENT ? sit() : NULL) {
-        size_t *label = s->list ? atomic_exchange(&s->list, NULL) : NULL;
-        for (size_t *next; label; label = next) next = (size_t *)label[1], give(s, label);
-        void *memory;
-        code = balloc_malloc_take(pass_of(s), n + WORD, &memory);
-        if (code == DONE) return COUNT(s->given), me.first = s, tell(s, memory, n);
-        s->enough = out_of(s) / 8 * 7;
+        void **p = atomic_exchange(&s->list, NULL);
+        for (void **next; p; p = next) next = *p, free(p);
+        if ((code = take(s, n, (void **)&p)) < BALLOC_MALLOC_KINDS) return me.first = s, p;
+        s->awaits = sum(s->freed) + (sum(s->given) - sum(s->freed)) / 8 + 1;
     }
     return __libc_malloc(n);
 }
-
-EXPORT void free(void *p) { seat *s = seat_of(p); if (s) give(s, label_of(p)); else __libc_free(p); }
-
+EXPORT void *malloc(size_t n)
+{
+    void *p;
+    seat *s = me.first;
+    return s && n <= MOST && !s->list && take(s, n, &p) < BALLOC_MALLOC_KINDS ? p : search(n);
+}
 EXPORT void *calloc(size_t n, size_t m)
 {
     size_t all;
-    if (__builtin_mul_overflow(n, m, &all) || all > MOST_BYTES) return __libc_calloc(n, m);
-    void *p = malloc(all);
-    return p ? memset(p, 0, all) : NULL;
+    void *p = __builtin_mul_overflow(n, m, &all) || all > MOST ? NULL : malloc(all);
+    return p ? memset(p, 0, all) : __libc_calloc(n, m);
 }
-
 EXPORT void *realloc(void *p, size_t n) /* to 0 bytes it frees, as the C library's does */
 {
-    seat *s = seat_of(p);
-    if (!s) return p ? __libc_realloc(p, n) : malloc(n);
-    size_t had = (uint32_t)word_of(p);
+    if (!is_ours(p)) return p ? __libc_realloc(p, n) : malloc(n);
+    size_t had = bytes_of(p);
     if (n && n <= had && n >= had / 2) return p;
-    if (n > had && s->owner == &me && balloc_malloc_usable(pass_of(s), label_of(p), &had) == DONE && n <= (had -= WORD))
-        return tell(s, label_of(p), had);
     void *to = n ? malloc(n) : NULL;
     if (to) memcpy(to, p, n < had ? n : had);
     if (to || !n) free(p);
     return to;
 }
-
-EXPORT void *memalign(size_t a, size_t n)
+EXPORT void *aligned_alloc(size_t a, size_t n)
 {
-    return !is_power(a) ? errno = EINVAL, NULL : a > 16 ? __libc_memalign(a, n) : malloc(n);
+    return !a || a & (a - 1) ? errno = EINVAL, NULL : a > 16 ? __libc_memalign(a, n) : malloc(n);
 }
-EXPORT void *aligned_alloc(size_t a, size_t n) { return memalign(a, n); }
-EXPORT int posix_memalign(void **out, size_t a, size_t n)
+EXPORT void *memalign(size_t a, size_t n) { return aligned_alloc(a, n); }
+EXPORT int posix_memalign(void **p, size_t a, size_t n) { return a < 8 || a & (a - 1) ? EINVAL : (*p = memalign(a, n)) ? 0 : ENOMEM; }
+EXPORT size_t malloc_usable_size(void *p) { return is_ours(p) ? bytes_of(p) : ((size_t (*)(void *))dlsym(RTLD_NEXT, "malloc_usable_size"))(p); }
+EXPORT void balloc_report(void) /* on standard error, also for a debugger; nothing while a thread looks for a seat */
 {
-    return !is_power(a) || a < sizeof(void *) ? EINVAL : (*out = memalign(a, n)) ? 0 : ENOMEM;
-}
-
-EXPORT size_t malloc_usable_size(void *p)
-{
-    size_t (*next)(void *) = seat_of(p) ? NULL : (size_t (*)(void *))dlsym(RTLD_NEXT, "malloc_usable_size");
-    return next ? next(p) : (uint32_t)word_of(p);
-}
-
-__attribute__((destructor)) static void report(void)
-{
-    uint64_t given = 0, freed = 0, bytes = 0, hits = 0, more, out;
-    const char *asked = getenv("BALLOC_STATS");
-    if (!asked || strcmp(asked, "1") || atomic_flag_test_and_set(&door)) return; /* from now on nobody takes a seat */
-    for (size_t h = 0; h < opened; h++) bytes += heaps[h].bytes;
+    uint64_t given[16] = {0}, live[16] = {0}, all = 0, gone = 0, bytes = 0, hits = 0, lost = 0, more, out, less;
+    if (atomic_flag_test_and_set(&door)) return; /* meanwhile nobody takes a seat; those of other threads tell no more */
     for (seat *s = seats; s < seats + opened * SEATS; s++) {
-        given += s->given, freed += s->freed;
-        if ((!s->owner || s->owner == &me) && balloc_malloc_counts(pass_of(s), &more, &out) == DONE) hits += more;
+        for (int k = 0; k < 16; k++) given[k] += s->given[k], live[k] += s->given[k] - s->freed[k];
+        all += sum(s->given), gone += sum(s->freed), bytes += (s - seats) % SEATS ? 0 : sizes[(s - seats) / SEATS];
+        if ((!s->owner || s->owner == &me) && balloc_malloc_counts(&passes[s - seats], &more, &out, &less) == DONE) hits += more, lost += less;
     }
-    dprintf(2, "balloc: %lu given, %lu freed, %lu live; magazines served %lu; %zu heaps with %lu MB of addresses\n", given,
-            freed, given - freed, hits, (size_t)opened, bytes >> 20);
+    dprintf(2, "balloc: %lu given, %lu freed, %lu live; magazines served %lu; %lu exchanges lost; %zu heaps with %lu MB of addresses\n",
+            all, gone, all - gone, hits, lost, (size_t)opened, bytes >> 20);
+    for (int k = 0; k < 16; k++) if (given[k]) dprintf(2, "balloc: of %zu bytes %lu given, %lu live\n", balloc_malloc_bytes(k), given[k], live[k]);
+    atomic_flag_clear(&door);
 }
+__attribute__((destructor)) static void report(void) { char *asked = getenv("BALLOC_STATS"); if (asked && !strcmp(asked, "1")) balloc_report(); }

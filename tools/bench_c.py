@@ -10,6 +10,7 @@ a class, and over each allocator of the machine:
     pair      a block of one word is allocated and freed
     block     a block of 31 words is allocated, written by a range, read by a range and freed; over malloc a range
               is a loop of relaxed atomic stores, or loads
+    memory    the same by the block's memory, with those loops over each
     crossing  over the library alone: a free of a number that names no block, which is refused
 """
 import argparse
@@ -70,7 +71,7 @@ static void pair(struct worker *w)
 {
     for (uint64_t k = 0; k < w->rounds; k++) {
         uint64_t id;
-        if (balloc_alloc(w->pass, 1, &id) != BALLOC_DONE || balloc_free(w->pass, id) != BALLOC_DONE)
+        if (balloc_alloc_words(w->pass, 1, &id) != BALLOC_DONE || balloc_free(w->pass, id) != BALLOC_DONE)
             w->wrong++;
     }
 }
@@ -82,8 +83,32 @@ static void block(struct worker *w)
         uint64_t id;
         for (unsigned i = 0; i < WORDS; i++)
             in[i] = k + i;
-        if (balloc_alloc(w->pass, WORDS, &id) != BALLOC_DONE || balloc_write_range(w->pass, id, 0, in, WORDS) != BALLOC_DONE
+        if (balloc_alloc_words(w->pass, WORDS, &id) != BALLOC_DONE || balloc_write_range(w->pass, id, 0, in, WORDS) != BALLOC_DONE
             || balloc_read_range(w->pass, id, 0, out, WORDS) != BALLOC_DONE || balloc_free(w->pass, id) != BALLOC_DONE)
+            w->wrong++;
+        for (unsigned i = 0; i < WORDS; i++)
+            w->sum += out[i];
+    }
+}
+
+static void memory(struct worker *w)
+{
+    uint64_t in[WORDS], out[WORDS];
+    for (uint64_t k = 0; k < w->rounds; k++) {
+        uint64_t id;
+        void *begin;
+        for (unsigned i = 0; i < WORDS; i++)
+            in[i] = k + i;
+        if (balloc_alloc(w->pass, sizeof in, &id, &begin) != BALLOC_DONE) {
+            w->wrong++;
+            continue;
+        }
+        _Atomic uint64_t *at = begin;
+        for (unsigned i = 0; i < WORDS; i++)
+            atomic_store_explicit(&at[i], in[i], memory_order_relaxed);
+        for (unsigned i = 0; i < WORDS; i++)
+            out[i] = atomic_load_explicit(&at[i], memory_order_relaxed);
+        if (balloc_free(w->pass, id) != BALLOC_DONE)
             w->wrong++;
         for (unsigned i = 0; i < WORDS; i++)
             w->sum += out[i];
@@ -103,6 +128,8 @@ static void work(struct worker *w)
         pair(w);
     else if (!strcmp(w->kind, "block"))
         block(w);
+    else if (!strcmp(w->kind, "memory"))
+        memory(w);
     else
         crossing(w);
 }
@@ -214,6 +241,7 @@ def main():
         peers = {name: ([peer], library) for name, library in timed.allocators().items()}
         table("pair", ours | peers, said)
         table("block", ours | peers, said)
+        table("memory", ours | peers, said)
         table("crossing", ours, said)
 
 

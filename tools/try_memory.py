@@ -62,7 +62,7 @@ int main(int argc, char **argv) {
     open_heap(frames);
     tell("opened");
     for (uint32_t i = 0; i < blocks; i++)
-        if (balloc_alloc(&passes[0], WORDS, &ids[i]) != BALLOC_DONE || balloc_fill(&passes[0], ids[i], i) != BALLOC_DONE) return 6;
+        if (balloc_alloc_words(&passes[0], WORDS, &ids[i]) != BALLOC_DONE || balloc_fill(&passes[0], ids[i], i) != BALLOC_DONE) return 6;
     tell("used");
     for (uint32_t i = 0; i < blocks; i++)
         if (balloc_free(&passes[0], ids[i]) != BALLOC_DONE) return 7;

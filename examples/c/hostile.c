@@ -1,5 +1,6 @@
 /* Threads that call a heap at random, with numbers of which half are wrong: freed and put ones, those of other passes,
- * made-up ones, words behind a block's end, shelves that there are not, needs that are too large. Each thread keeps what
+ * made-up ones, words behind a block's end, shelves that there are not, needs that are too large. Some blocks' memory is out:
+ * it is written by pointers, and checked calls on it are refused. Each thread keeps what
  * it holds, with a copy of the words, and so knows what each call has to answer.
  * Usage: hostile THREADS CALLS DEPTH. Ends with 0 where each code and each word was right and nothing was lost. */
 #include "balloc.h"
@@ -16,11 +17,12 @@ struct block {
     uint64_t id;
     uint64_t usable;
     uint64_t words[WORDS];
+    uint64_t *memory; /* where that begins, while it is out */
 };
 
 struct caller {
     balloc_pass *pass;
-    uint64_t calls, random, given, freed, put, taken, interrupted, wrong;
+    uint64_t calls, random, given, freed, put, taken, out, interrupted, wrong;
     int held;
     struct block blocks[HELD];
     uint64_t old[OLD];
@@ -80,6 +82,7 @@ static void enter(struct caller *c, uint64_t id, bool taken) {
     expect(c, "a number in use", find(c, id) == NULL, 0);
     atomic_store(&seen_by_all[id % 64], id);
     block->id = id;
+    block->memory = NULL;
     int32_t code = balloc_words(c->pass, id, &block->usable);
     expect(c, "words", code == BALLOC_DONE && block->usable <= WORDS, code);
     c->held++;
@@ -99,10 +102,83 @@ static void enter(struct caller *c, uint64_t id, bool taken) {
     expect(c, "sum", code == BALLOC_DONE && sum == all, code);
 }
 
+/* The words of memory that is out. A sanitizer of threads doesn't see the steps of the heap by which memory goes from one
+ * thread to another, and so it isn't to see these. */
+#define UNSEEN __attribute__((noinline, no_sanitize("thread")))
+
+#ifdef __SANITIZE_THREAD__
+const char *__tsan_default_suppressions(void);
+const char *__tsan_default_suppressions(void) { return "race:balloc_\nrace:live_heap\n"; } /* nor those that fill memory */
+#endif
+
+static UNSEEN uint64_t word_of(const volatile uint64_t *memory, uint64_t i) { return memory[i]; }
+
+static UNSEEN void lay_word(volatile uint64_t *memory, uint64_t i, uint64_t word) { memory[i] = word; }
+
+/* The memory of a block is aligned, and has the words that were written. They are written anew. */
+static void go_out(struct caller *c, struct block *block, uint64_t *memory) {
+    expect(c, "memory that isn't aligned", memory != NULL && (uintptr_t)memory % 16 == 0, 0);
+    block->memory = memory;
+    for (uint64_t i = 0; i < block->usable; i++) {
+        expect(c, "a word of memory", word_of(memory, i) == block->words[i], 0);
+        block->words[i] = next(c);
+        lay_word(memory, i, block->words[i]);
+    }
+    c->out++;
+}
+
+static void call_memory(struct caller *c) {
+    uint64_t id = pick(c), word;
+    struct block *block = find(c, id);
+    void *memory = c;
+    int32_t code = balloc_memory(c->pass, id, &memory);
+    int32_t wanted = block == NULL ? BALLOC_NO_BLOCK : block->memory ? BALLOC_OUT : BALLOC_DONE;
+    expect(c, "memory", code == wanted && (code == BALLOC_DONE || !memory), code);
+    if (code != BALLOC_DONE || code != wanted) return;
+    go_out(c, block, memory);
+    code = balloc_read(c->pass, id, 0, &word);
+    expect(c, "a read of memory that is out", code == BALLOC_OUT, code);
+}
+
+static void call_home(struct caller *c) {
+    uint64_t id = pick(c);
+    struct block *block = find(c, id);
+    int32_t code = balloc_home(c->pass, id);
+    expect(c, "home", code == (block ? BALLOC_DONE : BALLOC_NO_BLOCK), code);
+    if (block) block->memory = NULL;
+}
+
+/* An allocation with memory. Nothing is known of what is in that, so it is written before it is checked. */
+static void call_alloc_memory(struct caller *c) {
+    uint64_t dice = next(c), id = ~0u;
+    size_t bytes = dice % 16 == 0 ? SIZE_MAX - (dice >> 40) : (dice >> 40) % 900;
+    void *memory = c;
+    int32_t code = balloc_alloc(c->pass, bytes, &id, &memory);
+    if (code != BALLOC_DONE) {
+        expect(c, "no memory", memory == NULL, code);
+        code = finish(c, code, &id);
+        if (code == BALLOC_DONE) {
+            c->given++;
+            enter(c, id, false);
+        } else expect(c, "alloc of memory", code == (bytes > 8 * 131071 ? BALLOC_TOO_LARGE : BALLOC_EXHAUSTED), code);
+        return;
+    }
+    struct block *block = &c->blocks[c->held];
+    expect(c, "a number in use", find(c, id) == NULL, 0);
+    atomic_store(&seen_by_all[id % 64], id);
+    block->id = id;
+    block->memory = NULL;
+    code = balloc_words(c->pass, id, &block->usable);
+    expect(c, "memory that is too small", code == BALLOC_DONE && block->usable <= WORDS && bytes <= 8 * block->usable, code);
+    for (uint64_t i = 0; i < block->usable; i++) block->words[i] = word_of(memory, i);
+    c->held++, c->given++;
+    go_out(c, block, memory);
+}
+
 static void call_alloc(struct caller *c) {
     uint64_t dice = next(c), id = ~0u;
     uint32_t need = dice % 16 == 0 ? 131072 + (uint32_t)(dice >> 40) : dice % 16 == 1 ? (uint32_t)(dice >> 40) % 3000 : (uint32_t)(dice >> 40) % 100;
-    int32_t code = finish(c, balloc_alloc(c->pass, need, &id), &id);
+    int32_t code = finish(c, balloc_alloc_words(c->pass, need, &id), &id);
     if (need > 131071) {
         expect(c, "alloc of too many words", code == BALLOC_TOO_LARGE, code);
     } else if (code == BALLOC_DONE) {
@@ -116,6 +192,8 @@ static void call_alloc(struct caller *c) {
 static void call_free(struct caller *c) {
     uint64_t id = pick(c), none;
     struct block *block = find(c, id);
+    for (uint64_t i = 0; block && block->memory && i < block->usable; i++)
+        expect(c, "a word of memory that is freed", word_of(block->memory, i) == block->words[i], 0);
     int32_t code = finish(c, balloc_free(c->pass, id), &none);
     if (block == NULL) {
         expect(c, "free of no block", code == BALLOC_NO_BLOCK, code);
@@ -132,7 +210,7 @@ static void call_word(struct caller *c) {
     uint64_t id = pick(c), dice = next(c), word = 0;
     struct block *block = find(c, id);
     uint32_t i = dice & 1 && block ? (uint32_t)((dice >> 8) % (block->usable + 1)) : (uint32_t)(dice >> 16);
-    int32_t wanted = block == NULL ? BALLOC_NO_BLOCK : i < block->usable ? BALLOC_DONE : BALLOC_NO_WORD;
+    int32_t wanted = block == NULL ? BALLOC_NO_BLOCK : block->memory ? BALLOC_OUT : i < block->usable ? BALLOC_DONE : BALLOC_NO_WORD;
     int32_t code = dice & 2 ? balloc_write(c->pass, id, i, dice) : balloc_read(c->pass, id, i, &word);
     expect(c, "word", code == wanted, code);
     if (code != BALLOC_DONE) return;
@@ -146,7 +224,8 @@ static void call_range(struct caller *c) {
     struct block *block = find(c, id);
     uint32_t from = (uint32_t)(dice >> 8) % 200;
     size_t count = dice & 1 ? WORDS + 1 : (dice >> 40) % 200;
-    int32_t wanted = block == NULL ? BALLOC_NO_BLOCK : from + count <= block->usable ? BALLOC_DONE : BALLOC_NO_WORD;
+    int32_t wanted = block == NULL ? BALLOC_NO_BLOCK : block->memory ? BALLOC_OUT
+                     : from + count <= block->usable ? BALLOC_DONE : BALLOC_NO_WORD;
     for (size_t i = 0; i < count; i++) words[i] = dice + i;
     int32_t code = dice & 2 ? balloc_write_range(c->pass, id, from, words, count) : balloc_read_range(c->pass, id, from, words, count);
     expect(c, "range", code == wanted, code);
@@ -159,6 +238,11 @@ static void call_put(struct caller *c) {
     uint64_t id = pick(c), dice = next(c);
     struct block *block = find(c, id);
     uint8_t shelf = (uint8_t)(dice & 1 ? dice >> 8 : (dice >> 8) % 64);
+    if (block && block->memory) {
+        int32_t code = balloc_put(c->pass, id, shelf);
+        expect(c, "put of memory that is out", code == BALLOC_OUT, code);
+        return;
+    }
     if (block) balloc_fill(c->pass, id, dice);
     for (uint64_t i = 0; block && i < block->usable; i++) block->words[i] = dice + i;
     int32_t code = balloc_put(c->pass, id, shelf);
@@ -186,13 +270,16 @@ static void call_take(struct caller *c) {
 static void *work(void *at) {
     struct caller *c = at;
     for (uint64_t call = 0; call < c->calls; call++) {
-        uint64_t dice = next(c) % 16, id;
+        uint64_t dice = next(c) % 20, id;
         if (dice < 3 && c->held < HELD) call_alloc(c);
         else if (dice < 6) call_free(c);
         else if (dice < 10) call_word(c);
         else if (dice < 12) call_range(c);
         else if (dice < 13) call_put(c);
         else if (dice < 15 && c->held < HELD) call_take(c);
+        else if (dice < 17) call_memory(c);
+        else if (dice < 18) call_home(c);
+        else if (dice < 19 && c->held < HELD) call_alloc_memory(c);
         else {
             int32_t code = balloc_resume(c->pass, &id);
             expect(c, "resume of no call", code == BALLOC_IDLE, code);
@@ -213,7 +300,7 @@ int main(int argc, char **argv) {
     struct caller all = {0};
     if (threads < 1 || threads > MOST) return 2;
     /* what is empty, twice open or out of range is refused */
-    all.wrong += balloc_alloc(&passes[0], 1, &id) != BALLOC_CLOSED;
+    all.wrong += balloc_alloc_words(&passes[0], 1, &id) != BALLOC_CLOSED;
     all.wrong += balloc_close(&passes[0], true, &won, &lost, &census) != BALLOC_CLOSED;
     all.wrong += balloc_open(0, 1, 1, 1000, depth, passes, (size_t)threads) != BALLOC_BAD_NUMBERS;
     all.wrong += balloc_open(1, 1, 1, 1000, depth, passes, 0) != BALLOC_BAD_NUMBERS;
@@ -225,6 +312,13 @@ int main(int argc, char **argv) {
         if (pthread_create(&ids[i], NULL, work, &callers[i])) return 2;
     }
     for (int i = 0; i < threads; i++) pthread_join(ids[i], NULL);
+    /* a pass isn't closed while memory is out */
+    for (int i = 0; i < threads; i++)
+        for (int k = 0; k < callers[i].held; k++)
+            if (callers[i].blocks[k].memory) {
+                all.wrong += balloc_close(&passes[i], true, &won, &lost, &none) != BALLOC_OUT;
+                all.wrong += balloc_home(&passes[i], callers[i].blocks[k].id) != BALLOC_DONE;
+            }
     /* what still lies on shelves */
     for (uint8_t shelf = 0; shelf < 64; shelf++) {
         struct caller *c = &callers[0];
@@ -238,7 +332,7 @@ int main(int argc, char **argv) {
     for (int i = 0; i < threads; i++) {
         struct caller *c = &callers[i];
         all.given += c->given, all.freed += c->freed, all.put += c->put, all.taken += c->taken;
-        all.interrupted += c->interrupted, all.wrong += c->wrong;
+        all.interrupted += c->interrupted, all.wrong += c->wrong, all.out += c->out;
         all.wrong += balloc_counts(&passes[i], &turns, &won, &lost, &cleared) != BALLOC_DONE;
         all.wrong += balloc_close(&passes[i], true, &won, &lost, &census) != BALLOC_DONE;
         all.wrong += census.counted != (i == threads - 1);
@@ -249,7 +343,7 @@ int main(int argc, char **argv) {
     /* all blocks were freed, so none is live, and all units are free */
     for (int class = 0; class < BALLOC_CLASSES; class++) all.wrong += census.per_class[class].live != 0;
     all.wrong += census.free_units != 32;
-    printf("given %" PRIu64 " freed %" PRIu64 " put %" PRIu64 " taken %" PRIu64 " interrupted %" PRIu64 " wrong %" PRIu64 "\n",
-           all.given, all.freed, all.put, all.taken, all.interrupted, all.wrong);
+    printf("given %" PRIu64 " freed %" PRIu64 " put %" PRIu64 " taken %" PRIu64 " out %" PRIu64 " interrupted %" PRIu64 " wrong %" PRIu64 "\n",
+           all.given, all.freed, all.put, all.taken, all.out, all.interrupted, all.wrong);
     return all.wrong != 0;
 }

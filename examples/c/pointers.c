@@ -12,8 +12,7 @@ enum { ROUNDS = 20000, BYTES = 100 };
 static balloc_seat seats[2]; /* one for each thread; all zero */
 static _Atomic(unsigned char *) there, back;
 
-/* A caller's bytes begin behind the label, to which the pointer leads that is told. */
-static unsigned char *bytes_of(void *label) { return (unsigned char *)label + 8; }
+static void *heap; /* where its memory begins */
 
 static int holds(const unsigned char *bytes, unsigned char value) {
     for (int i = 0; i < BYTES; i++)
@@ -22,50 +21,48 @@ static int holds(const unsigned char *bytes, unsigned char value) {
 }
 
 /* A call that was interrupted is made again. */
-static void *take(balloc_seat *seat) {
-    void *label;
-    uint32_t code;
-    while ((code = balloc_malloc_take(seat, BYTES, &label)) == BALLOC_MALLOC_BUSY) {}
-    return code == BALLOC_MALLOC_DONE ? label : NULL;
+static unsigned char *take(balloc_seat *seat, uint32_t *kind) {
+    void *memory;
+    while ((*kind = balloc_malloc_take(seat, BYTES, &memory)) == BALLOC_MALLOC_BUSY) {}
+    return memory;
 }
 
-static void give(balloc_seat *seat, void *label) {
-    while (balloc_malloc_give(seat, label) == BALLOC_MALLOC_BUSY) {}
+static void give(balloc_seat *seat, void *memory, uint32_t kind) {
+    while (balloc_malloc_give(seat, BALLOC_MALLOC_PLACE(heap, memory), kind) == BALLOC_MALLOC_BUSY) {}
 }
 
 static void *hand_over(void *wrong) {
     for (int round = 0; round < ROUNDS; round++) {
-        void *label = take(&seats[0]);
-        unsigned char *bytes, *came;
-        if (!label) exit(3);
-        bytes = memset(bytes_of(label), 1 + round % 100, BYTES);
+        uint32_t kind;
+        unsigned char *bytes = take(&seats[0], &kind), *came;
+        if (!bytes) exit(3);
+        memset(bytes, 1 + round % 100, BYTES);
         atomic_store(&there, bytes);
         while (!(came = atomic_exchange(&back, NULL))) {}
         *(int *)wrong += came != bytes || !holds(bytes, 101 + round % 100);
-        give(&seats[0], label);
+        give(&seats[0], bytes, kind);
     }
     return NULL;
 }
 
 static void *answer(void *wrong) {
     for (int round = 0; round < ROUNDS; round++) {
-        unsigned char *came;
-        void *own = take(&seats[1]);
+        uint32_t kind;
+        unsigned char *came, *own = take(&seats[1], &kind);
         while (!(came = atomic_exchange(&there, NULL))) {}
         *(int *)wrong += !holds(came, 1 + round % 100);
         memset(came, 101 + round % 100, BYTES);
         atomic_store(&back, came);
-        if (own) give(&seats[1], own);
+        if (own) give(&seats[1], own, kind);
     }
     return NULL;
 }
 
 int main(void) {
     int wrong[2] = {0, 0};
-    void *memory;
     size_t bytes;
     pthread_t other;
-    if (balloc_malloc_open(64, 2, 16, seats, 2, &memory, &bytes) != BALLOC_MALLOC_DONE) return 2;
+    if (balloc_malloc_open(64, 2, 16, seats, 2, &heap, &bytes) != BALLOC_MALLOC_DONE) return 2;
     if (pthread_create(&other, NULL, answer, &wrong[1])) return 2;
     hand_over(&wrong[0]);
     pthread_join(other, NULL);

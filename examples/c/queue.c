@@ -27,7 +27,7 @@ static void *make(void *at) {
     uint64_t shelf = 0;
     while (lane->blocks < lane->rounds) {
         uint64_t id;
-        int32_t code = finish(lane, balloc_alloc(lane->pass, WORDS, &id), &id);
+        int32_t code = finish(lane, balloc_alloc_words(lane->pass, WORDS, &id), &id);
         if (code == BALLOC_EXHAUSTED) continue; /* the workers are behind */
         lane->failed += code != BALLOC_DONE;
         uint64_t words[WORDS];

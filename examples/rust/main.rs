@@ -32,7 +32,7 @@ unsafe impl Send for Pass {}
 extern "C" {
     fn balloc_open(frames: u32, heaps: u32, units: u32, turns: u64, depth: u32, passes: *mut Pass, count: usize) -> i32;
     fn balloc_close(pass: *mut Pass, frees: bool, won: *mut u64, lost: *mut u64, census: *mut Census) -> i32;
-    fn balloc_alloc(pass: *mut Pass, words: u32, id: *mut u64) -> i32;
+    fn balloc_alloc_words(pass: *mut Pass, words: u32, id: *mut u64) -> i32;
     fn balloc_free(pass: *mut Pass, id: u64) -> i32;
     fn balloc_resume(pass: *mut Pass, id: *mut u64) -> i32;
     fn balloc_write(pass: *mut Pass, id: u64, i: u32, value: u64) -> i32;
@@ -54,7 +54,7 @@ fn lane(pass: &mut Pass, rounds: u64) -> u64 {
     let mut wrong = 0;
     for round in 0..rounds {
         let (mut id, mut word) = (0, 0);
-        let code = unsafe { balloc_alloc(pass, 31, &mut id) };
+        let code = unsafe { balloc_alloc_words(pass, 31, &mut id) };
         wrong += u64::from(finish(pass, code, &mut id) != DONE);
         wrong += u64::from(unsafe { balloc_write(pass, id, 30, round) } != DONE);
         let shelf = (round % 64) as u8;

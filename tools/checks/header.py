@@ -29,7 +29,7 @@ PAGES = [
           "CLASSES": "CLASSES"}),
     Page("crates/balloc_malloc", "balloc_malloc.h", "BALLOC_MALLOC_", ["codes.rt"],
          {"MOST_FRAMES": "MAX_FRAMES", "MOST_HEAPS": "MAX_HEAPS", "MOST_SEATS": "MAX_CALLERS", "MOST_DEPTH": "DEEPEST",
-          "MOST_BYTES": "8 * (SMALL_MOST - 1)"}),
+          "MOST_BYTES": "8 * SMALL_MOST"}),
 ]
 VERSION = ["BALLOC_VERSION_MAJOR", "BALLOC_VERSION_MINOR", "BALLOC_VERSION_PATCH"]
 TYPES = {"bool": "bool", "u8": "uint8_t", "u32": "uint32_t", "u64": "uint64_t", "i32": "int32_t", "usize": "size_t",
@@ -122,6 +122,9 @@ def defined(header):
 
 def functions(page, header):
     exports, declarations = exported(text_of(f"{page.crate}/src/lib.rt")), declared(header)
+    for name, (result, parameters) in exports.items():
+        if declarations.get(name, ("",))[0] == "int32_t" and result == "uint32_t":  # `word_of`, balloc_c/specs/Codes
+            exports[name] = ("int32_t", parameters)
     for name in sorted(exports.keys() | declarations.keys()):
         if exports.get(name) != declarations.get(name):
             yield f"{name}: exported as {exports.get(name)}, declared as {declarations.get(name)}"
@@ -141,11 +144,11 @@ def codes(page, header):
         ours[page.prefix + re.sub(r"(?<!^)(?=[A-Z])", "_", name).upper()] = int(number)
     theirs = {name: int(number) for name, number in re.findall(r"(BALLOC_\w+) = (-?\d+)", header)}
     yield from differences(ours, theirs)
-    for comment, name in re.findall(r"/\*((?:(?!\*/).)*?)\*/\s*\w+ (balloc_\w+)\(", header, flags=re.S):
+    for comment, result, name in re.findall(r"/\*((?:(?!\*/).)*?)\*/\s*(\w+) (balloc_\w+)\(", header, flags=re.S):
         named = set(re.findall(r"BALLOC_\w+", comment)) - defined(header).keys()
         for constant in sorted(named - theirs.keys()):
             yield f"{name}: its comment names {constant}, which there is not"
-        if page.prefix + "DONE" not in named:
+        if result != "size_t" and not named & theirs.keys():
             yield f"{name}: its comment doesn't name its codes"
 
 

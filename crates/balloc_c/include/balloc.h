@@ -5,6 +5,8 @@
  * - One call at a time is made with a pass. It may go from one thread to another by a lock, or by the start or
  *   the end of a thread.
  * - Each pointer points to an object of its type, or to `count` of them, for the call alone; no two overlap.
+ * - The memory of a block is touched by nobody but who balloc_alloc or balloc_memory told it, or whom that one lets: only
+ *   its bytes, only until balloc_free or balloc_home has made its call, and for balloc_home each of its words holds a number.
  * - malloc, realloc and free come from one allocator. Only balloc_open, balloc_close and a call that gets a
  *   block use them; none is called from a signal handler, or in the forked child of a process with threads.
  *
@@ -25,7 +27,7 @@
  * be changed (while it is 0, MINOR does), MINOR where a name or a code is added, and PATCH where all names, numbers and
  * layouts stay. A program is built with the page of the very library that it is linked with. */
 #define BALLOC_VERSION_MAJOR 0
-#define BALLOC_VERSION_MINOR 1
+#define BALLOC_VERSION_MINOR 2
 #define BALLOC_VERSION_PATCH 0
 
 #ifdef __cplusplus
@@ -93,7 +95,8 @@ enum {
     BALLOC_SPENT = -12,       /* the pass has taken all its turns */
     BALLOC_SHELF_FULL = -13,  /* a block lies there; the pass keeps its own, under its number */
     BALLOC_SHELF_EMPTY = -14, /* no block lies there */
-    BALLOC_SHELF_MISSED = -15 /* another pass changed the shelf in between */
+    BALLOC_SHELF_MISSED = -15, /* another pass changed the shelf in between */
+    BALLOC_OUT = -16          /* the block's memory is out: balloc_home brings it home */
 };
 
 /* Opens a heap with so many frames of 4,096 words for small blocks (1 to BALLOC_MOST_FRAMES), processor heaps (1 to
@@ -107,11 +110,11 @@ int32_t balloc_open(uint32_t frames, uint32_t heaps, uint32_t units, uint64_t tu
                     balloc_pass *passes, size_t count);
 
 /* Closes a pass, and tells how many exchanges it won and lost: it is empty again. Its blocks are freed first where
- * `frees` says so, those in its magazines too; where that is interrupted the pass stays open, and balloc_resume and then another close go on with
+ * `frees` says so, those in its magazines too, where the memory of none is out; where that is interrupted the pass stays open, and balloc_resume and then another close go on with
  * it. Else they stay allocated, those in magazines too, as does the block of a call that is under way. The last pass of a heap takes the heap
  * with it, and `census` tells what that held. It tells nothing (`counted` is false) while other passes are open, where one
  * of them was closed in the middle of a call, or where there is no memory for a list of them.
- * BALLOC_DONE, BALLOC_CLOSED; where it frees, BALLOC_IN_CALL, BALLOC_INTERRUPTED */
+ * BALLOC_DONE, BALLOC_CLOSED; where it frees, BALLOC_IN_CALL, BALLOC_OUT, BALLOC_INTERRUPTED */
 int32_t balloc_close(balloc_pass *pass, bool frees, uint64_t *won, uint64_t *lost, balloc_census *census);
 
 /* Tells what a pass has counted: its turns, the exchanges that it won and lost, and the empty superblocks that it took
@@ -119,13 +122,29 @@ int32_t balloc_close(balloc_pass *pass, bool frees, uint64_t *won, uint64_t *los
  * BALLOC_DONE, BALLOC_CLOSED */
 int32_t balloc_counts(balloc_pass *pass, uint64_t *turns, uint64_t *won, uint64_t *lost, uint64_t *cleared);
 
-/* Allocates a block of at least so many words, and tells its number.
+/* Allocates a block of at least so many bytes, and tells its number and where its memory begins, aligned to 16 bytes: that is
+ * out, the caller's to read and write as any memory, by any thread. What is in it is some numbers. NULL where it is refused;
+ * where it is interrupted, balloc_resume tells the number and balloc_memory the memory.
  * BALLOC_DONE, BALLOC_CLOSED, BALLOC_IN_CALL, BALLOC_TOO_LARGE, BALLOC_NO_MEMORY, BALLOC_EXHAUSTED,
  * BALLOC_SPENT, BALLOC_INTERRUPTED */
-int32_t balloc_alloc(balloc_pass *pass, uint32_t words, uint64_t *id);
+int32_t balloc_alloc(balloc_pass *pass, size_t bytes, uint64_t *id, void **memory);
+
+/* The same in words, without memory: the words are home, and the calls below write and read them, each access checked.
+ * BALLOC_DONE, BALLOC_CLOSED, BALLOC_IN_CALL, BALLOC_TOO_LARGE, BALLOC_NO_MEMORY, BALLOC_EXHAUSTED,
+ * BALLOC_SPENT, BALLOC_INTERRUPTED */
+int32_t balloc_alloc_words(balloc_pass *pass, uint32_t words, uint64_t *id);
+
+/* Tells where the memory of a block begins whose words are home: it is out from now on, with what is in it, 8 bytes for each of
+ * its words (balloc_words). NULL where it is refused.
+ * BALLOC_DONE, BALLOC_CLOSED, BALLOC_IN_CALL, BALLOC_NO_BLOCK, BALLOC_OUT */
+int32_t balloc_memory(balloc_pass *pass, uint64_t id, void **memory);
+
+/* Brings the memory of a block home, with what is in it. Where it is home nothing happens.
+ * BALLOC_DONE, BALLOC_CLOSED, BALLOC_IN_CALL, BALLOC_NO_BLOCK */
+int32_t balloc_home(balloc_pass *pass, uint64_t id);
 
 /* Frees a block: its number names none from then on, also where the free is interrupted, or where a magazine keeps the
- * block.
+ * block. Memory that is out comes home, whatever is in it.
  * BALLOC_DONE, BALLOC_CLOSED, BALLOC_IN_CALL, BALLOC_NO_BLOCK, BALLOC_INTERRUPTED */
 int32_t balloc_free(balloc_pass *pass, uint64_t id);
 
@@ -139,31 +158,31 @@ int32_t balloc_resume(balloc_pass *pass, uint64_t *id);
 int32_t balloc_words(balloc_pass *pass, uint64_t id, uint64_t *words);
 
 /* Writes a word of a block.
- * BALLOC_DONE, BALLOC_CLOSED, BALLOC_IN_CALL, BALLOC_NO_BLOCK, BALLOC_NO_WORD */
+ * BALLOC_DONE, BALLOC_CLOSED, BALLOC_IN_CALL, BALLOC_NO_BLOCK, BALLOC_OUT, BALLOC_NO_WORD */
 int32_t balloc_write(balloc_pass *pass, uint64_t id, uint32_t i, uint64_t value);
 
 /* Reads a word of a block: what its owners last wrote there, and some number where none has written.
- * BALLOC_DONE, BALLOC_CLOSED, BALLOC_IN_CALL, BALLOC_NO_BLOCK, BALLOC_NO_WORD */
+ * BALLOC_DONE, BALLOC_CLOSED, BALLOC_IN_CALL, BALLOC_NO_BLOCK, BALLOC_OUT, BALLOC_NO_WORD */
 int32_t balloc_read(balloc_pass *pass, uint64_t id, uint32_t i, uint64_t *value);
 
 /* Writes `count` words of a block in a row, from word `from` on: all of them, or none where the block hasn't so many.
- * BALLOC_DONE, BALLOC_CLOSED, BALLOC_IN_CALL, BALLOC_NO_BLOCK, BALLOC_NO_WORD */
+ * BALLOC_DONE, BALLOC_CLOSED, BALLOC_IN_CALL, BALLOC_NO_BLOCK, BALLOC_OUT, BALLOC_NO_WORD */
 int32_t balloc_write_range(balloc_pass *pass, uint64_t id, uint32_t from, const uint64_t *words, size_t count);
 
 /* Reads `count` words of a block in a row, from word `from` on: all of them, or none where the block hasn't so many.
- * BALLOC_DONE, BALLOC_CLOSED, BALLOC_IN_CALL, BALLOC_NO_BLOCK, BALLOC_NO_WORD */
+ * BALLOC_DONE, BALLOC_CLOSED, BALLOC_IN_CALL, BALLOC_NO_BLOCK, BALLOC_OUT, BALLOC_NO_WORD */
 int32_t balloc_read_range(balloc_pass *pass, uint64_t id, uint32_t from, uint64_t *words, size_t count);
 
 /* Writes each word of a block: word i is from + i, modulo 2^64.
- * BALLOC_DONE, BALLOC_CLOSED, BALLOC_IN_CALL, BALLOC_NO_BLOCK */
+ * BALLOC_DONE, BALLOC_CLOSED, BALLOC_IN_CALL, BALLOC_NO_BLOCK, BALLOC_OUT */
 int32_t balloc_fill(balloc_pass *pass, uint64_t id, uint64_t from);
 
 /* Tells the sum of all words of a block, modulo 2^64.
- * BALLOC_DONE, BALLOC_CLOSED, BALLOC_IN_CALL, BALLOC_NO_BLOCK */
+ * BALLOC_DONE, BALLOC_CLOSED, BALLOC_IN_CALL, BALLOC_NO_BLOCK, BALLOC_OUT */
 int32_t balloc_sum(balloc_pass *pass, uint64_t id, uint64_t *sum);
 
 /* Puts a block on a shelf, from where any pass may take it. From a full one it is back.
- * BALLOC_DONE, BALLOC_CLOSED, BALLOC_IN_CALL, BALLOC_NO_BLOCK, BALLOC_NO_SHELF, BALLOC_SHELF_FULL */
+ * BALLOC_DONE, BALLOC_CLOSED, BALLOC_IN_CALL, BALLOC_NO_BLOCK, BALLOC_OUT, BALLOC_NO_SHELF, BALLOC_SHELF_FULL */
 int32_t balloc_put(balloc_pass *pass, uint64_t id, uint8_t shelf);
 
 /* Takes the block that lies on a shelf, with what was written in it, and tells its number in this pass.

@@ -6,13 +6,17 @@ use Rattle.heap_geometry.specs.declared.limits.TheConstants.{LARGE_MOST, SHELVES
 use Rattle.heap_geometry.specs.Need.{usable_words}
 use Rattle.errand_steps.specs.Points.{is_idle}
 use Rattle.live_heap.specs.declared.block.Block.{Block}
+use Rattle.balloc_c.specs.declared.kept.Kept.{Kept}
+use Rattle.balloc_c.specs.declared.kept.Kept.TheVariants as kept
+use Rattle.balloc_c.specs.declared.lent.Lent.{Lent}
+use Rattle.balloc_c.specs.Kept.{is_out}
 use Rattle.live_heap.specs.declared.pass.Pass.{Pass}
 use Rattle.block_cache.specs.declared.cache.Cache.{Cache}
 use Rattle.balloc_c.specs.declared.refusal.Refusal.{Refusal}
 use Rattle.balloc_c.specs.declared.refusal.Refusal.TheVariants as refusal
 use Rattle.balloc_c.specs.declared.table.Table.{Table}
 use Rattle.balloc_c.specs.Numbers.{named}
-use Rattle.balloc_c.specs.Outcomes.{Answers, alloc_bar, barred, free_bar, is_busy, lacks_word, names_none, put_bar, resume_bar, take_bar, word_bar}
+use Rattle.balloc_c.specs.Outcomes.{Answers, alloc_bar, barred, free_bar, is_busy, lacks_word, names_none, names_out, put_bar, resume_bar, take_bar, word_bar}
 use Rattle.balloc_c.specs.Ranges.{lacks_range, range_bar}
 
 pub barred-by : (b : Bool) (cause : Refusal) (rest : Option Refusal) → b ≡ true → barred b cause rest ≡ Some cause
@@ -47,34 +51,49 @@ pub no-block :
 no-block p t number rest idle none =
     in-none p (barred (names_none t number) refusal.NoBlock rest) idle ∙ barred-by (names_none t number) refusal.NoBlock rest (ap is_none none)
 
-pub a-block :
-    (p : Pass) (t : Table) (number : ℕ) (rest : Option Refusal) (block : Block) → is_idle p.errand.point ≡ true → named t number ≡ Some block
+pub some-block :
+    (p : Pass) (t : Table) (number : ℕ) (rest : Option Refusal) (block : Kept) → is_idle p.errand.point ≡ true → named t number ≡ Some block
     → barred (is_busy p) refusal.InCall (barred (names_none t number) refusal.NoBlock rest) ≡ rest
-a-block p t number rest block idle names =
+some-block p t number rest block idle names =
     in-none p (barred (names_none t number) refusal.NoBlock rest) idle ∙ not-barred (names_none t number) refusal.NoBlock rest (ap is_none names)
 
+-- one whose words are home isn't, by the first three causes; one whose words are out is, by the third
+pub a-block :
+    (p : Pass) (t : Table) (number : ℕ) (rest : Option Refusal) (block : Block) → is_idle p.errand.point ≡ true → named t number ≡ Some (kept.Home block)
+    → barred (is_busy p) refusal.InCall (barred (names_none t number) refusal.NoBlock (barred (names_out t number) refusal.Out rest)) ≡ rest
+a-block p t number rest block idle names =
+    some-block p t number (barred (names_out t number) refusal.Out rest) (kept.Home block) idle names
+    ∙ not-barred (names_out t number) refusal.Out rest (ap is_out names)
+
+pub out-block :
+    (p : Pass) (t : Table) (number : ℕ) (rest : Option Refusal) (lent : Lent) → is_idle p.errand.point ≡ true → named t number ≡ Some (kept.Out lent)
+    → barred (is_busy p) refusal.InCall (barred (names_none t number) refusal.NoBlock (barred (names_out t number) refusal.Out rest)) ≡ Some refusal.Out
+out-block p t number rest lent idle names =
+    some-block p t number (barred (names_out t number) refusal.Out rest) (kept.Out lent) idle names
+    ∙ barred-by (names_out t number) refusal.Out rest (ap is_out names)
+
 -- calls that nothing bars
-pub free-made : (p : Pass) (t : Table) (number : ℕ) (block : Block) → is_idle p.errand.point ≡ true → named t number ≡ Some block → free_bar p t number ≡ None
+pub free-made : (p : Pass) (t : Table) (number : ℕ) (block : Block) → is_idle p.errand.point ≡ true → named t number ≡ Some (kept.Home block) → free_bar p t number ≡ None
 free-made p t number block idle names = a-block p t number None block idle names
 
 pub word-made :
-    (p : Pass) (t : Table) (number i : ℕ) (block : Block) → is_idle p.errand.point ≡ true → named t number ≡ Some block
+    (p : Pass) (t : Table) (number i : ℕ) (block : Block) → is_idle p.errand.point ≡ true → named t number ≡ Some (kept.Home block)
     → i < usable_words block.need → word_bar p t number i ≡ None
 word-made p t number i block idle names has =
     a-block p t number (barred (lacks_word (named t number) i) refusal.NoWord None) block idle names
     ∙ not-barred (lacks_word (named t number) i) refusal.NoWord None
-    (ap (λ (slot : Option Block). lacks_word slot i) names ∙ lt-leb (usable_words block.need) i has)
+    (ap (λ (slot : Option Kept). lacks_word slot i) names ∙ lt-leb (usable_words block.need) i has)
 
 pub range-made :
-    (p : Pass) (t : Table) (number from count : ℕ) (block : Block) → is_idle p.errand.point ≡ true → named t number ≡ Some block
+    (p : Pass) (t : Table) (number from count : ℕ) (block : Block) → is_idle p.errand.point ≡ true → named t number ≡ Some (kept.Home block)
     → from + count ≤ usable_words block.need → range_bar p t number from count ≡ None
 range-made p t number from count block idle names has =
     a-block p t number (barred (lacks_range (named t number) from count) refusal.NoWord None) block idle names
     ∙ not-barred (lacks_range (named t number) from count) refusal.NoWord None
-    (ap (λ (slot : Option Block). lacks_range slot from count) names ∙ le-ltb (usable_words block.need) (from + count) has)
+    (ap (λ (slot : Option Kept). lacks_range slot from count) names ∙ le-ltb (usable_words block.need) (from + count) has)
 
 pub put-made :
-    (p : Pass) (t : Table) (number shelf : ℕ) (block : Block) → is_idle p.errand.point ≡ true → named t number ≡ Some block
+    (p : Pass) (t : Table) (number shelf : ℕ) (block : Block) → is_idle p.errand.point ≡ true → named t number ≡ Some (kept.Home block)
     → shelf < SHELVES → put_bar p t number shelf ≡ None
 put-made p t number shelf block idle names has =
     a-block p t number (barred (nat_le SHELVES shelf) refusal.NoShelf None) block idle names

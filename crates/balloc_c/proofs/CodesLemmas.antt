@@ -22,7 +22,8 @@ at_number (suc (suc (suc (suc (suc (suc (suc (suc (suc (suc (suc zero)))))))))))
 at_number (suc (suc (suc (suc (suc (suc (suc (suc (suc (suc (suc (suc zero)))))))))))) = refusal.ShelfFull
 at_number (suc (suc (suc (suc (suc (suc (suc (suc (suc (suc (suc (suc (suc zero))))))))))))) = refusal.ShelfEmpty
 at_number (suc (suc (suc (suc (suc (suc (suc (suc (suc (suc (suc (suc (suc (suc zero)))))))))))))) = refusal.ShelfMissed
-at_number (suc (suc (suc (suc (suc (suc (suc (suc (suc (suc (suc (suc (suc (suc (suc n))))))))))))))) = refusal.Closed
+at_number (suc (suc (suc (suc (suc (suc (suc (suc (suc (suc (suc (suc (suc (suc (suc zero))))))))))))))) = refusal.Out
+at_number (suc (suc (suc (suc (suc (suc (suc (suc (suc (suc (suc (suc (suc (suc (suc (suc n)))))))))))))))) = refusal.Closed
 
 cause_at : ℤ → Refusal
 cause_at (pos n) = refusal.Interrupted
@@ -46,6 +47,7 @@ told refusal.Spent = refl
 told refusal.ShelfFull = refl
 told refusal.ShelfEmpty = refl
 told refusal.ShelfMissed = refl
+told refusal.Out = refl
 
 pub apart : (one other : Refusal) → code_of one ≡ code_of other → one ≡ other
 apart one other same = sym (told one) ∙ ap cause_at same ∙ told other
@@ -75,6 +77,7 @@ high refusal.Spent = refl
 high refusal.ShelfFull = refl
 high refusal.ShelfEmpty = refl
 high refusal.ShelfMissed = refl
+high refusal.Out = refl
 
 pub not_made : (cause : Refusal) → code_of cause ≢ pos 0
 unfolding low

@@ -1,11 +1,18 @@
+mod AllBlocks
 mod BarLemmas
 mod CodesLemmas
+mod Enough
+mod Going
 mod LeaveLemmas
+mod LendingLemmas
 mod MadeCalls
+mod MemoryCalls
 mod Numbers
 mod OpenLemmas
 mod Packing
 mod RangeLemmas
 pub mod Seal
 mod Slots
+mod Tending
 mod ToldLemmas
+mod Values

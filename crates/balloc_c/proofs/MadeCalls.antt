@@ -1,4 +1,4 @@
--- What a call has come to that nothing bars, and which blocks are held then.
+-- What a call has come to that nothing bars.
 use Rattle.std.proofs.Common.{ℕ, ◌≡◌, ◌≢◌, ◌<◌, ◌≤◌, ◌+◌, ◌%◌, ◌^◌, true, false, Some, None, Ok, Err, List, ◌∷◌, length, refl, sym, ap, ◌∙◌, subst}
 use Rattle.heap_geometry.specs.declared.limits.TheConstants.{LARGE_MOST, SHELVES}
 use Rattle.heap_geometry.specs.Need.{usable_words}
@@ -18,60 +18,22 @@ use Rattle.live_heap.specs.Calls.{HasCalled}
 use Rattle.live_heap.specs.Passes.{IsOf}
 use Rattle.live_heap.specs.Words.{CallsOnWord}
 use Rattle.block_cache.specs.declared.cache.Cache.{Cache}
-use Rattle.block_cache.specs.Caches.{Holds, IsCache, KeepsMagazines}
+use Rattle.block_cache.specs.Caches.{KeepsMagazines}
+use Rattle.balloc_c.specs.declared.kept.Kept.TheVariants as kept
 use Rattle.balloc_c.specs.declared.refusal.Refusal.TheVariants as refusal
 use Rattle.balloc_c.specs.declared.table.Slot.{Slot}
 use Rattle.balloc_c.specs.declared.table.Table.{Table}
 use Rattle.balloc_c.specs.Numbers.{NamesOneMore, HasSlotReady, KeepsNumbers, NamesOneLess, named}
 use Rattle.balloc_c.specs.Outcomes.{Allocs, Frees, GoesOnTo, HasAllocated, HasFreed, HasPut, HasRead, HasResumed, HasTaken, HasWritten, Puts, Reads, Resumes, Takes, Writes, alloc_bar, free_bar, put_bar, resume_bar, take_bar, word_bar}
 use Rattle.balloc_c.specs.Ranges.{Adds, Fills, HasFilled, HasReadRange, HasSummed, HasWrittenRange, ReadsRange, WritesRange, range_bar, wrote_from}
-use Rattle.balloc_c.specs.Slots.{HasAged, IsVacant, block_at, blocks_of, set_block}
-use Rattle.balloc_c.specs.Tended.{Tends}
+use Rattle.balloc_c.specs.Slots.{HasAged, block_at, set_block}
 use Rattle.balloc_c.specs.Through.{Asked, IsAllocation, IsFree}
 use Rattle.balloc_c.proofs.BarLemmas.{alloc-made, free-made, makes, put-made, range-made, resume-made, take-made, word-made}
 use Rattle.balloc_c.proofs.Numbers.{keeps-set, loses-set}
-use Rattle.balloc_c.proofs.Slots.{placed, taken-out, vacant-set}
-
--- the cache tends the blocks of a table that has the same blocks
-pub same-tends : (h : HeapFields) (d : Cache) (had : List Block) (slots : List Slot) → IsCache h d → Holds d had → blocks_of slots ≡ had → Tends h d (blocks_of slots)
-same-tends h d had slots cache held same = record { cache = cache; holds = subst (Holds d) (sym same) held }
-
--- the cache tends a table where a block comes into a vacant slot
-pub filled-tends :
-    (h : HeapFields) (d : Cache) (had : List Block) (slots after : List Slot) (i : ℕ) (block : Block) → IsCache h d → Holds d (block ∷ had)
-    → blocks_of slots ≡ had → IsVacant slots i → after ≡ set_block slots i (Some block) → Tends h d (blocks_of after)
-filled-tends h d had slots after i block cache held same vacant set =
-    record {
-      cache = cache;
-      holds = subst (λ (l : List Slot). Holds d (blocks_of l)) (sym set)
-          (placed d slots i block vacant (subst (λ (l : List Block). Holds d (block ∷ l)) (sym same) held));
-    }
-
--- the cache tends a table where a block leaves its slot
-pub gone-tends :
-    (h : HeapFields) (c d : Cache) (slots middle after : List Slot) (i : ℕ) (block : Block) → Tends h c (blocks_of slots) → i < length slots
-    → block_at slots i ≡ Some block → middle ≡ set_block slots i None → blocks_of after ≡ blocks_of middle → IsCache h d
-    → ((held : List Block) → Holds c (block ∷ held) → Holds d held) → Tends h d (blocks_of after)
-gone-tends h c d slots middle after i block tends within is set same cache holds =
-    let out = taken-out c slots i block within is tends.holds in
-    record {
-      cache = cache;
-      holds = subst (Holds d) (sym (same ∙ ap blocks_of set)) (holds (blocks_of (set_block slots i None)) out);
-    }
-
--- the cache tends a table where a block comes back into its slot
-pub back-tends :
-    (h : HeapFields) (c d : Cache) (slots middle after : List Slot) (i : ℕ) (block back : Block) → Tends h c (blocks_of slots) → i < length slots
-    → block_at slots i ≡ Some block → middle ≡ set_block slots i None → after ≡ set_block middle i (Some back) → IsCache h d
-    → ((held : List Block) → Holds c (block ∷ held) → Holds d (back ∷ held)) → Tends h d (blocks_of after)
-back-tends h c d slots middle after i block back tends within is out_is back_is cache holds =
-    let bare = set_block slots i None in
-    let out = taken-out c slots i block within is tends.holds in
-    let whole : after ≡ set_block bare i (Some back) = back_is ∙ ap (λ (l : List Slot). set_block l i (Some back)) out_is in
-    filled-tends h d (blocks_of bare) bare after i back cache (holds (blocks_of bare) out) refl (vacant-set slots i within) whole
+use Rattle.balloc_c.proofs.Slots.{vacant-set}
 
 pub read-answers :
-    (c : Cache) (t : Table) (number i : ℕ) (block : Block) (word : ℕ) (d : Cache) → is_idle c.pass.errand.point ≡ true → named t number ≡ Some block
+    (c : Cache) (t : Table) (number i : ℕ) (block : Block) (word : ℕ) (d : Cache) → is_idle c.pass.errand.point ≡ true → named t number ≡ Some (kept.Home block)
     → i < usable_words block.need → HasCalled c.pass (read block.place block.need i) 0 (reply.Word word) d.pass → IsContents d.pass block.place i word
     → KeepsMagazines c d → HasRead c t number i (Ok word) d t
 read-answers c t number i block word d idle names has called contents keeps =
@@ -79,7 +41,7 @@ read-answers c t number i block word d idle names has called contents keeps =
     ((block, names, ((called, contents), keeps)), refl)
 
 pub write-answers :
-    (c : Cache) (t : Table) (number i value : ℕ) (block : Block) (d : Cache) → is_idle c.pass.errand.point ≡ true → named t number ≡ Some block
+    (c : Cache) (t : Table) (number i value : ℕ) (block : Block) (d : Cache) → is_idle c.pass.errand.point ≡ true → named t number ≡ Some (kept.Home block)
     → i < usable_words block.need → HasCalled c.pass (write block.place block.need i value) 0 reply.Wrote d.pass → KeepsMagazines c d
     → HasWritten c t number i value (Ok tt) d t
 write-answers c t number i value block d idle names has called keeps =
@@ -89,7 +51,7 @@ write-answers c t number i value block d idle names has called keeps =
 -- what calls on words in a row answer
 pub writes-answers :
     (h : HeapFields) (c : Cache) (t : Table) (number from : ℕ) (words : List ℕ) (block : Block) (d : Cache) → is_idle c.pass.errand.point ≡ true
-    → named t number ≡ Some block → from + length words ≤ usable_words block.need → IsOf h c.pass
+    → named t number ≡ Some (kept.Home block) → from + length words ≤ usable_words block.need → IsOf h c.pass
     → Asked (λ p q. LeadsBy (CallsOnWord h) p (wrote_from block.place block.need from words) q) c d → HasWrittenRange c t number from words (Ok tt) d t
 writes-answers h c t number from words block d idle names has of leads =
     makes (range_bar c.pass t number from (length words)) (WritesRange c t number from words) c t (Ok tt) d t
@@ -97,7 +59,7 @@ writes-answers h c t number from words block d idle names has of leads =
 
 pub reads-answers :
     (h : HeapFields) (c : Cache) (t : Table) (number from : ℕ) (before after : List ℕ) (block : Block) (d : Cache) → is_idle c.pass.errand.point ≡ true
-    → named t number ≡ Some block → from + length before ≤ usable_words block.need → IsOf h c.pass
+    → named t number ≡ Some (kept.Home block) → from + length before ≤ usable_words block.need → IsOf h c.pass
     → Asked (λ p q. LeadsBy (CallsOnWord h) p (found_from block.place block.need from after) q) c d
     → HasReadRange c t number from before after (Ok tt) d t
 reads-answers h c t number from before after block d idle names has of leads =
@@ -105,7 +67,7 @@ reads-answers h c t number from before after block d idle names has of leads =
     (range-made c.pass t number from (length before) block idle names has) ((block, names, (h, of, leads)), refl)
 
 pub fill-answers :
-    (h : HeapFields) (c : Cache) (t : Table) (number from : ℕ) (block : Block) (d : Cache) → is_idle c.pass.errand.point ≡ true → named t number ≡ Some block
+    (h : HeapFields) (c : Cache) (t : Table) (number from : ℕ) (block : Block) (d : Cache) → is_idle c.pass.errand.point ≡ true → named t number ≡ Some (kept.Home block)
     → IsOf h c.pass → Asked (λ p q. LeadsBy (CallsOnWord h) p (wrote block.place block.need from (usable_words block.need)) q) c d
     → HasFilled c t number from (Ok tt) d t
 fill-answers h c t number from block d idle names of leads =
@@ -113,7 +75,7 @@ fill-answers h c t number from block d idle names of leads =
     ((block, names, (h, of, leads)), refl)
 
 pub sum-answers :
-    (h : HeapFields) (c : Cache) (t : Table) (number total : ℕ) (block : Block) (d : Cache) → is_idle c.pass.errand.point ≡ true → named t number ≡ Some block
+    (h : HeapFields) (c : Cache) (t : Table) (number total : ℕ) (block : Block) (d : Cache) → is_idle c.pass.errand.point ≡ true → named t number ≡ Some (kept.Home block)
     → IsOf h c.pass → Asked (λ p q. Sums (CallsOnWord h) p block.place block.need total q) c d → HasSummed c t number (Ok total) d t
 sum-answers h c t number total block d idle names of sums =
     makes (free_bar c.pass t number) (Adds c t number) c t (Ok total) d t (free-made c.pass t number block idle names)
@@ -128,13 +90,13 @@ loses-at t u middle i number is names within set aged =
     (subst (λ (k : ℕ). middle ≡ set_block t.slots.items k None) is set) (subst (λ (k : ℕ). HasAged middle k u.slots.items) is aged)
 
 pub free-answers :
-    (c : Cache) (t : Table) (number : ℕ) (block : Block) (d : Cache) (u : Table) → is_idle c.pass.errand.point ≡ true → named t number ≡ Some block
+    (c : Cache) (t : Table) (number : ℕ) (block : Block) (d : Cache) (u : Table) → is_idle c.pass.errand.point ≡ true → named t number ≡ Some (kept.Home block)
     → IsFree c block free_answer.Freed d → NamesOneLess t number u → HasFreed c t number (Ok tt) d u
 free-answers c t number block d u idle names free loses =
     makes (free_bar c.pass t number) (Frees c t number) c t (Ok tt) d u (free-made c.pass t number block idle names) ((block, names, free), loses)
 
 pub free-stops :
-    (c : Cache) (t : Table) (number : ℕ) (block : Block) (d : Cache) (u : Table) → is_idle c.pass.errand.point ≡ true → named t number ≡ Some block
+    (c : Cache) (t : Table) (number : ℕ) (block : Block) (d : Cache) (u : Table) → is_idle c.pass.errand.point ≡ true → named t number ≡ Some (kept.Home block)
     → IsFree c block free_answer.Busy d → NamesOneLess t number u → HasFreed c t number (Err refusal.Interrupted) d u
 free-stops c t number block d u idle names free loses =
     makes (free_bar c.pass t number) (Frees c t number) c t (Err refusal.Interrupted) d u (free-made c.pass t number block idle names)
@@ -142,7 +104,7 @@ free-stops c t number block d u idle names free loses =
 
 -- what a put answers
 pub put-answers :
-    (c : Cache) (t : Table) (number shelf : ℕ) (block : Block) (d : Cache) (u : Table) → is_idle c.pass.errand.point ≡ true → named t number ≡ Some block
+    (c : Cache) (t : Table) (number shelf : ℕ) (block : Block) (d : Cache) (u : Table) → is_idle c.pass.errand.point ≡ true → named t number ≡ Some (kept.Home block)
     → shelf < SHELVES → HasCalled c.pass (put block.place block.need shelf) 0 reply.Put d.pass → KeepsMagazines c d → NamesOneLess t number u
     → HasPut c t number shelf (Ok tt) d u
 put-answers c t number shelf block d u idle names has called keeps loses =
@@ -151,7 +113,7 @@ put-answers c t number shelf block d u idle names has called keeps loses =
 
 put-full :
     (c : Cache) (t : Table) (number shelf found : ℕ) (block : Block) (d : Cache) (u : Table) → is_idle c.pass.errand.point ≡ true
-    → named t number ≡ Some block → shelf < SHELVES → PutTellsFull c.pass block shelf (record { block = block; found = found }) d.pass
+    → named t number ≡ Some (kept.Home block) → shelf < SHELVES → PutTellsFull c.pass block shelf (record { block = block; found = found }) d.pass
     → KeepsMagazines c d → KeepsNumbers t u → HasPut c t number shelf (Err refusal.ShelfFull) d u
 put-full c t number shelf found block d u idle names has tells keeps same =
     makes (put_bar c.pass t number shelf) (Puts c t number shelf) c t (Err refusal.ShelfFull) d u (put-made c.pass t number shelf block idle names has)
@@ -159,20 +121,20 @@ put-full c t number shelf found block d u idle names has tells keeps same =
 
 pub full-answers :
     (c : Cache) (t : Table) (number shelf : ℕ) (block back : Block) (full : Full) (d : Cache) (u : Table) (middle : List Slot) (i : ℕ)
-    → is_idle c.pass.errand.point ≡ true → named t number ≡ Some block → shelf < SHELVES → PutTellsFull c.pass block shelf full d.pass
-    → KeepsMagazines c d → i < length t.slots.items → block_at t.slots.items i ≡ Some block → middle ≡ set_block t.slots.items i None
-    → u.slots.items ≡ set_block middle i (Some back) → back ≡ full.block → HasPut c t number shelf (Err refusal.ShelfFull) d u
+    → is_idle c.pass.errand.point ≡ true → named t number ≡ Some (kept.Home block) → shelf < SHELVES → PutTellsFull c.pass block shelf full d.pass
+    → KeepsMagazines c d → i < length t.slots.items → block_at t.slots.items i ≡ Some (kept.Home block) → middle ≡ set_block t.slots.items i None
+    → u.slots.items ≡ set_block middle i (Some (kept.Home back)) → back ≡ full.block → HasPut c t number shelf (Err refusal.ShelfFull) d u
 full-answers c t number shelf block back full d u middle i idle names has tells keeps within is out_is back_is same =
     let still : i < length middle = subst (λ (l : List Slot). i < length l) (sym out_is) (vacant-set t.slots.items i within).0 in
     put-full c t number shelf full.found block d u idle names has
     (subst (λ (b : Block). PutTellsFull c.pass block shelf (record { block = b; found = full.found }) d.pass) tells.same tells) keeps
-    (keeps-set t u middle i block within still is out_is
-    (back_is ∙ ap (λ (b : Block). set_block middle i (Some b)) (same ∙ tells.same)))
+    (keeps-set t u middle i (kept.Home block) within still is out_is
+    (back_is ∙ ap (λ (b : Block). set_block middle i (Some (kept.Home b))) (same ∙ tells.same)))
 
 -- what an allocation answers
 pub given-answers :
     (c : Cache) (t : Table) (words number : ℕ) (block : Block) (d : Cache) (u : Table) → is_idle c.pass.errand.point ≡ true → words ≤ LARGE_MOST
-    → NamesOneMore t number block u → IsAllocation c words (alloc_answer.Given block) d → HasAllocated c t words (Ok number) d u
+    → NamesOneMore t number (kept.Home block) u → IsAllocation c words (alloc_answer.Given block) d → HasAllocated c t words (Ok number) d u
 given-answers c t words number block d u idle has gains told =
     makes (alloc_bar c.pass words) (Allocs c t words) c t (Ok number) d u (alloc-made c.pass words idle has) (block, gains, told)
 
@@ -197,12 +159,12 @@ busy-answers c t words d u idle has ready told =
 -- what a call that is gone on with answers, and a take
 pub resumed-answers :
     (h : HeapFields) (c : Cache) (t : Table) (number : ℕ) (block : Block) (d : Cache) (u : Table) → is_idle c.pass.errand.point ≡ false
-    → NamesOneMore t number block u → GoesOnTo h c (resumed.Given block) d → HasResumed h c t (Ok (Some number)) d u
+    → NamesOneMore t number (kept.Home block) u → GoesOnTo h c (resumed.Given block) d → HasResumed h c t (Ok (Some number)) d u
 resumed-answers h c t number block d u busy gains goes =
     makes (resume_bar c.pass) (Resumes h c t) c t (Ok (Some number)) d u (resume-made c.pass busy) (block, gains, goes)
 
 pub taken-answers :
     (c : Cache) (t : Table) (shelf number : ℕ) (block : Block) (d : Cache) (u : Table) → is_idle c.pass.errand.point ≡ true → shelf < SHELVES
-    → NamesOneMore t number block u → TakeTells c.pass shelf (taken.Got block) d.pass → KeepsMagazines c d → HasTaken c t shelf (Ok number) d u
+    → NamesOneMore t number (kept.Home block) u → TakeTells c.pass shelf (taken.Got block) d.pass → KeepsMagazines c d → HasTaken c t shelf (Ok number) d u
 taken-answers c t shelf number block d u idle has gains tells keeps =
     makes (take_bar c.pass shelf) (Takes c t shelf) c t (Ok number) d u (take-made c.pass shelf idle has) (block, gains, (tells, keeps))

@@ -1,20 +1,21 @@
 -- What numbers name behind a change of a slot.
-use Rattle.std.proofs.Common.{ℕ, zero, suc, cond, arith, ◌≡◌, ◌≢◌, ◌<◌, ◌≤◌, true≢false, ◌+◌, ◌*◌, ◌%◌, ◌^◌, ◌==◌, if◌then◌else◌, Bool, true, false, Option, Some, None, List, [], ◌∷◌, ◌++◌, length, slice_index_or, refl, sym, ap, ◌∙◌, subst}
+use Rattle.std.proofs.Common.{ℕ, zero, suc, cond, arith, ◌≡◌, ◌≢◌, ◌<◌, ◌≤◌, true≢false, ◌+◌, ◌*◌, ◌%◌, ◌^◌, ◌==◌, if◌then◌else◌, Bool, true, false, Option, Some, None, List, [], ◌∷◌, ◌++◌, length, length-set, slice_index_or, refl, sym, ap, ◌∙◌, subst}
 use Rattle.std.specs.Prelude.{count_by}
 use Rattle.std.proofs.lemmas.Bool.{eq-eqb, ne_eqb}
 use Rattle.std.proofs.lemmas.Bool.Decides.{eqb_tells, leb_tells}
 use Rattle.std.proofs.lemmas.Nat.{mod-mul-add}
 use Rattle.std.proofs.lemmas.List.Sums.{sum_by-append, sum_by_push}
 use Rattle.std.proofs.Math.Nat.{add_assoc, mod-add-mod, mod-eq_of_lt, mod-lt}
-use Rattle.live_heap.specs.declared.block.Block.{Block}
+use Rattle.balloc_c.specs.declared.kept.Kept.{Kept}
 use Rattle.balloc_c.specs.declared.table.Table.{Table}
 use Rattle.balloc_c.specs.Numbers.{NamesOneMore, GaveAway, KeepsNumbers, NamesOneLess, named, number_at}
 use Rattle.balloc_c.specs.declared.table.Slot.{Slot}
+use Rattle.balloc_c.specs.Lending.{Renames}
 use Rattle.balloc_c.specs.Packed.{HasOneMoreAtMost}
 use Rattle.balloc_c.specs.Slots.{HasAged, IsVacant, age_at, block_at, blocks_of, no_slot, set_block}
 use Rattle.balloc_c.proofs.Slots.{age-set, block-set_other, block-set_same, by_case}
 
-abbrev none : Option Block
+abbrev none : Option Kept
 none = None
 
 both_none : (b : Bool) → (if b then none else none) ≡ none
@@ -29,7 +30,7 @@ named-no t n other = ap (λ (b : Bool). if b then block_at t.slots.items (n % 2 
 
 named-empty : (t : Table) (n : ℕ) → block_at t.slots.items (n % 2 ^ 32) ≡ None → named t n ≡ None
 named-empty t n empty =
-    ap (λ (s : Option Block). if number_at t (n % 2 ^ 32) == n then s else None) empty ∙ both_none (number_at t (n % 2 ^ 32) == n)
+    ap (λ (s : Option Kept). if number_at t (n % 2 ^ 32) == n then s else None) empty ∙ both_none (number_at t (n % 2 ^ 32) == n)
 
 -- a number names the same where its slot is as it was
 named-same :
@@ -37,7 +38,7 @@ named-same :
     → age_at u.slots.items (n % 2 ^ 32) ≡ age_at t.slots.items (n % 2 ^ 32) → named u n ≡ named t n
 named-same t u n block age =
     ap (λ (a : ℕ). if a * 2 ^ 32 + n % 2 ^ 32 % 2 ^ 32 == n then block_at u.slots.items (n % 2 ^ 32) else None) age
-    ∙ ap (λ (s : Option Block). if number_at t (n % 2 ^ 32) == n then s else None) block
+    ∙ ap (λ (s : Option Kept). if number_at t (n % 2 ^ 32) == n then s else None) block
 
 -- a number that names a block is that of its slot
 pub names-itself : (t : Table) (n : ℕ) → named t n ≢ None → number_at t (n % 2 ^ 32) ≡ n
@@ -63,7 +64,7 @@ slot-of t i small =
 
 -- a table where a vacant slot has a block now names one more
 pub gains :
-    (t u : Table) (i : ℕ) (block : Block) → i < 2 ^ 32 → block_at t.slots.items i ≡ None → block_at u.slots.items i ≡ Some block
+    (t u : Table) (i : ℕ) (block : Kept) → i < 2 ^ 32 → block_at t.slots.items i ≡ None → block_at u.slots.items i ≡ Some block
     → ((j : ℕ) → j ≢ i → block_at u.slots.items j ≡ block_at t.slots.items j)
     → ((j : ℕ) → age_at u.slots.items j ≡ age_at t.slots.items j) → NamesOneMore t (number_at u i) block u
 gains t u i block small vacant full others ages =
@@ -149,7 +150,7 @@ keeps-itself t = keeps t t (λ j. refl) (λ j. refl)
 
 -- a table where a block was put into a vacant slot names one more
 pub gains-set :
-    (t u : Table) (i : ℕ) (block : Block) → i < 2 ^ 32 → IsVacant t.slots.items i → u.slots.items ≡ set_block t.slots.items i (Some block)
+    (t u : Table) (i : ℕ) (block : Kept) → i < 2 ^ 32 → IsVacant t.slots.items i → u.slots.items ≡ set_block t.slots.items i (Some block)
     → NamesOneMore t (number_at u i) block u
 gains-set t u i block small vacant set =
     let slot : Slot = record (slice_index_or t.slots.items i no_slot) { block = Some block } in
@@ -175,7 +176,7 @@ loses-set t u l n names within set aged =
 
 -- a table where a block was taken out of its slot and put back keeps its numbers
 pub keeps-set :
-    (t u : Table) (l : List Slot) (i : ℕ) (block : Block) → i < length t.slots.items → i < length l → block_at t.slots.items i ≡ Some block
+    (t u : Table) (l : List Slot) (i : ℕ) (block : Kept) → i < length t.slots.items → i < length l → block_at t.slots.items i ≡ Some block
     → l ≡ set_block t.slots.items i None → u.slots.items ≡ set_block l i (Some block) → KeepsNumbers t u
 keeps-set t u l i block within still was out back =
     let none : Slot = record (slice_index_or t.slots.items i no_slot) { block = None } in
@@ -194,7 +195,7 @@ keeps-set t u l i block within still was out back =
     ∙ age-set t.slots.items i None j within)
 
 -- a block comes behind a change in which none came or went
-pub gains-behind : (t m : Table) (number : ℕ) (block : Block) (u : Table) → KeepsNumbers t m → NamesOneMore m number block u → NamesOneMore t number block u
+pub gains-behind : (t m : Table) (number : ℕ) (block : Kept) (u : Table) → KeepsNumbers t m → NamesOneMore m number block u → NamesOneMore t number block u
 gains-behind t m number block u kept gained = record {
   new = sym (kept.all number) ∙ gained.new;
   here = gained.here;
@@ -202,21 +203,21 @@ gains-behind t m number block u kept gained = record {
   gave = gave-more t m u [] [] kept.gave gained.gave;
 }
 
-some-not-none : (block : Block) → Some block ≢ None
+pub some-not-none : (block : Kept) → Some block ≢ None
 some-not-none block same = true≢false (ap is_there same)
   where
-    is_there : Option Block → Bool
+    is_there : Option Kept → Bool
     is_there None = false
     is_there (Some b) = true
 
-behind-none : (slots : List Slot) (i : ℕ) → length slots ≤ i → block_at slots i ≡ None
+pub behind-none : (slots : List Slot) (i : ℕ) → length slots ≤ i → block_at slots i ≡ None
 behind-none [] i past = refl
 behind-none (x ∷ xs) zero past = absurd (omega (arith, past))
 behind-none (x ∷ xs) (suc i) past = behind-none xs i (omega (arith, past))
 
 -- the first number of a table without slots is 0
 pub begins-at-zero :
-    (t u : Table) (number : ℕ) (block : Block) → t.slots.items ≡ [] → HasOneMoreAtMost t u → NamesOneMore t number block u → number < 2 ^ 64
+    (t u : Table) (number : ℕ) (block : Kept) → t.slots.items ≡ [] → HasOneMoreAtMost t u → NamesOneMore t number block u → number < 2 ^ 64
     → number ≡ 0
 begins-at-zero t u number block bare few gained small =
     let i = number % 2 ^ 32 in
@@ -237,3 +238,40 @@ begins-at-zero t u number block bare few gained small =
     let zero_age : age ≡ 0 = sym (mod-eq_of_lt low) ∙ gave in
     let rest : i % 2 ^ 32 ≡ 0 = ap (λ (n : ℕ). n % 2 ^ 32) first in
     omega (arith, whole, zero_age, rest)
+
+-- a number names another block, or the same in another way, where its slot was set anew
+renames-set :
+    (t u : Table) (middle : List Slot) (number : ℕ) (was now : Kept) → number % 2 ^ 32 < length t.slots.items → named t number ≡ Some was
+    → middle ≡ set_block t.slots.items (number % 2 ^ 32) None → u.slots.items ≡ set_block middle (number % 2 ^ 32) (Some now) → Renames t number now u
+renames-set t u middle number was now within names out back =
+    let i = number % 2 ^ 32 in
+    let slots = t.slots.items in
+    let bare : Slot = record (slice_index_or slots i no_slot) { block = None } in
+    let full : Slot = record (slice_index_or middle i no_slot) { block = Some now } in
+    let still : i < length middle =
+    subst (λ (l : List Slot). i < length l) (sym out) (subst (λ (n : ℕ). i < n) (sym (length-set slots i bare)) within) in
+    let blocks : (j : ℕ) → j ≢ i → block_at u.slots.items j ≡ block_at slots j =
+    λ j other.
+    ap (λ (l : List Slot). block_at l j) back ∙ block-set_other middle i j full other ∙ ap (λ (l : List Slot). block_at l j) out
+    ∙ block-set_other slots i j bare other in
+    let ages : (j : ℕ) → age_at u.slots.items j ≡ age_at slots j =
+    λ j. ap (λ (l : List Slot). age_at l j) back ∙ age-set middle i (Some now) j still ∙ ap (λ (l : List Slot). age_at l j) out ∙ age-set slots i None j within in
+    let there : number_at t i ≡ number = names-itself t number (λ nothing. some-not-none was (sym names ∙ nothing)) in
+    let now_there : number_at u i ≡ number = ap (λ (a : ℕ). a * 2 ^ 32 + i % 2 ^ 32) (ages i) ∙ there in
+    record {
+      here = named-yes u number now_there ∙ ap (λ (l : List Slot). block_at l i) back ∙ block-set_same middle i full still;
+      others = λ m other. by_case
+          (λ same.
+          named-no u m (λ it. other (sym it ∙ ap (number_at u) same.1 ∙ now_there))
+          ∙ sym (named-no t m (λ it. other (sym it ∙ ap (number_at t) same.1 ∙ there))))
+          (λ apart. named-same t u m (blocks (m % 2 ^ 32) apart.1) (ages (m % 2 ^ 32)))
+          (eqb_tells (m % 2 ^ 32) i);
+      gave = gave-none t u ages;
+    }
+
+pub renames-at :
+    (t u : Table) (middle : List Slot) (i number : ℕ) (was now : Kept) → i ≡ number % 2 ^ 32 → i < length t.slots.items → named t number ≡ Some was
+    → middle ≡ set_block t.slots.items i None → u.slots.items ≡ set_block middle i (Some now) → Renames t number now u
+renames-at t u middle i number was now is within names out back =
+    renames-set t u middle number was now (subst (λ (k : ℕ). k < length t.slots.items) is within) names
+    (subst (λ (k : ℕ). middle ≡ set_block t.slots.items k None) is out) (subst (λ (k : ℕ). u.slots.items ≡ set_block middle k (Some now)) is back)

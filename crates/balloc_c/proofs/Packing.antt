@@ -2,7 +2,7 @@
 use Rattle.std.proofs.Common.{ℕ, ◌≡◌, ◌≢◌, ◌<◌, ◌≤◌, ◌+◌, ◌-◌, ◌^◌, Option, Some, None, List, [], ◌∷◌, ◌++◌, length, take, drop, slice_index_or, refl, sym, ap, ◌∙◌, subst, length-append, length-set, arith}
 use Rattle.std.specs.Prelude.{slice_set}
 use Rattle.std.proofs.lemmas.List.{get_or-set_other, get_or-set_same}
-use Rattle.live_heap.specs.declared.block.Block.{Block}
+use Rattle.balloc_c.specs.declared.kept.Kept.{Kept}
 use Rattle.balloc_c.specs.declared.table.Slot.{Slot}
 use Rattle.balloc_c.specs.declared.table.Table.{Table}
 use Rattle.balloc_c.specs.declared.table.TheConstants.{NONE}
@@ -10,17 +10,17 @@ use Rattle.balloc_c.specs.Packed.{AreSpare, HasOneMoreAtMost, IsLinked, IsNoneOf
 use Rattle.balloc_c.specs.Slots.{HasAged, IsVacant, block_at, blocks_of, next_at, no_slot, set_block, with_block}
 use Rattle.balloc_c.proofs.Slots.{about, about-set, block-set_other, block-set_same, grown, vacant-set}
 
-is_some : Option Block → ℕ
+is_some : Option Kept → ℕ
 is_some None = 0
 is_some (Some block) = 1
 
-none-is : (block : Block) → None ≡ Some block → ⊥
+none-is : (block : Kept) → None ≡ Some block → ⊥
 unfolding is_some
 none-is block same = let apart : 0 ≡ 1 = ap is_some same in omega (arith, apart)
 
 -- a slot with a block stands not ready
 apart-from :
-    (slots : List Slot) (spare i : ℕ) (block : Block) (spares : List ℕ) → block_at slots i ≡ Some block → AreSpare slots spare spares
+    (slots : List Slot) (spare i : ℕ) (block : Kept) (spares : List ℕ) → block_at slots i ≡ Some block → AreSpare slots spare spares
     → IsNoneOf i spares
 apart-from slots spare i block [] is are = tt
 apart-from slots spare i block (j ∷ rest) is are =
@@ -44,7 +44,7 @@ next-set_other : (slots : List Slot) (i j : ℕ) (slot : Slot) → j ≢ i → n
 next-set_other slots i j slot other = ap (λ (s : Slot). s.next) (get_or-set_other slots i j slot no_slot other)
 
 -- how many blocks there are, by one slot and those about it
-with-count : (slot : Option Block) (blocks : List Block) → length (with_block slot blocks) ≡ length (with_block slot []) + length blocks
+with-count : (slot : Option Kept) (blocks : List Kept) → length (with_block slot blocks) ≡ length (with_block slot []) + length blocks
 with-count None blocks = omega arith
 with-count (Some block) blocks = omega arith
 
@@ -62,19 +62,19 @@ about-count slots i slot within =
     omega (arith, old, new, with-count (block_at slots i) after, with-count slot.block after)
 
 pub one-more :
-    (slots : List Slot) (i : ℕ) (block : Block) → IsVacant slots i
+    (slots : List Slot) (i : ℕ) (block : Kept) → IsVacant slots i
     → length (blocks_of (set_block slots i (Some block))) ≡ length (blocks_of slots) + 1
 one-more slots i block vacant =
     let slot : Slot = record (slice_index_or slots i no_slot) { block = Some block } in
-    let none : length (with_block (block_at slots i) []) ≡ 0 = ap (λ (b : Option Block). length (with_block b [])) vacant.1 in
+    let none : length (with_block (block_at slots i) []) ≡ 0 = ap (λ (b : Option Kept). length (with_block b [])) vacant.1 in
     omega (arith, about-count slots i slot vacant.0, none)
 
 one-less :
-    (slots : List Slot) (i : ℕ) (block : Block) → i < length slots → block_at slots i ≡ Some block
+    (slots : List Slot) (i : ℕ) (block : Kept) → i < length slots → block_at slots i ≡ Some block
     → length (blocks_of (set_block slots i None)) + 1 ≡ length (blocks_of slots)
 one-less slots i block within is =
     let slot : Slot = record (slice_index_or slots i no_slot) { block = None } in
-    let one : length (with_block (block_at slots i) []) ≡ 1 = ap (λ (b : Option Block). length (with_block b [])) is in
+    let one : length (with_block (block_at slots i) []) ≡ 1 = ap (λ (b : Option Kept). length (with_block b [])) is in
     omega (arith, about-count slots i slot within, one)
 
 -- the spare slot has no block, where there is one; and where there is none each slot has a block
@@ -132,12 +132,12 @@ grown-packed t u slot none full few bare next is spare =
       few = omega (arith, more, few);
     }
 
-abbrev with_one : List Slot → ℕ → Block → Slot
+abbrev with_one : List Slot → ℕ → Kept → Slot
 with_one slots i block = record (slice_index_or slots i no_slot) { block = Some block }
 
 -- the spare slot is filled
 pub filled-packed :
-    (t u : Table) (i : ℕ) (block : Block) → IsPacked t → t.spare ≡ i → IsVacant t.slots.items i
+    (t u : Table) (i : ℕ) (block : Kept) → IsPacked t → t.spare ≡ i → IsVacant t.slots.items i
     → u.slots.items ≡ set_block t.slots.items i (Some block) → u.spare ≡ next_at t.slots.items i → IsPacked u
 filled-packed t u i block packed spare vacant is next = at packed.spares packed.spare packed.all
   where
@@ -169,14 +169,14 @@ filled-packed t u i block packed spare vacant is next = at packed.spares packed.
 
 -- a block leaves its slot for good, which is the spare one then
 pub gone-packed :
-    (t m u : Table) (i : ℕ) (block : Block) → IsPacked t → i < length t.slots.items → block_at t.slots.items i ≡ Some block
+    (t m u : Table) (i : ℕ) (block : Kept) → IsPacked t → i < length t.slots.items → block_at t.slots.items i ≡ Some block
     → m.slots.items ≡ set_block t.slots.items i None → m.spare ≡ t.spare → HasAged m.slots.items i u.slots.items → IsLinked m i u → IsPacked u
 gone-packed t m u i block packed within is out spare aged linked =
     let slots = t.slots.items in
     let none : Slot = record (slice_index_or slots i no_slot) { block = None } in
     let count : length u.slots.items ≡ length slots = aged.count ∙ ap length out ∙ length-set slots i none in
     let fewer : length (blocks_of u.slots.items) + 1 ≡ length (blocks_of slots) =
-    ap (λ (l : List Block). length l + 1) (aged.blocks ∙ ap blocks_of out) ∙ one-less slots i block within is in
+    ap (λ (l : List Kept). length l + 1) (aged.blocks ∙ ap blocks_of out) ∙ one-less slots i block within is in
     let same : (j : ℕ) → j ≢ i → (block_at u.slots.items j ≡ block_at slots j) × (next_at u.slots.items j ≡ next_at slots j) =
     λ j other. (
       aged.same j ∙ ap (λ (l : List Slot). block_at l j) out ∙ block-set_other slots i j none other,
@@ -200,7 +200,7 @@ gone-packed t m u i block packed within is out spare aged linked =
 
 -- a block comes back into its slot
 pub back-packed :
-    (t m u : Table) (i : ℕ) (block back : Block) → IsPacked t → i < length t.slots.items → block_at t.slots.items i ≡ Some block
+    (t m u : Table) (i : ℕ) (block back : Kept) → IsPacked t → i < length t.slots.items → block_at t.slots.items i ≡ Some block
     → m.slots.items ≡ set_block t.slots.items i None → m.spare ≡ t.spare → u.slots.items ≡ set_block m.slots.items i (Some back)
     → u.spare ≡ m.spare → IsPacked u
 back-packed t m u i block back packed within is out spare again stays =
@@ -230,7 +230,7 @@ back-packed t m u i block back packed within is out spare again stays =
 
 -- a table has no more slots behind a change of one
 pub few-set :
-    (t m u : Table) (i : ℕ) (block : Option Block) → HasOneMoreAtMost t m → u.slots.items ≡ set_block m.slots.items i block → HasOneMoreAtMost t u
+    (t m u : Table) (i : ℕ) (block : Option Kept) → HasOneMoreAtMost t m → u.slots.items ≡ set_block m.slots.items i block → HasOneMoreAtMost t u
 few-set t m u i block few is more =
     let slot : Slot = record (slice_index_or m.slots.items i no_slot) { block = block } in
     let count : length u.slots.items ≡ length m.slots.items = ap length is ∙ length-set m.slots.items i slot in
@@ -264,3 +264,25 @@ few-out t m i out =
 -- where no slot stands ready the spare one is none
 pub spare-none : (t : Table) → IsPacked t → t.spare ≡ NONE → IsVacant t.slots.items t.spare → ⊥
 spare-none t packed none vacant = let few = packed.few in let low = vacant.0 in omega (arith, few, low, none)
+
+-- a table has as many blocks where one came back into its slot
+pub back-count :
+    (t m u : Table) (i : ℕ) (block back : Kept) → i < length t.slots.items → block_at t.slots.items i ≡ Some block
+    → m.slots.items ≡ set_block t.slots.items i None → u.slots.items ≡ set_block m.slots.items i (Some back)
+    → length (blocks_of u.slots.items) ≡ length (blocks_of t.slots.items)
+back-count t m u i block back within is out again =
+    let slots = t.slots.items in
+    let bare = set_block slots i None in
+    let whole : u.slots.items ≡ set_block bare i (Some back) = again ∙ ap (λ (l : List Slot). set_block l i (Some back)) out in
+    ap (λ (l : List Slot). length (blocks_of l)) whole ∙ one-more bare i back (vacant-set slots i within) ∙ one-less slots i block within is
+
+-- no more slots than a call leaves, in front of it or behind it
+pub few-behind :
+    (t v u : Table) → length v.slots.items ≡ length t.slots.items → length (blocks_of v.slots.items) ≡ length (blocks_of t.slots.items) → HasOneMoreAtMost v u
+    → HasOneMoreAtMost t u
+few-behind t v u count blocks few more =
+    let least = few (omega (arith, count, more)) in
+    omega (arith, blocks, least)
+
+pub few-before : (t v u : Table) → HasOneMoreAtMost t v → length u.slots.items ≡ length v.slots.items → HasOneMoreAtMost t u
+few-before t v u few count more = let least = few (omega (arith, count, more)) in omega (arith, count, least)

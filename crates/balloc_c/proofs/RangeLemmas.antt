@@ -31,7 +31,7 @@ pub held-on :
     → KeepsMagazines c d → HoldsBlock c block → HoldsBlock d block
 held-on h c d block call answer one leaves keeps held = (
   whole-keeps h h c.pass d.pass call answer block.place block.need (word-whole h c.pass d.pass call answer one) leaves held.0,
-  subst (λ (m : Magazines). All (λ (other : Block). other.place ≢ block.place) (all_in (stacks_of m.stacks.items))) (sym keeps.magazines) held.1,
+  subst (λ (m : Magazines Block). All (λ (other : Block). other.place ≢ block.place) (all_in (stacks_of m.stacks.items))) (sym keeps.magazines) held.1,
 )
 
 wrote-push :

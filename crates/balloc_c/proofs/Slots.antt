@@ -3,18 +3,12 @@ use Rattle.std.proofs.Common.{◌%◌, ◌^◌, ℕ, suc, zero, ◌≡◌, ◌�
 use Rattle.std.specs.Prelude.{slice_set}
 use Rattle.std.proofs.lemmas.Bool.Decides.{eqb_tells}
 use Rattle.std.proofs.lemmas.List.{take-append-drop, drop_more, take-set, drop-set, get_or_read, get_or-set_same, get_or-set_other}
-use Rattle.live_heap.specs.declared.block.Block.{Block}
-use Rattle.live_heap.specs.Heaps.{HeapFields}
-use Rattle.errand_steps.specs.Begins.{IsIdle}
-use Rattle.block_cache.specs.declared.cache.Cache.{Cache}
-use Rattle.block_cache.specs.Caches.{Holds, HoldsBlock}
-use Rattle.block_cache.proofs.TogetherLemmas.{among-held, ordered}
+use Rattle.balloc_c.specs.declared.kept.Kept.{Kept}
 use Rattle.balloc_c.specs.declared.table.Slot.{Slot}
 use Rattle.balloc_c.specs.Slots.{HasAged, IsVacant, age_at, block_at, blocks_of, no_slot, set_block, with_block}
-use Rattle.balloc_c.specs.Tended.{Tends}
 
 -- the blocks of two rows of slots
-with-append : (slot : Option Block) (xs ys : List Block) → with_block slot (xs ++ ys) ≡ with_block slot xs ++ ys
+with-append : (slot : Option Kept) (xs ys : List Kept) → with_block slot (xs ++ ys) ≡ with_block slot xs ++ ys
 with-append None xs ys = refl
 with-append (Some b) xs ys = refl
 
@@ -25,7 +19,7 @@ blocks-append (x ∷ xs) ys = ap (with_block x.block) (blocks-append xs ys) ∙ 
 -- the blocks in slots, with one slot more that has none
 pub grown : (slots : List Slot) (slot : Slot) → slot.block ≡ None → blocks_of (slots ++ slot ∷ []) ≡ blocks_of slots
 grown slots slot none =
-    blocks-append slots (slot ∷ []) ∙ ap (λ (b : Option Block). blocks_of slots ++ with_block b []) none ∙ append-nil (blocks_of slots)
+    blocks-append slots (slot ∷ []) ∙ ap (λ (b : Option Kept). blocks_of slots ++ with_block b []) none ∙ append-nil (blocks_of slots)
 
 pub grown-block : (slots : List Slot) (slot : Slot) (i : ℕ) → slot.block ≡ None → block_at (slots ++ slot ∷ []) i ≡ block_at slots i
 grown-block [] slot zero none = none
@@ -55,48 +49,18 @@ about-set slots i slot within =
     ∙ blocks-append (take i slots) (slot ∷ drop (i + 1) slots)
 
 -- the blocks in slots, by one slot with a block and those about it
-whole-at :
-    (slots : List Slot) (i : ℕ) (block : Block) → i < length slots → block_at slots i ≡ Some block
+pub whole-at :
+    (slots : List Slot) (i : ℕ) (block : Kept) → i < length slots → block_at slots i ≡ Some block
     → blocks_of slots ≡ blocks_of (take i slots) ++ block ∷ blocks_of (drop (i + 1) slots)
 whole-at slots i block within is =
-    about slots i within ∙ ap (λ (s : Option Block). blocks_of (take i slots) ++ with_block s (blocks_of (drop (i + 1) slots))) is
+    about slots i within ∙ ap (λ (s : Option Kept). blocks_of (take i slots) ++ with_block s (blocks_of (drop (i + 1) slots))) is
 
 -- the blocks in slots stay where one slot is replaced by one with the same block
 pub same-blocks : (slots : List Slot) (i : ℕ) (slot : Slot) → i < length slots → slot.block ≡ block_at slots i → blocks_of (slice_set slots i slot) ≡ blocks_of slots
 same-blocks slots i slot within same =
     about-set slots i slot within
-    ∙ ap (λ (b : Option Block). blocks_of (take i slots) ++ with_block b (blocks_of (drop (i + 1) slots))) same
+    ∙ ap (λ (b : Option Kept). blocks_of (take i slots) ++ with_block b (blocks_of (drop (i + 1) slots))) same
     ∙ sym (about slots i within)
-
--- a block in a slot is one of those that are held, whichever comes first
-pub taken-out :
-    (c : Cache) (slots : List Slot) (i : ℕ) (block : Block) → i < length slots → block_at slots i ≡ Some block
-    → Holds c (blocks_of slots) → Holds c (block ∷ blocks_of (set_block slots i None))
-taken-out c slots i block within is held =
-    let before = blocks_of (take i slots) in
-    let after = blocks_of (drop (i + 1) slots) in
-    subst (λ (l : List Block). Holds c (block ∷ l)) (sym (about-set slots i (record (slice_index_or slots i no_slot) { block = None }) within))
-    ((ordered c before after block).0 (subst (Holds c) (whole-at slots i block within is) held))
-
--- a block that comes goes into a vacant slot
-pub placed :
-    (c : Cache) (slots : List Slot) (i : ℕ) (block : Block) → IsVacant slots i → Holds c (block ∷ blocks_of slots)
-    → Holds c (blocks_of (set_block slots i (Some block)))
-placed c slots i block vacant held =
-    let before = blocks_of (take i slots) in
-    let after = blocks_of (drop (i + 1) slots) in
-    let whole : blocks_of slots ≡ before ++ after =
-    about slots i vacant.0 ∙ ap (λ (s : Option Block). before ++ with_block s after) vacant.1 in
-    subst (Holds c) (sym (about-set slots i (record (slice_index_or slots i no_slot) { block = Some block }) vacant.0))
-    ((ordered c before after block).1 (subst (λ (l : List Block). Holds c (block ∷ l)) whole held))
-
--- the caller of the cache holds the block in a slot
-pub held-at :
-    (h : HeapFields) (c : Cache) (slots : List Slot) (i : ℕ) (block : Block) → Tends h c (blocks_of slots) → IsIdle c.pass.errand → i < length slots
-    → block_at slots i ≡ Some block → HoldsBlock c block
-held-at h c slots i block tends idle within is =
-    (among-held h c (blocks_of slots) block tends.cache idle tends.holds).1
-    (blocks_of (take i slots), blocks_of (drop (i + 1) slots), whole-at slots i block within is)
 
 pub by_case : {A B C : Type 0} → (A → C) → (B → C) → A ⊎ B → C
 by_case f g (inl a) = f a
@@ -116,7 +80,7 @@ pub age-set_other : (slots : List Slot) (i j : ℕ) (slot : Slot) → j ≢ i �
 age-set_other slots i j slot other = ap (λ (s : Slot). s.age) (get_or-set_other slots i j slot no_slot other)
 
 -- a block that is set leaves all ages
-pub age-set : (slots : List Slot) (i : ℕ) (block : Option Block) (j : ℕ) → i < length slots → age_at (set_block slots i block) j ≡ age_at slots j
+pub age-set : (slots : List Slot) (i : ℕ) (block : Option Kept) (j : ℕ) → i < length slots → age_at (set_block slots i block) j ≡ age_at slots j
 age-set slots i block j within =
     let slot : Slot = record (slice_index_or slots i no_slot) { block = block } in
     by_case (λ same. subst (λ (n : ℕ). age_at (slice_set slots i slot) n ≡ age_at slots n) (sym same.1) (age-set_same slots i slot within))

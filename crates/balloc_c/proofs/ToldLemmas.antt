@@ -28,6 +28,7 @@ cause-fits refusal.Spent = refl
 cause-fits refusal.ShelfFull = refl
 cause-fits refusal.ShelfEmpty = refl
 cause-fits refusal.ShelfMissed = refl
+cause-fits refusal.Out = refl
 
 code-fits : {A : Type 0} (outcome : Result A Refusal) → to_z w32 (of_z w32 (code_in outcome)) ≡ code_in outcome
 code-fits (Ok value) = refl
@@ -86,3 +87,10 @@ pub taken :
     (next : Hand) (out : Option (Box Hand Global)) (box : Box Hand Global) → Some next ≡ option_map (λ b. b.value) out → out ≡ Some box
     → next ≡ box.value
 taken next out box holds is = same_Some next box.value (holds ∙ ap (option_map (λ b. b.value)) is)
+
+-- a call by a handle that holds nothing
+pub none_told :
+    {A : Type 0} (Call : Hand → Result A Refusal → Hand → Type 0) (Shows : Result A Refusal → Type 0) (was now : Option Hand) → was ≡ None → now ≡ None
+    → Shows (Err refusal.Closed) → Told Call was Shows now
+none_told Call Shows was now none empty shows =
+    subst (λ (o : Option Hand). Told Call o Shows now) (sym none) (shows, empty)

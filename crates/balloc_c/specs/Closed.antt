@@ -1,10 +1,13 @@
 -- How a pass closes for C.
-use Rattle.std.specs.Prelude.{ℕ, ◌≡◌, Bool, true, false, ℤ, pos, negsuc, Option, Some, None, IsSomeAnd, Result, Ok, Err, List, [], ◌∷◌, ◌++◌, ◌⊎◌}
+use Rattle.std.specs.Prelude.{ℕ, ◌≡◌, if◌then◌else◌, Bool, true, false, ℤ, pos, negsuc, Option, Some, None, IsSomeAnd, Result, Ok, Err, List, [], ◌∷◌, ◌++◌, ◌⊎◌}
 use Rattle.std.specs.Arc.{arc_value}
 use Rattle.errand_steps.specs.Begins.{IsIdle}
 use Rattle.live_heap.specs.declared.answers.FreeAnswer.{FreeAnswer}
 use Rattle.live_heap.specs.declared.answers.FreeAnswer.TheVariants as free_answer
-use Rattle.live_heap.specs.declared.block.Block.{Block}
+use Rattle.balloc_c.specs.declared.kept.Kept.{Kept}
+use Rattle.balloc_c.specs.declared.table.Slot.{Slot}
+use Rattle.balloc_c.specs.Kept.{block_of, is_out}
+use Rattle.live_heap.specs.declared.pass.Pass.{Pass}
 use Rattle.live_heap.specs.Endings.{ClosedFields}
 use Rattle.shared_heap.specs.declared.shared.Receipt.{Receipt}
 use Rattle.shared_heap.specs.Gathered.{IsClosedWhole}
@@ -23,23 +26,23 @@ use Rattle.balloc_c.specs.Hands.{heap_of}
 use Rattle.balloc_c.specs.Through.{IsFlush, IsFree}
 
 -- the block of a slot was freed, or its free is under way; where there is none nothing has happened
-abbrev pub FreesSlot : Cache → Option Block → FreeAnswer → Cache → Type 0
+abbrev pub FreesSlot : Cache → Option Kept → FreeAnswer → Cache → Type 0
 FreesSlot c None answer d = (answer ≡ free_answer.Freed) × (d ≡ c)
-FreesSlot c (Some block) answer d = IsFree c block answer d
+FreesSlot c (Some block) answer d = IsFree c (block_of block) answer d
 
 -- these blocks were freed, one after the other
-abbrev pub FreesAll : Cache → List Block → Cache → Type 0
+abbrev pub FreesAll : Cache → List Kept → Cache → Type 0
 FreesAll c [] d = d ≡ c
-FreesAll c (block ∷ blocks) d = (next : Cache) × IsFree c block free_answer.Freed next × FreesAll next blocks d
+FreesAll c (block ∷ blocks) d = (next : Cache) × IsFree c (block_of block) free_answer.Freed next × FreesAll next blocks d
 
 -- some of the blocks were freed, the free of the next one is interrupted, and the others are left
-pub record StopsAt (c : Cache) (had left : List Block) (d : Cache) : Type 0 where
-  pub freed : List Block
-  pub block : Block
+pub record StopsAt (c : Cache) (had left : List Kept) (d : Cache) : Type 0 where
+  pub freed : List Kept
+  pub block : Kept
   pub order : had ≡ freed ++ block ∷ left
   pub next : Cache
   pub before : FreesAll c freed next
-  pub stopped : IsFree next block free_answer.Busy d
+  pub stopped : IsFree next (block_of block) free_answer.Busy d
 
 -- all blocks of the table were freed, in the order of their slots; or one of these frees is interrupted
 abbrev pub FreesTable : Cache → Table → FreeAnswer → Cache → Table → Type 0
@@ -56,8 +59,17 @@ Empties c t (Ok done) d u = FreesThenFlushes c t free_answer.Freed d u
 Empties c t (Err refusal.Interrupted) d u = FreesTable c t free_answer.Busy d u ⊎ FreesThenFlushes c t free_answer.Busy d u
 Empties c t (Err cause) d u = ⊥
 
+-- the words of one of the blocks are out
+abbrev pub has_out : List Slot → Bool
+has_out [] = false
+has_out (slot ∷ slots) = if is_out slot.block then true else has_out slots
+
+-- what bars it
+abbrev pub leave_bar : Pass → Table → Option Refusal
+leave_bar pass table = barred (is_busy pass) refusal.InCall (barred (has_out table.slots.items) refusal.Out None)
+
 abbrev pub HasFreedAll : Cache → Table → Result (Unit {0}) Refusal → Cache → Table → Type 0
-HasFreedAll c t = Answers (barred (is_busy c.pass) refusal.InCall None) (Empties c t) c t
+HasFreedAll c t = Answers (leave_bar c.pass t) (Empties c t) c t
 
 -- before a pass closes its blocks are freed, those in magazines too, or they stay as they are
 abbrev pub LeavesBlocks : Bool → Hand → Result (Unit {0}) Refusal → Hand → Type 0

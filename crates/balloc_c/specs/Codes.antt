@@ -1,5 +1,5 @@
 -- The numbers that C gets.
-use Rattle.std.specs.Prelude.{ℕ, ℤ, pos, negsuc, Option, Some, None, Result, Ok, Err}
+use Rattle.std.specs.Prelude.{ℕ, ◌-◌, ◌^◌, ℤ, pos, negsuc, Option, Some, None, Result, Ok, Err}
 use Rattle.balloc_c.specs.declared.refusal.Refusal.{Refusal}
 use Rattle.balloc_c.specs.declared.refusal.Refusal.TheVariants as refusal
 
@@ -21,6 +21,12 @@ code_of refusal.Spent = negsuc 11
 code_of refusal.ShelfFull = negsuc 12
 code_of refusal.ShelfEmpty = negsuc 13
 code_of refusal.ShelfMissed = negsuc 14
+code_of refusal.Out = negsuc 15
+
+-- a code as a number of 32 bits, which C reads as the code
+abbrev pub word_of : ℤ → ℕ
+word_of (pos n) = n
+word_of (negsuc n) = 2 ^ 32 - 1 - n
 
 -- the code of an outcome
 abbrev pub code_in : {A : Type 0} → Result A Refusal → ℤ
@@ -42,3 +48,7 @@ abbrev pub resumed_number : Result (Option ℕ) Refusal → ℕ → ℕ
 resumed_number (Ok (Some number)) before = number
 resumed_number (Ok None) before = before
 resumed_number (Err cause) before = before
+
+-- the code of an outcome as a number of 32 bits
+abbrev pub word_in : {A : Type 0} → Result A Refusal → ℕ
+word_in outcome = word_of (code_in outcome)

@@ -1,7 +1,6 @@
 -- What is so of a hand.
 use Rattle.std.specs.Arc.{arc_value}
 use Rattle.live_heap.specs.Heaps.{HeapFields}
-use Rattle.balloc_c.specs.Slots.{blocks_of}
 use Rattle.balloc_c.specs.Packed.{IsPacked}
 use Rattle.balloc_c.specs.Tended.{Tends}
 use Rattle.shared_heap.specs.Shares.{IsTicketOf}
@@ -11,8 +10,8 @@ use Rattle.balloc_c.specs.declared.hand.Hand.{Hand}
 abbrev pub heap_of : Hand → HeapFields
 heap_of hand = (arc_value hand.heap).heap
 
--- the cache is one in front of the heap that the hand has a share in, and its caller holds the blocks of the table; no slot is lost, and the ticket is one for a pass of that heap
+-- the cache is one in front of the heap that the hand has a share in, and the blocks of the table are its caller's; no slot is lost, and the ticket is one for a pass of that heap
 abbrev pub IsTended : Hand → Type 0
 IsTended hand =
-    Tends (heap_of hand) hand.cache (blocks_of hand.table.slots.items) × IsPacked hand.table
+    Tends (heap_of hand) hand.cache hand.table.slots.items × IsPacked hand.table
     × IsTicketOf (arc_value hand.heap) hand.ticket.caller hand.ticket

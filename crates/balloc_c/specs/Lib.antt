@@ -1,7 +1,11 @@
 pub mod Census
 pub mod Closed
 pub mod Codes
+pub mod Handing
+pub mod Handled
 pub mod Hands
+pub mod Kept
+pub mod Lending
 pub mod Lent
 pub mod Numbers
 pub mod Opened

@@ -1,6 +1,6 @@
 -- Which blocks a table has, by their numbers.
 use Rattle.std.specs.Prelude.{ℕ, ◌≡◌, ◌≢◌, ◌+◌, ◌*◌, ◌%◌, ◌^◌, ◌==◌, if◌then◌else◌, Option, Some, None, List, [], ◌∷◌, count_by}
-use Rattle.live_heap.specs.declared.block.Block.{Block}
+use Rattle.balloc_c.specs.declared.kept.Kept.{Kept}
 use Rattle.balloc_c.specs.declared.table.Table.{Table}
 use Rattle.balloc_c.specs.Slots.{IsVacant, age_at, block_at}
 
@@ -9,7 +9,7 @@ abbrev pub number_at : Table → ℕ → ℕ
 number_at table index = age_at table.slots.items index * 2 ^ 32 + index % 2 ^ 32
 
 -- the block that has this number, if any
-abbrev pub named : Table → ℕ → Option Block
+abbrev pub named : Table → ℕ → Option Kept
 named table number =
     if number_at table (number % 2 ^ 32) == number then block_at table.slots.items (number % 2 ^ 32) else None
 
@@ -25,7 +25,7 @@ pub record KeepsNumbers (before after : Table) : Type 0 where
   pub gave : GaveAway before [] after
 
 -- the table names one block more, under a number that named none
-pub record NamesOneMore (before : Table) (number : ℕ) (block : Block) (after : Table) : Type 0 where
+pub record NamesOneMore (before : Table) (number : ℕ) (block : Kept) (after : Table) : Type 0 where
   pub new : named before number ≡ None
   pub here : named after number ≡ Some block
   pub others : (other : ℕ) → other ≢ number → named after other ≡ named before other

@@ -11,6 +11,9 @@ use Rattle.live_heap.specs.declared.answers.Resumed.{Resumed}
 use Rattle.live_heap.specs.declared.answers.Resumed.TheVariants as resumed
 use Rattle.live_heap.specs.declared.answers.Taken.TheVariants as taken
 use Rattle.live_heap.specs.declared.block.Block.{Block}
+use Rattle.balloc_c.specs.declared.kept.Kept.{Kept}
+use Rattle.balloc_c.specs.declared.kept.Kept.TheVariants as kept
+use Rattle.balloc_c.specs.Kept.{block_of, is_out}
 use Rattle.live_heap.specs.Heaps.{HeapFields}
 use Rattle.live_heap.specs.declared.pass.Pass.{Pass}
 use Rattle.live_heap.specs.Answers.{IsContents, PutTellsFull, ResumeTells, TakeTells}
@@ -39,27 +42,33 @@ is_busy pass = not (is_idle pass.errand.point)
 abbrev pub names_none : Table → ℕ → Bool
 names_none table number = is_none (named table number)
 
+-- the words of the block with this number are out
+abbrev pub names_out : Table → ℕ → Bool
+names_out table number = is_out (named table number)
+
 -- the block has no word with this number
-abbrev pub lacks_word : Option Block → ℕ → Bool
+abbrev pub lacks_word : Option Kept → ℕ → Bool
 lacks_word None i = false
-lacks_word (Some block) i = nat_le (usable_words block.need) i
+lacks_word (Some block) i = nat_le (usable_words (block_of block).need) i
 
 -- what bars each call
 abbrev pub alloc_bar : Pass → ℕ → Option Refusal
 alloc_bar pass words = barred (is_busy pass) refusal.InCall (barred (nat_lt LARGE_MOST words) refusal.TooLarge None)
 
 abbrev pub free_bar : Pass → Table → ℕ → Option Refusal
-free_bar pass table number = barred (is_busy pass) refusal.InCall (barred (names_none table number) refusal.NoBlock None)
+free_bar pass table number =
+    barred (is_busy pass) refusal.InCall (barred (names_none table number) refusal.NoBlock
+    (barred (names_out table number) refusal.Out None))
 
 abbrev pub word_bar : Pass → Table → ℕ → ℕ → Option Refusal
 word_bar pass table number i =
     barred (is_busy pass) refusal.InCall (barred (names_none table number) refusal.NoBlock
-    (barred (lacks_word (named table number) i) refusal.NoWord None))
+    (barred (names_out table number) refusal.Out (barred (lacks_word (named table number) i) refusal.NoWord None)))
 
 abbrev pub put_bar : Pass → Table → ℕ → ℕ → Option Refusal
 put_bar pass table number shelf =
     barred (is_busy pass) refusal.InCall (barred (names_none table number) refusal.NoBlock
-    (barred (nat_le SHELVES shelf) refusal.NoShelf None))
+    (barred (names_out table number) refusal.Out (barred (nat_le SHELVES shelf) refusal.NoShelf None)))
 
 abbrev pub take_bar : Pass → ℕ → Option Refusal
 take_bar pass shelf = barred (is_busy pass) refusal.InCall (barred (nat_le SHELVES shelf) refusal.NoShelf None)
@@ -76,13 +85,13 @@ Answers None Makes c t result d u = Makes result d u
 abbrev pub Stays : Cache → Table → Cache → Table → Type 0
 Stays c t d u = (d ≡ c) × KeepsNumbers t u
 
--- the number names a block, of which this holds
+-- the number names a block whose words are home, of which this holds
 abbrev pub Of : Table → ℕ → (Block → Type 0) → Type 0
-Of t number P = (block : Block) × (named t number ≡ Some block) × P block
+Of t number P = (block : Block) × (named t number ≡ Some (kept.Home block)) × P block
 
 -- an allocation of so many words, and a block that it gives has the number that is told. Where it gives none a slot stands ready for the next
 abbrev pub Allocs : Cache → Table → ℕ → Result ℕ Refusal → Cache → Table → Type 0
-Allocs c t words (Ok number) d u = (block : Block) × NamesOneMore t number block u × IsAllocation c words (alloc_answer.Given block) d
+Allocs c t words (Ok number) d u = (block : Block) × NamesOneMore t number (kept.Home block) u × IsAllocation c words (alloc_answer.Given block) d
 Allocs c t words (Err refusal.Exhausted) d u = HasSlotReady t u × IsAllocation c words alloc_answer.Refused d
 Allocs c t words (Err refusal.Spent) d u = HasSlotReady t u × IsAllocation c words alloc_answer.Spent d
 Allocs c t words (Err refusal.Interrupted) d u = HasSlotReady t u × IsAllocation c words alloc_answer.Busy d
@@ -114,7 +123,7 @@ Puts c t number shelf (Err cause) d u = ⊥
 
 -- a take from a shelf: a block that it gets has the number that is told
 abbrev pub Takes : Cache → Table → ℕ → Result ℕ Refusal → Cache → Table → Type 0
-Takes c t shelf (Ok number) d u = (block : Block) × NamesOneMore t number block u × Asked (λ p q. TakeTells p shelf (taken.Got block) q) c d
+Takes c t shelf (Ok number) d u = (block : Block) × NamesOneMore t number (kept.Home block) u × Asked (λ p q. TakeTells p shelf (taken.Got block) q) c d
 Takes c t shelf (Err refusal.ShelfEmpty) d u = HasSlotReady t u × Asked (λ p q. TakeTells p shelf taken.Empty q) c d
 Takes c t shelf (Err refusal.ShelfMissed) d u = HasSlotReady t u × (expected : ℕ) × (found : ℕ) × Asked (λ p q. TakeTells p shelf (taken.Missed expected found) q) c d
 Takes c t shelf (Err refusal.NoMemory) d u = Stays c t d u
@@ -127,7 +136,7 @@ GoesOnTo h c answer d =
 
 -- a call is gone on with: a block that it gets has the number that is told
 abbrev pub Resumes : HeapFields → Cache → Table → Result (Option ℕ) Refusal → Cache → Table → Type 0
-Resumes h c t (Ok (Some number)) d u = (block : Block) × NamesOneMore t number block u × GoesOnTo h c (resumed.Given block) d
+Resumes h c t (Ok (Some number)) d u = (block : Block) × NamesOneMore t number (kept.Home block) u × GoesOnTo h c (resumed.Given block) d
 Resumes h c t (Ok None) d u = HasSlotReady t u × GoesOnTo h c resumed.Freed d
 Resumes h c t (Err refusal.Exhausted) d u = HasSlotReady t u × GoesOnTo h c resumed.Refused d
 Resumes h c t (Err refusal.Spent) d u = HasSlotReady t u × GoesOnTo h c resumed.Spent d
@@ -159,7 +168,7 @@ HasResumed h c t = Answers (resume_bar c.pass) (Resumes h c t) c t
 
 -- the usable words of the block of this number are told; nothing has happened, and a call may be under way
 abbrev pub TellsWords : Table → ℕ → Result ℕ Refusal → Type 0
-TellsWords t number (Ok words) = Of t number (λ block. words ≡ usable_words block.need)
+TellsWords t number (Ok words) = (block : Kept) × (named t number ≡ Some block) × (words ≡ usable_words (block_of block).need)
 TellsWords t number (Err cause) = (cause ≡ refusal.NoBlock) × (named t number ≡ None)
 
 abbrev pub HasCounted : Cache → Table → ℕ → Result ℕ Refusal → Cache → Table → Type 0

@@ -5,7 +5,8 @@ use Rattle.heap_geometry.specs.Need.{usable_words}
 use Rattle.errand_steps.specs.declared.reply.Reply.TheVariants as reply
 use Rattle.errand_steps.specs.Calls.{write}
 use Rattle.sound_laws.specs.events.Made.{LeadsBy, Made, Sums, answered, found_from, wrote}
-use Rattle.live_heap.specs.declared.block.Block.{Block}
+use Rattle.balloc_c.specs.declared.kept.Kept.{Kept}
+use Rattle.balloc_c.specs.Kept.{block_of}
 use Rattle.live_heap.specs.Heaps.{HeapFields}
 use Rattle.live_heap.specs.declared.pass.Pass.{Pass}
 use Rattle.live_heap.specs.Passes.{IsOf}
@@ -15,7 +16,7 @@ use Rattle.balloc_c.specs.declared.refusal.Refusal.{Refusal}
 use Rattle.balloc_c.specs.declared.refusal.Refusal.TheVariants as refusal
 use Rattle.balloc_c.specs.declared.table.Table.{Table}
 use Rattle.balloc_c.specs.Numbers.{named}
-use Rattle.balloc_c.specs.Outcomes.{Answers, Of, barred, free_bar, is_busy, names_none}
+use Rattle.balloc_c.specs.Outcomes.{Answers, Of, barred, free_bar, is_busy, names_none, names_out}
 use Rattle.balloc_c.specs.Through.{Asked}
 
 -- a write for each of these words, from word i on
@@ -24,15 +25,15 @@ wrote_from place need i [] = []
 wrote_from place need i (word ∷ words) = answered (write place need i word) reply.Wrote ∷ wrote_from place need (suc i) words
 
 -- the block has not all words of the range
-abbrev pub lacks_range : Option Block → ℕ → ℕ → Bool
+abbrev pub lacks_range : Option Kept → ℕ → ℕ → Bool
 lacks_range None from count = false
-lacks_range (Some block) from count = nat_lt (usable_words block.need) (from + count)
+lacks_range (Some block) from count = nat_lt (usable_words (block_of block).need) (from + count)
 
 -- what bars a call on a range
 abbrev pub range_bar : Pass → Table → ℕ → ℕ → ℕ → Option Refusal
 range_bar pass table number from count =
     barred (is_busy pass) refusal.InCall (barred (names_none table number) refusal.NoBlock
-    (barred (lacks_range (named table number) from count) refusal.NoWord None))
+    (barred (names_out table number) refusal.Out (barred (lacks_range (named table number) from count) refusal.NoWord None)))
 
 -- a pass made these calls on words, one after the other, each of one step
 abbrev pub MadeLead : Cache → List Made → Cache → Type 0

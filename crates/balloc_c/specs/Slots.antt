@@ -1,27 +1,33 @@
 -- The blocks in the slots of a table.
-use Rattle.std.specs.Prelude.{ℕ, ◌≡◌, ◌≢◌, ◌<◌, ◌+◌, ◌%◌, ◌^◌, Option, Some, None, List, [], ◌∷◌, length, slice_index_or, slice_set}
+use Rattle.std.specs.Prelude.{ℕ, ◌≡◌, ◌≢◌, ◌<◌, ◌+◌, ◌%◌, ◌^◌, Option, Some, None, List, [], ◌∷◌, length, map, slice_index_or, slice_set}
 use Rattle.live_heap.specs.declared.block.Block.{Block}
+use Rattle.balloc_c.specs.declared.kept.Kept.{Kept}
+use Rattle.balloc_c.specs.Kept.{block_of}
 use Rattle.balloc_c.specs.declared.table.Slot.{Slot}
 
 -- a block, or none, before others
-abbrev pub with_block : Option Block → List Block → List Block
+abbrev pub with_block : Option Kept → List Kept → List Kept
 with_block None blocks = blocks
 with_block (Some block) blocks = block ∷ blocks
 
-abbrev pub list_of : Option Block → List Block
+abbrev pub list_of : Option Kept → List Kept
 list_of block = with_block block []
 
 -- the blocks in slots
-abbrev pub blocks_of : List Slot → List Block
+abbrev pub blocks_of : List Slot → List Kept
 blocks_of [] = []
 blocks_of (slot ∷ slots) = with_block slot.block (blocks_of slots)
+
+-- and the same as tokens, wherever their words are
+abbrev pub lots_of : List Slot → List Block
+lots_of slots = map block_of (blocks_of slots)
 
 -- a slot that there is not
 abbrev pub no_slot : Slot
 no_slot = record { block = None; age = 0; next = 0 }
 
 -- the block in a slot, and how often the slot has given a block away
-abbrev pub block_at : List Slot → ℕ → Option Block
+abbrev pub block_at : List Slot → ℕ → Option Kept
 block_at slots index = (slice_index_or slots index no_slot).block
 
 abbrev pub age_at : List Slot → ℕ → ℕ
@@ -36,7 +42,7 @@ abbrev pub IsVacant : List Slot → ℕ → Type 0
 IsVacant slots index = (index < length slots) × (block_at slots index ≡ None)
 
 -- the slots with another block, or none, in one of them
-abbrev pub set_block : List Slot → ℕ → Option Block → List Slot
+abbrev pub set_block : List Slot → ℕ → Option Kept → List Slot
 set_block slots index block = slice_set slots index (record (slice_index_or slots index no_slot) { block = block })
 
 -- one slot has given a block away once more

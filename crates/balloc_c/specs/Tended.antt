@@ -1,11 +1,57 @@
--- What is so of a pass for C between calls.
-use Rattle.std.specs.Prelude.{List}
+-- What is so of a pass for C between calls. The words of some of its blocks may be out with C.
+use Rattle.std.specs.Prelude.{ℕ, ◌++◌, Option, Some, None, List, []}
+use Rattle.errand_steps.specs.Begins.{IsBusy, IsIdle}
+use Rattle.errand_steps.specs.Calls.{Call}
 use Rattle.live_heap.specs.declared.block.Block.{Block}
+use Rattle.live_heap.specs.declared.pass.Pass.{Pass}
+use Rattle.live_heap.specs.Answers.{IsTried}
+use Rattle.live_heap.specs.Calls.{IsCalling}
 use Rattle.live_heap.specs.Heaps.{HeapFields}
+use Rattle.live_heap.specs.Holdings.{HoldsExactly}
+use Rattle.live_heap.specs.Lending.{with_lent}
+use Rattle.live_heap.specs.Memory.{IsTaken}
+use Rattle.live_heap.specs.Passes.{IsHome, IsOf, view}
 use Rattle.block_cache.specs.declared.cache.Cache.{Cache}
-use Rattle.block_cache.specs.Caches.{Holds, IsCache}
+use Rattle.block_cache.specs.Accounts.{Began}
+use Rattle.block_cache.specs.Caches.{IsCache, cached_in}
+use Rattle.balloc_c.specs.declared.kept.Kept.{Kept}
+use Rattle.balloc_c.specs.declared.kept.Kept.TheVariants as kept
+use Rattle.balloc_c.specs.declared.table.Slot.{Slot}
+use Rattle.balloc_c.specs.Slots.{block_at, lots_of}
 
--- the cache is one in front of the heap, and these blocks are all that its caller owns, each once, but for those in magazines and the one that a call under way is about
-pub record Tends (h : HeapFields) (c : Cache) (blocks : List Block) : Type 0 where
+-- the pass as it would stand had it never taken words out
+abbrev pub at_home : Pass → Pass
+at_home p = record {
+  seat = record p.seat { me = (with_lent (view p) [], []) };
+  errand = p.errand;
+  out = 0;
+}
+
+-- an allocation or a free is interrupted that is about none of these blocks, and they were all others that the caller had
+pub record HasAllInCall (h : HeapFields) (p : Pass) (blocks : List Block) : Type 0 where
+  pub first : Pass
+  pub of : IsOf h first
+  pub call : Call
+  pub steps : ℕ
+  pub calling : IsCalling first call steps p
+  pub tried : IsTried call
+  pub had : List Block
+  pub began : Began call blocks had
+  pub exact : HoldsExactly (at_home first) had
+
+-- these are all blocks that the caller owns, each once, wherever their words are; while a call is under way, all but the one that the call is about
+pub record HasAll (h : HeapFields) (p : Pass) (blocks : List Block) : Type 0 where
+  pub at_rest : IsIdle p.errand → HoldsExactly (at_home p) blocks
+  pub in_call : IsBusy p.errand → HasAllInCall h p blocks
+
+-- the words of a slot's block are home, or they are out
+abbrev pub Stands : Pass → Option Kept → Type 0
+Stands p None = Unit {0}
+Stands p (Some (kept.Home block)) = IsHome p block.place
+Stands p (Some (kept.Out lent)) = IsTaken p lent.place lent.need
+
+-- the cache is one in front of the heap; the blocks in slots and those in magazines are all that its caller owns, each once, but for the one that a call under way is about; and the words of each stand as its slot says
+pub record Tends (h : HeapFields) (c : Cache) (slots : List Slot) : Type 0 where
   pub cache : IsCache h c
-  pub holds : Holds c blocks
+  pub all : HasAll h c.pass (lots_of slots ++ cached_in c)
+  pub stand : (index : ℕ) → Stands c.pass (block_at slots index)

@@ -1,13 +1,15 @@
 //! Calls on a pass with magazines, whose blocks have numbers.
 
-ghost use Rattle.std.specs.Prelude.{ℕ, ◌≡◌, ◌<◌, None, length};
+ghost use Rattle.std.specs.Prelude.{ℕ, ◌≡◌, ◌<◌, None, false, length, not};
 ghost use Rattle.errand_steps.specs.Begins.{IsIdle};
 ghost use Rattle.balloc_c.specs.Outcomes.{TellsWords, HasAllocated, HasFreed, HasPut, HasRead, HasResumed, HasTaken, HasWritten};
-ghost use Rattle.balloc_c.specs.Closed.{FreesSlot, FreesTable, HasFreedAll};
+ghost use Rattle.balloc_c.specs.Closed.{FreesSlot, FreesTable, HasFreedAll, has_out};
+ghost use Rattle.balloc_c.specs.Kept.{is_out};
 ghost use Rattle.balloc_c.specs.Packed.{HasOneMoreAtMost, IsPacked};
 ghost use Rattle.balloc_c.specs.Slots.{block_at, blocks_of, set_block};
 ghost use Rattle.balloc_c.specs.Tended.{Tends};
 
+use crate::kept::Kept;
 use crate::refusal::Refusal;
 use crate::table::Table;
 use block_cache::cache::Cache;
@@ -20,9 +22,9 @@ pub const TRIES: u32 = 1000;
 
 /// An allocation of so many usable words. Answers the block's number.
 pub fn alloc(heap: &Heap, cache: &mut Cache, table: &mut Table, words: u32) -> Result<u64, Refusal>
-    requires tends { Tends heap.now cache.old (blocks_of table.old.slots.items) }
+    requires tends { Tends heap.now cache.old table.old.slots.items }
     requires packed { IsPacked table.old }
-    ensures tends { Tends heap.now cache.new (blocks_of table.new.slots.items) }
+    ensures tends { Tends heap.now cache.new table.new.slots.items }
     ensures packed { IsPacked table.new }
     ensures few { HasOneMoreAtMost table.old table.new }
     ensures answers { HasAllocated cache.old table.old words result cache.new table.new }
@@ -38,7 +40,7 @@ pub fn alloc(heap: &Heap, cache: &mut Cache, table: &mut Table, words: u32) -> R
         Err(refusal) => return Err(refusal),
     };
     match cache.alloc(heap, words, TRIES) {
-        AllocAnswer::Given(block) => Ok(table.fill(index, block)),
+        AllocAnswer::Given(block) => Ok(table.fill(index, Kept::Home(block))),
         AllocAnswer::Refused => Err(Refusal::Exhausted),
         AllocAnswer::TooLarge => Err(Refusal::TooLarge),
         AllocAnswer::Spent => Err(Refusal::Spent),
@@ -48,9 +50,9 @@ pub fn alloc(heap: &Heap, cache: &mut Cache, table: &mut Table, words: u32) -> R
 
 /// The free of the block of this number.
 pub fn free(heap: &Heap, cache: &mut Cache, table: &mut Table, number: u64) -> Result<(), Refusal>
-    requires tends { Tends heap.now cache.old (blocks_of table.old.slots.items) }
+    requires tends { Tends heap.now cache.old table.old.slots.items }
     requires packed { IsPacked table.old }
-    ensures tends { Tends heap.now cache.new (blocks_of table.new.slots.items) }
+    ensures tends { Tends heap.now cache.new table.new.slots.items }
     ensures packed { IsPacked table.new }
     ensures few { HasOneMoreAtMost table.old table.new }
     ensures answers { HasFreed cache.old table.old number result cache.new table.new }
@@ -61,7 +63,10 @@ pub fn free(heap: &Heap, cache: &mut Cache, table: &mut Table, number: u64) -> R
     let Some(index) = table.find(number) else {
         return Err(Refusal::NoBlock);
     };
-    let block = table.set(index, None).unwrap();
+    if table.is_out(index) {
+        return Err(Refusal::Out);
+    }
+    let block = table.take_home(index);
     table.retire(index);
     match cache.free(heap, block, TRIES) {
         FreeAnswer::Freed => Ok(()),
@@ -69,18 +74,21 @@ pub fn free(heap: &Heap, cache: &mut Cache, table: &mut Table, number: u64) -> R
     }
 }
 
-/// Frees all blocks, in the order of their slots, and then those in magazines. Where a free is interrupted the blocks
-/// behind it stay.
+/// Frees all blocks, in the order of their slots, and then those in magazines, where none has its words out. Where a free
+/// is interrupted the blocks behind it stay.
 pub fn free_all(heap: &Heap, cache: &mut Cache, table: &mut Table) -> Result<(), Refusal>
-    requires tends { Tends heap.now cache.old (blocks_of table.old.slots.items) }
+    requires tends { Tends heap.now cache.old table.old.slots.items }
     requires packed { IsPacked table.old }
-    ensures tends { Tends heap.now cache.new (blocks_of table.new.slots.items) }
+    ensures tends { Tends heap.now cache.new table.new.slots.items }
     ensures packed { IsPacked table.new }
     ensures few { HasOneMoreAtMost table.old table.new }
     ensures answers { HasFreedAll cache.old table.old result cache.new table.new }
 {
     if !cache.idle() {
         return Err(Refusal::InCall);
+    }
+    if !are_home(table) {
+        return Err(Refusal::Out);
     }
     match free_slots(heap, cache, table) {
         FreeAnswer::Freed => {}
@@ -92,12 +100,25 @@ pub fn free_all(heap: &Heap, cache: &mut Cache, table: &mut Table) -> Result<(),
     }
 }
 
+/// Whether the words of no block are out.
+fn are_home(table: &Table) -> bool
+    ensures { has_out table.now.slots.items ≡ not result }
+{
+    for index in 0..table.len() {
+        if table.is_out(index) {
+            return false;
+        }
+    }
+    true
+}
+
 /// Frees the blocks in all slots.
 fn free_slots(heap: &Heap, cache: &mut Cache, table: &mut Table) -> FreeAnswer
-    requires tends { Tends heap.now cache.old (blocks_of table.old.slots.items) }
+    requires tends { Tends heap.now cache.old table.old.slots.items }
     requires packed { IsPacked table.old }
     requires idle { IsIdle cache.old.pass.errand }
-    ensures tends { Tends heap.now cache.new (blocks_of table.new.slots.items) }
+    requires home { has_out table.old.slots.items ≡ false }
+    ensures tends { Tends heap.now cache.new table.new.slots.items }
     ensures packed { IsPacked table.new }
     ensures count { length table.new.slots.items ≡ length table.old.slots.items }
     ensures idle { result ≡ FreeAnswer.Freed → IsIdle cache.new.pass.errand }
@@ -114,11 +135,12 @@ fn free_slots(heap: &Heap, cache: &mut Cache, table: &mut Table) -> FreeAnswer
 
 /// Frees the block in a slot, where there is one.
 fn free_slot(heap: &Heap, cache: &mut Cache, table: &mut Table, index: usize) -> FreeAnswer
-    requires tends { Tends heap.now cache.old (blocks_of table.old.slots.items) }
+    requires tends { Tends heap.now cache.old table.old.slots.items }
     requires packed { IsPacked table.old }
     requires idle { IsIdle cache.old.pass.errand }
     requires within { index < length table.old.slots.items }
-    ensures tends { Tends heap.now cache.new (blocks_of table.new.slots.items) }
+    requires home { is_out (block_at table.old.slots.items index) ≡ false }
+    ensures tends { Tends heap.now cache.new table.new.slots.items }
     ensures packed { IsPacked table.new }
     ensures idle { result ≡ FreeAnswer.Freed → IsIdle cache.new.pass.errand }
     ensures blocks { blocks_of table.new.slots.items ≡ blocks_of (set_block table.old.slots.items index None) }
@@ -126,18 +148,21 @@ fn free_slot(heap: &Heap, cache: &mut Cache, table: &mut Table, index: usize) ->
     ensures same { (other : ℕ) → block_at table.new.slots.items other ≡ block_at (set_block table.old.slots.items index None) other }
     ensures freed { FreesSlot cache.old (block_at table.old.slots.items index) result cache.new }
 {
-    let Some(block) = table.set(index, None) else {
-        return FreeAnswer::Freed;
-    };
-    table.retire(index);
-    cache.free(heap, block, TRIES)
+    match table.set(index, None) {
+        None => FreeAnswer::Freed,
+        Some(Kept::Home(block)) => {
+            table.retire(index);
+            cache.free(heap, block, TRIES)
+        }
+        Some(Kept::Out(_)) => unreachable!(),
+    }
 }
 
 /// Goes on with the call that was interrupted. Answers the number of a block that it got.
 pub fn resume(heap: &Heap, cache: &mut Cache, table: &mut Table) -> Result<Option<u64>, Refusal>
-    requires tends { Tends heap.now cache.old (blocks_of table.old.slots.items) }
+    requires tends { Tends heap.now cache.old table.old.slots.items }
     requires packed { IsPacked table.old }
-    ensures tends { Tends heap.now cache.new (blocks_of table.new.slots.items) }
+    ensures tends { Tends heap.now cache.new table.new.slots.items }
     ensures packed { IsPacked table.new }
     ensures few { HasOneMoreAtMost table.old table.new }
     ensures answers { HasResumed heap.now cache.old table.old result cache.new table.new }
@@ -150,7 +175,7 @@ pub fn resume(heap: &Heap, cache: &mut Cache, table: &mut Table) -> Result<Optio
         Err(refusal) => return Err(refusal),
     };
     match cache.resume(heap, TRIES) {
-        Resumed::Given(block) => Ok(Some(table.fill(index, block))),
+        Resumed::Given(block) => Ok(Some(table.fill(index, Kept::Home(block)))),
         Resumed::Freed => Ok(None),
         Resumed::Refused => Err(Refusal::Exhausted),
         Resumed::Spent => Err(Refusal::Spent),
@@ -180,8 +205,8 @@ pub fn write(
     i: u32,
     value: u64,
 ) -> Result<(), Refusal>
-    requires tends { Tends heap.now cache.old (blocks_of table.now.slots.items) }
-    ensures tends { Tends heap.now cache.new (blocks_of table.now.slots.items) }
+    requires tends { Tends heap.now cache.old table.now.slots.items }
+    ensures tends { Tends heap.now cache.new table.now.slots.items }
     ensures answers { HasWritten cache.old table.now number i value result cache.new table.now }
 {
     if !cache.idle() {
@@ -190,8 +215,11 @@ pub fn write(
     let Some(index) = table.find(number) else {
         return Err(Refusal::NoBlock);
     };
-    let Some(block) = table.block(index) else {
+    let Some(kept) = table.block(index) else {
         return Err(Refusal::NoBlock);
+    };
+    let Kept::Home(block) = kept else {
+        return Err(Refusal::Out);
     };
     if i >= block.usable_words() {
         return Err(Refusal::NoWord);
@@ -208,8 +236,8 @@ pub fn read(
     number: u64,
     i: u32,
 ) -> Result<u64, Refusal>
-    requires tends { Tends heap.now cache.old (blocks_of table.now.slots.items) }
-    ensures tends { Tends heap.now cache.new (blocks_of table.now.slots.items) }
+    requires tends { Tends heap.now cache.old table.now.slots.items }
+    ensures tends { Tends heap.now cache.new table.now.slots.items }
     ensures answers { HasRead cache.old table.now number i result cache.new table.now }
 {
     if !cache.idle() {
@@ -218,8 +246,11 @@ pub fn read(
     let Some(index) = table.find(number) else {
         return Err(Refusal::NoBlock);
     };
-    let Some(block) = table.block(index) else {
+    let Some(kept) = table.block(index) else {
         return Err(Refusal::NoBlock);
+    };
+    let Kept::Home(block) = kept else {
+        return Err(Refusal::Out);
     };
     if i >= block.usable_words() {
         return Err(Refusal::NoWord);
@@ -235,9 +266,9 @@ pub fn put(
     number: u64,
     shelf: u8,
 ) -> Result<(), Refusal>
-    requires tends { Tends heap.now cache.old (blocks_of table.old.slots.items) }
+    requires tends { Tends heap.now cache.old table.old.slots.items }
     requires packed { IsPacked table.old }
-    ensures tends { Tends heap.now cache.new (blocks_of table.new.slots.items) }
+    ensures tends { Tends heap.now cache.new table.new.slots.items }
     ensures packed { IsPacked table.new }
     ensures few { HasOneMoreAtMost table.old table.new }
     ensures answers { HasPut cache.old table.old number shelf result cache.new table.new }
@@ -248,17 +279,20 @@ pub fn put(
     let Some(index) = table.find(number) else {
         return Err(Refusal::NoBlock);
     };
+    if table.is_out(index) {
+        return Err(Refusal::Out);
+    }
     if shelf >= SHELVES {
         return Err(Refusal::NoShelf);
     }
-    let block = table.set(index, None).unwrap();
+    let block = table.take_home(index);
     match cache.put(heap, block, shelf) {
         Ok(()) => {
             table.retire(index);
             Ok(())
         }
         Err(Full { block, found: _ }) => {
-            let _ = table.set(index, Some(block));
+            let _ = table.set(index, Some(Kept::Home(block)));
             Err(Refusal::ShelfFull)
         }
     }
@@ -266,9 +300,9 @@ pub fn put(
 
 /// Takes the block that lies on a shelf. Answers its number.
 pub fn take(heap: &Heap, cache: &mut Cache, table: &mut Table, shelf: u8) -> Result<u64, Refusal>
-    requires tends { Tends heap.now cache.old (blocks_of table.old.slots.items) }
+    requires tends { Tends heap.now cache.old table.old.slots.items }
     requires packed { IsPacked table.old }
-    ensures tends { Tends heap.now cache.new (blocks_of table.new.slots.items) }
+    ensures tends { Tends heap.now cache.new table.new.slots.items }
     ensures packed { IsPacked table.new }
     ensures few { HasOneMoreAtMost table.old table.new }
     ensures answers { HasTaken cache.old table.old shelf result cache.new table.new }
@@ -284,7 +318,7 @@ pub fn take(heap: &Heap, cache: &mut Cache, table: &mut Table, shelf: u8) -> Res
         Err(refusal) => return Err(refusal),
     };
     match cache.take(heap, shelf) {
-        Taken::Got(block) => Ok(table.fill(index, block)),
+        Taken::Got(block) => Ok(table.fill(index, Kept::Home(block))),
         Taken::Empty => Err(Refusal::ShelfEmpty),
         Taken::Missed { .. } => Err(Refusal::ShelfMissed),
     }

@@ -1,17 +1,16 @@
 //! A pass with its magazines, its share in the heap and its blocks.
 
-ghost use Rattle.std.specs.Prelude.{◌≡◌, []};
+ghost use Rattle.std.specs.Prelude.{ℕ, ◌≡◌, [], Result};
 ghost use Rattle.std.specs.Arc.{arc_value};
-ghost use Rattle.block_cache.specs.Caches.{Holds, IsCache};
-ghost use Rattle.balloc_c.specs.Slots.{blocks_of};
 ghost use Rattle.balloc_c.specs.Packed.{IsPacked};
 ghost use Rattle.balloc_c.specs.Tended.{Tends};
 ghost use Rattle.shared_heap.specs.Shares.{IsTicketOf};
 
 use crate::counted::Counted;
+use crate::handed::Handed;
 use crate::refusal::Refusal;
 use crate::table::Table;
-use crate::{calls, ranges};
+use crate::{calls, lending, ranges};
 use block_cache::cache::Cache;
 use shared_heap::shared::{Left, Receipt, SharedHeap, Ticket};
 use std::alloc::Global;
@@ -27,19 +26,25 @@ pub struct Hand {
     ticket: Ticket,
     cache: Cache,
     table: Table,
-    ghost is_tended: { ∥ Tends (arc_value heap).heap cache (blocks_of table.slots.items) × IsPacked table × IsTicketOf (arc_value heap) ticket.caller ticket ∥₁ },
+    /// What keeps it apart from what lies behind it in memory: another pass's magazines, which its own thread writes.
+    rest: [u64; 16],
+    ghost is_tended: { ∥ Tends (arc_value heap).heap cache table.slots.items × IsPacked table × IsTicketOf (arc_value heap) ticket.caller ticket ∥₁ },
 }
 
 impl Hand {
-    ghost use Rattle.balloc_c.specs.Outcomes.{TellsWords, HasAllocated, HasFreed, HasPut, HasRead, HasResumed, HasTaken, HasWritten, Makes, counts_of};
+    ghost use Rattle.balloc_c.specs.Outcomes.{TellsWords, HasAllocated, HasPut, HasRead, HasResumed, HasTaken, HasWritten, Makes, counts_of};
     ghost use Rattle.balloc_c.specs.Closed.{GivesBack, LeavesBlocks, TellsCensus};
     ghost use Rattle.balloc_c.specs.Ranges.{HasFilled, HasReadRange, HasSummed, HasWrittenRange, IsFound};
     ghost use Rattle.balloc_c.specs.Hands.{IsTended, heap_of};
+    ghost use Rattle.balloc_c.specs.Lending.{AllocatesMemory, AreNumbers, BringsHome, FreesBack, HasToldMemory, IsBackFor, StayOut};
+    ghost use Rattle.balloc_c.specs.Numbers.{named};
+    ghost use Rattle.balloc_c.specs.declared.refusal.Refusal.{Refusal};
+    ghost use Rattle.balloc_c.specs.declared.refusal.Refusal.TheVariants as refusal;
+    ghost use Rattle.balloc_c.specs.Codes.{code_of, value_in, word_in, word_of};
 
     /// A pass with no block, and no slot for one.
     pub fn new(alloc: Global, heap: Arc<SharedHeap, Global>, ticket: Ticket, cache: Cache) -> Hand
-        requires cache { IsCache (arc_value heap).heap cache }
-        requires holds { Holds cache [] }
+        requires tends { Tends (arc_value heap).heap cache [] }
         requires ticket { IsTicketOf (arc_value heap) ticket.caller ticket }
         ensures parts { (arc_value result.heap ≡ arc_value heap) × (result.cache ≡ cache) × (result.ticket ≡ ticket) }
         ensures bare { result.table.slots.items ≡ [] }
@@ -49,6 +54,7 @@ impl Hand {
             ticket,
             cache,
             table: Table::new(alloc),
+            rest: [0; 16],
         }
     }
 
@@ -65,12 +71,63 @@ impl Hand {
         calls::alloc(self.heap.heap(), &mut self.cache, &mut self.table, words)
     }
 
-    /// Frees the block of this number.
-    pub fn free(&mut self, number: u64) -> Result<(), Refusal>
-        ensures { Makes (λ c t. HasFreed c t number) self.old result self.new }
+    /// An allocation of so many bytes, whose memory goes out. Tells the block's number.
+    pub fn alloc_memory(&mut self, bytes: usize, id: &mut u64) -> Handed
+        ensures { (outcome : Result ℕ Refusal) × (result.code ≡ word_in outcome) × (id.new ≡ value_in outcome id.old)
+            × Makes (λ c t answer d u. AllocatesMemory (heap_of self.old) c t bytes answer result.memory result.words d u) self.old outcome self.new }
     {
         self.tended();
-        calls::free(self.heap.heap(), &mut self.cache, &mut self.table, number)
+        lending::alloc_memory(
+            self.heap.heap(),
+            &mut self.cache,
+            &mut self.table,
+            bytes,
+            id,
+        )
+    }
+
+    /// Where the memory of the block of this number begins, whose words go out.
+    pub fn memory(&mut self, number: u64) -> Handed
+        ensures { (outcome : Result (Unit {0}) Refusal) × (result.code ≡ word_in outcome)
+            × Makes (λ c t answer d u. HasToldMemory (heap_of self.old) c t number answer result.memory result.words d u) self.old outcome self.new }
+    {
+        self.tended();
+        lending::memory(self.heap.heap(), &mut self.cache, &mut self.table, number)
+    }
+
+    /// Frees the block of this number, for which words that are out come back.
+    pub fn free(&mut self, number: u64, back: Handed) -> Handed
+        requires back { IsBackFor (heap_of self.old) (named self.old.table number) back.words }
+        requires code { back.code ≡ word_of (code_of refusal.InCall) }
+        ensures { (outcome : Result (Unit {0}) Refusal) × (result.code ≡ word_in outcome) × StayOut outcome result.words
+            × Makes (λ c t answer d u. FreesBack (heap_of self.old) c t number back.words answer result.words d u) self.old outcome self.new }
+    {
+        self.tended();
+        lending::free_back(
+            self.heap.heap(),
+            &mut self.cache,
+            &mut self.table,
+            number,
+            back,
+        )
+    }
+
+    /// Brings the memory of the block of this number home, where it is out.
+    pub fn bring(&mut self, number: u64, back: Handed) -> Handed
+        requires back { IsBackFor (heap_of self.old) (named self.old.table number) back.words }
+        requires numbers { AreNumbers back.words }
+        requires code { back.code ≡ word_of (code_of refusal.InCall) }
+        ensures { (outcome : Result (Unit {0}) Refusal) × (result.code ≡ word_in outcome) × StayOut outcome result.words
+            × Makes (λ c t answer d u. BringsHome (heap_of self.old) c t number back.words answer result.words d u) self.old outcome self.new }
+    {
+        self.tended();
+        lending::bring(
+            self.heap.heap(),
+            &mut self.cache,
+            &mut self.table,
+            number,
+            back,
+        )
     }
 
     /// Frees all its blocks, those in magazines too, where they are to be freed.
@@ -96,6 +153,7 @@ impl Hand {
             ticket,
             cache,
             table: _,
+            rest: _,
         } = self;
         let Left { receipt, closed } = SharedHeap::leave(heap, alloc, ticket, cache.leave());
         if let Some(closed) = closed {

@@ -1,7 +1,7 @@
 //! Laws of numbers and codes: theorems about the definitions, on functions that do nothing.
 
 ghost use Rattle.std.specs.Prelude.{ℕ, ◌≡◌, ◌≢◌, ◌<◌, ◌%◌, ◌^◌, ◌==◌, List, [], ◌++◌, None, count_by, pos};
-ghost use Rattle.live_heap.specs.declared.block.Block.{Block};
+ghost use Rattle.balloc_c.specs.declared.kept.Kept.{Kept};
 ghost use Rattle.balloc_c.specs.declared.refusal.Refusal.{Refusal};
 ghost use Rattle.balloc_c.specs.declared.table.Table.{Table};
 ghost use Rattle.balloc_c.specs.Codes.{code_of};
@@ -18,7 +18,7 @@ pub fn old_numbers_name_nothing()
 
 /// The first number of a pass that has no slot yet is 0.
 pub fn numbers_begin_at_zero()
-    ensures { (before after : Table) (number : ℕ) (block : Block) → before.slots.items ≡ [] → HasOneMoreAtMost before after
+    ensures { (before after : Table) (number : ℕ) (block : Kept) → before.slots.items ≡ [] → HasOneMoreAtMost before after
         → NamesOneMore before number block after → number < 2 ^ 64 → number ≡ 0 }
 {}
 

@@ -2,33 +2,45 @@
 //!
 //! A pass for C is a handle that holds a pass of the heap with its magazines, its share in the heap and a table of
 //! its blocks; C names a block by a number. Each call tests the handle, the number and what else it is given,
-//! and answers a code; so none requires anything but what a handle is. Each says by its clause `told` what
-//! its code means: what the heap did, and what the numbers name from then on.
+//! and answers a code; so none requires anything but what a handle is, and the memory of a block that is to come home.
+//! Each says by its clause `told` what its code means: what the heap did, what the numbers name from then on, and what
+//! memory is C's.
 #![tactic(auto)]
 
 mod calls;
 mod counted;
 mod hand;
+mod handed;
 mod handle;
+mod handled;
 mod held;
+mod kept;
 pub mod laws;
+mod lending;
+mod lent;
 mod opening;
 mod parts;
 mod ranges;
 mod refusal;
 mod table;
 
-ghost use Rattle.std.specs.Prelude.{ℕ, ◌≡◌, Result, length};
+ghost use Rattle.std.specs.Prelude.{ℕ, ◌≡◌, Option, Result, length};
+ghost use Rattle.std.specs.Borrow.{sem};
+ghost use Rattle.plain_words.specs.declared.plain.PlainWords.{PlainWords};
 ghost use Rattle.balloc_c.specs.declared.hand.Hand.{Hand};
 ghost use Rattle.balloc_c.specs.declared.refusal.Refusal.{Refusal};
 ghost use Rattle.balloc_c.specs.Codes.{code_in, resumed_code, resumed_number, value_in};
 ghost use Rattle.balloc_c.specs.Closed.{Closes, TellsCounts};
+ghost use Rattle.balloc_c.specs.Handing.{handed, words_own};
+ghost use Rattle.balloc_c.specs.Handled.{AllocatesBy, BringsBy, FreesBy, IsBackOf, TellsBy};
 ghost use Rattle.balloc_c.specs.Hands.{heap_of};
+ghost use Rattle.balloc_c.specs.Lending.{AreNumbers};
 ghost use Rattle.balloc_c.specs.Opened.{Opens, numbers};
 ghost use Rattle.balloc_c.specs.Ranges.{HasFilled, HasReadRange, HasSummed, HasWrittenRange, IsFound};
-ghost use Rattle.balloc_c.specs.Outcomes.{HasAllocated, HasCounted, HasFreed, HasPut, HasRead, HasResumed, HasTaken, HasWritten, Makes, Told};
+ghost use Rattle.balloc_c.specs.Outcomes.{HasAllocated, HasCounted, HasPut, HasRead, HasResumed, HasTaken, HasWritten, Makes, Told};
 
 use counted::Counted;
+use handed::Handed;
 use handle::PassHandle;
 use heap_geometry::geometry::Geometry;
 use opening::open_all;
@@ -173,22 +185,72 @@ pub extern "C" fn balloc_counts(
     }
 }
 
-/// Allocates a block of so many usable words, and tells its number.
+/// Tells where the memory of a block begins whose words are home: they are the caller's from now on. The code is told as
+/// the number of 32 bits that stands for it.
 #[unsafe(no_mangle)]
-pub extern "C" fn balloc_alloc(pass: &mut PassHandle, words: u32, id: &mut u64) -> i32
+pub extern "C" fn balloc_memory(pass: &mut PassHandle, id: u64, memory: &mut *mut u64) -> u32
+    ensures* told { sem 𝓛 (handed (λ words. TellsBy pass.old.held.hand id result memory.new words pass.new.held.hand)) }
+{
+    let Handed { memory: at, code } = handled::memory(pass, id);
+    *memory = at;
+    code
+}
+
+/// Frees a block. The caller's memory of it is the caller's no more, but where a call is under way.
+#[unsafe(no_mangle)]
+pub unsafe extern "C" fn balloc_free(pass: &mut PassHandle, id: u64) -> u32
+    ghost back: { Option PlainWords }
+    requires back { IsBackOf pass.old.held.hand id back }
+    requires* words { sem 𝓛 (words_own back) }
+    ensures* told { sem 𝓛 (handed (λ left. FreesBy pass.old.held.hand id back result left pass.new.held.hand)) }
+{
+    let back = Handed {
+        memory: std::ptr::null_mut(),
+        code: 0xffff_fffb,
+    };
+    let Handed { memory: _, code } = handled::free(pass, id, back);
+    code
+}
+
+/// Brings the memory of a block home, with what is in it: calls write and read its words again.
+#[unsafe(no_mangle)]
+pub unsafe extern "C" fn balloc_home(pass: &mut PassHandle, id: u64) -> u32
+    ghost back: { Option PlainWords }
+    requires back { IsBackOf pass.old.held.hand id back × AreNumbers back }
+    requires* words { sem 𝓛 (words_own back) }
+    ensures* told { sem 𝓛 (handed (λ left. BringsBy pass.old.held.hand id back result left pass.new.held.hand)) }
+{
+    let back = Handed {
+        memory: std::ptr::null_mut(),
+        code: 0xffff_fffb,
+    };
+    let Handed { memory: _, code } = handled::bring(pass, id, back);
+    code
+}
+
+/// Allocates a block of so many bytes, and tells its number and where its memory begins, which is the caller's until the
+/// free; NULL where it is refused.
+#[unsafe(no_mangle)]
+pub extern "C" fn balloc_alloc(
+    pass: &mut PassHandle,
+    bytes: usize,
+    id: &mut u64,
+    memory: &mut *mut u64,
+) -> u32
+    ensures* told { sem 𝓛 (handed (λ words. AllocatesBy pass.old.held.hand bytes id.old result id.new memory.new words pass.new.held.hand)) }
+{
+    let Handed { memory: at, code } = handled::alloc_memory(pass, bytes, id);
+    *memory = at;
+    code
+}
+
+/// Allocates a block of so many usable words, and tells its number. Its words stay home.
+#[unsafe(no_mangle)]
+pub extern "C" fn balloc_alloc_words(pass: &mut PassHandle, words: u32, id: &mut u64) -> i32
     ensures told { Told (Makes (λ c t. HasAllocated c t words)) pass.old.held.hand
         (λ outcome. (result ≡ code_in outcome) × (id.new ≡ value_in outcome id.old)) pass.new.held.hand }
 {
     answered!(pass, hand => hand.alloc(words), outcome => code_with(outcome, id))
-}
-
-/// Frees a block.
-#[unsafe(no_mangle)]
-pub extern "C" fn balloc_free(pass: &mut PassHandle, id: u64) -> i32
-    ensures told { Told (Makes (λ c t. HasFreed c t id)) pass.old.held.hand
-        (λ outcome. result ≡ code_in outcome) pass.new.held.hand }
-{
-    answered!(pass, hand => hand.free(id), outcome => code_of(outcome))
 }
 
 /// Goes on with a call that was interrupted, and tells the number of the block that it got.

@@ -8,10 +8,10 @@ ghost use Rattle.live_heap.specs.declared.block.Block.{Block};
 ghost use Rattle.live_heap.specs.Words.{CallsOnWord};
 ghost use Rattle.block_cache.specs.Caches.{Holds, HoldsBlock, IsCache};
 ghost use Rattle.balloc_c.specs.Ranges.{HasFilled, HasReadRange, HasSummed, HasWrittenRange, IsFound, wrote_from};
-ghost use Rattle.balloc_c.specs.Slots.{blocks_of};
 ghost use Rattle.balloc_c.specs.Tended.{Tends};
 ghost use Rattle.balloc_c.specs.Through.{Asked};
 
+use crate::kept::Kept;
 use crate::refusal::Refusal;
 use crate::table::Table;
 use block_cache::cache::Cache;
@@ -27,8 +27,8 @@ pub fn write_range(
     from: u32,
     words: &[u64],
 ) -> Result<(), Refusal>
-    requires tends { Tends heap.now cache.old (blocks_of table.now.slots.items) }
-    ensures tends { Tends heap.now cache.new (blocks_of table.now.slots.items) }
+    requires tends { Tends heap.now cache.old table.now.slots.items }
+    ensures tends { Tends heap.now cache.new table.now.slots.items }
     ensures answers { HasWrittenRange cache.old table.now number from words.now result cache.new table.now }
 {
     if !cache.idle() {
@@ -37,8 +37,11 @@ pub fn write_range(
     let Some(index) = table.find(number) else {
         return Err(Refusal::NoBlock);
     };
-    let Some(block) = table.block(index) else {
+    let Some(kept) = table.block(index) else {
         return Err(Refusal::NoBlock);
+    };
+    let Kept::Home(block) = kept else {
+        return Err(Refusal::Out);
     };
     let Some(end) = range_end(block, from, words.len()) else {
         return Err(Refusal::NoWord);
@@ -56,8 +59,8 @@ pub fn read_range(
     from: u32,
     words: &mut [u64],
 ) -> Result<(), Refusal>
-    requires tends { Tends heap.now cache.old (blocks_of table.now.slots.items) }
-    ensures tends { Tends heap.now cache.new (blocks_of table.now.slots.items) }
+    requires tends { Tends heap.now cache.old table.now.slots.items }
+    ensures tends { Tends heap.now cache.new table.now.slots.items }
     ensures answers { HasReadRange cache.old table.now number from words.old words.new result cache.new table.now }
     ensures found { IsFound result words.old words.new }
 {
@@ -67,8 +70,11 @@ pub fn read_range(
     let Some(index) = table.find(number) else {
         return Err(Refusal::NoBlock);
     };
-    let Some(block) = table.block(index) else {
+    let Some(kept) = table.block(index) else {
         return Err(Refusal::NoBlock);
+    };
+    let Kept::Home(block) = kept else {
+        return Err(Refusal::Out);
     };
     let Some(end) = range_end(block, from, words.len()) else {
         return Err(Refusal::NoWord);
@@ -85,8 +91,8 @@ pub fn fill(
     number: u64,
     from: u64,
 ) -> Result<(), Refusal>
-    requires tends { Tends heap.now cache.old (blocks_of table.now.slots.items) }
-    ensures tends { Tends heap.now cache.new (blocks_of table.now.slots.items) }
+    requires tends { Tends heap.now cache.old table.now.slots.items }
+    ensures tends { Tends heap.now cache.new table.now.slots.items }
     ensures answers { HasFilled cache.old table.now number from result cache.new table.now }
 {
     if !cache.idle() {
@@ -95,8 +101,11 @@ pub fn fill(
     let Some(index) = table.find(number) else {
         return Err(Refusal::NoBlock);
     };
-    let Some(block) = table.block(index) else {
+    let Some(kept) = table.block(index) else {
         return Err(Refusal::NoBlock);
+    };
+    let Kept::Home(block) = kept else {
+        return Err(Refusal::Out);
     };
     cache.fill(heap, block, from);
     Ok(())
@@ -104,8 +113,8 @@ pub fn fill(
 
 /// The sum of the words of the block of this number, modulo 2^64.
 pub fn sum(heap: &Heap, cache: &mut Cache, table: &Table, number: u64) -> Result<u64, Refusal>
-    requires tends { Tends heap.now cache.old (blocks_of table.now.slots.items) }
-    ensures tends { Tends heap.now cache.new (blocks_of table.now.slots.items) }
+    requires tends { Tends heap.now cache.old table.now.slots.items }
+    ensures tends { Tends heap.now cache.new table.now.slots.items }
     ensures answers { HasSummed cache.old table.now number result cache.new table.now }
 {
     if !cache.idle() {
@@ -114,8 +123,11 @@ pub fn sum(heap: &Heap, cache: &mut Cache, table: &Table, number: u64) -> Result
     let Some(index) = table.find(number) else {
         return Err(Refusal::NoBlock);
     };
-    let Some(block) = table.block(index) else {
+    let Some(kept) = table.block(index) else {
         return Err(Refusal::NoBlock);
+    };
+    let Kept::Home(block) = kept else {
+        return Err(Refusal::Out);
     };
     Ok(cache.sum(heap, block))
 }

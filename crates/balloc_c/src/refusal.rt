@@ -37,10 +37,37 @@ pub enum Refusal {
     ShelfEmpty,
     /// Another caller changed the shelf in between.
     ShelfMissed,
+    /// The block's memory is out with C.
+    Out,
 }
 
 impl Refusal {
-    ghost use Rattle.balloc_c.specs.Codes.{code_of};
+    ghost use Rattle.balloc_c.specs.Codes.{code_of, word_of};
+
+    /// Its code for C, as the number of 32 bits that stands for it.
+    pub fn word(self) -> u32
+        ensures { result ≡ word_of (code_of self) }
+    {
+        match self {
+            Refusal::Closed => 0xffff_ffff,
+            Refusal::InUse => 0xffff_fffe,
+            Refusal::BadNumbers => 0xffff_fffd,
+            Refusal::NoMemory => 0xffff_fffc,
+            Refusal::InCall => 0xffff_fffb,
+            Refusal::Interrupted => 2,
+            Refusal::Idle => 0xffff_fffa,
+            Refusal::NoBlock => 0xffff_fff9,
+            Refusal::NoWord => 0xffff_fff8,
+            Refusal::NoShelf => 0xffff_fff7,
+            Refusal::Exhausted => 0xffff_fff6,
+            Refusal::TooLarge => 0xffff_fff5,
+            Refusal::Spent => 0xffff_fff4,
+            Refusal::ShelfFull => 0xffff_fff3,
+            Refusal::ShelfEmpty => 0xffff_fff2,
+            Refusal::ShelfMissed => 0xffff_fff1,
+            Refusal::Out => 0xffff_fff0,
+        }
+    }
 
     /// Its code for C.
     pub fn code(self) -> i32
@@ -63,6 +90,7 @@ impl Refusal {
             Refusal::ShelfFull => -13,
             Refusal::ShelfEmpty => -14,
             Refusal::ShelfMissed => -15,
+            Refusal::Out => -16,
         }
     }
 }

@@ -1,10 +1,15 @@
 //! The table of a pass's blocks. A number names a slot, and how often that slot has given a block away.
 
-ghost use Rattle.std.specs.Prelude.{ℕ, ◌≡◌, ◌≢◌, ◌<◌, ◌≤◌, ◌%◌, ◌^◌, [], length, None, Some, IfOk, IfSome};
+ghost use Rattle.std.specs.Prelude.{ℕ, ◌≡◌, ◌≢◌, ◌<◌, ◌≤◌, ◌%◌, ◌^◌, [], length, None, Some, false, IfOk, IfSome};
 ghost use Rattle.std.specs.Result.{IfErr};
+ghost use Rattle.live_heap.specs.declared.block.Block.{Block};
+ghost use Rattle.balloc_c.specs.declared.kept.Kept.TheVariants as kept;
+ghost use Rattle.balloc_c.specs.declared.lent.Lent.{Lent as Out};
 ghost use Rattle.balloc_c.specs.declared.refusal.Refusal.TheVariants as refusal;
 ghost use Rattle.balloc_c.specs.declared.table.TheConstants.{NONE};
 
+use crate::kept::Kept;
+use crate::lent::Lent;
 use crate::refusal::Refusal;
 use live_heap::block::Block;
 use std::alloc::Global;
@@ -15,7 +20,7 @@ const NONE: u32 = 0xffff_ffff;
 /// A slot for a block.
 #[derive(Drop)]
 pub struct Slot {
-    block: Option<Block>,
+    block: Option<Kept>,
     /// How often the slot has given a block away, modulo 2^32.
     age: u32,
     /// The slot that was spare before this one.
@@ -31,6 +36,7 @@ pub struct Table {
 }
 
 impl Table {
+    ghost use Rattle.balloc_c.specs.Kept.{is_out};
     ghost use Rattle.balloc_c.specs.Numbers.{NamesOneMore, HasSpare, HasSlotReady, KeepsNumbers, named, number_at};
     ghost use Rattle.balloc_c.specs.Slots.{IsVacant, HasAged, block_at, blocks_of, next_at, set_block};
     ghost use Rattle.balloc_c.specs.Packed.{HasOneMoreAtMost, IsLinked, IsPacked};
@@ -61,6 +67,7 @@ impl Table {
         ensures few { HasOneMoreAtMost self.old self.new }
         ensures spare { IfOk result (λ index. self.new.spare ≡ index) }
         ensures blocks { blocks_of self.new.slots.items ≡ blocks_of self.old.slots.items }
+        ensures same { (other : ℕ) → block_at self.new.slots.items other ≡ block_at self.old.slots.items other }
         ensures keeps { KeepsNumbers self.old self.new }
         ensures vacant { IfOk result (λ index. IsVacant self.new.slots.items index × (index < 2 ^ 32)) }
         ensures ready { IfOk result (λ index. HasSlotReady self.old self.new) }
@@ -81,6 +88,7 @@ impl Table {
         ensures few { HasOneMoreAtMost self.old self.new }
         ensures is_spare { IfOk result (λ index. self.new.spare ≡ index) }
         ensures blocks { blocks_of self.new.slots.items ≡ blocks_of self.old.slots.items }
+        ensures same { (other : ℕ) → block_at self.new.slots.items other ≡ block_at self.old.slots.items other }
         ensures keeps { KeepsNumbers self.old self.new }
         ensures vacant { IfOk result (λ index. IsVacant self.new.slots.items index × (index < 2 ^ 32)) }
         ensures spare { IfOk result (λ index. HasSpare self.new) }
@@ -130,15 +138,63 @@ impl Table {
     }
 
     /// The block in a slot, if there is one.
-    pub fn block(&self, index: usize) -> &Option<Block>
+    pub fn block(&self, index: usize) -> &Option<Kept>
         requires { index < length self.now.slots.items }
         ensures { result.now ≡ block_at self.now.slots.items index }
     {
         &self.slots[index].block
     }
 
+    /// Whether the words of the block in a slot are out.
+    pub fn is_out(&self, index: usize) -> bool
+        requires { index < length self.now.slots.items }
+        ensures { result ≡ is_out (block_at self.now.slots.items index) }
+    {
+        matches!(&self.slots[index].block, Some(Kept::Out(_)))
+    }
+
+    /// What is known of the block in a slot, where its words are out.
+    pub fn out(&self, index: usize) -> Option<&Lent>
+        requires { index < length self.now.slots.items }
+        ensures out { IfSome result (λ lent. block_at self.now.slots.items index ≡ Some (kept.Out lent.now)) }
+        ensures home { result ≡ None → is_out (block_at self.now.slots.items index) ≡ false }
+    {
+        match &self.slots[index].block {
+            Some(Kept::Out(lent)) => Some(lent),
+            _ => None,
+        }
+    }
+
+    /// Takes out of its slot what is known of a block whose words are out.
+    pub fn take_lent(&mut self, index: usize) -> Lent
+        requires within { index < length self.old.slots.items }
+        requires out { (lent : Out) × (block_at self.old.slots.items index ≡ Some (kept.Out lent)) }
+        ensures slots { self.new.slots.items ≡ set_block self.old.slots.items index None }
+        ensures spare { self.new.spare ≡ self.old.spare }
+        ensures value { block_at self.old.slots.items index ≡ Some (kept.Out result) }
+    {
+        match self.set(index, None) {
+            Some(Kept::Out(lent)) => lent,
+            _ => unreachable!(),
+        }
+    }
+
+    /// Takes a block out of its slot whose words are home.
+    pub fn take_home(&mut self, index: usize) -> Block
+        requires within { index < length self.old.slots.items }
+        requires home { (block : Block) × (block_at self.old.slots.items index ≡ Some (kept.Home block)) }
+        ensures slots { self.new.slots.items ≡ set_block self.old.slots.items index None }
+        ensures spare { self.new.spare ≡ self.old.spare }
+        ensures value { block_at self.old.slots.items index ≡ Some (kept.Home result) }
+    {
+        match self.set(index, None) {
+            Some(Kept::Home(block)) => block,
+            _ => unreachable!(),
+        }
+    }
+
     /// Puts a block into a slot, or nothing, and answers what was there.
-    pub fn set(&mut self, index: usize, block: Option<Block>) -> Option<Block>
+    pub fn set(&mut self, index: usize, block: Option<Kept>) -> Option<Kept>
         requires { index < length self.old.slots.items }
         ensures slots { self.new.slots.items ≡ set_block self.old.slots.items index block }
         ensures spare { self.new.spare ≡ self.old.spare }
@@ -148,7 +204,7 @@ impl Table {
     }
 
     /// Puts a block into the spare slot, and answers its number.
-    pub fn fill(&mut self, index: usize, block: Block) -> u64
+    pub fn fill(&mut self, index: usize, block: Kept) -> u64
         requires vacant { IsVacant self.old.slots.items index }
         requires small { index < 2 ^ 32 }
         requires spare { self.old.spare ≡ index }

@@ -6,11 +6,11 @@
  * - One call at a time is made with a seat. It may go from one thread to another by a lock, by the start or the end of a
  *   thread, or by a SEQ_CST atomic.
  * - Each pointer points to an object of its type, or to `count` of them, for the call alone; no two overlap.
- * - Memory goes back once, to the seat that told it, and nobody touches it from then on. Until then its first 8 bytes,
- *   the label, are as the library wrote them; what lies behind them is the caller's. Where give answers
- *   BALLOC_MALLOC_BUSY the memory has not gone back. Other threads may use it meanwhile, as any memory of C; what they do
- *   with it comes before it goes back, by one of the ways above.
- * - Each word behind the label of memory that is resized has been written.
+ * - Memory goes back once, to the seat that told it, by its place and the kind that was told with it, and nobody touches it
+ *   from then on. Until then all its bytes are the caller's: nothing of the library's stands among them. Where give
+ *   answers BALLOC_MALLOC_BUSY the memory has not gone back. Other threads may use it meanwhile, as any memory of C; what
+ *   they do with it comes before it goes back, by one of the ways above.
+ * - Each word of memory that is resized has been written.
  * - malloc, realloc and free of the program that this library is linked with come from one allocator, another one than
  *   this. Only balloc_malloc_open uses them; no call is made from a signal handler.
  *
@@ -34,25 +34,31 @@ typedef struct balloc_seat {
     BALLOC_MALLOC_ALIGNED unsigned char bytes[64];
 } balloc_seat;
 
-/* The most of each number of a heap, and the most bytes behind a label, since these heaps have no
- * large blocks: a take of more is refused, whatever is free. */
+/* The place of memory: how many whole words stand in front of it and its block's own word, in the heap's memory. `heap` is
+ * where balloc_malloc_open told that this begins. */
+#define BALLOC_MALLOC_PLACE(heap, memory) ((uint32_t)(((uintptr_t)(memory) - (uintptr_t)(heap)) / 8 - 1))
+
+/* The most of each number of a heap, and the most bytes of its memory, since these heaps have no large
+ * blocks: a take of more is refused, whatever is free. */
 #define BALLOC_MALLOC_MOST_FRAMES 4096
 #define BALLOC_MALLOC_MOST_HEAPS 16
 #define BALLOC_MALLOC_MOST_SEATS 16
 #define BALLOC_MALLOC_MOST_DEPTH 4096
-#define BALLOC_MALLOC_MOST_BYTES 16368
+#define BALLOC_MALLOC_MOST_BYTES 16376
 
 enum {
-    BALLOC_MALLOC_DONE = 0,        /* the call was made */
-    BALLOC_MALLOC_REFUSED = 1,     /* the heap has no block left for so many bytes, or never has one */
-    BALLOC_MALLOC_TOO_LARGE = 2,   /* more bytes than a block of any kind of heap has, 1,048,560 */
-    BALLOC_MALLOC_SPENT = 3,       /* the seat's pass has taken all its turns, 2^36 - 1 */
-    BALLOC_MALLOC_BUSY = 4,        /* after many lost exchanges a call of the heap is under way: this one's, or an
-                                      earlier one's of this seat. The seat's next take or give goes on with
-                                      it, and frees what an interrupted take got: so make the call again */
-    BALLOC_MALLOC_EMPTY = 5,       /* the seat has no pass */
-    BALLOC_MALLOC_BAD_NUMBERS = 6, /* a number of the heap is out of its range, or a seat has a pass already */
-    BALLOC_MALLOC_NO_MEMORY = 7    /* no memory for the heap */
+    BALLOC_MALLOC_DONE = 0,          /* the call was made */
+    BALLOC_MALLOC_KINDS = 256,       /* what take and resize answer below this is the kind of the memory that they tell:
+                                        what its block serves. What they answer above it is a cause */
+    BALLOC_MALLOC_REFUSED = 257,     /* the heap has no block left for so many bytes, or never has one */
+    BALLOC_MALLOC_TOO_LARGE = 258,   /* more bytes than a block of any kind of heap has, 1,048,568 */
+    BALLOC_MALLOC_SPENT = 259,       /* the seat's pass has taken all its turns, 2^36 - 1 */
+    BALLOC_MALLOC_BUSY = 260,        /* after many lost exchanges a call of the heap is under way: this one's, or an
+                                        earlier one's of this seat. The seat's next take or give goes on with
+                                        it, and frees what an interrupted take got: so make the call again */
+    BALLOC_MALLOC_EMPTY = 261,       /* the seat has no pass */
+    BALLOC_MALLOC_BAD_NUMBERS = 262, /* a number of the heap is out of its range, or a seat has a pass already */
+    BALLOC_MALLOC_NO_MEMORY = 263    /* no memory for the heap */
 };
 
 /* Opens a heap with so many frames of 4,096 words (1 to BALLOC_MALLOC_MOST_FRAMES) and processor heaps (1 to
@@ -65,32 +71,28 @@ enum {
 uint32_t balloc_malloc_open(uint32_t frames, uint32_t heaps, uint32_t depth, balloc_seat *seats, size_t count, void **memory,
                             size_t *bytes);
 
-/* Tells where a label of 8 bytes lies, at a multiple of 16. The caller's bytes begin 8 behind it: at least `bytes`, which
- * hold anything.
- * Where it answers anything but BALLOC_MALLOC_DONE it tells NULL.
- * BALLOC_MALLOC_DONE, BALLOC_MALLOC_REFUSED, BALLOC_MALLOC_TOO_LARGE, BALLOC_MALLOC_SPENT, BALLOC_MALLOC_BUSY,
- * BALLOC_MALLOC_EMPTY */
+/* Tells memory of at least `bytes` bytes, which hold anything, at a multiple of 16, and answers its kind. Where it answers
+ * a cause it tells NULL.
+ * A kind, BALLOC_MALLOC_REFUSED, BALLOC_MALLOC_TOO_LARGE, BALLOC_MALLOC_SPENT, BALLOC_MALLOC_BUSY, BALLOC_MALLOC_EMPTY */
 uint32_t balloc_malloc_take(balloc_seat *seat, size_t bytes, void **memory);
 
-/* Gives memory back that this seat told, and that was not given back since: by the pointer that was told.
+/* Gives memory back that this seat told, and that was not given back since: by its place and its kind.
  * BALLOC_MALLOC_DONE, BALLOC_MALLOC_BUSY */
-uint32_t balloc_malloc_give(balloc_seat *seat, void *memory);
+uint32_t balloc_malloc_give(balloc_seat *seat, uint32_t place, uint32_t kind);
 
-/* Tells how many bytes behind the label of such memory may be used: as many as were asked for, or more.
- * BALLOC_MALLOC_DONE */
-uint32_t balloc_malloc_usable(balloc_seat *seat, void *memory, size_t *bytes);
+/* Answers how many bytes memory of this kind has: as many as were asked for, or more. */
+size_t balloc_malloc_bytes(uint32_t kind);
 
-/* Tells memory of at least `bytes` bytes behind its label, with what such memory has, as far as both go: this memory, where
- * it has as many; else other memory, which is told in its place, and this one has gone back. What stands behind the label
- * of this one has been written once, each whole word. Where it answers anything but BALLOC_MALLOC_DONE it tells this
- * memory, which stays as it was.
- * BALLOC_MALLOC_DONE, BALLOC_MALLOC_REFUSED, BALLOC_MALLOC_TOO_LARGE, BALLOC_MALLOC_SPENT, BALLOC_MALLOC_BUSY */
-uint32_t balloc_malloc_resize(balloc_seat *seat, void *memory, size_t bytes, void **moved);
+/* Tells memory of at least `bytes` bytes, with what such memory has, as far as both go, and answers its kind: this memory,
+ * where it has as many; else other memory, which is told in its place, and this one has gone back. Each word of this one
+ * has been written. Where it answers a cause it tells this memory, which stays as it was.
+ * A kind, BALLOC_MALLOC_REFUSED, BALLOC_MALLOC_TOO_LARGE, BALLOC_MALLOC_SPENT, BALLOC_MALLOC_BUSY */
+uint32_t balloc_malloc_resize(balloc_seat *seat, uint32_t place, uint32_t kind, size_t bytes, void **moved);
 
-/* Tells how many of the seat's takes needed no step of the heap, and how many blocks are out with it, those that it keeps
- * too.
+/* Tells how many of the seat's takes needed no step of the heap, how many blocks are out with it, those that it keeps too,
+ * and how many exchanges it has lost to other seats.
  * BALLOC_MALLOC_DONE, BALLOC_MALLOC_EMPTY */
-uint32_t balloc_malloc_counts(balloc_seat *seat, uint64_t *hits, uint64_t *out);
+uint32_t balloc_malloc_counts(balloc_seat *seat, uint64_t *hits, uint64_t *out, uint64_t *lost);
 
 #ifdef __cplusplus
 }

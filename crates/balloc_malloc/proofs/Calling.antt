@@ -1,5 +1,5 @@
 -- Calls by a seat.
-use Rattle.std.proofs.Common.{◌≡◌, ℕ, Option, Some, None, sym, refl, subst}
+use Rattle.std.proofs.Common.{◌≡◌, ℕ, Option, Some, sym, refl, subst}
 use denote.RawPtr.{Ptr}
 use Rattle.live_heap.specs.declared.plain.Memory.{Memory}
 use Rattle.plain_words.specs.declared.plain.PlainWords.{PlainWords}
@@ -21,14 +21,13 @@ pub gives_by :
     → GivesBy was lot code words (Some after)
 gives_by was before after lot code words is gives = subst (λ (o : Option Tenant). GivesBy o lot code words (Some after)) (sym is) (after, refl, gives)
 
-pub out_of : (was : Option Tenant) (before : Tenant) (lot : Memory) (p : Ptr) → was ≡ Some before → HasOut was lot p → IsOut (heap_of before) lot p × IsHeld before.cache lot
-out_of was before lot p is out = subst (λ (o : Option Tenant). HasOut o lot p) is out
-
-pub none_out : (was : Option Tenant) (lot : Memory) (p : Ptr) → was ≡ None → HasOut was lot p → ⊥
-none_out was lot p is out = subst (λ (o : Option Tenant). HasOut o lot p) is out
+pub out_of :
+    (was : Option Tenant) (before : Tenant) (lot : Memory) (place kind : ℕ) → was ≡ Some before → HasOut was lot place kind
+    → IsOut (heap_of before) lot place kind × IsHeld before.cache lot
+out_of was before lot place kind is out = subst (λ (o : Option Tenant). HasOut o lot place kind) is out
 
 pub resizes_by :
-    (was : Option Tenant) (before after : Tenant) (lot : Memory) (at : Ptr) (bytes code : ℕ) (words : Option PlainWords) (p : Ptr) → was ≡ Some before
-    → Resizes before lot at bytes code words p after → ResizesBy was lot at bytes code words p (Some after)
-resizes_by was before after lot at bytes code words p is resizes =
-    subst (λ (o : Option Tenant). ResizesBy o lot at bytes code words p (Some after)) (sym is) (after, refl, resizes)
+    (was : Option Tenant) (before after : Tenant) (lot : Memory) (bytes code : ℕ) (words : Option PlainWords) (p : Ptr) → was ≡ Some before
+    → Resizes before lot bytes code words p after → ResizesBy was lot bytes code words p (Some after)
+resizes_by was before after lot bytes code words p is resizes =
+    subst (λ (o : Option Tenant). ResizesBy o lot bytes code words p (Some after)) (sym is) (after, refl, resizes)

@@ -1,32 +1,12 @@
--- The first of some words.
+-- Words that are laid one after the other.
 use Rattle.std.proofs.Common.{◌≡◌, ◌≢◌, ℕ, zero, suc, ◌+◌, ◌∙◌, ◌<◌, List, [], ◌∷◌, length, get_or, set, sym, refl, ap, arith}
 use Rattle.std.specs.Prelude.{None}
 use Rattle.std.proofs.lemmas.Bool.Decides.{eqb_tells}
 use Rattle.plain_words.specs.Places.{Place, laid, laids, IsHere, AllHere}
 use Rattle.balloc_malloc.proofs.SeatLemmas.{by_case}
 
--- laid again with what it holds
-pub again : (ps : List Place) (q : Place) → 0 < length ps → get_or ps 0 None ≡ q → set ps 0 q ≡ ps
-again [] q lt is = absurd (omega arith)
-again (p ∷ ps) q lt is = ap (λ (x : Place). x ∷ ps) (sym is)
-
--- laid with a number
-pub now : (ps : List Place) (n : ℕ) → 0 < length ps → get_or (set ps 0 (laid n)) 0 None ≡ laid n
-now [] n lt = absurd (omega arith)
-now (p ∷ ps) n lt = refl
-
 laid-here : (n : ℕ) → IsHere (laid n)
 laid-here n is = cc
-
-pub still_here : (ps : List Place) (n : ℕ) → AllHere ps → AllHere (set ps 0 (laid n))
-still_here [] n here i lt = here i lt
-still_here (p ∷ ps) n here zero lt = laid-here n
-still_here (p ∷ ps) n here (suc i) lt = here (suc i) lt
-
--- where it is laid there is one
-pub there : (ps : List Place) (n : ℕ) → get_or ps 0 None ≡ laid n → 0 < length ps
-there [] n is = absurd (let no : ⊥ = cc in no)
-there (p ∷ ps) n is = omega arith
 
 -- any of them laid with a number
 pub here_at : (ps : List Place) (j n : ℕ) → AllHere ps → AllHere (set ps j (laid n))
@@ -59,12 +39,9 @@ length-laids (n ∷ ns) = ap suc (length-laids ns)
 
 -- the words up to one more are those of another list, where that one is laid as there
 pub one_more : (ps qs : List Place) (had : List ℕ) (i : ℕ) → qs ≡ set ps i (laid (get_or had i 0)) → i < length ps
-    → ((k : ℕ) → 0 < k → k < i → get_or ps k None ≡ laid (get_or had k 0)) → (k : ℕ) → 0 < k → k < i + 1 → get_or qs k None ≡ laid (get_or had k 0)
-one_more ps qs had i is lt done k lo hi =
+    → ((k : ℕ) → k < i → get_or ps k None ≡ laid (get_or had k 0)) → (k : ℕ) → k < i + 1 → get_or qs k None ≡ laid (get_or had k 0)
+one_more ps qs had i is lt done k hi =
     ap (λ (l : List Place). get_or l k None) is ∙
     by_case
     (λ at. ap (λ (n : ℕ). get_or (set ps i (laid (get_or had i 0))) n None) at.1 ∙ at_same ps i (laid (get_or had i 0)) lt ∙ ap (λ (n : ℕ). laid (get_or had n 0)) (sym at.1))
-    (λ apart. at_other ps i k (laid (get_or had i 0)) apart.1 ∙ done k lo (omega (arith, hi, apart.1))) (eqb_tells k i)
-
-pub first_stays : (ps qs : List Place) (i n : ℕ) → qs ≡ set ps i (laid n) → 0 < i → get_or qs 0 None ≡ get_or ps 0 None
-first_stays ps qs i n is lo = ap (λ (l : List Place). get_or l 0 None) is ∙ at_other ps i 0 (laid n) (omega (arith, lo))
+    (λ apart. at_other ps i k (laid (get_or had i 0)) apart.1 ∙ done k (omega (arith, hi, apart.1))) (eqb_tells k i)

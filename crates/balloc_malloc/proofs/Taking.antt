@@ -1,11 +1,10 @@
 -- How memory is taken.
-use Rattle.std.proofs.Common.{◌≡◌, ◌≢◌, ℕ, ◌-◌, ◌*◌, ◌%◌, ◌≤◌, Option, Some, None, sym, refl, ap, ◌∙◌, subst, arith, ◌⊎◌}
+use Rattle.std.proofs.Common.{◌≡◌, ◌≢◌, ℕ, ◌*◌, ◌%◌, ◌≤◌, Option, Some, None, sym, refl, ◌∙◌, subst, arith, ◌⊎◌}
 use Rattle.std.specs.Arc.{arc_value}
 use denote.RawPtr.{Ptr, null_ptr}
 use Rattle.heap_geometry.specs.declared.limits.TheConstants.{LARGE_MOST}
 use Rattle.heap_geometry.specs.Need.{need_of, usable_words}
 use Rattle.live_heap.specs.Heaps.{HeapFields}
-use Rattle.live_heap.specs.declared.block.Block.{Block}
 use Rattle.live_heap.specs.declared.plain.Memory.{Memory}
 use Rattle.plain_words.specs.declared.plain.PlainWords.{PlainWords}
 use Rattle.memory_cache.specs.declared.answers.MemoryAnswer.{MemoryAnswer}
@@ -13,32 +12,31 @@ use Rattle.memory_cache.specs.declared.answers.MemoryAnswer.TheVariants.{Given, 
 use Rattle.memory_cache.specs.declared.cache.MemoryCache.{MemoryCache}
 use Rattle.memory_cache.specs.Asking.{LiesElsewhere, TakeTells}
 use Rattle.memory_cache.specs.Caches.{HasFor, HasServed, IsHeld, KeepsMagazines}
-use Rattle.balloc_malloc.specs.declared.codes.TheConstants.{DONE}
+use Rattle.balloc_malloc.specs.declared.codes.TheConstants.{KINDS}
 use Rattle.balloc_malloc.specs.declared.tenant.TheConstants.{TRIES}
 use Rattle.balloc_malloc.specs.declared.tenant.Tenant.{Tenant}
 use Rattle.balloc_malloc.specs.Codes.{code_of}
-use Rattle.balloc_malloc.specs.Labels.{words_for}
-use Rattle.balloc_malloc.specs.Out.{IsOut}
+use Rattle.balloc_malloc.specs.Kinds.{words_for}
+use Rattle.balloc_malloc.specs.Out.{IsAt, IsOut}
 use Rattle.balloc_malloc.specs.Takes.{IsAsked, IsGiven, IsRefused, IsTooMuch, Takes}
 use Rattle.balloc_malloc.specs.Tenants.{heap_of}
 
 pub goes_out :
-    (before after : Tenant) (bytes code : ℕ) (words : Option PlainWords) (p : Ptr) (memory : Memory) → words ≡ Some memory.words → code ≡ DONE
-    → IsGiven before bytes memory p after → Takes before bytes code words p after
-goes_out before after bytes code words p memory is done given =
-    subst (λ (o : Option PlainWords). Takes before bytes code o p after) (sym is) (done, memory, refl, given)
+    (before after : Tenant) (bytes code : ℕ) (words : Option PlainWords) (p : Ptr) (memory : Memory) → words ≡ Some memory.words
+    → IsGiven before bytes code memory p after → Takes before bytes code words p after
+goes_out before after bytes code words p memory is given = subst (λ (o : Option PlainWords). Takes before bytes code o p after) (sym is) (memory, refl, given)
 
 pub stays :
     (before after : Tenant) (bytes code : ℕ) (words : Option PlainWords) (p : Ptr) → words ≡ None → p ≡ null_ptr
     → IsTooMuch before bytes code after ⊎ IsRefused before bytes code after → Takes before bytes code words p after
 stays before after bytes code words p is null why = subst (λ (o : Option PlainWords). Takes before bytes code o p after) (sym is) (null, why)
 
-pub lacks : (a : MemoryAnswer) → ((memory : Memory) → a ≡ Given memory → ⊥) → code_of a ≢ DONE
-lacks (Given memory) none is = none memory refl
-lacks Refused none is = absurd (omega (arith, is))
-lacks TooLarge none is = absurd (omega (arith, is))
-lacks Spent none is = absurd (omega (arith, is))
-lacks Busy none is = absurd (omega (arith, is))
+pub lacks : (a : MemoryAnswer) → ((memory : Memory) → a ≡ Given memory → ⊥) → KINDS ≤ code_of a
+lacks (Given memory) none = absurd (none memory refl)
+lacks Refused none = omega arith
+lacks TooLarge none = omega arith
+lacks Spent none = omega arith
+lacks Busy none = omega arith
 
 -- what a cache tells of a take
 pub record Told (h : HeapFields) (before : Tenant) (cache : MemoryCache) (words : ℕ) (answer : MemoryAnswer) : Type 0 where
@@ -70,12 +68,12 @@ elsewhere Busy other none = tt
 
 pub is_refused :
     (h : HeapFields) (before after : Tenant) (bytes code : ℕ) (answer : MemoryAnswer) → after.heap ≡ before.heap → Told h before after.cache (words_for bytes) answer
-    → bytes ≤ 8 * (LARGE_MOST - 1) → code ≡ code_of answer → ((memory : Memory) → answer ≡ Given memory → ⊥) → IsRefused before bytes code after
+    → bytes ≤ 8 * LARGE_MOST → code ≡ code_of answer → ((memory : Memory) → answer ≡ Given memory → ⊥) → IsRefused before bytes code after
 is_refused h before after bytes code answer heap told fits is none = record {
   fits = fits;
   answer = answer;
   told = is;
-  lacks = λ done. lacks answer none (sym is ∙ done);
+  lacks = subst (λ (n : ℕ). KINDS ≤ n) (sym is) (lacks answer none);
   asked = is_asked h before after (words_for bytes) answer told (λ has. none (told.served has).0 (told.served has).1);
   keeps = told.keeps;
   only = λ other has. told.only other has (elsewhere answer other none);
@@ -86,27 +84,23 @@ pub same_memory : (one other : Memory) → Given one ≡ Given other → one ≡
 same_memory one other is = cc
 
 pub is_given :
-    (h : HeapFields) (before after : Tenant) (bytes : ℕ) (laid lot : Memory) (p : Ptr) → after.heap ≡ before.heap → Told h before after.cache (words_for bytes) (Given laid)
-    → lot.block ≡ laid.block → lot.words.first % 2 ≡ 1 → IsOut h lot p → IsHeld after.cache laid → laid.block.need ≡ need_of (words_for bytes)
-    → words_for bytes ≤ usable_words laid.block.need
-    → ((other : Memory) → IsHeld before.cache other → other.block.place ≢ laid.block.place) → IsGiven before bytes lot p after
-is_given h before after bytes laid lot p heap told block odd out held need enough apart =
-    let P : Block → Type 0 = λ b. IsHeld after.cache (record { block = b; words = lot.words }) in
-    let usable : usable_words laid.block.need ≡ usable_words lot.block.need = ap (λ (b : Block). usable_words b.need) (sym block) in
-    record {
-      out = subst (λ (k : HeapFields). IsOut k lot p) (told.heap ∙ (λ i. arc_value (sym heap i))) out;
-      held = subst P (sym block) held;
-      apart = λ other has. subst (λ (b : Block). other.block.place ≢ b.place) (sym block) (apart other has);
-      keeps = told.keeps;
-      only = λ other has apart_. told.only other has (subst (λ (b : Block). other.block.place ≢ b.place) block apart_);
-      aligned = odd;
-      need = ap (λ (b : Block). b.need) block ∙ need;
-      enough = omega (arith, usable, enough);
-      heap = heap;
-      laid = laid;
-      same = sym block;
-      served = λ has.
-          let s = told.served has in
-          subst (λ (m : Memory). HasServed before.cache (words_for bytes) m after.cache) (sym (same_memory laid s.0 s.1)) s.2;
-      asked = λ none. is_asked h before after (words_for bytes) (Given laid) told none;
-    }
+    (h : HeapFields) (before after : Tenant) (bytes kind : ℕ) (lot : Memory) (p : Ptr) → after.heap ≡ before.heap → Told h before after.cache (words_for bytes) (Given lot)
+    → lot.words.first % 2 ≡ 1 → IsOut h lot lot.block.place kind → IsAt lot p → IsHeld after.cache lot → lot.block.need ≡ need_of (words_for bytes)
+    → words_for bytes ≤ usable_words lot.block.need → ((other : Memory) → IsHeld before.cache other → other.block.place ≢ lot.block.place)
+    → IsGiven before bytes kind lot p after
+is_given h before after bytes kind lot p heap told odd out at held need enough apart = record {
+  out = subst (λ (k : HeapFields). IsOut k lot lot.block.place kind) (told.heap ∙ (λ i. arc_value (sym heap i))) out;
+  there = at;
+  held = held;
+  apart = apart;
+  keeps = told.keeps;
+  only = λ other has ne. told.only other has ne;
+  aligned = odd;
+  need = need;
+  enough = omega (arith, enough);
+  heap = heap;
+  served = λ has.
+      let s = told.served has in
+      subst (λ (m : Memory). HasServed before.cache (words_for bytes) m after.cache) (sym (same_memory lot s.0 s.1)) s.2;
+  asked = λ none. is_asked h before after (words_for bytes) (Given lot) told none;
+}

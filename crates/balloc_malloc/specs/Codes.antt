@@ -2,11 +2,12 @@
 use Rattle.std.specs.Prelude.{ℕ}
 use Rattle.memory_cache.specs.declared.answers.MemoryAnswer.{MemoryAnswer}
 use Rattle.memory_cache.specs.declared.answers.MemoryAnswer.TheVariants as answer
-use Rattle.balloc_malloc.specs.declared.codes.TheConstants.{DONE, REFUSED, TOO_LARGE, SPENT, BUSY}
+use Rattle.balloc_malloc.specs.declared.codes.TheConstants.{REFUSED, TOO_LARGE, SPENT, BUSY}
+use Rattle.balloc_malloc.specs.Kinds.{kind_of}
 
--- the code of what a cache answers: each has its own
+-- the code of what a cache answers: the kind of the memory, or a cause, each its own
 abbrev pub code_of : MemoryAnswer → ℕ
-code_of (answer.Given memory) = DONE
+code_of (answer.Given memory) = kind_of memory.block.need
 code_of answer.Refused = REFUSED
 code_of answer.TooLarge = TOO_LARGE
 code_of answer.Spent = SPENT

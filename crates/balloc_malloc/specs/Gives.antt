@@ -1,7 +1,6 @@
 -- How memory is given back, and what is told of it.
-use Rattle.std.specs.Prelude.{ℕ, ◌≡◌, ◌≢◌, ◌*◌, ◌-◌, false, Option, Some, None}
+use Rattle.std.specs.Prelude.{ℕ, ◌≡◌, ◌≢◌, false, Option, Some, None}
 use Rattle.errand_steps.specs.Begins.{IsBusy}
-use Rattle.heap_geometry.specs.Need.{usable_words}
 use Rattle.live_heap.specs.declared.plain.Memory.{Memory}
 use Rattle.plain_words.specs.declared.plain.PlainWords.{PlainWords}
 use Rattle.memory_cache.specs.Asking.{HasSettled, SendsHome}
@@ -48,7 +47,3 @@ Gives before memory code (Some words) after = (code ≡ BUSY) × (words ≡ memo
 abbrev pub GivesBy : Option Tenant → Memory → ℕ → Option PlainWords → Option Tenant → Type 0
 GivesBy None memory code words after = ⊥
 GivesBy (Some before) memory code words after = (next : Tenant) × (after ≡ Some next) × Gives before memory code words next
-
--- how many bytes of memory C may use: all but the label
-abbrev pub bytes_of : Memory → ℕ
-bytes_of memory = 8 * (usable_words memory.block.need - 1)

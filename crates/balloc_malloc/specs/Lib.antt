@@ -2,7 +2,7 @@ pub mod Codes
 pub mod Counts
 pub mod Gives
 pub mod Handing
-pub mod Labels
+pub mod Kinds
 pub mod Lent
 pub mod Opened
 pub mod Out

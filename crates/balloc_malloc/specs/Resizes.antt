@@ -1,17 +1,15 @@
 -- How memory is resized.
 use Rattle.std.specs.Prelude.{ℕ, ◌≡◌, ◌≢◌, ◌<◌, ◌≤◌, ◌%◌, ◌⊎◌, Option, Some, None, List, length}
-use Rattle.std.specs.Ptr.{ptr_add}
-use Rattle.std.specs.Borrow.{u64}
 use denote.RawPtr.{Ptr}
 use Rattle.errand_steps.specs.Begins.{IsBusy}
 use Rattle.live_heap.specs.declared.plain.Memory.{Memory}
 use Rattle.plain_words.specs.Places.{laids, place_at}
 use Rattle.plain_words.specs.declared.plain.PlainWords.{PlainWords}
 use Rattle.memory_cache.specs.Caches.{IsHeld}
-use Rattle.balloc_malloc.specs.declared.codes.TheConstants.{BUSY, DONE}
+use Rattle.balloc_malloc.specs.declared.codes.TheConstants.{BUSY, KINDS}
 use Rattle.balloc_malloc.specs.declared.tenant.Tenant.{Tenant}
-use Rattle.balloc_malloc.specs.Gives.{bytes_of}
-use Rattle.balloc_malloc.specs.Out.{IsOut}
+use Rattle.balloc_malloc.specs.Kinds.{bytes_for, kind_of}
+use Rattle.balloc_malloc.specs.Out.{IsAt, IsOut}
 use Rattle.balloc_malloc.specs.Takes.{IsRefused, IsTooMuch}
 use Rattle.balloc_malloc.specs.Tenants.{heap_of}
 
@@ -19,21 +17,22 @@ use Rattle.balloc_malloc.specs.Tenants.{heap_of}
 abbrev pub IsNumbered : Memory → Type 0
 IsNumbered memory = (numbers : List ℕ) × (memory.words.places ≡ laids numbers)
 
--- the words behind the label hold what those of this memory do, as far as that goes
+-- the words hold what those of this memory do, as far as that goes
 abbrev pub HasCopied : PlainWords → PlainWords → Type 0
-HasCopied from to = (k : ℕ) → 0 < k → k < length from.places → place_at to.places k ≡ place_at from.places k
+HasCopied from to = (k : ℕ) → k < length from.places → place_at to.places k ≡ place_at from.places k
 
 -- the memory has so many bytes, and nothing has happened
 pub record IsEnough (before : Tenant) (memory : Memory) (bytes : ℕ) (after : Tenant) : Type 0 where
-  pub enough : bytes ≤ bytes_of memory
+  pub enough : bytes ≤ bytes_for memory.block.need
   pub cache : after.cache ≡ before.cache
   pub heap : after.heap ≡ before.heap
 
--- other memory of so many bytes, with what this one had, is C's now in its place
-pub record IsMoved (before : Tenant) (memory : Memory) (bytes : ℕ) (moved : Memory) (p : Ptr) (after : Tenant) : Type 0 where
-  pub out : IsOut (heap_of after) moved p
+-- other memory of so many bytes and this kind, with what this one had, is C's now in its place
+pub record IsMoved (before : Tenant) (memory : Memory) (bytes kind : ℕ) (moved : Memory) (p : Ptr) (after : Tenant) : Type 0 where
+  pub out : IsOut (heap_of after) moved moved.block.place kind
+  pub there : IsAt moved p
   pub held : IsHeld after.cache moved
-  pub enough : bytes ≤ bytes_of moved
+  pub enough : bytes ≤ bytes_for moved.block.need
   pub aligned : moved.words.first % 2 ≡ 1
   pub copied : HasCopied memory.words moved.words
   pub apart : (other : Memory) → IsHeld before.cache other → other.block.place ≢ moved.block.place
@@ -54,12 +53,13 @@ WhyLeft before bytes code after =
     IsTooMuch before bytes code after ⊎ (IsRefused before bytes code after ⊎ ((code ≡ BUSY) × IsBusy after.cache.pass.errand))
 
 -- what one memory has is in larger memory, which goes out, and the one is given back
-pub record MovesOver (before : Tenant) (memory larger : Memory) (words : Option PlainWords) (p : Ptr) (after : Tenant) : Type 0 where
+pub record MovesOver (before : Tenant) (memory larger : Memory) (kind : ℕ) (words : Option PlainWords) (p : Ptr) (after : Tenant) : Type 0 where
   pub moved : Memory
   pub is : words ≡ Some moved.words
   pub place : moved.block.place ≡ larger.block.place
   pub need : moved.block.need ≡ larger.block.need
-  pub out : IsOut (heap_of before) moved p
+  pub out : IsOut (heap_of before) moved moved.block.place kind
+  pub there : IsAt moved p
   pub copied : HasCopied memory.words moved.words
   pub keeps : (other : Memory) → IsHeld before.cache other → other.block.place ≢ memory.block.place → IsHeld after.cache other
   pub only : (other : Memory) → IsHeld after.cache other → IsHeld before.cache other × (other.block.place ≢ memory.block.place)
@@ -68,7 +68,7 @@ pub record MovesOver (before : Tenant) (memory larger : Memory) (words : Option 
 -- the one goes out again, since a call is under way that doesn't end
 pub record ComesBack (before : Tenant) (memory larger : Memory) (words : Option PlainWords) (p : Ptr) (after : Tenant) : Type 0 where
   pub is : words ≡ Some memory.words
-  pub there : p ≡ ptr_add u64 memory.words.first memory.words.at
+  pub there : IsAt memory p
   pub busy : IsBusy after.cache.pass.errand
   pub held : IsHeld after.cache memory
   pub keeps : (other : Memory) → IsHeld before.cache other → other.block.place ≢ memory.block.place → other.block.place ≢ larger.block.place → IsHeld after.cache other
@@ -78,16 +78,18 @@ pub record ComesBack (before : Tenant) (memory larger : Memory) (words : Option 
 -- one memory moves over to larger memory, or it comes back
 abbrev pub MovesTo : Tenant → Memory → Memory → ℕ → Option PlainWords → Ptr → Tenant → Type 0
 MovesTo before memory larger code words p after =
-    ((code ≡ DONE) × MovesOver before memory larger words p after) ⊎ ((code ≡ BUSY) × ComesBack before memory larger words p after)
+    MovesOver before memory larger code words p after ⊎ ((code ≡ BUSY) × ComesBack before memory larger words p after)
 
--- what comes of a resize: the same words stay C's, since they are enough, or for a cause that the code tells; or others are C's in their place
-abbrev pub Resizes : Tenant → Memory → Ptr → ℕ → ℕ → Option PlainWords → Ptr → Tenant → Type 0
-Resizes before memory at bytes code None p after = ⊥
-Resizes before memory at bytes code (Some words) p after =
-    ((words ≡ memory.words) × (p ≡ at) × (((code ≡ DONE) × IsEnough before memory bytes after) ⊎ ((code ≢ DONE) × (bytes_of memory < bytes) × IsLeft before memory after × WhyLeft before bytes code after)))
-    ⊎ ((code ≡ DONE) × (moved : Memory) × (moved.words ≡ words) × IsMoved before memory bytes moved p after)
+-- what comes of a resize: the same words stay C's, since they are enough, or for a cause that the code tells; or others are C's in their place. Where it tells no cause the code is the kind of what is C's
+abbrev pub Resizes : Tenant → Memory → ℕ → ℕ → Option PlainWords → Ptr → Tenant → Type 0
+Resizes before memory bytes code None p after = ⊥
+Resizes before memory bytes code (Some words) p after =
+    ((words ≡ memory.words) × IsAt memory p
+    × (((code ≡ kind_of memory.block.need) × IsEnough before memory bytes after)
+    ⊎ ((KINDS ≤ code) × (bytes_for memory.block.need < bytes) × IsLeft before memory after × WhyLeft before bytes code after)))
+    ⊎ ((moved : Memory) × (moved.words ≡ words) × IsMoved before memory bytes code moved p after)
 
 -- the same of a seat. One that is empty has given out no memory
-abbrev pub ResizesBy : Option Tenant → Memory → Ptr → ℕ → ℕ → Option PlainWords → Ptr → Option Tenant → Type 0
-ResizesBy None memory at bytes code words p after = ⊥
-ResizesBy (Some before) memory at bytes code words p after = (next : Tenant) × (after ≡ Some next) × Resizes before memory at bytes code words p next
+abbrev pub ResizesBy : Option Tenant → Memory → ℕ → ℕ → Option PlainWords → Ptr → Option Tenant → Type 0
+ResizesBy None memory bytes code words p after = ⊥
+ResizesBy (Some before) memory bytes code words p after = (next : Tenant) × (after ≡ Some next) × Resizes before memory bytes code words p next

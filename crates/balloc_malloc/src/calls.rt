@@ -1,18 +1,18 @@
 //! Calls by a seat.
 
-ghost use Rattle.std.specs.Prelude.{◌≡◌, Some};
+ghost use Rattle.std.specs.Prelude.{◌≡◌};
 ghost use Rattle.live_heap.specs.declared.plain.Memory.{Memory};
-ghost use Rattle.balloc_malloc.specs.Gives.{GivesBy, bytes_of};
+ghost use Rattle.balloc_malloc.specs.Gives.{GivesBy};
 ghost use Rattle.balloc_malloc.specs.Out.{HasOut};
 ghost use Rattle.balloc_malloc.specs.Resizes.{IsNumbered, ResizesBy};
 ghost use Rattle.balloc_malloc.specs.Takes.{TakesBy};
-ghost use Rattle.balloc_malloc.specs.declared.codes.TheConstants.{DONE};
 
 use crate::codes::EMPTY;
 use crate::handed::Handed;
 use crate::seat::Seat;
+use plain_words::PlainWords;
 
-/// Memory of at least so many bytes behind its label.
+/// Memory of at least so many bytes.
 pub fn take(seat: &mut Seat, bytes: usize) -> Handed
     ensures { TakesBy seat.old.held.tenant bytes result.code result.words result.memory seat.new.held.tenant }
 {
@@ -22,40 +22,27 @@ pub fn take(seat: &mut Seat, bytes: usize) -> Handed
     }
 }
 
-/// Takes memory back. The words come out again where a call of the heap is under way that doesn't end.
-pub fn give(seat: &mut Seat, handed: Handed) -> Handed
-    requires { (lot : Memory) × (handed.words ≡ Some lot.words) × HasOut seat.old.held.tenant lot handed.memory }
-    ensures { (lot : Memory) → handed.words ≡ Some lot.words → HasOut seat.old.held.tenant lot handed.memory
+/// Takes memory back, by its place and its kind. The words come out again where a call of the heap is under way that
+/// doesn't end.
+pub fn give(seat: &mut Seat, words: PlainWords, place: u32, kind: u32) -> Handed
+    requires { (lot : Memory) × (words ≡ lot.words) × HasOut seat.old.held.tenant lot place kind }
+    ensures { (lot : Memory) → words ≡ lot.words → HasOut seat.old.held.tenant lot place kind
         → GivesBy seat.old.held.tenant lot result.code result.words seat.new.held.tenant }
 {
     match seat.tenant() {
-        Some(tenant) => tenant.give(handed),
-        None => handed,
+        Some(tenant) => tenant.give(words, place, kind),
+        None => Handed::none(EMPTY),
     }
 }
 
-/// Memory of at least so many bytes behind its label, with what this one has, as far as both go.
-pub fn resize(seat: &mut Seat, handed: Handed, bytes: usize) -> Handed
-    requires { (lot : Memory) × (handed.words ≡ Some lot.words) × HasOut seat.old.held.tenant lot handed.memory × IsNumbered lot }
-    ensures { (lot : Memory) → handed.words ≡ Some lot.words → HasOut seat.old.held.tenant lot handed.memory
-        → ResizesBy seat.old.held.tenant lot handed.memory bytes result.code result.words result.memory seat.new.held.tenant }
+/// Memory of at least so many bytes, with what this one has, as far as both go.
+pub fn resize(seat: &mut Seat, words: PlainWords, place: u32, kind: u32, bytes: usize) -> Handed
+    requires { (lot : Memory) × (words ≡ lot.words) × HasOut seat.old.held.tenant lot place kind × IsNumbered lot }
+    ensures { (lot : Memory) → words ≡ lot.words → HasOut seat.old.held.tenant lot place kind
+        → ResizesBy seat.old.held.tenant lot bytes result.code result.words result.memory seat.new.held.tenant }
 {
     match seat.tenant() {
-        Some(tenant) => tenant.resize(handed, bytes),
-        None => handed,
-    }
-}
-
-/// How many bytes of memory may be used, behind its label. The words come out again.
-pub fn usable(seat: &mut Seat, handed: Handed, bytes: &mut usize) -> Handed
-    requires { (lot : Memory) × (handed.words ≡ Some lot.words) × HasOut seat.old.held.tenant lot handed.memory }
-    ensures words { result.words ≡ handed.words }
-    ensures told { (lot : Memory) → handed.words ≡ Some lot.words → HasOut seat.old.held.tenant lot handed.memory
-        → (result.code ≡ DONE) × (bytes.new ≡ bytes_of lot) }
-    ensures same { seat.new.held.tenant ≡ seat.old.held.tenant }
-{
-    match seat.tenant() {
-        Some(tenant) => tenant.usable(handed, bytes),
-        None => handed,
+        Some(tenant) => tenant.resize(words, place, kind, bytes),
+        None => Handed::none(EMPTY),
     }
 }

@@ -1,20 +1,19 @@
-//! Words that go to C by a bare pointer, and come back.
+//! Words that go to C by a bare pointer.
 
-ghost use Rattle.std.specs.Prelude.{◌≡◌, ◌<◌, Option, Some, None, length};
+ghost use Rattle.std.specs.Prelude.{◌≡◌, Option, Some, None};
 ghost use Rattle.std.specs.Coded.{coded_option};
 ghost use Rattle.std.specs.Ptr.{ptr_add};
 ghost use Rattle.std.specs.Borrow.{u64};
 ghost use denote.RawPtr.{null_ptr};
-ghost use Rattle.plain_words.specs.Places.{IsLaid, laid, place_at};
 ghost use Rattle.plain_words.specs.contracts.plain.PlainWords.{the_row};
 ghost use Rattle.plain_words.specs.declared.plain.PlainWords.{PlainWords as Words};
 ghost use Rattle.balloc_malloc.specs.Handing.{words_own};
 
 use plain_words::{PlainWords, Start};
-use std::marker::{Model, PhantomData};
+use std::marker::Model;
 
-/// The words of a block, or none, and the code of the call that they come from or go to. Whoever has this has the
-/// words; `memory` points to the first of them. One that is dropped leaves them to nobody.
+/// The words of a block, or none, and the code of the call that gives them. Whoever has this has the words; `memory`
+/// points to the first of them. One that is dropped leaves them to nobody.
 #[derive(Drop)]
 pub struct Handed {
     pub memory: *mut u64,
@@ -45,16 +44,5 @@ impl Handed {
             memory: std::ptr::null_mut(),
             code,
         }
-    }
-
-    /// The number in the first of the words, and the words.
-    pub fn into_words(self) -> (u64, PlainWords)
-        requires { (words : Words) × (self.words ≡ Some words) × (self.memory ≡ ptr_add u64 words.first words.at) × (0 < length words.places) × IsLaid words.places 0 }
-        ensures words { self.words ≡ Some result.1 }
-        ensures number { place_at result.1.places 0 ≡ laid result.0 }
-    {
-        let Handed { memory, code: _ } = self;
-        let number = unsafe { memory.read() };
-        (number, PlainWords { mark: PhantomData })
     }
 }

@@ -1,9 +1,9 @@
 //! Memory of the heap for C, by pointers: what a library to preload asks for. `include/balloc_malloc.h` declares the
 //! same.
 //!
-//! A seat is a thread's: it has a pass of the heap with magazines of memory, or nothing. Memory goes out to C with a
-//! label in the first word of its block, which tells where the block lies and what it serves, and C gives it back by
-//! the same pointer.
+//! A seat is a thread's: it has a pass of the heap with magazines of memory, or nothing. Memory goes out to C by a
+//! pointer, with its kind, which tells what its block serves; C gives it back by its place and its kind. Nothing of
+//! ours stands in its words.
 #![tactic(auto)]
 
 mod calls;
@@ -11,7 +11,7 @@ mod codes;
 mod handed;
 mod handing;
 mod held;
-mod label;
+mod kind;
 mod opening;
 mod parts;
 mod seat;
@@ -20,27 +20,32 @@ mod tenant;
 
 ghost use Rattle.std.specs.Prelude.{ℕ, ◌≡◌, Result, Some, length};
 ghost use Rattle.std.specs.Borrow.{sem};
+ghost use Rattle.heap_geometry.specs.Need.{IsNeed};
+ghost use Rattle.heap_geometry.specs.declared.need.Need.{Need};
 ghost use Rattle.live_heap.specs.declared.plain.Memory.{Memory};
 ghost use Rattle.plain_words.specs.declared.plain.Start.{Start};
-ghost use Rattle.balloc_malloc.specs.declared.codes.TheConstants.{DONE as MADE};
 ghost use Rattle.balloc_malloc.specs.Counts.{TellsCounts, TellsMemory};
-ghost use Rattle.balloc_malloc.specs.Gives.{GivesBy, bytes_of};
+ghost use Rattle.balloc_malloc.specs.Gives.{GivesBy};
 ghost use Rattle.balloc_malloc.specs.Handing.{handed, words_own};
+ghost use Rattle.balloc_malloc.specs.Kinds.{bytes_for, kind_of};
 ghost use Rattle.balloc_malloc.specs.Opened.{Opens, numbers};
 ghost use Rattle.balloc_malloc.specs.Out.{HasOut};
 ghost use Rattle.balloc_malloc.specs.Resizes.{IsNumbered, ResizesBy};
 ghost use Rattle.balloc_malloc.specs.Takes.{TakesBy};
 
-use calls::{give, resize, take, usable};
+use calls::{give, resize, take};
 use codes::{DONE, EMPTY};
 use handed::Handed;
 use heap_geometry::geometry::Geometry;
 use heap_geometry::limits::MAX_TURNS;
+use kind::bytes_of_kind;
 use opening::open_all;
 use placed_words::placement::Placement;
+use plain_words::PlainWords;
 use seat::Seat;
 use spot::Spot;
 use std::alloc::Global;
+use std::marker::PhantomData;
 
 /// Opens a heap with one caller for each seat and puts a pass of it into each, with magazines of this depth. Tells
 /// where its memory begins, and how many bytes of it blocks lie in.
@@ -74,7 +79,7 @@ pub extern "C" fn balloc_malloc_open(
     }
 }
 
-/// Memory of at least so many bytes behind its label, to which the pointer leads.
+/// Memory of at least so many bytes, to which the pointer leads, and its kind, as the result.
 #[unsafe(no_mangle)]
 pub extern "C" fn balloc_malloc_take(seat: &mut Seat, bytes: usize, memory: &mut *mut u64) -> u32
     ensures* memory { sem 𝓛 (handed (λ words. TakesBy seat.old.held.tenant bytes result words memory.new seat.new.held.tenant)) }
@@ -84,78 +89,66 @@ pub extern "C" fn balloc_malloc_take(seat: &mut Seat, bytes: usize, memory: &mut
     code
 }
 
-/// Takes memory back that this seat gave and that was not given back since.
+/// Takes memory back that this seat gave and that was not given back since, by its place and its kind.
 #[unsafe(no_mangle)]
-pub unsafe extern "C" fn balloc_malloc_give(seat: &mut Seat, memory: *mut u64) -> u32
+pub unsafe extern "C" fn balloc_malloc_give(seat: &mut Seat, place: u32, kind: u32) -> u32
     ghost lot: { Memory }
-    requires out { HasOut seat.old.held.tenant lot memory }
+    requires out { HasOut seat.old.held.tenant lot place kind }
     requires* words { sem 𝓛 (words_own (Some lot.words)) }
     ensures* words { sem 𝓛 (handed (λ words. GivesBy seat.old.held.tenant lot result words seat.new.held.tenant)) }
 {
-    let handed = Handed {
-        memory,
-        code: EMPTY,
-    };
-    let Handed { memory: _, code } = give(seat, handed);
+    let words = PlainWords { mark: PhantomData };
+    let Handed { memory: _, code } = give(seat, words, place, kind);
     code
 }
 
-/// Memory of at least so many bytes behind its label, with what this one has, as far as both go: this one, where it has
-/// as many; else another one, and this one is given back.
+/// Memory of at least so many bytes, with what this one has, as far as both go: this one, where it has as many; else
+/// another one, and this one is given back. The kind of what is told is the result.
 #[unsafe(no_mangle)]
 pub unsafe extern "C" fn balloc_malloc_resize(
     seat: &mut Seat,
-    memory: *mut u64,
+    place: u32,
+    kind: u32,
     bytes: usize,
     moved: &mut *mut u64,
 ) -> u32
     ghost lot: { Memory }
-    requires out { HasOut seat.old.held.tenant lot memory }
+    requires out { HasOut seat.old.held.tenant lot place kind }
     requires numbered { IsNumbered lot }
     requires* words { sem 𝓛 (words_own (Some lot.words)) }
-    ensures* words { sem 𝓛 (handed (λ words. ResizesBy seat.old.held.tenant lot memory bytes result words moved.new seat.new.held.tenant)) }
+    ensures* words { sem 𝓛 (handed (λ words. ResizesBy seat.old.held.tenant lot bytes result words moved.new seat.new.held.tenant)) }
 {
-    let handed = Handed {
-        memory,
-        code: EMPTY,
-    };
-    let Handed { memory: at, code } = resize(seat, handed, bytes);
+    let words = PlainWords { mark: PhantomData };
+    let Handed { memory: at, code } = resize(seat, words, place, kind, bytes);
     *moved = at;
     code
 }
 
-/// How many bytes of memory may be used, behind its label.
+/// How many bytes memory of this kind has.
 #[unsafe(no_mangle)]
-pub unsafe extern "C" fn balloc_malloc_usable(
-    seat: &mut Seat,
-    memory: *mut u64,
-    bytes: &mut usize,
-) -> u32
-    ghost lot: { Memory }
-    requires out { HasOut seat.old.held.tenant lot memory }
-    requires* words { sem 𝓛 (words_own (Some lot.words)) }
-    ensures* words { sem 𝓛 (words_own (Some lot.words)) }
-    ensures told { (result ≡ MADE) × (bytes.new ≡ bytes_of lot) × (seat.new.held.tenant ≡ seat.old.held.tenant) }
+pub extern "C" fn balloc_malloc_bytes(kind: u32) -> usize
+    ensures { (need : Need) → IsNeed need → kind ≡ kind_of need → result ≡ bytes_for need }
 {
-    let handed = Handed {
-        memory,
-        code: EMPTY,
-    };
-    let Handed { memory: _, code } = usable(seat, handed, bytes);
-    code
+    bytes_of_kind(kind)
 }
 
-/// How many of its takes a magazine served, and how many blocks are out, those in magazines too.
+/// How many of its takes a magazine served, how many blocks are out, those in magazines too, and how many exchanges its
+/// pass has lost.
 #[unsafe(no_mangle)]
-pub extern "C" fn balloc_malloc_counts(seat: &mut Seat, hits: &mut u64, out: &mut u64) -> u32
-    ensures told { TellsCounts seat.old.held.tenant result (hits.old, out.old) (hits.new, out.new) }
+pub extern "C" fn balloc_malloc_counts(
+    seat: &mut Seat,
+    hits: &mut u64,
+    out: &mut u64,
+    lost: &mut u64,
+) -> u32
+    ensures told { TellsCounts seat.old.held.tenant result (hits.old, out.old, lost.old) (hits.new, out.new, lost.new) }
     ensures same { seat.new.held.tenant ≡ seat.old.held.tenant }
 {
     match seat.tenant() {
         Some(tenant) => {
-            let (seat_hits, seat_out) = tenant.counts();
-            *hits = seat_hits;
-            *out = seat_out;
+            *hits = tenant.hits();
+            *out = tenant.out();
+            *lost = tenant.lost();
             DONE
         }
         None => EMPTY,

@@ -1,6 +1,6 @@
 //! The tenant of a seat: a pass with magazines of memory, and its share in the heap.
 
-ghost use Rattle.std.specs.Prelude.{◌≡◌, ◌≢◌, ◌<◌, ◌⊎◌, Some};
+ghost use Rattle.std.specs.Prelude.{◌≡◌, ◌≢◌, ◌<◌, ◌⊎◌};
 ghost use Rattle.std.specs.Arc.{arc_value};
 ghost use Rattle.errand_steps.specs.Begins.{IsIdle};
 ghost use Rattle.live_heap.specs.declared.plain.Memory.{Memory as Lot};
@@ -13,6 +13,7 @@ use live_heap::heap::Heap;
 use live_heap::plain::Memory;
 use memory_cache::answers::MemoryAnswer;
 use memory_cache::cache::MemoryCache;
+use plain_words::PlainWords;
 use std::alloc::Global;
 use std::sync::Arc;
 
@@ -30,7 +31,7 @@ pub struct Tenant {
 impl Tenant {
     ghost use Rattle.heap_geometry.specs.Need.{usable_words};
     ghost use Rattle.memory_cache.specs.Rooms.{IsRoomOf};
-    ghost use Rattle.balloc_malloc.specs.Gives.{Gives, bytes_of};
+    ghost use Rattle.balloc_malloc.specs.Gives.{Gives};
     ghost use Rattle.balloc_malloc.specs.Out.{IsOut};
     ghost use Rattle.balloc_malloc.specs.Resizes.{IsNumbered, MovesTo, Resizes};
     ghost use Rattle.balloc_malloc.specs.Takes.{Takes};
@@ -49,7 +50,7 @@ impl Tenant {
         ensures { IsTended self.now }
     {}
 
-    /// Memory of at least so many bytes behind its label.
+    /// Memory of at least so many bytes.
     pub fn take(&mut self, bytes: usize) -> Handed
         ensures { Takes self.old bytes result.code result.words result.memory self.new }
     {
@@ -63,31 +64,32 @@ impl Tenant {
         }
     }
 
-    /// Takes memory back. The words come out again where a call of the heap is under way that doesn't end.
-    pub fn give(&mut self, handed: Handed) -> Handed
-        requires { (lot : Lot) × (handed.words ≡ Some lot.words) × IsOut (heap_of self.old) lot handed.memory × IsHeld self.old.cache lot }
-        ensures { (lot : Lot) → handed.words ≡ Some lot.words → IsOut (heap_of self.old) lot handed.memory → IsHeld self.old.cache lot
+    /// Takes memory back, by its place and its kind. The words come out again where a call of the heap is under way
+    /// that doesn't end.
+    pub fn give(&mut self, words: PlainWords, place: u32, kind: u32) -> Handed
+        requires { (lot : Lot) × (words ≡ lot.words) × IsOut (heap_of self.old) lot place kind × IsHeld self.old.cache lot }
+        ensures { (lot : Lot) → words ≡ lot.words → IsOut (heap_of self.old) lot place kind → IsHeld self.old.cache lot
             → Gives self.old lot result.code result.words self.new }
     {
         self.tended();
-        let memory = bring_in(&self.heap, handed);
+        let memory = bring_in(&self.heap, words, place, kind);
         match self.cache.give(&self.heap, memory, TRIES) {
             Ok(()) => Handed::none(DONE),
             Err(memory) => send_out(&self.heap, BUSY, memory),
         }
     }
 
-    /// Memory of at least so many bytes behind its label, with what this one has, as far as both go: this one, where it
-    /// has as many; else another one, and this one is given back.
-    pub fn resize(&mut self, handed: Handed, bytes: usize) -> Handed
-        requires { (lot : Lot) × (handed.words ≡ Some lot.words) × IsOut (heap_of self.old) lot handed.memory × IsHeld self.old.cache lot × IsNumbered lot }
-        ensures { (lot : Lot) → handed.words ≡ Some lot.words → IsOut (heap_of self.old) lot handed.memory → IsHeld self.old.cache lot
-            → Resizes self.old lot handed.memory bytes result.code result.words result.memory self.new }
+    /// Memory of at least so many bytes, with what this one has, as far as both go: this one, where it has as many;
+    /// else another one, and this one is given back.
+    pub fn resize(&mut self, words: PlainWords, place: u32, kind: u32, bytes: usize) -> Handed
+        requires { (lot : Lot) × (words ≡ lot.words) × IsOut (heap_of self.old) lot place kind × IsHeld self.old.cache lot × IsNumbered lot }
+        ensures { (lot : Lot) → words ≡ lot.words → IsOut (heap_of self.old) lot place kind → IsHeld self.old.cache lot
+            → Resizes self.old lot bytes result.code result.words result.memory self.new }
     {
         self.tended();
-        let memory = bring_in(&self.heap, handed);
+        let memory = bring_in(&self.heap, words, place, kind);
         if bytes <= bytes_in(&memory) {
-            return send_out(&self.heap, DONE, memory);
+            return hand_out(&self.heap, memory);
         }
         let Some(words) = words_for(bytes) else {
             return send_out(&self.heap, TOO_LARGE, memory);
@@ -111,7 +113,7 @@ impl Tenant {
         self.tended();
         let larger = copied(&self.heap, &memory, larger);
         match self.cache.give(&self.heap, memory, TRIES) {
-            Ok(()) => send_out(&self.heap, DONE, larger),
+            Ok(()) => hand_out(&self.heap, larger),
             Err(memory) => {
                 let _ = self.cache.give(&self.heap, larger, TRIES);
                 send_out(&self.heap, BUSY, memory)
@@ -119,21 +121,24 @@ impl Tenant {
         }
     }
 
-    /// How many bytes of memory may be used, behind its label. The words come out again.
-    pub fn usable(&self, handed: Handed, bytes: &mut usize) -> Handed
-        requires { (lot : Lot) × (handed.words ≡ Some lot.words) × IsOut (heap_of self.now) lot handed.memory }
-        ensures words { (result.words ≡ handed.words) × (result.code ≡ DONE) }
-        ensures bytes { (lot : Lot) → handed.words ≡ Some lot.words → IsOut (heap_of self.now) lot handed.memory → bytes.new ≡ bytes_of lot }
+    /// How many takes a magazine has served, at most 2^64 - 1.
+    pub fn hits(&self) -> u64
+        ensures { result ≡ self.now.cache.hits }
     {
-        let memory = bring_in(&self.heap, handed);
-        *bytes = bytes_in(&memory);
-        send_out(&self.heap, DONE, memory)
+        self.cache.hits()
     }
 
-    /// How many takes a magazine has served, and how many blocks are out, those in magazines too.
-    pub fn counts(&self) -> (u64, u64)
-        ensures { (result.0 ≡ self.now.cache.hits) × (result.1 ≡ self.now.cache.pass.out) }
+    /// How many blocks are out, those in magazines too.
+    pub fn out(&self) -> u64
+        ensures { result ≡ self.now.cache.pass.out }
     {
-        (self.cache.hits(), u64::from(self.cache.out()))
+        u64::from(self.cache.out())
+    }
+
+    /// How many exchanges its pass has lost, at most 2^64 - 1.
+    pub fn lost(&self) -> u64
+        ensures { result ≡ self.now.cache.pass.errand.lost }
+    {
+        self.cache.lost()
     }
 }

@@ -15,7 +15,7 @@ use Rattle.live_heap.specs.Passes.{IsOf}
 use Rattle.live_heap.specs.Whole.{MadeByPass, ResumesTo, at_once, by_steps}
 use Rattle.block_cache.specs.declared.cache.Cache.{Cache}
 use Rattle.block_cache.specs.Whole.{IsWholeCall, asked, kept, served}
-use Rattle.cached_calls.specs.Calls.{HasEndedAt}
+use Rattle.lane_engine.specs.Caches.{HasEndedAt}
 use Rattle.benches.proofs.MadeLemmas.{same-out}
 
 -- a free brings no block

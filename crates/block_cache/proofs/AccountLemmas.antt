@@ -29,7 +29,7 @@ use Rattle.live_heap.specs.Passes.{IsOf, seen}
 use Rattle.live_heap.proofs.Exact.{called-exact, order-exact}
 use Rattle.live_heap.proofs.Holding.{idle-free}
 use Rattle.block_cache.specs.Accounts.{Began, HasAll}
-use Rattle.block_cache.proofs.MagazineLemmas.{Splits}
+use Rattle.block_cache.specs.Magazines.{Splits}
 
 -- a caller has all its blocks between calls, and while one waits
 pub rests : (p : Pass) (blocks : List Block) → IsIdle p.errand → HoldsExactly p blocks → HasAll p blocks

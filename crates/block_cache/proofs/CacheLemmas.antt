@@ -15,8 +15,7 @@ use Rattle.live_heap.proofs.Holding.{holds-in, holds-out, idle-free}
 use Rattle.block_cache.specs.declared.cache.Cache.{Cache}
 use Rattle.block_cache.specs.declared.magazines.Magazines.{Magazines}
 use Rattle.block_cache.specs.Caches.{IsCache, cached_in}
-use Rattle.block_cache.specs.Magazines.{AreForClasses, all_in, stacks_of}
-use Rattle.block_cache.proofs.MagazineLemmas.{Splits}
+use Rattle.block_cache.specs.Magazines.{AreForClasses, Splits, all_in, stacks_of}
 
 -- what is so of all blocks of a list is so of those at its front
 pub all-front : (P : Block → Type 0) (xs ys : List Block) → All P (xs ++ ys) → All P xs
@@ -62,13 +61,13 @@ pub passed : (h : HeapFields) (c : Cache) (q : Pass) → IsCache h c → IsHand 
 passed h c q is hand = record { hand = hand; magazines = is.magazines; few = is.few }
 
 -- a cache with other magazines is one still
-pub refilled : (h : HeapFields) (c : Cache) (p : Pass) (m : Magazines) (hits : ℕ) → IsCache h c → m.depth ≡ c.magazines.depth
-    → AreForClasses c.magazines.depth m.stacks.items → IsHand h p (all_in (stacks_of m.stacks.items))
+pub refilled : (h : HeapFields) (c : Cache) (p : Pass) (m : Magazines Block) (hits : ℕ) → IsCache h c → m.depth ≡ c.magazines.depth
+    → AreForClasses (λ (block : Block). block.need) c.magazines.depth m.stacks.items → IsHand h p (all_in (stacks_of m.stacks.items))
     → IsCache h (record { pass = p; magazines = m; hits = hits })
 refilled h c p m hits is depth ready hand =
     record {
       hand = hand;
-      magazines = subst (λ k. AreForClasses k m.stacks.items) (sym depth) ready;
+      magazines = subst (λ k. AreForClasses (λ (block : Block). block.need) k m.stacks.items) (sym depth) ready;
       few = subst (λ k. k ≤ 64) (sym depth) is.few;
     }
 

@@ -179,7 +179,7 @@ pub resumed-shows :
 resumed-shows h c d e tries of s ended keeps place =
     hidden-shown e place
     ∙ sym (shown-leaving e.pass (stacks_in e) place)
-    ∙ ap (λ (m : Magazines). shown e.pass (leaving (stacks_of m.stacks.items)) place) keeps.magazines
+    ∙ ap (λ (m : Magazines Block). shown e.pass (leaving (stacks_of m.stacks.items)) place) keeps.magazines
     ∙ freed-shown h s.next e.pass s.block (leaving (stacks_in d)) of ended place
     ∙ frees-shown h c.pass s.freed tries s.next (s.block ∷ leaving (stacks_in d)) s.frees place
     ∙ ap (λ (xs : List Block). shown c.pass xs place) (sym s.order)

@@ -3,6 +3,7 @@ pub mod CacheLemmas
 pub mod FlushLemmas
 pub mod HiddenLemmas
 pub mod HiddenWhole
+pub mod LendLemmas
 pub mod MagazineLemmas
 pub mod TogetherLemmas
 pub mod WholeLemmas

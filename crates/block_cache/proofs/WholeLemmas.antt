@@ -1,10 +1,7 @@
 -- Whole calls through a cache.
-use Rattle.std.proofs.Common.{ℕ, zero, suc, ◌≡◌, ◌≢◌, ◌<◌, ◌≤◌, ◌⊎◌, List, [], ◌∷◌, Vec, inl, inr, refl, sym, ap, ◌∙◌, subst, arith, length}
+use Rattle.std.proofs.Common.{ℕ, ◌≡◌, ◌≢◌, inl, inr, refl, sym, ap, ◌∙◌, subst, arith}
 use Rattle.std.specs.Prelude.{All}
-use Rattle.std.specs.declared.alloc.Global.{Global}
-use Rattle.std.proofs.lemmas.Bool.{cases_lt}
 use Rattle.heap_geometry.specs.declared.need.Need.{Need}
-use Rattle.heap_geometry.specs.declared.need.Need.TheVariants.{Small, Large, TooLarge}
 use Rattle.heap_geometry.specs.Need.{need_of}
 use Rattle.errand_steps.specs.declared.reply.Reply.{Reply}
 use Rattle.errand_steps.specs.declared.reply.Reply.TheVariants as reply
@@ -21,51 +18,20 @@ use Rattle.live_heap.specs.Answers.{AllocTells, FreeTells}
 use Rattle.live_heap.specs.Passes.{IsHome, IsOf, OwnsAt}
 use Rattle.live_heap.specs.Whole.{HasEndedCall, IsWhole, MadeByPass, OwnsFor, at_once, by_steps}
 use Rattle.live_heap.proofs.Holding.{all-in, all-out, holds-all, holds-out}
-use Rattle.live_heap.specs.Holdings.{Holds}
 use Rattle.live_heap.proofs.LawsKept.{given-home, got-home}
 use Rattle.live_heap.proofs.WholeLaws.{pass-apart, pass-hands, whole-keeps as pass-keeps}
+use Rattle.live_heap.specs.Holdings.{Holds}
 use Rattle.block_cache.specs.declared.cache.Cache.{Cache}
 use Rattle.block_cache.specs.declared.magazines.Magazines.{Magazines}
-use Rattle.block_cache.specs.Magazines.{AreMagazines, all_in, stack_at, stacks_of}
-use Rattle.block_cache.specs.Caches.{HasFor, HasKept, HasRoom, HasServed, HoldsBlock, IsCache, KeepsMagazines, cached_in, magazine_in, stacks_in}
+use Rattle.block_cache.specs.Magazines.{all_in, stacks_of}
+use Rattle.block_cache.specs.Caches.{HasFor, HasKept, HasRoom, HasServed, HoldsBlock, IsCache, KeepsMagazines, cached_in, stacks_in}
 use Rattle.block_cache.specs.Whole.{Asks, EndsAs, HoldsAt, IsWholeCall, RestsAt, asked, kept, served}
-use Rattle.block_cache.proofs.MagazineLemmas.{top-splits}
+use Rattle.block_cache.proofs.MagazineLemmas.{for-or-not, room-or-not, stack-few, top-splits}
 
--- a magazine has a block for a need or has none, and has room for one or has none
-pub for-or-not : (c : Cache) (need : Need) → HasFor c need ⊎ ¬ HasFor c need
-for-or-not c (Small class) =
-    elim (cases_lt 0 (length (magazine_in c class))) [
-      | inl some_there ↦ inl (class, refl, some_there)
-      | inr none_there ↦
-          inr (λ (other, is, has).
-          let same : class ≡ other = let e : Small class ≡ Small other = is in cc in
-          absurd (omega (arith, none_there, subst (λ k. 0 < length (magazine_in c k)) (sym same) has)))
-    ]
-for-or-not c (Large units) = inr (λ (other, is, has). let e : Large units ≡ Small other = is in absurd (cc))
-for-or-not c TooLarge = inr (λ (other, is, has). let e : TooLarge ≡ Small other = is in absurd (cc))
-
-pub room-or-not : (c : Cache) (need : Need) → HasRoom c need ⊎ ¬ HasRoom c need
-room-or-not c (Small class) =
-    elim (cases_lt (length (magazine_in c class)) c.magazines.depth) [
-      | inl some_there ↦ inl (class, refl, some_there)
-      | inr none_there ↦
-          inr (λ (other, is, has).
-          let same : class ≡ other = let e : Small class ≡ Small other = is in cc in
-          absurd (omega (arith, none_there, subst (λ k. length (magazine_in c k) < c.magazines.depth) (sym same) has)))
-    ]
-room-or-not c (Large units) = inr (λ (other, is, has). let e : Large units ≡ Small other = is in absurd (cc))
-room-or-not c TooLarge = inr (λ (other, is, has). let e : TooLarge ≡ Small other = is in absurd (cc))
-
--- no magazine has more blocks than the depth says; with a depth of 0 none has a block or room
-stack-few : (class depth number : ℕ) (magazines : List (Vec Block Global)) → AreMagazines class depth magazines
-    → length (stack_at (stacks_of magazines) number) ≤ depth
-stack-few class depth number [] are = omega arith
-stack-few class depth zero (m ∷ ms) are = are.0.few
-stack-few class depth (suc number) (m ∷ ms) are = stack-few (suc class) depth number ms are.1
-
+-- with a depth of 0 no magazine has a block or room
 pub no-depth : (h : HeapFields) (c : Cache) (need : Need) → IsCache h c → c.magazines.depth ≡ 0 → (¬ HasFor c need) × (¬ HasRoom c need)
 no-depth h c need is none =
-    let few = λ (class : ℕ). stack-few 0 c.magazines.depth class c.magazines.stacks.items is.magazines.each in
+    let few = λ (class : ℕ). stack-few (λ (block : Block). block.need) 0 c.magazines.depth class c.magazines.stacks.items is.magazines.each in
     (λ (class, of, some_there). omega (arith, some_there, none, few class), λ (class, of, room). omega (arith, room, none))
 
 -- who asks for a call on a block owns it
@@ -118,7 +84,7 @@ pub alloc-whole :
     → ((¬ HasFor c (need_of words)) → AllocTells c.pass words tries told d.pass × KeepsMagazines c d)
     → EndsAs told ended → IsWholeCall h c (alloc words) ended d
 alloc-whole h c d words tries told ended rests is if_for if_not ends =
-    elim (for-or-not c (need_of words)) [
+    elim (for-or-not (stacks_in c) (need_of words)) [
       | inl has ↦
           let s = if_for has in
           record {
@@ -136,7 +102,7 @@ pub free-whole :
     → ((¬ HasRoom c block.need) → FreeTells c.pass block tries free_answer.Freed d.pass × KeepsMagazines c d)
     → IsWholeCall h c (free block.place block.need) reply.Freed d
 free-whole h c d block tries rests is holds if_room if_not =
-    elim (room-or-not c block.need) [
+    elim (room-or-not c.magazines.depth (stacks_in c) block.need) [
       | inl room ↦
           let k = if_room room in
           record {
@@ -150,7 +116,7 @@ free-whole h c d block tries rests is holds if_room if_not =
     ]
 
 pub same-cached : (c d : Cache) → KeepsMagazines c d → cached_in d ≡ cached_in c
-same-cached c d keeps = ap (λ (m : Magazines). all_in (stacks_of m.stacks.items)) keeps.magazines
+same-cached c d keeps = ap (λ (m : Magazines Block). all_in (stacks_of m.stacks.items)) keeps.magazines
 
 -- what the caller of a cache holds it holds through a whole call that leaves it
 pub whole-keeps : (h : HeapFields) (c d : Cache) (call : Call) (ended : Reply) (place : ℕ) (need : Need) → IsWholeCall h c call ended d

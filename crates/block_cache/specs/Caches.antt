@@ -1,5 +1,5 @@
 -- A cache in front of a heap.
-use Rattle.std.specs.Prelude.{ℕ, ◌≡◌, ◌≢◌, ◌<◌, ◌≤◌, ◌+◌, ◌-◌, ◌^◌, ◌++◌, List, All, length, min}
+use Rattle.std.specs.Prelude.{ℕ, ◌≡◌, ◌≢◌, ◌≤◌, ◌+◌, ◌-◌, ◌^◌, ◌++◌, List, All, min}
 use Rattle.heap_geometry.specs.declared.need.Need.{Need}
 use Rattle.heap_geometry.specs.declared.need.Need.TheVariants.{Small}
 use Rattle.heap_geometry.specs.Need.{need_of}
@@ -9,7 +9,7 @@ use Rattle.live_heap.specs.Hands.{IsHand}
 use Rattle.live_heap.specs.Passes.{Owns}
 use Rattle.block_cache.specs.declared.cache.Cache.{Cache}
 use Rattle.block_cache.specs.Accounts.{HasAll}
-use Rattle.block_cache.specs.Magazines.{AreForClasses, HasOnTop, all_in, stack_at, stacks_of}
+use Rattle.block_cache.specs.Magazines.{AreForClasses, HasOnTop, HasOneFor, HasRoomFor, all_in, stack_at, stacks_of}
 
 -- the stacks of a cache's magazines, and that of a class
 abbrev pub stacks_in : Cache → List (List Block)
@@ -25,7 +25,7 @@ cached_in c = all_in (stacks_in c)
 -- a cache in front of this heap: for each class a magazine of its blocks, at most as many as the depth says, and all of them are in the pass's hand
 pub record IsCache (h : HeapFields) (c : Cache) : Type 0 where
   pub hand : IsHand h c.pass (cached_in c)
-  pub magazines : AreForClasses c.magazines.depth c.magazines.stacks.items
+  pub magazines : AreForClasses (λ (block : Block). block.need) c.magazines.depth c.magazines.stacks.items
   pub few : c.magazines.depth ≤ 64
 
 -- the blocks that a cache's caller holds, which was given or has taken them, and has neither freed nor put them: with those in magazines they are all that it owns, each once, but for the one that a call under way is about
@@ -38,10 +38,10 @@ HoldsBlock c block = Owns c.pass block × All (λ other. other.place ≢ block.p
 
 -- the magazine for this need has a block; the magazine has room for one more
 abbrev pub HasFor : Cache → Need → Type 0
-HasFor c need = (class : ℕ) × (need ≡ Small class) × (0 < length (magazine_in c class))
+HasFor c need = HasOneFor (stacks_in c) need
 
 abbrev pub HasRoom : Cache → Need → Type 0
-HasRoom c need = (class : ℕ) × (need ≡ Small class) × (length (magazine_in c class) < c.magazines.depth)
+HasRoom c need = HasRoomFor c.magazines.depth (stacks_in c) need
 
 -- the last block of a magazine is given, one hit more is counted, and nothing else happens: the pass is the very same
 pub record HasServed (c : Cache) (words : ℕ) (block : Block) (d : Cache) : Type 0 where

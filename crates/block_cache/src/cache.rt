@@ -36,7 +36,7 @@ use std::alloc::Global;
 #[derive(Drop)]
 pub struct Cache {
     pub(crate) pass: Pass,
-    pub(crate) magazines: Magazines,
+    pub(crate) magazines: Magazines<Block>,
     pub(crate) hits: u64,
 }
 
@@ -59,7 +59,7 @@ impl Cache {
         ensures hits { IfOk result (λ cache. cache.hits ≡ 0) }
         ensures refused { IfErr result (λ refused. refused.pass ≡ pass) }
     {
-        let Ok(magazines) = Magazines::new(alloc, depth) else {
+        let Ok(magazines) = Magazines::new(alloc, depth as u16) else {
             return Err(CacheRefused { pass });
         };
         Ok(Cache {
@@ -127,7 +127,7 @@ impl Cache {
         ensures holds { (held : List Block) → Holds self.old (block ∷ held) → Holds self.new held }
     {
         if let Need::Small(class) = block.need() {
-            if self.magazines.count(class) < self.magazines.depth as usize {
+            if self.magazines.count(class) < self.magazines.depth() {
                 self.keep(class, block);
                 return FreeAnswer::Freed;
             }
@@ -197,8 +197,7 @@ impl Cache {
         heap.read(&mut self.pass, block, i)
     }
 
-    /// Fills a block that the caller holds: word i with from + i, modulo 2^64. A block of three words or more is
-    /// written as plain memory.
+    /// Fills a block that the caller holds, as plain memory: word i with from + i, modulo 2^64.
     pub fn fill(&mut self, heap: &Heap, block: &Block, from: u64)
         requires cache { IsCache heap.now self.old }
         requires idle { IsIdle self.old.pass.errand }

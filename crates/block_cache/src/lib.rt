@@ -6,4 +6,5 @@ pub mod cache;
 mod counts;
 mod flushes;
 pub mod laws;
+mod lends;
 pub mod magazines;

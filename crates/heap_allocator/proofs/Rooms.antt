@@ -1,23 +1,24 @@
 -- Words in a row as room for a type, and back. Assumes `Logic`.
-use Rattle.std.proofs.Common.{◌≡◌, ℕ, zero, suc, ◌+◌, ◌-◌, ◌*◌, ◌%◌, ◌≤◌, max, List, [], ◌∷◌, ◌++◌, length, refl, sym, ap, subst, ◌∙◌, length-append, arith, w64}
+use Rattle.std.proofs.Common.{◌≡◌, ℕ, zero, suc, ◌+◌, ◌-◌, ◌*◌, ◌/◌, ◌%◌, ◌^◌, ◌<◌, ◌≤◌, max, List, [], ◌∷◌, ◌++◌, length, refl, sym, ap, subst, ◌∙◌, length-append, arith, w64}
 use lib.ListN.{length-replicate}
-use native.Mathlib.Nat.{mod_self, sub-zero}
+use native.Mathlib.Nat.{mod_self, sub-zero, mul-zero, div-mul-le_self, le-div_iff_mul-le}
 use seplogic.Ra.Ura.{Ura}
-use mir.Syntax.{Ty, Tys, w8, tnil, tcons, ty_int, ty_array, ty_struct}
-use base.Logic.{SProp, ent, sep, wand, apply∗}
+use mir.Syntax.{Ty, Tys, w8, tnil, tcons, ty_int, ty_bool, ty_float, ty_ptr, ty_ref, ty_array, ty_unit, ty_struct, ty_enum, ty_param, ty_const, ty_array_p, ty_named}
+use base.Logic.{SProp, ent, sep, wand, apply∗, id⊢}
 use base.Fml.{ftrue, froom}
 use prog.Memory.{size, align, pad, up, end_of}
 use prog.Model.{rooms_at}
-use prog.Align.{Dv, dv→, dv_zero, dv_one, dv_mul, align_pos}
+use prog.Align.{Dv, dv→, dv_zero, dv_one, dv_mul, align_pos, align_size}
 use types.Logic.{Logic, sem}
-use types.Kit.{‵, raw, ◌⊛◌, ◌$◌, ◌∵◌, !, qed, by, move, drop, use1, use2, split, join, fsplit, fjoin, fpick, fpack, frame, assume, rewrite, done}
+use types.Kit.{‵, raw, ◌⊛◌, ◌$◌, ◌∵◌, !, qed, by, move, drop, use1, use2, split, split3, join, fsplit, fjoin, fpick, fpack, frame, assume, rewrite, done}
 use denote.RawPtr.{Ptr, block_of, count_of}
+use Rattle.core.proofs.ptr.Rows.{add_times}
 use denote.Steps.{nothing}
 use Rattle.std.specs.Prelude.{Some, None}
 use Rattle.plain_words.specs.Places.{Place, laid, blanks, number_at, IsLaid, AllHere}
 use Rattle.plain_words.specs.Owned.{place, row, Lies}
 use Rattle.plain_words.proofs.Rows.{of_room, to_room, roomy, cut, glue}
-use Rattle.heap_allocator.specs.Pieces.{words_of, words_for, labelled, piece_owns}
+use Rattle.heap_allocator.specs.Pieces.{labelled, piece_owns, bytes_before, behind, most_of}
 
 -- where a multiple of the alignment is asked for, nothing is skipped
 flush : (a n : ℕ) → Dv a n → up a n ≡ n
@@ -28,9 +29,47 @@ flush a n d =
 abbrev pub words : ℕ → Ty
 words n = ty_array (ty_int w64) n
 
-pub labelled-long : (n count label : ℕ) → words_for n ≤ count → length (labelled n count label) ≡ count
-labelled-long n count label le =
-    omega (arith, length-append (blanks (words_of n)) (laid label ∷ blanks (count - words_for n)), length-replicate {A = Place} (words_of n) (Some None), length-replicate {A = Place} (count - words_for n) (Some None))
+pub labelled-long : (count label : ℕ) → 0 < count → length (labelled count label) ≡ count
+labelled-long count label some =
+    omega (arith, length-append (blanks (count - 1)) (laid label ∷ []), length-replicate {A = Place} (count - 1) (Some None))
+
+-- values that lie in so many bytes are at most as many as do
+pub most : (room s n : ℕ) → n * s ≤ room → n < 2 ^ 64 → n ≤ most_of room s
+most room zero n fits small = omega arith
+most room (suc s) n fits small = (le-div_iff_mul-le {k = suc s} {x = n} {y = room} (omega arith)).1 fits
+
+no_bytes : (a b room : ℕ) → a * 0 ≤ room → a * 0 + b * 0 ≤ room
+no_bytes a b room fits = omega (arith, fits, mul-zero a, mul-zero b)
+
+all_fit : (room s n : ℕ) → n * s ≤ room → n * s + (most_of room s - n) * s ≤ room
+all_fit room zero n fits = no_bytes n (2 ^ 64 - n) room fits
+all_fit room (suc s) n fits =
+    let q : ℕ = room / suc s in let le : n ≤ q = (le-div_iff_mul-le {k = suc s} {x = n} {y = room} (omega arith)).1 fits in let e : n + (q - n) ≡ q = omega (arith, le) in
+    omega (arith, div-mul-le_self room (suc s), ap (λ (k : ℕ). k * suc s) e, add_times n (q - n) (suc s))
+
+-- what a τ may grow by lies right behind it, in the same bytes, and asks for no more alignment
+pub record IsBehind (room : ℕ) (τ ρ : Ty) : Type 0 where
+  pub fits : size τ + size ρ ≤ room
+  pub low : align ρ ≤ align τ
+  pub flush : Dv (align ρ) (size τ)
+
+nothing_behind : (room : ℕ) (τ : Ty) → size τ ≤ room → IsBehind room τ ty_unit
+nothing_behind room τ le = record { fits = omega (arith, le); low = align_pos τ; flush = dv_one (size τ) }
+
+pub is-behind : (room : ℕ) (τ : Ty) → size τ ≤ room → IsBehind room τ (behind room τ)
+is-behind room (ty_array τ n) le = record { fits = all_fit room (size τ) n le; low = omega arith; flush = align_size (ty_array τ n) }
+is-behind room (ty_int w) le = nothing_behind room (ty_int w) le
+is-behind room ty_bool le = nothing_behind room ty_bool le
+is-behind room (ty_float f) le = nothing_behind room (ty_float f) le
+is-behind room ty_ptr le = nothing_behind room ty_ptr le
+is-behind room (ty_ref κ μ τ) le = nothing_behind room (ty_ref κ μ τ) le
+is-behind room ty_unit le = nothing_behind room ty_unit le
+is-behind room (ty_struct ν τs) le = nothing_behind room (ty_struct ν τs) le
+is-behind room (ty_enum ν τss) le = nothing_behind room (ty_enum ν τss) le
+is-behind room (ty_param i) le = nothing_behind room (ty_param i) le
+is-behind room (ty_const n) le = nothing_behind room (ty_const n) le
+is-behind room (ty_array_p τ i) le = nothing_behind room (ty_array_p τ i) le
+is-behind room (ty_named ν θ) le = nothing_behind room (ty_named ν θ) le
 
 module _ {M : Type 1} {𝓤 : Ura M} (𝓛 : Logic 𝓤) (b : ℕ) where
   open 𝓛 use {H}
@@ -67,36 +106,44 @@ module _ {M : Type 1} {𝓤 : Ura M} (𝓛 : Logic 𝓤) (b : ℕ) where
       qed 𝓛 (‵ (place b o p) ∷ ‵ (row b (o + 8) ps) ∷ []) ∵ use1 𝓛 (‵ (froom (ty_int w64) b o)) (roomy 𝓛 b o p (here 0 (omega arith))) $ move ! (1 ∷ []) $
       use1 𝓛 (‵ (row b (o + 8) (blanks k ++ (laid (number_at ps k) ∷ blanks m)))) (forgets ps k m (o + 8) (λ i lt. here (suc i) (omega (arith, lt))) is (omega (arith, long))) $ move ! (1 ∷ 0 ∷ []) $ done !
 
-  -- n words are room for a type that they hold, as a struct of it and of the bytes behind it
-  pub serves : (τ : Ty) (n o : ℕ) → size τ ≤ n * 8 → Dv (align τ) 8 → H.room (words n) b o ⊢ H.room τ b o ∗ (H.room τ b o -∗ H.room (words n) b o)
-  serves τ n o fits dv =
-      let spare : Tys = tcons (ty_array (ty_int w8) (n * 8 - size τ)) tnil in let ω : Ty = ty_struct [] (tcons τ spare) in
-      let one : max (align τ) 1 ≡ align τ = omega (arith, align_pos τ) in
+  -- n words are room for a type and for what lies behind it, as a struct of the two and of the bytes that are left
+  pub serves : (τ ρ : Ty) (n o : ℕ) → IsBehind (n * 8) τ ρ → Dv (align τ) 8
+      → H.room (words n) b o ⊢ (H.room τ b o ∗ H.room ρ b (o + size τ)) ∗ ((H.room τ b o ∗ H.room ρ b (o + size τ)) -∗ H.room (words n) b o)
+  serves τ ρ n o is dv =
+      let spare : Tys = tcons (ty_array (ty_int w8) (n * 8 - (size τ + size ρ))) tnil in let ω : Ty = ty_struct [] (tcons τ (tcons ρ spare)) in
+      let one : max (align τ) (max (align ρ) 1) ≡ align τ = omega (arith, align_pos τ, is.low) in
       let start : up (align τ) 0 ≡ 0 = flush (align τ) 0 (dv_zero (align τ)) in
-      let end : end_of zero (tcons τ spare) ≡ n * 8 = ap (λ (k : ℕ). k + (n * 8 - size τ) * 1) (flush 1 (up (align τ) 0 + size τ) (dv_one (up (align τ) 0 + size τ)) ∙ ap (λ (k : ℕ). k + size τ) start) ∙ omega (arith, fits) in
+      let first : up (align τ) 0 + size τ ≡ size τ = omega (arith, start) in
+      let next : up (align ρ) (up (align τ) 0 + size τ) ≡ size τ = ap (up (align ρ)) first ∙ flush (align ρ) (size τ) is.flush in
+      let last : ℕ = up (align ρ) (up (align τ) 0 + size τ) + size ρ in
+      let end : end_of zero (tcons τ (tcons ρ spare)) ≡ n * 8 = ap (λ (k : ℕ). k + (n * 8 - (size τ + size ρ)) * 1) (flush 1 last (dv_one last) ∙ ap (λ (k : ℕ). k + size ρ) next) ∙ omega (arith, is.fits) in
       let same : size ω ≡ n * 8 = (λ i. up (one i) (end i)) ∙ flush (align τ) (n * 8) (dv_mul (align τ) 8 n dv) in
       let here : o + up (align τ) 0 ≡ o = ap (λ (k : ℕ). o + k) start ∙ omega arith in
-      let Rest : Pr = rooms_at 𝓤 H spare (up (align τ) 0 + size τ) b o in let Head : Pr = H.room τ b (o + up (align τ) 0) in
-      subst (λ (d : ℕ). H.room (words n) b o ⊢ H.room τ b d ∗ (H.room τ b d -∗ H.room (words n) b o)) here
+      let there : o + up (align ρ) (up (align τ) 0 + size τ) ≡ o + size τ = ap (λ (k : ℕ). o + k) next in
+      let Rest : Pr = rooms_at 𝓤 H spare last b o in let At : ℕ → ℕ → Pr = λ d e. H.room τ b d ∗ H.room ρ b e in let d : ℕ = o + up (align τ) 0 in let e : ℕ = o + up (align ρ) (up (align τ) 0 + size τ) in
+      let All : Pr = H.room τ b d ∗ (H.room ρ b e ∗ Rest) in
+      subst (λ (u : ℕ × ℕ). H.room (words n) b o ⊢ At u.0 u.1 ∗ (At u.0 u.1 -∗ H.room (words n) b o)) (λ i. (here i, there i))
       (qed 𝓛 (raw (H.room (words n) b o) ∷ []) ∵
       use1 𝓛 (raw (H.room ω b o) ⊛ raw (H.room ω b o -∗ H.room (words n) b o)) (𝓛.laws.room_as (words n) ω b o same (subst (λ (k : ℕ). Dv k 8) (sym one) dv)) $ split ! $
-      use1 𝓛 ((raw Head ⊛ raw Rest) ⊛ raw ((Head ∗ Rest) -∗ H.room ω b o)) (𝓛.laws.room_fields [] (tcons τ spare) b o) $ split ! $ split ! $ frame ! $ assume ! (raw Head) $ join ! $
-      use2 𝓛 (raw (H.room ω b o)) (apply∗ 𝓤 (Head ∗ Rest) (H.room ω b o)) $ by ! (apply∗ 𝓤 (H.room ω b o) (H.room (words n) b o)))
+      use1 𝓛 ((raw (H.room τ b d) ⊛ (raw (H.room ρ b e) ⊛ raw Rest)) ⊛ raw (All -∗ H.room ω b o)) (𝓛.laws.room_fields [] (tcons τ (tcons ρ spare)) b o) $ split ! $ split3 ! $
+      join ! $ use1 𝓛 (raw (At d e)) (id⊢ 𝓤 (At d e)) $ frame ! $ assume ! (raw (At d e)) $
+      use1 𝓛 (raw (H.room τ b d) ⊛ raw (H.room ρ b e)) (id⊢ 𝓤 (At d e)) $ split ! $ move ! (1 ∷ 2 ∷ []) $ join ! $ move ! (1 ∷ 0 ∷ []) $ join ! $ use1 𝓛 (raw All) (id⊢ 𝓤 All) $
+      use2 𝓛 (raw (H.room ω b o)) (apply∗ 𝓤 All (H.room ω b o)) $ by ! (apply∗ 𝓤 (H.room ω b o) (H.room (words n) b o)))
 
-module _ {M : Type 1} {𝓤 : Ura M} (𝓛 : Logic 𝓤) (p : Ptr) (first n count label : ℕ) where
+module _ {M : Type 1} {𝓤 : Ura M} (𝓛 : Logic 𝓤) (p : Ptr) (first count label : ℕ) where
   open 𝓛 use {H}
 
   abbrev at : ℕ
   at = first * 8 + count_of p
 
-  -- the caller's bytes go out as room for a type, and come back
-  pub lends : (τ : Ty) → size τ ≤ n → Dv (align τ) 8 → words_for n ≤ count
-      → ent 𝓤 (sem 𝓛 (piece_owns p first n count label)) (sep 𝓤 (H.room τ (block_of p) at) (wand 𝓤 (H.room τ (block_of p) at) (sem 𝓛 (piece_owns p first n count label))))
-  lends τ small dv room =
-      let b : ℕ = block_of p in let k : ℕ = words_of n in let back : List Place = laid label ∷ blanks (count - words_for n) in let there : ℕ = k * 8 + at in let all_ : ℕ = first + length (labelled n count label) in
-      let fits : size τ ≤ k * 8 = omega (arith, small) in let far : there ≡ length (blanks k) * 8 + at = ap (λ (j : ℕ). j * 8 + at) (sym (length-replicate k (Some None))) in
-      qed 𝓛 (‵ (piece_owns p first n count label) ∷ []) ∵ fsplit ! $ fpick ! (λ lies. drop ! $
+  -- the words before the label go out as room for a type and what lies behind it, and come back
+  pub lends : (τ ρ : Ty) → IsBehind (bytes_before count) τ ρ → Dv (align τ) 8
+      → ent 𝓤 (sem 𝓛 (piece_owns p first count label)) (sep 𝓤 (sep 𝓤 (H.room τ (block_of p) at) (H.room ρ (block_of p) (at + size τ))) (wand 𝓤 (sep 𝓤 (H.room τ (block_of p) at) (H.room ρ (block_of p) (at + size τ))) (sem 𝓛 (piece_owns p first count label))))
+  lends τ ρ is dv =
+      let b : ℕ = block_of p in let k : ℕ = count - 1 in let back : List Place = laid label ∷ [] in let there : ℕ = k * 8 + at in let all_ : ℕ = first + length (labelled count label) in
+      let far : there ≡ length (blanks k) * 8 + at = ap (λ (j : ℕ). j * 8 + at) (sym (length-replicate k (Some None))) in let Both : SProp 𝓤 = sep 𝓤 (H.room τ b at) (H.room ρ b (at + size τ)) in
+      qed 𝓛 (‵ (piece_owns p first count label) ∷ []) ∵ fsplit ! $ fpick ! (λ lies. drop ! $
       use1 𝓛 (‵ (row b at (blanks k)) ⊛ ‵ (row b there back)) (cut 𝓛 b (blanks k) back at there far) $ split ! $ use1 𝓛 (‵ (froom (words k) b at)) (blanks_to_room 𝓛 b k at) $
-      use1 𝓛 (‵ (froom τ b at) ⊛ raw (wand 𝓤 (H.room τ b at) (H.room (words k) b at))) (serves 𝓛 b τ k at fits dv) $ split ! $ frame ! $ assume ! (‵ (froom τ b at)) $
-      use2 𝓛 (‵ (froom (words k) b at)) (apply∗ 𝓤 (H.room τ b at) (H.room (words k) b at)) $ use1 𝓛 (‵ (row b at (blanks k))) (of_room 𝓛 b k at) $
-      use2 𝓛 (‵ (row b at (labelled n count label))) (glue 𝓛 b (blanks k) back at there far) $ nothing ! $ fpack ! (Lies p all_) (λ _. ftrue) lies $ fjoin ! $ done !)
+      use1 𝓛 (raw Both ⊛ raw (wand 𝓤 Both (H.room (words k) b at))) (serves 𝓛 b τ ρ k at is dv) $ split ! $ frame ! $ assume ! (raw Both) $
+      use2 𝓛 (‵ (froom (words k) b at)) (apply∗ 𝓤 Both (H.room (words k) b at)) $ use1 𝓛 (‵ (row b at (blanks k))) (of_room 𝓛 b k at) $
+      use2 𝓛 (‵ (row b at (labelled count label))) (glue 𝓛 b (blanks k) back at there far) $ nothing ! $ fpack ! (Lies p all_) (λ _. ftrue) lies $ fjoin ! $ done !)

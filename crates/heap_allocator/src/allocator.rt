@@ -1,41 +1,32 @@
 //! The allocator.
 
-ghost use Rattle.std.specs.Prelude.{◌≡◌, ◌<◌, ◌≤◌, ◌+◌, ◌/◌, [], IfOk, IfSome, length};
+ghost use Rattle.std.specs.Prelude.{◌≡◌, ◌<◌, ◌≤◌, ◌*◌, List, [], Ok, IfOk, IfSome};
 ghost use Rattle.std.specs.Result.{IfErr};
-ghost use Rattle.heap_geometry.specs.Need.{need_of, usable_words};
-ghost use Rattle.plain_words.specs.Places.{AllHere};
+ghost use Rattle.std.specs.Allocator.{block_with_items, resized_if_ok, FitsBlock};
+ghost use Rattle.std.specs.Mem.{type_size};
+ghost use types.Logic.{sem};
 ghost use Rattle.errand_steps.specs.Begins.{IsIdle};
 ghost use Rattle.live_heap.specs.Holdings.{HoldsExactly};
 ghost use Rattle.live_heap.specs.Passes.{IsOf};
-ghost use Rattle.memory_cache.specs.Rooms.{IsRoomOf};
-ghost use Rattle.heap_allocator.specs.declared.allocator.TheConstants.{HALF, MOST_BYTES};
 ghost use Rattle.heap_allocator.specs.Desks.{IsDeskOf};
-ghost use Rattle.heap_allocator.specs.Pieces.{IsBlockFor, piece_token, words_for, words_of};
-ghost use Rattle.heap_allocator.specs.Served.{IsServed};
+ghost use Rattle.heap_allocator.specs.Pieces.{AreOfOneBlock, piece_token};
 
 use crate::desk::Desk;
-use crate::piece::Piece;
+use crate::mover::{Mover, are_of_one_block};
 use crate::slot::Slot;
-use heap_geometry::need::class_of;
 use live_heap::heap::Heap;
 use live_heap::pass::Pass;
-use live_heap::plain::Memory;
 use memory_cache::cache::MemoryCache;
 use slab::Slab;
 use std::alloc::{AllocError, Allocator, Global};
-
-/// The most bytes that the largest block serves, behind a header.
-const MOST_BYTES: usize = 8 * 131_070;
-
-/// A label has a key in its high half, and a place in its low half.
-const HALF: u64 = 1 << 32;
+use std::mem::size_of;
 
 /// An allocator over a pass of a heap, for collections of the thread that has it.
 pub struct HeapAllocator<'h> {
     heap: &'h Heap,
     caller: u32,
-    slot: Slot,
-    ghost same: { slot ≡ record { heap = heap.now; caller = caller } },
+    mover: Mover<'h>,
+    ghost same: { (mover.heap.now ≡ heap.now) × (mover.slot ≡ record { heap = heap.now; caller = caller }) },
 }
 
 /// There was no memory; the pass comes back.
@@ -76,7 +67,12 @@ impl<'h> HeapAllocator<'h> {
             Ok(cache) => {
                 desk.cache = Some(cache);
                 let slot = Slot::new(heap, caller, Some(desk));
-                Ok(HeapAllocator { heap, caller, slot })
+                let mover = Mover { heap, slot };
+                Ok(HeapAllocator {
+                    heap,
+                    caller,
+                    mover,
+                })
             }
             Err(refused) => Err(Refused { pass: refused.pass }),
         }
@@ -90,57 +86,78 @@ impl<'h> HeapAllocator<'h> {
         ensures caller { IfOk result (λ pass. pass.errand.caller ≡ self.entry.caller) }
         ensures same { IfErr result (λ allocator. (allocator.heap.now ≡ self.entry.heap.now) × (allocator.caller ≡ self.entry.caller)) }
     {
-        let HeapAllocator { heap, caller, slot } = self;
-        let mut desk = slot.into_inner();
+        let HeapAllocator {
+            heap,
+            caller,
+            mover,
+        } = self;
+        let mut desk = mover.into_slot().into_inner();
         match closed(heap, caller, &mut desk) {
             Some(pass) => Ok(pass),
             None => {
                 let slot = Slot::new(heap, caller, desk);
-                Err(HeapAllocator { heap, caller, slot })
+                let mover = Mover { heap, slot };
+                Err(HeapAllocator {
+                    heap,
+                    caller,
+                    mover,
+                })
             }
         }
-    }
-
-    /// A piece of so many bytes.
-    pub(crate) fn take(&self, size: usize, align: usize) -> Option<Piece>
-        ensures { IfSome result (λ p. IsServed self.now.slot.heap.region.at p × (p.size ≡ size) × (align ≤ 8)) }
-    {
-        if align > 8 || size > MOST_BYTES {
-            return None;
-        }
-        let mut desk = self.slot.replace(None)?;
-        let taken = desk.take(self.heap, words_of(size) as u32 + 1);
-        self.slot.replace(Some(desk));
-        let (key, memory) = taken?;
-        Some(piece_of(self.heap, key, memory, size))
-    }
-
-    /// Takes a piece back.
-    pub(crate) fn give(&self, piece: Piece)
-        requires { IsServed self.now.slot.heap.region.at piece }
-    {
-        let Some(mut desk) = self.slot.replace(None) else {
-            return;
-        };
-        if let Some((key, memory)) = memory_of(piece) {
-            desk.give(self.heap, key, memory);
-        }
-        self.slot.replace(Some(desk));
     }
 }
 
 unsafe impl<'h> Allocator for HeapAllocator<'h> {
-    ghost dealloc_token = { λ a. piece_token a.slot.heap.region.at };
+    ghost dealloc_token = { λ a. piece_token a.mover.heap.now.region.at };
 
     fn allocate(&self, size: usize, align: usize) -> Result<*mut u8, AllocError> {
-        match self.take(size, align) {
-            Some(Piece { memory, size: _ }) => Ok(memory),
-            None => Err(AllocError),
+        self.mover.allocate(size, align)
+    }
+
+    unsafe fn deallocate(&self, ptr: *mut u8, size: usize, align: usize) {
+        self.mover.deallocate(ptr, size, align);
+    }
+
+    /// The values stay where they are in a block that serves both sizes; else they move.
+    unsafe fn grow<T>(
+        &self,
+        ptr: *mut T,
+        len: usize,
+        old_cap: usize,
+        new_cap: usize,
+    ) -> Result<*mut T, AllocError>
+        ghost items: { List T }
+        requires sizes { (len ≤ old_cap) × (old_cap ≤ new_cap) × FitsBlock T.row new_cap }
+        requires* block { sem 𝓛 (block_with_items (piece_token self.now.mover.heap.now.region.at) T.row ptr len old_cap items) }
+        ensures in_place { AreOfOneBlock (old_cap * type_size T.row) (new_cap * type_size T.row) → result ≡ Ok ptr }
+        ensures* memory { sem 𝓛 (resized_if_ok (piece_token self.now.mover.heap.now.region.at) T.row ptr len old_cap new_cap items result) }
+    {
+        if are_of_one_block(old_cap * size_of::<T>(), new_cap * size_of::<T>()) {
+            Ok(ptr)
+        } else {
+            unsafe { self.mover.grow(ptr, len, old_cap, new_cap) }
         }
     }
 
-    unsafe fn deallocate(&self, ptr: *mut u8, size: usize, _align: usize) {
-        self.give(Piece { memory: ptr, size });
+    /// The same, to fewer values.
+    unsafe fn shrink<T>(
+        &self,
+        ptr: *mut T,
+        len: usize,
+        old_cap: usize,
+        new_cap: usize,
+    ) -> Result<*mut T, AllocError>
+        ghost items: { List T }
+        requires sizes { (len ≤ new_cap) × (new_cap ≤ old_cap) × FitsBlock T.row old_cap }
+        requires* block { sem 𝓛 (block_with_items (piece_token self.now.mover.heap.now.region.at) T.row ptr len old_cap items) }
+        ensures in_place { AreOfOneBlock (old_cap * type_size T.row) (new_cap * type_size T.row) → result ≡ Ok ptr }
+        ensures* memory { sem 𝓛 (resized_if_ok (piece_token self.now.mover.heap.now.region.at) T.row ptr len old_cap new_cap items result) }
+    {
+        if are_of_one_block(old_cap * size_of::<T>(), new_cap * size_of::<T>()) {
+            Ok(ptr)
+        } else {
+            unsafe { self.mover.shrink(ptr, len, old_cap, new_cap) }
+        }
     }
 }
 
@@ -150,9 +167,9 @@ impl<'h> Drop for HeapAllocator<'h> {
         let HeapAllocator {
             heap: _,
             caller: _,
-            slot,
+            mover,
         } = self;
-        drop(slot.into_inner());
+        drop(mover);
     }
 }
 
@@ -167,47 +184,4 @@ fn closed(heap: &Heap, _caller: u32, desk: &mut Option<Box<Desk>>) -> Option<Pas
         Some(desk) => desk.close(heap),
         None => None,
     }
-}
-
-/// How many words so many bytes lie in.
-fn words_of(size: usize) -> usize
-    requires { size ≤ MOST_BYTES }
-    ensures { result ≡ words_of size }
-{
-    (size + 7) / 8
-}
-
-/// The piece of memory that is out under this key. Its label has the key and the place of its block.
-fn piece_of(heap: &Heap, key: u32, memory: Memory, size: usize) -> Piece
-    requires room { IsRoomOf heap.now memory }
-    requires need { memory.block.need ≡ need_of (words_for size) }
-    requires long { words_for size ≤ usable_words memory.block.need }
-    requires size { size ≤ MOST_BYTES }
-    ensures label { result.label / HALF ≡ key }
-    ensures served { IsServed heap.now.region.at result }
-    ensures size { result.size ≡ size }
-{
-    let start = heap.start();
-    let place = memory.place();
-    let first = place as usize + 1;
-    let mut words = memory.into_words();
-    let label = u64::from(key) * HALF + u64::from(place);
-    words.lay(start, first + words_of(size), label);
-    Piece::of_words(words, start, first, size)
-}
-
-/// The memory whose words a piece is, and the key under which it is out, as its label says.
-fn memory_of(piece: Piece) -> Option<(u32, Memory)>
-    requires { IsBlockFor piece.size piece.first piece.count piece.label }
-    ensures { IfSome result (λ given. (given.0 ≡ piece.label / HALF) × (given.1.words.at ≡ piece.at) × (given.1.words.first ≡ given.1.block.place + 1)
-        × (length given.1.words.places ≡ usable_words given.1.block.need) × AllHere given.1.words.places) }
-{
-    let (label, size, words) = piece.into_words();
-    if size > MOST_BYTES {
-        return None;
-    }
-    let key = (label / HALF) as u32;
-    let place = (label % HALF) as u32;
-    let need = class_of(words_of(size) as u32 + 1);
-    Some((key, Memory::of_words(place, need, words)))
 }

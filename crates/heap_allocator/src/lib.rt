@@ -3,6 +3,7 @@
 
 mod allocator;
 mod desk;
+mod mover;
 mod piece;
 mod slot;
 

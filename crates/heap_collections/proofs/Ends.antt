@@ -4,12 +4,14 @@ use Rattle.std.proofs.lemmas.List.{nil_from_length}
 use Rattle.std.proofs.lemmas.List.Elements.{All-cons, All-nil}
 use Rattle.heap_geometry.specs.declared.geometry.Geometry.{Geometry}
 use Rattle.errand_steps.specs.Begins.{IsIdle}
+use Rattle.errand_steps.specs.Errands.{ErrandFields}
+use Rattle.step_machine.specs.Cores.{errand_at}
 use Rattle.live_heap.specs.declared.pass.Pass.{Pass}
 use Rattle.live_heap.specs.Contents.{owned_after, owned_in}
 use Rattle.live_heap.specs.Endings.{AreAllIdle, ClosedFields, HasClosed, HasTakenIn, IsResting}
 use Rattle.live_heap.specs.Heaps.{HeapFields}
 use Rattle.live_heap.specs.Passes.{AreFrom, IsOf}
-use Rattle.heap_collections.specs.Shared.{ComesBack, HasNothing, OwnNothing}
+use Rattle.heap_collections.specs.Shared.{ComesBack, HasNothing, HaveAllWorked, OwnNothing}
 
 -- a closed heap has just what each pass owned
 abbrev pub HasWhatPassesOwned : Type 0
@@ -80,6 +82,35 @@ both-own-nothing owned h c items p q callers is closed rests nothing nothing' ze
       | inl first ↦ owns-nothing owned h c p caller place rests (each 0 p (omega arith)) nothing first
       | inr second ↦ owns-nothing owned h c q caller place rests (each 1 q (omega arith)) nothing' second
     ]
+  where
+    by-caller : (k : ℕ) → k < 2 → (p.errand.caller ≡ k) ⊎ (q.errand.caller ≡ k)
+    by-caller zero lt = inl zero_is
+    by-caller (suc k) lt = inr (omega (arith, one_is, lt))
+
+-- the caller of a pass that has begun calls has begun them in the closed heap
+has-worked : (c : ClosedFields) (p : Pass) (caller : ℕ) → HasTakenIn c p → 0 < p.errand.turns → p.errand.caller ≡ caller → 0 < (errand_at c.errands caller).turns
+has-worked c p caller has some is =
+    let P : ℕ → Type 0 = λ k. 0 < (errand_at c.errands k).turns in
+    subst P is (omega (arith, some, ap (λ (e : ErrandFields). e.turns) has.errand))
+
+pub one-has-worked : (h : HeapFields) (c : ClosedFields) (items : List Pass) (p : Pass) → h.layout.callers ≡ 1 → items ≡ p ∷ [] → HasClosed h items c → 0 < p.errand.turns
+    → p.errand.caller ≡ 0 → HaveAllWorked 1 c
+one-has-worked h c items p callers is closed some zero_is =
+    let P : List Pass → Type 0 = λ xs. All (HasTakenIn c) xs in
+    let each = subst P is closed.each in
+    (ap (λ (g : Geometry). g.callers) closed.heap ∙ callers, λ caller few. has-worked c p caller (each 0 p (omega arith)) some (omega (arith, zero_is, few)))
+
+pub both-have-worked : (h : HeapFields) (c : ClosedFields) (items : List Pass) (p q : Pass) → h.layout.callers ≡ 2 → items ≡ p ∷ q ∷ [] → HasClosed h items c → 0 < p.errand.turns
+    → 0 < q.errand.turns → p.errand.caller ≡ 0 → q.errand.caller ≡ 1 → HaveAllWorked 2 c
+both-have-worked h c items p q callers is closed some some' zero_is one_is =
+    let P : List Pass → Type 0 = λ xs. All (HasTakenIn c) xs in
+    let each = subst P is closed.each in (
+      ap (λ (g : Geometry). g.callers) closed.heap ∙ callers,
+      λ caller few. elim (by-caller caller few) [
+        | inl first ↦ has-worked c p caller (each 0 p (omega arith)) some first
+        | inr second ↦ has-worked c q caller (each 1 q (omega arith)) some' second
+      ],
+    )
   where
     by-caller : (k : ℕ) → k < 2 → (p.errand.caller ≡ k) ⊎ (q.errand.caller ≡ k)
     by-caller zero lt = inl zero_is

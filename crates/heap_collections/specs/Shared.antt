@@ -1,6 +1,7 @@
 -- Collections in a heap that is shared by threads.
 use Rattle.std.specs.Prelude.{ℕ, ◌≡◌, ◌<◌, [], None}
 use Rattle.errand_steps.specs.Begins.{IsIdle}
+use Rattle.step_machine.specs.Cores.{errand_at}
 use Rattle.live_heap.specs.Contents.{owned_after}
 use Rattle.live_heap.specs.Endings.{ClosedFields}
 use Rattle.live_heap.specs.Heaps.{HeapFields}
@@ -14,10 +15,15 @@ pub record HasNothing (h : HeapFields) (p : Pass) : Type 0 where
   pub idle : IsIdle p.errand
   pub holds : HoldsExactly p []
 
--- a pass has come back that is the same caller's, with nothing
+-- a pass has come back that is the same caller's, with nothing, and has begun calls of the heap in the meantime
 abbrev pub ComesBack : HeapFields → Pass → Pass → Type 0
-ComesBack h p q = HasNothing h q × (q.errand.caller ≡ p.errand.caller)
+ComesBack h p q = HasNothing h q × (q.errand.caller ≡ p.errand.caller) × (p.errand.turns < q.errand.turns)
 
 -- no caller of a closed heap owns a block in it
 abbrev pub OwnNothing : ClosedFields → Type 0
 OwnNothing c = (caller place : ℕ) → caller < c.geometry.callers → owned_after c.events caller place ≡ None
+
+-- a closed heap has so many callers, and each of them has begun calls in it
+abbrev pub HaveAllWorked : ℕ → ClosedFields → Type 0
+HaveAllWorked callers c =
+    (c.geometry.callers ≡ callers) × ((caller : ℕ) → caller < callers → 0 < (errand_at c.errands caller).turns)

@@ -2,7 +2,7 @@
 
 ghost use Rattle.std.specs.Prelude.{◌≡◌, ◌≤◌, ◌*◌, IfOk, IfSome};
 ghost use Rattle.heap_geometry.specs.Geometry.{IsChecked};
-ghost use Rattle.heap_collections.specs.Shared.{OwnNothing};
+ghost use Rattle.heap_collections.specs.Shared.{HaveAllWorked, OwnNothing};
 
 use crate::work::overflow;
 use heap_geometry::geometry::Geometry;
@@ -34,11 +34,12 @@ fn one_caller() -> Geometry
 }
 
 /// Fills the heap with a list, drops it, and builds collections of so many things. The heap closes, and its
-/// caller owns no block in it.
+/// caller owns no block in it, and has begun calls in it.
 pub fn end(alloc: Global, things: u32) -> Result<Option<Ended>, AllocError>
     requires { things ≤ 1000 }
     ensures built { IfOk result (λ told. IfSome told (λ ended. ended.built ≡ 3 * things)) }
     ensures nothing { IfOk result (λ told. IfSome told (λ ended. OwnNothing ended.closed)) }
+    ensures worked { IfOk result (λ told. IfSome told (λ ended. HaveAllWorked 1 ended.closed)) }
 {
     calls_change_their_block();
     passes_hold_exactly();

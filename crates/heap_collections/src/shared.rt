@@ -2,7 +2,7 @@
 
 ghost use Rattle.std.specs.Prelude.{◌≡◌, ◌≤◌, ◌*◌, IfOk, IfSome};
 ghost use Rattle.heap_geometry.specs.Geometry.{IsChecked};
-ghost use Rattle.heap_collections.specs.Shared.{ComesBack, HasNothing, OwnNothing};
+ghost use Rattle.heap_collections.specs.Shared.{ComesBack, HasNothing, HaveAllWorked, OwnNothing};
 
 use crate::work::work;
 use heap_geometry::geometry::Geometry;
@@ -36,7 +36,8 @@ fn two_callers() -> Geometry
 }
 
 /// Two threads build collections of so many things at once and drop them. Each hands its count over, and the heap closes:
-/// no caller owns a block in it. None where a thread had no memory for all of that, or a call of the heap stayed under way.
+/// no caller owns a block in it, and each has begun calls in it. None where a thread had no memory for all of that or
+/// nothing to build, or a call of the heap stayed under way.
 pub fn share<R: Threads + Sync>(
     rt: &R,
     alloc: Global,
@@ -45,6 +46,7 @@ pub fn share<R: Threads + Sync>(
     requires { things ≤ 1000 }
     ensures counts { IfOk result (λ told. IfSome told (λ report. (report.one ≡ 3 * things) × (report.other ≡ 3 * things))) }
     ensures nothing { IfOk result (λ told. IfSome told (λ report. OwnNothing report.closed)) }
+    ensures worked { IfOk result (λ told. IfSome told (λ report. HaveAllWorked 2 report.closed)) }
 {
     calls_change_their_block();
     passes_hold_exactly();

@@ -1,6 +1,6 @@
 //! A thread's work over a pass.
 
-ghost use Rattle.std.specs.Prelude.{◌≡◌, ◌≤◌, ◌*◌, IfSome};
+ghost use Rattle.std.specs.Prelude.{◌≡◌, ◌<◌, ◌≤◌, ◌*◌, IfSome};
 ghost use Rattle.heap_collections.specs.Shared.{ComesBack, HasNothing};
 
 use crate::build::{build, fill};
@@ -23,15 +23,30 @@ fn open<'h>(alloc: Global, heap: &'h Heap, pass: Pass) -> Option<HeapAllocator<'
     HeapAllocator::new(alloc, heap, pass, DEPTH, TRIES).ok()
 }
 
-/// Builds over the pass, which comes back with nothing. None where there was no memory for that.
+/// The pass of an allocator that is closed, where it has begun a call of the heap since it had taken so many turns.
+fn close(allocator: HeapAllocator, before: u64) -> Option<Pass>
+    ensures back { IfSome result (λ pass. HasNothing allocator.entry.heap.now pass × (pass.errand.caller ≡ allocator.entry.caller)) }
+    ensures worked { IfSome result (λ pass. before < pass.errand.turns) }
+{
+    let pass = allocator.close().ok()?;
+    if pass.turns() > before {
+        Some(pass)
+    } else {
+        None
+    }
+}
+
+/// Builds over the pass, which comes back with nothing and has begun calls of the heap. None where there was no memory for
+/// that, or nothing to build.
 pub fn work(alloc: Global, heap: &Heap, pass: Pass, things: u32) -> Option<(u32, Pass)>
     requires pass { HasNothing heap.now pass }
     requires few { things ≤ 1000 }
     ensures { IfSome result (λ done. (done.0 ≡ 3 * things) × ComesBack heap.now pass done.1) }
 {
+    let before = pass.turns();
     let allocator = open(alloc, heap, pass)?;
     let built = build(&allocator, things).ok();
-    let pass = allocator.close().ok()?;
+    let pass = close(allocator, before)?;
     Some((built?, pass))
 }
 
@@ -41,9 +56,10 @@ pub fn overflow(alloc: Global, heap: &Heap, pass: Pass, things: u32) -> Option<(
     requires few { things ≤ 1000 }
     ensures { IfSome result (λ done. (done.1 ≡ 3 * things) × ComesBack heap.now pass done.2) }
 {
+    let before = pass.turns();
     let allocator = open(alloc, heap, pass)?;
     let most = fill(&allocator);
     let built = build(&allocator, things).ok();
-    let pass = allocator.close().ok()?;
+    let pass = close(allocator, before)?;
     Some((most, built?, pass))
 }

@@ -1,1 +1,3 @@
+mod FlushLemmas
 pub mod StepLemmas
+pub mod ThroughLemmas

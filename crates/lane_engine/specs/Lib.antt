@@ -1,3 +1,4 @@
+pub mod Caches
 pub mod Engines
 pub mod Machines
 pub mod Told

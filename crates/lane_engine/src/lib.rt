@@ -1,7 +1,8 @@
 //! What lanes run on: a machine on one thread, which makes the atomic steps of its callers; or something
-//! that makes the whole calls of one caller, as a pass of a heap.
+//! that makes the whole calls of one caller, as a cache in front of a pass of a heap.
 #![tactic(auto)]
 
 pub mod calls;
 pub mod grip;
+pub mod over_cache;
 pub mod over_core;

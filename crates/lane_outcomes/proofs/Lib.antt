@@ -14,3 +14,12 @@ pub mod LanesLemmas
 pub mod WrittenBlocks
 pub mod WrittenRows
 pub mod WrittenLemmas
+pub mod BoundLemmas
+pub mod CachedLemmas
+pub mod CountLemmas
+pub mod KeepingLemmas
+pub mod KeptLemmas
+pub mod LaterLemmas
+pub mod RoomLemmas
+pub mod SlotLemmas
+mod CachedWritten

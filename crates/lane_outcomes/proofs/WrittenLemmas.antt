@@ -86,27 +86,59 @@ shelf-step g before (Take caller shelf at) legal allowed puts old =
 shelf-step g before (TakeNone caller shelf) legal allowed puts old = old
 
 -- what holds of each event holds of one
-one-of : (P : Event → Type 0) (before rest : List Event) (event : Event) → AllByRecursion P (before ++ event ∷ rest) → P event
+pub one-of : (P : Event → Type 0) (before rest : List Event) (event : Event) → AllByRecursion P (before ++ event ∷ rest) → P event
 one-of P [] rest event all = all.0
 one-of P (first ∷ before) rest event all = one-of P before rest event all.1
 
+-- up to so many events, each block on a shelf has all its words written
+abbrev pub ShelvesSet : List Event → ℕ → Type 0
+ShelvesSet history most = (before : List Event) → length before ≤ most → Begins before history → ShelfSet (pool_of before)
+
+no-shelf : ShelfSet (pool_of [])
+no-shelf place block shelf live owner = absurd (let e : None ≡ Some block = live in cc)
+
+-- so it is where whoever puts a block on a shelf has written all its words
+module _ (g : Geometry) (history : List Event) (legal : IsLegalWithoutCounts g history) (puts : (most caller place shelf : ℕ) (before rest : List Event) → ShelvesSet history most → length before ≤ most → history ≡ before ++ Put caller place shelf ∷ rest → OwnsSuch AllSet (pool_of before) caller place) where
+  pub shelves-by : (most : ℕ) → ShelvesSet history most
+  shelves-by zero before few begins =
+      elim (last_cases before) [
+        | inl none ↦ subst (λ (es : List Event). ShelfSet (pool_of es)) (sym none) no-shelf
+        | inr more ↦ absurd (omega (arith, few, ap length more.2, length-append more.0 (more.1 ∷ [])))
+      ]
+  shelves-by (suc most) before few begins =
+      elim (last_cases before) [
+        | inl none ↦ subst (λ (es : List Event). ShelfSet (pool_of es)) (sym none) no-shelf
+        | inr more ↦
+            let front = more.0 in
+            let event = more.1 in
+            let fewer : length front ≤ most = omega (arith, few, ap length more.2, length-append front (event ∷ [])) in
+            let here : history ≡ front ++ event ∷ begins.0 =
+            begins.1 ∙ ap (λ es. es ++ begins.0) more.2 ∙ push-append front begins.0 event in
+            let legal_front : IsLegalWithoutCounts g front =
+            EachAfter-cut (IsLegalEventWithoutCounts g) front (event ∷ begins.0) (subst (IsLegalWithoutCounts g) here legal) in
+            let shelves = shelves-by most in
+            subst (λ (es : List Event). ShelfSet (pool_of es)) (sym more.2)
+            (subst ShelfSet (sym (pool_of-push front event))
+            (shelf-step g front event legal_front (legal front begins.0 event here)
+            (λ caller place shelf is.
+            puts most caller place shelf front begins.0 shelves fewer (here ∙ ap (λ e. front ++ e ∷ begins.0) is))
+            (shelves front fewer (event ∷ begins.0, here))))
+      ]
+
+  pub shelved-by : (before : List Event) → Begins before history → ShelvesWritten (pool_of before)
+  shelved-by before begins place block live shelf owner =
+      words-of block.contents (shelves-by (length before) before (omega arith) begins place block shelf live owner)
+
 module _ (g : Geometry) (history : List Event) (lost : ℕ) (lanes : List (List Op)) (outcomes : List (List Outcome)) (legal : IsLegalWithoutCounts g history) (fit : OutcomesFit g history lost lanes outcomes) where
-  -- up to so many events, each block on a shelf has all its words written
-  abbrev ShelvesSet : ℕ → Type 0
-  ShelvesSet most = (before : List Event) → length before ≤ most → Begins before history → ShelfSet (pool_of before)
-
-  no-shelf : ShelfSet (pool_of [])
-  no-shelf place block shelf live owner = absurd (let e : None ≡ Some block = live in cc)
-
   -- a lane's registers hold nothing at first
   none-held :
-      (caller limit more most : ℕ) (shelves : ShelvesSet most)
+      (caller limit more most : ℕ) (shelves : ShelvesSet history most)
       → HeldSet g (setting_in history caller limit more) legal most shelves [] (replicate REGISTERS None)
   none-held caller limit more most shelves r held full = absurd (let e : None ≡ Some held = sym (held-nothing REGISTERS r) ∙ full in cc)
 
   -- whoever puts a block on a shelf is a lane, and has written all its words
   put-by-lane :
-      (most caller place shelf : ℕ) (before rest : List Event) → ShelvesSet most → length before ≤ most
+      (most caller place shelf : ℕ) (before rest : List Event) → ShelvesSet history most → length before ≤ most
       → history ≡ before ++ Put caller place shelf ∷ rest → OwnsSuch AllSet (pool_of before) caller place
   put-by-lane most caller place shelf before rest shelves few is =
       let event = Put caller place shelf in
@@ -121,35 +153,11 @@ module _ (g : Geometry) (history : List Event) (lost : ℕ) (lanes : List (List 
       put-full g setting legal most shelves start fits.end (get_or lanes caller []) (get_or outcomes caller []) 0 0 before place shelf (own caller before)
       (own caller rest) fits.walks (at-start as_one setting) (none-held caller g.turn_limit lost most shelves) few (event ∷ rest, is) refl ends
 
-  shelves-set : (most : ℕ) → ShelvesSet most
-  shelves-set zero before few begins =
-      elim (last_cases before) [
-        | inl none ↦ subst (λ (es : List Event). ShelfSet (pool_of es)) (sym none) no-shelf
-        | inr more ↦ absurd (omega (arith, few, ap length more.2, length-append more.0 (more.1 ∷ [])))
-      ]
-  shelves-set (suc most) before few begins =
-      elim (last_cases before) [
-        | inl none ↦ subst (λ (es : List Event). ShelfSet (pool_of es)) (sym none) no-shelf
-        | inr more ↦
-            let front = more.0 in
-            let event = more.1 in
-            let fewer : length front ≤ most = omega (arith, few, ap length more.2, length-append front (event ∷ [])) in
-            let here : history ≡ front ++ event ∷ begins.0 =
-            begins.1 ∙ ap (λ es. es ++ begins.0) more.2 ∙ push-append front begins.0 event in
-            let legal_front : IsLegalWithoutCounts g front =
-            EachAfter-cut (IsLegalEventWithoutCounts g) front (event ∷ begins.0) (subst (IsLegalWithoutCounts g) here legal) in
-            let shelves = shelves-set most in
-            subst (λ (es : List Event). ShelfSet (pool_of es)) (sym more.2)
-            (subst ShelfSet (sym (pool_of-push front event))
-            (shelf-step g front event legal_front (legal front begins.0 event here)
-            (λ caller place shelf is.
-            put-by-lane most caller place shelf front begins.0 shelves fewer (here ∙ ap (λ e. front ++ e ∷ begins.0) is))
-            (shelves front fewer (event ∷ begins.0, here))))
-      ]
+  shelves-set : (most : ℕ) → ShelvesSet history most
+  shelves-set = shelves-by g history legal put-by-lane
 
   pub shelved : (before : List Event) → Begins before history → ShelvesWritten (pool_of before)
-  shelved before begins place block live shelf owner =
-      words-of block.contents (shelves-set (length before) before (omega arith) begins place block shelf live owner)
+  shelved = shelved-by g history legal put-by-lane
 
 -- each word of the blocks in a lane's registers was written, at a moment at which the lane stands there
 pub held-written :
@@ -209,7 +217,7 @@ check-sum setting position r total piece (Some held) full all (none, moment, blo
           (known-words words.0 summed.words (subst (λ (cs : List (Option ℕ)). AllZip IsWord cs summed.words) words.1 summed.each));
     }
 
-check-at :
+pub check-at :
     (setting : Setting) (position : Position) (r total : ℕ) (piece : List Event)
     → ((moment : Moment setting position.done) → HoldsWritten (pool_of moment.before) position.registers)
     → FitsRow setting position (op.Check r) (outcome.Sum total) piece → SumsWritten setting position r total
@@ -253,13 +261,13 @@ check-written g history lost lanes outcomes lane r total earlier later results m
     )
 
 -- a number for a copied word is the word that was written, and 0 past the end
-copied-word : (values : List ℕ) (i n : ℕ) → IsWord (get_or (map (λ word. Some word) values) i (Some 0)) n → n ≡ get_or values i 0
+pub copied-word : (values : List ℕ) (i n : ℕ) → IsWord (get_or (map (λ word. Some word) values) i (Some 0)) n → n ≡ get_or values i 0
 copied-word [] i n is = is
 copied-word (value ∷ values) zero n is = is
 copied-word (value ∷ values) (suc i) n is = copied-word values i n is
 
 -- writes with the same values
-writes-same :
+pub writes-same :
     (caller place count first : ℕ) (value other : ℕ → ℕ) → ((i : ℕ) → i < first + count → value i ≡ other i)
     → writes_of caller place value first count ≡ writes_of caller place other first count
 writes-same caller place zero first value other same = refl

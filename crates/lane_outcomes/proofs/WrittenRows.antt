@@ -50,7 +50,7 @@ other-given P g before caller need at place legal h =
       such = h.such;
     }
 
-other-freed :
+pub other-freed :
     (P : List (Option ℕ) → Type 0) (before : List Event) (caller at place : ℕ) → place ≢ at → OwnsSuch P (pool_of before) caller place
     → OwnsSuch P (pool_of (before ++ Free caller at ∷ [])) caller place
 other-freed P before caller at place differ h =
@@ -85,7 +85,7 @@ fresh-owns before caller need place words is =
     }
 
 -- an event that puts no block on a shelf
-abbrev IsNoPut : Event → Type 0
+abbrev pub IsNoPut : Event → Type 0
 IsNoPut (Alloc caller need place) = Unit {0}
 IsNoPut (Looked caller class) = Unit {0}
 IsNoPut (Refuse caller need) = Unit {0}
@@ -105,16 +105,16 @@ still-no_put caller (Put other place shelf) still = still
 still-no_put caller (Take other shelf place) still = tt
 still-no_put caller (TakeNone other shelf) still = tt
 
-still-no_puts : (caller : ℕ) (events : List Event) → AllByRecursion (IsStill caller) events → AllByRecursion IsNoPut events
+pub still-no_puts : (caller : ℕ) (events : List Event) → AllByRecursion (IsStill caller) events → AllByRecursion IsNoPut events
 still-no_puts caller [] stills = tt
 still-no_puts caller (event ∷ events) stills = (still-no_put caller event stills.0, still-no_puts caller events stills.1)
 
-no_puts-append : (events more : List Event) → AllByRecursion IsNoPut events → AllByRecursion IsNoPut more → AllByRecursion IsNoPut (events ++ more)
+pub no_puts-append : (events more : List Event) → AllByRecursion IsNoPut events → AllByRecursion IsNoPut more → AllByRecursion IsNoPut (events ++ more)
 no_puts-append [] more first rest = rest
 no_puts-append (event ∷ events) more first rest = (first.0, no_puts-append events more first.1 rest)
 
 -- a put that isn't among the first events of a list stands behind them
-past-puts :
+pub past-puts :
     (caller place shelf : ℕ) (piece xs ys zs : List Event) → AllByRecursion IsNoPut piece → xs ++ Put caller place shelf ∷ ys ≡ piece ++ zs
     → (rest : List Event) × (xs ≡ piece ++ rest) × (zs ≡ rest ++ Put caller place shelf ∷ ys)
 past-puts caller place shelf [] xs ys zs none is = (xs, refl, sym is)
@@ -130,12 +130,12 @@ past-puts caller place shelf (event ∷ piece) (x ∷ xs) ys zs none is =
     (later.0, ap (λ es. x ∷ es) later.1 ∙ ap (λ e. e ∷ (piece ++ later.0)) same, later.2)
 
 -- the events of an operation that lays a register's block on a shelf
-abbrev IsPutOf : ℕ → List (Option Held) → List Event → Type 0
+abbrev pub IsPutOf : ℕ → List (Option Held) → List Event → Type 0
 IsPutOf caller registers piece =
     (r : ℕ) × (held : Held) × (shelf : ℕ) × (held_in registers r ≡ Some held) × (piece ≡ Put caller held.place shelf ∷ [])
 
 module _ (setting : Setting) (position : Position) (piece : List Event) where
-  made-puts :
+  pub made-puts :
       (need words place : ℕ) (value : ℕ → ℕ) (calls : List Event) → IsGiven setting.caller need place calls
       → AllByRecursion IsNoPut (made_for setting place words value calls)
   made-puts need words place value calls given =
@@ -193,7 +193,7 @@ module _ (setting : Setting) (position : Position) (piece : List Event) where
   resize-puts need (Some held) outcome.Spent row = still-no_puts setting.caller piece (stills-spent setting position need piece position.spent row.1)
   resize-puts need held result row = absurd row
 
-  row-puts :
+  pub row-puts :
       (operation : Op) (result : Outcome) → FitsRow setting position operation result piece
       → AllByRecursion IsNoPut piece ⊎ IsPutOf setting.caller position.registers piece
   row-puts (op.Alloc r need v) result row = inl (alloc-puts need v (held_in position.registers r) result row)
@@ -232,7 +232,7 @@ module _ (g : Geometry) (setting : Setting) (legal : IsLegalWithoutCounts g sett
   HoldsAt position = Now position.done (λ pool. HoldsOwn pool setting.caller position.registers)
 
   -- a piece of events that gives no block, frees none and hands none over leaves all words of held blocks written
-  quiet :
+  pub quiet :
       (done piece : List Event) (registers : List (Option Held)) → AllByRecursion (IsStill setting.caller) piece → HeldSet done registers
       → HeldSet (done ++ piece) registers
   quiet done piece registers stills all r held full =
@@ -263,7 +263,7 @@ module _ (g : Geometry) (setting : Setting) (legal : IsLegalWithoutCounts g sett
         | inr there ↦ others q held there.0 (sym there.1 ∙ is)
       ]
 
-  given-set :
+  pub given-set :
       (position : Position) (r need words place : ℕ) (value : ℕ → ℕ) (calls piece : List Event) → words ≡ usable_words (need_of need)
       → (is : IsGiven setting.caller need place calls) → piece ≡ calls ++ writing setting.caller place words value
       → HeldSet position.done position.registers
@@ -424,7 +424,7 @@ module _ (g : Geometry) (setting : Setting) (legal : IsLegalWithoutCounts g sett
       quiet position.done piece position.registers (stills-spent setting position need piece position.spent row.1) all
   resize-set position r need held result piece given freed full row at all = absurd row
 
-  row-set :
+  pub row-set :
       (position : Position) (operation : Op) (result : Outcome) (piece : List Event) (given freed : ℕ)
       → FitsRow setting position operation result piece → Before as_one setting position given freed → HeldSet position.done position.registers
       → HeldSet (position.done ++ piece) (registers_after position.registers operation result)
@@ -456,7 +456,7 @@ module _ (g : Geometry) (setting : Setting) (legal : IsLegalWithoutCounts g sett
       (row-set from operation result piece given freed row at all)
 
   -- a put of a register's block is the one that is looked for, or stands before it
-  put-here :
+  pub put-here :
       (from : Position) (piece before : List Event) (place shelf : ℕ) (xs ys zs : List Event) → IsPutOf setting.caller from.registers piece
       → HeldSet from.done from.registers → length before ≤ most → Begins before setting.history → own setting.caller before ≡ from.done ++ xs
       → xs ++ Put setting.caller place shelf ∷ ys ≡ piece ++ zs

@@ -1,8 +1,11 @@
+pub mod Cached
 pub mod Fits
 pub mod Lane
 pub mod LaneCounts
+pub mod Magazines
 pub mod Passed
 pub mod Report
 pub mod Rows
 pub mod Standing
 pub mod Written
+pub mod WrittenThrough

@@ -1,7 +1,8 @@
-//! The lanes of a trace over a heap: their outcomes, what it means that outcomes fit a history, and the
-//! text of the report.
+//! The lanes of a trace over a heap: their outcomes, what it means that outcomes fit a history, also
+//! through caches, and the text of the report.
 #![tactic(auto)]
 
+pub mod cached_laws;
 pub mod laws;
 pub mod live;
 pub mod outcome;

@@ -16,7 +16,6 @@ use Rattle.sound_state.specs.Sums.{callers_sum}
 use Rattle.sound_state.proofs.shared.SumLemmas.{term-sum}
 use Rattle.step_machine.specs.Cores.{CoreFields, errand_at}
 use Rattle.step_machine.proofs.CoreLemmas.{core-sound}
-use Rattle.step_machine.specs.Moments.{HasSeenMore}
 use Rattle.trace_text.specs.declared.trace.Op.{Op}
 use Rattle.trace_text.specs.declared.trace.OrderRun.{OrderRun}
 use Rattle.trace_text.specs.declared.trace.Trace.{Trace}
@@ -28,6 +27,7 @@ use Rattle.lane_outcomes.specs.Fits.{Fits, OutcomesFit, Walks}
 use Rattle.lane_outcomes.specs.Lane.{Position, position_after, spent_after, start}
 use Rattle.lane_outcomes.specs.Rows.{Setting}
 use Rattle.lane_outcomes.specs.Standing.{setting_in}
+use Rattle.lane_outcomes.proofs.FitLemmas.{fits-later}
 use Rattle.live_heap.specs.Heaps.{HeapFields}
 use Rattle.live_heap.specs.declared.pass.Pass.{Pass}
 use Rattle.live_heap.specs.Endings.{ClosedFields, HasClosed, HasTakenIn, IsResting, machine_of}
@@ -37,24 +37,14 @@ use Rattle.trace_lane.specs.declared.stage.OperationStage.TheVariants as stage
 use Rattle.trace_lane.specs.Lanes.{IsLane}
 use Rattle.lane_runner.specs.Driven.{IsDriven}
 use Rattle.lane_runner.specs.Running.{operations_in}
-use Rattle.lane_runner.specs.Threads.{HasEndedOver, HaveRun}
-use Rattle.trace_lane.proofs.BesideLemmas.{lane-beside}
+use Rattle.lane_runner.specs.Passes.{HasEndedOver, HaveRun}
 use Rattle.lane_runner.proofs.DrivenLemmas.{fits-all}
-use Rattle.trace_lane.proofs.EndedLemmas.{lane-fits}
 use Rattle.lane_runner.proofs.RunLanes.{element_at}
 
 -- nothing follows a list that is the same with what follows it
 nothing-more : (xs ys : List Event) → xs ++ ys ≡ xs → ys ≡ []
 nothing-more xs [] same = refl
 nothing-more xs (y ∷ ys) same = absurd (omega (arith, length-append xs (y ∷ ys), ap length same))
-
-pub seen-all : (caller : ℕ) (before after : List Event) (more : List Event) → after ≡ before ++ more → own caller after ≡ own caller before
-    → HasSeenMore caller before after
-seen-all caller before after more is same = record {
-  more = more;
-  seen = is;
-  not_own = nothing-more (own caller before) (own caller more) (sym (own-append caller before more) ∙ ap (own caller) (sym is) ∙ same);
-}
 
 -- each event of a legal history has a caller of the heap; and where those from a number on have none, it has one below
 pub events-below :
@@ -145,24 +135,22 @@ module _ (trace : Trace) (h : HeapFields) (passes : List Pass) (outcomes : List 
       → Fits (setting_in c.events (0 + lane) trace.heap.turn_limit lost_by) (get_or trace.lanes lane []) (get_or outcomes lane [])
   unfolding lost_by callers_sum
   fits-at lane lt =
-      let it = ended lane lt in
-      let p = it.0 in
-      let e = it.1 in
-      let t = it.2 in
-      let own_same : own lane c.events ≡ own lane (seen p) = subst (λ k. own k c.events ≡ own k (seen p)) e.caller t.events in
-      let more = seen-all lane (seen p) c.events t.seen_before.0 t.seen_before.1 own_same in
-      let now =
-      lane-beside h.layout lane (seen p) c.events p.errand (operations_in trace lane) e.registers (get_or outcomes lane []) stage.Between e.rule more
-      (subst (λ g. IsLegal g c.events) closed.heap legal) in
+      let (p, e, t, errand) = ended lane lt in
+      let operations = operations_in trace lane in
+      let results = get_or outcomes lane [] in
+      let rest : List Event = t.seen_before.0 in
+      let same : own lane c.events ≡ own lane (seen p) = subst (λ k. own k c.events ≡ own k (seen p)) e.caller t.events in
+      let none : own lane rest ≡ [] =
+      nothing-more (own lane (seen p)) (own lane rest) (sym (own-append lane (seen p) rest) ∙ ap (own lane) (sym t.seen_before.1) ∙ same) in
       let has : lane < trace.heap.callers = omega (arith, lt, at-least-one (length trace.lanes) trace.heap.callers is.callers) in
       let most : (errand_at c.errands lane).lost ≤ lost_by =
-      term-sum c.geometry.callers (λ k. lost_of (errand_at c.errands k)) lane
-      (subst (λ (g : Geometry). lane < g.callers) (sym layout) has) in
-      let fit =
-      lane-fits h.layout lane c.events p.errand (operations_in trace lane) e.registers (get_or outcomes lane []) stage.Between lost_by now refl e.all
-      (subst (λ (e : ErrandFields). e.lost ≤ lost_by) it.3 most) in
-      subst (λ k. Fits (setting_in c.events k trace.heap.turn_limit lost_by) (operations_in trace lane) (get_or outcomes lane [])) (sym (zero-add lane))
-      (subst (λ (g : Geometry). Fits (setting_in c.events lane g.turn_limit lost_by) (operations_in trace lane) (get_or outcomes lane [])) laid fit)
+      term-sum c.geometry.callers (λ k. lost_of (errand_at c.errands k)) lane (subst (λ (g : Geometry). lane < g.callers) (sym layout) has) in
+      let later = fits-later (setting_in (seen p) lane h.layout.turn_limit p.errand.lost) rest lost_by operations results
+      (subst (λ (f : ErrandFields). f.lost ≤ lost_by) errand most) none e.fit in
+      let here : Fits (setting_in c.events lane h.layout.turn_limit lost_by) operations results =
+      subst (λ history. Fits (setting_in history lane h.layout.turn_limit lost_by) operations results) (sym t.seen_before.1) later in
+      subst (λ k. Fits (setting_in c.events k trace.heap.turn_limit lost_by) operations results) (sym (zero-add lane))
+      (subst (λ (g : Geometry). Fits (setting_in c.events lane g.turn_limit lost_by) operations results) laid here)
 
   -- a lane that was told to have no turn left has taken them all
   pub all-taken :
@@ -170,10 +158,7 @@ module _ (trace : Trace) (h : HeapFields) (passes : List Pass) (outcomes : List 
       → (errand_at c.errands lane).turns ≡ trace.heap.turn_limit
   all-taken lane lt told =
       let it = ended lane lt in
-      let e = it.1 in
-      ap (λ (f : ErrandFields). f.turns) it.3
-      ∙ rule-taken h.layout lane (seen it.0) it.0.errand (operations_in trace lane) e.registers (get_or outcomes lane []) stage.Between e.rule told
-      ∙ ap (λ (g : Geometry). g.turn_limit) laid
+      ap (λ (f : ErrandFields). f.turns) it.3 ∙ it.1.spent told ∙ ap (λ (g : Geometry). g.turn_limit) laid
 
   none-from : (k : ℕ) → length trace.lanes ≤ k → k < c.geometry.callers → own k c.events ≡ []
   none-from k least has =

@@ -1,16 +1,25 @@
+pub mod AddedLemmas
+pub mod CacheRuns
+pub mod CallAnswers
+pub mod CallLemmas
 pub mod ClosedFits
+pub mod ClosedLemmas
 pub mod DrivenLemmas
-pub mod HomeLemmas
+pub mod GivenLemmas
+pub mod HoldsLemmas
+pub mod Numbered
 pub mod OrderLemmas
+pub mod OutcomeRows
+pub mod PairLemmas
+pub mod Places
+mod PlainRuns
+pub mod RowLemmas
 pub mod RunLanes
 pub mod RunLemmas
 pub mod RunMeasures
-pub mod PairLemmas
-pub mod ThreadLemmas
-pub mod WholeSteps
-pub mod WholeOps
-pub mod WholeWalks
-pub mod WholeResize
-pub mod WholeLaws
-mod WholeScripts
 pub mod StopLemmas
+pub mod ThreadLemmas
+pub mod TurnCounts
+pub mod WalkLemmas
+pub mod WholeCalls
+mod WholeScripts

@@ -1,4 +1,5 @@
-//! Whole runs of a trace: its lanes on threads over a heap, or on a machine in the order that the trace gives.
+//! Whole runs of a trace: its lanes on threads over a heap, each through a cache of its own, or on a machine in
+//! the order that the trace gives.
 #![tactic(auto)]
 
 mod lanes;

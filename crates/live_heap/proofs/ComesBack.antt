@@ -1,9 +1,9 @@
--- The usable words of a block come back with their pass: calls on words are made in the machine's run, one after the other, and then they are home. Other blocks of the pass may be out still: then the caller's mark stays as it is.
+-- The usable words of a block come back with their pass: calls on words are made in the machine's run, one after the other, and then they are home. The caller's mark stays as it is.
 use Rattle.std.proofs.Common.{ℕ, zero, suc, ◌≡◌, ◌≢◌, ◌<◌, ◌≤◌, ◌+◌, ◌-◌, ◌^◌, ◌⊎◌, None, Some, List, [], ◌∷◌, ◌++◌, length, refl, arith, sym, ap, subst, inl, inr, ◌∙◌, ⊎_elim, get_or-set_same, get_or-set_other, length-set}
 use Rattle.std.specs.Prelude.{slice_index, slice_set}
 use Rattle.std.proofs.lemmas.Bool.{cases_eq, cases_lt}
 use Rattle.std.proofs.lemmas.List.{length-map, set-get_or, set-set}
-use mathlib.Core.Option.{some, some-injective, some-ne-none}
+use mathlib.Core.Option.{some, some-injective}
 use lib.ListN.{get_elem?}
 use Rattle.atomic_table.proofs.Lists.{at_set, set_again, set_else, set_here}
 use Rattle.heap_geometry.specs.declared.geometry.Geometry.{Geometry}
@@ -27,8 +27,8 @@ use Rattle.live_heap.specs.declared.view.Lent.{Lent}
 use Rattle.live_heap.specs.declared.view.Standing.{Standing}
 use Rattle.live_heap.specs.declared.view.View.{View}
 use Rattle.live_heap.specs.Lending.{AreAmong, AreElsewhere, ComesBy, Finds, HasReturned, LeadTo, LeadsTo, MakesOn, MayReturn, lent_block, with_lent}
-use Rattle.live_heap.specs.Pieces.{AreLaidOut, AreLent, IsLent, IsOut, PiecesHold, Status, caller_mark, mark_of, mark_place}
-use Rattle.live_heap.specs.Pieces.Status.{blank, out}
+use Rattle.live_heap.specs.Pieces.{AreLaidOut, AreLent, IsLent, IsOut, PiecesHold, caller_mark, mark_of, mark_place}
+use Rattle.live_heap.specs.Pieces.Status.{out}
 use Rattle.live_heap.specs.Rule.{KeptTable}
 use Rattle.live_heap.specs.Sights.{TakesStep}
 use Rattle.live_heap.specs.Shelves.{AllowedWords}
@@ -65,6 +65,21 @@ module _ {rule : AllowedWords} (g : Geometry) (places : List Place) (id : ℕ) (
   wrote-one views v old i x s inside small =
       let one = word-made g places views id v e place need old front back i (Some x) checked idle inside small others s shown among in
       (one.0, slice_index old i, tt, one.2, one.1)
+
+  -- a read of it
+  read-own :
+      (views : List View) (v : View) (old : List ℕ) (i : ℕ) → HasAway rule g places views id v e place need old front back → i < usable_words need
+      → HasMadeOne rule g places views id v e place need old front back shown (read place need i) (reply.Word (slice_index old i))
+  unfolding HasMadeOne
+  read-own views v old i s inside =
+      let one = word-made g places views id v e place need old front back i None checked idle inside tt others s shown among in
+      let still : slice_set old i (slice_index old i) ≡ old = set-get_or old i 0 in (
+        one.0,
+        slice_index old i,
+        refl,
+        one.2,
+        subst (λ (l : List ℕ). HasAway rule g places (slice_set views id one.0) id one.0 e place need l front back) still one.1,
+      )
 
   -- a read of the one next to it
   module _ (views : List View) (v : View) (old : List ℕ) (b : Lent) (rest : List Lent) (first : front ≡ []) (second : back ≡ b ∷ rest)
@@ -138,7 +153,13 @@ module _ {rule : AllowedWords} (g : Geometry) (places : List Place) (id : ℕ) (
       (subst (λ k. HasMadeOne rule g places views id v e place need (slice_set old i x) front back shown (write k n i x) reply.Wrote) (sym here)
       (subst (λ m. HasMadeOne rule g places views id v e place need (slice_set old i x) front back shown (write place m i x) reply.Wrote) (sym serves)
       (wrote-one views v old i x s inside small)))
-  one-made views v old new (read at n i) (reply.Word word) (b, (first, rest, second, once), apart, hidden, here, serves, inside, is, same) s =
+  one-made views v old new (read at n i) (reply.Word word) (inl (here, serves, inside, is), same) s =
+      subst (λ (l : List ℕ). HasMadeOne rule g places views id v e place need l front back shown (read at n i) (reply.Word word)) (sym same)
+      (subst (λ w. HasMadeOne rule g places views id v e place need old front back shown (read at n i) (reply.Word w)) is
+      (subst (λ k. HasMadeOne rule g places views id v e place need old front back shown (read k n i) (reply.Word (slice_index old i))) (sym here)
+      (subst (λ m. HasMadeOne rule g places views id v e place need old front back shown (read place m i) (reply.Word (slice_index old i))) (sym serves)
+      (read-own views v old i s inside))))
+  one-made views v old new (read at n i) (reply.Word word) (inr (b, (first, rest, second, once), apart, hidden, here, serves, inside, is), same) s =
       subst (λ (l : List ℕ). HasMadeOne rule g places views id v e place need l front back shown (read at n i) (reply.Word word)) (sym same)
       (subst (λ w. HasMadeOne rule g places views id v e place need old front back shown (read at n i) (reply.Word w)) is
       (subst (λ k. HasMadeOne rule g places views id v e place need old front back shown (read k n i) (reply.Word (slice_index b.numbers i))) (sym here)
@@ -169,9 +190,9 @@ at-laids [] j below = absurd (omega (arith, below))
 at-laids (n ∷ ns) zero below = refl
 at-laids (n ∷ ns) (suc j) below = at-laids ns j (omega (arith, below))
 
--- the last act: the words are home, and the caller's mark becomes st; where it says that nothing is out, no other block is
+-- the last act: the words are home, and the caller's mark is as it was
 module _ {rule : AllowedWords} (g : Geometry) (places : List Place) (views : List View) (id : ℕ) (v : View) (e : ErrandFields) (place : ℕ) (need : Need) (numbers : List ℕ)
-    (front back : List Lent) (st : Status) (fits : (st ≡ out) ⊎ (front ++ back ≡ [])) (s : HasAway rule g places views id v e place need numbers front back) where
+    (front back : List Lent) (s : HasAway rule g places views id v e place need numbers front back) where
   abbrev k : KeptTable rule g (words_at g s.words) views
   k = s.held.1
 
@@ -217,25 +238,25 @@ module _ {rule : AllowedWords} (g : Geometry) (places : List Place) (views : Lis
   views_now = slice_set views id w
 
   abbrev marks : List Place
-  marks = slice_set places p (laid (mark_of st))
+  marks = slice_set places p (laid 1)
 
   abbrev places_now : List Place
   places_now = put marks (place + 1) (laids numbers)
 
   abbrev whole_now : List Place
-  whole_now = slice_set s.whole p (laid (mark_of st))
+  whole_now = slice_set s.whole p (laid 1)
 
   held_now : KeptTable rule g (words_at g s.words) views_now
   held_now = kept-lent g (words_at g s.words) views id v (front ++ back) s.at k
 
   laid_now : AreLaidOut g s.words whole_now views_now
-  laid_now = laid-marked g s.words s.whole views_now e.caller st has (laid-lent g s.words views id v (front ++ back) s.whole s.at s.laid_out)
+  laid_now = laid-marked g s.words s.whole views_now e.caller out has (laid-lent g s.words views id v (front ++ back) s.whole s.at s.laid_out)
 
   size : length (laids numbers) ≡ usable_words need
   size = length-map numbers laid ∙ block.long
 
   within : place + 1 + length (laids numbers) ≤ length marks
-  within = omega (arith, size, block.within, arena_within, length-set places p (laid (mark_of st)), long, s.laid_out.long)
+  within = omega (arith, size, block.within, arena_within, length-set places p (laid 1), long, s.laid_out.long)
 
   -- outside the block the words out are those that were
   still_free : (j : ℕ) → (j < place + 1) ⊎ (place + 1 + usable_words need ≤ j) → ¬ IsLent views_now j → ¬ IsLent views j
@@ -259,22 +280,22 @@ module _ {rule : AllowedWords} (g : Geometry) (places : List Place) (views : Lis
       ]
 
   whole_else : (j : ℕ) → j ≢ p → place_at whole_now j ≡ place_at s.whole j
-  whole_else j other = get_or-set_other s.whole p j (laid (mark_of st)) None other
+  whole_else j other = get_or-set_other s.whole p j (laid 1) None other
 
   -- what is outside the block is as it was, but for the mark
   outside :
       (j : ℕ) → j < length places → (j < place + 1) ⊎ (place + 1 + usable_words need ≤ j) → ¬ IsLent views_now j → place_at marks j ≡ place_at whole_now j
   outside j has_j aside free = elim (cases_eq j p) [
     | inl same ↦
-        ap (place_at marks) same ∙ get_or-set_same places p (laid (mark_of st)) None mark_within
-        ∙ sym (ap (place_at whole_now) same ∙ get_or-set_same s.whole p (laid (mark_of st)) None (omega (arith, mark_within, long)))
+        ap (place_at marks) same ∙ get_or-set_same places p (laid 1) None mark_within
+        ∙ sym (ap (place_at whole_now) same ∙ get_or-set_same s.whole p (laid 1) None (omega (arith, mark_within, long)))
     | inr other ↦
-        get_or-set_other places p j (laid (mark_of st)) None other ∙ s.lent.home j has_j (still_free j aside free) ∙ sym (whole_else j other)
+        get_or-set_other places p j (laid 1) None other ∙ s.lent.home j has_j (still_free j aside free) ∙ sym (whole_else j other)
   ]
 
   home_now : (j : ℕ) → j < length places_now → ¬ IsLent views_now j → place_at places_now j ≡ place_at whole_now j
   home_now j has_j free =
-      let short : j < length places = omega (arith, has_j, length-put marks (place + 1) (laids numbers) within, length-set places p (laid (mark_of st))) in
+      let short : j < length places = omega (arith, has_j, length-put marks (place + 1) (laids numbers) within, length-set places p (laid 1)) in
       elim (cases_lt j (place + 1)) [
         | inl early ↦ at-put_before marks (laids numbers) (place + 1) j within early ∙ outside j short (inl early) free
         | inr from ↦ elim (cases_lt j (place + 1 + usable_words need)) [
@@ -291,12 +312,9 @@ module _ {rule : AllowedWords} (g : Geometry) (places : List Place) (views : Lis
         ]
       ]
 
-  -- the caller's mark says so still where another block is out
-  mark_still : (n : ℕ) (b : Lent) → get_elem? (front ++ back) n ≡ some b → place_at whole_now p ≡ laid (mark_of out)
-  mark_still n b found =
-      get_or-set_same s.whole p (laid (mark_of st)) None (omega (arith, mark_within, long))
-      ∙ ⊎_elim (λ (t : st ≡ out). ap (λ x. laid (mark_of x)) t)
-      (λ none. absurd (some-ne-none b (sym (subst (λ (l : List Lent). get_elem? l n ≡ some b) none found)))) fits
+  -- the caller's mark says so still
+  mark_still : place_at whole_now p ≡ laid (mark_of out)
+  mark_still = get_or-set_same s.whole p (laid 1) None (omega (arith, mark_within, long))
 
   words_still :
       (y : View) (b : Lent) → IsOut g k.events s.whole y b → (j : ℕ) → j < usable_words b.need
@@ -311,7 +329,7 @@ module _ {rule : AllowedWords} (g : Geometry) (places : List Place) (views : Lis
       let hers : o.owner.errand.caller ≡ e.caller =
       ap (λ (y : Standing). y.errand.caller) (sole v.callers s.before o.owner o.number s.one o.stands) ∙ ap (λ (f : ErrandFields). f.caller) s.stands in
       out-on g k.events k.events s.whole whole_now v w b o o.stands o.owned
-      (ap (λ c. place_at whole_now (mark_place g (caller_mark g c))) hers ∙ mark_still n b found ∙ sym o.marked) (words_still v b o)
+      (ap (λ c. place_at whole_now (mark_place g (caller_mark g c))) hers ∙ mark_still ∙ sym o.marked) (words_still v b o)
 
   others_out :
       (m n : ℕ) (y : View) (b : Lent) → m ≢ id → get_elem? views m ≡ some y → get_elem? y.lent n ≡ some b → IsOut g k.events whole_now y b
@@ -327,8 +345,8 @@ module _ {rule : AllowedWords} (g : Geometry) (places : List Place) (views : Lis
   lent_now : AreLent g k.events whole_now places_now views_now
   lent_now = record {
     long =
-        length-put marks (place + 1) (laids numbers) within ∙ length-set places p (laid (mark_of st)) ∙ long
-        ∙ sym (length-set s.whole p (laid (mark_of st)));
+        length-put marks (place + 1) (laids numbers) within ∙ length-set places p (laid 1) ∙ long
+        ∙ sym (length-set s.whole p (laid 1));
     home = home_now;
     blocks = λ m n y b at_y at_b. ⊎_elim
         (λ (t : (m ≡ id) × (w ≡ y)).
@@ -343,7 +361,7 @@ module _ {rule : AllowedWords} (g : Geometry) (places : List Place) (views : Lis
   unfolding held_now kept-lent
   home-again = (s.words, (s.held.0, held_now), whole_now, laid_now, lent_now)
 
--- the words of a block that are out with a pass come back by a step that leaves st as the caller's mark, and the calls are made
+-- the words of a block that are out with a pass come back by a load of the caller's mark, and the calls are made
 module _ {rule : AllowedWords} (g : Geometry) (id : ℕ) (me : region.Me View) (e : ErrandFields) (own : Lent) (made : List Made) (shown : List Lent) (checked : IsChecked g)
     (may : MayReturn me e own made shown) (s : region.State View) (good : PiecesHold rule g s) (at : get_elem? s.views id ≡ some me.0) where
   abbrev c : ComesBy me.0.lent own made shown
@@ -368,18 +386,16 @@ module _ {rule : AllowedWords} (g : Geometry) (id : ℕ) (me : region.Me View) (
   mark = mark_place g (caller_mark g e.caller)
 
   mark_is : place_at s.places mark ≡ laid 1
-  mark_is = marked g s.places s.views id me.0 e own.place own.need c.old c.front c.back out (inl refl) away
+  mark_is = marked g s.places s.views id me.0 e own.place own.need c.old c.front c.back away
 
-  goes-back :
-      (st : Status) → (st ≡ out) ⊎ (c.front ++ c.back ≡ [])
-      → Goes (PiecesHold rule g) s (with_number s.places mark (mark_of st)) id me (λ after. HasReturned e own made shown me.0 after)
+  goes-back : Goes (PiecesHold rule g) s (with_number s.places mark 1) id me (λ after. HasReturned e own made shown me.0 after)
   unfolding HasMade
-  goes-back st fits =
-      let out_block = block g s.places s.views id me.0 e own.place own.need c.old c.front c.back st fits away in
+  goes-back =
+      let out_block = block g s.places s.views id me.0 e own.place own.need c.old c.front c.back away in
       let t =
       makes-on g s.places id e own.place own.need c.front c.back shown checked may.idle may.others c.among s.views me.0 c.old own.numbers made
       (c.leads out_block.long) away in
-      let ps : List Place = with_number s.places mark (mark_of st) in
+      let ps : List Place = with_number s.places mark 1 in
       let w : View = with_lent t.0 (c.front ++ c.back) in
       let H : List Range → Type 0 = λ r. PiecesHold rule g record { places = given_back ps r; views = slice_set s.views id w } in (
         w,
@@ -388,27 +404,18 @@ module _ {rule : AllowedWords} (g : Geometry) (id : ℕ) (me : region.Me View) (
         subst H (sym may.ranges)
             (subst (λ (vs : List View). PiecesHold rule g record { places = put ps (own.place + 1) (laids own.numbers); views = vs })
             (set-set s.views id t.0 w)
-            (home-again g s.places (slice_set s.views id t.0) id t.0 e own.place own.need own.numbers c.front c.back st fits t.2)),
+            (home-again g s.places (slice_set s.views id t.0) id t.0 e own.place own.need own.numbers c.front c.back t.2)),
         (c.front, c.old, c.back, c.is, t.0, t.1, ap (λ (r : List Range). let x : region.Me View = (w, r) in x) (ap rest may.ranges)),
       )
 
--- where no other block is out with the pass, the words may come back with a store that clears the caller's mark
-pub may-return_last :
+-- a seat that carries the words of a block that is out with its pass may give them back by such a load
+pub may-return :
     {rule : AllowedWords} (g : Geometry) (size id : ℕ) (me : region.Me View) (e : ErrandFields) (block : Lent) (made : List Made) (shown : List Lent)
-    → IsChecked g → (m : MayReturn me e block made shown) → m.comes.front ++ m.comes.back ≡ []
-    → region.Allows (PiecesHold rule g) size id me (mark_place g (caller_mark g e.caller)) (λ _. 0) (λ _ after. HasReturned e block made shown me.0 after)
-may-return_last {rule} g _ id me e block made shown checked may none s good _ at =
-    let is = mark_is g id me e block made shown checked may s good at in
-    (is ∙ ap laid (sym (ap number is)), λ small. goes-back g id me e block made shown checked may s good at blank (inr none))
-
--- where others are, with a load of it: the mark stays
-pub may-return_one :
-    {rule : AllowedWords} (g : Geometry) (size id : ℕ) (me : region.Me View) (e : ErrandFields) (block : Lent) (made : List Made) (shown : List Lent)
-    → IsChecked g → (m : MayReturn me e block made shown) → 0 < length (m.comes.front ++ m.comes.back)
+    → IsChecked g → MayReturn me e block made shown
     → region.Allows (PiecesHold rule g) size id me (mark_place g (caller_mark g e.caller)) (λ n. n) (λ _ after. HasReturned e block made shown me.0 after)
-may-return_one {rule} g _ id me e block made shown checked may _ s good _ at =
+may-return {rule} g _ id me e block made shown checked may s good _ at =
     let is = mark_is g id me e block made shown checked may s good at in
     let stays : 1 ≡ number_at s.places (mark_place g (caller_mark g e.caller)) = sym (ap number is) in
     let F : ℕ → Type 0 = λ x.
     Goes (PiecesHold rule g) s (with_number s.places (mark_place g (caller_mark g e.caller)) x) id me (λ after. HasReturned e block made shown me.0 after) in
-    (is ∙ ap laid stays, λ small. subst F stays (goes-back g id me e block made shown checked may s good at out (inl refl)))
+    (is ∙ ap laid stays, λ small. subst F stays (goes-back g id me e block made shown checked may s good at))

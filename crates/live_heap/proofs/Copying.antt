@@ -1,10 +1,10 @@
 -- The words of a block are copied into another one, as plain memory: the calls that are made when that comes home.
-use Rattle.std.proofs.Common.{ℕ, zero, suc, ◌≡◌, ◌≢◌, ◌<◌, ◌≤◌, ◌+◌, ◌-◌, ◌^◌, List, [], ◌∷◌, ◌++◌, length, refl, sym, ap, ◌∙◌, subst, arith, inl, inr, append_assoc}
-use Rattle.std.specs.Prelude.{map, min, slice_index_or, slice_set, take}
+use Rattle.std.proofs.Common.{ℕ, zero, suc, ◌≡◌, ◌≢◌, ◌<◌, ◌≤◌, ◌+◌, ◌^◌, List, [], ◌∷◌, ◌++◌, length, refl, sym, ap, ◌∙◌, subst, arith, inl, inr, append_assoc}
+use Rattle.std.specs.Prelude.{map, min, slice_index, slice_index_or, slice_set, take}
 use Rattle.std.specs.List.{flat_map, range_with_len}
 use Rattle.std.proofs.lemmas.Bool.{cases_lt}
 use Rattle.std.proofs.lemmas.List.FromFn.{length-map-range_with_len}
-use Rattle.std.proofs.lemmas.List.{get_or-take, length-append, length-take-le, set_at}
+use Rattle.std.proofs.lemmas.List.{get_or-take, length-append, length-take-le, set-get_or, set_at}
 use Rattle.heap_geometry.specs.declared.need.Need.{Need}
 use Rattle.heap_geometry.specs.Need.{usable_words}
 use Rattle.errand_steps.specs.declared.reply.Reply.TheVariants as reply
@@ -75,7 +75,7 @@ module _ (from : Lent) (to : ℕ) (need : Need) (others shown : List Lent) (long
             (answered (read from.place from.need i) (reply.Word x) ∷ answered (write to need i x) reply.Wrote ∷ more) new in
             let both : W (value i) = (
               done ++ o ∷ behind,
-              (from, (refl, others, refl, once), apart, hidden, refl, refl, omega (arith, many, read_too), refl, refl),
+              (inr (from, (refl, others, refl, once), apart, hidden, refl, refl, omega (arith, many, read_too), refl), refl),
               ((done ++ value i ∷ []) ++ behind, (refl, refl, inside, small i inside, next), leads),
             ) in
             subst (λ (ms : List Made). LeadTo to need [] (from ∷ others) shown (done ++ o ∷ behind) (ms ++ more) new)
@@ -133,3 +133,23 @@ module _ (from : Lent) (to : ℕ) (need : Need) (others shown : List Lent) (long
 
     pub own-copies : AreOnOwn p (copied from.place from.need to need words (usable_words need))
     own-copies = own-from 0 (usable_words need) (omega arith)
+
+-- a block is copied into itself: its words stay
+module _ (place : ℕ) (need : Need) (others shown : List Lent) (ns : List ℕ) (long : length ns ≡ usable_words need)
+    (small : (i : ℕ) → i < usable_words need → slice_index ns i < 2 ^ 64) where
+  itself-from :
+      (i n : ℕ) → i + n ≤ usable_words need
+      → LeadTo place need [] others shown ns (flat_map (copied_word place need place need ns) (range_with_len i n)) ns
+  itself-from i zero within = refl
+  itself-from i (suc n) within =
+      let inside : i < usable_words need = omega (arith, within) in
+      let more = itself-from (i + 1) n (omega (arith, within)) in
+      let rest : List Made = flat_map (copied_word place need place need ns) (range_with_len (i + 1) n) in
+      let both :
+      LeadTo place need [] others shown ns
+      (answered (read place need i) (reply.Word (slice_index ns i)) ∷ answered (write place need i (slice_index ns i)) reply.Wrote ∷ rest) ns =
+      (ns, (inl (refl, refl, inside, refl), refl), (ns, (refl, refl, inside, small i inside, sym (set-get_or ns i 0)), more)) in
+      subst (λ (ms : List Made). LeadTo place need [] others shown ns (ms ++ rest) ns) (sym (copied-read place need place need ns i (omega (arith, inside, long)))) both
+
+  pub copies-itself : LeadTo place need [] others shown ns (copied place need place need ns (usable_words need)) ns
+  copies-itself = itself-from 0 (usable_words need) (omega arith)

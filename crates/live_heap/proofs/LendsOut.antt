@@ -2,11 +2,11 @@
 use Rattle.std.proofs.Common.{ℕ, zero, suc, ◌≡◌, ◌≢◌, ◌<◌, ◌≤◌, ◌+◌, ◌%◌, ◌^◌, List, [], ◌∷◌, ◌++◌, length, take, drop, refl, arith, sym, ap, subst, inl, inr, ◌∙◌, ⊎_elim, get_or-set_same, get_or-set_other, length-set, length-take, length-drop, get_or-drop, get_or-take}
 use Rattle.std.specs.Prelude.{slice_index, slice_index_or, slice_set, Option, None, Some}
 use Rattle.std.proofs.lemmas.Bool.{cases_eq, cases_lt}
-use Rattle.std.proofs.lemmas.List.{length-map, length-replicate}
+use Rattle.std.proofs.lemmas.List.{length-map, length-replicate, set-get_or}
 use mathlib.Core.Option.{some, some-injective, some-ne-none}
 use lib.ListN.{get_elem?}
 use lib.Seq.{ext_get_or}
-use Rattle.atomic_table.proofs.Lists.{at_set, set_else, set_here}
+use Rattle.atomic_table.proofs.Lists.{at_set, set_again, set_else, set_here}
 use Rattle.heap_geometry.specs.declared.geometry.Geometry.{Geometry}
 use Rattle.heap_geometry.specs.declared.need.Need.{Need}
 use Rattle.heap_geometry.specs.Geometry.{IsChecked}
@@ -21,10 +21,10 @@ use Rattle.placed_words.specs.Places.{placed_count, words_at}
 use Rattle.placed_words.proofs.KindLemmas.{start-place}
 use Rattle.placed_words.proofs.WordsLemmas.{at-words_at}
 use Rattle.plain_words.proofs.Rows.{length-put}
-use Rattle.plain_words.specs.Places.{Place, laid, laids, outs, number, number_at, place_at, put, run}
+use Rattle.plain_words.specs.Places.{IsLaid, Place, laid, laids, outs, number, number_at, place_at, put, run}
 use Rattle.atomic_region.specs.Region as region
 use Rattle.atomic_region.specs.Region.{State as RegionState, with_number}
-use Rattle.atomic_region.specs.Region.Act.{takes}
+use Rattle.atomic_region.specs.Region.Act.{keeps, takes}
 use Rattle.pool_model.specs.declared.owner.Owner.{Owner}
 use Rattle.pool_model.specs.declared.owner.Owner.TheVariants.{Caller}
 use Rattle.pool_model.specs.Histories.{own}
@@ -57,14 +57,14 @@ use Rattle.step_machine.proofs.CoreLemmas.{run-longer, run-sound}
 use Rattle.live_heap.specs.declared.view.Lent.{Lent}
 use Rattle.live_heap.specs.declared.view.Standing.{Standing}
 use Rattle.live_heap.specs.declared.view.View.{View}
-use Rattle.live_heap.specs.Lending.{HasLent, MayLend, TellsWritten, lent_block, with_lent}
+use Rattle.live_heap.specs.Lending.{HasLent, LendsWhere, MayLend, TellsWritten, lent_block, with_lent}
 use Rattle.live_heap.specs.Pieces.{AreLaidOut, AreLent, IsLent, IsOpened, IsOut, PiecesHold, Status, caller_mark, mark_count, mark_of, mark_place, place_as}
 use Rattle.live_heap.specs.Pieces.Status.{blank, out, used}
 use Rattle.live_heap.specs.Rule.{IsStanding, KeptTable, Stands, state_with}
 use Rattle.live_heap.specs.Shelves.{AllowedWords}
 use Rattle.live_heap.proofs.Claiming.{blank-used, out-used}
 use Rattle.live_heap.proofs.Growing.{own-between, rest-none}
-use Rattle.live_heap.proofs.LentPlaces.{home-behind, out-on}
+use Rattle.live_heap.proofs.LentPlaces.{out-on}
 use Rattle.live_heap.proofs.LentViews.{kept-lent, laid-lent, laid-marked, view-within}
 use Rattle.live_heap.proofs.Moves.{idle-opens, moved, moves-moved}
 use Rattle.live_heap.proofs.PutPlaces.{at-put_before, at-put_behind}
@@ -75,10 +75,10 @@ use Rattle.live_heap.proofs.Straight.{arena-short, payload-end}
 abbrev pub numbers_of : List ℕ → ℕ → ℕ → List ℕ
 numbers_of words first count = take count (drop first words)
 
-numbers-long : (words : List ℕ) (first count : ℕ) → first + count ≤ length words → length (numbers_of words first count) ≡ count
+pub numbers-long : (words : List ℕ) (first count : ℕ) → first + count ≤ length words → length (numbers_of words first count) ≡ count
 numbers-long words first count within = omega (arith, length-take count (drop first words), length-drop first words, within)
 
-numbers-at : (words : List ℕ) (first count i : ℕ) → i < count → slice_index (numbers_of words first count) i ≡ slice_index words (first + i)
+pub numbers-at : (words : List ℕ) (first count i : ℕ) → i < count → slice_index (numbers_of words first count) i ≡ slice_index words (first + i)
 numbers-at words first count i below = get_or-take count (drop first words) i 0 below ∙ get_or-drop first words i 0
 
 at-laids : (ns : List ℕ) (i : ℕ) → i < length ns → place_at (laids ns) i ≡ laid (slice_index ns i)
@@ -102,7 +102,7 @@ run-laid ps words first count within words_within each =
 same-caller : (c d : ℕ) → Caller c ≡ Caller d → c ≡ d
 same-caller c d is = let e : ◌≡◌ {A = Owner} (Caller c) (Caller d) = is in cc
 
-same-block : (a b : Block) (o : Option Block) → o ≡ Some a → o ≡ Some b → a ≡ b
+pub same-block : (a b : Block) (o : Option Block) → o ≡ Some a → o ≡ Some b → a ≡ b
 same-block a b o one other = let e : Some a ≡ Some b = sym one ∙ other in cc
 
 in-one : (x y : Standing) (n : ℕ) → get_elem? (x ∷ []) n ≡ some y → x ≡ y
@@ -450,13 +450,12 @@ module _ {rule : AllowedWords} (g : Geometry) (words : List ℕ) (views : List V
 
 -- the step by which they go out, of the pass of a caller that owns the block: one that leaves the number of its mark at 1
 lends-own :
-    {rule : AllowedWords} (g : Geometry) (size id : ℕ) (v : View) (x : Standing) (place : ℕ) (need : Need) (turns : ℕ → ℕ) → v.callers ≡ x ∷ [] → IsIdle x.errand
-    → OwnsAfter v.seen x.errand.caller place need → LieElse v place
-    → ((s : RegionState View) → PiecesHold rule g s → get_elem? s.views id ≡ some v
-    → turns (number_at s.places (mark_place g (caller_mark g x.errand.caller))) ≡ 1)
-    → region.Allows (PiecesHold rule g) size id (v, []) (mark_place g (caller_mark g x.errand.caller)) turns (λ _ me. HasLent place need v me)
+    {rule : AllowedWords} (g : Geometry) (id : ℕ) (v : View) (x : Standing) (place : ℕ) (need : Need) → v.callers ≡ x ∷ [] → IsIdle x.errand
+    → OwnsAfter v.seen x.errand.caller place need → LieElse v place → (s : RegionState View) → PiecesHold rule g s → get_elem? s.views id ≡ some v
+    → IsLaid s.places (mark_place g (caller_mark g x.errand.caller))
+    × region.Goes (PiecesHold rule g) s (with_number s.places (mark_place g (caller_mark g x.errand.caller)) 1) id (v, []) (λ me. HasLent place need v me)
 unfolding kept-lent
-lends-own {rule} g size id v x place need turns one idle owned home to_one s good long_is at =
+lends-own {rule} g id v x place need one idle owned home s good at =
     let table : List ℕ = good.0 in
     let h = good.1 in
     let whole : List Place = good.2 in
@@ -476,67 +475,67 @@ lends-own {rule} g size id v x place need turns one idle owned home to_one s goo
     let many = length-replicate {A = Place} count None in
     let is_taken = taken g words views id v x place need h.1 at one idle owned table whole s.places h.0 a refl l home in (
       mark ∙ ap laid (sym (ap number mark)),
-      λ small.
-          subst (λ (n : ℕ). region.Goes (PiecesHold rule g) s (with_number s.places p n) id (v, []) (λ (me : region.Me View). HasLent place need v me))
-          (sym (to_one s good at)) (
-            w,
-            takes (place + 1) count,
-            omega (arith, within, many),
-            (
-              table,
-              (h.0, kept-lent g words views id v blocks at h.1),
-              slice_set whole p (laid 1),
-              laid-lent g table views id v blocks (slice_set whole p (laid 1)) at (laid-marked g table whole views caller out has a),
-              lent-now g words views id v x place need h.1 at one idle owned table whole s.places h.0 a refl l home,
-            ),
-            (
-              ns,
-              numbers-long table (place + 1) count (table-long g words views id v x place need h.1 at one idle owned table whole s.places h.0 a refl l home),
-              tells g words views id v x place need h.1 at one idle owned table whole s.places h.0 a refl l home,
-              ap (λ (ps : List Place). let r : region.Me View = (w, (place + 1, ps) ∷ []) in r) is_taken,
-            ),
-          ),
+      (
+        w,
+        takes (place + 1) count,
+        omega (arith, within, many),
+        (
+          table,
+          (h.0, kept-lent g words views id v blocks at h.1),
+          slice_set whole p (laid 1),
+          laid-lent g table views id v blocks (slice_set whole p (laid 1)) at (laid-marked g table whole views caller out has a),
+          lent-now g words views id v x place need h.1 at one idle owned table whole s.places h.0 a refl l home,
+        ),
+        (
+          ns,
+          numbers-long table (place + 1) count (table-long g words views id v x place need h.1 at one idle owned table whole s.places h.0 a refl l home),
+          tells g words views id v x place need h.1 at one idle owned table whole s.places h.0 a refl l home,
+          ap (λ (ps : List Place). let r : region.Me View = (w, (place + 1, ps) ∷ []) in r) is_taken,
+        ),
+      ),
     )
 
--- the mark of a pass's caller is 1 while some block is out with the pass
-marked-one :
-    {rule : AllowedWords} (g : Geometry) (id : ℕ) (v : View) (x : Standing) (s : RegionState View) → v.callers ≡ x ∷ [] → 0 < length v.lent → PiecesHold rule g s
-    → get_elem? s.views id ≡ some v → number_at s.places (mark_place g (caller_mark g x.errand.caller)) ≡ 1
-marked-one g id v x s one more good at =
-    let k = good.1.1 in
-    let whole : List Place = good.2 in
-    let a = good.3 in
-    let l = good.4 in
-    let p : ℕ = mark_place g (caller_mark g x.errand.caller) in
-    let has : x.errand.caller < g.callers = ((k.each id v at).each 0 x (ap (λ (m : List Standing). get_elem? m 0) one)).has in
-    let b = first-there v.lent more in
-    let o = l.blocks id 0 v b.0 at b.1 in
-    let owner : x ≡ o.owner = only-there v.callers x o.owner o.number one o.stands in
-    let home : place_at s.places p ≡ place_at whole p =
-    home-behind g k.events whole s.places s.views p l (omega (arith, arena-placed g)) (omega (arith, l.long, a.long, has)) in
-    ap number (home ∙ ap (λ (y : Standing). place_at whole (mark_place g (caller_mark g y.errand.caller))) owner ∙ o.marked)
-
--- a pass that may lend its block may make such a step
-may-lend :
-    {rule : AllowedWords} (g : Geometry) (size id : ℕ) (v : View) (e : ErrandFields) (place : ℕ) (need : Need) (turns : ℕ → ℕ) (m : MayLend v e place need)
-    → ((s : RegionState View) → PiecesHold rule g s → get_elem? s.views id ≡ some v
-    → turns (number_at s.places (mark_place g (caller_mark g m.before.errand.caller))) ≡ 1)
-    → region.Allows (PiecesHold rule g) size id (v, []) (mark_place g (caller_mark g e.caller)) turns (λ _ me. HasLent place need v me)
-may-lend {rule} g size id v e place need turns m to_one =
+-- the same of a pass that may lend its block
+lends-may :
+    {rule : AllowedWords} (g : Geometry) (id : ℕ) (v : View) (e : ErrandFields) (place : ℕ) (need : Need) → MayLend v e place need → (s : RegionState View)
+    → PiecesHold rule g s → get_elem? s.views id ≡ some v
+    → IsLaid s.places (mark_place g (caller_mark g e.caller))
+    × region.Goes (PiecesHold rule g) s (with_number s.places (mark_place g (caller_mark g e.caller)) 1) id (v, []) (λ me. HasLent place need v me)
+lends-may {rule} g id v e place need m s good at =
     let is : m.before.errand ≡ e = m.stands in
-    subst (λ (f : ErrandFields). region.Allows (PiecesHold rule g) size id (v, []) (mark_place g (caller_mark g f.caller)) turns (λ _ me. HasLent place need v me)) is
-    (lends-own g size id v m.before place need turns m.one (subst IsIdle (sym is) m.idle)
-    (subst (λ (f : ErrandFields). OwnsAfter v.seen f.caller place need) (sym is) m.owned) m.home to_one)
+    subst
+    (λ (f : ErrandFields).
+    IsLaid s.places (mark_place g (caller_mark g f.caller))
+    × region.Goes (PiecesHold rule g) s (with_number s.places (mark_place g (caller_mark g f.caller)) 1) id (v, []) (λ me. HasLent place need v me)) is
+    (lends-own g id v m.before place need m.one (subst IsIdle (sym is) m.idle)
+    (subst (λ (f : ErrandFields). OwnsAfter v.seen f.caller place need) (sym is) m.owned) m.home s good at)
 
--- a pass that has nothing out may make the step that takes a block's usable words out: it sets the caller's mark
+-- so it may make the step that takes the block's usable words out: it sets the caller's mark
 pub may-lend_first :
-    {rule : AllowedWords} (g : Geometry) (size id : ℕ) (v : View) (e : ErrandFields) (place : ℕ) (need : Need) → IsChecked g → MayLend v e place need → v.lent ≡ []
+    {rule : AllowedWords} (g : Geometry) (size id : ℕ) (v : View) (e : ErrandFields) (place : ℕ) (need : Need) → IsChecked g → MayLend v e place need
     → region.Allows (PiecesHold rule g) size id (v, []) (mark_place g (caller_mark g e.caller)) (λ _. 1) (λ _ me. HasLent place need v me)
-may-lend_first g size id v e place need _ m _ = may-lend g size id v e place need (λ _. 1) m (λ s good at. refl)
+may-lend_first g size id v e place need _ m s good _ at = let t = lends-may g id v e place need m s good at in (t.0, λ small. t.1)
 
--- one that has others out may make such a step too: it leaves the mark, which is set
-pub may-lend_more :
-    {rule : AllowedWords} (g : Geometry) (size id : ℕ) (v : View) (e : ErrandFields) (place : ℕ) (need : Need) → IsChecked g → MayLend v e place need → 0 < length v.lent
-    → region.Allows (PiecesHold rule g) size id (v, []) (mark_place g (caller_mark g e.caller)) (λ n. n) (λ _ me. HasLent place need v me)
-may-lend_more g size id v e place need _ m more =
-    may-lend g size id v e place need (λ n. n) m (λ s good at. marked-one g id v m.before s m.one more good at)
+-- or a load of the mark, where it is set; where it isn't, nothing has changed
+pub may-lend_marked :
+    {rule : AllowedWords} (g : Geometry) (size id : ℕ) (v : View) (e : ErrandFields) (place : ℕ) (need : Need) → IsChecked g → MayLend v e place need
+    → region.Allows (PiecesHold rule g) size id (v, []) (mark_place g (caller_mark g e.caller)) (λ n. n) (λ n me. LendsWhere place need n (v, []) me)
+may-lend_marked {rule} g size id v e place need _ m s good _ at =
+    let t = lends-may g id v e place need m s good at in
+    let p : ℕ = mark_place g (caller_mark g e.caller) in
+    let n : ℕ = number_at s.places p in
+    let Goes : ℕ → (region.Me View → Type 0) → Type 0 = λ x then. region.Goes (PiecesHold rule g) s (with_number s.places p x) id (v, []) then in (
+      t.0,
+      λ small.
+          elim (cases_eq n 1) [
+            | inl set ↦
+                let gone : Goes n (λ me. HasLent place need v me) = subst (λ x. Goes x (λ me. HasLent place need v me)) (sym set) t.1 in
+                (gone.0, gone.1, gone.2, gone.3, ((λ _. gone.4), (λ other. absurd (other set))))
+            | inr other ↦
+                let same : with_number s.places p n ≡ s.places = ap (slice_set s.places p) (sym t.0) ∙ set-get_or s.places p None in
+                let kept : PiecesHold rule g record { places = with_number s.places p n; views = slice_set s.views id v } =
+                subst (λ (ps : List Place). PiecesHold rule g record { places = ps; views = slice_set s.views id v }) (sym same)
+                (subst (λ (vs : List View). PiecesHold rule g record { places = s.places; views = vs }) (sym (set_again s.views id v at)) good) in
+                (v, keeps, tt, kept, ((λ is. absurd (other is)), (λ _. refl)))
+          ],
+    )

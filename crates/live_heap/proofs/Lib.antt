@@ -33,6 +33,7 @@ pub mod LayLemmas
 pub mod LendsOut
 pub mod LentPlaces
 pub mod LentViews
+mod Lifting
 pub mod Linked
 pub mod MadeLemmas
 pub mod Memories
@@ -48,9 +49,11 @@ pub mod PutPlaces
 pub mod PutsNone
 pub mod RefusedPoints
 pub mod RefusedSteps
+mod Resting
 pub mod Seats
 pub mod ShelvesKept
 pub mod Shows
+mod Slicing
 pub mod StepByStep
 pub mod StepHands
 pub mod Stepped

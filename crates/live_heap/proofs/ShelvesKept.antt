@@ -1,5 +1,5 @@
 -- What lies on a shelf keeps the rule of words there: every event leaves it so but a put, which shows it of its block.
-use Rattle.std.proofs.Common.{ℕ, ◌≡◌, ◌≢◌, ◌⊎◌, inl, inr, List, [], ◌∷◌, ◌++◌, Option, Some, None, refl, sym, ◌∙◌, ap, subst, append-nil, append_assoc, arith}
+use Rattle.std.proofs.Common.{ℕ, ◌≡◌, ◌⊎◌, inl, inr, List, [], ◌∷◌, ◌++◌, Option, Some, None, refl, sym, ◌∙◌, ap, subst, append-nil, append_assoc, arith}
 use Rattle.std.proofs.lemmas.Bool.{cases_eq, cond_both}
 use Rattle.std.proofs.lemmas.Option.{none-some}
 use Rattle.heap_geometry.specs.declared.geometry.Geometry.{Geometry}
@@ -11,10 +11,9 @@ use Rattle.step_parts.specs.declared.large.point.LargePoint.TheVariants as large
 use Rattle.word_table.specs.declared.action.Found.{Found}
 use Rattle.pool_model.specs.declared.event.Event.{Event}
 use Rattle.pool_model.specs.declared.event.Event.TheVariants.{Alloc, Looked, Refuse, Free, Write, Put, Take, TakeNone}
-use Rattle.pool_model.specs.declared.owner.Owner.{Owner}
 use Rattle.pool_model.specs.declared.owner.Owner.TheVariants.{Caller, Shelf}
 use Rattle.pool_model.specs.Histories.{Begins, caller_of, own}
-use Rattle.pool_model.specs.Legal.{IsAllowed, IsFree, IsLegalWithoutCounts, IsLegalEventWithoutCounts}
+use Rattle.pool_model.specs.Legal.{IsAllowed, IsLegalWithoutCounts, IsLegalEventWithoutCounts}
 use Rattle.pool_model.specs.Owned.{if_of, owned_at}
 use Rattle.pool_model.specs.Pool.{Block, Pool, block_at, fresh_block, handed_to, pool_after, pool_of, with_changed, written}
 use Rattle.pool_model.proofs.HistoryLemmas.{EachAfter-cut, EachAfter-last, last_cases, pool_of-push}

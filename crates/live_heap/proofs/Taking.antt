@@ -1,7 +1,7 @@
 -- The words of a block go out with a pass, and come back: what the pass is meanwhile and after.
-use Rattle.std.proofs.Common.{ℕ, zero, suc, ◌≡◌, ◌≢◌, ◌<◌, ◌≤◌, ◌+◌, ◌-◌, ◌^◌, List, [], ◌∷◌, ◌++◌, length, slice_index, refl, sym, ap, ◌∙◌, subst, arith, append_assoc}
+use Rattle.std.proofs.Common.{ℕ, zero, suc, ◌≡◌, ◌≢◌, ◌<◌, ◌≤◌, ◌+◌, ◌-◌, ◌^◌, List, [], ◌∷◌, ◌++◌, length, slice_index, take, drop, refl, sym, ap, ◌∙◌, subst, arith, append_assoc}
 use Rattle.std.specs.Prelude.{slice_set}
-use Rattle.std.proofs.lemmas.List.{length-append, length-map, set_at}
+use Rattle.std.proofs.lemmas.List.{append-nil, drop-drop, drop_all, length-append, length-drop, length-map, length-take-le, set_at, take-append-drop}
 use mathlib.Core.Option.{some, some-injective}
 use lib.ListN.{get_elem?}
 use Rattle.heap_geometry.specs.declared.need.Need.{Need}
@@ -232,35 +232,60 @@ comes-at h p block made of (n, b, at, is-place, is-need) leads =
       leads = leads cut.0 cut.1 b.numbers;
     }
 
--- the writes of all its numbers lead a block to them
+-- the writes of numbers lead a block to them, from one word on
 writes-over :
-    (place : ℕ) (need : Need) (before behind shown : List Lent) (front old numbers : List ℕ) → length old ≡ length numbers
+    (place : ℕ) (need : Need) (before behind shown : List Lent) (front old numbers tail : List ℕ) → length old ≡ length numbers
     → length front + length numbers ≤ usable_words need → ((k : ℕ) → k < length numbers → slice_index numbers k < 2 ^ 64)
-    → LeadTo place need before behind shown (front ++ old) (writes_from place need (length front) numbers) (front ++ numbers)
-writes-over place need before behind shown front [] [] same within small = refl
-writes-over place need before behind shown front (o ∷ os) [] same within small = absurd (omega (arith, same))
-writes-over place need before behind shown front [] (x ∷ xs) same within small = absurd (omega (arith, same))
-writes-over place need before behind shown front (o ∷ os) (x ∷ xs) same within small =
+    → LeadTo place need before behind shown (front ++ (old ++ tail)) (writes_from place need (length front) numbers) (front ++ (numbers ++ tail))
+writes-over place need before behind shown front [] [] tail same within small = refl
+writes-over place need before behind shown front (o ∷ os) [] tail same within small = absurd (omega (arith, same))
+writes-over place need before behind shown front [] (x ∷ xs) tail same within small = absurd (omega (arith, same))
+writes-over place need before behind shown front (o ∷ os) (x ∷ xs) tail same within small =
     let long : length (front ++ x ∷ []) ≡ suc (length front) = omega (arith, length-append front (x ∷ [])) in
-    let next : (front ++ x ∷ []) ++ os ≡ slice_set (front ++ o ∷ os) (length front) x =
-    append_assoc front (x ∷ []) os ∙ sym (set_at front o os x (length front) refl) in
+    let next : (front ++ x ∷ []) ++ (os ++ tail) ≡ slice_set (front ++ o ∷ (os ++ tail)) (length front) x =
+    append_assoc front (x ∷ []) (os ++ tail) ∙ sym (set_at front o (os ++ tail) x (length front) refl) in
     let rest =
-    writes-over place need before behind shown (front ++ x ∷ []) os xs (omega (arith, same)) (omega (arith, within, long))
+    writes-over place need before behind shown (front ++ x ∷ []) os xs tail (omega (arith, same)) (omega (arith, within, long))
     (λ k has. small (suc k) (omega (arith, has))) in
-    let from : LeadTo place need before behind shown ((front ++ x ∷ []) ++ os) (writes_from place need (suc (length front)) xs) ((front ++ x ∷ []) ++ xs) =
-    subst (λ n. LeadTo place need before behind shown ((front ++ x ∷ []) ++ os) (writes_from place need n xs) ((front ++ x ∷ []) ++ xs)) long rest in (
-      (front ++ x ∷ []) ++ os,
+    let from : LeadTo place need before behind shown ((front ++ x ∷ []) ++ (os ++ tail)) (writes_from place need (suc (length front)) xs) ((front ++ x ∷ []) ++ (xs ++ tail)) =
+    subst (λ n. LeadTo place need before behind shown ((front ++ x ∷ []) ++ (os ++ tail)) (writes_from place need n xs) ((front ++ x ∷ []) ++ (xs ++ tail))) long rest in (
+      (front ++ x ∷ []) ++ (os ++ tail),
       (refl, refl, omega (arith, within), small 0 (omega arith), next),
-      subst (λ (l : List ℕ). LeadTo place need before behind shown ((front ++ x ∷ []) ++ os) (writes_from place need (suc (length front)) xs) l)
-          (append_assoc front (x ∷ []) xs) from,
+      subst (λ (l : List ℕ). LeadTo place need before behind shown ((front ++ x ∷ []) ++ (os ++ tail)) (writes_from place need (suc (length front)) xs) l)
+          (append_assoc front (x ∷ []) (xs ++ tail)) from,
     )
+
+-- they lead the words from there on to them
+pub writes-part :
+    (place : ℕ) (need : Need) (before behind shown : List Lent) (old : List ℕ) (first : ℕ) (numbers : List ℕ) → first + length numbers ≤ length old
+    → length old ≡ usable_words need → ((k : ℕ) → k < length numbers → slice_index numbers k < 2 ^ 64)
+    → LeadTo place need before behind shown old (writes_from place need first numbers) (take first old ++ (numbers ++ drop (first + length numbers) old))
+writes-part place need before behind shown old first numbers few long small =
+    let n : ℕ = length numbers in
+    let front : List ℕ = take first old in
+    let behind_it : List ℕ = drop first old in
+    let starts : length front ≡ first = length-take-le first old (omega (arith, few)) in
+    let many : length (take n behind_it) ≡ n = length-take-le n behind_it (omega (arith, few, length-drop first old)) in
+    let whole : front ++ (take n behind_it ++ drop n behind_it) ≡ old =
+    ap (λ (l : List ℕ). front ++ l) (take-append-drop n behind_it) ∙ take-append-drop first old in
+    let left : drop n behind_it ≡ drop (first + n) old = drop-drop n first old in
+    let from =
+    writes-over place need before behind shown front (take n behind_it) numbers (drop n behind_it) many (omega (arith, few, starts, long)) small in
+    let one : LeadTo place need before behind shown (front ++ (take n behind_it ++ drop n behind_it)) (writes_from place need first numbers) (front ++ (numbers ++ drop n behind_it)) =
+    subst (λ k. LeadTo place need before behind shown (front ++ (take n behind_it ++ drop n behind_it)) (writes_from place need k numbers) (front ++ (numbers ++ drop n behind_it))) starts
+    from in
+    let two : LeadTo place need before behind shown old (writes_from place need first numbers) (front ++ (numbers ++ drop n behind_it)) =
+    subst (λ (l : List ℕ). LeadTo place need before behind shown l (writes_from place need first numbers) (front ++ (numbers ++ drop n behind_it))) whole one in
+    subst (λ (l : List ℕ). LeadTo place need before behind shown old (writes_from place need first numbers) (front ++ (numbers ++ l))) left two
 
 pub writes-all :
     (place : ℕ) (need : Need) (before behind shown : List Lent) (old numbers : List ℕ) → length old ≡ usable_words need
     → length numbers ≡ usable_words need → ((k : ℕ) → k < usable_words need → slice_index numbers k < 2 ^ 64)
     → LeadTo place need before behind shown old (writes_from place need 0 numbers) numbers
 writes-all place need before behind shown old numbers long_old long small =
-    writes-over place need before behind shown [] old numbers (long_old ∙ sym long) (omega (arith, long)) (λ k has. small k (omega (arith, has, long)))
+    subst (λ (l : List ℕ). LeadTo place need before behind shown old (writes_from place need 0 numbers) l)
+    (ap (λ (l : List ℕ). numbers ++ l) (drop_all (0 + length numbers) old (omega (arith, long, long_old))) ∙ append-nil numbers)
+    (writes-part place need before behind shown old 0 numbers (omega (arith, long, long_old)) long_old (λ k has. small k (omega (arith, has, long))))
 
 -- a pass owns a block whose words come back
 pub came-owned :

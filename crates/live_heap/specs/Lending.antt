@@ -1,9 +1,10 @@
 -- A block whose usable words go out with the pass of its owner, and come back.
-use Rattle.std.specs.Prelude.{ℕ, ◌≡◌, ◌≢◌, ◌<◌, ◌+◌, ◌%◌, ◌^◌, ◌++◌, List, [], ◌∷◌, Some, None, length, map, slice_index, slice_index_or, slice_set}
+use Rattle.std.specs.Prelude.{ℕ, ◌≡◌, ◌≢◌, ◌<◌, ◌+◌, ◌%◌, ◌^◌, ◌++◌, ◌⊎◌, List, [], ◌∷◌, Some, None, length, map, slice_index, slice_index_or, slice_set}
 use mathlib.Core.Option.{some}
 use lib.ListN.{get_elem?}
 use Rattle.std.specs.List.{range_with_len}
 use Rattle.atomic_region.specs.Region.{Me}
+use Rattle.heap_geometry.specs.declared.geometry.Geometry.{Geometry}
 use Rattle.heap_geometry.specs.declared.need.Need.{Need}
 use Rattle.heap_geometry.specs.declared.need.Need.TheVariants.{TooLarge}
 use Rattle.heap_geometry.specs.Need.{usable_words}
@@ -20,6 +21,7 @@ use Rattle.step_machine.specs.Cores.{OwnsAfter}
 use Rattle.live_heap.specs.declared.view.Lent.{Lent}
 use Rattle.live_heap.specs.declared.view.Standing.{Standing}
 use Rattle.live_heap.specs.declared.view.View.{View}
+use Rattle.live_heap.specs.Pieces.{caller_mark, mark_place}
 use Rattle.live_heap.specs.Sights.{AreOwned, TakesStep}
 
 -- a block at the place that serves the need, whose words count as these numbers
@@ -62,6 +64,17 @@ HasLent place need v me =
     (numbers : List ℕ) × (length numbers ≡ usable_words need) × TellsWritten v.seen place numbers
     × (me ≡ (with_lent v (lent_block place need numbers ∷ v.lent), (place + 1, laids numbers) ∷ []))
 
+-- what its caller's mark, which held this number, tells a pass that may lend: where it says that words may be out, these have gone out; where it doesn't, nothing has changed
+abbrev pub LendsWhere : ℕ → Need → ℕ → Me View → Me View → Type 0
+LendsWhere place need mark before after = (mark ≡ 1 → HasLent place need before.0 after) × (mark ≢ 1 → after ≡ before)
+
+-- a pass that stands for one caller and has no block's words out may say so by that caller's mark, which lies here
+pub record MayRest (g : Geometry) (me : Me View) (mark : ℕ) : Type 0 where
+  pub before : Standing
+  pub one : me.0.callers ≡ before ∷ []
+  pub lies : mark ≡ mark_place g (caller_mark g before.errand.caller)
+  pub home : me.0.lent ≡ []
+
 -- all of the blocks lie at other places
 abbrev pub AreElsewhere : ℕ → List Lent → Type 0
 AreElsewhere place blocks = (n : ℕ) (b : Lent) → get_elem? blocks n ≡ some b → b.place ≢ place
@@ -74,13 +87,22 @@ AreAmong blocks others = (n : ℕ) (b : Lent) → get_elem? blocks n ≡ some b 
 abbrev pub IsNext : Lent → List Lent → List Lent → Type 0
 IsNext b front back = (front ≡ []) × (rest : List Lent) × (back ≡ b ∷ rest) × AreElsewhere b.place rest
 
--- a call on words that are out with a pass: a write to the block at the place, which stands between others, or a read of the one that stands next to it, which is none of those that are shown. It leads from some numbers in the block to others
+-- a read of a word of the block at the place, which has these numbers
+abbrev pub ReadsOwn : ℕ → Need → List ℕ → ℕ → Need → ℕ → ℕ → Type 0
+ReadsOwn place need numbers at n i word = (at ≡ place) × (n ≡ need) × (i < usable_words need) × (slice_index numbers i ≡ word)
+
+-- a read of the block that stands next to the one at the place, which is none of those that are shown
+abbrev pub ReadsNext : ℕ → List Lent → List Lent → List Lent → ℕ → Need → ℕ → ℕ → Type 0
+ReadsNext place front back shown at n i word =
+    (b : Lent) × IsNext b front back × (b.place ≢ place) × AreElsewhere b.place shown × (at ≡ b.place) × (n ≡ b.need) × (i < usable_words b.need)
+    × (slice_index b.numbers i ≡ word)
+
+-- a call on words that are out with a pass: a write to the block at the place, which stands between others, or a read of it or of the one next to it. It leads from some numbers in the block to others
 abbrev pub LeadsTo : ℕ → Need → List Lent → List Lent → List Lent → List ℕ → Call → Reply → List ℕ → Type 0
 LeadsTo place need front back shown old (write at n i x) reply.Wrote new =
     (at ≡ place) × (n ≡ need) × (i < usable_words need) × (x < 2 ^ 64) × (new ≡ slice_set old i x)
 LeadsTo place need front back shown old (read at n i) (reply.Word word) new =
-    (b : Lent) × IsNext b front back × (b.place ≢ place) × AreElsewhere b.place shown × (at ≡ b.place) × (n ≡ b.need) × (i < usable_words b.need)
-    × (slice_index b.numbers i ≡ word) × (new ≡ old)
+    (ReadsOwn place need old at n i word ⊎ ReadsNext place front back shown at n i word) × (new ≡ old)
 LeadsTo place need front back shown old call answer new = ⊥
 
 abbrev pub LeadTo : ℕ → Need → List Lent → List Lent → List Lent → List ℕ → List Made → List ℕ → Type 0

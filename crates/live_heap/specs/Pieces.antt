@@ -54,7 +54,7 @@ place_as blank n = Some None
 place_as out n = None
 place_as used n = laid n
 
--- how many marks a heap has: one for each piece, and behind them, each apart from the others, one for each caller, which says whether a block's words are out with its pass
+-- how many marks a heap has: one for each piece, and behind them, each apart from the others, one for each caller, which says whether a block's words may be out with its pass
 abbrev pub mark_count : Geometry → ℕ
 mark_count g = piece_count g + APART * (g.callers + 1)
 
@@ -89,7 +89,7 @@ pub record AreMarked (g : Geometry) (places : List Place) : Type 0 where
   pub laid_piece : (i : ℕ) → i < arena_words g → slice_index (numbers places) (mark_place g (piece_of g i)) ≡ 2 → place_at places i ≡ laid (slice_index (numbers places) i)
   pub blank_piece : (i : ℕ) → i < arena_words g → slice_index (numbers places) (mark_place g (piece_of g i)) ≢ 2 → slice_index (numbers places) i ≡ 0
 
--- a mark says that its piece is out, or that a block's words are out with its caller's pass
+-- a mark says that its piece is out, or that a block's words may be out with its caller's pass
 pub record HasOut (g : Geometry) (places : List Place) : Type 0 where
   pub mark : ℕ
   pub below : mark < mark_count g

@@ -1,23 +1,20 @@
-//! What fills a block, sums it, and copies it into another one: whole calls on usable words, in their order.
+//! What fills a block, sums it, and copies it into another one: whole calls on usable words, in their order, each on slices.
 
-ghost use Rattle.std.specs.Prelude.{◌≡◌, ◌<◌, ◌≤◌, ◌+◌};
+ghost use Rattle.std.specs.Prelude.{◌≡◌, ◌+◌, ◌%◌, ◌^◌, length, sum};
 ghost use Rattle.heap_geometry.specs.Need.{usable_words};
-ghost use Rattle.errand_steps.specs.declared.reply.Reply.TheVariants as reply;
 ghost use Rattle.errand_steps.specs.Begins.{IsIdle};
-ghost use Rattle.errand_steps.specs.Calls.{read};
 ghost use Rattle.live_heap.specs.declared.block.Block.{Block};
 ghost use Rattle.sound_laws.specs.events.Made.{Copies, LeadsBy, Sums, wrote};
-ghost use Rattle.live_heap.specs.Passes.{IsOf, Owns, OwnsAt, accesses, view};
+ghost use Rattle.live_heap.specs.Lending.{numbers_from};
+ghost use Rattle.live_heap.specs.Passes.{IsOf, Owns, accesses, view};
 ghost use Rattle.live_heap.specs.Words.{CallsOnWord};
 
 use crate::block::Block;
 use crate::heap::Heap;
 use crate::pass::Pass;
+use crate::plain::are_small;
 use crate::shelves::ShelfRule;
-use heap_geometry::need::{Need, usable};
-
-/// Fewer words are filled and copied one by one: what takes words out and gives them back costs as much as two writes or three.
-const FEW_WORDS: u32 = 3;
+use std::marker::Brand;
 
 impl<R: ShelfRule> Heap<R> {
     /// Fills the pass's block: word i with from + i, modulo 2^64.
@@ -32,23 +29,11 @@ impl<R: ShelfRule> Heap<R> {
         ensures wrote { LeadsBy (CallsOnWord self.now) pass.old (wrote block.now.place block.now.need from (usable_words block.now.need)) pass.new }
         ensures accesses { accesses pass.new ≡ usable_words block.now.need + accesses pass.old }
     {
-        if block.usable_words() < FEW_WORDS {
-            self.fill_by_words(pass, block.place, block.need, from);
-        } else {
-            self.fill_plainly(pass, block.place, block.need, from);
-        }
-    }
-
-    /// Fills the usable words of the block that lies at this place and serves this need, one write after the other.
-    fn fill_by_words(&self, pass: &mut Pass, place: u32, need: Need, from: u64)
-        requires of { IsOf self.now pass.old }
-        requires idle { IsIdle pass.old.errand }
-        requires owned { OwnsAt pass.old place need }
-        ensures { LeadsBy (CallsOnWord self.now) pass.old (wrote place need from (usable_words need)) pass.new }
-    {
-        for i in 0..usable(need) {
-            self.write_word(pass, place, need, i, from.wrapping_add(u64::from(i)));
-        }
+        let count = block.usable_words();
+        let mut words = self.lift_words(pass, block.place, block.need);
+        let first = block.place as usize + 1;
+        count_from(words.slice_mut(self.start(), first, count as usize), from);
+        self.lay_words::<Brand>(pass, words, block.place, block.need, 0, count);
     }
 
     /// Copies the pass's block into another one of its blocks, the first word first: each word is read and then
@@ -72,42 +57,25 @@ impl<R: ShelfRule> Heap<R> {
             place: to.place,
             need: to.need,
         };
-        if from.place == to.place || to.usable_words() < FEW_WORDS {
-            self.copy_by_words(pass, source, target);
+        if from.place == to.place {
+            self.copy_itself(pass, source);
         } else {
             self.copy_plainly(pass, source, target);
         }
     }
 
-    /// Copies a block into another one, word by word, and fills the rest of that with 0.
-    fn copy_by_words(&self, pass: &mut Pass, from: Block, to: Block)
+    /// Copies a block into itself: each word is read and written again.
+    fn copy_itself(&self, pass: &mut Pass, block: Block)
         requires of { IsOf self.now pass.old }
         requires idle { IsIdle pass.old.errand }
-        requires owned { Owns pass.old from }
-        requires owned_too { Owns pass.old to }
-        ensures { Copies (CallsOnWord self.now) pass.old from.place from.need to.place to.need pass.new }
+        requires owned { Owns pass.old block }
+        ensures { Copies (CallsOnWord self.now) pass.old block.place block.need block.place block.need pass.new }
     {
-        for i in 0..usable(to.need) {
-            let word = self.read_or_zero(pass, from.place, from.need, i);
-            self.write_word(pass, to.place, to.need, i, word);
-        }
-    }
-
-    /// Reads a word of the block that lies at this place and serves this need; past its end it is 0, and nothing is read.
-    fn read_or_zero(&self, pass: &mut Pass, place: u32, need: Need, i: u32) -> u64
-        requires of { IsOf self.now pass.old }
-        requires idle { IsIdle pass.old.errand }
-        requires owned { OwnsAt pass.old place need }
-        ensures read { i < usable_words need → CallsOnWord self.now pass.old (read place need i) (reply.Word result) pass.new }
-        ensures past { usable_words need ≤ i → (pass.new ≡ pass.old) × (result ≡ 0) }
-        ensures rests { IsOf self.now pass.new × IsIdle pass.new.errand }
-        ensures keeps { (other : Block) → Owns pass.old other → Owns pass.new other }
-    {
-        if i < usable(need) {
-            self.read_word(pass, place, need, i)
-        } else {
-            0
-        }
+        let count = block.usable_words();
+        let words = self.lift_words(pass, block.place, block.need);
+        let first = block.place as usize + 1;
+        are_small(words.slice(self.start(), first, count as usize));
+        self.lay_words::<Brand>(pass, words, block.place, block.need, 0, count);
     }
 
     /// The sum of the words of the pass's block, modulo 2^64. Each is what the block's owners last wrote
@@ -123,12 +91,31 @@ impl<R: ShelfRule> Heap<R> {
         ensures sums { Sums (CallsOnWord self.now) pass.old block.now.place block.now.need result pass.new }
         ensures accesses { accesses pass.new ≡ usable_words block.now.need + accesses pass.old }
     {
-        let place = block.place;
-        let need = block.need;
-        let mut total = 0u64;
-        for i in 0..block.usable_words() {
-            total = total.wrapping_add(self.read_word(pass, place, need, i));
-        }
+        let count = block.usable_words();
+        let words = self.lift_words(pass, block.place, block.need);
+        let first = block.place as usize + 1;
+        let total = sum_of(words.slice(self.start(), first, count as usize));
+        self.lay_words::<Brand>(pass, words, block.place, block.need, 0, count);
         total
     }
+}
+
+/// Fills a slice: word i with from + i, modulo 2^64.
+fn count_from(words: &mut [u64], from: u64)
+    ensures { words.new ≡ numbers_from from (length words.old) }
+{
+    for i in 0..words.len() {
+        words[i] = from.wrapping_add(i as u64);
+    }
+}
+
+/// The sum of the words of a slice, modulo 2^64.
+fn sum_of(words: &[u64]) -> u64
+    ensures { result ≡ sum words.now % 2 ^ 64 }
+{
+    let mut total = 0u64;
+    for i in 0..words.len() {
+        total = total.wrapping_add(words[i]);
+    }
+    total
 }

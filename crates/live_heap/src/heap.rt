@@ -130,6 +130,7 @@ impl<R: ShelfRule> Heap<R> {
     }
 
     /// Where the heap's memory begins: 8 bytes behind a multiple of 16. It owns nothing.
+    #[inline(always)]
     pub fn start(&self) -> Start
         ensures { result.at ≡ self.now.region.at }
     {
@@ -169,8 +170,8 @@ impl<R: ShelfRule> Heap<R> {
 }
 
 impl<R: ShelfRule> Drop for Heap<R> {
-    /// All memory goes back. Where a pass was stopped while it laid a piece or filled a block, so that words are out, the
-    /// memory stays allocated.
+    /// All memory goes back. Where a pass was stopped while it laid a piece, or a caller's mark says that a block's words may
+    /// be out, the memory stays allocated: each pass that had some out says by `rest` that they are home.
     fn drop(self) {
         let Self { table, layout } = self;
         let closed = table.close();
@@ -180,7 +181,7 @@ impl<R: ShelfRule> Drop for Heap<R> {
     }
 }
 
-/// Whether each mark says that nothing is out: no piece with a pass that lays it, and no block with a pass that fills it.
+/// Whether each mark says that nothing is out: no piece with a pass that lays it, and no block's words with a pass.
 fn all_at_home<R: ShelfRule>(closed: &Closed<Global>, layout: &Placement) -> bool
     requires { Final (PiecesHold R.allows layout.now) closed.now.plain.places }
     ensures home { result ≡ true → AllHere closed.now.plain.places }

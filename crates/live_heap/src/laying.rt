@@ -19,10 +19,10 @@ use heap_geometry::place::{place_of_unit, unit_of};
 use placed_words::placement::{APART, Placement};
 use std::marker::Brand;
 
-/// The mark of a piece that was never laid, and of a caller whose pass has no block's words out.
+/// The mark of a piece that was never laid, and of a caller whose pass has no block's words out, and had none since it rested.
 pub(crate) const BLANK: u64 = 0;
 
-/// The mark of a piece that a pass has out, to lay it, and of a caller whose pass has a block's words out.
+/// The mark of a piece that a pass has out, to lay it, and of a caller whose pass may have a block's words out.
 pub(crate) const OUT: u64 = 1;
 
 /// The mark of a piece that is laid.

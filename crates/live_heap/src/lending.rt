@@ -8,8 +8,8 @@ ghost use Rattle.sound_laws.specs.events.Made.{Copies, LeadsBy, wrote};
 ghost use Rattle.live_heap.specs.declared.block.Block.{Block};
 ghost use Rattle.live_heap.specs.declared.plain.Memory.{Memory};
 ghost use Rattle.live_heap.specs.declared.view.Lent.{Lent};
-ghost use Rattle.live_heap.specs.Lending.{ComesBy, HasLent, HasReturned, MayLend, MayReturn, TellsWritten, copy_of, lent_block, numbers_from};
-ghost use Rattle.live_heap.specs.Memory.{HasTaken, HasTakenBoth, IsLastTaken, IsMemoryOf, before_taking, writes_from};
+ghost use Rattle.live_heap.specs.Lending.{ComesBy, HasLent, HasReturned, LendsWhere, MayLend, MayRest, MayReturn, TellsWritten, copy_of, lent_block};
+ghost use Rattle.live_heap.specs.Memory.{AreWordsOf, HasTaken, HasTakenBoth, IsLastTaken, IsMemoryOf, before_taking, lifted_from, writes_from};
 ghost use Rattle.live_heap.specs.Passes.{IsOf, Owns, OwnsAt, accesses, seen, view};
 ghost use Rattle.live_heap.specs.Pieces.{caller_mark, mark_place};
 ghost use Rattle.live_heap.specs.Words.{CallsOnWord};
@@ -19,13 +19,14 @@ use crate::heap::Heap;
 use crate::laying::{BLANK, OUT};
 use crate::pass::Pass;
 use crate::plain::{Memory, are_small};
-use crate::plays::{Lending, Lends, Returns};
+use crate::plays::{Lending, Lends, LendsMarked, Rests, Returns};
 use crate::shelves::ShelfRule;
 use crate::view::View;
 use atomic_region::Seat;
 use errand_steps::errand::Errand;
 use heap_geometry::need::Need;
 use placed_words::placement::APART;
+use plain_words::PlainWords;
 use std::marker::Brand;
 
 impl<R: ShelfRule> Heap<R> {
@@ -51,17 +52,8 @@ impl<R: ShelfRule> Heap<R> {
         ensures told { TellsWritten (seen pass.old) block.place (numbers result.words.places) }
         ensures accesses { accesses pass.new ≡ accesses pass.old }
     {
-        let mark = self.caller_mark(pass.errand.caller());
-        self.lend::<Brand>(
-            &mut pass.seat,
-            &pass.errand,
-            mark,
-            pass.out,
-            block.place,
-            block.need,
-        );
+        let words = self.lift_words(pass, block.place, block.need);
         pass.out += 1;
-        let words = pass.seat.lift();
         Memory { block, words }
     }
 
@@ -135,29 +127,9 @@ impl<R: ShelfRule> Heap<R> {
         let mark = self.caller_mark(pass.errand.caller());
         let Memory { block, words } = memory;
         pass.seat.carry(words);
-        self.take_back::<L>(
-            &mut pass.seat,
-            &pass.errand,
-            mark,
-            pass.out,
-            block.place,
-            block.need,
-        );
+        self.take_back::<L>(&mut pass.seat, &pass.errand, mark, block.place, block.need);
         pass.out -= 1;
         block
-    }
-
-    /// Fills the usable words of the block that lies at this place and serves this need, as plain memory: word i with
-    /// from + i, modulo 2^64. They go out with the pass and come back within the call.
-    pub(crate) fn fill_plainly(&self, pass: &mut Pass, place: u32, need: Need, from: u64)
-        requires of { IsOf self.now pass.old }
-        requires idle { IsIdle pass.old.errand }
-        requires owned { OwnsAt pass.old place need }
-        ensures { LeadsBy (CallsOnWord self.now) pass.old (wrote place need from (usable_words need)) pass.new }
-    {
-        let mut memory = self.take_out(pass, Block { place, need });
-        count_from(memory.words_mut(self), from);
-        let _ = self.bring_home(pass, memory);
     }
 
     /// Copies the usable words of a block into another one, as plain memory, and fills the rest of that with 0. Both go
@@ -177,14 +149,29 @@ impl<R: ShelfRule> Heap<R> {
         let _ = self.put_back(pass, from);
     }
 
-    /// Takes out the usable words of the block that `L` names for the proof, beside the blocks that are out already. The
-    /// caller's mark says from now on that words are out, and said so before where some were.
+    /// Lifts the usable words of the block that lies at this place and serves this need. The pass doesn't count them as out.
+    #[inline(always)]
+    pub(crate) fn lift_words(&self, pass: &mut Pass, place: u32, need: Need) -> PlainWords
+        requires of { IsOf self.now pass.old }
+        requires idle { IsIdle pass.old.errand }
+        requires owned { OwnsAt pass.old place need }
+        ensures words { AreWordsOf self.now place need result }
+        ensures lifted { pass.new ≡ lifted_from pass.old place need (numbers result.places) }
+        ensures told { TellsWritten (seen pass.old) place (numbers result.places) }
+    {
+        let mark = self.caller_mark(pass.errand.caller());
+        self.lend::<Brand>(&mut pass.seat, &pass.errand, mark, place, need);
+        pass.seat.lift()
+    }
+
+    /// Takes out the usable words of the block that `L` names for the proof. The caller's mark says from now on that
+    /// words may be out, and says so for good: where it did, it is only read.
+    #[inline(always)]
     fn lend<L: Lending>(
         &self,
         seat: &mut Seat<View>,
         errand: &Errand,
         mark: usize,
-        out: u32,
         place: u32,
         need: Need,
     )
@@ -192,20 +179,40 @@ impl<R: ShelfRule> Heap<R> {
         requires empty { seat.old.me.1 ≡ [] }
         requires mark { mark ≡ mark_place self.now.layout (caller_mark self.now.layout L.owner.caller) }
         requires within { mark < self.now.region.words }
-        requires counted { length seat.old.me.0.lent ≡ out }
         requires may { MayLend seat.old.me.0 L.owner L.block.place L.block.need }
         ensures seat { (seat.new.region ≡ seat.old.region) × (seat.new.id ≡ seat.old.id) }
         ensures lent { HasLent L.block.place L.block.need seat.old.me.0 seat.new.me }
     {
-        if out == 0 {
+        if self.lend_marked::<L>(seat, errand, mark, place, need) != OUT {
             self.lend_first::<L>(seat, errand, mark, place, need);
-        } else {
-            self.lend_more::<L>(seat, errand, mark, place, need);
         }
     }
 
-    /// Takes out the usable words of the block that `L` names for the proof, where no block's words are out with the
-    /// pass. The caller's mark says from now on that some are.
+    /// Takes the words out where the caller's mark says that some may be out. It answers what the mark says.
+    #[inline(always)]
+    fn lend_marked<L: Lending>(
+        &self,
+        seat: &mut Seat<View>,
+        _errand: &Errand,
+        mark: usize,
+        _place: u32,
+        _need: Need,
+    ) -> u64
+        requires table { seat.old.region ≡ self.now.region }
+        requires empty { seat.old.me.1 ≡ [] }
+        requires mark { mark ≡ mark_place self.now.layout (caller_mark self.now.layout L.owner.caller) }
+        requires within { mark < self.now.region.words }
+        requires may { MayLend seat.old.me.0 L.owner L.block.place L.block.need }
+        ensures seat { (seat.new.region ≡ seat.old.region) × (seat.new.id ≡ seat.old.id) }
+        ensures lent { LendsWhere L.block.place L.block.need result seat.old.me seat.new.me }
+    {
+        let start = self.table.start();
+        self.table.shared.load::<LendsMarked<L>>(seat, start, mark)
+    }
+
+    /// Takes the words out, and marks that words of the caller may be out.
+    #[cold]
+    #[inline(never)]
     fn lend_first<L: Lending>(
         &self,
         seat: &mut Seat<View>,
@@ -219,7 +226,6 @@ impl<R: ShelfRule> Heap<R> {
         requires mark { mark ≡ mark_place self.now.layout (caller_mark self.now.layout L.owner.caller) }
         requires within { mark < self.now.region.words }
         requires may { MayLend seat.old.me.0 L.owner L.block.place L.block.need }
-        requires first { seat.old.me.0.lent ≡ [] }
         ensures seat { (seat.new.region ≡ seat.old.region) × (seat.new.id ≡ seat.old.id) }
         ensures lent { HasLent L.block.place L.block.need seat.old.me.0 seat.new.me }
     {
@@ -227,91 +233,21 @@ impl<R: ShelfRule> Heap<R> {
         self.table.shared.store::<Lends<L>>(seat, start, mark, OUT);
     }
 
-    /// Takes them out where another block's words are out already, and the caller's mark says so.
-    fn lend_more<L: Lending>(
-        &self,
-        seat: &mut Seat<View>,
-        _errand: &Errand,
-        mark: usize,
-        _place: u32,
-        _need: Need,
-    )
-        requires table { seat.old.region ≡ self.now.region }
-        requires empty { seat.old.me.1 ≡ [] }
-        requires mark { mark ≡ mark_place self.now.layout (caller_mark self.now.layout L.owner.caller) }
-        requires within { mark < self.now.region.words }
-        requires may { MayLend seat.old.me.0 L.owner L.block.place L.block.need }
-        requires more { 0 < length seat.old.me.0.lent }
-        ensures seat { (seat.new.region ≡ seat.old.region) × (seat.new.id ≡ seat.old.id) }
-        ensures lent { HasLent L.block.place L.block.need seat.old.me.0 seat.new.me }
-    {
-        let start = self.table.start();
-        self.table.shared.load::<Lends<L>>(seat, start, mark);
-    }
-
     /// Gives back the usable words of the block that `L` names for the proof, and with them the calls on words that it
-    /// names are made. Where no other block's words are out, the caller's mark says so from now on.
-    fn take_back<L: Lending>(
+    /// names are made. The caller's mark stays set.
+    #[inline(always)]
+    pub(crate) fn take_back<L: Lending>(
         &self,
         seat: &mut Seat<View>,
-        errand: &Errand,
+        _errand: &Errand,
         mark: usize,
-        out: u32,
-        place: u32,
-        need: Need,
+        _place: u32,
+        _need: Need,
     )
         requires table { seat.old.region ≡ self.now.region }
         requires mark { mark ≡ mark_place self.now.layout (caller_mark self.now.layout L.owner.caller) }
         requires within { mark < self.now.region.words }
-        requires counted { length seat.old.me.0.lent ≡ out }
         requires may { MayReturn seat.old.me L.owner L.block L.made L.shown }
-        ensures seat { (seat.new.region ≡ seat.old.region) × (seat.new.id ≡ seat.old.id) }
-        ensures returned { HasReturned L.owner L.block L.made L.shown seat.old.me.0 seat.new.me }
-    {
-        if out == 1 {
-            self.return_last::<L>(seat, errand, mark, place, need);
-        } else {
-            self.return_one::<L>(seat, errand, mark, place, need);
-        }
-    }
-
-    /// Gives back the usable words of the block that `L` names for the proof, the last that the pass has out. The
-    /// caller's mark says that nothing is out any more.
-    fn return_last<L: Lending>(
-        &self,
-        seat: &mut Seat<View>,
-        _errand: &Errand,
-        mark: usize,
-        _place: u32,
-        _need: Need,
-    )
-        requires table { seat.old.region ≡ self.now.region }
-        requires mark { mark ≡ mark_place self.now.layout (caller_mark self.now.layout L.owner.caller) }
-        requires within { mark < self.now.region.words }
-        requires may { (m : MayReturn seat.old.me L.owner L.block L.made L.shown) × (m.comes.front ++ m.comes.back ≡ []) }
-        ensures seat { (seat.new.region ≡ seat.old.region) × (seat.new.id ≡ seat.old.id) }
-        ensures returned { HasReturned L.owner L.block L.made L.shown seat.old.me.0 seat.new.me }
-    {
-        let start = self.table.start();
-        self.table
-            .shared
-            .store::<Returns<L>>(seat, start, mark, BLANK);
-    }
-
-    /// Gives back the usable words of the block that `L` names for the proof, one of several that the pass has out. The
-    /// caller's mark stays as it is.
-    fn return_one<L: Lending>(
-        &self,
-        seat: &mut Seat<View>,
-        _errand: &Errand,
-        mark: usize,
-        _place: u32,
-        _need: Need,
-    )
-        requires table { seat.old.region ≡ self.now.region }
-        requires mark { mark ≡ mark_place self.now.layout (caller_mark self.now.layout L.owner.caller) }
-        requires within { mark < self.now.region.words }
-        requires may { (m : MayReturn seat.old.me L.owner L.block L.made L.shown) × (0 < length (m.comes.front ++ m.comes.back)) }
         ensures seat { (seat.new.region ≡ seat.old.region) × (seat.new.id ≡ seat.old.id) }
         ensures returned { HasReturned L.owner L.block L.made L.shown seat.old.me.0 seat.new.me }
     {
@@ -319,8 +255,34 @@ impl<R: ShelfRule> Heap<R> {
         self.table.shared.load::<Returns<L>>(seat, start, mark);
     }
 
+    /// Where no block's words are out with the pass, its caller's mark says so from now on. Taking words out marks it again.
+    /// A heap that is dropped, and not closed, gives its memory back only where each caller's mark says so.
+    pub fn rest(&self, pass: &mut Pass)
+        requires of { IsOf self.now pass.old }
+        ensures same { pass.new ≡ pass.old }
+    {
+        if pass.out == 0 {
+            let mark = self.caller_mark(pass.errand.caller());
+            self.clear_mark(&mut pass.seat, mark);
+        }
+    }
+
+    /// Clears the mark of a seat's caller, where nothing is out with the seat.
+    #[inline(never)]
+    fn clear_mark(&self, seat: &mut Seat<View>, mark: usize)
+        requires table { seat.old.region ≡ self.now.region }
+        requires mark { MayRest self.now.layout seat.old.me mark }
+        requires within { mark < self.now.region.words }
+        ensures seat { (seat.new.region ≡ seat.old.region) × (seat.new.id ≡ seat.old.id) }
+        ensures same { seat.new.me ≡ seat.old.me }
+    {
+        let start = self.table.start();
+        self.table.shared.store::<Rests>(seat, start, mark, BLANK);
+    }
+
     /// The place of the caller's mark. It is counted from the end of the memory, where it takes the least.
-    fn caller_mark(&self, caller: u32) -> usize
+    #[inline(always)]
+    pub(crate) fn caller_mark(&self, caller: u32) -> usize
         requires { caller < self.now.layout.callers }
         ensures place { result ≡ mark_place self.now.layout (caller_mark self.now.layout caller) }
         ensures within { result < self.now.region.words }
@@ -344,13 +306,4 @@ fn word_or_zero(words: &[u64], i: usize) -> u64
     ensures { result ≡ slice_index_or words.now i 0 }
 {
     if i < words.len() { words[i] } else { 0 }
-}
-
-/// Fills a slice: word i with from + i, modulo 2^64.
-fn count_from(words: &mut [u64], from: u64)
-    ensures { words.new ≡ numbers_from from (length words.old) }
-{
-    for i in 0..words.len() {
-        words[i] = from.wrapping_add(i as u64);
-    }
 }

@@ -9,8 +9,8 @@
 //! with 0 by the pass that is the first to use it (laying.rt); until then its words count as 0 for the
 //! machine, and no step is on one of them.
 //!
-//! A fill takes a block's usable words out of the region, writes them as plain memory and gives them back
-//! (lending.rt). For the machine each is written as they come back.
+//! Calls on usable words take a block's words out of the region, read or write them as plain memory and give
+//! them back (lending.rt, words.rt). For the machine each is read or written as they come back.
 #![tactic(auto)]
 
 pub mod answers;
@@ -28,6 +28,7 @@ pub mod pass;
 pub mod plain;
 mod plays;
 pub mod shelves;
+mod slices;
 mod small;
 mod steps;
 mod strides;

@@ -143,6 +143,26 @@ impl<L: Lending> Play<View> for Lends<L> {
     ghost then = { λ st before n after. HasLent L.block.place L.block.need before.0 after };
 }
 
+/// They go out where the caller's mark says that words may be out. Else nothing changes.
+pub struct LendsMarked<L> {
+    block: PhantomData<L>,
+}
+
+impl<L: Lending> Play<View> for LendsMarked<L> {
+    ghost use Rattle.live_heap.specs.Lending.{LendsWhere};
+
+    ghost then = { λ st before n after. LendsWhere L.block.place L.block.need n before after };
+}
+
+/// The caller's mark is cleared, and nothing else changes.
+pub struct Rests;
+
+impl Play<View> for Rests {
+    ghost use Rattle.std.specs.Prelude.{◌≡◌};
+
+    ghost then = { λ st before n after. after ≡ before };
+}
+
 /// They come back, and the calls are made.
 pub struct Returns<L> {
     block: PhantomData<L>,

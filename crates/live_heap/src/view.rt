@@ -7,7 +7,7 @@ use std::collections::LinkedList;
 use std::marker::Model;
 use word_table::name::WordName;
 
-/// How many steps a caller has made, each one access to a shared word, or a word of a fill that is written
+/// How many steps a caller has made, each one access to a shared word, or a usable word that is read or written
 /// while it is out; what lays a piece is no step, nor what takes words out. Its number has no end, as it is
 /// for proofs alone.
 pub struct Accesses {

@@ -6,14 +6,13 @@ use Rattle.live_heap.specs.Heaps.{HeapFields}
 use Rattle.live_heap.specs.declared.pass.Pass.{Pass}
 use Rattle.live_heap.specs.declared.plain.Memory.{Memory}
 use Rattle.live_heap.specs.Memory.{HasTaken}
+use Rattle.block_cache.specs.declared.magazines.Magazines.{Magazines}
+use Rattle.block_cache.specs.Magazines.{AreForClasses, Splits, all_in, stacks_of}
+use Rattle.block_cache.proofs.MagazineLemmas.{all-in, all-out}
 use Rattle.memory_cache.specs.declared.cache.MemoryCache.{MemoryCache}
-use Rattle.memory_cache.specs.declared.magazines.Magazines.{Magazines}
 use Rattle.memory_cache.specs.Caches.{AreKept, IsCache, LieApart, kept_in}
-use Rattle.memory_cache.specs.Magazines.{AreForClasses, all_in, stacks_of}
 use Rattle.memory_cache.specs.Rooms.{IsRoomOf}
 use Rattle.memory_cache.specs.Settled.{IsPassFor}
-use Rattle.memory_cache.proofs.ListLemmas.{all-in, all-out}
-use Rattle.memory_cache.proofs.MagazineLemmas.{Splits}
 use Rattle.memory_cache.proofs.SettledLemmas.{LentSame, taken-on}
 
 -- a piece among others: it is memory that is out, it lies apart from the others, and these are kept
@@ -83,13 +82,13 @@ pub passed : (h : HeapFields) (c : MemoryCache) (q : Pass) → IsCache h c → I
     → IsCache h (record { pass = q; magazines = c.magazines; hits = c.hits })
 passed h c q is pass kept = record { pass = pass; magazines = is.magazines; few = is.few; kept = kept }
 
-pub refilled : (h : HeapFields) (c : MemoryCache) (p : Pass) (m : Magazines) (hits : ℕ) → IsCache h c → IsPassFor h p → m.depth ≡ c.magazines.depth
-    → AreForClasses c.magazines.depth m.stacks.items → AreKept h p (all_in (stacks_of m.stacks.items))
+pub refilled : (h : HeapFields) (c : MemoryCache) (p : Pass) (m : Magazines Memory) (hits : ℕ) → IsCache h c → IsPassFor h p → m.depth ≡ c.magazines.depth
+    → AreForClasses (λ (memory : Memory). memory.block.need) c.magazines.depth m.stacks.items → AreKept h p (all_in (stacks_of m.stacks.items))
     → IsCache h (record { pass = p; magazines = m; hits = hits })
 refilled h c p m hits is pass depth ready kept =
     record {
       pass = pass;
-      magazines = subst (λ k. AreForClasses k m.stacks.items) (sym depth) ready;
+      magazines = subst (λ k. AreForClasses (λ (memory : Memory). memory.block.need) k m.stacks.items) (sym depth) ready;
       few = subst (λ k. k ≤ 4096) (sym depth) is.few;
       kept = kept;
     }

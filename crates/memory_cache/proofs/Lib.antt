@@ -1,5 +1,3 @@
 pub mod KeptLemmas
-pub mod ListLemmas
-pub mod MagazineLemmas
 pub mod RoomLemmas
 pub mod SettledLemmas

@@ -1,5 +1,5 @@
 -- A memory cache in front of a heap.
-use Rattle.std.specs.Prelude.{ℕ, ◌≡◌, ◌≢◌, ◌<◌, ◌≤◌, ◌+◌, ◌-◌, ◌^◌, ◌⊎◌, List, [], ◌∷◌, All, length, min}
+use Rattle.std.specs.Prelude.{ℕ, ◌≡◌, ◌≢◌, ◌<◌, ◌≤◌, ◌+◌, ◌-◌, ◌^◌, ◌⊎◌, List, [], ◌∷◌, All, min}
 use Rattle.heap_geometry.specs.declared.need.Need.{Need}
 use Rattle.heap_geometry.specs.declared.need.Need.TheVariants.{Small}
 use Rattle.heap_geometry.specs.Need.{need_of}
@@ -8,8 +8,8 @@ use Rattle.live_heap.specs.Heaps.{HeapFields}
 use Rattle.live_heap.specs.declared.pass.Pass.{Pass}
 use Rattle.live_heap.specs.declared.plain.Memory.{Memory}
 use Rattle.live_heap.specs.Memory.{HasTaken}
+use Rattle.block_cache.specs.Magazines.{AreForClasses, HasOnTop, HasOneFor, HasRoomFor, all_in, stack_at, stacks_of}
 use Rattle.memory_cache.specs.declared.cache.MemoryCache.{MemoryCache}
-use Rattle.memory_cache.specs.Magazines.{AreForClasses, HasOnTop, all_in, stack_at, stacks_of}
 use Rattle.memory_cache.specs.Rooms.{IsRoomOf}
 use Rattle.memory_cache.specs.Settled.{IsPassFor}
 
@@ -36,7 +36,7 @@ AreKept h p (m ∷ ms) = (IsRoomOf h m × HasTaken p m) × LieApart m ms × AreK
 -- a cache in front of this heap: its pass is settled or has a call under way; for each class there is a magazine of pieces of its blocks, at most as many as the depth says; and all of them are out with the pass
 pub record IsCache (h : HeapFields) (c : MemoryCache) : Type 0 where
   pub pass : IsPassFor h c.pass
-  pub magazines : AreForClasses c.magazines.depth c.magazines.stacks.items
+  pub magazines : AreForClasses (λ (memory : Memory). memory.block.need) c.magazines.depth c.magazines.stacks.items
   pub few : c.magazines.depth ≤ 4096
   pub kept : AreKept h c.pass (kept_in c)
 
@@ -46,10 +46,10 @@ IsHeld c m = HasTaken c.pass m × LieApart m (kept_in c)
 
 -- the magazine for this need has a piece; the magazine has room for one more
 abbrev pub HasFor : MemoryCache → Need → Type 0
-HasFor c need = (class : ℕ) × (need ≡ Small class) × (0 < length (magazine_in c class))
+HasFor c need = HasOneFor (stacks_in c) need
 
 abbrev pub HasRoom : MemoryCache → Need → Type 0
-HasRoom c need = (class : ℕ) × (need ≡ Small class) × (length (magazine_in c class) < c.magazines.depth)
+HasRoom c need = HasRoomFor c.magazines.depth (stacks_in c) need
 
 -- the last piece of a magazine is given, one hit more is counted, and nothing else happens: the pass is the very same
 pub record HasServed (c : MemoryCache) (words : ℕ) (memory : Memory) (d : MemoryCache) : Type 0 where

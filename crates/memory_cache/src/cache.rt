@@ -16,8 +16,8 @@ ghost use Rattle.memory_cache.specs.Rooms.{IsRoomOf};
 ghost use Rattle.memory_cache.specs.Settled.{IsSettled};
 
 use crate::answers::{CacheRefused, MemoryAnswer};
-use crate::magazines::Magazines;
 use crate::passes::{ask, send_home, settle};
+use block_cache::magazines::Magazines;
 use heap_geometry::need::{Need, class_of};
 use live_heap::heap::Heap;
 use live_heap::pass::Pass;
@@ -30,7 +30,7 @@ use std::alloc::Global;
 #[derive(Drop)]
 pub struct MemoryCache {
     pub(crate) pass: Pass,
-    pub(crate) magazines: Magazines,
+    pub(crate) magazines: Magazines<Memory>,
     pub(crate) hits: u64,
 }
 
@@ -129,7 +129,7 @@ impl MemoryCache {
         ensures cause { IfErr result (λ _. IsBusy self.old.pass.errand × HasSettled heap.now self.old.pass tries false self.new.pass) }
     {
         if let Need::Small(class) = memory.need() {
-            if self.magazines.count(class) < self.magazines.depth as usize {
+            if self.magazines.count(class) < self.magazines.depth() {
                 self.keep(class, memory);
                 return Ok(());
             }
@@ -226,6 +226,13 @@ impl MemoryCache {
         ensures { result ≡ self.now.hits }
     {
         self.hits
+    }
+
+    /// How many exchanges the pass has lost, at most 2^64 - 1.
+    pub fn lost(&self) -> u64
+        ensures { result ≡ self.now.pass.errand.lost }
+    {
+        self.pass.lost()
     }
 
     /// How many blocks' words are out with the pass, those in magazines too.

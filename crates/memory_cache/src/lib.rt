@@ -5,5 +5,4 @@
 pub mod answers;
 pub mod cache;
 pub mod laws;
-pub mod magazines;
 mod passes;

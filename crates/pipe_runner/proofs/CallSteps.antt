@@ -1,5 +1,5 @@
 -- What single calls make of a pass and of what it owns.
-use Rattle.std.proofs.Common.{ℕ, ◌≡◌, ◌≤◌, ◌%◌, ◌^◌, ◌+◌, List, [], ◌∷◌, Option, Some, None, refl, sym, ap, ◌∙◌, subst, arith}
+use Rattle.std.proofs.Common.{ℕ, ◌≡◌, ◌≤◌, ◌%◌, ◌^◌, ◌+◌, List, [], ◌∷◌, Option, Some, None, refl, sym, ap, ◌∙◌, subst, inl, inr, arith}
 use Rattle.std.specs.Prelude.{length, option_map, slice_index_or}
 use Rattle.heap_geometry.specs.Need.{need_of, usable_words}
 use Rattle.heap_geometry.specs.Need as needs
@@ -15,6 +15,7 @@ use Rattle.pool_model.proofs.OwnedLemmas.{of-self, owned-found}
 use Rattle.shelf_laws.specs.Quiet.{HandsNothingOver}
 use Rattle.errand_steps.specs.declared.reply.Reply.{Reply}
 use Rattle.errand_steps.specs.declared.reply.Reply.TheVariants as reply
+use Rattle.errand_steps.specs.Begins.{IsIdle}
 use Rattle.errand_steps.specs.Calls.{Call, alloc, put, read, take, write}
 use Rattle.sound_laws.specs.events.Ends.{end_of}
 use Rattle.step_machine.specs.Keeping.{LeavesPlace}
@@ -24,14 +25,15 @@ use Rattle.lane_engine.specs.Whole.{allocated_as}
 use Rattle.live_heap.specs.declared.block.Block.{Block}
 use Rattle.live_heap.specs.Heaps.{HeapFields}
 use Rattle.live_heap.specs.declared.pass.Pass.{Pass}
-use Rattle.live_heap.specs.Answers.{IsContents, PutTellsFull, TakeTells}
+use Rattle.live_heap.specs.declared.answers.AllocAnswer.TheVariants as answer
+use Rattle.live_heap.specs.Answers.{AllocTells, IsContents, PutTellsFull, TakeTells}
 use Rattle.live_heap.specs.declared.answers.Full.{Full}
 use Rattle.live_heap.specs.declared.answers.Taken.TheVariants as taken
 use Rattle.live_heap.specs.Calls.{HasCalled}
 use Rattle.live_heap.specs.Contents.{OwnsSame, owned_in}
 use Rattle.live_heap.specs.Holdings.{ChangesHand}
 use Rattle.live_heap.specs.Passes.{IsHome, IsOf, Owns, seen, view}
-use Rattle.live_heap.specs.Whole.{IsAtRest, IsWhole, OwnsFor, at_once, by_steps}
+use Rattle.live_heap.specs.Whole.{IsAtRest, IsWhole, MadeByPass, OwnsFor, at_once, by_steps}
 use Rattle.live_heap.proofs.Changes.{called-changes, whole-changes}
 use Rattle.live_heap.proofs.Exact.{whole-exact}
 use Rattle.live_heap.proofs.LawsKept.{given-home, stays-home}
@@ -261,3 +263,13 @@ handed h pipe p last q e f block left keeps same of called end is full = record 
       (subst (λ (s : Sender). HasCalled last (put left.place left.need (shelf_for pipe.shelves s.number s.sent)) 0 reply.Put q) end called);
   rest = (of, called.idle);
 }
+
+-- an allocation that found no turn left; and what a whole call leaves the pass in: no call
+pub spent-made :
+    (p : Pass) (words tries : ℕ) (q : Pass) → AllocTells p words tries answer.Spent q → MadeByPass p (alloc words) reply.Spent q
+spent-made p words tries q (inl once) = at_once words refl refl once
+spent-made p words tries q (inr ended) = by_steps (ended.0.steps, ended.0.called)
+
+pub made-idle : (p : Pass) (call : Call) (answer : Reply) (q : Pass) → IsIdle p.errand → MadeByPass p call answer q → IsIdle q.errand
+made-idle p call answer q idle (by_steps ended) = ended.1.idle
+made-idle p call answer q idle (at_once words is_alloc spent once) = subst (λ (r : Pass). IsIdle r.errand) (sym once.same) idle

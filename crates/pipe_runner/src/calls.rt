@@ -3,7 +3,7 @@
 ghost use Rattle.std.specs.Prelude.{ℕ, ◌≡◌, ◌≤◌, ◌%◌, ◌^◌, ◌+◌, ◌*◌, List, Some, None, IfSome};
 ghost use Rattle.heap_geometry.specs.Need.{usable_words};
 ghost use Rattle.errand_steps.specs.declared.reply.Reply.TheVariants as reply;
-ghost use Rattle.errand_steps.specs.Calls.{alloc, free};
+ghost use Rattle.errand_steps.specs.Calls.{alloc};
 ghost use Rattle.pool_model.specs.Pool.{Block as PoolBlock, fresh_block};
 ghost use Rattle.live_heap.specs.Contents.{owned_in};
 ghost use Rattle.live_heap.specs.Passes.{Owns};
@@ -13,11 +13,11 @@ ghost use Rattle.pipe_runner.specs.EndCalls.{GaveNone, HasTried, with_found, wor
 ghost use Rattle.pipe_runner.specs.Messages.{HasThreeWords, three_from, with_word, with_words};
 ghost use Rattle.pipe_runner.specs.Moves.{AreThree, HasAllocated, KeepsBlocks};
 
-use lane_engine::calls::{Allocated, Calls};
+use crate::whole;
+use lane_engine::calls::Allocated;
 use live_heap::block::Block;
 use live_heap::heap::Heap;
 use live_heap::pass::Pass;
-use pass_calls::over_pass::PassCalls;
 use std::sync::Wait;
 use std::thread;
 
@@ -27,8 +27,7 @@ fn try_allocate<R: Wait>(rt: &R, heap: &Heap, pass: &mut Pass) -> Option<Block>
     ensures given { IfSome result (λ block. IsWhole heap.now pass.old (alloc 3) (reply.Given block.place block.need) heap.now pass.new) }
     ensures none { result ≡ None → KeepsBlocks heap.now pass.old pass.new × HasTried (GaveNone 3) pass.old pass.new }
 {
-    let mut calls = PassCalls::new(heap, pass);
-    match calls.allocate(rt, 3) {
+    match whole::allocate(rt, heap, pass, 3) {
         Allocated::Given(block) => Some(block),
         _ => None,
     }
@@ -46,16 +45,6 @@ pub(crate) fn allocate<R: Wait>(rt: &R, heap: &Heap, pass: &mut Pass) -> Block
         }
     }
     unreachable!()
-}
-
-/// Frees the pass's block.
-pub(crate) fn release<R: Wait>(rt: &R, heap: &Heap, pass: &mut Pass, block: Block)
-    requires rest { IsAtRest heap.now pass.old }
-    requires owned { Owns pass.old block }
-    ensures { IsWhole heap.now pass.old (free block.place block.need) reply.Freed heap.now pass.new }
-{
-    let mut calls = PassCalls::new(heap, pass);
-    calls.free(rt, block);
 }
 
 /// Writes three words into the pass's block, which count from this number, modulo 2^64.

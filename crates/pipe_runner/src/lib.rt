@@ -9,3 +9,4 @@ pub mod rounds;
 pub mod row;
 pub mod run;
 pub mod sender;
+mod whole;

@@ -6,8 +6,9 @@ ghost use Rattle.block_pipe.specs.Ends.{IsReceiver, popped_by};
 ghost use Rattle.pipe_runner.specs.Moves.{HasTakenOff};
 ghost use Rattle.pipe_runner.specs.Receivers.{Arrives, IsReceiving};
 
-use crate::calls::{fold_block, release};
+use crate::calls::fold_block;
 use crate::row::Row;
+use crate::whole::release;
 use block_pipe::pipe::Pipe;
 use block_pipe::receiver::Receiver;
 use block_pipe::receiving::Received;

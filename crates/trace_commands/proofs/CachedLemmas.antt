@@ -12,12 +12,17 @@ use Rattle.step_machine.proofs.CoreLemmas.{core-sound}
 use Rattle.live_heap.specs.Endings.{ClosedFields, machine_of}
 use Rattle.lane_outcomes.specs.declared.outcome.Outcome.{Outcome}
 use Rattle.lane_outcomes.specs.declared.outcome.Outcome.TheVariants.{Spent}
+use Rattle.lane_outcomes.specs.Fits.{OutcomesFit}
 use Rattle.lane_outcomes.specs.Passed.{AllPassed}
 use Rattle.lane_outcomes.specs.Report.{report_of, report_with}
-use Rattle.cached_outcomes.specs.Cached.{CachedOutcomesFit}
-use Rattle.cached_runner.specs.Shared.{IsSharedThrough}
-use Rattle.trace_commands.specs.Answers.{IsCachedRun, IsCacheTold, hits_line}
-use Rattle.trace_commands.specs.Closings.{lost_by_threads}
+use Rattle.lane_outcomes.specs.Cached.{CachedOutcomesFit}
+use Rattle.live_heap.specs.Heaps.{HeapFields}
+use Rattle.live_heap.specs.declared.pass.Pass.{Pass}
+use Rattle.lane_runner.specs.Passes.{HaveRun}
+use Rattle.lane_runner.specs.Shared.{IsSharedThrough}
+use Rattle.lane_runner.specs.Threads.{HaveRunThrough}
+use Rattle.trace_commands.specs.Answers.{IsCachedRun, IsCacheTold, IsRun, hits_line}
+use Rattle.trace_commands.specs.Closings.{IsSharedIn, lost_by_threads}
 use Rattle.trace_commands.specs.declared.closing.Closing.TheVariants.{Ran}
 
 -- what lanes through caches leave of their heap
@@ -39,6 +44,33 @@ cached-run passed trace depth closed outcomes hits shared fit spent all_passed =
       spent = spent;
       all_passed = all_passed;
       kept_so = shared;
+    }
+
+-- lanes through caches of depth 0 have run on the heap itself
+pub plain-run :
+    (passed : ℕ → ℕ → Type 0) (trace : Trace) (closed : ClosedFields) (outcomes : List (List Outcome)) (hits : List ℕ)
+    → ((h : HeapFields) (passes : List Pass) → HaveRunThrough trace h 0 passes outcomes hits → HaveRun trace h passes outcomes)
+    → ((history : List Event) (lost : ℕ) → CachedOutcomesFit trace.heap history lost 0 trace.lanes outcomes (sum hits)
+    → OutcomesFit trace.heap history lost trace.lanes outcomes)
+    → IsCachedRun passed trace 0 hits (Ran closed) outcomes → IsRun passed trace (IsSharedIn trace) (Ran closed) outcomes
+plain-run passed trace closed outcomes hits bare fits run =
+    let shared = run.kept_so in
+    record {
+      heap = run.heap;
+      fit = fits closed.events (lost_by_threads closed) run.fit;
+      legal = run.legal;
+      spent = run.spent;
+      all_passed = run.all_passed;
+      kept_so =
+          record {
+            rests = shared.rests;
+            heap = shared.heap;
+            laid = shared.laid;
+            passes = shared.passes;
+            ran = bare shared.heap shared.passes shared.ran;
+            closed = shared.closed;
+            accesses = shared.accesses;
+          };
     }
 
 -- the report with what was counted is that of the history whose pool has so many blocks

@@ -16,11 +16,8 @@ use Rattle.lane_outcomes.specs.Passed.{AllPassed}
 use Rattle.lane_outcomes.specs.Report.{report_of}
 use Rattle.lane_outcomes.proofs.LanesLemmas.{lanes-many}
 use Rattle.lane_runner.specs.Driven.{IsDriven}
-use Rattle.lane_runner.specs.Threads.{HaveRun}
-use Rattle.lane_runner.proofs.ClosedFits.{all-taken, closed-fit, driven-taken}
-use Rattle.live_heap.specs.Heaps.{HeapFields}
-use Rattle.live_heap.specs.declared.pass.Pass.{Pass}
-use Rattle.live_heap.specs.Endings.{ClosedFields, HasAccesses, HasClosed, IsResting, machine_of}
+use Rattle.lane_runner.proofs.ClosedFits.{driven-taken}
+use Rattle.live_heap.specs.Endings.{ClosedFields}
 use Rattle.lane_outcomes.specs.LaneCounts.{as_one}
 use Rattle.roomy_traces.specs.Serial.{left_by, serial_outcomes, serial_report_of}
 use Rattle.roomy_traces.proofs.ReportLemmas.{live-left, one-report}
@@ -46,21 +43,6 @@ run-of passed trace core outcomes is_core driven all_passed =
       spent = λ lane lt told. driven-taken trace trace.orders core outcomes lane driven lt told;
       all_passed = all_passed;
       kept_so = driven;
-    }
-
--- what lanes on threads leave of their heap
-pub shared-run :
-    (passed : ℕ → ℕ → Type 0) (trace : Trace) (h : HeapFields) (passes : List Pass) (closed : ClosedFields) (outcomes : List (List Outcome))
-    → IsTrace trace → h.layout ≡ trace.heap → HaveRun trace h passes outcomes → HasClosed h passes closed → IsResting closed → HasAccesses closed passes
-    → AllPassed passed trace.lanes → IsRun passed trace (IsSharedIn trace) (Ran closed) outcomes
-shared-run passed trace h passes closed outcomes named laid run has_closed rests accesses all_passed =
-    record {
-      heap = has_closed.heap ∙ laid;
-      fit = closed-fit trace h passes outcomes closed named laid run has_closed rests;
-      legal = let P : Geometry → Type 0 = λ g. IsLegal g closed.events in subst P (has_closed.heap ∙ laid) (core-sound (machine_of closed rests.steps) rests.core).legal;
-      spent = λ lane lt told. all-taken trace h passes outcomes closed named laid run has_closed rests lane lt told;
-      all_passed = all_passed;
-      kept_so = record { rests = rests; heap = h; laid = laid; passes = passes; ran = run; closed = has_closed; accesses = accesses };
     }
 
 -- what `replay` tells

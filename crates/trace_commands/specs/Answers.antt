@@ -12,7 +12,7 @@ use Rattle.lane_outcomes.specs.declared.outcome.Outcome.TheVariants.{Spent}
 use Rattle.lane_outcomes.specs.Fits.{OutcomesFit}
 use Rattle.lane_outcomes.specs.Passed.{AllPassed}
 use Rattle.lane_outcomes.specs.Report.{report_of}
-use Rattle.cached_outcomes.specs.Cached.{CachedOutcomesFit}
+use Rattle.lane_outcomes.specs.Cached.{CachedOutcomesFit}
 use Rattle.roomy_traces.specs.Roomy.{IsRoomy}
 use Rattle.roomy_traces.specs.Serial.{serial_report_of}
 use Rattle.heap_census.specs.declared.census.Census.{Census as Counts}

@@ -13,7 +13,7 @@ use Rattle.trace_text.specs.declared.trace.Trace.{Trace}
 use Rattle.lane_outcomes.specs.declared.outcome.Outcome.{Outcome}
 use Rattle.lane_runner.specs.Driven.{IsDriven, lost_by_all}
 use Rattle.lane_runner.specs.Shared.{IsShared}
-use Rattle.cached_runner.specs.Shared.{IsSharedThrough}
+use Rattle.lane_runner.specs.Shared.{IsSharedThrough}
 use Rattle.trace_commands.specs.declared.closing.Closing.{Closing}
 use Rattle.live_heap.specs.Endings.{ClosedFields}
 use Rattle.trace_commands.specs.declared.closing.Closing.TheVariants.{Plain, Stepped, Ran, Piped}

@@ -34,7 +34,11 @@ pub fn make<R: Threads + Wait + Sync, G: Gate + Sync>(
         × HasOneSummary workload told.text.items) }
 {
     let trace = make_trace(alloc, workload.kind, workload.size, workload.start)?;
-    let ThreadedRun { closed, outcomes } = run_on_threads(rt, alloc, gate, &trace)?;
+    let ThreadedRun {
+        closed,
+        outcomes,
+        hits: _,
+    } = run_on_threads(rt, alloc, gate, &trace)?;
     let outcomes = outcomes.as_slice();
     let (live, words) = live_count(&trace, outcomes);
     let text = summary(alloc, workload, &trace, outcomes, live, words)?;

@@ -6,7 +6,7 @@ ghost use Rattle.pool_model.specs.Legal.{IsLegal};
 ghost use Rattle.trace_text.specs.Traces.{IsTrace};
 ghost use Rattle.lane_outcomes.specs.Fits.{OutcomesFit};
 ghost use Rattle.lane_outcomes.specs.Report.{report_of};
-ghost use Rattle.cached_outcomes.specs.Cached.{CachedOutcomesFit};
+ghost use Rattle.lane_outcomes.specs.Cached.{CachedOutcomesFit};
 ghost use Rattle.heap_census.specs.declared.census.Census.{Census as Counts};
 ghost use Rattle.trace_commands.specs.Answers.{IsTold, counted_text, replay_text, schedule_text, serial_counted, serial_replay, serial_schedule};
 ghost use Rattle.trace_commands.specs.Censuses.{IsCensusOf};
@@ -17,9 +17,9 @@ use crate::closing::Closing;
 use crate::driven::{DrivenRun, drive};
 use crate::steps::steps_line;
 use crate::threaded::{ThreadedRun, run_on_threads};
-use cached_outcomes::laws::live_blocks_are_counted;
 use edge_io::gate::Gate;
 use heap_census::counting::census;
+use lane_outcomes::cached_laws::live_blocks_are_counted;
 use lane_outcomes::live::live_count;
 use lane_outcomes::outcome::Outcome;
 use lane_outcomes::report::report;
@@ -65,7 +65,11 @@ pub fn replay<R: Threads + Wait + Sync, G: Gate + Sync>(
     ensures { IfOk result (λ told.
         IsTold (G.passed gate.now) trace.now (IsSharedIn trace.now) (replay_text trace.now) (serial_replay trace.now) (Some told.closing) told.text.items) }
 {
-    let ThreadedRun { closed, outcomes } = run_on_threads(rt, alloc, gate, trace)?;
+    let ThreadedRun {
+        closed,
+        outcomes,
+        hits: _,
+    } = run_on_threads(rt, alloc, gate, trace)?;
     let text = report_on(alloc, trace, outcomes.as_slice())?;
     let closing = Closing::Ran(closed);
     Ok(Told { text, closing })
@@ -98,7 +102,11 @@ pub fn counted<R: Threads + Wait + Sync, G: Gate + Sync>(
         × IsTold (G.passed gate.now) trace.now (IsSharedIn trace.now) (counted_text trace.now counts) (serial_counted trace.now counts)
         (Some told.closing) told.text.items) }
 {
-    let ThreadedRun { closed, outcomes } = run_on_threads(rt, alloc, gate, trace)?;
+    let ThreadedRun {
+        closed,
+        outcomes,
+        hits: _,
+    } = run_on_threads(rt, alloc, gate, trace)?;
     let mut text = report_on(alloc, trace, outcomes.as_slice())?;
     let counts = census_lines(alloc, &census(&closed))?;
     text.extend_from_slice(counts.as_slice())?;

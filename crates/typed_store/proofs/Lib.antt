@@ -14,3 +14,4 @@ pub mod ResumeLemmas
 pub mod ReadLemmas
 pub mod RecordLemmas
 pub mod OnListLemmas
+mod SliceLemmas

@@ -41,18 +41,6 @@ words-one (x ∷ xs) (y ∷ ys) long same =
     let one : x ≡ y = cc in
     ap (λ z. z ∷ xs) one ∙ ap (λ l. y ∷ l) (words-one xs ys (omega (arith, long)) (λ i within. same (suc i) (omega (arith, within))))
 
--- the word at the end of a list with one word more
-pub get-last : (xs : List ℕ) (x i : ℕ) → i ≡ length xs → slice_get (xs ++ x ∷ []) i ≡ Some x
-get-last [] x zero is = refl
-get-last [] x (suc i) is = absurd (omega (arith, is))
-get-last (y ∷ ys) x zero is = absurd (omega (arith, is))
-get-last (y ∷ ys) x (suc i) is = get-last ys x i (omega (arith, is))
-
-pub get-before : (xs : List ℕ) (x i : ℕ) → i < length xs → slice_get (xs ++ x ∷ []) i ≡ slice_get xs i
-get-before [] x i within = absurd (omega (arith, within))
-get-before (y ∷ ys) x zero within = refl
-get-before (y ∷ ys) x (suc i) within = get-before ys x i (omega (arith, within))
-
 -- there are as many records as blocks; one more of both; and the record of a number
 pub records-counted : (p : Pass) (blocks : List Block) (records : List (List ℕ)) → AllZip (λ block words. IsRecord p block words) blocks records → length blocks ≡ length records
 records-counted p [] [] are = refl

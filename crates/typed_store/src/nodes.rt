@@ -36,9 +36,9 @@ pub(crate) fn read_node(heap: &Heap, pass: &mut Pass, block: &Block) -> Node
     ensures node { node_at (owned_in pass.old block.now.place) ≡ Some (result.next, (result.key, result.value)) }
     ensures found { LedBy heap.now pass.old (node_reads block.now result.next (result.key, result.value)) pass.new }
 {
-    let next = heap.read(pass, block, 0);
-    let key = heap.read(pass, block, 1);
-    let value = heap.read(pass, block, 2);
+    let mut words = [0; NODE_WORDS as usize];
+    heap.read_slice(pass, block, 0, &mut words);
+    let [next, key, value] = words;
     Node { next, key, value }
 }
 
@@ -53,9 +53,7 @@ pub(crate) fn write_node(heap: &Heap, pass: &mut Pass, block: &Block, node: Node
     ensures node { node_at (owned_in pass.new block.now.place) ≡ Some (node.next, (node.key, node.value)) }
     ensures others { (place : ℕ) → place ≢ block.now.place → owned_in pass.new place ≡ owned_in pass.old place }
 {
-    heap.write(pass, block, 0, node.next);
-    heap.write(pass, block, 1, node.key);
-    heap.write(pass, block, 2, node.value);
+    heap.write_slice(pass, block, 0, &[node.next, node.key, node.value]);
 }
 
 /// Lets a node lead to another one.

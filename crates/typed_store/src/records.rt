@@ -25,11 +25,8 @@ pub(crate) fn write_record(heap: &Heap, pass: &mut Pass, block: &Block, words: &
     ensures record { IsRecord pass.new block.now words.now }
     ensures others { (place : ℕ) → place ≢ block.now.place → owned_in pass.new place ≡ owned_in pass.old place }
 {
-    let _most = block.usable_words();
     heap.write(pass, block, 0, words.len() as u64);
-    for i in 0..words.len() {
-        heap.write(pass, block, i as u32 + 1, words[i]);
-    }
+    heap.write_slice(pass, block, 1, words);
 }
 
 /// The token of a record.
@@ -57,9 +54,7 @@ pub(crate) fn read_record(
 {
     let _most = block.usable_words();
     let count = heap.read(pass, block, 0) as u32;
-    let mut words = Vec::with_capacity(alloc, count as usize)?;
-    for i in 0..count {
-        words.push_reserved(heap.read(pass, block, i + 1));
-    }
+    let mut words = vec![in alloc; 0; count as usize]?;
+    heap.read_slice(pass, block, 1, &mut words);
     Ok(words)
 }

@@ -72,7 +72,7 @@ ReadsWritten =
     → IsContents q place i word → word_in p place i ≡ Some v → word ≡ v
 
 pub keeps-depth : (c d : Cache) → KeepsMagazines c d → d.magazines.depth ≡ c.magazines.depth
-keeps-depth c d keeps = ap (λ (m : Magazines). m.depth) keeps.magazines
+keeps-depth c d keeps = ap (λ (m : Magazines Block). m.depth) keeps.magazines
 
 -- an allocation that was interrupted found no block in a magazine, and such a free no room in one
 pub busy-asks :

@@ -20,40 +20,10 @@ use Rattle.block_cache.specs.Caches.{KeepsMagazines, cached_in, magazine_in, sta
 use Rattle.block_cache.specs.Flushes.{Frees}
 use Rattle.block_cache.specs.Magazines.{HasOnTop, all_in, leaving, stack_at, stacks_of}
 use Rattle.block_cache.specs.Whole.{RestsAt, asked, kept, served}
-use Rattle.block_cache.proofs.MagazineLemmas.{top-splits}
+use Rattle.block_cache.proofs.MagazineLemmas.{top-all, top-here}
 use Rattle.worked_programs.specs.declared.reuse.TheConstants.{DEPTH}
 use Rattle.worked_programs.specs.Reuse.{IsRound, Makes, MakesRounds}
 use Rattle.worked_programs.proofs.EmbeddedCounts.{Counts, IsBlind, called-of, counts-on, giving-counts, one}
-
--- a stack with a block more on its top is one block longer, and so are all stacks together
-stack-there : (before after : List (List Block)) (stack : List Block) → stack_at (before ++ stack ∷ after) (length before) ≡ stack
-stack-there [] after stack = refl
-stack-there (x ∷ before) after stack = stack-there before after stack
-
-top-here :
-    (class : ℕ) (block : Block) (more less : List (List Block)) → HasOnTop class block more less
-    → length (stack_at more class) ≡ length (stack_at less class) + 1
-top-here class block more less top =
-    let with_it : stack_at more class ≡ top.stack ++ block ∷ [] =
-    ap (λ (xs : List (List Block)). stack_at xs class) top.with_it
-    ∙ ap (λ (k : ℕ). stack_at (top.before ++ (top.stack ++ block ∷ []) ∷ top.after) k) (sym top.number)
-    ∙ stack-there top.before top.after (top.stack ++ block ∷ []) in
-    let without_it : stack_at less class ≡ top.stack =
-    ap (λ (xs : List (List Block)). stack_at xs class) top.without_it
-    ∙ ap (λ (k : ℕ). stack_at (top.before ++ top.stack ∷ top.after) k) (sym top.number) ∙ stack-there top.before top.after top.stack in
-    omega (arith, ap length with_it, ap length without_it, length-append top.stack (block ∷ []))
-
-top-all :
-    (class : ℕ) (block : Block) (more less : List (List Block)) → HasOnTop class block more less → length (all_in more) ≡ length (all_in less) + 1
-top-all class block more less top =
-    let split = top-splits class block more less top in
-    omega (
-      arith,
-      ap length split.with_it,
-      ap length split.without_it,
-      length-append split.front (block ∷ split.back),
-      length-append split.front split.back,
-    )
 
 -- no stack has more blocks than all together
 stack-within : (stacks : List (List Block)) (class : ℕ) → length (stack_at stacks class) ≤ length (all_in stacks)
@@ -86,10 +56,10 @@ count-is : (P : Event → Bool) (k n m : ℕ) (p : Pass) → n ≡ m → Counts 
 count-is P k n m p is had = (had.0, had.1 ∙ is)
 
 same-here : (c d : Cache) (class : ℕ) → KeepsMagazines c d → length (magazine_in d class) ≡ length (magazine_in c class)
-same-here c d class keeps = ap (λ (m : Magazines). length (stack_at (stacks_of m.stacks.items) class)) keeps.magazines
+same-here c d class keeps = ap (λ (m : Magazines Block). length (stack_at (stacks_of m.stacks.items) class)) keeps.magazines
 
 same-all : (c d : Cache) → KeepsMagazines c d → length (cached_in d) ≡ length (cached_in c)
-same-all c d keeps = ap (λ (m : Magazines). length (all_in (stacks_of m.stacks.items))) keeps.magazines
+same-all c d keeps = ap (λ (m : Magazines Block). length (all_in (stacks_of m.stacks.items))) keeps.magazines
 
 -- before the first round
 pub stands-first :

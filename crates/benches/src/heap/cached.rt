@@ -17,7 +17,7 @@ use crate::heap::front::Front;
 use crate::heap::tally::{Tally, count};
 use block_cache::cache::Cache;
 use block_cache::laws::{caches_account_for_all_blocks, ended_calls_are_whole};
-use cached_calls::over_cache::empty;
+use lane_engine::over_cache::empty;
 use live_heap::answers::{AllocAnswer, FreeAnswer, Resumed, Taken};
 use live_heap::block::Block;
 use live_heap::heap::Heap;

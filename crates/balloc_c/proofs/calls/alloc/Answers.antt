@@ -2,37 +2,70 @@ use Rattle.std.proofs.Common.{arith, rules, ◌≤◌}
 use Rattle.errand_steps.specs.Begins.{IsIdle}
 use Rattle.heap_geometry.specs.declared.limits.TheConstants.{LARGE_MOST}
 use Rattle.live_heap.specs.declared.answers.AllocAnswer.TheVariants as alloc_answer
-use Rattle.balloc_c.specs.Slots.{blocks_of}
+use Rattle.balloc_c.specs.declared.kept.Kept.TheVariants as kept
+use Rattle.balloc_c.specs.Slots.{lots_of}
 use Rattle.balloc_c.specs.Through.{IsAllocation}
-use Rattle.balloc_c.proofs.MadeCalls.{busy-answers, filled-tends, given-answers, refused-answers, same-tends, spent-answers}
+use Rattle.balloc_c.proofs.Going.{alloc-goes, given-home}
+use Rattle.balloc_c.proofs.MadeCalls.{busy-answers, given-answers, refused-answers, spent-answers}
 use Rattle.balloc_c.proofs.Numbers.{gains-behind}
 use Rattle.balloc_c.proofs.Packing.{few-set}
+use Rattle.balloc_c.proofs.Tending.{filled-tends, same-tends}
 use Rattle.std.specs.Prelude.{Some}
 use Rattle.balloc_c.proofs.calls.alloc.Goals as goal
 
 pub returns-in-Given-clause-tends : goal.returns-in-Given-clause-tends
 returns-in-Given-clause-tends c =
-    let had = blocks_of c.args.table.now.slots.items in
-    filled-tends c.args.heap.now c.alloc.new.self had c.vacant.new.self.slots.items c.fill.new.self.slots.items c.in-Ok.index c.in-Given.block
-    c.alloc.ensures.cache (c.in-Given.ensures.holds had c.requires.tends.holds) c.vacant.ensures.blocks c.in-Ok.ensures.vacant.0 c.fill.ensures.slots
+    let h = c.args.heap.now in
+    let s = c.args.cache.now in
+    let t = c.args.table.now in
+    let d = c.alloc.new.self in
+    let block = c.in-Given.block in
+    let idle : IsIdle s.pass.errand = search rules in
+    let told : IsAllocation s c.args.words (alloc_answer.Given block) d =
+    record { served = c.in-Given.ensures.served; asked = c.in-Given.ensures.asked; depth = c.alloc.ensures.depth } in
+    filled-tends h s d t.slots.items c.vacant.new.self.slots.items c.fill.new.self.slots.items c.in-Ok.index block c.requires.tends c.alloc.ensures.cache
+    (alloc-goes h s d c.args.words (alloc_answer.Given block) (lots_of t.slots.items) c.requires.tends.cache c.alloc.ensures.cache idle told)
+    (given-home h s d c.args.words block c.requires.tends.cache idle told) c.vacant.ensures.blocks c.vacant.ensures.same c.in-Ok.ensures.vacant.0
+    c.fill.ensures.slots
 
 pub returns-in-Refused-clause-tends : goal.returns-in-Refused-clause-tends
 returns-in-Refused-clause-tends c =
-    let had = blocks_of c.args.table.now.slots.items in
-    same-tends c.args.heap.now c.alloc.new.self had c.vacant.new.self.slots.items c.alloc.ensures.cache
-    (c.in-Refused.ensures.holds had c.requires.tends.holds) c.vacant.ensures.blocks
+    let h = c.args.heap.now in
+    let s = c.args.cache.now in
+    let t = c.args.table.now in
+    let d = c.alloc.new.self in
+    let idle : IsIdle s.pass.errand = search rules in
+    let told : IsAllocation s c.args.words alloc_answer.Refused d =
+    record { served = c.in-Refused.ensures.served; asked = c.in-Refused.ensures.asked; depth = c.alloc.ensures.depth } in
+    same-tends h s d t.slots.items c.vacant.new.self.slots.items c.requires.tends c.alloc.ensures.cache
+    (alloc-goes h s d c.args.words alloc_answer.Refused (lots_of t.slots.items) c.requires.tends.cache c.alloc.ensures.cache idle told)
+    c.vacant.ensures.blocks c.vacant.ensures.same
 
 pub returns-in-Spent-clause-tends : goal.returns-in-Spent-clause-tends
 returns-in-Spent-clause-tends c =
-    let had = blocks_of c.args.table.now.slots.items in
-    same-tends c.args.heap.now c.alloc.new.self had c.vacant.new.self.slots.items c.alloc.ensures.cache
-    (c.in-Spent.ensures.holds had c.requires.tends.holds) c.vacant.ensures.blocks
+    let h = c.args.heap.now in
+    let s = c.args.cache.now in
+    let t = c.args.table.now in
+    let d = c.alloc.new.self in
+    let idle : IsIdle s.pass.errand = search rules in
+    let told : IsAllocation s c.args.words alloc_answer.Spent d =
+    record { served = c.in-Spent.ensures.served; asked = c.in-Spent.ensures.asked; depth = c.alloc.ensures.depth } in
+    same-tends h s d t.slots.items c.vacant.new.self.slots.items c.requires.tends c.alloc.ensures.cache
+    (alloc-goes h s d c.args.words alloc_answer.Spent (lots_of t.slots.items) c.requires.tends.cache c.alloc.ensures.cache idle told)
+    c.vacant.ensures.blocks c.vacant.ensures.same
 
 pub returns-in-Busy-clause-tends : goal.returns-in-Busy-clause-tends
 returns-in-Busy-clause-tends c =
-    let had = blocks_of c.args.table.now.slots.items in
-    same-tends c.args.heap.now c.alloc.new.self had c.vacant.new.self.slots.items c.alloc.ensures.cache
-    (c.in-Busy.ensures.holds had c.requires.tends.holds) c.vacant.ensures.blocks
+    let h = c.args.heap.now in
+    let s = c.args.cache.now in
+    let t = c.args.table.now in
+    let d = c.alloc.new.self in
+    let idle : IsIdle s.pass.errand = search rules in
+    let told : IsAllocation s c.args.words alloc_answer.Busy d =
+    record { served = c.in-Busy.ensures.served; asked = c.in-Busy.ensures.asked; depth = c.alloc.ensures.depth } in
+    same-tends h s d t.slots.items c.vacant.new.self.slots.items c.requires.tends c.alloc.ensures.cache
+    (alloc-goes h s d c.args.words alloc_answer.Busy (lots_of t.slots.items) c.requires.tends.cache c.alloc.ensures.cache idle told)
+    c.vacant.ensures.blocks c.vacant.ensures.same
 
 pub returns-in-Given-clause-answers : goal.returns-in-Given-clause-answers
 returns-in-Given-clause-answers c =
@@ -45,7 +78,7 @@ returns-in-Given-clause-answers c =
     record { served = c.in-Given.ensures.served; asked = c.in-Given.ensures.asked; depth = c.alloc.ensures.depth } in
     let u = c.fill.new.self in
     given-answers s t c.args.words c.fill.result c.in-Given.block d u idle few
-    (gains-behind t c.vacant.new.self c.fill.result c.in-Given.block u c.vacant.ensures.keeps c.fill.ensures.gains) told
+    (gains-behind t c.vacant.new.self c.fill.result (kept.Home c.in-Given.block) u c.vacant.ensures.keeps c.fill.ensures.gains) told
 
 pub returns-in-Refused-clause-answers : goal.returns-in-Refused-clause-answers
 returns-in-Refused-clause-answers c =
@@ -82,4 +115,4 @@ returns-in-Busy-clause-answers c =
 
 pub returns-in-Given-clause-few : goal.returns-in-Given-clause-few
 returns-in-Given-clause-few c =
-    few-set c.args.table.now c.vacant.new.self c.fill.new.self c.in-Ok.index (Some c.in-Given.block) c.vacant.ensures.few c.fill.ensures.slots
+    few-set c.args.table.now c.vacant.new.self c.fill.new.self c.in-Ok.index (Some (kept.Home c.in-Given.block)) c.vacant.ensures.few c.fill.ensures.slots

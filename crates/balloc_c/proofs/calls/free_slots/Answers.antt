@@ -1,5 +1,6 @@
-use Rattle.std.proofs.Common.{arith, ◌<◌, length, ◌∙◌}
-use Rattle.balloc_c.proofs.LeaveLemmas.{empty-next, freed-table, frees-on, rest-next, stops-table}
+use Rattle.std.proofs.Common.{arith, ◌<◌, length, ap, ◌∙◌}
+use Rattle.balloc_c.specs.Kept.{is_out}
+use Rattle.balloc_c.proofs.LeaveLemmas.{empty-next, freed-table, frees-on, home-at, rest-next, stops-table}
 use Rattle.balloc_c.proofs.calls.free_slots.Goals as goal
 
 pub returns-in-Busy-clause-freed : goal.returns-in-Busy-clause-freed
@@ -36,3 +37,7 @@ returns-clause-freed c =
     let i = c.loop-index.invariant in
     freed-table c.args.cache.now c.loop-index.cache c.args.table.now c.loop-index.table c.loop-index.index
     (omega (arith, c.loop-index-test.false, c.len-index-end.ensures)) i.count i.empty i.rest i.freed
+
+pub free_slot-requires-clause-home : goal.free_slot-requires-clause-home
+free_slot-requires-clause-home c =
+    ap is_out (c.loop-index.invariant.rest c.loop-index.index (omega arith)) ∙ home-at c.args.table.now.slots.items c.loop-index.index c.requires.home

@@ -8,7 +8,7 @@ use Rattle.balloc_c.proofs.calls.free_slots.Given as goal
 
 abbrev pub invariant-loop-index : goal.invariant-loop-index
 invariant-loop-index l = record {
-  tends : Tends l.heap l.cache (blocks_of l.table.slots.items);
+  tends : Tends l.heap l.cache l.table.slots.items;
   packed : IsPacked l.table;
   idle : IsIdle l.cache.pass.errand;
   count : length l.table.slots.items ≡ length l.fn.table.slots.items;

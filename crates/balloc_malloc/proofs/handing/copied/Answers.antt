@@ -1,48 +1,25 @@
-use Rattle.std.proofs.Common.{◌≡◌, ℕ, ◌+◌, ◌-◌, ◌<◌, length, get_or, set, sym, ap, ◌∙◌, subst, arith, length-set, None}
+use Rattle.std.proofs.Common.{◌≡◌, ℕ, ◌+◌, ◌-◌, ◌<◌, length, get_or, set, sym, ap, ◌∙◌, subst, arith, length-set}
 use Rattle.plain_words.specs.declared.plain.PlainWords.{PlainWords}
 use Rattle.plain_words.specs.Places.{AllHere, Place, laid, place_at}
 use Rattle.std.proofs.Common.{List}
 use Rattle.heap_geometry.specs.Need.{usable_words}
-use Rattle.balloc_malloc.specs.Labels.{label_of}
-use Rattle.balloc_malloc.proofs.Firsts.{first_stays, here_at, laids_at, length-laids, now, one_more, still_here}
+use Rattle.balloc_malloc.proofs.Firsts.{here_at, laids_at, length-laids, one_more}
 use Rattle.balloc_malloc.proofs.handing.copied.Goals as goal
-
-pub lay-requires : goal.lay-requires
-lay-requires c =
-    let to = c.args.to in
-    let was = c.into_words-words.ensures in
-    let place : c.place-place.result ≡ to.block.place = c.place-place.ensures in
-    let begins : c.into_words-words.result.first ≡ to.block.place + 1 = ap (λ (w : PlainWords). w.first) was ∙ c.requires.to.first in
-    let none : (c.place-place.result + 1) - c.into_words-words.result.first ≡ 0 = omega (arith, place, begins) in
-    let long : length c.into_words-words.result.places ≡ usable_words to.block.need = ap (λ (w : PlainWords). length w.places) was ∙ c.requires.to.long in
-    let some : 0 < length to.words.places = omega (arith, c.requires.larger, c.requires.to.long) in (
-      c.start.ensures ∙ sym (ap (λ (w : PlainWords). w.at) was ∙ c.requires.to.at),
-      omega (arith, place, begins),
-      omega (arith, place, begins, long, c.requires.larger),
-      λ out. c.requires.to.here 0 some ((λ i. place_at (sym was i).places (sym none i)) ∙ out),
-    )
 
 pub loop-i-init : goal.loop-i-init
 loop-i-init c =
     let to = c.args.to in
     let was = c.into_words-words.ensures in
-    let n : ℕ = c.label-label.result in
-    let place : c.place-place.result ≡ to.block.place = c.place-place.ensures in
-    let begins : c.into_words-words.result.first ≡ to.block.place + 1 = ap (λ (w : PlainWords). w.first) was ∙ c.requires.to.first in
-    let none : (c.place-place.result + 1) - c.into_words-words.result.first ≡ 0 = omega (arith, place, begins) in
-    let some : 0 < length to.words.places = omega (arith, c.requires.larger, c.requires.to.long) in
-    let places : c.lay.new.self.places ≡ set to.words.places 0 (laid n) = c.lay.ensures.2 ∙ (λ i. set (was i).places (none i) (laid n)) in
     record {
-      at = c.lay.ensures.0 ∙ ap (λ (w : PlainWords). w.at) was;
-      first = c.lay.ensures.1 ∙ ap (λ (w : PlainWords). w.first) was;
-      long = ap length places ∙ length-set to.words.places 0 (laid n);
-      here = subst AllHere (sym places) (still_here to.words.places n c.requires.to.here);
-      label = ap (λ (ps : List Place). get_or ps 0 None) places ∙ now to.words.places n some;
-      done = λ k lo hi. absurd (omega (arith, lo, hi));
+      at = ap (λ (w : PlainWords). w.at) was;
+      first = ap (λ (w : PlainWords). w.first) was;
+      long = ap (λ (w : PlainWords). length w.places) was;
+      here = subst (λ (w : PlainWords). AllHere w.places) (sym was) c.requires.to.here;
+      done = λ k lo. absurd (omega (arith, lo));
     }
 
-pub lay-requires-in-loop-i : goal.lay-requires-in-loop-i
-lay-requires-in-loop-i c =
+pub lay-requires : goal.lay-requires
+lay-requires c =
     let to = c.args.to in
     let inv = c.loop-i.invariant in
     let i : ℕ = c.loop-i.i in
@@ -50,7 +27,7 @@ lay-requires-in-loop-i c =
     let begins : c.loop-i.words.first ≡ to.block.place + 1 = inv.first ∙ c.requires.to.first in
     let none : (c.place-place.result + 1 + i) - c.loop-i.words.first ≡ i = omega (arith, place, begins) in
     let within : i < length c.loop-i.words.places = omega (arith, inv.long, c.requires.to.long, c.requires.larger, c.loop-i-test.true, c.words-had.ensures.long) in (
-      c.start-in-loop-i.ensures ∙ sym (inv.at ∙ c.requires.to.at),
+      c.start.ensures ∙ sym (inv.at ∙ c.requires.to.at),
       omega (arith, place, begins),
       omega (arith, place, begins, within),
       λ out. inv.here i within (ap (place_at c.loop-i.words.places) (sym none) ∙ out),
@@ -66,15 +43,14 @@ loop-i-preserved c =
     let begins : c.loop-i.words.first ≡ to.block.place + 1 = inv.first ∙ c.requires.to.first in
     let none : (c.place-place.result + 1 + i) - c.loop-i.words.first ≡ i = omega (arith, place, begins) in
     let within : i < length c.loop-i.words.places = omega (arith, inv.long, c.requires.to.long, c.requires.larger, c.loop-i-test.true, c.words-had.ensures.long) in
-    let places : c.lay-in-loop-i.new.self.places ≡ set c.loop-i.words.places i (laid n) =
-    c.lay-in-loop-i.ensures.2 ∙ ap (λ (j : ℕ). set c.loop-i.words.places j (laid n)) none in
+    let places : c.lay.new.self.places ≡ set c.loop-i.words.places i (laid n) =
+    c.lay.ensures.2 ∙ ap (λ (j : ℕ). set c.loop-i.words.places j (laid n)) none in
     record {
-      at = c.lay-in-loop-i.ensures.0 ∙ inv.at;
-      first = c.lay-in-loop-i.ensures.1 ∙ inv.first;
+      at = c.lay.ensures.0 ∙ inv.at;
+      first = c.lay.ensures.1 ∙ inv.first;
       long = ap length places ∙ length-set c.loop-i.words.places i (laid n) ∙ inv.long;
       here = subst AllHere (sym places) (here_at c.loop-i.words.places i n inv.here);
-      label = first_stays c.loop-i.words.places c.lay-in-loop-i.new.self.places i n places (omega (arith, c.loop-i.auto.i)) ∙ inv.label;
-      done = one_more c.loop-i.words.places c.lay-in-loop-i.new.self.places c.words-had.result.now i places within inv.done;
+      done = one_more c.loop-i.words.places c.lay.new.self.places c.words-had.result.now i places within inv.done;
     }
 
 pub returns : goal.returns
@@ -89,17 +65,14 @@ returns c =
     let all : length from.words.places ≡ length had = ap length c.words-had.ensures.value ∙ length-laids had in
     record {
       block = (place, need);
-      small = omega (arith, c.of_words.ensures.block.0, c.place-place.type_inv);
       room = record {
         at = ap (λ (w : PlainWords). w.at) words ∙ inv.at ∙ c.requires.to.at;
         first = ap (λ (w : PlainWords). w.first) words ∙ inv.first ∙ c.requires.to.first ∙ ap (λ (n : ℕ). n + 1) (sym place);
         long = ap (λ (w : PlainWords). length w.places) words ∙ inv.long ∙ c.requires.to.long ∙ ap usable_words (sym need);
         here = subst (λ (w : PlainWords). AllHere w.places) (sym words) inv.here;
       };
-      label = ap (λ (w : PlainWords). place_at w.places 0) words ∙ inv.label
-          ∙ ap laid (c.label-label.ensures ∙ (λ i. label_of (c.place-place.ensures i) (c.need-need.ensures i)));
-      copied = λ k lo hi.
+      copied = λ k hi.
           let low : k < length had = omega (arith, hi, all) in
-          ap (λ (w : PlainWords). place_at w.places k) words ∙ inv.done k lo (omega (arith, low, c.loop-i-test.false)) ∙ sym (laids_at had k low)
+          ap (λ (w : PlainWords). place_at w.places k) words ∙ inv.done k (omega (arith, low, c.loop-i-test.false)) ∙ sym (laids_at had k low)
           ∙ ap (λ (ps : List Place). place_at ps k) (sym c.words-had.ensures.value);
     }

@@ -9,6 +9,5 @@ invariant-loop-i l = record {
   first : l.words.first ≡ l.fn.to.words.first;
   long : length l.words.places ≡ length l.fn.to.words.places;
   here : AllHere l.words.places;
-  label : place_at l.words.places 0 ≡ laid l.label;
-  done : (k : ℕ) → 0 < k → k < l.i → place_at l.words.places k ≡ laid (slice_index l.had k);
+  done : (k : ℕ) → k < l.i → place_at l.words.places k ≡ laid (slice_index l.had k);
 }

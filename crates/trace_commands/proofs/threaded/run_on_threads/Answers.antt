@@ -1,9 +1,13 @@
 use Rattle.std.proofs.Common.{map}
-use Rattle.trace_commands.proofs.DrivenLemmas.{shared-run}
+use Rattle.std.proofs.lemmas.Result.{IfOk-weaker}
+use Rattle.trace_commands.proofs.CachedLemmas.{plain-run}
 use Rattle.trace_commands.proofs.threaded.run_on_threads.Goals as goal
 
-pub returns-in-Ok-close : goal.returns-in-Ok-close
-returns-in-Ok-close g c =
-    shared-run (g.G.Gate.passed c.args.gate.now) c.args.trace.now c.in_ok-heap.heap c.in-Ok.run'.passes.items c.in-Ok-close.closed
-    (map (λ lane. lane.items) c.in-Ok.run'.outcomes.items) c.requires c.in_ok-heap.ensures.heap c.in-Ok.ensures.ran
-    c.in-Ok-close.ensures.closed c.in-Ok-close.ensures.rests c.in-Ok-close.ensures.accesses c.in-Ok.ensures.passed
+pub returns : goal.returns
+returns g c =
+    let trace = c.args.trace.now in
+    IfOk-weaker c.run_through_caches.result _ _
+    (λ run ran.
+    plain-run (g.G.Gate.passed c.args.gate.now) trace run.closed (map (λ lane. lane.items) run.outcomes.items) run.hits.items
+    (λ h passes ran_through. (c.lanes_without_magazines_run_on_passes.ensures trace h passes _ _ c.requires ran_through).0)
+    (λ history lost fit. (c.caches_without_room_are_none.ensures.lanes trace.heap history lost trace.lanes _ _ fit).0) ran) c.run_through_caches.ensures

@@ -1,54 +1,31 @@
-use Rattle.std.proofs.Common.{◌≡◌, Some, ap, ◌∙◌}
+use Rattle.std.proofs.Common.{◌≡◌, ◌∷◌, [], Some, ap, ◌∙◌}
 use Rattle.std.specs.Prelude.{option_map}
 use Rattle.pool_model.specs.Pool.{fresh_block, written}
+use Rattle.live_heap.specs.declared.pass.Pass.{Pass}
 use Rattle.live_heap.specs.Contents.{owned_in}
 use Rattle.typed_store.specs.Nodes.{node_at}
-use Rattle.typed_store.proofs.PassLemmas.{node-made, write-changes, wrote-owns}
-use Rattle.typed_store.proofs.ReadLemmas.{writes-three}
+use Rattle.typed_store.proofs.PassLemmas.{node-made, write-changes}
+use Rattle.typed_store.proofs.SliceLemmas.{slice-writes}
 use Rattle.typed_store.proofs.nodes.write_node.Goals as goal
 
-pub write-requires-2-clause-owned : goal.write-requires-2-clause-owned
-write-requires-2-clause-owned c =
-    let b = c.args.block.now in
-    let w = write-changes c.args.heap.now c.args.pass.now c.write.new.pass b.place 0 c.args.node.next b.need c.write.ensures.of c.write.ensures.called in
-    wrote-owns c.args.pass.now c.write.new.pass b 0 c.args.node.next w c.write.ensures.called.caller c.write.ensures.called.lent c.requires.owned
-
-pub write-requires-3-clause-owned : goal.write-requires-3-clause-owned
-write-requires-3-clause-owned c =
+pub returns : goal.returns
+returns c =
     let b = c.args.block.now in
     let h = c.args.heap.now in
-    let w = write-changes h c.args.pass.now c.write.new.pass b.place 0 c.args.node.next b.need c.write.ensures.of c.write.ensures.called in
-    let x = write-changes h c.write.new.pass c.write-2.new.pass b.place 1 c.args.node.key b.need c.write-2.ensures.of c.write-2.ensures.called in
-    wrote-owns c.write.new.pass c.write-2.new.pass b 1 c.args.node.key x c.write-2.ensures.called.caller c.write-2.ensures.called.lent
-    (wrote-owns c.args.pass.now c.write.new.pass b 0 c.args.node.next w c.write.ensures.called.caller c.write.ensures.called.lent c.requires.owned)
-
-pub returns-clause-rests : goal.returns-clause-rests
-returns-clause-rests c =
+    let p = c.args.pass.now in
     let n = c.args.node in
-    writes-three c.args.heap.now c.args.pass.now c.write.new.pass c.write-2.new.pass c.write-3.new.pass c.args.block.now n.next n.key n.value
-    c.requires.of c.requires.owned c.write.ensures.of c.write.ensures.called c.write-2.ensures.of c.write-2.ensures.called c.write-3.ensures.of
-    c.write-3.ensures.called
-
-pub returns-clause-node : goal.returns-clause-node
-returns-clause-node c =
-    let b = c.args.block.now in
-    let h = c.args.heap.now in
-    let n = c.args.node in
-    let w = write-changes h c.args.pass.now c.write.new.pass b.place 0 n.next b.need c.write.ensures.of c.write.ensures.called in
-    let x = write-changes h c.write.new.pass c.write-2.new.pass b.place 1 n.key b.need c.write-2.ensures.of c.write-2.ensures.called in
-    let y = write-changes h c.write-2.new.pass c.write-3.new.pass b.place 2 n.value b.need c.write-3.ensures.of c.write-3.ensures.called in
-    let first : owned_in c.write.new.pass b.place ≡ Some (written 0 n.next (fresh_block c.args.pass.now.errand.caller 3 b.place)) =
+    let q = c.write_slice.new.pass in
+    let on = c.write_slice.ensures.wrote in
+    let x = slice-writes h p b 0 (n.next ∷ n.key ∷ n.value ∷ []) q c.requires.of c.requires.idle c.requires.owned on in
+    let w = write-changes h p on.0 b.place 0 n.next b.need on.1.of on.1.called in
+    let y = write-changes h on.0 on.2.0 b.place 1 n.key b.need on.2.1.of on.2.1.called in
+    let z = write-changes h on.2.0 on.2.2.0 b.place 2 n.value b.need on.2.2.1.of on.2.2.1.called in
+    let first : owned_in on.0 b.place ≡ Some (written 0 n.next (fresh_block p.errand.caller 3 b.place)) =
     w.here ∙ ap (option_map (written 0 n.next)) c.requires.blank in
-    let second = x.here ∙ ap (option_map (written 1 n.key)) first in
-    let third = y.here ∙ ap (option_map (written 2 n.value)) second in
-    ap node_at third ∙ node-made c.args.pass.now.errand.caller b.place n.next n.key n.value
-
-pub returns-clause-others : goal.returns-clause-others
-returns-clause-others c = λ place away.
-    let b = c.args.block.now in
-    let h = c.args.heap.now in
-    let n = c.args.node in
-    let w = write-changes h c.args.pass.now c.write.new.pass b.place 0 n.next b.need c.write.ensures.of c.write.ensures.called in
-    let x = write-changes h c.write.new.pass c.write-2.new.pass b.place 1 n.key b.need c.write-2.ensures.of c.write-2.ensures.called in
-    let y = write-changes h c.write-2.new.pass c.write-3.new.pass b.place 2 n.value b.need c.write-3.ensures.of c.write-3.ensures.called in
-    y.others place away ∙ (x.others place away ∙ w.others place away)
+    let second = y.here ∙ ap (option_map (written 1 n.key)) first in
+    let third = z.here ∙ ap (option_map (written 2 n.value)) second in
+    record {
+      rests = x.rests;
+      node = ap (λ (r : Pass). node_at (owned_in r b.place)) on.2.2.2 ∙ ap node_at third ∙ node-made p.errand.caller b.place n.next n.key n.value;
+      others = x.others;
+    }

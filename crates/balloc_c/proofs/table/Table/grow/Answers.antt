@@ -1,12 +1,18 @@
-use Rattle.std.proofs.Common.{◌≡◌, arith, length, None, refl, ap, ◌∙◌}
-use Rattle.balloc_c.specs.Slots.{blocks_of}
+use Rattle.std.proofs.Common.{◌≡◌, arith, length, None, List, refl, ap, ◌∙◌}
+use Rattle.balloc_c.specs.Slots.{block_at, blocks_of}
+use Rattle.balloc_c.specs.declared.table.Slot.{Slot}
 use Rattle.balloc_c.proofs.Packing.{grown-packed}
-use Rattle.balloc_c.proofs.Slots.{grown}
+use Rattle.balloc_c.proofs.Slots.{grown, grown-block}
 use Rattle.balloc_c.proofs.table.Table.grow.Goals as goal
 
 pub returns-in-Ok-clause-blocks : goal.returns-in-Ok-clause-blocks
 returns-in-Ok-clause-blocks c =
     ap blocks_of c.in-Ok.ensures.items ∙ grown c.args.self.now.slots.items (record { block = None; age = 0; next = c.args.self.now.spare }) refl
+
+pub returns-in-Ok-clause-same : goal.returns-in-Ok-clause-same
+returns-in-Ok-clause-same c other =
+    ap (λ (l : List Slot). block_at l other) c.in-Ok.ensures.items
+    ∙ grown-block c.args.self.now.slots.items (record { block = None; age = 0; next = c.args.self.now.spare }) other refl
 
 pub returns-in-Ok-clause-packed : goal.returns-in-Ok-clause-packed
 returns-in-Ok-clause-packed c =

@@ -14,7 +14,7 @@ use Rattle.balloc_malloc.proofs.tenant.Tenant.give.Goals as goal
 
 pub bring_in-memory-requires : goal.bring_in-memory-requires
 bring_in-memory-requires c =
-    (c.requires.0, c.requires.1, subst (λ (h : HeapFields). IsOut h c.requires.0 c.args.handed.memory) (sym c.deref.ensures) c.requires.2)
+    (c.requires.0, c.requires.1, subst (λ (h : HeapFields). IsOut h c.requires.0 c.args.place c.args.kind) (sym c.deref.ensures) c.requires.2)
 
 pub invariant_of-self : goal.invariant_of-self
 invariant_of-self c = record { is_tended = ∣ subst (λ (h : HeapFields). IsCache h c.give.new.self) c.deref-2.ensures c.give.ensures.cache ∣₁ }
@@ -23,7 +23,7 @@ pub returns-in-Ok : goal.returns-in-Ok
 returns-in-Ok c = λ lot is out held.
     let before = c.args.self.now in
     let back = c.bring_in-memory.result in
-    let same : IsSame lot back = c.bring_in-memory.ensures.same lot is (subst (λ (h : HeapFields). IsOut h lot c.args.handed.memory) (sym c.deref.ensures) out) in
+    let same : IsSame lot back = c.bring_in-memory.ensures.same lot is (subst (λ (h : HeapFields). IsOut h lot c.args.place c.args.kind) (sym c.deref.ensures) out) in
     goes_back before _ lot c.none.result.code c.none.result.words c.none.ensures.2 c.none.ensures.1 (record {
       back = back;
       same = same;
@@ -40,7 +40,7 @@ pub returns-in-Err : goal.returns-in-Err
 returns-in-Err c = λ lot is out held.
     let before = c.args.self.now in
     let back = c.bring_in-memory.result in
-    let same : IsSame lot back = c.bring_in-memory.ensures.same lot is (subst (λ (h : HeapFields). IsOut h lot c.args.handed.memory) (sym c.deref.ensures) out) in
+    let same : IsSame lot back = c.bring_in-memory.ensures.same lot is (subst (λ (h : HeapFields). IsOut h lot c.args.place c.args.kind) (sym c.deref.ensures) out) in
     let told = c.in-Err.ensures.back in
     let full : ¬ HasRoom before.cache lot.block.need = λ room. (c.in-Err.ensures.kept (subst (λ (n : Need). HasRoom before.cache n) (sym same.need) room)).0 in
     let again : IsSame lot c.in-Err.memory = subst (λ (m : Memory). IsSame lot m) (sym told.0) same in

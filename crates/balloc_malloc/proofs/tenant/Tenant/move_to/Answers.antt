@@ -5,10 +5,8 @@ use Rattle.live_heap.specs.Heaps.{HeapFields}
 use Rattle.errand_steps.specs.Begins.{IsBusy}
 use Rattle.live_heap.specs.declared.pass.Pass.{Pass}
 use Rattle.live_heap.specs.declared.plain.Memory.{Memory}
-use Rattle.plain_words.specs.Places.{laid}
 use Rattle.memory_cache.specs.Caches.{HasRoom, IsCache, IsHeld}
-use Rattle.memory_cache.specs.Rooms.{IsRoomOf}
-use Rattle.balloc_malloc.specs.Labels.{label_of}
+use Rattle.balloc_malloc.specs.Out.{IsOut}
 use Rattle.std.proofs.lemmas.Bool.{true≢false}
 use Rattle.std.specs.Result.{IfErr}
 use Rattle.heap_geometry.specs.declared.need.Need.{Need}
@@ -34,25 +32,19 @@ give-requires-in-Err-clause-held c =
 pub returns-in-Ok : goal.returns-in-Ok
 returns-in-Ok c =
     let block = c.copied-larger.ensures.block in
-    inl (
-      c.send_out.ensures.0,
-      record {
-        moved = c.copied-larger.result;
-        is = c.send_out.ensures.1;
-        place = block.0;
-        need = block.1;
-        out = record {
-          room = subst (λ (h : HeapFields). IsRoomOf h c.copied-larger.result) c.deref.ensures c.copied-larger.ensures.room;
-          small = c.copied-larger.ensures.small;
-          label = c.copied-larger.ensures.label ∙ (λ i. laid (label_of (sym block.0 i) (sym block.1 i)));
-          there = c.send_out.ensures.2;
-        };
-        copied = c.copied-larger.ensures.copied;
-        keeps = c.give.ensures.keeps;
-        only = λ other has. c.in-Ok.ensures.only other has;
-        heap = refl;
-      },
-    )
+    let moved = c.copied-larger.result in
+    inl (record {
+      moved = moved;
+      is = c.hand_out.ensures.words.0;
+      place = block.0;
+      need = block.1;
+      out = subst (λ (h : HeapFields). IsOut h moved moved.block.place c.hand_out.result.code) c.deref-in-Ok.ensures c.hand_out.ensures.out;
+      there = c.hand_out.ensures.words.1;
+      copied = c.copied-larger.ensures.copied;
+      keeps = c.give.ensures.keeps;
+      only = λ other has. c.in-Ok.ensures.only other has;
+      heap = refl;
+    })
 
 pub returns-in-Err : goal.returns-in-Err
 returns-in-Err c =
@@ -67,10 +59,10 @@ returns-in-Err c =
     let taken : IfErr c.give-in-Err.result (λ _. ⊥) = (c.give-in-Err.ensures.kept has).0 in
     let held : IsHeld c.give.new.self c.args.memory = subst (λ (m : Memory). IsHeld c.give.new.self m) back.0 back.1 in
     inr (
-      c.send_out-in-Err.ensures.0,
+      c.send_out.ensures.0,
       record {
-        is = c.send_out-in-Err.ensures.1 ∙ ap (λ (m : Memory). Some m.words) back.0;
-        there = c.send_out-in-Err.ensures.2 ∙ ap (λ (m : Memory). ptr_add u64 m.words.first m.words.at) back.0;
+        is = c.send_out.ensures.1 ∙ ap (λ (m : Memory). Some m.words) back.0;
+        there = c.send_out.ensures.2 ∙ ap (λ (m : Memory). ptr_add u64 m.words.first m.words.at) back.0;
         busy = subst (λ (p : Pass). IsBusy p.errand) (sym (c.give-in-Err.ensures.kept has).1.pass) back.2;
         held = c.give-in-Err.ensures.keeps c.args.memory held (λ one. c.requires.apart (one ∙ block.0));
         keeps = λ other has ne away. c.give-in-Err.ensures.keeps other (c.give.ensures.keeps other has ne) (λ one. away (one ∙ block.0));

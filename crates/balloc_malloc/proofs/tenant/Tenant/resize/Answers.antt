@@ -1,18 +1,17 @@
-use Rattle.std.proofs.Common.{◌≡◌, ℕ, ◌-◌, ◌*◌, ◌<◌, sym, refl, ap, ◌∙◌, subst, arith, inl, inr, Some}
+use Rattle.std.proofs.Common.{◌≡◌, ℕ, ◌<◌, ◌≤◌, sym, refl, ◌∙◌, subst, arith, inl, inr}
 use Rattle.heap_geometry.specs.declared.need.Need.{Need}
-use Rattle.heap_geometry.specs.Need.{need_of, usable_words}
+use Rattle.heap_geometry.specs.Need.{need_of}
 use Rattle.live_heap.specs.Heaps.{HeapFields}
-use Rattle.plain_words.specs.declared.plain.PlainWords.{PlainWords}
-use Rattle.std.specs.Ptr.{ptr_add}
-use Rattle.std.specs.Borrow.{u64}
 use Rattle.memory_cache.specs.declared.answers.MemoryAnswer.{MemoryAnswer}
 use Rattle.memory_cache.specs.Asking.{TakeTells}
 use Rattle.balloc_malloc.specs.declared.tenant.TheConstants.{TRIES}
-use Rattle.balloc_malloc.proofs.Rooms.{has_or_not, has_room, idle_after}
+use Rattle.balloc_malloc.proofs.Rooms.{has_room, idle_after}
 use Rattle.balloc_malloc.proofs.SeatLemmas.{by_case}
-use Rattle.memory_cache.specs.Caches.{IsCache}
-use Rattle.balloc_malloc.specs.Gives.{IsSame, bytes_of}
-use Rattle.balloc_malloc.specs.Labels.{words_for}
+use Rattle.block_cache.proofs.MagazineLemmas.{for-or-not}
+use Rattle.memory_cache.specs.Caches.{IsCache, stacks_in}
+use Rattle.balloc_malloc.specs.Gives.{IsSame}
+use Rattle.balloc_malloc.specs.Kinds.{bytes_for, words_for}
+use Rattle.balloc_malloc.specs.declared.codes.TheConstants.{KINDS}
 use Rattle.balloc_malloc.specs.Tenants.{heap_of}
 use Rattle.balloc_malloc.specs.Out.{IsOut}
 use Rattle.balloc_malloc.proofs.Lots.{held_as_same}
@@ -22,7 +21,7 @@ use Rattle.balloc_malloc.proofs.tenant.Tenant.resize.Goals as goal
 
 pub bring_in-memory-requires : goal.bring_in-memory-requires
 bring_in-memory-requires c =
-    (c.requires.0, c.requires.1, subst (λ (h : HeapFields). IsOut h c.requires.0 c.args.handed.memory) (sym c.deref.ensures) c.requires.2)
+    (c.requires.0, c.requires.1, subst (λ (h : HeapFields). IsOut h c.requires.0 c.args.place c.args.kind) (sym c.deref.ensures) c.requires.2)
 
 pub invariant_of-self-2 : goal.invariant_of-self-2
 invariant_of-self-2 c = record { is_tended = ∣ subst (λ (h : HeapFields). IsCache h c.take.new.self) c.deref-2.ensures c.take.ensures.cache ∣₁ }
@@ -32,7 +31,7 @@ move_to-requires-clause-held c =
     let lot = c.requires.0 in
     let memory = c.bring_in-memory.result in
     let same : IsSame lot memory =
-    c.bring_in-memory.ensures.same lot c.requires.1 (subst (λ (h : HeapFields). IsOut h lot c.args.handed.memory) (sym c.deref.ensures) c.requires.2) in
+    c.bring_in-memory.ensures.same lot c.requires.1 (subst (λ (h : HeapFields). IsOut h lot c.args.place c.args.kind) (sym c.deref.ensures) c.requires.2) in
     (c.take.ensures.keeps memory (held_as_same c.args.self.now.cache lot memory same c.requires.3), (c.take.ensures.given c.in-Given.larger c.in-Given.is).1)
 
 pub move_to-requires-clause-apart : goal.move_to-requires-clause-apart
@@ -40,7 +39,7 @@ move_to-requires-clause-apart c =
     let lot = c.requires.0 in
     let memory = c.bring_in-memory.result in
     let same : IsSame lot memory =
-    c.bring_in-memory.ensures.same lot c.requires.1 (subst (λ (h : HeapFields). IsOut h lot c.args.handed.memory) (sym c.deref.ensures) c.requires.2) in
+    c.bring_in-memory.ensures.same lot c.requires.1 (subst (λ (h : HeapFields). IsOut h lot c.args.place c.args.kind) (sym c.deref.ensures) c.requires.2) in
     c.take.ensures.apart c.in-Given.larger memory c.in-Given.is (held_as_same c.args.self.now.cache lot memory same c.requires.3)
 
 pub move_to-requires-clause-returns : goal.move_to-requires-clause-returns
@@ -56,19 +55,18 @@ move_to-requires-clause-returns c =
     inl (idle_after c.deref-2.result.now before.pass c.in-Some.words larger c.take.new.self.pass
     (subst (λ (a : MemoryAnswer). TakeTells c.deref-2.result.now before.pass c.in-Some.words TRIES a c.take.new.self.pass) c.in-Given.is
     (c.take.ensures.asked none c.in-Some.ensures.words.2).0)))
-    (has_or_not before (need_of c.in-Some.words))
+    (for-or-not (stacks_in before) (need_of c.in-Some.words))
 
 pub returns-in-Given : goal.returns-in-Given
 returns-in-Given c = λ lot is out held.
     let memory = c.bring_in-memory.result in
     let larger = c.in-Given.larger in
-    let same : IsSame lot memory = c.bring_in-memory.ensures.same lot is (subst (λ (h : HeapFields). IsOut h lot c.args.handed.memory) (sym c.deref.ensures) out) in
+    let same : IsSame lot memory = c.bring_in-memory.ensures.same lot is (subst (λ (h : HeapFields). IsOut h lot c.args.place c.args.kind) (sym c.deref.ensures) out) in
     let words : c.in-Some.words ≡ words_for c.args.bytes = c.in-Some.ensures.words.0 in
-    let small : bytes_of lot < c.args.bytes =
-    subst (λ (n : Need). 8 * (usable_words n - 1) < c.args.bytes) same.need (subst (λ (n : ℕ). n < c.args.bytes) c.bytes_in.ensures c.if-bytes-bytes_in.false) in
+    let small : bytes_for lot.block.need < c.args.bytes =
+    subst (λ (n : Need). bytes_for n < c.args.bytes) same.need (subst (λ (n : ℕ). n < c.args.bytes) c.bytes_in.ensures c.if-bytes-bytes_in.false) in
     let given = c.take.ensures.given larger c.in-Given.is in
-    moves c.args.self.now _ c.move_to.new.self lot memory larger c.args.handed.memory c.move_to.result.memory c.args.bytes c.move_to.result.code c.move_to.result.words same held
-    out.there small (record {
+    moves c.args.self.now _ c.move_to.new.self lot memory larger c.move_to.result.memory c.args.bytes c.move_to.result.code c.move_to.result.words same held small (record {
       heap = refl;
       keeps = c.take.ensures.keeps;
       only = λ other has ne. c.in-Given.ensures.only other has ne;
@@ -83,9 +81,9 @@ pub returns-in_default-take : goal.returns-in_default-take
 returns-in_default-take c = λ lot is out held.
     let memory = c.bring_in-memory.result in
     let told = c.send_out-in_default-take in
-    let same : IsSame lot memory = c.bring_in-memory.ensures.same lot is (subst (λ (h : HeapFields). IsOut h lot c.args.handed.memory) (sym c.deref.ensures) out) in
-    let small : bytes_of lot < c.args.bytes =
-    subst (λ (n : Need). 8 * (usable_words n - 1) < c.args.bytes) same.need (subst (λ (n : ℕ). n < c.args.bytes) c.bytes_in.ensures c.if-bytes-bytes_in.false) in
+    let same : IsSame lot memory = c.bring_in-memory.ensures.same lot is (subst (λ (h : HeapFields). IsOut h lot c.args.place c.args.kind) (sym c.deref.ensures) out) in
+    let small : bytes_for lot.block.need < c.args.bytes =
+    subst (λ (n : Need). bytes_for n < c.args.bytes) same.need (subst (λ (n : ℕ). n < c.args.bytes) c.bytes_in.ensures c.if-bytes-bytes_in.false) in
     let words : c.in-Some.words ≡ words_for c.args.bytes = c.in-Some.ensures.words.0 in
     let taken : Told c.deref-2.result.now c.args.self.now c.take.new.self (words_for c.args.bytes) c.take.result =
     subst (λ (n : ℕ). Told c.deref-2.result.now c.args.self.now c.take.new.self n c.take.result) words (record {
@@ -96,11 +94,9 @@ returns-in_default-take c = λ lot is out held.
       served = c.take.ensures.served;
       asked = c.take.ensures.asked;
     }) in
-    stays_out c.args.self.now _ lot c.args.handed.memory c.args.bytes told.result.code told.result.words told.result.memory
-    (told.ensures.1 ∙ ap (λ (w : PlainWords). Some w) same.words)
-    (told.ensures.2 ∙ ap (λ (w : PlainWords). ptr_add u64 w.first w.at) same.words ∙ sym out.there)
+    stays_out c.args.self.now _ lot memory c.args.bytes told.result.code told.result.words told.result.memory same told.ensures.1 told.ensures.2
     (inr (
-      λ done. lacks c.take.result c.in_default-take.not-Given (sym c.answer_code.ensures ∙ sym told.ensures.0 ∙ done),
+      subst (λ (n : ℕ). KINDS ≤ n) (sym (told.ensures.0 ∙ c.answer_code.ensures)) (lacks c.take.result c.in_default-take.not-Given),
       small,
       record {
         held = c.take.ensures.keeps lot held;
@@ -115,15 +111,13 @@ returns-in_default-take c = λ lot is out held.
 pub returns-in_default : goal.returns-in_default
 returns-in_default c = λ lot is out held.
     let memory = c.bring_in-memory.result in
-    let told = c.send_out-in_default in
-    let same : IsSame lot memory = c.bring_in-memory.ensures.same lot is (subst (λ (h : HeapFields). IsOut h lot c.args.handed.memory) (sym c.deref.ensures) out) in
-    let small : bytes_of lot < c.args.bytes =
-    subst (λ (n : Need). 8 * (usable_words n - 1) < c.args.bytes) same.need (subst (λ (n : ℕ). n < c.args.bytes) c.bytes_in.ensures c.if-bytes-bytes_in.false) in
-    stays_out c.args.self.now _ lot c.args.handed.memory c.args.bytes told.result.code told.result.words told.result.memory
-    (told.ensures.1 ∙ ap (λ (w : PlainWords). Some w) same.words)
-    (told.ensures.2 ∙ ap (λ (w : PlainWords). ptr_add u64 w.first w.at) same.words ∙ sym out.there)
+    let told = c.send_out in
+    let same : IsSame lot memory = c.bring_in-memory.ensures.same lot is (subst (λ (h : HeapFields). IsOut h lot c.args.place c.args.kind) (sym c.deref.ensures) out) in
+    let small : bytes_for lot.block.need < c.args.bytes =
+    subst (λ (n : Need). bytes_for n < c.args.bytes) same.need (subst (λ (n : ℕ). n < c.args.bytes) c.bytes_in.ensures c.if-bytes-bytes_in.false) in
+    stays_out c.args.self.now _ lot memory c.args.bytes told.result.code told.result.words told.result.memory same told.ensures.1 told.ensures.2
     (inr (
-      λ done. absurd (omega (arith, done, told.ensures.0)),
+      omega (arith, told.ensures.0),
       small,
       record { held = held; keeps = λ other has ne. has; only = λ other has. has; heap = refl },
       inl (record { told = told.ensures.0; many = c.in_default.ensures.none refl; cache = refl; heap = refl }),

@@ -1,10 +1,10 @@
-use Rattle.std.proofs.Common.{◌≡◌, ℕ, ◌≤◌, ◌%◌, sym, refl, ap, ◌∙◌, subst, inr}
+use Rattle.std.proofs.Common.{◌≡◌, ℕ, ◌≤◌, sym, refl, ◌∙◌, subst, inr}
 use Rattle.heap_geometry.specs.Need.{need_of, usable_words}
 use Rattle.live_heap.specs.Heaps.{HeapFields}
 use Rattle.memory_cache.specs.declared.answers.MemoryAnswer.{MemoryAnswer}
 use Rattle.memory_cache.specs.declared.answers.MemoryAnswer.TheVariants.{Given}
 use Rattle.memory_cache.specs.Caches.{IsCache}
-use Rattle.balloc_malloc.specs.Labels.{words_for}
+use Rattle.balloc_malloc.specs.Kinds.{words_for}
 use Rattle.balloc_malloc.specs.Out.{IsOut}
 use Rattle.balloc_malloc.proofs.Taking.{Told, goes_out, is_given, is_refused, stays}
 use Rattle.balloc_malloc.proofs.tenant.Tenant.take.Goals as goal
@@ -16,11 +16,9 @@ pub returns-in-Given : goal.returns-in-Given
 returns-in-Given c =
     let before = c.args.self.now in
     let words : c.in-Some.words ≡ words_for c.args.bytes = c.in-Some.ensures.words.0 in
-    let laid = c.in-Given.memory in
-    let lot = c.hand_out.ensures.1.0 in
-    let odd : lot.words.first % 2 ≡ 1 = ap (λ (n : ℕ). n % 2) c.hand_out.ensures.1.3 ∙ c.take.ensures.aligned laid c.in-Given.is in
-    let given = c.take.ensures.given laid c.in-Given.is in
-    let told : Told c.deref.result.now before c.take.new.self (words_for c.args.bytes) (Given laid) =
+    let lot = c.in-Given.memory in
+    let given = c.take.ensures.given lot c.in-Given.is in
+    let told : Told c.deref.result.now before c.take.new.self (words_for c.args.bytes) (Given lot) =
     subst (λ (a : MemoryAnswer). Told c.deref.result.now before c.take.new.self (words_for c.args.bytes) a) c.in-Given.is
     (subst (λ (n : ℕ). Told c.deref.result.now before c.take.new.self n c.take.result) words (record {
       heap = c.deref.ensures;
@@ -30,11 +28,11 @@ returns-in-Given c =
       served = c.take.ensures.served;
       asked = c.take.ensures.asked;
     })) in
-    goes_out before _ c.args.bytes c.hand_out.result.code c.hand_out.result.words c.hand_out.result.memory lot c.hand_out.ensures.1.1 c.hand_out.ensures.0
-    (is_given c.deref.result.now before _ c.args.bytes laid lot c.hand_out.result.memory refl told c.hand_out.ensures.1.2 odd
-    (subst (λ (h : HeapFields). IsOut h lot c.hand_out.result.memory) (c.deref-in-Given.ensures ∙ sym c.deref.ensures) c.hand_out.ensures.1.4)
-    given.1 (subst (λ (n : ℕ). laid.block.need ≡ need_of n) words given.2) (subst (λ (n : ℕ). n ≤ usable_words laid.block.need) words given.3)
-    (λ other has. c.take.ensures.apart laid other c.in-Given.is has))
+    goes_out before _ c.args.bytes c.hand_out.result.code c.hand_out.result.words c.hand_out.result.memory lot c.hand_out.ensures.words.0
+    (is_given c.deref.result.now before _ c.args.bytes c.hand_out.result.code lot c.hand_out.result.memory refl told (c.take.ensures.aligned lot c.in-Given.is)
+    (subst (λ (h : HeapFields). IsOut h lot lot.block.place c.hand_out.result.code) (c.deref-in-Given.ensures ∙ sym c.deref.ensures) c.hand_out.ensures.out)
+    c.hand_out.ensures.words.1 given.1 (subst (λ (n : ℕ). lot.block.need ≡ need_of n) words given.2)
+    (subst (λ (n : ℕ). n ≤ usable_words lot.block.need) words given.3) (λ other has. c.take.ensures.apart lot other c.in-Given.is has))
 
 pub returns-in_default-take : goal.returns-in_default-take
 returns-in_default-take c =

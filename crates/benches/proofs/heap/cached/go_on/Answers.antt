@@ -4,7 +4,7 @@ use Rattle.live_heap.specs.declared.pass.Pass.{Pass}
 use Rattle.live_heap.specs.Calls.{IsCalling}
 use Rattle.live_heap.specs.Passes.{IsOf}
 use Rattle.live_heap.specs.Whole.{ResumesTo}
-use Rattle.cached_calls.proofs.ThroughLemmas.{resume-ended, resumes-idle}
+use Rattle.lane_engine.proofs.ThroughLemmas.{resume-ended, resumes-idle}
 use Rattle.benches.proofs.heap.cached.go_on.Goals as goal
 
 pub resume-requires-clause-under_way : goal.resume-requires-clause-under_way

@@ -5,8 +5,8 @@ use Rattle.block_cache.proofs.AccountLemmas.{free-all}
 use Rattle.block_cache.proofs.CacheLemmas.{passed}
 use Rattle.block_cache.proofs.cache.Cache.free.Goals as goal
 
-pub returns-then-count-self-clause-cache : goal.returns-then-count-self-clause-cache
-returns-then-count-self-clause-cache c = c.keep.ensures.cache c.args.heap.now c.requires.cache
+pub returns-then-count-depth-clause-cache : goal.returns-then-count-depth-clause-cache
+returns-then-count-depth-clause-cache c = c.keep.ensures.cache c.args.heap.now c.requires.cache
 
 pub returns-clause-cache : goal.returns-clause-cache
 returns-clause-cache c =

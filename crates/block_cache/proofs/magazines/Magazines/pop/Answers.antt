@@ -1,37 +1,13 @@
-use Rattle.std.proofs.Common.{◌≡◌, ◌<◌, [], sym, ◌∙◌, subst}
-use Rattle.std.specs.Prelude.{All}
-use Rattle.std.proofs.lemmas.List.{length-set}
-use Rattle.heap_geometry.specs.declared.need.Need.TheVariants.{Small}
-use Rattle.live_heap.specs.declared.block.Block.{Block}
-use Rattle.live_heap.proofs.Holding.{all-out}
-use Rattle.block_cache.proofs.MagazineLemmas.{less-on-top, magazine-at, magazine-less, magazines-after, replaces}
+use Rattle.std.proofs.Common.{refl, sym}
+use Rattle.block_cache.specs.Magazines.{stacks_of}
+use Rattle.block_cache.proofs.MagazineLemmas.{popped, top-splits}
 use Rattle.block_cache.proofs.magazines.Magazines.pop.Goals as goal
 
--- the magazine that a pop replaces
-pub returns-clause-ready : goal.returns-clause-ready
-returns-clause-ready c =
+pub returns : goal.returns
+returns g c =
     let s = c.args.self.now in
-    let within = subst (λ k. c.args.class < k) (sym c.requires.ready.classes) c.requires.class in
-    let r = replaces s.stacks.items c.args.class c.index_mut.result.now c.pop.new.self within (sym c.index_mut.ensures.value) in
-    record {
-      classes = length-set s.stacks.items c.args.class c.pop.new.self ∙ c.requires.ready.classes;
-      each = magazines-after s.stacks.items s.depth c.args.class c.index_mut.result.now c.pop.new.self r
-          (magazine-less c.args.class s.depth c.index_mut.result.now c.pop.new.self c.in-Some.block c.in-Some.ensures.items (sym c.in-Some.ensures.capacity))
-          c.requires.ready.each;
-    }
-
-pub returns-clause-need : goal.returns-clause-need
-returns-clause-need c =
-    let s = c.args.self.now in
-    let within = subst (λ k. c.args.class < k) (sym c.requires.ready.classes) c.requires.class in
-    let r = replaces s.stacks.items c.args.class c.index_mut.result.now c.pop.new.self within (sym c.index_mut.ensures.value) in
-    let m = magazine-at s.stacks.items s.depth c.args.class c.index_mut.result.now c.pop.new.self r c.requires.ready.each in
-    (all-out (λ (block : Block). block.need ≡ Small c.args.class) c.pop.new.self.items [] c.in-Some.block
-    (subst (λ xs. All (λ (block : Block). block.need ≡ Small c.args.class) xs) c.in-Some.ensures.items m.each)).0
-
-pub returns-clause-top : goal.returns-clause-top
-returns-clause-top c =
-    let s = c.args.self.now in
-    let within = subst (λ k. c.args.class < k) (sym c.requires.ready.classes) c.requires.class in
-    let r = replaces s.stacks.items c.args.class c.index_mut.result.now c.pop.new.self within (sym c.index_mut.ensures.value) in
-    less-on-top s.stacks.items c.args.class c.index_mut.result.now c.pop.new.self c.in-Some.block r c.in-Some.ensures.items
+    let m = c.pop.new.self in
+    let p =
+    popped g.T.Kept.need_of s.depth c.args.class s.stacks.items c.index_mut.result.now m c.in-Some.kept c.requires.class c.requires.ready
+    (sym c.index_mut.ensures.value) c.in-Some.ensures.items c.in-Some.ensures.capacity in
+    record { ready = p.0; depth = refl; need = p.1; top = p.2; splits = top-splits c.args.class c.in-Some.kept (stacks_of s.stacks.items) _ p.2 }

@@ -7,7 +7,7 @@ use Rattle.plain_words.specs.Places.{Place, AllHere, IsLaid, number_at}
 use Rattle.plain_words.specs.Owned.{Lies, row}
 use Rattle.plain_words.specs.contracts.plain.Start as start
 use Rattle.plain_words.specs.contracts.plain.PlainWords as plain_words
-use Rattle.heap_allocator.specs.Pieces.{words_of, words_for, labelled}
+use Rattle.heap_allocator.specs.Pieces.{words_for, labelled}
 use Rattle.heap_allocator.specs.contracts.piece.Piece as piece
 use Rattle.heap_allocator.specs.contracts.piece.Piece.of_words.{ended, clauses}
 use Rattle.heap_allocator.specs.contracts.piece.Piece.of_words.Key.{name as #self}
@@ -23,7 +23,7 @@ of_words_spec 𝓤 𝓛 𝓜 𝓡 wired =
     let hs : Stays ended.signature.params ended.kept = (stay_dropped words yes, (stay_dropped there yes, (stay_dropped count yes, (stay_dropped count yes, tt)))) in
     proved 𝓛 ended hs c 𝓜 𝓡 (Goes-dropped 𝓛 0 words yes (λ κs x f. refl), (Goes-dropped 𝓛 0 there yes (λ κs x f. refl), (Goes-dropped 𝓛 0 count yes (λ κs x f. refl), (Goes-dropped 𝓛 0 count yes (λ κs x f. refl), tt)))) #self fn (code.unfolded 𝓤 H 𝓜 𝓡 wired)
     (λ κs. ((λ _. token_val ∷ []), ((λ x. start_val x.at ∷ []), (uint_vals w64, (uint_vals w64, tt))))) (λ κs. ((λ x vs so. token_told RawPtr vs so.0), (start_told, (uint_Tells w64, (uint_Tells w64, tt))))) (λ κs qs bounds a gh are.
-    let w : Pw.Denot = a.0 in let u : Ptr = a.1.0.at in let i : ℕ = a.1.1.0 in let n : ℕ = a.1.1.1.0 in let p : Ptr = w.at in let ps : List Place = w.places in let k : ℕ = words_of n in let m : ℕ = length ps - words_for n in
+    let w : Pw.Denot = a.0 in let u : Ptr = a.1.0.at in let i : ℕ = a.1.1.0 in let n : ℕ = a.1.1.1.0 in let p : Ptr = w.at in let ps : List Place = w.places in let k : ℕ = length ps - 1 in
     let Words : Type 0 = (u ≡ p) × (i ≡ w.first) × AllHere ps in let Label : Type 0 = IsLaid ps k in let Room : Type 0 = (words_for n ≤ length ps) × (n < 2 ^ 63) in
     let y : (walk_of 𝓛 ended hs c).Ghost = ((κs, qs, bounds, a, (token_val ∷ [], (start_val u ∷ [], (vint w64 i ∷ [], (vint w64 n ∷ [], tt))))), gh) in let Post : Val → SProp 𝓤 = (walk_of 𝓛 ended hs c).post y in
     qed 𝓛 ((raw (alive 𝓛 ended.signature κs qs) ⊛ ‵ (owns (types_at ended.signature.params κs) a y.0.4)) ∷ raw (fact 𝓤 Words) ∷ raw (fact 𝓤 Label) ∷ raw (fact 𝓤 Room) ∷ []) ∵
@@ -31,7 +31,7 @@ of_words_spec 𝓤 𝓛 𝓜 𝓡 wired =
     -- [the row; no token]
     let b : ℕ = block_of p in let f : ℕ = count_of p in let o : ℕ = w.first * 8 + f in let where_ : p ≡ block_ptr b f = at_block p lies.0 in let there_ : u ≡ block_ptr b f = given_.0 ∙ where_ in
     let fits : n < 2 ^ 64 = are.1.1.1.0.1 in let room : (w.first + length ps) * 8 < 2 ^ 63 = lies.1 in let same : i ≡ w.first = given_.1 in let small : i * 8 < 2 ^ 64 = omega (arith, same, room) in
-    let q : Ptr = block_ptr b (i * 8 + f) in let label : ℕ = number_at ps k in let all_ : List Place = labelled n (length ps) label in
+    let q : Ptr = block_ptr b (i * 8 + f) in let label : ℕ = number_at ps k in let all_ : List Place = labelled (length ps) label in
     let begins : q ≡ ptr_add u64 w.first p = ap (λ (j : ℕ). block_ptr b (j * 8 + f)) same ∙ sym (ap (ptr_add u64 w.first) where_) in
     let x : (piece.the_row).Denot = record { memory = q; size = n; at = p; first = w.first; count = length ps; label = label; placed = (begins, enough.0, enough.1) } in
     let Told : Type 0 = (p ≡ p) × (w.first ≡ w.first) × (length ps ≡ length ps) × (n ≡ n) × (label ≡ label) in
@@ -41,8 +41,8 @@ of_words_spec 𝓤 𝓛 𝓜 𝓡 wired =
     sets ! (bin ! (get_in ! (fld ! refl (stop !)) (sub ! 0 refl (whole !))) (get ! refl) tt) refl (tt, tt) $
     sets_last ! (of_opd ! (get ! refl)) refl (tt, tt) $ exec ! 𝓣.C 𝓣.Λ Ev (tail fn.body) (at_ret Ev Post) $
     sets ! (of_opd ! (get ! refl)) refl (tt, tt) $ sets ! (agg ! (and_then ! (get ! refl) (and_then ! (get ! refl) (no_more !)))) refl (tt, (tt, (record { fits = fits }, tt))) $
-    use1 𝓛 (‵ (row b o all_)) (forgets 𝓛 b ps k m o given_.2 is (omega (arith, enough.0))) $
-    nothing ! $ fpack ! (Lies p (w.first + length all_)) (λ _. ftrue) (lies.0, subst (λ (j : ℕ). (w.first + j) * 8 < 2 ^ 63) (sym (labelled-long n (length ps) label enough.0)) room) $ fjoin ! $
+    use1 𝓛 (‵ (row b o all_)) (forgets 𝓛 b ps k 0 o given_.2 is (omega (arith, enough.0))) $
+    nothing ! $ fpack ! (Lies p (w.first + length all_)) (λ _. ftrue) (lies.0, subst (λ (j : ℕ). (w.first + j) * 8 < 2 ^ 63) (sym (labelled-long (length ps) label (omega (arith, enough.0)))) room) $ fjoin ! $
     use0 𝓛 (‵ (Bare.own_val (q, (n, tt)) (piece_val q n ∷ []))) (bare_made 𝓛 q n fits) $ fjoin ! $
     use0 𝓛 (raw (fact 𝓤 Told)) (fact_i 𝓤 Told (emp 𝓤) (refl, refl, refl, refl, refl)) $ nothing ! $ nothing ! $ fjoin ! $ nothing ! $ fjoin ! $ nothing ! $ fjoin ! $ nothing ! $ fjoin ! $
     returns ! (look_at ! 0 refl) $ free_all ! refl $ keep ! (3 ∷ 0 ∷ 2 ∷ 1 ∷ []) $ by ! (leaves 𝓛 ended hs c y (piece_val q n) x (tt, (tt, (tt, (tt, tt)))) (tt, (tt, (tt, (tt, tt)))))))))))

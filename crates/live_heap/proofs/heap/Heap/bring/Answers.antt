@@ -1,4 +1,4 @@
-use Rattle.std.proofs.Common.{◌≡◌, ◌-◌, refl, sym, ap, ◌∙◌, subst, arith}
+use Rattle.std.proofs.Common.{◌≡◌, refl, sym, ap, ◌∙◌, subst, arith}
 use Rattle.plain_words.specs.Places.{numbers}
 use Rattle.atomic_region.specs.Owned.{RegionId}
 use Rattle.atomic_region.specs.Region.{Me}

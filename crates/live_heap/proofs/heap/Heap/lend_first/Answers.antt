@@ -29,5 +29,5 @@ store-requires g c =
       subst (λ key. Lends key seat.me c.args.mark) (sym key)
           (subst (λ me. Lends h.layout me c.args.mark) (sym none_out)
           (subst (Lends h.layout (seat.me.0, [])) (sym r.mark)
-          (may-lend_first h.layout id.words seat.id seat.me.0 g.L.Lending.owner block.place block.need h.checked r.may r.first))),
+          (may-lend_first h.layout id.words seat.id seat.me.0 g.L.Lending.owner block.place block.need h.checked r.may))),
     )

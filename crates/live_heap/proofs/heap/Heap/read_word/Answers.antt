@@ -1,28 +1,34 @@
-use Rattle.std.proofs.Common.{◌<◌, ◌+◌, refl, subst}
-use Rattle.word_table.specs.Counts.{arena_words}
-use Rattle.errand_steps.specs.declared.told.Ending.TheVariants as ending
-use Rattle.errand_steps.specs.declared.told.Stepped.TheVariants as step
-use Rattle.errand_steps.specs.Calls.{Call, begun_by, read}
-use Rattle.live_heap.specs.declared.pass.Pass.{Pass}
-use Rattle.live_heap.specs.Going.{in_call}
-use Rattle.live_heap.specs.Passes.{IsHome}
-use Rattle.live_heap.specs.Sights.{found_in}
-use Rattle.live_heap.proofs.Begun.{heap-at, of-laid}
-use Rattle.live_heap.proofs.CallsOne.{read-contents}
-use Rattle.live_heap.proofs.Straight.{call-sight, ends-at_once, payload-within, read-answers, read-settles}
+use Rattle.std.proofs.Common.{◌≡◌, ◌-◌, slice_index, refl, sym, ap, ◌∙◌, subst, inl, arith}
+use Rattle.plain_words.specs.Places.{IsLaid, laid, number, numbers, place_at}
+use Rattle.errand_steps.specs.declared.reply.Reply.TheVariants as reply
+use Rattle.errand_steps.specs.Calls.{read}
+use Rattle.sound_laws.specs.events.Made.{answered}
+use Rattle.live_heap.specs.Words.{CallsOnWord}
+use Rattle.live_heap.proofs.Lifting.{lifts, one-made, word-laid}
 use Rattle.live_heap.proofs.heap.Heap.read_word.Goals as goal
 
-pub load_word-requires-clause-inside : goal.load_word-requires-clause-inside
-load_word-requires-clause-inside g c =
-    let h = c.args.self.now in
-    let p = c.args.pass.now in
-    subst (λ g. c.args.place + 1 + c.args.i < arena_words g) (of-laid h p c.requires.of)
-    (payload-within p.errand.geometry c.args.place c.args.need c.args.i (heap-at h p c.args.place c.args.need c.requires.of c.requires.owned.0) c.requires.word)
+pub word-found-requires : goal.word-found-requires
+word-found-requires g c =
+    let w = c.lift_words-words.ensures.words in
+    let words = c.lift_words-words.result in
+    let i = c.args.i in
+    let at : c.payload-at.result - words.first ≡ i = omega (arith, c.payload-at.ensures, w.first) in
+    let there = word-laid c.args.self.now c.args.place c.args.need words i w c.requires.word in (
+      c.start.ensures ∙ sym w.at,
+      omega (arith, c.payload-at.ensures, w.first),
+      subst (IsLaid words.places) (sym at) (there ∙ ap laid (sym (ap number there))),
+    )
 
-pub load_word-requires-clause-sight : goal.load_word-requires-clause-sight
-load_word-requires-clause-sight g c =
-    call-sight c.args.self.now c.args.pass.now (read c.args.place c.args.need c.args.i) c.requires.of c.requires.idle
-    (record { block = c.requires.owned.0 }, c.requires.word) (λ at same. subst (IsHome c.args.pass.now) same c.requires.owned.1)
+pub lay_words-requires-clause-lifted : goal.lay_words-requires-clause-lifted
+lay_words-requires-clause-lifted g c =
+    let x = c.lift_words-words.ensures in
+    let words = c.lift_words-words.result in
+    let p = c.args.pass.now in
+    record {
+      before = p;
+      lifted = lifts c.args.self.now p c.lift_words-words.new.pass c.args.place c.args.need words c.requires.of c.requires.idle c.requires.owned x.words x.lifted;
+      leads = (numbers words.places, (inl (refl, refl, c.requires.word, refl), refl), refl);
+    }
 
 pub returns : goal.returns
 returns g c =
@@ -30,18 +36,14 @@ returns g c =
     let p = c.args.pass.now in
     let place = c.args.place in
     let need = c.args.need in
-    let call : Call = read place need c.args.i in
-    let q : Pass = record { seat = c.load_word.new.seat; errand = p.errand; out = p.out } in
-    let e = c.load_word.ensures in
-    let word = c.load_word.result in
-    let x = found_in (begun_by p.errand call) word in
-    let w =
-    ends-at_once h p q call word (ending.Word word) c.requires.of c.requires.idle (record { block = c.requires.owned.0 }, c.requires.word)
-    (λ at same. subst (IsHome p) same c.requires.owned.1) (heap-at h p place need c.requires.of c.requires.owned.0) (λ words is. cc) (read-settles p.errand place need c.args.i x c.requires.idle)
-    (read-answers p.errand place need c.args.i x) tt e.step e.seat.0 e.seat.1 refl in
-    record {
-      called = w.called;
-      owned = c.requires.owned;
-      of = w.of;
-      contents = read-contents p (in_call p call) q place need c.args.i word 0 (step.Done (ending.Word word)) refl w.stepped w.calling;
-    }
+    let i = c.args.i in
+    let x = c.lift_words-words.ensures in
+    let w = x.words in
+    let words = c.lift_words-words.result in
+    let q = c.lay_words.new.pass in
+    let l = lifts h p c.lift_words-words.new.pass place need words c.requires.of c.requires.idle c.requires.owned w x.lifted in
+    let one = one-made h p q (answered (read place need i) (reply.Word (slice_index (numbers words.places) i))) (c.lay_words.ensures p l) in
+    let at : c.payload-at.result - words.first ≡ i = omega (arith, c.payload-at.ensures, w.first) in
+    let is : slice_index (numbers words.places) i ≡ c.word-found.result =
+    ap number (sym (word-laid h place need words i w c.requires.word) ∙ ap (place_at words.places) (sym at) ∙ c.word-found.ensures) in
+    subst (λ n. CallsOnWord h p (read place need i) (reply.Word n) q) is one

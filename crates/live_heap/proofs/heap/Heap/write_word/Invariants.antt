@@ -1,5 +1,17 @@
-use Rattle.errand_steps.specs.Calls.{begun_by, write}
+use Rattle.std.proofs.Common.{[], ◌∷◌, slice_index}
+use Rattle.plain_words.specs.Places.{numbers}
+use Rattle.errand_steps.specs.declared.reply.Reply.TheVariants as reply
+use Rattle.errand_steps.specs.Calls.{write}
+use Rattle.sound_laws.specs.events.Made.{answered}
+use Rattle.live_heap.specs.Lending.{lent_block}
+use Rattle.live_heap.specs.Memory.{all_but}
+use Rattle.live_heap.specs.Passes.{view}
 use Rattle.live_heap.proofs.heap.Heap.write_word.Given as goal
 
-abbrev pub ghosts-store_word : goal.ghosts-store_word
-ghosts-store_word g a = record { errand = begun_by a._errand.now (write a.place a._need a.i a.v) }
+abbrev pub ghosts-lay_words : goal.ghosts-lay_words
+ghosts-lay_words g a = record {
+  owner = a.pass.now.errand;
+  block = lent_block a.place a.need (numbers a.words.places);
+  made = answered (write a.place a.need a._first (slice_index (numbers a.words.places) a._first)) reply.Wrote ∷ [];
+  shown = all_but a.place (view a.pass.now).lent;
+}

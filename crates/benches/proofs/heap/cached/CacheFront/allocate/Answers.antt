@@ -5,7 +5,7 @@ use Rattle.errand_steps.specs.Calls.{alloc}
 use Rattle.live_heap.specs.declared.answers.AllocAnswer.{AllocAnswer}
 use Rattle.block_cache.specs.Caches.{Holds}
 use Rattle.block_cache.specs.Whole.{EndsAs}
-use Rattle.cached_calls.proofs.ThroughLemmas.{busy-asks}
+use Rattle.lane_engine.proofs.ThroughLemmas.{busy-asks}
 use Rattle.benches.proofs.CacheLemmas.{resumed-home, whole-home}
 use Rattle.benches.proofs.heap.cached.CacheFront.allocate.Goals as goal
 

@@ -3,7 +3,7 @@ use Rattle.errand_steps.specs.Calls.{free}
 use Rattle.live_heap.specs.declared.answers.FreeAnswer.{FreeAnswer}
 use Rattle.live_heap.specs.Answers.{FreeTells}
 use Rattle.block_cache.specs.Caches.{Holds}
-use Rattle.cached_calls.proofs.ThroughLemmas.{unkept-asks}
+use Rattle.lane_engine.proofs.ThroughLemmas.{unkept-asks}
 use Rattle.benches.proofs.CacheLemmas.{frees-bring-none, resumed-home, whole-home}
 use Rattle.benches.proofs.heap.cached.CacheFront.release.Goals as goal
 

@@ -1,0 +1,47 @@
+-- The machine values of what is handed to C, and of a pair: what is owned tells the one, and makes the other. Assumes `Logic`.
+use Rattle.std.proofs.Common.{◌≡◌, ℕ, ◌^◌, ◌<◌, List, [], ◌∷◌, ◌++◌, refl, ◌∙◌, w32}
+use seplogic.Ra.Ura.{Ura}
+use lib.Dec.{T}
+use mir.Val.{Val, vint, vstruct, vcons, vnil, of_list, has_ty, WT}
+use base.Logic.{ent, sep, emp}
+use types.Logic.{Logic, sem}
+use types.Kit.{‵, ◌$◌, ◌∵◌, !, qed, move, fjoin, fpack, feq_i, done}
+use denote.RattleType.{RattleType, Valss}
+use denote.Param.{layout}
+use denote.RawPtr.{Ptr, block_ptr, null_ptr, ptr_val}
+use denote.Shadow.{shadow, makes_shadow}
+use denote.Steps.{nothing}
+use denote.Struct.Declared as declared
+use denote.Struct.Struct.{Struct, within}
+use denote.Struct.Tuple.{Tuple, tuple_type}
+use denote.Struct.Owning.{shape}
+use Rattle.std_alloc.proofs.RcSteps.{Ptr-Good}
+use Rattle.balloc_c.specs.contracts.handed.Handed as handed
+
+abbrev pub handed_val : Ptr → ℕ → Val
+handed_val p n = vstruct (vcons (ptr_val p) (vcons (vint w32 n) vnil))
+
+-- what is handed without the words
+abbrev pub Bare : RattleType
+Bare = Struct (shape handed.the_type)
+
+pub bare_told : (p : Ptr) (n : ℕ) (vs : List Val) → shadow (Bare.own_val (p, (n, tt)) vs) → (vs ≡ handed_val p n ∷ []) × (n < 2 ^ 32)
+bare_told p n vs s = (s.1.0 ∙ (λ i. vstruct (of_list (s.1.1.0 i ++ (s.1.1.1.0.0 i ++ []))) ∷ []), s.1.1.1.0.1)
+
+pub bare_made : {M : Type 1} {𝓤 : Ura M} (𝓛 : Logic 𝓤) (p : Ptr) (n : ℕ) → n < 2 ^ 32 → ent 𝓤 (emp 𝓤) (sem 𝓛 (Bare.own_val (p, (n, tt)) (handed_val p n ∷ [])))
+bare_made 𝓛 p n fits = makes_shadow 𝓛 (Bare.own_val (p, (n, tt)) (handed_val p n ∷ [])) (λ _. (tt, (tt, ((tt, tt), tt)))) ((ptr_val p ∷ [], (vint w32 n ∷ [], tt)), (refl, (refl, ((refl, fits), tt))))
+
+abbrev pub two_val : Val → Val → Val
+two_val u v = vstruct (vcons u (vcons v vnil))
+
+-- what is owned of two values is owned of them as a pair
+pub two_of : {M : Type 1} {𝓤 : Ura M} (𝓛 : Logic 𝓤) (R S : RattleType) (x : R.Denot) (y : S.Denot) (u v : Val)
+    → ent 𝓤 (sep 𝓤 (sem 𝓛 (R.own_val x (u ∷ []))) (sem 𝓛 (S.own_val y (v ∷ [])))) (sem 𝓛 ((Tuple (R ∷ S ∷ [])).own_val (x, y) (two_val u v ∷ [])))
+two_of 𝓛 R S x y u v =
+    let all_ : Val = two_val u v in
+    qed 𝓛 (‵ (R.own_val x (u ∷ [])) ∷ ‵ (S.own_val y (v ∷ [])) ∷ []) ∵ nothing ! $ move ! (2 ∷ 0 ∷ []) $ fjoin ! $ move ! (1 ∷ 0 ∷ []) $ fjoin ! $
+    feq_i ! (List Val) (all_ ∷ []) (all_ ∷ []) refl $ fjoin ! $ fpack ! (Valss (R ∷ S ∷ [])) (within (declared.shape (tuple_type (R ∷ S ∷ []))) (x, (y, tt)) (all_ ∷ [])) (u ∷ [], (v ∷ [], tt)) $ done !
+
+pub handed_good : (p : Ptr) (n : ℕ) → n < 2 ^ 32 → T (has_ty (layout handed.the_row) (handed_val p n)) × WT (handed_val p n)
+handed_good (block_ptr b o) n f = (tt, (tt, (record { fits = f }, tt)))
+handed_good null_ptr n f = (tt, ((Ptr-Good null_ptr).1, (record { fits = f }, tt)))

@@ -1,0 +1,34 @@
+-- The words are owned as they were.
+use Rattle.plain_words.proofs.Names.{◌≡◌, ℕ, ◌+◌, ◌^◌, ◌<◌, List, [], ◌∷◌, length, refl, Val, vint, SProp, emp, id⊢, ftrue, ‵, raw, ◌⊛◌, ◌$◌, ◌∵◌, !, qed, by, move, keep, drop, split, fsplit, fjoin, fpick, fpack, rewrite, use0, use1, no_more, and_then, returns, enter, alloc_all, pass_all, free_all, look_at, get, sets, agg, tables, yes, RattleType, owns, types_at, plain, Ptr, nothing, heard, alive, Stays, stay_dropped, walk_of, Goes-dropped, fact, fact_i, proved, leaves, RawPtr}
+use Rattle.plain_words.proofs.Made.{token_val, Token, token_made}
+use Rattle.std.specs.Prelude.{Option, Some, None}
+use Rattle.plain_words.specs.Places.{Place}
+use Rattle.plain_words.specs.Owned.{Lies, plain_owns}
+use Rattle.plain_words.specs.contracts.plain.PlainWords as plain_words
+use Rattle.balloc_c.specs.Handing.{words_own}
+use Rattle.balloc_c.specs.contracts.handed.Handed as handed
+use Rattle.balloc_c.specs.contracts.handed.Handed.into_words.{ended, clauses}
+use Rattle.balloc_c.specs.contracts.handed.Handed.into_words.Key.{name as #self}
+use Rattle.balloc_c.proofs.handed.Handed.into_words.Statement.{statement}
+use Rattle.balloc_c.proofs.handed.Handed.into_words.Code as code
+use Rattle.balloc_c.proofs.Values.{handed_val, bare_told, handed_good}
+
+pub into_words_spec : {M : Type 1} → statement M
+into_words_spec 𝓤 𝓛 𝓜 𝓡 wired =
+    let H = 𝓛.H in let 𝓣 = tables 𝓤 H 𝓜 𝓡 𝓡.env in let Pw : RattleType = plain_words.the_row in let Hd : RattleType = handed.the_row in let c = clauses 𝓛 𝓜.mem 𝓡.returns in let fn = code.function in let used = plain (λ _. Hd) in
+    let hs : Stays ended.signature.params ended.kept = (stay_dropped used yes, tt) in
+    proved 𝓛 ended hs c 𝓜 𝓡 (Goes-dropped 𝓛 0 used yes (λ κs x f. refl), tt) #self fn (code.unfolded 𝓤 H 𝓜 𝓡 wired)
+    (λ κs. ((λ x. handed_val x.memory x.code ∷ []), tt)) (λ κs. ((λ x vs so. (bare_told x.memory x.code vs so.0).0), tt)) (λ κs qs bounds a gh are.
+    let x : Hd.Denot = a.0 in let n : ℕ = x.code in let fits : n < 2 ^ 32 = (bare_told x.memory n _ are.0.0).1 in
+    let Asked : Type 0 = (w : Pw.Denot) × (x.words ≡ Some w) in
+    let y : (walk_of 𝓛 ended hs c).Ghost = ((κs, qs, bounds, a, (handed_val x.memory n ∷ [], tt)), gh) in let Post : Val → SProp 𝓤 = (walk_of 𝓛 ended hs c).post y in
+    qed 𝓛 ((raw (alive 𝓛 ended.signature κs qs) ⊛ ‵ (owns (types_at ended.signature.params κs) a y.0.4)) ∷ raw (fact 𝓤 Asked) ∷ []) ∵
+    move ! (1 ∷ []) $ heard ! Asked (λ asked. let w : Pw.Denot = asked.0 in let p : Ptr = w.at in let ps : List Place = w.places in
+    split ! $ move ! (1 ∷ []) $ fsplit ! $ fsplit ! $ keep ! (1 ∷ 3 ∷ []) $ rewrite ! 0 (λ (o : Option Pw.Denot). ‵ (words_own o)) asked.1 refl $ use1 𝓛 (‵ (plain_owns p w.first ps)) (id⊢ 𝓤 _) $
+    -- [the words; no token]
+    enter ! 𝓣.C 𝓣.Λ fn (handed_val x.memory n ∷ []) Post $ alloc_all ! (λ l. pass_all ! refl (handed_good x.memory n fits, tt) $
+    sets ! (agg ! (no_more !)) refl (tt, tt) $ sets ! (agg ! (and_then ! (get ! refl) (no_more !))) refl (tt, (tt, tt)) $
+    use0 𝓛 (‵ ((Token RawPtr).own_val (record {}, tt) (token_val ∷ []))) (token_made RawPtr 𝓛) $ fjoin ! $
+    let Words : Type 0 = x.words ≡ Some w in
+    use0 𝓛 (raw (fact 𝓤 Words)) (fact_i 𝓤 Words (emp 𝓤) asked.1) $ nothing ! $ nothing ! $ fjoin ! $
+    returns ! (look_at ! 0 refl) $ free_all ! refl $ keep ! (3 ∷ 0 ∷ 2 ∷ 1 ∷ []) $ by ! (leaves 𝓛 ended hs c y token_val w (tt, tt) (tt, tt)))))

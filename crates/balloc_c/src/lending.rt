@@ -1,0 +1,263 @@
+//! How the memory of a block goes out to C, and comes home.
+
+ghost use Rattle.std.specs.Prelude.{ℕ, ◌≡◌, ◌<◌, ◌%◌, ◌^◌, None, Result, Some, length};
+ghost use Rattle.errand_steps.specs.Begins.{IsIdle};
+ghost use Rattle.live_heap.specs.declared.block.Block.{Block};
+ghost use Rattle.live_heap.specs.declared.plain.Memory.{Memory as Lot};
+ghost use Rattle.live_heap.specs.Memory.{IsMemoryOf};
+ghost use Rattle.plain_words.specs.Places.{laids, numbers};
+ghost use Rattle.plain_words.specs.declared.plain.PlainWords.{PlainWords as Words};
+ghost use Rattle.balloc_c.specs.declared.kept.Kept.TheVariants as kept;
+ghost use Rattle.balloc_c.specs.declared.refusal.Refusal.{Refusal as Cause};
+ghost use Rattle.balloc_c.specs.declared.refusal.Refusal.TheVariants as refusal;
+ghost use Rattle.balloc_c.specs.Codes.{code_of, value_in, word_in, word_of};
+ghost use Rattle.balloc_c.specs.declared.lent.Lent.{Lent as Out};
+ghost use Rattle.balloc_c.specs.Kept.{block_of};
+ghost use Rattle.balloc_c.specs.Lending.{AllocatesMemory, AreNumbers, BringsHome, FreesBack, HasComeHome, HasGoneOut, HasToldMemory, IsBackFor, IsRoomFor, StayOut, memory_at, words_for, zeros};
+ghost use Rattle.balloc_c.specs.Numbers.{named};
+ghost use Rattle.balloc_c.specs.Packed.{HasOneMoreAtMost, IsPacked};
+ghost use Rattle.balloc_c.specs.Slots.{block_at, blocks_of};
+ghost use Rattle.balloc_c.specs.Tended.{Tends};
+
+use crate::calls::{alloc, free};
+use crate::handed::Handed;
+use crate::kept::Kept;
+use crate::lent::Lent;
+use crate::refusal::Refusal;
+use crate::table::Table;
+use block_cache::cache::Cache;
+use heap_geometry::limits::LARGE_MOST;
+use heap_geometry::need::usable;
+use live_heap::heap::Heap;
+use live_heap::plain::Memory;
+use plain_words::PlainWords;
+
+/// The call was made.
+const MADE: u32 = 0;
+
+/// Where the memory of the block of this number begins, whose words go out.
+pub fn memory(heap: &Heap, cache: &mut Cache, table: &mut Table, number: u64) -> Handed
+    requires tends { Tends heap.now cache.old table.old.slots.items }
+    requires packed { IsPacked table.old }
+    ensures tends { Tends heap.now cache.new table.new.slots.items }
+    ensures packed { IsPacked table.new }
+    ensures few { HasOneMoreAtMost table.old table.new }
+    ensures answers { (outcome : Result (Unit {0}) Cause) × (result.code ≡ word_in outcome)
+        × HasToldMemory heap.now cache.old table.old number outcome result.memory result.words cache.new table.new }
+{
+    if !cache.idle() {
+        return Handed::none(Refusal::InCall.word());
+    }
+    let Some(index) = table.find(number) else {
+        return Handed::none(Refusal::NoBlock.word());
+    };
+    if table.is_out(index) {
+        return Handed::none(Refusal::Out.word());
+    }
+    go_out(heap, cache, table, index, number)
+}
+
+/// The words of the block in a slot go out, whose number this is.
+fn go_out(heap: &Heap, cache: &mut Cache, table: &mut Table, index: usize, _number: u64) -> Handed
+    requires tends { Tends heap.now cache.old table.old.slots.items }
+    requires packed { IsPacked table.old }
+    requires idle { IsIdle cache.old.pass.errand }
+    requires within { index < length table.old.slots.items }
+    requires is { index ≡ _number % 2 ^ 32 }
+    requires home { (block : Block) × (block_at table.old.slots.items index ≡ Some (kept.Home block)) }
+    requires named { named table.old _number ≡ block_at table.old.slots.items index }
+    ensures tends { Tends heap.now cache.new table.new.slots.items }
+    ensures packed { IsPacked table.new }
+    ensures count { length table.new.slots.items ≡ length table.old.slots.items }
+    ensures code { result.code ≡ 0 }
+    ensures out { (memory : Lot) × (result.words ≡ Some memory.words) × (result.memory ≡ memory_at heap.now memory.block.place)
+        × HasGoneOut heap.now cache.old table.old _number memory cache.new table.new }
+{
+    let block = table.take_home(index);
+    let place = block.place();
+    let need = block.need();
+    let memory = cache.take_out(heap, block);
+    let first = place as usize + 1;
+    let words = Handed::of_words(memory.into_words(), heap.start(), first, MADE);
+    let _ = table.set(index, Some(Kept::Out(Lent::new(place, need))));
+    words
+}
+
+/// The words of the block in a slot come home, whose number this is.
+fn come_home(
+    heap: &Heap,
+    cache: &mut Cache,
+    table: &mut Table,
+    index: usize,
+    _number: u64,
+    words: PlainWords,
+)
+    requires tends { Tends heap.now cache.old table.old.slots.items }
+    requires packed { IsPacked table.old }
+    requires idle { IsIdle cache.old.pass.errand }
+    requires within { index < length table.old.slots.items }
+    requires is { index ≡ _number % 2 ^ 32 }
+    requires words { (lent : Out) × (block_at table.old.slots.items index ≡ Some (kept.Out lent))
+        × IsMemoryOf heap.now (record { block = block_of (kept.Out lent); words = words }) }
+    requires named { named table.old _number ≡ block_at table.old.slots.items index }
+    ensures tends { Tends heap.now cache.new table.new.slots.items }
+    ensures packed { IsPacked table.new }
+    ensures idle { IsIdle cache.new.pass.errand }
+    ensures count { length table.new.slots.items ≡ length table.old.slots.items }
+    ensures blocks { length (blocks_of table.new.slots.items) ≡ length (blocks_of table.old.slots.items) }
+    ensures home { HasComeHome heap.now cache.old table.old _number (numbers words.places) cache.new table.new }
+{
+    let lent = table.take_lent(index);
+    let memory = Memory::of_words(lent.place, lent.need, words);
+    let block = cache.bring_home(heap, memory);
+    let _ = table.set(index, Some(Kept::Home(block)));
+}
+
+/// The same words, each of them 0.
+fn zeroed(heap: &Heap, lent: &Lent, words: PlainWords) -> PlainWords
+    requires { IsRoomFor heap.now lent.now words }
+    ensures { (result.at ≡ words.at) × (result.first ≡ words.first) × (result.places ≡ laids (zeros words)) }
+{
+    let first = lent.place as usize + 1;
+    let end = first + usable(lent.need) as usize;
+    let mut words = words;
+    words.fill(heap.start(), first, end, 0);
+    words
+}
+
+/// The free of the block of this number, for which words that are out come home as zeros. Where a call is under way they
+/// go out again.
+pub fn free_back(
+    heap: &Heap,
+    cache: &mut Cache,
+    table: &mut Table,
+    number: u64,
+    back: Handed,
+) -> Handed
+    requires tends { Tends heap.now cache.old table.old.slots.items }
+    requires packed { IsPacked table.old }
+    requires back { IsBackFor heap.now (named table.old number) back.words }
+    requires code { back.code ≡ word_of (code_of refusal.InCall) }
+    ensures tends { Tends heap.now cache.new table.new.slots.items }
+    ensures packed { IsPacked table.new }
+    ensures few { HasOneMoreAtMost table.old table.new }
+    ensures answers { (outcome : Result (Unit {0}) Cause) × (result.code ≡ word_in outcome) × StayOut outcome result.words
+        × FreesBack heap.now cache.old table.old number back.words outcome result.words cache.new table.new }
+{
+    if !cache.idle() {
+        return back;
+    }
+    let Some(index) = table.find(number) else {
+        return Handed::none(Refusal::NoBlock.word());
+    };
+    if table.is_out(index) {
+        let freed = free_out(heap, cache, table, index, number, back);
+        return Handed::none(word(freed));
+    }
+    Handed::none(word(free(heap, cache, table, number)))
+}
+
+/// The free of the block in a slot, whose number this is and whose words are out.
+fn free_out(
+    heap: &Heap,
+    cache: &mut Cache,
+    table: &mut Table,
+    index: usize,
+    number: u64,
+    back: Handed,
+) -> Result<(), Refusal>
+    requires tends { Tends heap.now cache.old table.old.slots.items }
+    requires packed { IsPacked table.old }
+    requires idle { IsIdle cache.old.pass.errand }
+    requires within { index < length table.old.slots.items }
+    requires is { index ≡ number % 2 ^ 32 }
+    requires words { (lent : Out) × (words : Words) × (block_at table.old.slots.items index ≡ Some (kept.Out lent)) × (back.words ≡ Some words)
+        × IsRoomFor heap.now lent words }
+    requires named { named table.old number ≡ block_at table.old.slots.items index }
+    ensures tends { Tends heap.now cache.new table.new.slots.items }
+    ensures packed { IsPacked table.new }
+    ensures few { HasOneMoreAtMost table.old table.new }
+    ensures answers { FreesBack heap.now cache.old table.old number back.words result None cache.new table.new }
+{
+    let Some(lent) = table.out(index) else {
+        unreachable!();
+    };
+    let words = zeroed(heap, lent, back.into_words());
+    come_home(heap, cache, table, index, number, words);
+    free(heap, cache, table, number)
+}
+
+/// Words that are out come home, with what is in them. Where a call is under way they go out again.
+pub fn bring(heap: &Heap, cache: &mut Cache, table: &mut Table, number: u64, back: Handed) -> Handed
+    requires tends { Tends heap.now cache.old table.old.slots.items }
+    requires packed { IsPacked table.old }
+    requires back { IsBackFor heap.now (named table.old number) back.words }
+    requires numbers { AreNumbers back.words }
+    requires code { back.code ≡ word_of (code_of refusal.InCall) }
+    ensures tends { Tends heap.now cache.new table.new.slots.items }
+    ensures packed { IsPacked table.new }
+    ensures few { HasOneMoreAtMost table.old table.new }
+    ensures answers { (outcome : Result (Unit {0}) Cause) × (result.code ≡ word_in outcome) × StayOut outcome result.words
+        × BringsHome heap.now cache.old table.old number back.words outcome result.words cache.new table.new }
+{
+    if !cache.idle() {
+        return back;
+    }
+    let Some(index) = table.find(number) else {
+        return Handed::none(Refusal::NoBlock.word());
+    };
+    if table.is_out(index) {
+        come_home(heap, cache, table, index, number, back.into_words());
+        return Handed::none(MADE);
+    }
+    Handed::none(MADE)
+}
+
+/// The code of an outcome.
+fn word(outcome: Result<(), Refusal>) -> u32
+    ensures { result ≡ word_in outcome }
+{
+    match outcome {
+        Ok(()) => MADE,
+        Err(cause) => cause.word(),
+    }
+}
+
+/// How many words have so many bytes; more than any block has stand for all that are more.
+fn least_words(bytes: usize) -> u32
+    ensures { result ≡ words_for bytes }
+{
+    if bytes > 8 * LARGE_MOST as usize {
+        LARGE_MOST + 1
+    } else {
+        ((bytes + 7) / 8) as u32
+    }
+}
+
+/// An allocation of so many bytes, whose words go out. Tells the block's number.
+pub fn alloc_memory(
+    heap: &Heap,
+    cache: &mut Cache,
+    table: &mut Table,
+    bytes: usize,
+    id: &mut u64,
+) -> Handed
+    requires tends { Tends heap.now cache.old table.old.slots.items }
+    requires packed { IsPacked table.old }
+    ensures tends { Tends heap.now cache.new table.new.slots.items }
+    ensures packed { IsPacked table.new }
+    ensures few { HasOneMoreAtMost table.old table.new }
+    ensures answers { (outcome : Result ℕ Cause) × (result.code ≡ word_in outcome) × (id.new ≡ value_in outcome id.old)
+        × AllocatesMemory heap.now cache.old table.old bytes outcome result.memory result.words cache.new table.new }
+{
+    match alloc(heap, cache, table, least_words(bytes)) {
+        Ok(number) => {
+            *id = number;
+            let Some(index) = table.find(number) else {
+                unreachable!();
+            };
+            go_out(heap, cache, table, index, number)
+        }
+        Err(cause) => Handed::none(cause.word()),
+    }
+}

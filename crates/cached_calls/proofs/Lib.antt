@@ -1,2 +1,0 @@
-mod FlushLemmas
-pub mod ThroughLemmas

@@ -1,5 +1,0 @@
-use Rattle.cached_runner.proofs.ClosedLemmas.{closed-fit}
-use Rattle.cached_runner.proofs.laws.closed_lanes_fit_through_caches.Goals as goal
-
-pub returns : goal.returns
-returns c = closed-fit

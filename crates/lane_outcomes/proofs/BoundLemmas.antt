@@ -1,0 +1,137 @@
+-- How many blocks a magazine has, and how many operations magazines serve.
+use Rattle.std.proofs.Common.{ℕ, suc, ◌≡◌, ◌+◌, ◌≤◌, ◌<◌, ◌∷◌, List, [], Bool, true, false, Option, Some, None, length, set, refl, sym, ◌∙◌, ap, subst, inl, inr, arith, get_or-set_same, get_or-set_other}
+use Rattle.std.specs.List.{All}
+use Rattle.std.proofs.lemmas.Bool.{cases_eq, cases_lt, ltb-true}
+use Rattle.std.proofs.lemmas.List.{get_or_default, set_past}
+use Rattle.heap_geometry.specs.declared.geometry.Geometry.{Geometry}
+use Rattle.heap_geometry.specs.declared.limits.TheConstants.{CLASSES}
+use Rattle.heap_geometry.specs.declared.need.Need.{Need}
+use Rattle.heap_geometry.specs.declared.need.Need.TheVariants.{Small, Large, TooLarge}
+use Rattle.heap_geometry.specs.Need.{need_of}
+use Rattle.pool_model.specs.declared.event.Event.{Event}
+use Rattle.trace_text.specs.declared.trace.Op.{Op}
+use Rattle.trace_text.specs.declared.trace.Op.TheVariants as op
+use Rattle.lane_outcomes.specs.declared.registers.Held.{Held}
+use Rattle.lane_outcomes.specs.declared.outcome.Outcome.{Outcome}
+use Rattle.lane_outcomes.specs.declared.outcome.Outcome.TheVariants as outcome
+use Rattle.lane_outcomes.specs.Lane.{held_in}
+use Rattle.lane_outcomes.specs.LaneCounts.{as_one, count_with, lane_given, lanes_given, words_given}
+use Rattle.lane_outcomes.specs.Rows.{Setting}
+use Rattle.lane_outcomes.specs.Cached.{CachedFits, CachedLanesFit, CachedPosition, CachedWalks, cached_after, cached_start, hit_of, magazines_after, served_for}
+use Rattle.lane_outcomes.specs.Magazines.{empty_magazines, given_from, is_kept, kept_with, magazine_of, magazines_freed, magazines_given, others_in, served_by}
+use Rattle.lane_outcomes.proofs.RoomLemmas.{none-in}
+
+-- no magazine has more blocks than the depth
+abbrev IsShallow : ℕ → List (List ℕ) → Type 0
+IsShallow depth magazines = (class : ℕ) → length (magazine_of magazines class) ≤ depth
+
+shallow-set :
+    (depth : ℕ) (magazines : List (List ℕ)) (class : ℕ) (places : List ℕ) → length places ≤ depth → IsShallow depth magazines
+    → IsShallow depth (set magazines class places)
+shallow-set depth magazines class places few shallow other =
+    elim (cases_eq other class) [
+      | inl same ↦ elim (cases_lt class (length magazines)) [
+        | inl within ↦
+            let there : magazine_of (set magazines class places) other ≡ places =
+            ap (magazine_of (set magazines class places)) same ∙ get_or-set_same magazines class places [] within in
+            omega (arith, ap length there)
+        | inr past ↦ subst (λ (xs : List (List ℕ)). length (magazine_of xs other) ≤ depth) (sym (set_past magazines class places past)) (shallow other)
+      ]
+      | inr apart ↦
+          let there : magazine_of (set magazines class places) other ≡ magazine_of magazines other = get_or-set_other magazines class other places [] apart in
+          omega (arith, ap length there, shallow other)
+    ]
+
+others-fewer : (places : List ℕ) → length (others_in places) ≤ length places
+others-fewer [] = omega arith
+others-fewer (place ∷ places) = omega arith
+
+shallow-given : (depth : ℕ) (served : Option ℕ) (magazines : List (List ℕ)) (need : Need) → IsShallow depth magazines → IsShallow depth (given_from served magazines need)
+shallow-given depth None magazines need shallow = shallow
+shallow-given depth (Some place) magazines (Small class) shallow =
+    shallow-set depth magazines class (others_in (magazine_of magazines class))
+    (omega (arith, others-fewer (magazine_of magazines class), shallow class)) shallow
+shallow-given depth (Some place) magazines (Large units) shallow = shallow
+shallow-given depth (Some place) magazines TooLarge shallow = shallow
+
+shallow-kept :
+    (depth : ℕ) (keeps : Bool) (magazines : List (List ℕ)) (place : ℕ) (need : Need) → is_kept depth magazines need ≡ keeps → IsShallow depth magazines
+    → IsShallow depth (kept_with keeps magazines place need)
+shallow-kept depth true magazines place (Small class) keeps shallow =
+    let room : length (magazine_of magazines class) < depth = ltb-true _ _ keeps in
+    shallow-set depth magazines class (place ∷ magazine_of magazines class) (omega (arith, room)) shallow
+shallow-kept depth true magazines place (Large units) keeps shallow = shallow
+shallow-kept depth true magazines place TooLarge keeps shallow = shallow
+shallow-kept depth false magazines place need keeps shallow = shallow
+
+shallow-freed : (depth : ℕ) (magazines : List (List ℕ)) (held : Option Held) → IsShallow depth magazines → IsShallow depth (magazines_freed depth magazines held)
+shallow-freed depth magazines None shallow = shallow
+shallow-freed depth magazines (Some held) shallow =
+    shallow-kept depth (is_kept depth magazines held.need) magazines held.place held.need refl shallow
+
+shallow-after :
+    (depth : ℕ) (magazines : List (List ℕ)) (registers : List (Option Held)) (operation : Op) (result : Outcome) → IsShallow depth magazines
+    → IsShallow depth (magazines_after depth magazines registers operation result)
+shallow-after depth magazines registers (op.Alloc r need v) (outcome.Given words place) shallow =
+    shallow-given depth (served_by magazines (need_of need)) magazines (need_of need) shallow
+shallow-after depth magazines registers (op.Free r) outcome.Freed shallow = shallow-freed depth magazines (held_in registers r) shallow
+shallow-after depth magazines registers (op.Resize r need) (outcome.Resized words place) shallow =
+    shallow-freed depth (magazines_given magazines (need_of need)) (held_in registers r)
+    (shallow-given depth (served_by magazines (need_of need)) magazines (need_of need) shallow)
+shallow-after depth magazines registers operation result shallow = shallow
+
+shallow-walk :
+    (setting : Setting) (depth : ℕ) (from to : CachedPosition) (operations : List Op) (results : List Outcome)
+    → CachedWalks setting depth from operations results to → IsShallow depth from.magazines → IsShallow depth to.magazines
+shallow-walk setting depth from to [] [] walks shallow = rw walks shallow
+shallow-walk setting depth from to [] (result ∷ results) walks shallow = absurd walks
+shallow-walk setting depth from to (operation ∷ operations) [] walks shallow = absurd walks
+shallow-walk setting depth from to (operation ∷ operations) (result ∷ results) walks shallow =
+    shallow-walk setting depth (cached_after depth from operation result walks.0) to operations results walks.2
+    (shallow-after depth from.magazines from.base.registers operation result shallow)
+
+pub walk-shallow :
+    (setting : Setting) (depth : ℕ) (operations : List Op) (results : List Outcome) (position : CachedPosition)
+    → CachedWalks setting depth cached_start operations results position → All (λ magazine. length magazine ≤ depth) position.magazines
+walk-shallow setting depth operations results position walks class d below =
+    let empty : IsShallow depth empty_magazines = λ other. omega (arith, ap length (none-in CLASSES other)) in
+    let shallow = shallow-walk setting depth cached_start position operations results walks empty class in
+    omega (arith, shallow, ap length (get_or_default position.magazines class d [] below))
+
+hit-one : (served : Option ℕ) → hit_of served ≤ 1
+hit-one None = omega arith
+hit-one (Some place) = omega arith
+
+-- each hit is one of the blocks that were given
+hit-given : (magazines : List (List ℕ)) (operation : Op) (result : Outcome) → hit_of (served_for magazines operation result) ≤ count_with as_one (words_given operation result)
+hit-given magazines (op.Alloc r need v) (outcome.Given words place) = hit-one (served_by magazines (need_of need))
+hit-given magazines (op.Resize r need) (outcome.Resized words place) = hit-one (served_by magazines (need_of need))
+hit-given magazines operation result = omega arith
+
+hits-walk :
+    (setting : Setting) (depth : ℕ) (from to : CachedPosition) (operations : List Op) (results : List Outcome)
+    → CachedWalks setting depth from operations results to → to.hits ≤ from.hits + lane_given as_one operations results
+hits-walk setting depth from to [] [] walks = omega (arith, ap (λ (p : CachedPosition). p.hits) walks)
+hits-walk setting depth from to [] (result ∷ results) walks = absurd walks
+hits-walk setting depth from to (operation ∷ operations) [] walks = absurd walks
+hits-walk setting depth from to (operation ∷ operations) (result ∷ results) walks =
+    omega (
+      arith,
+      hit-given from.magazines operation result,
+      hits-walk setting depth (cached_after depth from operation result walks.0) to operations results walks.2,
+    )
+
+pub lane-hits :
+    (setting : Setting) (depth : ℕ) (operations : List Op) (results : List Outcome) (hits : ℕ) → CachedFits setting depth operations results hits
+    → hits ≤ lane_given as_one operations results
+lane-hits setting depth operations results hits fits =
+    omega (arith, fits.hits_are, hits-walk setting depth cached_start fits.end operations results fits.walks)
+
+pub lanes-hits :
+    (g : Geometry) (history : List Event) (lost depth lane : ℕ) (lanes : List (List Op)) (outcomes : List (List Outcome)) (hits : ℕ)
+    → CachedLanesFit g history lost depth lane lanes outcomes hits → hits ≤ lanes_given as_one lanes outcomes
+lanes-hits g history lost depth lane [] [] hits fit = omega (arith, fit)
+lanes-hits g history lost depth lane [] (results ∷ outcomes) hits fit = absurd fit
+lanes-hits g history lost depth lane (operations ∷ lanes) [] hits fit = absurd fit
+lanes-hits g history lost depth lane (operations ∷ lanes) (results ∷ outcomes) hits (these, others, all, one, more) =
+    omega (arith, all, lane-hits _ depth operations results these one, lanes-hits g history lost depth (suc lane) lanes outcomes others more)

@@ -1,0 +1,103 @@
+-- What lanes through caches were given less what they freed is what is live.
+use Rattle.std.proofs.Common.{ℕ, suc, ◌≡◌, ◌+◌, ◌*◌, ◌^◌, ◌≤◌, ◌∷◌, ◌++◌, List, [], None, length, replicate, refl, sym, ◌∙◌, ap, subst, arith, append-nil}
+use Rattle.heap_geometry.specs.declared.geometry.Geometry.{Geometry}
+use Rattle.heap_geometry.specs.declared.limits.TheConstants.{LARGE_MOST}
+use Rattle.pool_model.specs.declared.event.Event.{Event}
+use Rattle.pool_model.specs.Histories.{Begins}
+use Rattle.pool_model.specs.Legal.{IsLegalWithoutCounts}
+use Rattle.trace_text.specs.declared.limits.TheConstants.{MAX_LANES, REGISTERS}
+use Rattle.trace_text.specs.declared.trace.Op.{Op}
+use Rattle.trace_text.specs.declared.trace.Op.TheVariants as op
+use Rattle.lane_outcomes.specs.declared.outcome.Outcome.{Outcome}
+use Rattle.lane_outcomes.specs.declared.outcome.Outcome.TheVariants as outcome
+use Rattle.lane_outcomes.specs.LaneCounts.{AreHeld, count_with, lane_freed, lane_given, lanes_freed, lanes_given, words_given}
+use Rattle.lane_outcomes.specs.Rows.{Setting}
+use Rattle.lane_outcomes.specs.Standing.{setting_in}
+use Rattle.lane_outcomes.proofs.LiveLemmas.{IsBalanced, IsFew}
+use Rattle.lane_outcomes.proofs.MeasureLemmas.{free_at, give_at, measured}
+use Rattle.lane_outcomes.proofs.TallyLemmas.{of_caller, partition, sum_from, tally}
+use Rattle.lane_outcomes.specs.Cached.{CachedFits, CachedLanesFit, CachedOutcomesFit, CachedPosition, CachedRow, CachedWalks, cached_after, cached_start}
+use Rattle.lane_outcomes.specs.Magazines.{kept_from}
+use Rattle.lane_outcomes.proofs.CachedLemmas.{lane-keeps}
+use Rattle.lane_outcomes.proofs.KeepingLemmas.{amount, keeps-emptied}
+use Rattle.lane_outcomes.proofs.KeptLemmas.{kept-emptied}
+
+-- what a caller's events gave and freed in a whole history
+abbrev given_to : (ℕ → ℕ) → List Event → ℕ → ℕ
+given_to f history caller = tally (of_caller caller (give_at f)) [] history
+
+abbrev freed_by : (ℕ → ℕ) → List Event → ℕ → ℕ
+freed_by f history caller = tally (of_caller caller (free_at f)) [] history
+
+-- a lane's outcomes and its events differ by what magazines served and kept, and of that nothing is left
+lane-balance :
+    (f : ℕ → ℕ) (g : Geometry) (setting : Setting) (depth : ℕ) (operations : List Op) (results : List Outcome) (hits : ℕ)
+    → IsLegalWithoutCounts g setting.history → CachedFits setting depth operations results hits
+    → given_to f setting.history setting.caller + lane_freed f (replicate REGISTERS None) operations results
+    ≡ lane_given f operations results + freed_by f setting.history setting.caller
+lane-balance f g setting depth operations results hits legal fits =
+    let end : CachedPosition = fits.end in
+    let emptied = keeps-emptied f g setting.history setting.caller end.base.done (kept_from 0 end.magazines) end.base.registers _ _ legal
+    (lane-keeps f g setting depth operations results end legal fits.walks) in
+    let whole : Begins setting.history setting.history = ([], sym (append-nil setting.history)) in
+    let all = fits.all_used ∙ ap (λ xs. end.base.done ++ xs) (sym (kept-emptied setting.caller 0 end.magazines)) in
+    let ended = emptied.at setting.history whole all in
+    let none : amount f [] ≡ 0 = refl in
+    omega (arith, ended.given_is, ended.freed_is, emptied.balance setting.history whole all, none)
+
+-- each operation is given at most one block, of a need
+cached-few-row :
+    (f : ℕ → ℕ) (setting : Setting) (depth : ℕ) (position : CachedPosition) (operation : Op) (result : Outcome) (piece : List Event) → IsFew f
+    → CachedRow setting depth position operation result piece → count_with f (words_given operation result) ≤ LARGE_MOST
+cached-few-row f setting depth position (op.Alloc r need v) (outcome.Given words place) piece few row = subst (λ n. f n ≤ LARGE_MOST) (sym row.1) (few need)
+cached-few-row f setting depth position (op.Resize r need) (outcome.Resized words place) piece few row =
+    subst (λ n. f n ≤ LARGE_MOST) (sym row.3) (few need)
+cached-few-row f setting depth position operation result piece few row = omega arith
+
+cached-few-lane :
+    (f : ℕ → ℕ) (setting : Setting) (depth : ℕ) (from to : CachedPosition) (operations : List Op) (results : List Outcome) → IsFew f
+    → CachedWalks setting depth from operations results to → lane_given f operations results ≤ LARGE_MOST * length results
+cached-few-lane f setting depth from to [] [] few walks = omega arith
+cached-few-lane f setting depth from to [] (result ∷ results) few walks = absurd walks
+cached-few-lane f setting depth from to (operation ∷ operations) [] few walks = absurd walks
+cached-few-lane f setting depth from to (operation ∷ operations) (result ∷ results) few walks =
+    omega (
+      arith,
+      cached-few-row f setting depth from operation result walks.0 few walks.1,
+      cached-few-lane f setting depth (cached_after depth from operation result walks.0) to operations results few walks.2,
+    )
+
+-- all lanes: given less freed is the same by their outcomes and by their events, and not too much is given
+record AreBalanced (f : ℕ → ℕ) (history : List Event) (lane : ℕ) (lanes : List (List Op)) (outcomes : List (List Outcome)) : Type 0 where
+  pub total :
+      sum_from (given_to f history) lane (length lanes) + lanes_freed f lanes outcomes
+      ≡ lanes_given f lanes outcomes + sum_from (freed_by f history) lane (length lanes)
+  pub few : lanes_given f lanes outcomes ≤ LARGE_MOST * 2 ^ 64 * length lanes
+
+lanes-balance :
+    (f : ℕ → ℕ) (g : Geometry) (history : List Event) (lost depth lane : ℕ) (lanes : List (List Op)) (outcomes : List (List Outcome)) (hits : ℕ)
+    → IsFew f → AreHeld outcomes → IsLegalWithoutCounts g history → CachedLanesFit g history lost depth lane lanes outcomes hits
+    → AreBalanced f history lane lanes outcomes
+lanes-balance f g history lost depth lane [] [] hits few held legal fit = record { total = refl; few = omega arith }
+lanes-balance f g history lost depth lane [] (results ∷ outcomes) hits few held legal fit = absurd fit
+lanes-balance f g history lost depth lane (operations ∷ lanes) [] hits few held legal fit = absurd fit
+lanes-balance f g history lost depth lane (operations ∷ lanes) (results ∷ outcomes) hits few held legal (these, others, all, one, more) =
+    let setting : Setting = setting_in history lane g.turn_limit lost in
+    let rest = lanes-balance f g history lost depth (suc lane) lanes outcomes others few held.1 legal more in
+    record {
+      total = omega (arith, lane-balance f g setting depth operations results these legal one, rest.total);
+      few = omega (arith, held.0, cached-few-lane f setting depth cached_start one.end operations results few one.walks, rest.few);
+    }
+
+pub cached-balanced :
+    (f : ℕ → ℕ) (g : Geometry) (history : List Event) (lost depth : ℕ) (lanes : List (List Op)) (outcomes : List (List Outcome)) (hits : ℕ)
+    → IsFew f → length lanes ≤ MAX_LANES → AreHeld outcomes → IsLegalWithoutCounts g history
+    → CachedOutcomesFit g history lost depth lanes outcomes hits → IsBalanced f history lanes outcomes
+cached-balanced f g history lost depth lanes outcomes hits few few_lanes held legal fit =
+    let balance = lanes-balance f g history lost depth 0 lanes outcomes hits few held legal fit.lanes_fit in
+    let gives = partition (give_at f) (length lanes) [] history fit.callers in
+    let frees = partition (free_at f) (length lanes) [] history fit.callers in
+    record {
+      total = omega (arith, balance.total, gives, frees, measured f g history legal);
+      few = omega (arith, balance.few, few_lanes);
+    }

@@ -1,0 +1,164 @@
+-- Without room in any magazine a lane stands as one without a cache.
+use Rattle.std.proofs.Common.{ℕ, zero, suc, false, ◌≡◌, ◌∷◌, ◌++◌, List, [], Option, Some, None, refl, sym, ap, ◌∙◌, subst, inl, inr, arith, append-nil, length, get_or, replicate, map}
+use Rattle.std.specs.List.{flat_map}
+use Rattle.std.proofs.lemmas.Bool.{cases_lt, le-ltb}
+use Rattle.std.proofs.lemmas.List.{get_or-replicate, get_or_past, length-replicate}
+use Rattle.heap_geometry.specs.declared.geometry.Geometry.{Geometry}
+use Rattle.heap_geometry.specs.declared.limits.TheConstants.{CLASSES}
+use Rattle.heap_geometry.specs.declared.need.Need.{Need}
+use Rattle.heap_geometry.specs.declared.need.Need.TheVariants.{Small, Large, TooLarge}
+use Rattle.heap_geometry.specs.Need.{need_of}
+use Rattle.pool_model.specs.declared.event.Event.{Event}
+use Rattle.pool_model.specs.Calls.{EventsOf, alloc_given}
+use Rattle.pool_model.specs.declared.event.Event.TheVariants.{Free}
+use Rattle.trace_text.specs.declared.trace.Op.{Op}
+use Rattle.trace_text.specs.declared.trace.Op.TheVariants as op
+use Rattle.lane_outcomes.specs.declared.registers.Held.{Held}
+use Rattle.lane_outcomes.specs.declared.outcome.Outcome.{Outcome}
+use Rattle.lane_outcomes.specs.declared.outcome.Outcome.TheVariants as outcome
+use Rattle.lane_outcomes.specs.Fits.{Fits, LanesFit, OutcomesFit, Walks}
+use Rattle.lane_outcomes.specs.Lane.{Position, held_in, position_after, start, writing}
+use Rattle.lane_outcomes.specs.Rows.{AllocRow, FitsRow, FreeRow, MayAsk, ResizeRow, Setting}
+use Rattle.lane_outcomes.specs.Cached.{CachedFits, CachedLanesFit, CachedOutcomesFit, CachedPosition, CachedRow, CachedWalks, IsGivenBy, cached_after, magazines_after, served_for}
+use Rattle.lane_outcomes.specs.Magazines.{empty_magazines, emptying, freeing, given_from, is_kept, kept_with, last_in, magazine_of, magazines_freed, magazines_given, served_by}
+
+-- empty magazines serve nothing
+abbrev pub no_places : List ℕ
+no_places = []
+
+pub none-in : (n class : ℕ) → get_or (replicate n no_places) class no_places ≡ no_places
+none-in n class =
+    elim (cases_lt class n) [
+      | inl less ↦ get_or-replicate n class no_places no_places less
+      | inr least ↦ get_or_past (replicate n no_places) class no_places (let all = length-replicate n no_places in omega (arith, all, least))
+    ]
+
+pub none-served : (need : Need) → served_by empty_magazines need ≡ None
+none-served (Small class) = ap last_in (none-in CLASSES class)
+none-served (Large units) = refl
+none-served TooLarge = refl
+
+none-given : (need : Need) → magazines_given empty_magazines need ≡ empty_magazines
+none-given need = ap (λ served. given_from served empty_magazines need) (none-served need)
+
+-- magazines without room keep no block
+none-kept : (magazines : List (List ℕ)) (need : Need) → is_kept 0 magazines need ≡ false
+none-kept magazines (Small class) = le-ltb (length (magazine_of magazines class)) 0 (omega arith)
+none-kept magazines (Large units) = refl
+none-kept magazines TooLarge = refl
+
+none-freed : (magazines : List (List ℕ)) (held : Option Held) → magazines_freed 0 magazines held ≡ magazines
+none-freed magazines None = refl
+none-freed magazines (Some held) = ap (λ keeps. kept_with keeps magazines held.place held.need) (none-kept magazines held.need)
+
+none-left : (n : ℕ) → flat_map (λ magazine. magazine) (replicate n no_places) ≡ []
+none-left zero = refl
+none-left (suc n) = none-left n
+
+none-emptied : (caller : ℕ) → emptying caller empty_magazines ≡ []
+none-emptied caller = ap (map (λ place. Free caller place)) (none-left CLASSES)
+
+-- empty magazines without room stay empty after an operation
+magazines-stay : (registers : List (Option Held)) (operation : Op) (result : Outcome) → magazines_after 0 empty_magazines registers operation result ≡ empty_magazines
+magazines-stay registers (op.Alloc r need v) (outcome.Given words place) = none-given (need_of need)
+magazines-stay registers (op.Free r) outcome.Freed = none-freed empty_magazines (held_in registers r)
+magazines-stay registers (op.Resize r need) (outcome.Resized words place) =
+    none-freed (magazines_given empty_magazines (need_of need)) (held_in registers r) ∙ none-given (need_of need)
+magazines-stay registers operation result = refl
+
+none-for : (operation : Op) (result : Outcome) → served_for empty_magazines operation result ≡ None
+none-for (op.Alloc r need v) (outcome.Given words place) = none-served (need_of need)
+none-for (op.Resize r need) (outcome.Resized words place) = none-served (need_of need)
+none-for operation result = refl
+
+-- a lane at this position whose magazines are empty
+abbrev plain : Position → CachedPosition
+plain position = record { base = position; magazines = empty_magazines; hits = 0 }
+
+plain-after :
+    (position : Position) (operation : Op) (result : Outcome) (piece : List Event)
+    → cached_after 0 (plain position) operation result piece ≡ plain (position_after position operation result piece)
+plain-after position operation result piece =
+    let none = none-for operation result in
+    let stay = magazines-stay position.registers operation result in
+    rw none (rw stay refl)
+
+given-plain :
+    (setting : Setting) (position : Position) (need place : ℕ) (calls : List Event)
+    → IsGivenBy (served_by empty_magazines (need_of need)) setting (plain position) need place calls
+    → MayAsk position need × EventsOf setting.caller (alloc_given need place) calls
+given-plain setting position need place calls is = subst (λ served. IsGivenBy served setting (plain position) need place calls) (none-served (need_of need)) is
+
+row-plain :
+    (setting : Setting) (position : Position) (operation : Op) (result : Outcome) (piece : List Event)
+    → CachedRow setting 0 (plain position) operation result piece → FitsRow setting position operation result piece
+row-plain setting position (op.Alloc r need v) (outcome.Given words place) piece (empty, words_are, calls, given, is) =
+    let may = given-plain setting position need place calls given in
+    subst (λ held. AllocRow setting position need v held (outcome.Given words place) piece) (sym empty) (may.0, words_are, calls, may.1, is)
+row-plain setting position (op.Resize r need) (outcome.Resized words place) piece (held, full, differ, words_are, calls, given, value, copy, is) =
+    let may = given-plain setting position need place calls given in
+    let given_back = none-kept (magazines_given empty_magazines (need_of need)) held.need in
+    subst (λ slot. ResizeRow setting position need slot (outcome.Resized words place) piece) (sym full) (
+      differ,
+      may.0,
+      words_are,
+      calls,
+      may.1,
+      value,
+      copy,
+      is ∙ ap (λ keeps. calls ++ writing setting.caller place words value ++ freeing setting.caller keeps held.place) given_back,
+    )
+row-plain setting position (op.Alloc r need v) outcome.Refused piece row = row.1
+row-plain setting position (op.Alloc r need v) outcome.Spent piece row = row.1
+row-plain setting position (op.Resize r need) outcome.Refused piece row = row.1
+row-plain setting position (op.Resize r need) outcome.Spent piece row = row.1
+row-plain setting position (op.Free r) outcome.Freed piece (held, full, is) =
+    subst (λ slot. FreeRow setting slot outcome.Freed piece) (sym full)
+    (is ∙ ap (λ keeps. freeing setting.caller keeps held.place) (none-kept empty_magazines held.need))
+row-plain setting position operation result piece row = row
+
+walks-plain :
+    (setting : Setting) (from : Position) (to : CachedPosition) (operations : List Op) (results : List Outcome)
+    → CachedWalks setting 0 (plain from) operations results to → (end : Position) × (to ≡ plain end) × Walks setting from operations results end
+walks-plain setting from to [] [] walks = (from, walks, refl)
+walks-plain setting from to [] (result ∷ results) walks = absurd walks
+walks-plain setting from to (operation ∷ operations) [] walks = absurd walks
+walks-plain setting from to (operation ∷ operations) (result ∷ results) (piece, row, walks) =
+    let rest =
+    walks-plain setting (position_after from operation result piece) to operations results
+    (subst (λ p. CachedWalks setting 0 p operations results to) (plain-after from operation result piece) walks) in
+    (rest.0, rest.1, (piece, row-plain setting from operation result piece row, rest.2))
+
+pub fits-plain :
+    (setting : Setting) (operations : List Op) (results : List Outcome) (hits : ℕ) → CachedFits setting 0 operations results hits
+    → Fits setting operations results × (hits ≡ 0)
+fits-plain setting operations results hits fits =
+    let it = walks-plain setting start fits.end operations results fits.walks in (
+      record {
+        end = it.0;
+        walks = it.2;
+        all_used =
+            fits.all_used
+            ∙ (ap (λ (p : CachedPosition). p.base.done ++ emptying setting.caller p.magazines) it.1
+            ∙ (ap (λ xs. it.0.done ++ xs) (none-emptied setting.caller) ∙ append-nil it.0.done));
+      },
+      fits.hits_are ∙ ap (λ (p : CachedPosition). p.hits) it.1,
+    )
+
+lanes-plain :
+    (g : Geometry) (history : List Event) (lost lane : ℕ) (lanes : List (List Op)) (outcomes : List (List Outcome)) (hits : ℕ)
+    → CachedLanesFit g history lost 0 lane lanes outcomes hits → LanesFit g history lost lane lanes outcomes × (hits ≡ 0)
+lanes-plain g history lost lane [] [] hits fit = (tt, fit)
+lanes-plain g history lost lane [] (results ∷ outcomes) hits fit = absurd fit
+lanes-plain g history lost lane (operations ∷ lanes) [] hits fit = absurd fit
+lanes-plain g history lost lane (operations ∷ lanes) (results ∷ outcomes) hits (these, others, all, one, more) =
+    let first = fits-plain (record { caller = lane; turn_limit = g.turn_limit; history = history; lost = lost }) operations results these one in
+    let rest = lanes-plain g history lost (suc lane) lanes outcomes others more in
+    ((first.0, rest.0), omega (arith, all, first.1, rest.1))
+
+pub outcomes-plain :
+    (g : Geometry) (history : List Event) (lost : ℕ) (lanes : List (List Op)) (outcomes : List (List Outcome)) (hits : ℕ)
+    → CachedOutcomesFit g history lost 0 lanes outcomes hits → OutcomesFit g history lost lanes outcomes × (hits ≡ 0)
+outcomes-plain g history lost lanes outcomes hits fit =
+    let all = lanes-plain g history lost 0 lanes outcomes hits fit.lanes_fit in
+    (record { lanes_fit = all.0; callers = fit.callers }, all.1)

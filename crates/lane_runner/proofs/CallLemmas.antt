@@ -1,0 +1,127 @@
+-- Whole calls through a cache: those that the heap made, those that a magazine served, and those for which one kept a block.
+use Rattle.std.proofs.Common.{ℕ, suc, ◌≡◌, ◌∷◌, ◌++◌, List, [], length, map, sym, ap, ◌∙◌, subst, inl, inr}
+use Rattle.std.specs.Prelude.{◌⊎◌}
+use Rattle.std.specs.List.{flat_map, range_with_len}
+use Rattle.std.proofs.lemmas.Bool.{cases_lt}
+use Rattle.heap_geometry.specs.declared.need.Need.{Need}
+use Rattle.heap_geometry.specs.Need.{need_of}
+use Rattle.errand_steps.specs.declared.reply.Reply.{Reply}
+use Rattle.errand_steps.specs.declared.reply.Reply.TheVariants as reply
+use Rattle.errand_steps.specs.Calls.{Call, alloc, free, take, write}
+use Rattle.sound_laws.specs.events.Made.{LeadsBy, Made, answered, copied_word, found_from}
+use Rattle.live_heap.specs.declared.block.Block.{Block}
+use Rattle.live_heap.specs.Heaps.{HeapFields}
+use Rattle.live_heap.specs.Answers.{IsTried}
+use Rattle.sound_laws.proofs.events_lemmas.CopyLemmas.{copied-past, copied-read}
+use Rattle.trace_lane.specs.Made.{AreMisses}
+use Rattle.lane_runner.specs.Passes.{WholeAt}
+use Rattle.block_cache.specs.declared.cache.Cache.{Cache}
+use Rattle.block_cache.specs.Caches.{HasFor, HasKept, HasRoom, HasServed, KeepsMagazines}
+use Rattle.block_cache.specs.Whole.{RestsAt, asked, kept, served}
+use Rattle.lane_engine.specs.Caches.{IsCachedCall}
+use Rattle.lane_runner.proofs.AddedLemmas.{Writes}
+
+-- calls that are neither allocations nor frees: no magazine serves or keeps a block
+abbrev pub AllPlain : List Made → Type 0
+AllPlain [] = Unit {0}
+AllPlain (made ∷ rest) = (¬ IsTried made.call) × AllPlain rest
+
+plain-append : (made more : List Made) → AllPlain made → AllPlain more → AllPlain (made ++ more)
+plain-append [] more one two = two
+plain-append (m ∷ made) more one two = (one.0, plain-append made more one.1 two)
+
+plain-writes : (place : ℕ) (need : Need) (value : ℕ → ℕ) (is : List ℕ) → AllPlain (map (λ j. answered (write place need j (value j)) reply.Wrote) is)
+plain-writes place need value [] = tt
+plain-writes place need value (i ∷ is) = ((λ tried. tried), plain-writes place need value is)
+
+pub plain-wrote : (place : ℕ) (need : Need) (value : ℕ → ℕ) (i n : ℕ) → AllPlain (Writes place need value i n)
+plain-wrote place need value i n = plain-writes place need value (range_with_len i n)
+
+pub plain-found : (place : ℕ) (need : Need) (i : ℕ) (words : List ℕ) → AllPlain (found_from place need i words)
+plain-found place need i [] = tt
+plain-found place need i (word ∷ words) = ((λ tried. tried), plain-found place need (suc i) words)
+
+plain-word :
+    (from : ℕ) (from_need : Need) (to : ℕ) (to_need : Need) (words : List ℕ) (i : ℕ) → AllPlain (copied_word from from_need to to_need words i)
+plain-word from from_need to to_need words i =
+    elim (cases_lt i (length words)) [
+      | inl inside ↦ subst AllPlain (sym (copied-read from from_need to to_need words i inside)) ((λ tried. tried), ((λ tried. tried), tt))
+      | inr past ↦ subst AllPlain (sym (copied-past from from_need to to_need words i past)) ((λ tried. tried), tt)
+    ]
+
+plain-words :
+    (from : ℕ) (from_need : Need) (to : ℕ) (to_need : Need) (words is : List ℕ)
+    → AllPlain (flat_map (copied_word from from_need to to_need words) is)
+plain-words from from_need to to_need words [] = tt
+plain-words from from_need to to_need words (i ∷ is) =
+    plain-append (copied_word from from_need to to_need words i) (flat_map (copied_word from from_need to to_need words) is)
+    (plain-word from from_need to to_need words i) (plain-words from from_need to to_need words is)
+
+pub plain-copied :
+    (from : ℕ) (from_need : Need) (to : ℕ) (to_need : Need) (words : List ℕ) (i n : ℕ)
+    → AllPlain (flat_map (copied_word from from_need to to_need words) (range_with_len i n))
+plain-copied from from_need to to_need words i n = plain-words from from_need to to_need words (range_with_len i n)
+
+pub plain-takes : (shelf : ℕ) (misses : List Made) (answer : Reply) → AreMisses shelf misses → AllPlain (misses ++ answered (take shelf) answer ∷ [])
+plain-takes shelf [] answer are = ((λ tried. tried), tt)
+plain-takes shelf (m ∷ misses) answer are =
+    ((λ tried. subst (λ (x : Made). IsTried x.call) are.2 tried), plain-takes shelf misses answer are.3)
+
+-- the heap was asked, and the magazines are as they were
+pub record HasAsked (h : HeapFields) (c d : Cache) (made : List Made) : Type 0 where
+  pub leads : LeadsBy (WholeAt h) c.pass made d.pass
+  pub keeps : KeepsMagazines c d
+  pub rests : RestsAt h d
+
+pub plain-call :
+    (h : HeapFields) (c d : Cache) (call : Call) (answer : Reply) → IsCachedCall h c call answer d → ¬ IsTried call
+    → WholeAt h c.pass call answer d.pass × KeepsMagazines c d
+plain-call h c d call answer (whole, deep) plain =
+    elim whole.made [
+      | served words block is_alloc is_given has ↦ absurd (plain (subst IsTried (sym is_alloc) tt))
+      | kept block is_free is_freed held room has ↦ absurd (plain (subst IsTried (sym is_free) tt))
+      | asked asks made keeps ↦ ((made.0, made.1, made.3), keeps)
+    ]
+
+keeps-then : (c d e : Cache) → KeepsMagazines c d → KeepsMagazines d e → KeepsMagazines c e
+keeps-then c d e one two = record { magazines = two.magazines ∙ one.magazines; hits = two.hits ∙ one.hits }
+
+pub plain-leads :
+    (h : HeapFields) (made : List Made) (c d : Cache) → AllPlain made → RestsAt h c → LeadsBy (IsCachedCall h) c made d → HasAsked h c d made
+plain-leads h [] c d plain rests same = record {
+  leads = ap (λ (x : Cache). x.pass) same;
+  keeps = record { magazines = ap (λ (x : Cache). x.magazines) same; hits = ap (λ (x : Cache). x.hits) same };
+  rests = subst (RestsAt h) (sym same) rests;
+}
+plain-leads h (m ∷ made) c d plain rests (t, one, leads) =
+    let first = plain-call h c t m.call m.answer one plain.0 in
+    let rest = plain-leads h made t d plain.1 one.0.after leads in
+    record { leads = (t.pass, first.0, rest.leads); keeps = keeps-then c t d first.1 rest.keeps; rests = rest.rests }
+
+-- an allocation: a magazine served it, or the heap was asked
+pub alloc-by :
+    (h : HeapFields) (c d : Cache) (words : ℕ) (answer : Reply) → IsCachedCall h c (alloc words) answer d
+    → ((block : Block) × (answer ≡ reply.Given block.place block.need) × HasServed c words block d)
+    ⊎ ((¬ HasFor c (need_of words)) × WholeAt h c.pass (alloc words) answer d.pass × KeepsMagazines c d)
+alloc-by h c d words answer (whole, deep) =
+    elim whole.made [
+      | served asked_for block is_alloc is_given has ↦
+          let same : asked_for ≡ words = let e : alloc words ≡ alloc asked_for = is_alloc in cc in
+          inl (block, is_given, subst (λ n. HasServed c n block d) same has)
+      | kept block is_free is_freed held room has ↦ absurd (let e : alloc words ≡ free block.place block.need = is_free in cc)
+      | asked asks made keeps ↦ inr (asks, (made.0, made.1, made.3), keeps)
+    ]
+
+-- a free: a magazine kept the block, or the heap was asked
+pub free-by :
+    (h : HeapFields) (c d : Cache) (place : ℕ) (need : Need) (answer : Reply) → IsCachedCall h c (free place need) answer d
+    → ((block : Block) × (block.place ≡ place) × (block.need ≡ need) × HasRoom c block.need × HasKept c block d)
+    ⊎ ((¬ HasRoom c need) × WholeAt h c.pass (free place need) answer d.pass × KeepsMagazines c d)
+free-by h c d place need answer (whole, deep) =
+    elim whole.made [
+      | served words block is_alloc is_given has ↦ absurd (let e : free place need ≡ alloc words = is_alloc in cc)
+      | kept block is_free is_freed held room has ↦
+          let e : free place need ≡ free block.place block.need = is_free in
+          inl (block, (let p : block.place ≡ place = cc in p), (let n : block.need ≡ need = cc in n), room, has)
+      | asked asks made keeps ↦ inr (asks.0, (made.0, made.1, made.3), keeps)
+    ]

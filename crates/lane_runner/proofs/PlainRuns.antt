@@ -1,0 +1,184 @@
+-- Lanes through caches of depth 0 have run on their passes.
+use Rattle.std.proofs.Common.{ℕ, zero, suc, ◌≡◌, ◌<◌, ◌≤◌, ◌+◌, ◌∷◌, ◌++◌, Option, List, [], Vec, Global, length, get_or, sym, ap, refl, ◌∙◌, subst, arith}
+use Rattle.std.specs.Prelude.{All, Contains, reverse}
+use Rattle.std.proofs.lemmas.List.{length-append}
+use Rattle.std.proofs.lemmas.List.Elements.{All-from_get_or}
+use Rattle.errand_steps.specs.declared.reply.Reply.{Reply}
+use Rattle.errand_steps.specs.Calls.{Call}
+use Rattle.heap_geometry.specs.Need.{need_of}
+use Rattle.sound_laws.specs.events.Made.{LeadsBy, Made}
+use Rattle.trace_text.specs.declared.trace.Op.{Op}
+use Rattle.trace_text.specs.declared.trace.Trace.{Trace}
+use Rattle.trace_text.specs.Traces.{IsTrace}
+use Rattle.lane_outcomes.specs.declared.outcome.Outcome.{Outcome}
+use Rattle.lane_outcomes.specs.declared.outcome.Outcome.TheVariants.{Spent}
+use Rattle.lane_outcomes.specs.declared.registers.Held.{Held}
+use Rattle.lane_outcomes.specs.Cached.{CachedFits, CachedWalks, cached_start}
+use Rattle.lane_outcomes.specs.Lane.{registers_after}
+use Rattle.lane_outcomes.specs.Standing.{setting_in}
+use Rattle.lane_outcomes.proofs.LaterLemmas.{cached-walks-later}
+use Rattle.lane_outcomes.proofs.RoomLemmas.{fits-plain}
+use Rattle.live_heap.specs.declared.block.Block.{Block}
+use Rattle.live_heap.specs.Heaps.{HeapFields}
+use Rattle.live_heap.specs.declared.pass.Pass.{Pass}
+use Rattle.live_heap.specs.Passes.{seen}
+use Rattle.trace_lane.specs.Made.{AllMade}
+use Rattle.block_cache.specs.declared.cache.Cache.{Cache}
+use Rattle.block_cache.specs.Caches.{stacks_in}
+use Rattle.block_cache.specs.Magazines.{AreMagazines, HasOnTop, leaving, stack_at, stacks_of}
+use Rattle.block_cache.specs.Whole.{RestsAt, asked, kept, served}
+use Rattle.block_cache.proofs.WholeLemmas.{no-depth}
+use Rattle.lane_engine.specs.Caches.{HasEndedAt, IsCachedCall, frees_of}
+use Rattle.lane_runner.specs.Passes.{HasEndedOver, HaveRun, WholeAt}
+use Rattle.lane_runner.specs.Threads.{HasEndedThrough, HasEndedWith, HaveRunThrough}
+use Rattle.lane_runner.specs.Running.{operations_in}
+use Rattle.lane_runner.proofs.ClosedFits.{at-least-one}
+use Rattle.lane_runner.proofs.ClosedLemmas.{ended-come}
+use Rattle.lane_runner.proofs.RowLemmas.{stands_at}
+use Rattle.lane_runner.proofs.RunLanes.{element_at}
+use Rattle.lane_runner.proofs.ThreadLemmas.{through-home}
+use Rattle.lane_runner.proofs.WalkLemmas.{told-spent}
+
+-- a stack with a block on its top has one
+stack-there : (before after : List (List Block)) (stack : List Block) (class : ℕ) → length before ≡ class → stack_at (before ++ stack ∷ after) class ≡ stack
+stack-there [] after stack zero is = refl
+stack-there [] after stack (suc class) is = absurd (omega (arith, is))
+stack-there (x ∷ before) after stack zero is = absurd (omega (arith, is))
+stack-there (x ∷ before) after stack (suc class) is = stack-there before after stack class (omega (arith, is))
+
+top-some : (class : ℕ) (block : Block) (more less : List (List Block)) → HasOnTop class block more less → 0 < length (stack_at more class)
+top-some class block more less top =
+    let stack = top.stack ++ block ∷ [] in
+    let is : stack_at more class ≡ stack =
+    ap (λ (l : List (List Block)). stack_at l class) top.with_it ∙ stack-there top.before top.after stack class top.number in
+    subst (λ (l : List Block). 0 < length l) (sym is) (omega (arith, length-append top.stack (block ∷ [])))
+
+-- a call through a cache without depth is its pass's
+module _ (h : HeapFields) where
+  bare-call :
+      (c d : Cache) (call : Call) (answer : Reply) → c.magazines.depth ≡ 0 → IsCachedCall h c call answer d
+      → WholeAt h c.pass call answer d.pass × (d.magazines.depth ≡ 0)
+  bare-call c d call answer none (whole, deep) = (
+    elim whole.made [
+      | served words block is_alloc is_given has ↦
+          absurd ((no-depth h c (need_of words) whole.before.0 none).0 (has.class, has.small, top-some has.class block (stacks_in c) (stacks_in d) has.top))
+      | kept block is_free is_freed held room has ↦ absurd ((no-depth h c block.need whole.before.0 none).1 room)
+      | asked asks made keeps ↦ (made.0, made.1, made.3)
+    ],
+    deep ∙ none,
+  )
+
+  bare-leads :
+      (made : List Made) (c d : Cache) → c.magazines.depth ≡ 0 → RestsAt h c → LeadsBy (IsCachedCall h) c made d
+      → LeadsBy (WholeAt h) c.pass made d.pass × (d.magazines.depth ≡ 0) × RestsAt h d
+  bare-leads [] c d none rests same = (
+    ap (λ (x : Cache). x.pass) same,
+    ap (λ (x : Cache). x.magazines.depth) same ∙ none,
+    subst (RestsAt h) (sym same) rests,
+  )
+  bare-leads (m ∷ made) c d none rests (t, one, leads) =
+      let first = bare-call c t m.call m.answer none one in
+      let more = bare-leads made t d first.1 one.0.after leads in
+      ((t.pass, first.0, more.0), more.1, more.2)
+
+  bare-made :
+      (registers : List (Option Held)) (left : List Op) (outs : List Outcome) (c d : Cache) → c.magazines.depth ≡ 0 → RestsAt h c
+      → AllMade (IsCachedCall h) registers left outs c d
+      → AllMade (WholeAt h) registers left outs c.pass d.pass × (d.magazines.depth ≡ 0) × RestsAt h d
+  bare-made registers left [] c d none rests same = (
+    ap (λ (x : Cache). x.pass) same,
+    ap (λ (x : Cache). x.magazines.depth) same ∙ none,
+    subst (RestsAt h) (sym same) rests,
+  )
+  bare-made registers [] (r ∷ outs) c d none rests all = absurd all
+  bare-made registers (o ∷ left) (r ∷ outs) c d none rests (t, (made, for, leads), all) =
+      let first = bare-leads made c t none rests leads in
+      let more = bare-made (registers_after registers o r) left outs t d first.1 first.2 all in
+      ((t.pass, (made, for, first.0), more.0), more.1, more.2)
+
+-- and nothing is left to be freed
+no-blocks : (blocks : List Block) → length blocks ≤ 0 → blocks ≡ []
+no-blocks [] none = refl
+no-blocks (block ∷ blocks) none = absurd (omega (arith, none))
+
+none-leave : (class : ℕ) (magazines : List (Vec Block Global)) → AreMagazines (λ (b : Block). b.need) class 0 magazines → leaving (stacks_of magazines) ≡ []
+none-leave class [] are = refl
+none-leave class (m ∷ magazines) are =
+    ap (λ (l : List Block). reverse l ++ leaving (stacks_of magazines)) (no-blocks m.items are.0.few) ∙ none-leave (suc class) magazines are.1
+
+none-freed : (h : HeapFields) (c : Cache) (q : Pass) → c.magazines.depth ≡ 0 → RestsAt h c → LeadsBy (HasEndedAt h) c.pass (frees_of (leaving (stacks_in c))) q → q ≡ c.pass
+none-freed h c q none rests frees =
+    let leave : leaving (stacks_in c) ≡ [] =
+    none-leave 0 c.magazines.stacks.items (subst (λ n. AreMagazines (λ (b : Block). b.need) 0 n c.magazines.stacks.items) none rests.0.magazines.each) in
+    subst (λ (l : List Block). LeadsBy (HasEndedAt h) c.pass (frees_of l) q) leave frees
+
+-- the outcomes of a lane that has ended fit what its pass has seen
+come-fits :
+    (h : HeapFields) (depth : ℕ) (operations : List Op) (lane : ℕ) (outcomes : List Outcome) (c : Cache) → HasEndedThrough h depth operations lane outcomes c
+    → CachedFits (setting_in (seen c.pass) lane h.layout.turn_limit c.pass.errand.lost) depth operations outcomes c.hits
+come-fits h depth operations lane outcomes c e =
+    let come = ended-come h depth operations lane outcomes c e in
+    let ran = come.ran in
+    let to = stands_at ran come.end in
+    let limit = h.layout.turn_limit in
+    let later = cached-walks-later (setting_in (seen ran.pass) lane limit ran.pass.errand.lost) come.onward.rest c.pass.errand.lost depth
+    come.onward.lost cached_start to operations outcomes come.walks in
+    record {
+      end = to;
+      walks =
+          subst (λ history. CachedWalks (setting_in history lane limit c.pass.errand.lost) depth cached_start operations outcomes to) (sym come.onward.sees) later;
+      all_used = come.own_all;
+      hits_are = come.hits;
+    }
+
+pub bare-ended :
+    (h : HeapFields) (operations : List Op) (lane : ℕ) (p : Pass) (outcomes : List Outcome) (hits : ℕ) → HasEndedWith h 0 operations lane p outcomes hits
+    → HasEndedOver h operations lane p outcomes × (hits ≡ 0)
+bare-ended h operations lane p outcomes hits ended =
+    let c = ended.cache in
+    let e = ended.ended in
+    let first = e.first in
+    let come = ended-come h 0 operations lane outcomes c e in
+    let rests = e.through.rests in
+    let fit = fits-plain (setting_in (seen c.pass) lane h.layout.turn_limit c.pass.errand.lost) operations outcomes c.hits
+    (come-fits h 0 operations lane outcomes c e) in
+    let made = bare-made h _ operations outcomes first e.through.ran e.opened.deep e.opened.rests e.through.made in
+    let same : c.pass ≡ e.through.ran.pass = none-freed h e.through.ran c.pass made.1 made.2 e.through.emptied.frees in
+    let over : HasEndedOver h operations lane c.pass outcomes = record {
+      of = rests.0.hand.of;
+      idle = rests.1;
+      home = through-home h 0 operations lane outcomes c e;
+      caller = come.caller;
+      all = e.all;
+      fit = fit.0;
+      spent = λ told.
+          come.spent
+          (told-spent (setting_in (seen come.ran.pass) lane h.layout.turn_limit come.ran.pass.errand.lost) 0 cached_start (stands_at come.ran come.end)
+          operations outcomes told.0 come.walks told.1 told.2);
+      calls =
+          record {
+            first = first.pass;
+            fresh = e.opened.fresh;
+            caller = e.opened.caller;
+            made = subst (λ (q : Pass). AllMade (WholeAt h) _ operations outcomes first.pass q) (sym same) made.0;
+          };
+    } in
+    (subst (λ (q : Pass). HasEndedOver h operations lane q outcomes) (sym ended.pass) over, ended.counted ∙ fit.1)
+
+pub bare-run :
+    (trace : Trace) (h : HeapFields) (passes : List Pass) (outcomes : List (List Outcome)) (hits : List ℕ) → IsTrace trace
+    → HaveRunThrough trace h 0 passes outcomes hits → HaveRun trace h passes outcomes × All (λ n. n ≡ 0) hits
+bare-run trace h passes outcomes hits is run = (
+  record {
+    all = run.all;
+    lists = run.lists;
+    each = λ lane p lt there.
+        (bare-ended h (operations_in trace lane) lane p (get_or outcomes lane []) (get_or hits lane 0) (run.each lane p lt there)).0;
+    rest = run.rest;
+  },
+  All-from_get_or (λ n. n ≡ 0) hits 0
+      (λ lane lt.
+      let below : lane < length trace.lanes = omega (arith, lt, run.counts) in
+      let it = element_at passes lane (omega (arith, below, run.all, at-least-one (length trace.lanes) trace.heap.callers is.callers)) in
+      (bare-ended h (operations_in trace lane) lane it.0 (get_or outcomes lane []) (get_or hits lane 0) (run.each lane it.0 below it.1)).1),
+)

@@ -1,0 +1,372 @@
+-- Small allocations that were given a block or refused, in a caller's events, and turns.
+use Rattle.std.proofs.Common.{ℕ, zero, suc, Bool, true, false, eqb, ◌≡◌, ◌≢◌, ◌≤◌, ◌+◌, ◌%◌, ◌^◌, ◌&&◌, ◌∷◌, ◌++◌, List, [], Option, Some, None, append-nil, refl, sym, ap, ◌∙◌, inl, inr, arith}
+use Rattle.std.specs.Prelude.{count_by, if◌then◌else◌, nat_le}
+use Rattle.std.proofs.lemmas.Bool.{cases_Bool, true≢false, eq-eqb}
+use Rattle.std.proofs.lemmas.List.Sums.{sum_by-append, sum_by-cons}
+use Rattle.heap_geometry.specs.declared.geometry.Geometry.{Geometry}
+use Rattle.heap_geometry.specs.declared.limits.TheConstants.{LARGE_MOST, SMALL_MOST}
+use Rattle.heap_geometry.specs.declared.need.Need.{Need}
+use Rattle.heap_geometry.specs.declared.need.Need.TheVariants.{Small, Large, TooLarge}
+use Rattle.heap_geometry.specs.Need.{need_of}
+use Rattle.pool_model.specs.Calls.{EventsOf, IsGiving, IsRefusing, IsSpending, alloc_spent, looks}
+use Rattle.pool_model.specs.Histories.{own, caller_of}
+use Rattle.pool_model.specs.declared.event.Event.{Event}
+use Rattle.pool_model.specs.declared.event.Event.TheVariants.{Alloc, Looked, Refuse, Free, Write, Put, Take, TakeNone}
+use Rattle.errand_steps.specs.Begins.{IsIdle, alloc_answer, begins_with}
+use Rattle.errand_steps.specs.Errands.{ErrandFields, is_spent}
+use Rattle.errand_steps.specs.Points.{is_idle}
+use Rattle.errand_steps.specs.declared.point.Point.{Point}
+use Rattle.sound_state.specs.TurnStages.{turn_stage_of, lacks_answer}
+use Rattle.sound_state.specs.Turns.{gives_small, refuses_small, is_small_alloc, one_if}
+use Rattle.step_machine.specs.Moments.{IsServed}
+use Rattle.trace_text.specs.declared.trace.Op.{Op}
+use Rattle.lane_outcomes.specs.declared.registers.Held.{Held}
+use Rattle.lane_outcomes.specs.declared.outcome.Outcome.{Outcome}
+use Rattle.lane_outcomes.specs.Lane.{Position, answered_after, filling, held_in, is_small, writing}
+use Rattle.lane_outcomes.specs.Rows.{AllocRow, CheckRow, FillRow, FitsRow, FreeRow, IsSpent, MayAsk, Moment, PutRow, ResizeRow, Setting, TakeRow, gives_another_small}
+use Rattle.lane_outcomes.specs.Standing.{setting_in}
+use Rattle.lane_outcomes.proofs.FillLemmas.{writes_of}
+use Rattle.errand_steps.specs.declared.point.Point.TheVariants as point
+use Rattle.errand_steps.specs.declared.reply.Begun.TheVariants as begun
+use Rattle.trace_text.specs.declared.trace.Op.TheVariants as op
+use Rattle.lane_outcomes.specs.declared.outcome.Outcome.TheVariants as outcome
+
+-- how many small allocations of a caller were given a block or refused
+abbrev pub answered_in : ℕ → List Event → ℕ
+answered_in caller events = count_by (gives_small caller) events + count_by (refuses_small caller) events
+
+abbrev answers : ℕ → Event → ℕ
+answers caller event = one_if (gives_small caller event) + one_if (refuses_small caller event)
+
+answered-cons : (caller : ℕ) (event : Event) (events : List Event) → answered_in caller (event ∷ events) ≡ answers caller event + answered_in caller events
+answered-cons caller event events =
+    let gives : count_by (gives_small caller) (event ∷ events) ≡ one_if (gives_small caller event) + count_by (gives_small caller) events =
+    sum_by-cons (λ x. one_if (gives_small caller x)) event events in
+    let refuses : count_by (refuses_small caller) (event ∷ events) ≡ one_if (refuses_small caller event) + count_by (refuses_small caller) events =
+    sum_by-cons (λ x. one_if (refuses_small caller x)) event events in
+    omega arith
+
+pub answered-append : (caller : ℕ) (events more : List Event) → answered_in caller (events ++ more) ≡ answered_in caller events + answered_in caller more
+answered-append caller events more =
+    let gives : count_by (gives_small caller) (events ++ more) ≡ count_by (gives_small caller) events + count_by (gives_small caller) more =
+    sum_by-append (λ x. one_if (gives_small caller x)) events more in
+    let refuses : count_by (refuses_small caller) (events ++ more) ≡ count_by (refuses_small caller) events + count_by (refuses_small caller) more =
+    sum_by-append (λ x. one_if (refuses_small caller x)) events more in
+    omega arith
+
+looks-none : (caller by class count : ℕ) → answered_in caller (looks by class count) ≡ 0
+looks-none caller by class zero = refl
+looks-none caller by class (suc count) = answered-cons caller (Looked by class) (looks by class count) ∙ ap (λ n. 0 + n) (looks-none caller by class count)
+
+pub writes-none : (caller count first by place : ℕ) (value : ℕ → ℕ) → answered_in caller (writes_of by place value first count) ≡ 0
+writes-none caller zero first by place value = refl
+writes-none caller (suc count) first by place value =
+    answered-cons caller (Write by place first (value first)) (writes_of by place value (first + 1) count)
+    ∙ ap (λ n. 0 + n) (writes-none caller count (first + 1) by place value)
+
+-- a need is small where it is of at most `SMALL_MOST` words
+pub small-need : (need : ℕ) → is_small (need_of need) ≡ nat_le need SMALL_MOST
+unfolding need_of
+small-need need =
+    elim (cases_Bool (nat_le need SMALL_MOST)) [
+      | inl small ↦ rw small refl
+      | inr large ↦ rw large (elim (cases_Bool (nat_le need LARGE_MOST)) [
+        | inl fits ↦ rw fits refl
+        | inr none ↦ rw none refl
+      ])
+    ]
+
+-- an answer counts where it is the caller's own, and of a small need
+own-answer : (caller : ℕ) (b : Bool) → one_if (eqb caller caller && b) ≡ one_if b
+own-answer caller b = rw (eq-eqb caller caller refl) refl
+
+given-one : (caller need place : ℕ) → answered_in caller (Alloc caller need place ∷ []) ≡ one_if (nat_le need SMALL_MOST)
+given-one caller need place = let one = own-answer caller (nat_le need SMALL_MOST) in let all = answered-cons caller (Alloc caller need place) [] in omega arith
+
+refused-one : (caller need : ℕ) → answered_in caller (Refuse caller need ∷ []) ≡ one_if (nat_le need SMALL_MOST)
+refused-one caller need = let one = own-answer caller (nat_le need SMALL_MOST) in let all = answered-cons caller (Refuse caller need) [] in omega arith
+
+pub giving-count :
+    (caller need place : ℕ) (n : Need) (piece : List Event) → IsGiving caller need place n piece
+    → answered_in caller piece ≡ one_if (nat_le need SMALL_MOST)
+giving-count caller need place (Small class) piece giving =
+    let all = answered-append caller (looks caller class giving.0) (Alloc caller need place ∷ []) in
+    let none = looks-none caller caller class giving.0 in
+    let one = given-one caller need place in
+    ap (answered_in caller) giving.1 ∙ omega arith
+giving-count caller need place (Large units) piece giving = ap (answered_in caller) giving ∙ given-one caller need place
+giving-count caller need place TooLarge piece giving = absurd giving
+
+refusing-count :
+    (caller need : ℕ) (n : Need) (piece : List Event) → IsRefusing caller need n piece
+    → answered_in caller piece ≡ one_if (nat_le need SMALL_MOST)
+refusing-count caller need (Small class) piece refusing =
+    let all = answered-append caller (looks caller class (suc refusing.0)) (Refuse caller need ∷ []) in
+    let none = looks-none caller caller class (suc refusing.0) in
+    let one = refused-one caller need in
+    ap (answered_in caller) refusing.1 ∙ omega arith
+refusing-count caller need (Large units) piece refusing = ap (answered_in caller) refusing ∙ refused-one caller need
+refusing-count caller need TooLarge piece refusing = absurd refusing
+
+spending-count : (caller : ℕ) (n : Need) (piece : List Event) → IsSpending caller n piece → answered_in caller piece ≡ 0
+spending-count caller (Small class) piece spending = ap (answered_in caller) spending.1 ∙ looks-none caller caller class spending.0
+spending-count caller (Large units) piece spending = absurd spending
+spending-count caller TooLarge piece spending = absurd spending
+
+spent-count :
+    (setting : Setting) (position : Position) (need : ℕ) (piece : List Event) (spent : Bool) → IsSpent setting position need piece spent
+    → answered_in setting.caller piece ≡ 0
+spent-count setting position need piece true row = ap (answered_in setting.caller) row.1
+spent-count setting position need piece false row = spending-count setting.caller (need_of need) piece row.0
+
+-- a piece that has so many answers
+pub piece-count :
+    (caller : ℕ) (done piece : List Event) (answered more : ℕ) → answered ≡ answered_in caller done → answered_in caller piece ≡ more
+    → answered + more ≡ answered_in caller (done ++ piece)
+piece-count caller done piece answered more so_far is = let all = answered-append caller done piece in omega arith
+
+pub piece-none :
+    (caller : ℕ) (done piece : List Event) (answered : ℕ) → answered ≡ answered_in caller done → answered_in caller piece ≡ 0
+    → answered ≡ answered_in caller (done ++ piece)
+piece-none caller done piece answered so_far is = let all = answered-append caller done piece in omega arith
+
+pub counted : (b : Bool) (answered : ℕ) → (if b then suc answered else answered) ≡ answered + one_if b
+counted true answered = omega arith
+counted false answered = omega arith
+
+alloc-answered :
+    (setting : Setting) (position : Position) (r need v : ℕ) (held : Option Held) (result : Outcome) (piece : List Event)
+    → AllocRow setting position need v held result piece → position.answered ≡ answered_in setting.caller position.done
+    → answered_after position.answered (op.Alloc r need v) result ≡ answered_in setting.caller (position.done ++ piece)
+alloc-answered setting position r need v (Some held) outcome.Skipped piece row so_far =
+    piece-none setting.caller position.done piece position.answered so_far (ap (answered_in setting.caller) row)
+alloc-answered setting position r need v None (outcome.Given words place) piece row so_far =
+    let caller = setting.caller in
+    let gives = giving-count caller need place (need_of need) row.2 row.3 in
+    let fills = writes-none caller words 0 caller place (λ i. (v + i) % 2 ^ 64) in
+    let all = answered-append caller row.2 (filling caller place words v) in
+    let count : answered_in caller piece ≡ one_if (nat_le need SMALL_MOST) = ap (answered_in caller) row.4 ∙ omega arith in
+    ap (λ b. if b then suc position.answered else position.answered) (small-need need) ∙ counted (nat_le need SMALL_MOST) position.answered
+    ∙ piece-count caller position.done piece position.answered (one_if (nat_le need SMALL_MOST)) so_far count
+alloc-answered setting position r need v None outcome.Refused piece row so_far =
+    ap (λ b. if b then suc position.answered else position.answered) (small-need need) ∙ counted (nat_le need SMALL_MOST) position.answered
+    ∙ piece-count setting.caller position.done piece position.answered (one_if (nat_le need SMALL_MOST)) so_far
+    (refusing-count setting.caller need (need_of need) piece row.1)
+alloc-answered setting position r need v None outcome.Spent piece row so_far =
+    piece-none setting.caller position.done piece position.answered so_far (spent-count setting position need piece position.spent row)
+alloc-answered setting position r need v held result piece row so_far = absurd row
+
+free-answered :
+    (setting : Setting) (position : Position) (r : ℕ) (held : Option Held) (result : Outcome) (piece : List Event) → FreeRow setting held result piece
+    → position.answered ≡ answered_in setting.caller position.done
+    → answered_after position.answered (op.Free r) result ≡ answered_in setting.caller (position.done ++ piece)
+free-answered setting position r None outcome.Skipped piece row so_far =
+    piece-none setting.caller position.done piece position.answered so_far (ap (answered_in setting.caller) row)
+free-answered setting position r (Some held) outcome.Freed piece row so_far =
+    piece-none setting.caller position.done piece position.answered so_far (ap (answered_in setting.caller) row)
+free-answered setting position r held result piece row so_far = absurd row
+
+fill-answered :
+    (setting : Setting) (position : Position) (r v : ℕ) (held : Option Held) (result : Outcome) (piece : List Event)
+    → FillRow setting v held result piece → position.answered ≡ answered_in setting.caller position.done
+    → answered_after position.answered (op.Fill r v) result ≡ answered_in setting.caller (position.done ++ piece)
+fill-answered setting position r v None outcome.Skipped piece row so_far =
+    piece-none setting.caller position.done piece position.answered so_far (ap (answered_in setting.caller) row)
+fill-answered setting position r v (Some held) outcome.Filled piece row so_far =
+    piece-none setting.caller position.done piece position.answered so_far
+    (ap (answered_in setting.caller) row ∙ writes-none setting.caller held.words 0 setting.caller held.place (λ i. (v + i) % 2 ^ 64))
+fill-answered setting position r v held result piece row so_far = absurd row
+
+check-answered :
+    (setting : Setting) (position : Position) (r : ℕ) (held : Option Held) (result : Outcome) (piece : List Event)
+    → CheckRow setting position held result piece → position.answered ≡ answered_in setting.caller position.done
+    → answered_after position.answered (op.Check r) result ≡ answered_in setting.caller (position.done ++ piece)
+check-answered setting position r None outcome.Skipped piece row so_far =
+    piece-none setting.caller position.done piece position.answered so_far (ap (answered_in setting.caller) row)
+check-answered setting position r (Some held) (outcome.Sum total) piece row so_far =
+    piece-none setting.caller position.done piece position.answered so_far (ap (answered_in setting.caller) row.0)
+check-answered setting position r held result piece row so_far = absurd row
+
+put-answered :
+    (setting : Setting) (position : Position) (r shelf : ℕ) (held : Option Held) (result : Outcome) (piece : List Event)
+    → PutRow setting position shelf held result piece → position.answered ≡ answered_in setting.caller position.done
+    → answered_after position.answered (op.Put r shelf) result ≡ answered_in setting.caller (position.done ++ piece)
+put-answered setting position r shelf None outcome.Skipped piece row so_far =
+    piece-none setting.caller position.done piece position.answered so_far (ap (answered_in setting.caller) row)
+put-answered setting position r shelf (Some held) outcome.Put piece row so_far =
+    piece-none setting.caller position.done piece position.answered so_far (ap (answered_in setting.caller) row)
+put-answered setting position r shelf (Some held) outcome.ShelfFull piece row so_far =
+    piece-none setting.caller position.done piece position.answered so_far (ap (answered_in setting.caller) row.0)
+put-answered setting position r shelf held result piece row so_far = absurd row
+
+take-answered :
+    (setting : Setting) (position : Position) (r shelf : ℕ) (held : Option Held) (result : Outcome) (piece : List Event)
+    → TakeRow setting position shelf held result piece → position.answered ≡ answered_in setting.caller position.done
+    → answered_after position.answered (op.Take r shelf) result ≡ answered_in setting.caller (position.done ++ piece)
+take-answered setting position r shelf (Some held) outcome.Skipped piece row so_far =
+    piece-none setting.caller position.done piece position.answered so_far (ap (answered_in setting.caller) row)
+take-answered setting position r shelf None outcome.ShelfEmpty piece row so_far =
+    piece-none setting.caller position.done piece position.answered so_far (ap (answered_in setting.caller) row)
+take-answered setting position r shelf None (outcome.Took words place need) piece row so_far =
+    piece-none setting.caller position.done piece position.answered so_far (ap (answered_in setting.caller) row.0)
+take-answered setting position r shelf held result piece row so_far = absurd row
+
+resize-answered :
+    (setting : Setting) (position : Position) (r need : ℕ) (held : Option Held) (result : Outcome) (piece : List Event)
+    → ResizeRow setting position need held result piece → position.answered ≡ answered_in setting.caller position.done
+    → answered_after position.answered (op.Resize r need) result ≡ answered_in setting.caller (position.done ++ piece)
+resize-answered setting position r need None outcome.Skipped piece row so_far =
+    piece-none setting.caller position.done piece position.answered so_far (ap (answered_in setting.caller) row)
+resize-answered setting position r need (Some held) (outcome.Kept words place) piece row so_far =
+    piece-none setting.caller position.done piece position.answered so_far (ap (answered_in setting.caller) row.0)
+resize-answered setting position r need (Some held) (outcome.Resized words place) piece row so_far =
+    let caller = setting.caller in
+    let copies = writing caller place words row.5 in
+    let frees : List Event = Free caller held.place ∷ [] in
+    let gives = giving-count caller need place (need_of need) row.3 row.4 in
+    let writes = writes-none caller words 0 caller place row.5 in
+    let made = answered-append caller row.3 copies in
+    let all : answered_in caller (row.3 ++ copies ++ frees) ≡ answered_in caller (row.3 ++ copies) + 0 = answered-append caller (row.3 ++ copies) frees in
+    let pieces : answered_in caller (row.3 ++ copies ++ frees) ≡ one_if (nat_le need SMALL_MOST) = omega arith in
+    let count : answered_in caller piece ≡ one_if (nat_le need SMALL_MOST) = ap (answered_in caller) row.7 ∙ pieces in
+    ap (λ b. if b then suc position.answered else position.answered) (small-need need) ∙ counted (nat_le need SMALL_MOST) position.answered
+    ∙ piece-count caller position.done piece position.answered (one_if (nat_le need SMALL_MOST)) so_far count
+resize-answered setting position r need (Some held) outcome.Refused piece row so_far =
+    ap (λ b. if b then suc position.answered else position.answered) (small-need need) ∙ counted (nat_le need SMALL_MOST) position.answered
+    ∙ piece-count setting.caller position.done piece position.answered (one_if (nat_le need SMALL_MOST)) so_far
+    (refusing-count setting.caller need (need_of need) piece row.2)
+resize-answered setting position r need (Some held) outcome.Spent piece row so_far =
+    piece-none setting.caller position.done piece position.answered so_far (spent-count setting position need piece position.spent row.1)
+resize-answered setting position r need held result piece row so_far = absurd row
+
+-- how many small allocations were answered, with one operation more
+pub answered-row :
+    (setting : Setting) (position : Position) (operation : Op) (result : Outcome) (piece : List Event) → FitsRow setting position operation result piece
+    → position.answered ≡ answered_in setting.caller position.done
+    → answered_after position.answered operation result ≡ answered_in setting.caller (position.done ++ piece)
+answered-row setting position (op.Alloc r need v) result piece row so_far =
+    alloc-answered setting position r need v (held_in position.registers r) result piece row so_far
+answered-row setting position (op.Free r) result piece row so_far = free-answered setting position r (held_in position.registers r) result piece row so_far
+answered-row setting position (op.Fill r v) result piece row so_far = fill-answered setting position r v (held_in position.registers r) result piece row so_far
+answered-row setting position (op.Check r) result piece row so_far = check-answered setting position r (held_in position.registers r) result piece row so_far
+answered-row setting position (op.Put r shelf) result piece row so_far = put-answered setting position r shelf (held_in position.registers r) result piece row so_far
+answered-row setting position (op.Take r shelf) result piece row so_far = take-answered setting position r shelf (held_in position.registers r) result piece row so_far
+answered-row setting position (op.Resize r need) result piece row so_far = resize-answered setting position r need (held_in position.registers r) result piece row so_far
+
+-- an event of another caller's is no answer to this one
+others-answer : (caller : ℕ) (event : Event) → eqb (caller_of event) caller ≡ false → answers caller event ≡ 0
+others-answer caller (Alloc by need place) other = rw other refl
+others-answer caller (Refuse by need) other = rw other refl
+others-answer caller (Looked by class) other = refl
+others-answer caller (Free by place) other = refl
+others-answer caller (Write by place i v) other = refl
+others-answer caller (Put by place shelf) other = refl
+others-answer caller (Take by shelf place) other = refl
+others-answer caller (TakeNone by shelf) other = refl
+
+-- a caller's own events tell how many of its small allocations were answered
+pub answered-own : (caller : ℕ) (events : List Event) → answered_in caller events ≡ answered_in caller (own caller events)
+answered-own caller [] = refl
+answered-own caller (event ∷ events) =
+    let rest = answered-own caller events in
+    let first = answered-cons caller event events in
+    elim (cases_Bool (eqb (caller_of event) caller)) [
+      | inl hers ↦ rw hers (let kept = answered-cons caller event (own caller events) in omega arith)
+      | inr other ↦ rw other (let none = others-answer caller event other in omega arith)
+    ]
+
+-- who is in no call awaits no answer
+point-answered : (p : Point) → is_idle p ≡ true → one_if (lacks_answer (turn_stage_of p)) ≡ 0
+point-answered point.Idle idle = refl
+point-answered p idle = absurd (true≢false (sym idle))
+
+-- a small block goes to this caller or to another one
+given-to : (caller : ℕ) (event : Event) → one_if (is_small_alloc event) ≡ one_if (gives_small caller event) + one_if (gives_another_small caller event)
+given-to caller (Alloc by words place) =
+    rw (small-need words) (elim (cases_Bool (eqb by caller)) [
+      | inl hers ↦ rw hers (omega arith)
+      | inr other ↦ rw other (omega arith)
+    ])
+given-to caller (Refuse by need) = refl
+given-to caller (Looked by class) = refl
+given-to caller (Free by place) = refl
+given-to caller (Write by place i v) = refl
+given-to caller (Put by place shelf) = refl
+given-to caller (Take by shelf place) = refl
+given-to caller (TakeNone by shelf) = refl
+
+given-to-all :
+    (caller : ℕ) (events : List Event)
+    → count_by is_small_alloc events ≡ count_by (gives_small caller) events + count_by (gives_another_small caller) events
+given-to-all caller [] = refl
+given-to-all caller (event ∷ events) =
+    let rest = given-to-all caller events in
+    let one = given-to caller event in
+    let all : count_by is_small_alloc (event ∷ events) ≡ one_if (is_small_alloc event) + count_by is_small_alloc events =
+    sum_by-cons (λ x. one_if (is_small_alloc x)) event events in
+    let hers : count_by (gives_small caller) (event ∷ events) ≡ one_if (gives_small caller event) + count_by (gives_small caller) events =
+    sum_by-cons (λ x. one_if (gives_small caller x)) event events in
+    let others : count_by (gives_another_small caller) (event ∷ events) ≡ one_if (gives_another_small caller event) + count_by (gives_another_small caller) events =
+    sum_by-cons (λ x. one_if (gives_another_small caller x)) event events in
+    omega arith
+
+-- an allocation that finds no turn left fits, where its caller has begun as many as it may
+spent-rows :
+    (setting : Setting) (position : Position) (need : ℕ) (piece : List Event) (spent : Bool) → EventsOf setting.caller (alloc_spent need) piece
+    → is_small (need_of need) ≡ true → (spent ≡ true → piece ≡ []) → setting.turn_limit ≤ position.answered + setting.lost
+    → (moment : Moment setting (position.done ++ piece))
+    → setting.turn_limit ≤ position.answered + count_by (gives_another_small setting.caller) moment.before
+    → IsSpent setting position need piece spent
+spent-rows setting position need piece true events small none limit moment given = (small, none refl)
+spent-rows setting position need piece false events small none limit moment given = (events, limit, moment, given)
+
+spending-small : (caller : ℕ) (n : Need) (piece : List Event) → IsSpending caller n piece → is_small n ≡ true
+spending-small caller (Small class) piece spending = refl
+spending-small caller (Large units) piece spending = absurd spending
+spending-small caller TooLarge piece spending = absurd spending
+
+pub is-spent :
+    (g : Geometry) (caller : ℕ) (after : List Event) (f : ErrandFields) (position : Position) (need : ℕ) (piece : List Event)
+    → IsServed g caller f after → IsIdle f → f.turns ≡ g.turn_limit → own caller after ≡ position.done ++ piece
+    → position.answered ≡ answered_in caller position.done → EventsOf caller (alloc_spent need) piece → (position.spent ≡ true → piece ≡ [])
+    → IsSpent (setting_in after caller g.turn_limit f.lost) position need piece position.spent
+is-spent g caller after f position need piece served idle limit own_is answered events none =
+    let stage = point-answered f.point idle in
+    let seen = answered-own caller after in
+    let told : answered_in caller (own caller after) ≡ answered_in caller (position.done ++ piece) = ap (answered_in caller) own_is in
+    let more = answered-append caller position.done piece in
+    let nothing = spending-count caller (need_of need) piece events in
+    let by_lost = served.by_lost in
+    let few : g.turn_limit ≤ position.answered + f.lost = omega arith in
+    let by_given = served.by_given in
+    let parts = given-to-all caller after in
+    let given : g.turn_limit ≤ position.answered + count_by (gives_another_small caller) after = omega arith in
+    let moment : Moment (setting_in after caller g.turn_limit f.lost) (position.done ++ piece) =
+    record { before = after; begins = ([], sym (append-nil after)); own_done = own_is } in
+    spent-rows (setting_in after caller g.turn_limit f.lost) position need piece position.spent events (spending-small caller (need_of need) piece events)
+    none few moment given
+
+-- a lane that is spent is answered so: so an allocation that starts may ask
+started-asks :
+    (e : ErrandFields) (n : Need) (spent : Bool) → (spent ≡ true → is_spent e ≡ true) → begins_with e n ≡ begun.Started
+    → (is_small n && spent) ≡ false
+started-asks e (Small class) false limit starts = refl
+started-asks e (Small class) true limit starts =
+    absurd (let e : begun.Spent ≡ begun.Started = ap (λ (b : Bool). if b then begun.Spent else begun.Started) (sym (limit refl)) ∙ starts in cc)
+started-asks e (Large units) spent limit starts = refl
+started-asks e TooLarge spent limit starts = refl
+
+pub may-ask :
+    (e : ErrandFields) (position : Position) (need : ℕ) → (position.spent ≡ true → e.turns ≡ e.geometry.turn_limit)
+    → alloc_answer e need ≡ begun.Started → MayAsk position need
+may-ask e position need limit starts =
+    started-asks e (need_of need) position.spent (λ is. eq-eqb e.turns e.geometry.turn_limit (limit is)) starts
+
+-- a lane that was spent before, and may ask, adds no event where it finds no turn left
+pub asked-unspent :
+    (position : Position) (need caller : ℕ) (piece : List Event) → MayAsk position need → EventsOf caller (alloc_spent need) piece
+    → position.spent ≡ true → piece ≡ []
+asked-unspent position need caller piece asks events spent =
+    let small = spending-small caller (need_of need) piece events in
+    let both : (is_small (need_of need) && position.spent) ≡ true = rw (small, spent) refl in
+    absurd (true≢false (sym both ∙ asks))

@@ -1,0 +1,13 @@
+use Rattle.plain_words.specs.Places.{numbers}
+use Rattle.live_heap.specs.Lending.{lent_block}
+use Rattle.live_heap.specs.Memory.{all_but, writes_from}
+use Rattle.live_heap.specs.Passes.{view}
+use Rattle.live_heap.proofs.heap.Heap.fill.Given as goal
+
+abbrev pub ghosts-lay_words : goal.ghosts-lay_words
+ghosts-lay_words g a = record {
+  owner = a.pass.now.errand;
+  block = lent_block a.place a.need (numbers a.words.places);
+  made = writes_from a.place a.need 0 (numbers a.words.places);
+  shown = all_but a.place (view a.pass.now).lent;
+}

@@ -1,9 +1,0 @@
-use Rattle.std.proofs.Common.{ℕ, ◌≡◌, ◌<◌, []}
-use Rattle.memory_cache.specs.Magazines.{stack_at, stacks_of}
-use Rattle.memory_cache.proofs.magazines.Magazines.pop_first.Given as goal
-
-abbrev pub invariant-loop-class : goal.invariant-loop-class
-invariant-loop-class l = record {
-  same : l.self ≡ l.fn.self;
-  empty : (k : ℕ) → k < l.class → stack_at (stacks_of l.self.stacks.items) k ≡ [];
-}
