@@ -10,29 +10,31 @@ makes, again and again:
     grow      a vector that grows to 1,000 words as they are pushed, summed and dropped
     tree      a map of 100,000 keys, each looked up, and dropped
 
-in the heap, and over the C library, with each allocator of the machine preloaded. A figure is nanoseconds of processor time
+in the heap (`benches collections`), and over the C library (`benches global`), with each allocator of the machine preloaded. A figure is nanoseconds of processor time
 of all threads for one block, one word pushed, or one key, less a run of no rounds. What is printed has to be the same.
 """
 import argparse
 
 import timed
 
+# Frames, processor heaps and units of the heap.
+HEAP = ["4000", "4", "64"]
 TASKS = [("block", 31, 2_000_000, 1), ("grow", 1000, 60_000, 1000), ("tree", 100_000, 8, 100_000)]
 
 
 def words(program, place, task, size, threads, library=None):
     """What runs so many rounds of a task, as a function of their number."""
-    return lambda rounds: ([program, place, task, str(size), str(rounds), str(threads)], library)
+    return lambda rounds: ([program, place, task, str(size), str(rounds), str(threads), *HEAP], library)
 
 
 def bench(said):
-    program = timed.program_of("collection_benches", ["global", "block", "31", "1", "1"])
+    program = timed.program_of("benches", ["global", "block", "31", "1", "1", *HEAP])
     others = timed.allocators()
     print(f"{said.runs} runs in turns, the median; nanoseconds of processor time, in brackets by the clock")
     print(timed.table_head(["what", "threads", "in a heap", *others, "to glibc", "to the best"]))
     for task, size, rounds, each in TASKS:
         for threads in said.threads:
-            places = {"heap": words(program, "heap", task, size, threads)}
+            places = {"heap": words(program, "collections", task, size, threads)}
             places.update((name, words(program, "global", task, size, threads, library)) for name, library in others.items())
             taken, last = timed.figures(places, max(rounds // said.scale, 1), said.runs)
             texts = {run.text for run in last.values()}

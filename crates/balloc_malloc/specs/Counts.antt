@@ -1,7 +1,7 @@
 -- What is told of a seat.
 use Rattle.std.specs.Prelude.{ℕ, ◌≡◌, ◌*◌, Option, Some, None, Result, Ok, Err}
 use Rattle.heap_geometry.specs.declared.geometry.Geometry.{Geometry}
-use Rattle.placed_words.specs.Places.{placed_count}
+use Rattle.live_heap.specs.placement.Places.{placed_count}
 use Rattle.plain_words.specs.declared.plain.Start.{Start}
 use Rattle.balloc_malloc.specs.declared.codes.TheConstants.{DONE, EMPTY}
 use Rattle.balloc_malloc.specs.declared.spot.Spot.{Spot}

@@ -50,6 +50,26 @@ pub enum Company {
     OnThreads,
 }
 
+/// Which collection a thread makes and drops, again and again.
+#[derive(Clone, Copy)]
+pub enum Collection {
+    /// A vector with room for its words before they are pushed.
+    Block,
+    /// A vector that grows.
+    Grow,
+    /// A map.
+    Tree,
+}
+
+/// Where collections lie.
+#[derive(Clone, Copy)]
+pub enum Place {
+    /// In a heap.
+    Heap,
+    /// In memory of the C library.
+    Global,
+}
+
 /// What is timed.
 #[derive(Clone, Copy)]
 pub enum Bench {
@@ -67,6 +87,8 @@ pub enum Bench {
     Store,
     /// Calls of a script on a store, with another caller by turns or on a thread of its own.
     StoreScript(Company),
+    /// Collections on 1, 2 or 4 threads.
+    Collections(Place, Collection),
     /// Memory accesses alone, on one thread.
     Accesses,
     /// Steps of the machine, on one thread.
@@ -102,6 +124,36 @@ fn bench_of(place: &str, mode: &str) -> Option<Bench> {
         ("store", "pairs", Bench::Store),
         ("store", "turns", Bench::StoreScript(Company::ByTurns)),
         ("store", "threads", Bench::StoreScript(Company::OnThreads)),
+        (
+            "collections",
+            "block",
+            Bench::Collections(Place::Heap, Collection::Block),
+        ),
+        (
+            "collections",
+            "grow",
+            Bench::Collections(Place::Heap, Collection::Grow),
+        ),
+        (
+            "collections",
+            "tree",
+            Bench::Collections(Place::Heap, Collection::Tree),
+        ),
+        (
+            "global",
+            "block",
+            Bench::Collections(Place::Global, Collection::Block),
+        ),
+        (
+            "global",
+            "grow",
+            Bench::Collections(Place::Global, Collection::Grow),
+        ),
+        (
+            "global",
+            "tree",
+            Bench::Collections(Place::Global, Collection::Tree),
+        ),
         ("machine", "bare", Bench::Accesses),
         ("machine", "hold", Bench::Machine(Mix::Hold)),
         ("machine", "all", Bench::Machine(Mix::All)),

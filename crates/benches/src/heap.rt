@@ -22,7 +22,6 @@ mod run;
 mod stamps;
 mod steps;
 mod tally;
-mod work;
 mod worker;
 
 /// Makes atomic accesses alone, and prints how many they were. None can be wrong.

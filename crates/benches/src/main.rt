@@ -15,11 +15,14 @@
 //! makes COUNT pushes, each with a pop behind it, through a store for each of the callers in turn (`pairs`);
 //! or a store of the first caller makes COUNT calls of a random script, beside plain lists, while the second
 //! caller makes steps of its own in between (`turns`) or on another thread (`threads`).
+//! Where it is `collections` or `global`, each of 1, 2 or 4 threads makes COUNT times a collection of SEED words or
+//! keys, sums it and drops it, in a heap or over the C library: a vector with room for them (`block`), one that grows
+//! (`grow`), or a map, each of whose keys is looked up (`tree`).
 //! Where it is `machine`, one thread loads a word, compares it and stores it, COUNT times, at random places
 //! of such a table (`bare`), or makes COUNT steps of a machine on which calls of a mix are begun (`hold`,
 //! `all`, `mingled`).
 //!
-//! It prints a line of counts for each bench, so that tools/bench_heap.py and tools/bench_steps.py can
+//! It prints a line of counts for each bench, so that tools/bench_heap.py, bench_steps.py and others can
 //! time it, and tools/try_calls.py can compare them. All words are read before a bench begins, and a bench
 //! that does not end well is the last: with the exit status 1 where a word of a block was not what its
 //! owner had written there, or a whole call came to another thing than its steps.
@@ -37,6 +40,7 @@ use std::sync::Wait;
 use std::thread::Threads;
 use std::{env, io};
 
+mod collections;
 mod command;
 mod counts;
 mod heap;
@@ -79,6 +83,7 @@ fn print_counts<R: Print + Threads + Wait + Sync>(
         Bench::Script => script::print_sums(rt, alloc, command),
         Bench::Store => store::print_sums(rt, alloc, command),
         Bench::StoreScript(company) => store_script::print_sums(rt, alloc, company, command),
+        Bench::Collections(place, what) => collections::print_sum(rt, alloc, place, what, command),
         Bench::Accesses => machine::print_accesses(rt, alloc, command),
         Bench::Machine(mix) => machine::print_counts(rt, alloc, mix, command),
     }

@@ -4,12 +4,12 @@ ghost use Rattle.heap_geometry.specs.Geometry.{IsChecked};
 
 use crate::command::{Command, Company};
 use crate::counts::print_line;
+use heap_scripts::stores::sums::Sums;
+use heap_scripts::stores::together::{run_by_turns, run_on_threads};
 use std::alloc::{AllocError, Global};
 use std::io;
 use std::io::Print;
 use std::thread::Threads;
-use store_scripts::sums::Sums;
-use store_scripts::together::{run_by_turns, run_on_threads};
 
 /// Makes the calls, prints what they came to, and answers how much differed.
 pub fn print_sums<R: Print + Threads + Sync>(

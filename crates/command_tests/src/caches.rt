@@ -1,8 +1,7 @@
 //! The command on lanes that run through caches. Expected values are worked by hand.
 
-use crate::tables::all_are_written;
+use crate::running::{Left, Told, all_are_written};
 use command_line::status::REPORTED;
-use memory_runs::running::{Left, Told};
 use std::test::Fail;
 
 /// A magazine for one block.

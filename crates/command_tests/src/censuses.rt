@@ -1,9 +1,9 @@
 //! Reports with what the closed heap holds.
 
+use crate::running::{Left, Told, run_on, writes};
 use crate::texts::{push_allocations, push_frees};
 use command_line::status::REPORTED;
 use edge_io::memory::MemorySink;
-use memory_runs::running::{Left, Told, run_on, writes};
 use std::alloc::{AllocError, Global};
 use std::process::Abort;
 use std::sync::Wait;

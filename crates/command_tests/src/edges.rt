@@ -2,11 +2,11 @@
 
 ghost use Rattle.std.specs.Prelude.{◌<◌};
 
-use edge_io::memory::MemorySink;
-use memory_runs::running::{
+use crate::running::{
     ROOM, Told, failing_sink, failing_source, leaves, next_reads, next_writes, run_between,
     run_from,
 };
+use edge_io::memory::MemorySink;
 use std::alloc::{AllocError, Global};
 use std::sync::Wait;
 use std::test::Fail;

@@ -1,8 +1,8 @@
 //! Commands on workloads, which read nothing.
 
 use crate::edges::{Edges, STEADY, leaves_at, run_unread};
+use crate::running::{Left, run_on, wide_sink, writes};
 use command_line::status::{REPORTED, WRITE_FAULT};
-use memory_runs::running::{Left, run_on, wide_sink, writes};
 use std::process::Abort;
 use std::sync::Wait;
 use std::test::Fail;

@@ -1,8 +1,7 @@
 //! Where a text is refused, and for which cause.
 
-use crate::tables::all_are_written;
+use crate::running::{Left, all_are_written};
 use command_line::status::REFUSED;
-use memory_runs::running::Left;
 use std::test::Fail;
 
 /// Texts, and how they are refused.

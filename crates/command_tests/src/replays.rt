@@ -1,8 +1,7 @@
 //! Reports of traces that have one report, whatever order the threads of their lanes make their steps in.
 
-use crate::tables::all_are_written;
+use crate::running::{Left, all_are_written};
 use command_line::status::REPORTED;
-use memory_runs::running::Left;
 use std::sync::Wait;
 use std::test::Fail;
 use std::thread::Threads;

@@ -1,9 +1,8 @@
 //! Reports of traces that give the order of their steps.
 
-use crate::tables::all_are_written;
+use crate::running::{Left, all_are_written};
 use crate::texts::{push_allocations, push_frees};
 use command_line::status::REPORTED;
-use memory_runs::running::Left;
 use std::alloc::{AllocError, Global};
 use std::sync::Wait;
 use std::test::Fail;

@@ -1,8 +1,8 @@
 //! The statuses of words, of long inputs and of edges that fail.
 
 use crate::edges::{Edges, STEADY, is_unwritten, leaves_at, run_unread};
+use crate::running::{Left, ROOM, Told, failing_sink};
 use command_line::status::{READ_FAULT, REFUSED, REPORTED, TOO_MANY, USAGE, WRITE_FAULT};
-use memory_runs::running::{Left, ROOM, Told, failing_sink};
 use std::process::Abort;
 use std::sync::Wait;
 use std::test::Fail;

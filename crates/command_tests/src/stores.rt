@@ -1,7 +1,7 @@
 //! The command on a store, which reads nothing.
 
+use crate::running::{Left, writes};
 use command_line::status::REPORTED;
-use memory_runs::running::{Left, writes};
 use std::test::Fail;
 
 #[test]

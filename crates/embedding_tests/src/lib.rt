@@ -9,6 +9,8 @@ mod caches;
 #[cfg(test)]
 mod censuses;
 #[cfg(test)]
+mod collections;
+#[cfg(test)]
 mod driver;
 #[cfg(test)]
 mod embedding;

@@ -3,11 +3,11 @@
 use crate::expect::expect;
 use heap_geometry::geometry::Geometry;
 use heap_geometry::limits::MAX_TURNS;
+use heap_scripts::stores::sums::Sums;
+use heap_scripts::stores::together::{run_by_turns, run_on_threads};
 use std::alloc::{AllocError, Global};
 use std::test::Fail;
 use std::thread::Threads;
-use store_scripts::sums::Sums;
-use store_scripts::together::{run_by_turns, run_on_threads};
 
 /// How many calls a script has.
 const CALLS: u64 = 2_000;

@@ -1,1 +1,2 @@
 pub mod SteppedLemmas
+pub mod stores_lemmas

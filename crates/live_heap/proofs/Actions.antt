@@ -10,7 +10,7 @@ use Rattle.word_table.specs.declared.action.Action.TheVariants.{Load, Store, Cas
 use Rattle.word_table.specs.declared.name.WordName.{WordName}
 use Rattle.word_table.specs.Actions.{name_of, after_action}
 use Rattle.word_table.specs.Table.{word_index}
-use Rattle.placed_words.specs.Places.{place}
+use Rattle.live_heap.specs.placement.Places.{place}
 use Rattle.errand_steps.specs.Begins.{IsBusy}
 use Rattle.errand_steps.specs.Errands.{ErrandFields, plan_of}
 use Rattle.live_heap.specs.declared.view.Standing.{Standing}

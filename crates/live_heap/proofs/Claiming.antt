@@ -9,7 +9,7 @@ use prog.Atomic.{either}
 use Rattle.atomic_table.proofs.Lists.{at_set, set_else, set_here}
 use Rattle.heap_geometry.specs.declared.geometry.Geometry.{Geometry}
 use Rattle.word_table.specs.Occurs.{occurs}
-use Rattle.placed_words.specs.Places.{words_at}
+use Rattle.live_heap.specs.placement.Places.{words_at}
 use Rattle.plain_words.proofs.Rows.{length-put}
 use Rattle.plain_words.specs.Places.{Place, laid, laids, blanks, outs, number, number_at, place_at, put, run}
 use Rattle.atomic_region.specs.Region as region

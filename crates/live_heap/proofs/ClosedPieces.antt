@@ -14,10 +14,10 @@ use Rattle.word_table.specs.declared.name.WordName.TheVariants.{Arena}
 use Rattle.word_table.specs.Words.{word_in}
 use Rattle.word_table.proofs.TableLemmas.{word_index-within}
 use Rattle.word_table.proofs.WordLemmas.{word_in-there}
-use Rattle.placed_words.specs.Places.{place, placed_count, words_at}
-use Rattle.placed_words.proofs.KindLemmas.{start-place}
-use Rattle.placed_words.proofs.PlaceLemmas.{place-least, place-within}
-use Rattle.placed_words.proofs.WordsLemmas.{at-words_at, length-words_at}
+use Rattle.live_heap.specs.placement.Places.{place, placed_count, words_at}
+use Rattle.live_heap.proofs.placement_lemmas.KindLemmas.{start-place}
+use Rattle.live_heap.proofs.placement_lemmas.PlaceLemmas.{place-least, place-within}
+use Rattle.live_heap.proofs.placement_lemmas.WordsLemmas.{at-words_at, length-words_at}
 use Rattle.plain_words.specs.Places.{Place, laid, number, numbers, place_at, AllHere, IsLaid}
 use Rattle.atomic_region.specs.Region.{Final, Seen, State}
 use Rattle.errand_steps.specs.Begins.{IsIdle}

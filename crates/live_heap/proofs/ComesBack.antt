@@ -11,7 +11,7 @@ use Rattle.heap_geometry.specs.declared.need.Need.{Need}
 use Rattle.heap_geometry.specs.Geometry.{IsChecked}
 use Rattle.heap_geometry.specs.Need.{usable_words}
 use Rattle.word_table.specs.Counts.{arena_words}
-use Rattle.placed_words.specs.Places.{placed_count, words_at}
+use Rattle.live_heap.specs.placement.Places.{placed_count, words_at}
 use Rattle.plain_words.proofs.Rows.{length-put}
 use Rattle.plain_words.specs.Places.{Place, laid, laids, number, number_at, place_at, put}
 use Rattle.atomic_region.specs.Region as region

@@ -11,8 +11,8 @@ use Rattle.errand_steps.specs.Openings.{opening}
 use Rattle.step_machine.specs.Firsts.{IsTable}
 use Rattle.plain_words.specs.Places.{Place, laid, number, number_at, numbers, place_at}
 use Rattle.atomic_region.specs.Region.{opening as opened}
-use Rattle.placed_words.specs.Places.{placed_count, words_at}
-use Rattle.placed_words.proofs.WordsLemmas.{words_at-take}
+use Rattle.live_heap.specs.placement.Places.{placed_count, words_at}
+use Rattle.live_heap.proofs.placement_lemmas.WordsLemmas.{words_at-take}
 use Rattle.live_heap.specs.FirstRoom.{IsFirstRoom}
 use Rattle.pool_model.specs.declared.event.Event.{Event}
 use Rattle.live_heap.specs.declared.view.Lent.{Lent}

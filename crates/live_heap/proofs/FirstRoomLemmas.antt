@@ -10,11 +10,11 @@ use Rattle.word_table.specs.declared.name.WordName.{WordName}
 use Rattle.word_table.specs.declared.name.WordName.TheVariants.{Next, FrameNext, FrameHead, DescHead}
 use Rattle.word_table.proofs.TableLemmas.{word_index-within}
 use Rattle.plain_words.specs.Places.{Place, IsHere, blanks, laid, laids, number, number_at, numbers, place_at}
-use Rattle.placed_words.specs.Places.{placed_count}
-use Rattle.placed_words.specs.Starts.{place_of}
-use Rattle.placed_words.specs.Writes.{Wrote}
-use Rattle.placed_words.proofs.PlaceLemmas.{place-least, place-within}
-use Rattle.placed_words.proofs.WordsLemmas.{wrote}
+use Rattle.live_heap.specs.placement.Places.{placed_count}
+use Rattle.live_heap.specs.placement.Starts.{place_of}
+use Rattle.live_heap.specs.placement.Writes.{Wrote}
+use Rattle.live_heap.proofs.placement_lemmas.PlaceLemmas.{place-least, place-within}
+use Rattle.live_heap.proofs.placement_lemmas.WordsLemmas.{wrote}
 use Rattle.live_heap.specs.FirstRoom.{HasWritten, IsBlankRoom, IsLaidBehind}
 use Rattle.live_heap.specs.Linked.{AreLinked}
 use Rattle.live_heap.specs.Pieces.{mark_count, mark_place}

@@ -6,7 +6,7 @@ use Rattle.std.proofs.lemmas.Bool.{cases_eq}
 use prog.Atomic.{either}
 use Rattle.heap_geometry.specs.declared.geometry.Geometry.{Geometry}
 use Rattle.plain_words.specs.Places.{Place, blanks, laids, AllHere}
-use Rattle.placed_words.specs.Places.{placed_count}
+use Rattle.live_heap.specs.placement.Places.{placed_count}
 use Rattle.sound_laws.specs.uses.Pieces.{piece_count, piece_start, piece_words}
 use Rattle.atomic_region.specs.Region as region
 use Rattle.atomic_region.specs.Region.{Me, Range, rest}

@@ -17,9 +17,9 @@ use Rattle.word_table.specs.Words.{word_in}
 use Rattle.word_table.specs.declared.name.WordName.TheVariants.{Arena}
 use Rattle.word_table.proofs.TableLemmas.{word_index-within}
 use Rattle.word_table.proofs.WordLemmas.{word_in-there}
-use Rattle.placed_words.specs.Places.{placed_count, words_at}
-use Rattle.placed_words.proofs.KindLemmas.{start-place}
-use Rattle.placed_words.proofs.WordsLemmas.{at-words_at}
+use Rattle.live_heap.specs.placement.Places.{placed_count, words_at}
+use Rattle.live_heap.proofs.placement_lemmas.KindLemmas.{start-place}
+use Rattle.live_heap.proofs.placement_lemmas.WordsLemmas.{at-words_at}
 use Rattle.plain_words.proofs.Rows.{length-put}
 use Rattle.plain_words.specs.Places.{IsLaid, Place, laid, laids, outs, number, number_at, place_at, put, run}
 use Rattle.atomic_region.specs.Region as region

@@ -65,3 +65,4 @@ pub mod WalkLemmas
 pub mod WordCalls
 pub mod WholeLaws
 pub mod WordsKept
+pub mod placement_lemmas

@@ -3,9 +3,9 @@ use Rattle.std.proofs.Common.{ℕ, ◌≡◌, ◌≢◌, ◌<◌, ◌+◌, List,
 use Rattle.std.proofs.lemmas.Bool.{cases_eq}
 use Rattle.errand_steps.specs.Openings.{opening}
 use Rattle.heap_geometry.specs.declared.geometry.Geometry.{Geometry}
-use Rattle.placed_words.specs.Places.{words_at}
-use Rattle.placed_words.specs.Writes.{Wrote, word_at}
-use Rattle.placed_words.proofs.WordsLemmas.{at-word_name, length-words_at}
+use Rattle.live_heap.specs.placement.Places.{words_at}
+use Rattle.live_heap.specs.placement.Writes.{Wrote, word_at}
+use Rattle.live_heap.proofs.placement_lemmas.WordsLemmas.{at-word_name, length-words_at}
 use Rattle.step_machine.specs.Firsts.{IsTable}
 use Rattle.word_table.specs.Counts.{descriptor_count, word_count}
 use Rattle.word_table.specs.Table.{Exists, word_name}

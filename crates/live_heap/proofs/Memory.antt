@@ -15,10 +15,10 @@ use Rattle.word_table.specs.Occurs.{occurs}
 use Rattle.word_table.specs.Table.{Exists, word_index, start_of, words_in}
 use Rattle.word_table.specs.Words.{word_in}
 use Rattle.word_table.proofs.TableLemmas.{word_index-within}
-use Rattle.placed_words.specs.Places.{place, placed_count, words_at}
-use Rattle.placed_words.proofs.KindLemmas.{start-place}
-use Rattle.placed_words.proofs.PlaceLemmas.{place-least, place-within}
-use Rattle.placed_words.proofs.WordsLemmas.{at-words_at, set-words_at}
+use Rattle.live_heap.specs.placement.Places.{place, placed_count, words_at}
+use Rattle.live_heap.proofs.placement_lemmas.KindLemmas.{start-place}
+use Rattle.live_heap.proofs.placement_lemmas.PlaceLemmas.{place-least, place-within}
+use Rattle.live_heap.proofs.placement_lemmas.WordsLemmas.{at-words_at, set-words_at}
 use Rattle.plain_words.specs.Places.{Place, laid, number, number_at, place_at}
 use Rattle.atomic_region.specs.Region as region
 use Rattle.atomic_region.specs.Region.{with_number, Goes}

@@ -16,10 +16,10 @@ use Rattle.word_table.specs.declared.name.WordName.TheVariants.{Arena}
 use Rattle.word_table.specs.Actions.{name_of, after_action}
 use Rattle.word_table.specs.Counts.{arena_words}
 use Rattle.word_table.specs.Table.{word_index}
-use Rattle.placed_words.specs.Places as placed
-use Rattle.placed_words.specs.Places.{words_at}
-use Rattle.placed_words.proofs.KindLemmas.{start-place}
-use Rattle.placed_words.proofs.WordsLemmas.{at-words_at}
+use Rattle.live_heap.specs.placement.Places as placed
+use Rattle.live_heap.specs.placement.Places.{words_at}
+use Rattle.live_heap.proofs.placement_lemmas.KindLemmas.{start-place}
+use Rattle.live_heap.proofs.placement_lemmas.WordsLemmas.{at-words_at}
 use Rattle.plain_words.specs.Places.{Place, laid, number, place_at}
 use Rattle.pool_model.specs.declared.event.Event.{Event}
 use Rattle.pool_model.specs.declared.event.Event.TheVariants.{Write}

@@ -8,7 +8,7 @@ use Rattle.heap_geometry.specs.declared.geometry.Geometry.{Geometry}
 use Rattle.heap_geometry.specs.Geometry.{IsChecked}
 use Rattle.word_table.specs.Counts.{arena_words, word_count}
 use Rattle.word_table.specs.Occurs.{occurs}
-use Rattle.placed_words.specs.Places.{placed_count, words_at}
+use Rattle.live_heap.specs.placement.Places.{placed_count, words_at}
 use Rattle.plain_words.specs.Places.{Place, laid, place_at, AllHere, IsHere}
 use Rattle.errand_steps.specs.Begins.{IsIdle}
 use Rattle.errand_steps.specs.Openings.{opening}

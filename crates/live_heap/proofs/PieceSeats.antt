@@ -7,7 +7,7 @@ use lib.ListN.{get_elem?}
 use Rattle.atomic_table.proofs.Lists.{at_longer, at_set, at_snoc, set_else, set_here}
 use Rattle.heap_geometry.specs.declared.geometry.Geometry.{Geometry}
 use Rattle.word_table.specs.Occurs.{occurs}
-use Rattle.placed_words.specs.Places.{words_at}
+use Rattle.live_heap.specs.placement.Places.{words_at}
 use Rattle.plain_words.specs.Places.{Place, laid, number, place_at, IsLaid}
 use Rattle.atomic_region.specs.Region as region
 use Rattle.errand_steps.specs.Openers.{Opens}

@@ -6,7 +6,7 @@ use lib.ListN.{get_elem?}
 use Rattle.atomic_table.proofs.Lists.{set_again}
 use Rattle.heap_geometry.specs.declared.geometry.Geometry.{Geometry}
 use Rattle.heap_geometry.specs.Geometry.{IsChecked}
-use Rattle.placed_words.specs.Places.{words_at}
+use Rattle.live_heap.specs.placement.Places.{words_at}
 use Rattle.plain_words.specs.Places.{Place, laid, number, place_at}
 use Rattle.atomic_region.specs.Region as region
 use Rattle.atomic_region.specs.Region.{State as RegionState}

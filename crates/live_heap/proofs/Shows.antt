@@ -4,8 +4,8 @@ use Rattle.std.specs.Prelude.{nat_lt, if◌then◌else◌, slice_index, slice_se
 use Rattle.std.proofs.lemmas.Bool.{cases_eq, cases_lt, cond-true, cond-false}
 use Rattle.heap_geometry.specs.declared.geometry.Geometry.{Geometry}
 use Rattle.word_table.specs.Counts.{arena_words, word_count}
-use Rattle.placed_words.specs.Places.{placed_count}
-use Rattle.placed_words.proofs.PlaceLemmas.{place-least}
+use Rattle.live_heap.specs.placement.Places.{placed_count}
+use Rattle.live_heap.proofs.placement_lemmas.PlaceLemmas.{place-least}
 use Rattle.plain_words.specs.Places.{Place, laid, place_at, put}
 use Rattle.sound_laws.specs.uses.Pieces.{piece_count, piece_of, piece_start, piece_words}
 use Rattle.sound_laws.proofs.uses_lemmas.PieceLemmas.{below-true, beyond-false, word-inside, word-among}

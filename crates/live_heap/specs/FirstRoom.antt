@@ -7,8 +7,8 @@ use Rattle.word_table.specs.declared.name.WordName.{WordName}
 use Rattle.errand_steps.specs.Openings.{opening}
 use Rattle.step_machine.specs.Firsts.{IsTable}
 use Rattle.plain_words.specs.Places.{Place, laid, number_at, numbers, place_at}
-use Rattle.placed_words.specs.Places.{placed_count, words_at}
-use Rattle.placed_words.specs.Writes.{Wrote}
+use Rattle.live_heap.specs.placement.Places.{placed_count, words_at}
+use Rattle.live_heap.specs.placement.Writes.{Wrote}
 use Rattle.live_heap.specs.Pieces.{mark_count, mark_place}
 
 -- the arena is blank, every place behind it is laid, and each mark is 0

@@ -3,7 +3,7 @@ use Rattle.std.specs.Prelude.{◌≡◌, ◌+◌}
 use Rattle.atomic_region.specs.Owned.{RegionId}
 use Rattle.heap_geometry.specs.declared.geometry.Geometry.{Geometry}
 use Rattle.heap_geometry.specs.Geometry.{IsChecked}
-use Rattle.placed_words.specs.Places.{placed_count}
+use Rattle.live_heap.specs.placement.Places.{placed_count}
 use Rattle.live_heap.specs.Pieces.{mark_count}
 
 -- its numbers, and the region of memory in which it lies

@@ -21,3 +21,4 @@ pub mod Steps
 pub mod Views
 pub mod Whole
 pub mod Words
+pub mod placement

@@ -2,7 +2,7 @@
 use Rattle.std.specs.Prelude.{ℕ, ◌≡◌, ◌<◌, List}
 use Rattle.errand_steps.specs.Openings.{opening}
 use Rattle.heap_geometry.specs.declared.geometry.Geometry.{Geometry}
-use Rattle.placed_words.specs.Writes.{word_at}
+use Rattle.live_heap.specs.placement.Writes.{word_at}
 use Rattle.word_table.specs.Table.{Exists}
 use Rattle.word_table.specs.declared.name.WordName.{WordName}
 use Rattle.word_table.specs.declared.name.WordName.TheVariants.{Next, FrameNext}

@@ -6,7 +6,7 @@ use Rattle.heap_geometry.specs.declared.geometry.Geometry.{Geometry}
 use Rattle.word_table.specs.Counts.{arena_words}
 use Rattle.word_table.specs.Occurs.{occurs}
 use Rattle.word_table.specs.Words.{word_in}
-use Rattle.placed_words.specs.Places.{placed_count, words_at}
+use Rattle.live_heap.specs.placement.Places.{placed_count, words_at}
 use Rattle.plain_words.specs.Places.{Place, blanks, laid, laids, numbers, place_at}
 use Rattle.atomic_region.specs.Region.{Me, State as RegionState}
 use Rattle.sound_laws.specs.uses.Pieces.{piece_count, piece_of, piece_start, piece_words}
@@ -15,7 +15,7 @@ use Rattle.errand_steps.specs.declared.point.Point.{Point}
 use Rattle.errand_steps.specs.Openers.{Opens}
 use Rattle.sound_laws.specs.uses.Uses.{IsUnused}
 use Rattle.heap_geometry.specs.Need.{usable_words}
-use Rattle.placed_words.specs.declared.placement.TheConstants.{APART}
+use Rattle.live_heap.specs.declared.placement.TheConstants.{APART}
 use Rattle.pool_model.specs.declared.event.Event.{Event}
 use Rattle.step_machine.specs.Cores.{OwnsAfter}
 use Rattle.live_heap.specs.declared.view.Lent.{Lent}

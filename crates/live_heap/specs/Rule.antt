@@ -3,7 +3,7 @@ use Rattle.std.specs.Prelude.{ℕ, ◌≡◌, ◌<◌, ◌≤◌, if◌then◌el
 use mathlib.Core.Option.{some}
 use lib.ListN.{get_elem?}
 use Rattle.atomic_table.specs.Table.{State as TableState}
-use Rattle.placed_words.specs.Places.{placed_count, words_at}
+use Rattle.live_heap.specs.placement.Places.{placed_count, words_at}
 use Rattle.heap_geometry.specs.declared.geometry.Geometry.{Geometry}
 use Rattle.word_table.specs.Counts.{word_count}
 use Rattle.word_table.specs.Words.{word_in}

@@ -17,12 +17,12 @@ ghost use Rattle.live_heap.specs.Endings.{AreAllIdle, HasAccesses, HasClosed, Is
 use crate::heap::Heap;
 use crate::laying::{LAID, piece_of};
 use crate::pass::Pass;
+use crate::placement::Placement;
 use crate::plays::Gathers;
 use crate::shelves::{AnyWords, ShelfRule};
 use crate::view::View;
 use atomic_region::Seat;
 use heap_geometry::geometry::Geometry;
-use placed_words::placement::Placement;
 use plain_words::Room;
 use std::alloc::Global;
 use std::marker::Model;
@@ -42,7 +42,7 @@ pub struct Closed {
 
 impl Model for Closed {
     ghost use Rattle.plain_words.specs.Places.{numbers};
-    ghost use Rattle.placed_words.specs.Places.{words_at};
+    ghost use Rattle.live_heap.specs.placement.Places.{words_at};
     ghost use Rattle.live_heap.specs.Endings.{ClosedFields, IsCounted, IsResting, closed_with};
     ghost use Rattle.live_heap.specs.Pieces.{AreMarked};
 

@@ -8,6 +8,7 @@ ghost use Rattle.live_heap.specs.Sights.{IsSightOf};
 ghost use Rattle.word_table.specs.Occurs.{occurs};
 
 use crate::heap::Heap;
+use crate::placement::{APART, Placement};
 use crate::plays::{Claims, Laying, Lays};
 use crate::shelves::ShelfRule;
 use crate::view::View;
@@ -16,7 +17,6 @@ use errand_steps::errand::Errand;
 use errand_steps::point::Pieces;
 use heap_geometry::limits::{FRAME_WORDS, UNIT_WORDS};
 use heap_geometry::place::{place_of_unit, unit_of};
-use placed_words::placement::{APART, Placement};
 use std::marker::Brand;
 
 /// The mark of a piece that was never laid, and of a caller whose pass has no block's words out, and had none since it rested.

@@ -18,6 +18,7 @@ use crate::block::Block;
 use crate::heap::Heap;
 use crate::laying::{BLANK, OUT};
 use crate::pass::Pass;
+use crate::placement::APART;
 use crate::plain::{Memory, are_small};
 use crate::plays::{Lending, Lends, LendsMarked, Rests, Returns};
 use crate::shelves::ShelfRule;
@@ -25,7 +26,6 @@ use crate::view::View;
 use atomic_region::Seat;
 use errand_steps::errand::Errand;
 use heap_geometry::need::Need;
-use placed_words::placement::APART;
 use plain_words::PlainWords;
 use std::marker::Brand;
 

@@ -25,6 +25,7 @@ mod laying;
 mod lending;
 mod opened;
 pub mod pass;
+pub mod placement;
 pub mod plain;
 mod plays;
 pub mod shelves;

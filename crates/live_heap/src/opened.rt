@@ -4,7 +4,7 @@ ghost use Rattle.std.specs.Prelude.{IfOk};
 ghost use Rattle.live_heap.specs.FirstRoom.{HasWritten, IsBlankRoom, IsFirstRoom, IsLaidBehind, IsOwn};
 
 use crate::laying::mark_count;
-use placed_words::placement::Placement;
+use crate::placement::Placement;
 use plain_words::Room;
 use std::alloc::{AllocError, Global};
 use step_machine::first::opening;

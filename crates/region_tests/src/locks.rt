@@ -1,6 +1,6 @@
 //! Uses of a lock over a range of words, one after another and on two threads.
 
-use range_lock::lock::Lock;
+use crate::lock::Lock;
 
 #[test]
 fn each_use_of_a_thread_adds_one(rt: HostRuntime) {

@@ -10,3 +10,4 @@ pub mod ContentLemmas
 pub mod FilledLemmas
 pub mod SerialLemmas
 pub mod ReportLemmas
+pub mod generated_lemmas

@@ -2,4 +2,5 @@
 //! steps in, they have one report.
 #![tactic(auto)]
 
+pub mod generated;
 pub mod laws;

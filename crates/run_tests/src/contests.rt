@@ -1,7 +1,7 @@
 //! Lanes that all want what only one of them can have.
 
 use command_line::status::REPORTED;
-use memory_runs::running::{Left, run_on};
+use command_tests::running::{Left, run_on};
 use std::alloc::{AllocError, Global};
 use std::process::Abort;
 use std::test::Fail;

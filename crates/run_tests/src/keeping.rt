@@ -2,9 +2,9 @@
 //! meet, where that is asked for.
 
 use command_line::status::REPORTED;
+use command_tests::running::{Left, Told, run_through, steady_source, wide_sink};
 use edge_io::gate::Gate;
 use edge_io::memory::MemorySink;
-use memory_runs::running::{Left, Told, run_through, steady_source, wide_sink};
 use std::alloc::{AllocError, Global};
 use std::process::Abort;
 use std::sync::{OnceLock, Wait};

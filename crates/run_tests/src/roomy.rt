@@ -1,7 +1,7 @@
 //! Traces with frames and turns to spare have one report each, on threads and in any order of steps.
 
 use command_line::status::REPORTED;
-use memory_runs::running::{Left, run_on, writes};
+use command_tests::running::{Left, run_on, writes};
 use std::alloc::{AllocError, Global};
 use std::process::Abort;
 use std::sync::Wait;

@@ -8,7 +8,7 @@ use Rattle.heap_census.specs.Census.{IsCensus, no_blocks}
 use Rattle.heap_census.specs.declared.census.Census.{Census}
 use Rattle.heap_census.specs.declared.census.ClassCount.{ClassCount}
 use Rattle.trace_commands.specs.declared.closing.Closing.{Closing}
-use Rattle.trace_commands.specs.declared.closing.Closing.TheVariants.{Plain, Stepped, Ran, Piped}
+use Rattle.trace_commands.specs.declared.closing.Closing.TheVariants.{Stepped, Ran, Piped}
 
 -- the line of a class
 abbrev pub class_line : ℕ → ClassCount → List ℕ
@@ -33,5 +33,4 @@ abbrev pub IsCensusOf : Option Closing → Census → Type 0
 IsCensusOf (Some (Ran closed)) census = IsCensus closed census
 IsCensusOf (Some (Piped run)) census = ⊥
 IsCensusOf (Some (Stepped core)) census = ⊥
-IsCensusOf (Some (Plain pool)) census = ⊥
 IsCensusOf None census = ⊥

@@ -16,18 +16,16 @@ use Rattle.lane_runner.specs.Shared.{IsShared}
 use Rattle.lane_runner.specs.Shared.{IsSharedThrough}
 use Rattle.trace_commands.specs.declared.closing.Closing.{Closing}
 use Rattle.live_heap.specs.Endings.{ClosedFields}
-use Rattle.trace_commands.specs.declared.closing.Closing.TheVariants.{Plain, Stepped, Ran, Piped}
+use Rattle.trace_commands.specs.declared.closing.Closing.TheVariants.{Stepped, Ran, Piped}
 
 -- the numbers that the heap was opened with
 abbrev pub geometry_of : Closing → Geometry
-geometry_of (Plain pool) = pool.geometry
 geometry_of (Stepped core) = core.geometry
 geometry_of (Ran closed) = closed.geometry
 geometry_of (Piped run) = run.closed.geometry
 
 -- the history of the heap
 abbrev pub history_of : Closing → List Event
-history_of (Plain pool) = pool.events
 history_of (Stepped core) = core.events
 history_of (Ran closed) = closed.events
 history_of (Piped run) = run.closed.events
@@ -36,16 +34,14 @@ history_of (Piped run) = run.closed.events
 abbrev pub lost_by_threads : ClosedFields → ℕ
 lost_by_threads closed = callers_sum closed.geometry lost_by (errand_at closed.errands)
 
--- the turns that a caller has taken in the heap; in a pool none takes any
+-- the turns that a caller has taken in the heap
 abbrev pub turns_of : Closing → ℕ → ℕ
-turns_of (Plain pool) caller = 0
 turns_of (Stepped core) caller = (errand_at core.errands caller).turns
 turns_of (Ran closed) caller = (errand_at closed.errands caller).turns
 turns_of (Piped run) caller = (errand_at run.closed.errands caller).turns
 
 -- the exchanges that the heap's callers lost, as a whole number
 abbrev pub lost_of : Closing → ℕ
-lost_of (Plain pool) = 0
 lost_of (Stepped core) = lost_by_all core
 lost_of (Ran closed) = lost_by_threads closed
 lost_of (Piped run) = lost_by_threads run.closed
@@ -53,7 +49,6 @@ lost_of (Piped run) = lost_by_threads run.closed
 -- a machine kept the heap: the lanes of the trace ran on it from its opening on, in the order of these order runs
 -- and then one lane after another, and had these outcomes
 abbrev pub IsDrivenIn : Trace → List OrderRun → Closing → List (List Outcome) → Type 0
-IsDrivenIn trace orders (Plain pool) outcomes = ⊥
 IsDrivenIn trace orders (Stepped core) outcomes = IsDriven trace orders core outcomes
 IsDrivenIn trace orders (Ran closed) outcomes = ⊥
 IsDrivenIn trace orders (Piped run) outcomes = ⊥
@@ -61,14 +56,12 @@ IsDrivenIn trace orders (Piped run) outcomes = ⊥
 -- threads shared the heap: each lane of the trace ran on one, from the heap's opening on, in the order that the hardware made,
 -- by the whole calls of its script, and had these outcomes
 abbrev pub IsSharedIn : Trace → Closing → List (List Outcome) → Type 0
-IsSharedIn trace (Plain pool) outcomes = ⊥
 IsSharedIn trace (Stepped core) outcomes = ⊥
 IsSharedIn trace (Ran closed) outcomes = IsShared trace closed outcomes
 IsSharedIn trace (Piped run) outcomes = ⊥
 
 -- threads ran the lanes of the trace over one heap, each through a cache of this depth, emptied at its end, which served so many allocations
 abbrev pub IsSharedThroughIn : Trace → ℕ → List ℕ → Closing → List (List Outcome) → Type 0
-IsSharedThroughIn trace depth hits (Plain pool) outcomes = ⊥
 IsSharedThroughIn trace depth hits (Stepped core) outcomes = ⊥
 IsSharedThroughIn trace depth hits (Ran closed) outcomes = IsSharedThrough trace depth closed outcomes hits
 IsSharedThroughIn trace depth hits (Piped run) outcomes = ⊥
@@ -88,9 +81,8 @@ steps_line core =
     ∷ decimal (cleared_by_all core) ∷ []
     )
 
--- the line of a machine's steps; a pool makes no steps, and those of threads are not counted
+-- the line of a machine's steps; those of threads are not counted
 abbrev pub steps_of : Closing → List ℕ
-steps_of (Plain pool) = []
 steps_of (Stepped core) = steps_line core
 steps_of (Ran closed) = []
 steps_of (Piped run) = []

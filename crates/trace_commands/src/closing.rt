@@ -2,14 +2,11 @@
 
 use live_heap::closed::Closed;
 use pipe_runner::run::PipeRun;
-use plain_pool::pool::PlainPool;
 use step_machine::machine::Core;
 
 /// The heap at the end of a run, by what kept it.
 #[derive(Drop)]
 pub enum Closing {
-    /// A plain pool, with the events that it stored. No command keeps its heap so today.
-    Plain(PlainPool),
     /// A machine on one thread, with the events of its steps.
     Stepped(Core),
     /// A heap that threads shared, with the events of all their steps.

@@ -9,3 +9,4 @@ pub mod ReuseCalls
 pub mod ReuseEnds
 pub mod ReuseHome
 pub mod ReuseRounds
+pub mod collections_lemmas

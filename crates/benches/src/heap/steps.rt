@@ -8,8 +8,7 @@ ghost use Rattle.benches.specs.Hands.{IsReady, Rests};
 
 use crate::command::Steps;
 use crate::heap::tally::{Tally, count};
-use crate::heap::work::Work;
-use crate::heap::worker::Worker;
+use crate::heap::worker::{Work, Worker};
 use errand_steps::told::{Ending, Stepped};
 use live_heap::block::Block;
 use live_heap::heap::Heap;

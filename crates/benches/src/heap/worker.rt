@@ -2,6 +2,7 @@
 
 ghost use Rattle.std.specs.Prelude.{◌≡◌, ◌<◌, ◌≤◌, IfNone, IfSome};
 ghost use Rattle.heap_geometry.specs.declared.limits.TheConstants.{LARGE_MOST, SHELVES};
+ghost use Rattle.benches.specs.Hands.{IsReady};
 
 use crate::heap::front::Front;
 use crate::heap::stamps::{fill, first_word, wrong_words};
@@ -247,4 +248,12 @@ impl<F: Front> Worker<F> {
             self.give_back(rt, heap, held);
         }
     }
+}
+
+/// What a worker does, so many times.
+pub trait Work<F: Front> {
+    /// Does it, with an empty hand at first.
+    fn work<R: Wait>(&self, rt: &R, heap: &Heap, worker: &mut Worker<F>, count: u64)
+        requires { IsReady F.rests F.holds heap.now worker.old }
+        ensures { F.rests heap.now worker.new.front };
 }

@@ -2,7 +2,7 @@ use Rattle.std.proofs.Common.{ℕ, ◌≡◌, ◌≤◌, ◌+◌, ◌-◌, List,
 use Rattle.std.specs.Prelude.{Some, None}
 use Rattle.std.proofs.lemmas.List.{drop-replicate, length-replicate}
 use Rattle.plain_words.specs.Places.{AllHere, Place, blanks, laids}
-use Rattle.placed_words.specs.Places.{placed_count}
+use Rattle.live_heap.specs.placement.Places.{placed_count}
 use Rattle.live_heap.specs.FirstRoom.{IsBlankRoom}
 use Rattle.live_heap.specs.Pieces.{mark_count}
 use Rattle.live_heap.proofs.FirstRoomLemmas.{blank-here, first-many, half-here, half-long, half_laid, is-blank, others-many}

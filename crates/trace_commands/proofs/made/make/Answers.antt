@@ -1,6 +1,6 @@
 use Rattle.std.proofs.Common.{map, arith}
 use Rattle.std.proofs.lemmas.List.{length-map}
-use Rattle.roomy_workloads.proofs.RoomyLemmas.{made-roomy}
+use Rattle.roomy_traces.proofs.generated_lemmas.RoomyLemmas.{made-roomy}
 use Rattle.trace_commands.proofs.DrivenLemmas.{few-outcomes, make-told}
 use Rattle.trace_commands.proofs.made.make.Goals as goal
 

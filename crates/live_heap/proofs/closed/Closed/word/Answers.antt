@@ -4,7 +4,7 @@ use Rattle.plain_words.specs.Places.{numbers, IsLaid}
 use Rattle.word_table.specs.Table.{Exists, word_index}
 use Rattle.word_table.specs.Words.{word_in}
 use Rattle.word_table.specs.declared.name.WordName.TheVariants.{Arena}
-use Rattle.placed_words.specs.Places.{place}
+use Rattle.live_heap.specs.placement.Places.{place}
 use Rattle.sound_laws.specs.uses.Pieces.{piece_of}
 use Rattle.live_heap.specs.Endings.{ClosedFields}
 use Rattle.live_heap.specs.Pieces.{mark_place}

@@ -3,7 +3,7 @@ use Rattle.std.specs.List.{list_all}
 use Rattle.std.specs.Prelude.{◌==◌}
 use Rattle.plain_words.specs.Places.{numbers}
 use Rattle.atomic_region.specs.declared.shared.Seat.{Seat}
-use Rattle.placed_words.specs.Places.{words_at}
+use Rattle.live_heap.specs.placement.Places.{words_at}
 use Rattle.heap_geometry.specs.declared.geometry.Geometry.{Geometry}
 use Rattle.live_heap.specs.declared.pass.Pass.{Pass}
 use Rattle.live_heap.specs.declared.view.View.{View}

@@ -4,7 +4,7 @@ use Rattle.std.proofs.lemmas.List.{length-map, length-replicate}
 use Rattle.plain_words.specs.Places.{laid}
 use Rattle.atomic_region.specs.Owned.{RegionId}
 use Rattle.atomic_region.specs.Region.{Me}
-use Rattle.placed_words.specs.Places.{placed_count}
+use Rattle.live_heap.specs.placement.Places.{placed_count}
 use Rattle.sound_laws.specs.uses.Pieces.{piece_start, piece_words}
 use Rattle.live_heap.specs.Heaps.{HeapFields}
 use Rattle.live_heap.specs.declared.view.View.{View}

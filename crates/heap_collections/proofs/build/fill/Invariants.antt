@@ -1,5 +1,0 @@
-use Rattle.std.proofs.Common.{◌-◌}
-use Rattle.heap_collections.proofs.build.fill.Given as goal
-
-abbrev pub decreases-loop-length : goal.decreases-loop-length
-decreases-loop-length l = 4294967295 - l.length
