@@ -2,6 +2,7 @@
 //! that makes the whole calls of one caller, as a cache in front of a pass of a heap.
 #![tactic(auto)]
 
+pub mod begins;
 pub mod calls;
 pub mod grip;
 pub mod over_cache;

@@ -36,7 +36,7 @@ use Rattle.live_heap.proofs.Growing.{own-kept}
 use Rattle.live_heap.proofs.WholeLaws.{pass-hands}
 use Rattle.lane_outcomes.specs.Rows.{IsFullShelf, IsWord}
 use Rattle.trace_lane.specs.Made.{AreMisses}
-use Rattle.lane_runner.proofs.CallAnswers.{ends-full}
+use Rattle.trace_lane.proofs.AnswerLemmas.{ends-full}
 use Rattle.lane_runner.specs.Passes.{WholeAt}
 use Rattle.lane_runner.proofs.WholeCalls.{HasKept, IsOnward, call-onward, called-begun, ended-as, kept-read, onward-none, onward-step, onward-steps, onward-then, steps-of, steps-under}
 use Rattle.lane_engine.specs.Caches.{HasEndedAt, frees_of}

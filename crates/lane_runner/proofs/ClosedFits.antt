@@ -1,5 +1,5 @@
 -- The outcomes of lanes that ran on threads fit the history of their closed heap.
-use Rattle.std.proofs.Common.{ℕ, zero, suc, ◌≡◌, ◌<◌, ◌≤◌, ◌+◌, Bool, true, Option, List, [], ◌∷◌, ◌++◌, length, length-append, append_assoc, get_or, max, take, refl, sym, ap, ◌∙◌, subst, inl, inr, arith, zero-add}
+use Rattle.std.proofs.Common.{ℕ, zero, ◌≡◌, ◌<◌, ◌≤◌, ◌+◌, List, [], ◌∷◌, ◌++◌, length, length-append, append_assoc, get_or, max, refl, sym, ap, ◌∙◌, subst, inl, inr, arith, zero-add}
 use Rattle.std.specs.Prelude.{Contains}
 use Rattle.std.specs.List.{AllByRecursion}
 use Rattle.std.proofs.lemmas.Bool.{cases_lt}
@@ -16,25 +16,20 @@ use Rattle.sound_state.specs.Sums.{callers_sum}
 use Rattle.sound_state.proofs.shared.SumLemmas.{term-sum}
 use Rattle.step_machine.specs.Cores.{CoreFields, errand_at}
 use Rattle.step_machine.proofs.CoreLemmas.{core-sound}
-use Rattle.trace_text.specs.declared.trace.Op.{Op}
 use Rattle.trace_text.specs.declared.trace.OrderRun.{OrderRun}
 use Rattle.trace_text.specs.declared.trace.Trace.{Trace}
 use Rattle.trace_text.specs.Traces.{IsTrace}
 use Rattle.lane_outcomes.specs.declared.outcome.Outcome.{Outcome}
-use Rattle.lane_outcomes.specs.declared.registers.Held.{Held}
 use Rattle.lane_outcomes.specs.declared.outcome.Outcome.TheVariants as outcome
-use Rattle.lane_outcomes.specs.Fits.{Fits, OutcomesFit, Walks}
-use Rattle.lane_outcomes.specs.Lane.{Position, position_after, spent_after, start}
-use Rattle.lane_outcomes.specs.Rows.{Setting}
+use Rattle.lane_outcomes.specs.Fits.{Fits, OutcomesFit}
 use Rattle.lane_outcomes.specs.Standing.{setting_in}
 use Rattle.lane_outcomes.proofs.FitLemmas.{fits-later}
 use Rattle.live_heap.specs.Heaps.{HeapFields}
 use Rattle.live_heap.specs.declared.pass.Pass.{Pass}
 use Rattle.live_heap.specs.Endings.{ClosedFields, HasClosed, HasTakenIn, IsResting, machine_of}
 use Rattle.live_heap.specs.Passes.{seen}
-use Rattle.trace_lane.specs.declared.stage.OperationStage.{OperationStage}
-use Rattle.trace_lane.specs.declared.stage.OperationStage.TheVariants as stage
-use Rattle.trace_lane.specs.Lanes.{IsLane}
+use Rattle.trace_lane.specs.Begun.{calls_of}
+use Rattle.trace_lane.proofs.FitLemmas.{lane-spent}
 use Rattle.lane_runner.specs.Driven.{IsDriven}
 use Rattle.lane_runner.specs.Running.{operations_in}
 use Rattle.lane_runner.specs.Passes.{HasEndedOver, HaveRun}
@@ -65,46 +60,14 @@ events-below g count history before (event ∷ events) legal is none = (
 pub at-least-one : (n m : ℕ) → m ≡ max 1 n → n ≤ m
 at-least-one n m is = omega (arith, is)
 
--- a lane that has no turn left has none later; and one that was told so has none at its end
-pub spent-on : (spent : Bool) (result : Outcome) → spent ≡ true → spent_after spent result ≡ true
-spent-on spent outcome.Spent is = refl
-spent-on spent result is = is
-
-stays-spent :
-    (setting : Setting) (from to : Position) (operations : List Op) (results : List Outcome) → Walks setting from operations results to
-    → from.spent ≡ true → to.spent ≡ true
-stays-spent setting from to [] [] walks is = ap (λ (p : Position). p.spent) walks ∙ is
-stays-spent setting from to [] (result ∷ results) walks is = absurd walks
-stays-spent setting from to (operation ∷ operations) [] walks is = absurd walks
-stays-spent setting from to (operation ∷ operations) (result ∷ results) (piece, row, walks) is =
-    stays-spent setting (position_after from operation result piece) to operations results walks (spent-on from.spent result is)
-
-told-spent :
-    (setting : Setting) (from to : Position) (operations : List Op) (results : List Outcome) (k : ℕ) → Walks setting from operations results to
-    → k < length results → get_or results k outcome.Spent ≡ outcome.Spent → to.spent ≡ true
-told-spent setting from to operations [] k walks lt is = absurd (omega (arith, lt))
-told-spent setting from to [] (result ∷ results) k walks lt is = absurd walks
-told-spent setting from to (operation ∷ operations) (result ∷ results) zero (piece, row, walks) lt is =
-    stays-spent setting (position_after from operation result piece) to operations results walks
-    (subst (λ r. spent_after from.spent r ≡ true) (sym is) refl)
-told-spent setting from to (operation ∷ operations) (result ∷ results) (suc k) (piece, row, walks) lt is =
-    told-spent setting (position_after from operation result piece) to operations results k walks (omega (arith, lt)) is
-
--- the caller of a lane that was told to have no turn left has taken as many turns as the limit
-rule-taken :
-    (g : Geometry) (lane : ℕ) (events : List Event) (e : ErrandFields) (operations : List Op) (registers : List (Option Held)) (results : List Outcome)
-    (at : OperationStage) → IsLane g lane events e operations registers results at → Contains results outcome.Spent → e.turns ≡ g.turn_limit
-rule-taken g lane events e operations registers results at rule told =
-    rule.spent
-    (told-spent (setting_in events lane g.turn_limit e.lost) start rule.position (take (length results) operations) results told.0 rule.walks told.1 told.2)
-
 -- a lane on a machine that was told to have no turn left has taken as many turns as the limit
 pub driven-taken :
     (trace : Trace) (orders : List OrderRun) (c : CoreFields) (outcomes : List (List Outcome)) (lane : ℕ) → IsDriven trace orders c outcomes
     → lane < length trace.lanes → Contains (get_or outcomes lane []) outcome.Spent → (errand_at c.errands lane).turns ≡ trace.heap.turn_limit
 driven-taken trace orders c outcomes lane driven lt told =
     let end = driven.ended lane lt in
-    rule-taken trace.heap lane c.events (errand_at c.errands lane) (operations_in trace lane) end.registers (get_or outcomes lane []) stage.Between end.rule told
+    lane-spent trace.heap lane c.events (errand_at c.errands lane) (operations_in trace lane) end.registers (get_or outcomes lane [])
+    (calls_of lane driven.so_far.moves) told.0 end.rule told.1 told.2
 
 module _ (trace : Trace) (h : HeapFields) (passes : List Pass) (outcomes : List (List Outcome)) (c : ClosedFields) (is : IsTrace trace) (laid : h.layout ≡ trace.heap) (run : HaveRun trace h passes outcomes) (closed : HasClosed h passes c) (rests : IsResting c) where
   layout : c.geometry ≡ trace.heap

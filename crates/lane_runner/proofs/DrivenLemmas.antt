@@ -13,12 +13,14 @@ use Rattle.word_table.specs.Table.{exists}
 use Rattle.word_table.specs.Words.{word_in}
 use Rattle.word_table.proofs.NameLemmas.{true-Exists}
 use Rattle.pool_model.specs.declared.event.Event.{Event}
-use Rattle.pool_model.specs.Histories.{caller_of, own}
+use Rattle.pool_model.specs.Histories.{caller_of}
 use Rattle.trace_text.specs.declared.limits.TheConstants.{REGISTERS}
 use Rattle.trace_text.specs.declared.trace.Op.{Op}
 use Rattle.trace_text.specs.declared.trace.Trace.{Trace}
 use Rattle.trace_text.specs.Traces.{IsTrace}
 use Rattle.errand_steps.specs.Begins.{IsIdle}
+use Rattle.errand_steps.specs.Calls.{Call}
+use Rattle.errand_steps.specs.Errands.{open_errand}
 use Rattle.errand_steps.specs.Openings.{opening, IsOpening}
 use Rattle.errand_steps.specs.Steps.{State, event_at, found_at, with_event}
 use Rattle.errand_steps.proofs.EventLemmas.{event_own}
@@ -32,6 +34,9 @@ use Rattle.step_machine.specs.Cores.{CoreFields, IsCore, errand_at, state_of}
 use Rattle.step_machine.specs.Openings.{IsOpened}
 use Rattle.lane_engine.specs.declared.grip.Grip.{Grip}
 use Rattle.lane_outcomes.specs.declared.outcome.Outcome.{Outcome}
+use Rattle.step_machine.specs.Moments.{IsServed}
+use Rattle.step_machine.proofs.MomentLemmas.{core-served}
+use Rattle.lane_outcomes.specs.declared.registers.Held.{Held}
 use Rattle.lane_outcomes.specs.Fits.{Fits, LanesFit}
 use Rattle.lane_outcomes.specs.Passed.{AllPassed}
 use Rattle.lane_outcomes.specs.Standing.{setting_in}
@@ -43,13 +48,15 @@ use Rattle.trace_lane.specs.Lanes.{IsLane}
 use Rattle.lane_runner.specs.Driven.{IsAtItsEnd, IsDriven, IsDrivenSoFar, lost_by_all, mover_of}
 use Rattle.lane_runner.specs.Orders.{InOrder, OneByOne}
 use Rattle.trace_lane.specs.Paths.{MovesLead, begun_count}
-use Rattle.lane_runner.specs.Running.{HasEnded, HasPassed, HaveFinished, HaveFollowed, HaveRunSo, IsBelow, IsOnScriptOf, LanesRan, LanesStand, operations_in}
-use Rattle.trace_lane.specs.Scripts.{IsOnScript, Scripts}
-use Rattle.trace_lane.specs.States.{AreNew, IsNew, StandsOn, progress_on}
-use Rattle.trace_lane.proofs.EndedLemmas.{lane-between, lane-fits, lane-new, lane-start, script-new}
+use Rattle.lane_runner.specs.Running.{HasEnded, HasPassed, HaveFinished, HaveFollowed, HaveRunSo, IsBelow, LanesRan, LanesStand, operations_in}
+use Rattle.trace_lane.specs.Scripts.{Scripts}
+use Rattle.trace_lane.specs.States.{AreNew, IsLaneOn, IsNew, StandsOn, registers_at}
+use Rattle.trace_lane.proofs.EndedLemmas.{lane-new, lane-script, lane-start}
+use Rattle.trace_lane.proofs.FitLemmas.{lane-fits}
 use Rattle.lane_runner.proofs.RunLanes.{element_at}
 use Rattle.lane_runner.proofs.StopLemmas.{finished-so, order-none, runs-behind}
-use Rattle.trace_lane.proofs.ScriptLemmas.{empty, script-none, script-whole}
+use Rattle.trace_lane.proofs.MakingLemmas.{empty}
+use Rattle.lane_runner.proofs.RunLemmas.{between-idle}
 
 -- moves of one machine after the other count their steps
 pub leads-counted :
@@ -108,6 +115,31 @@ opened-opens g c opened = record {
 le-max : (n : ℕ) → n ≤ max 1 n
 le-max n = omega arith
 
+-- a caller of it is new
+opened-errand :
+    (g : Geometry) (c : CoreFields) (caller : ℕ) → IsOpened g (opening g) c → caller < c.geometry.callers
+    → errand_at c.errands caller ≡ open_errand caller c.geometry
+opened-errand g c caller opened has =
+    opened.errands caller (subst (λ (h : Geometry). caller < h.callers) opened.geometry has) ∙ ap (open_errand caller) (sym opened.geometry)
+
+opened-lane :
+    (g : Geometry) (c : CoreFields) (operations : List Op) (lane : LaneState Grip) → IsOpened g (opening g) c → IsCore c
+    → lane.caller < c.geometry.callers → IsNew lane.caller (length operations) lane → IsLaneOn c operations lane []
+opened-lane g c operations lane opened core has new =
+    lane-new (machine_at c lane.caller) operations lane new (opened-errand g c lane.caller opened has) opened.events (core-served c lane.caller core has)
+
+-- a new lane of a trace has begun no call
+new-begun :
+    (trace : Trace) (first : CoreFields) (start : List (LaneState Grip)) → IsTrace trace → IsOpened trace.heap (opening trace.heap) first
+    → IsCore first → AreNew trace.lanes start → (lane : ℕ) (state : LaneState Grip) → lane < length start → state ≡ get_or start lane state
+    → IsLaneOn first (operations_in trace lane) state []
+new-begun trace first start is opened core new lane state lt there =
+    let one = new.each lane state lt there in
+    let has : state.caller < first.geometry.callers =
+    omega (arith, one.caller_is, lt, new.all, is.callers, ap (λ (g : Geometry). g.callers) opened.geometry, le-max (length trace.lanes)) in
+    opened-lane trace.heap first (operations_in trace lane) state opened core has
+    (subst (λ k. IsNew k (length (operations_in trace lane)) state) (sym one.caller_is) one)
+
 -- new lanes stand on it
 pub opened-stand :
     (trace : Trace) (c : CoreFields) (lanes : List (LaneState Grip)) → IsTrace trace → IsOpened trace.heap (opening trace.heap) c → IsCore c
@@ -129,8 +161,8 @@ opened-stand trace c lanes is opened core new =
           record {
             core = core;
             has = has;
-            stands =
-                lane-new (machine_at c state.caller) lane (operations_in trace lane) state one (ap (own lane) opened.events) (idle state.caller has);
+            calls = [];
+            stands = new-begun trace c lanes is opened core new lane state lt there;
           };
       rest = λ caller least has. idle caller has;
     }
@@ -159,17 +191,21 @@ new-passed passed lane none between op lt =
     ap (λ (results : List Outcome). begun_count results lane.stage) none ∙ ap (λ at. begun_count [] at) between in
     absurd (omega (arith, lt, zero_begun))
 
+-- what a lane's registers hold
+abbrev registers_on : CoreFields → LaneState Grip → List (Option Held)
+registers_on c lane = registers_at (machine_at c lane.caller) lane.registers.items
+
 -- a lane that stands on the machine of a trace stands by its rule there
 stands-there :
-    (trace : Trace) (c : CoreFields) (lane : ℕ) (state : LaneState Grip) → state.caller ≡ lane → StandsOn c (operations_in trace lane) state
-    → c.geometry ≡ trace.heap
-    → IsLane trace.heap lane c.events (errand_at c.errands lane) (operations_in trace lane) (progress_on state).registers state.outcomes.items
-    state.stage
-stands-there trace c lane state number stands heap =
-    let p = progress_on state in
+    (trace : Trace) (c : CoreFields) (lane : ℕ) (state : LaneState Grip) (calls : List Call) → state.caller ≡ lane
+    → IsLaneOn c (operations_in trace lane) state calls → c.geometry ≡ trace.heap
+    → IsLane trace.heap lane c.events (errand_at c.errands lane) (operations_in trace lane) (registers_on c state) state.outcomes.items state.stage calls
+stands-there trace c lane state calls number stands heap =
     let ops = operations_in trace lane in
-    subst (λ k. IsLane trace.heap k c.events (errand_at c.errands k) ops p.registers p.results p.at) number
-    (subst (λ g. IsLane g state.caller c.events (errand_at c.errands state.caller) ops p.registers p.results p.at) heap stands.stands.stands)
+    let held = registers_on c state in
+    let results = state.outcomes.items in
+    subst (λ k. IsLane trace.heap k c.events (errand_at c.errands k) ops held results state.stage calls) number
+    (subst (λ g. IsLane g state.caller c.events (errand_at c.errands state.caller) ops held results state.stage calls) heap stands.stands)
 
 -- lanes that have run since the opening, in order, are what a machine has been driven by so far
 below-mover : (count : ℕ) (move : Move) → IsBelow count move → mover_of move < count
@@ -177,15 +213,14 @@ below-mover count (begins caller call) lt = lt
 below-mover count (steps caller) lt = lt
 
 pub so-far :
-    (passed : ℕ → ℕ → Type 0) (trace : Trace) (first last : CoreFields) (start lanes : List (LaneState Grip))
-    → IsOpened trace.heap (opening trace.heap) first → AreNew trace.lanes start
+    (passed : ℕ → ℕ → Type 0) (trace : Trace) (first last : CoreFields) (start lanes : List (LaneState Grip)) → IsTrace trace
+    → IsOpened trace.heap (opening trace.heap) first → IsCore first → AreNew trace.lanes start
     → HaveRunSo passed trace (InOrder trace.orders (length trace.lanes)) first last start lanes → IsDrivenSoFar trace trace.orders last
-so-far passed trace first last start lanes opened new so =
+so-far passed trace first last start lanes is opened core new so =
     let ran = so.ran in
-    let begun : (lane : ℕ) (state : LaneState Grip) → lane < length start → state ≡ get_or start lane state → IsOnScriptOf (operations_in trace lane) state [] =
-    λ lane state lt there.
-    script-new (λ grip. grip.place) (λ grip. grip.need) lane (length (operations_in trace lane)) (operations_in trace lane) state
-    (new.each lane state lt there) in
+    let begun : (lane : ℕ) (state : LaneState Grip) → lane < length start → state ≡ get_or start lane state
+    → IsLaneOn first (operations_in trace lane) state [] =
+    new-begun trace first start is opened core new in
     record {
       geometry = so.stand.heap;
       opened = state_of first;
@@ -203,28 +238,29 @@ so-far passed trace first last start lanes opened new so =
           let below : lane < length lanes = omega (arith, lt, so.stand.all) in
           let before : lane < length start = omega (arith, lt, new.all) in
           record {
-            registers = (progress_on now.0).registers;
-            results = (progress_on now.0).results;
-            at = (progress_on now.0).at;
-            script = ran.scripts lane was.0 now.0 [] before was.1 now.1 (begun lane was.0 before was.1);
+            registers = registers_on last now.0;
+            results = now.0.outcomes.items;
+            at = now.0.stage;
             rule =
-                stands-there trace last lane now.0 (so.stand.numbered lane now.0 below now.1) (so.stand.each lane now.0 below now.1) so.stand.heap;
+                stands-there trace last lane now.0 (calls_of lane ran.moves) (so.stand.numbered lane now.0 below now.1)
+                (ran.calls lane was.0 now.0 [] before was.1 now.1 (begun lane was.0 before was.1)) so.stand.heap;
           };
     }
 
 -- lanes that stopped behind the order runs have driven the machine so far, in order
 pub stopped :
-    (passed : ℕ → ℕ → Type 0) (trace : Trace) (first mid last : CoreFields) (start middle lanes : List (LaneState Grip))
-    → IsOpened trace.heap (opening trace.heap) first → AreNew trace.lanes start → HaveFollowed passed trace trace.orders first mid start middle
+    (passed : ℕ → ℕ → Type 0) (trace : Trace) (first mid last : CoreFields) (start middle lanes : List (LaneState Grip)) → IsTrace trace
+    → IsOpened trace.heap (opening trace.heap) first → IsCore first → AreNew trace.lanes start → HaveFollowed passed trace trace.orders first mid start middle
     → HaveRunSo passed trace (OneByOne 0 (length trace.lanes)) mid last middle lanes → IsDrivenSoFar trace trace.orders last
-stopped passed trace first mid last start middle lanes opened new follow so =
-    so-far passed trace first last start lanes opened new
+stopped passed trace first mid last start middle lanes is opened core new follow so =
+    so-far passed trace first last start lanes is opened core new
     (runs-behind passed trace first mid last start middle lanes (follow.stand.all ∙ sym new.all) follow so)
 
 -- no lane has begun
 pub so-none :
-    (trace : Trace) (first : CoreFields) → IsTrace trace → IsOpened trace.heap (opening trace.heap) first → IsDrivenSoFar trace trace.orders first
-so-none trace first is opened = record {
+    (trace : Trace) (first : CoreFields) → IsTrace trace → IsOpened trace.heap (opening trace.heap) first → IsCore first
+    → IsDrivenSoFar trace trace.orders first
+so-none trace first is opened core = record {
   geometry = opened.geometry;
   opened = state_of first;
   opens = opened-opens trace.heap first opened;
@@ -237,10 +273,11 @@ so-none trace first is opened = record {
     registers = empty;
     results = [];
     at = stage.Between;
-    script = script-none (operations_in trace lane) empty;
     rule =
-        lane-start trace.heap lane first.events (errand_at first.errands lane) (operations_in trace lane) (ap (own lane) opened.events)
-        (subst IsIdle (sym (opened.errands lane (omega (arith, lt, is.callers, le-max (length trace.lanes))))) refl);
+        let has : lane < trace.heap.callers = omega (arith, lt, is.callers, le-max (length trace.lanes)) in
+        lane-start trace.heap lane first.events (errand_at first.errands lane) (operations_in trace lane) (opened.errands lane has) opened.events
+        (subst (λ g. IsServed g lane (errand_at first.errands lane) first.events) opened.geometry
+        (core-served first lane core (subst (λ (g : Geometry). lane < g.callers) (sym opened.geometry) has)));
   };
 }
 
@@ -261,7 +298,7 @@ module _ (passed : ℕ → ℕ → Type 0) (trace : Trace) (first mid last : Cor
     number : state.caller ≡ lane
     stands : StandsOn last (operations_in trace lane) state
     ended : HasEnded (operations_in trace lane) state
-    script : IsOnScriptOf (operations_in trace lane) state (calls_of lane ran.moves)
+    stood : IsLaneOn last (operations_in trace lane) state (calls_of lane ran.moves)
     gone : HasPassed passed state
 
   at-end : (lane : ℕ) → lane < length trace.lanes → AtEnd lane
@@ -277,9 +314,7 @@ module _ (passed : ℕ → ℕ → Type 0) (trace : Trace) (first mid last : Cor
         number = finish.stand.numbered lane now.0 below now.1;
         stands = finish.stand.each lane now.0 below now.1;
         ended = (finish.ended lane lt).1 now.0 now.1;
-        script =
-            ran.scripts lane was.0 now.0 [] before was.1 now.1
-            (script-new (λ grip. grip.place) (λ grip. grip.need) lane (length (operations_in trace lane)) (operations_in trace lane) was.0 one);
+        stood = ran.calls lane was.0 now.0 [] before was.1 now.1 (new-begun trace first start is opened core new lane was.0 before was.1);
         gone = ran.gates lane was.0 now.0 before was.1 now.1 (new-passed passed was.0 one.none one.between);
       }
 
@@ -294,40 +329,38 @@ module _ (passed : ℕ → ℕ → Type 0) (trace : Trace) (first mid last : Cor
       ap (λ (s : LaneState Grip). s.outcomes.items) e.there
       ∙ sym (get_or-map (λ (lane : LaneState Grip). lane.outcomes.items) lanes lane e.state [] below)
 
+  ended :
+      (lane : ℕ) → lane < length trace.lanes
+      → IsAtItsEnd trace.heap (get_or trace.lanes lane []) lane (state_of last) (get_or results lane []) (calls_of lane ran.moves)
+  ended lane lt =
+      let e = at-end lane lt in
+      let registers = registers_on last e.state in
+      let ops = operations_in trace lane in
+      let calls = calls_of lane ran.moves in
+      record {
+        registers = registers;
+        rule =
+            subst (λ results. IsLane trace.heap lane last.events (errand_at last.errands lane) ops registers results stage.Between calls)
+            (result-at lane lt)
+            (subst (λ at. IsLane trace.heap lane last.events (errand_at last.errands lane) ops registers e.state.outcomes.items at calls)
+            e.ended.between (stands-there trace last lane e.state calls e.number e.stood finish.stand.heap));
+      }
+
   scripts :
       (lane : ℕ) → lane < length trace.lanes
       → Scripts (replicate REGISTERS None) (get_or trace.lanes lane []) (get_or results lane []) (calls_of lane ran.moves)
   scripts lane lt =
-      let e = at-end lane lt in
-      let p = progress_on e.state in
-      let on : IsOnScript (operations_in trace lane) p.registers p.results stage.Between (calls_of lane ran.moves) =
-      subst (λ at. IsOnScript (operations_in trace lane) p.registers p.results at (calls_of lane ran.moves)) e.ended.between e.script in
-      subst (λ results. Scripts (replicate REGISTERS None) (operations_in trace lane) results (calls_of lane ran.moves)) (result-at lane lt)
-      (script-whole (operations_in trace lane) p.registers p.results (calls_of lane ran.moves) e.ended.all on)
-
-  ended : (lane : ℕ) → lane < length trace.lanes → IsAtItsEnd trace.heap (get_or trace.lanes lane []) lane (state_of last) (get_or results lane [])
-  ended lane lt =
-      let e = at-end lane lt in
-      let registers = (progress_on e.state).registers in
-      let ops = operations_in trace lane in
-      record {
-        registers = registers;
-        rule =
-            subst (λ results. IsLane trace.heap lane last.events (errand_at last.errands lane) ops registers results stage.Between) (result-at lane lt)
-            (subst (IsLane trace.heap lane last.events (errand_at last.errands lane) ops registers e.state.outcomes.items) e.ended.between
-            (stands-there trace last lane e.state e.number e.stands finish.stand.heap));
-      }
+      let e = ended lane lt in
+      lane-script trace.heap lane last.events (errand_at last.errands lane) (operations_in trace lane) e.registers (get_or results lane [])
+      (calls_of lane ran.moves) e.rule
 
   idle : (caller : ℕ) → caller < trace.heap.callers → IsIdle (errand_at last.errands caller)
   idle caller has =
       elim (cases_lt caller (length trace.lanes)) [
         | inl lt ↦
             let e = at-end caller lt in
-            let p = progress_on e.state in
-            let quiet =
-            (lane-between last.geometry e.state.caller last.events (errand_at last.errands e.state.caller) (operations_in trace caller) p.registers
-            p.results e.state.stage e.stands.stands.stands e.ended.between).0 in
-            subst (λ k. IsIdle (errand_at last.errands k)) e.number quiet
+            subst (λ k. IsIdle (errand_at last.errands k)) e.number
+            (between-idle last (operations_in trace caller) e.state e.stands e.ended.between)
         | inr least ↦
             finish.stand.rest caller (omega (arith, least, finish.stand.all))
             (subst (λ (g : Geometry). caller < g.callers) (sym finish.stand.heap) has)
@@ -342,21 +375,17 @@ module _ (passed : ℕ → ℕ → Type 0) (trace : Trace) (first mid last : Cor
       → Fits (setting_in last.events (0 + lane) trace.heap.turn_limit (lost_by_all last)) (get_or trace.lanes lane []) (get_or results lane [])
   fits-at lane lt =
       let e = at-end lane lt in
-      let p = progress_on e.state in
-      let fit =
-      lane-fits last.geometry e.state.caller last.events (errand_at last.errands e.state.caller) (operations_in trace lane) p.registers p.results
-      e.state.stage (lost_by_all last) e.stands.stands.stands e.ended.between e.ended.all (lost-most e.state.caller e.stands.has) in
-      subst (λ results. Fits (setting_in last.events (0 + lane) trace.heap.turn_limit (lost_by_all last)) (operations_in trace lane) results)
-      (result-at lane lt)
-      (subst (λ k. Fits (setting_in last.events k trace.heap.turn_limit (lost_by_all last)) (operations_in trace lane) p.results)
-      (e.number ∙ sym (zero-add lane))
-      (subst (λ (g : Geometry). Fits (setting_in last.events e.state.caller g.turn_limit (lost_by_all last)) (operations_in trace lane) p.results)
-      finish.stand.heap fit))
+      let end = ended lane lt in
+      let has : lane < last.geometry.callers = subst (λ k. k < last.geometry.callers) e.number e.stands.has in
+      subst (λ k. Fits (setting_in last.events k trace.heap.turn_limit (lost_by_all last)) (operations_in trace lane) (get_or results lane []))
+      (sym (zero-add lane))
+      (lane-fits trace.heap lane last.events (errand_at last.errands lane) (operations_in trace lane) end.registers (get_or results lane [])
+      (calls_of lane ran.moves) (lost_by_all last) end.rule (ap length (sym (result-at lane lt)) ∙ e.ended.all) (lost-most lane has))
 
   pub driven : IsDriven trace trace.orders last (map (λ (lane : LaneState Grip). lane.outcomes.items) lanes)
   unfolding results ran so-far
   driven = record {
-    so_far = so-far passed trace first last start lanes opened new whole;
+    so_far = so-far passed trace first last start lanes is opened core new whole;
     scripts = scripts;
     ended = ended;
     idle = idle;

@@ -25,9 +25,10 @@ use Rattle.lane_outcomes.specs.declared.outcome.Outcome.TheVariants as outcome
 use Rattle.lane_outcomes.specs.Lane.{Position, filling, held_in, writing}
 use Rattle.lane_outcomes.specs.Rows.{IsCopy, Setting}
 use Rattle.lane_outcomes.specs.Standing.{setting_in}
-use Rattle.lane_runner.proofs.TurnCounts.{answered_in, piece-none, writes-none}
+use Rattle.trace_lane.proofs.TurnLemmas.{answered_in, piece-none, writes-none}
 use Rattle.lane_runner.specs.Passes.{WholeAt}
-use Rattle.lane_runner.proofs.WholeCalls.{HasKept, copy-of, copy-walk, ended-as, given-steps, leads-split, value_of}
+use Rattle.lane_runner.proofs.WholeCalls.{HasKept, copy-of, copy-walk, ended-as, given-steps, value_of}
+use Rattle.trace_lane.proofs.HoldsLemmas.{leads-split}
 use Rattle.block_cache.specs.declared.cache.Cache.{Cache}
 use Rattle.block_cache.specs.declared.magazines.Magazines.{Magazines}
 use Rattle.block_cache.specs.Caches.{HasFor, HasServed, KeepsMagazines}

@@ -1,6 +1,5 @@
 pub mod AddedLemmas
 pub mod CacheRuns
-pub mod CallAnswers
 pub mod CallLemmas
 pub mod ClosedFits
 pub mod ClosedLemmas
@@ -19,7 +18,6 @@ pub mod RunLemmas
 pub mod RunMeasures
 pub mod StopLemmas
 pub mod ThreadLemmas
-pub mod TurnCounts
 pub mod WalkLemmas
 pub mod WholeCalls
 mod WholeScripts

@@ -16,8 +16,9 @@ use Rattle.trace_lane.specs.declared.lane.LaneState.{LaneState}
 use Rattle.trace_lane.specs.Begun.{calls_of}
 use Rattle.lane_runner.specs.Driven.{Drives, steppers_of}
 use Rattle.lane_runner.specs.Orders.{InOrder, OneByOne}
-use Rattle.lane_runner.specs.Running.{HasEnded, HasEndedIn, HasPassed, HasRun, HasRunOut, HasRunSome, HaveFinished, HaveFollowed, IsBelow, IsOnScriptOf, LanesRan, LanesStand, OneRanOut, operations_in}
+use Rattle.lane_runner.specs.Running.{HasEnded, HasEndedIn, HasPassed, HasRun, HasRunOut, HasRunSome, HaveFinished, HaveFollowed, IsBelow, LanesRan, LanesStand, OneRanOut, operations_in}
 use Rattle.trace_lane.proofs.AdvanceLemmas.{calls-append, leads-append}
+use Rattle.trace_lane.specs.States.{IsLaneOn}
 use Rattle.lane_runner.proofs.RunLemmas.{steppers-append}
 use Rattle.lane_runner.proofs.RunLanes.{contains-none, element_at, ended-at, one-ran, the-same}
 
@@ -28,9 +29,9 @@ lanes-none passed trace c lanes = record {
   moves = [];
   leads = refl;
   by_lanes = All-nil (IsBelow (length lanes));
-  scripts = λ lane before now calls lt was is on.
-      subst (λ s. IsOnScriptOf (operations_in trace lane) s (calls ++ [])) (the-same lanes lane lane before now lt refl was is)
-      (subst (IsOnScriptOf (operations_in trace lane) before) (sym (append-nil calls)) on);
+  calls = λ lane before now calls lt was is on.
+      subst (λ s. IsLaneOn c (operations_in trace lane) s (calls ++ [])) (the-same lanes lane lane before now lt refl was is)
+      (subst (IsLaneOn c (operations_in trace lane) before) (sym (append-nil calls)) on);
   drives = λ earlier on. refl;
   still = λ lane ended. (contains-none lane, ended);
   gates = λ lane before now lt was is gone. subst (HasPassed passed) (the-same lanes lane lane before now lt refl was is) gone;
@@ -59,20 +60,20 @@ lanes-more passed trace a b c old mid new same h k = record {
   leads = leads-append a b c h.moves k.moves h.leads k.leads;
   by_lanes =
       All-append (IsBelow (length old)) h.moves k.moves h.by_lanes (subst (λ n. All (IsBelow n) k.moves) same k.by_lanes);
-  scripts = λ lane before now calls lt was is on.
+  calls = λ lane before now calls lt was is on.
       let here = get_or mid lane before in
       let below : lane < length mid = omega (arith, lt, same) in
       let there : here ≡ get_or mid lane here = get_or_default mid lane before here below in
-      let next = k.scripts lane here now (calls ++ calls_of lane h.moves) below there is (h.scripts lane before here calls lt was there on) in
-      subst (IsOnScriptOf (operations_in trace lane) now)
+      let next = k.calls lane here now (calls ++ calls_of lane h.moves) below there is (h.calls lane before here calls lt was there on) in
+      subst (IsLaneOn c (operations_in trace lane) now)
       (append_assoc calls (calls_of lane h.moves) (calls_of lane k.moves) ∙ ap (λ xs. calls ++ xs) (sym (calls-append lane h.moves k.moves))) next;
   drives = λ earlier on.
       drives-append trace.heap trace.lanes earlier (state_of a) (state_of b) (state_of c) h.moves k.moves (h.drives earlier on)
       (k.drives (earlier ++ h.moves) (λ lane now lt is.
       let below : lane < length old = omega (arith, lt, same) in
       let was = element_at old lane below in
-      subst (IsOnScriptOf (operations_in trace lane) now) (sym (calls-append lane earlier h.moves))
-      (h.scripts lane was.0 now (calls_of lane earlier) below was.1 is (on lane was.0 below was.1))));
+      subst (IsLaneOn b (operations_in trace lane) now) (sym (calls-append lane earlier h.moves))
+      (h.calls lane was.0 now (calls_of lane earlier) below was.1 is (on lane was.0 below was.1))));
   still = λ lane ended.
       let first = h.still lane ended in
       let second = k.still lane first.1 in (

@@ -1,6 +1,5 @@
 -- Rows of operations that were skipped, and what goes with others.
-use Rattle.std.proofs.Common.{◌≡◌, ◌≢◌, ◌<◌, ◌≤◌, ◌+◌, ◌%◌, ◌^◌, ◌∷◌, ◌++◌, List, Option, Some, None, ◌∙◌, [], refl, sym, subst, ℕ, suc, length, sum, arith, Bool, true}
-use Rattle.std.specs.Prelude.{All}
+use Rattle.std.proofs.Common.{◌≡◌, ◌<◌, ◌∷◌, List, Option, Some, None, [], refl, sym, subst, ℕ, suc, length, sum, arith, Bool, true}
 use Rattle.trace_text.specs.declared.trace.Op.{Op}
 use Rattle.lane_outcomes.specs.declared.registers.Held.{Held}
 use Rattle.lane_outcomes.specs.Lane.{held_in, Position, spent_after}

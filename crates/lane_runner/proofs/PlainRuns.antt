@@ -1,6 +1,6 @@
 -- Lanes through caches of depth 0 have run on their passes.
 use Rattle.std.proofs.Common.{ℕ, zero, suc, ◌≡◌, ◌<◌, ◌≤◌, ◌+◌, ◌∷◌, ◌++◌, Option, List, [], Vec, Global, length, get_or, sym, ap, refl, ◌∙◌, subst, arith}
-use Rattle.std.specs.Prelude.{All, Contains, reverse}
+use Rattle.std.specs.Prelude.{All, reverse}
 use Rattle.std.proofs.lemmas.List.{length-append}
 use Rattle.std.proofs.lemmas.List.Elements.{All-from_get_or}
 use Rattle.errand_steps.specs.declared.reply.Reply.{Reply}
@@ -11,7 +11,6 @@ use Rattle.trace_text.specs.declared.trace.Op.{Op}
 use Rattle.trace_text.specs.declared.trace.Trace.{Trace}
 use Rattle.trace_text.specs.Traces.{IsTrace}
 use Rattle.lane_outcomes.specs.declared.outcome.Outcome.{Outcome}
-use Rattle.lane_outcomes.specs.declared.outcome.Outcome.TheVariants.{Spent}
 use Rattle.lane_outcomes.specs.declared.registers.Held.{Held}
 use Rattle.lane_outcomes.specs.Cached.{CachedFits, CachedWalks, cached_start}
 use Rattle.lane_outcomes.specs.Lane.{registers_after}

@@ -8,7 +8,7 @@ use Rattle.heap_geometry.specs.declared.need.Need.TheVariants.{Small}
 use Rattle.heap_geometry.specs.Need.{need_of, usable_words}
 use Rattle.pool_model.specs.declared.event.Event.{Event}
 use Rattle.pool_model.specs.declared.event.Event.TheVariants.{Put, Take, TakeNone}
-use Rattle.pool_model.specs.Calls.{EventsOf, IsGiving, alloc_given, alloc_refused, alloc_spent}
+use Rattle.pool_model.specs.Calls.{EventsOf, IsGiving, alloc_refused, alloc_spent}
 use Rattle.pool_model.specs.Calls as ended
 use Rattle.pool_model.specs.Histories.{Begins, own}
 use Rattle.pool_model.specs.Pool.{Block as PoolBlock, block_at, pool_of}
@@ -35,9 +35,9 @@ use Rattle.lane_outcomes.specs.Lane.{Position, filling, held_in, is_small}
 use Rattle.lane_outcomes.specs.Rows.{AllocRow, CheckRow, FillRow, FitsRow, IsSpent, IsWord, MayAsk, Moment, PutRow, ResizeRow, Setting, TakeRow}
 use Rattle.lane_outcomes.specs.Standing.{setting_in}
 use Rattle.trace_lane.specs.Made.{AreMisses, Skips, register_of}
-use Rattle.lane_runner.proofs.CallAnswers.{ends-spent_call}
+use Rattle.trace_lane.proofs.AnswerLemmas.{ends-spent_call}
 use Rattle.lane_runner.proofs.OutcomeRows.{skip-row, skipped-so, zip-of}
-use Rattle.lane_runner.proofs.TurnCounts.{answered-append, answered-row, answered_in, asked-unspent, counted, giving-count, is-spent, may-ask, piece-count, small-need}
+use Rattle.trace_lane.proofs.TurnLemmas.{answered-append, answered-row, answered_in, asked-unspent, counted, giving-count, is-spent, may-ask, piece-count, small-need}
 use Rattle.lane_runner.specs.Passes.{WholeAt}
 use Rattle.lane_runner.proofs.WholeCalls.{HasKept, alloc-started, called-begun, contents-long, ended-as, steps-under}
 use Rattle.block_cache.specs.declared.cache.Cache.{Cache}

@@ -7,11 +7,8 @@ use Rattle.std.proofs.lemmas.Bool.{cases_eq, ne_eqb}
 use Rattle.heap_geometry.specs.declared.geometry.Geometry.{Geometry}
 use Rattle.pool_model.specs.declared.event.Event.{Event}
 use Rattle.pool_model.specs.Histories.{caller_of, own}
-use Rattle.pool_model.specs.Legal.{IsLegal}
 use Rattle.errand_steps.specs.Steps.{State, event_at, found_at, with_event}
 use Rattle.errand_steps.proofs.EventLemmas.{event_own}
-use Rattle.sound_state.specs.Sound.{IsSound}
-use Rattle.sound_state.proofs.ReachLemmas.{moved-sound}
 use Rattle.lane_engine.specs.Machines.{MovesCore}
 use Rattle.trace_text.specs.declared.trace.Op.{Op}
 use Rattle.trace_text.specs.declared.trace.Trace.{Trace}
@@ -21,19 +18,17 @@ use Rattle.sound_laws.proofs.bounds_lemmas.CountLemmas.{count-append}
 use Rattle.sound_state.specs.Moves.{is_step}
 use Rattle.sound_state.specs.Runs.{Move, Moved, begins, steps}
 use Rattle.step_machine.specs.Cores.{CoreFields, errand_at, state_of}
-use Rattle.step_machine.proofs.CoreLemmas.{core-sound}
 use Rattle.step_machine.specs.Moments.{HasSeenMore}
 use Rattle.lane_engine.specs.declared.grip.Grip.{Grip}
 use Rattle.trace_lane.specs.declared.lane.LaneState.{LaneState}
 use Rattle.trace_lane.specs.Begun.{calls_of}
 use Rattle.lane_runner.specs.Driven.{Drives, IsOnItsWay, mover_of, steppers_of}
 use Rattle.trace_lane.specs.Paths.{IsBy, MovesLead}
-use Rattle.lane_runner.specs.Running.{HasEnded, HasEndedIn, HasPassed, HasRun, IsBelow, IsOnScriptOf, LanesStand, OneRan, operations_in}
+use Rattle.lane_runner.specs.Running.{HasEnded, HasEndedIn, HasPassed, HasRun, IsBelow, LanesStand, OneRan, operations_in}
 use Rattle.trace_lane.specs.Lanes.{IsLane}
-use Rattle.trace_lane.specs.Scripts.{IsOnScript}
-use Rattle.trace_lane.specs.States.{IsLaneOf, StandsOn, progress_on}
+use Rattle.trace_lane.specs.States.{IsLaneOf, IsLaneOn, StandsOn, registers_at}
 use Rattle.lane_engine.specs.Engines.{machine_at}
-use Rattle.trace_lane.proofs.BesideLemmas.{lane-beside, lane_of-beside}
+use Rattle.trace_lane.proofs.EndedLemmas.{lane-beside, lane_of-beside}
 use Rattle.trace_lane.proofs.AdvanceLemmas.{calls-append}
 use Rattle.lane_runner.proofs.RunLemmas.{seen-none}
 
@@ -119,23 +114,27 @@ element_at (x ∷ xs) zero lt = (x, refl)
 element_at (x ∷ xs) (suc k) lt = element_at xs k (omega (arith, lt))
 
 -- a lane that stands still stands as it stood
+still-on :
+    (passed : ℕ → ℕ → Type 0) (c after : CoreFields) (operations mine : List Op) (old new state : LaneState Grip) (made : ℕ) (calls : List Call)
+    → HasRun passed c after operations old new made → state.caller ≢ old.caller → state.caller < c.geometry.callers → IsLaneOn c mine state calls
+    → IsLaneOn after mine state calls
+still-on passed c after operations mine old new state made calls run ne has stands =
+    let saw = run.others state.caller has ne in
+    let first =
+    subst (λ g. IsLaneOf (record (machine_at c state.caller) { geometry = g }) mine state calls) (sym run.heap) stands in
+    let second =
+    subst (λ e. IsLaneOf (record (machine_at after state.caller) { events = c.events; errand = e }) mine state calls) (sym saw.0) first in
+    lane_of-beside (record (machine_at after state.caller) { events = c.events }) after.events mine state calls second saw.1
+
 still-stands :
     (passed : ℕ → ℕ → Type 0) (c after : CoreFields) (operations mine : List Op) (old new state : LaneState Grip) (made : ℕ)
     → HasRun passed c after operations old new made → state.caller ≢ old.caller → StandsOn c mine state → StandsOn after mine state
-still-stands passed c after operations mine old new state made run ne stands =
-    let saw = run.others state.caller stands.has ne in
-    let legal : IsLegal after.geometry after.events = (core-sound after run.stands.core).legal in
-    let has = subst (λ (g : Geometry). state.caller < g.callers) (sym run.heap) stands.has in
-    let first =
-    subst (λ g. IsLaneOf (record (machine_at c state.caller) { geometry = g }) mine state) (sym run.heap) stands.stands in
-    let second =
-    subst (λ e. IsLaneOf (record (machine_at after state.caller) { events = c.events; errand = e }) mine state) (sym saw.0) first in
-    record {
-      core = run.stands.core;
-      has = has;
-      stands =
-          lane_of-beside (record (machine_at after state.caller) { events = c.events }) after.events mine state second saw.1 legal;
-    }
+still-stands passed c after operations mine old new state made run ne stands = record {
+  core = run.stands.core;
+  has = subst (λ (g : Geometry). state.caller < g.callers) (sym run.heap) stands.has;
+  calls = stands.calls;
+  stands = still-on passed c after operations mine old new state made stands.calls run ne stands.has stands.stands;
+}
 
 -- a move of another leaves a lane its errand, and adds no event of the lane's
 other-move :
@@ -155,42 +154,39 @@ other-move c after lane (steps caller) ne moved = (
 -- a lane that stands still is on its way as it was
 way-on :
     (g : Geometry) (operations : List Op) (c after : CoreFields) (lane : ℕ) (earlier : List Move) (move : Move) → lane ≢ mover_of move
-    → MovesCore c move after → IsLegal g after.events → IsOnItsWay g operations lane (state_of c) (calls_of lane earlier)
+    → MovesCore c move after → IsOnItsWay g operations lane (state_of c) (calls_of lane earlier)
     → IsOnItsWay g operations lane (state_of after) (calls_of lane (earlier ++ move ∷ []))
-way-on g operations c after lane earlier move ne moved legal way =
+way-on g operations c after lane earlier move ne moved way =
     let saw = other-move c after lane move ne moved in
     let none : calls_of lane (move ∷ []) ≡ [] = other-calls lane move ne in
+    let calls = calls_of lane earlier in
+    let same : calls ≡ calls_of lane (earlier ++ move ∷ []) =
+    sym (calls-append lane earlier (move ∷ []) ∙ ap (λ xs. calls ++ xs) none ∙ append-nil calls) in
     record {
       registers = way.registers;
       results = way.results;
       at = way.at;
-      script =
-          subst (IsOnScript operations way.registers way.results way.at)
-          (sym (calls-append lane earlier (move ∷ []) ∙ ap (λ xs. calls_of lane earlier ++ xs) none ∙ append-nil (calls_of lane earlier))) way.script;
       rule =
-          lane-beside g lane c.events after.events (errand_at after.errands lane) operations way.registers way.results way.at
-          (subst (λ e. IsLane g lane c.events e operations way.registers way.results way.at) (sym saw.0) way.rule) saw.1 legal;
+          subst (IsLane g lane after.events (errand_at after.errands lane) operations way.registers way.results way.at) same
+          (lane-beside g lane c.events after.events (errand_at after.errands lane) operations way.registers way.results way.at calls
+          (subst (λ e. IsLane g lane c.events e operations way.registers way.results way.at calls) (sym saw.0) way.rule) saw.1);
     }
 
 -- moves of one lane, with all others on their way
 lane-drives :
     (g : Geometry) (all : List (List Op)) (mover : ℕ) (c after : CoreFields) (earlier moves : List Move) → c.geometry ≡ g
-    → IsSound c.geometry (state_of c) → All (IsBy mover) moves → MovesLead c moves after
+    → All (IsBy mover) moves → MovesLead c moves after
     → ((lane : ℕ) → lane < length all → lane ≢ mover → IsOnItsWay g (get_or all lane []) lane (state_of c) (calls_of lane earlier))
     → Drives g all earlier (state_of c) moves (state_of after)
-lane-drives g all mover c after earlier [] heap sound by leads ways = ap state_of leads
-lane-drives g all mover c after earlier (move ∷ moves) heap sound by leads ways =
+lane-drives g all mover c after earlier [] heap by leads ways = ap state_of leads
+lane-drives g all mover c after earlier (move ∷ moves) heap by leads ways =
     let mine : mover_of move ≡ mover = by-mover mover move (All-head (IsBy mover) move moves by) in
-    let next = leads.0 in
-    let sound' = moved-sound c.geometry (state_of c) move (state_of next) sound leads.1.moved in
-    let here = subst (λ h. IsSound h (state_of next)) (sym leads.1.heap) sound' in (
+    let next = leads.0 in (
       state_of next,
       subst (λ g. Moved g (state_of c) move (state_of next)) heap leads.1.moved,
       λ lane lt ne. ways lane lt (λ is. ne (is ∙ sym mine)),
-      lane-drives g all mover next after (earlier ++ move ∷ []) moves (leads.1.heap ∙ heap) here (All-tail (IsBy mover) move moves by) leads.2
-          (λ lane lt ne.
-          way-on g (get_or all lane []) c next lane earlier move (λ is. ne (is ∙ mine)) leads.1
-          (subst (λ g. IsLegal g next.events) heap sound'.legal) (ways lane lt ne)),
+      lane-drives g all mover next after (earlier ++ move ∷ []) moves (leads.1.heap ∙ heap) (All-tail (IsBy mover) move moves by) leads.2
+          (λ lane lt ne. way-on g (get_or all lane []) c next lane earlier move (λ is. ne (is ∙ mine)) leads.1 (ways lane lt ne)),
     )
 
 -- one lane ran
@@ -247,26 +243,30 @@ module _ (passed : ℕ → ℕ → Type 0) (trace : Trace) (c after : CoreFields
   only : steppers_of run.moves ≡ replicate made lane
   only = steppers-by lane run.moves by ∙ ap (λ n. replicate n lane) run.counts
 
-  scripts :
+  calls-after :
       (at : ℕ) (before now : LaneState Grip) (calls : List Call) → at < length lanes → before ≡ get_or lanes at before
-      → now ≡ get_or (set lanes lane new) at now → IsOnScriptOf (operations_in trace at) before calls
-      → IsOnScriptOf (operations_in trace at) now (calls ++ calls_of at run.moves)
-  scripts at before now calls h was there on =
+      → now ≡ get_or (set lanes lane new) at now → IsLaneOn c (operations_in trace at) before calls
+      → IsLaneOn after (operations_in trace at) now (calls ++ calls_of at run.moves)
+  calls-after at before now calls h was there on =
       elim (placed lanes lane new at now lt there) [
         | that_one same new_is ↦
             let mine : before ≡ old =
             the-same lanes lane at before old lt same was is in
-            let on' = subst (λ k. IsOnScriptOf (operations_in trace k) old calls) same (subst (λ s. IsOnScriptOf (operations_in trace at) s calls) mine on) in
-            let next = run.script calls on' in
-            subst (λ s. IsOnScriptOf (operations_in trace at) s (calls ++ calls_of at run.moves)) (sym new_is)
-            (subst (λ k. IsOnScriptOf (operations_in trace k) new (calls ++ calls_of k run.moves)) (sym same)
-            (subst (λ k. IsOnScriptOf (operations_in trace lane) new (calls ++ calls_of k run.moves)) number next))
+            let on' = subst (λ k. IsLaneOn c (operations_in trace k) old calls) same (subst (λ s. IsLaneOn c (operations_in trace at) s calls) mine on) in
+            let next = run.calls calls on' in
+            subst (λ s. IsLaneOn after (operations_in trace at) s (calls ++ calls_of at run.moves)) (sym new_is)
+            (subst (λ k. IsLaneOn after (operations_in trace k) new (calls ++ calls_of k run.moves)) (sym same)
+            (subst (λ k. IsLaneOn after (operations_in trace lane) new (calls ++ calls_of k run.moves)) number next))
         | other_one ne stood ↦
             let mine : before ≡ now = the-same lanes at at before now h refl was stood in
             let none : calls ≡ calls ++ calls_of at run.moves =
             sym (ap (λ xs. calls ++ xs) (calls-other lane at run.moves ne by) ∙ append-nil calls) in
-            subst (λ s. IsOnScriptOf (operations_in trace at) s (calls ++ calls_of at run.moves)) mine
-            (subst (IsOnScriptOf (operations_in trace at) before) none on)
+            let its = stand.numbered at before h was in
+            let stays =
+            still-on passed c after (operations_in trace lane) (operations_in trace at) old new before made calls run
+            (λ e. ne (sym its ∙ e ∙ number)) (stand.each at before h was).has on in
+            subst (λ s. IsLaneOn after (operations_in trace at) s (calls ++ calls_of at run.moves)) mine
+            (subst (IsLaneOn after (operations_in trace at) before) none stays)
       ]
 
   pub ended-at : (at : ℕ) → at ≡ lane → HasEnded (operations_in trace lane) new → HasEndedIn trace (set lanes lane new) at
@@ -283,25 +283,25 @@ module _ (passed : ℕ → ℕ → Type 0) (trace : Trace) (c after : CoreFields
   drives :
       (earlier : List Move)
       → ((at : ℕ) (state : LaneState Grip) → at < length lanes → state ≡ get_or lanes at state
-      → IsOnScriptOf (operations_in trace at) state (calls_of at earlier))
+      → IsLaneOn c (operations_in trace at) state (calls_of at earlier))
       → Drives trace.heap trace.lanes earlier (state_of c) run.moves (state_of after)
   drives earlier on =
-      lane-drives trace.heap trace.lanes lane c after earlier run.moves stand.heap (core-sound c stand.core) by run.leads
+      lane-drives trace.heap trace.lanes lane c after earlier run.moves stand.heap by run.leads
       (λ at lt' ne.
       let below : at < length lanes = omega (arith, lt', stand.all) in
       let it = element_at lanes at below in
       let mine = stand.numbered at it.0 below it.1 in
-      let stood = stand.each at it.0 below it.1 in
-      let p = progress_on it.0 in
+      let calls = calls_of at earlier in
+      let held = registers_at (machine_at c it.0.caller) it.0.registers.items in
+      let results = it.0.outcomes.items in
       record {
-        registers = p.registers;
-        results = p.results;
-        at = p.at;
-        script = on at it.0 below it.1;
+        registers = held;
+        results = results;
+        at = it.0.stage;
         rule =
-            subst (λ g. IsLane g at c.events (errand_at c.errands at) (operations_in trace at) p.registers p.results p.at) stand.heap
-            (subst (λ k. IsLane c.geometry k c.events (errand_at c.errands k) (operations_in trace at) p.registers p.results p.at) mine
-            stood.stands.stands);
+            subst (λ g. IsLane g at c.events (errand_at c.errands at) (operations_in trace at) held results it.0.stage calls) stand.heap
+            (subst (λ k. IsLane c.geometry k c.events (errand_at c.errands k) (operations_in trace at) held results it.0.stage calls) mine
+            (on at it.0 below it.1).stands);
       })
 
   still : (at : ℕ) → HasEndedIn trace lanes at → (¬ Contains (steppers_of run.moves) at) × HasEndedIn trace (set lanes lane new) at
@@ -344,7 +344,7 @@ module _ (passed : ℕ → ℕ → Type 0) (trace : Trace) (c after : CoreFields
       moves = run.moves;
       leads = run.leads;
       by_lanes = All-weaker (IsBy lane) (IsBelow (length lanes)) (λ move b. by-below (length lanes) lane move lt b) run.moves by;
-      scripts = scripts;
+      calls = calls-after;
       drives = drives;
       still = still;
       gates = gates;

@@ -1,5 +1,5 @@
 -- Advances of one lane on a machine, one after another.
-use Rattle.std.proofs.Common.{drop, ℕ, ◌≡◌, ◌<◌, ◌+◌, Bool, true, false, if◌then◌else◌, List, [], ◌∷◌, ◌++◌, length, refl, sym, ap, ◌∙◌, subst, inl, inr, arith, append_assoc}
+use Rattle.std.proofs.Common.{ℕ, ◌≡◌, ◌<◌, ◌+◌, Bool, true, false, if◌then◌else◌, List, [], ◌∷◌, ◌++◌, length, refl, sym, ap, ◌∙◌, subst, inl, inr, arith, append_assoc}
 use Rattle.std.specs.Prelude.{All, count_by}
 use Rattle.std.proofs.lemmas.List.{append-nil}
 use Rattle.std.proofs.lemmas.List.Elements.{All-nil, All-append}
@@ -20,13 +20,14 @@ use Rattle.trace_lane.specs.declared.lane.LaneState.{LaneState}
 use Rattle.trace_lane.specs.declared.stage.OperationStage.TheVariants as stage
 use Rattle.trace_lane.specs.Begun.{calls_of}
 use Rattle.lane_runner.specs.Driven.{steppers_of}
-use Rattle.trace_lane.specs.Lanes.{IsAt}
-use Rattle.trace_lane.specs.Paths.{IsBy, MovesLead, FirstPassed, HasAdvanced, begun_count}
-use Rattle.lane_runner.specs.Running.{HasEnded, HasRun, IsOnScriptOf}
-use Rattle.trace_lane.specs.Advances.{AdvancesOn}
+use Rattle.trace_lane.specs.Paths.{IsBy, MovesLead, FirstPassed, begun_count}
+use Rattle.lane_runner.specs.Running.{HasEnded, HasRun}
+use Rattle.trace_lane.specs.Advances.{AdvancesOn, HasAdvanced}
 use Rattle.trace_lane.specs.Scripts.{script_left}
 use Rattle.trace_lane.proofs.AdvanceLemmas.{calls-append, leads-append, steps-append}
-use Rattle.trace_lane.specs.States.{StandsOn, progress_on}
+use Rattle.trace_lane.specs.States.{IsLaneOn, StandsOn, registers_at}
+use Rattle.lane_engine.specs.Engines.{machine_at}
+use Rattle.trace_lane.proofs.EndedLemmas.{lane-resting}
 
 -- the callers that made steps, of moves one after the other
 pub steppers-append : (first second : List Move) → steppers_of (first ++ second) ≡ steppers_of first ++ steppers_of second
@@ -59,7 +60,7 @@ ran-none passed c operations lane stands = record {
   leads = refl;
   by_caller = All-nil (IsBy lane.caller);
   counts = refl;
-  script = λ calls on. subst (IsOnScriptOf operations lane) (sym (append-nil calls)) on;
+  calls = λ calls on. subst (IsLaneOn c operations lane) (sym (append-nil calls)) on;
   stands = stands;
   others = λ other has apart. (refl, seen-none other c.events);
   still = λ ended. (refl, ended);
@@ -79,13 +80,13 @@ ran-more passed a b c operations old mid new m n h k =
       leads = leads-append a b c h.moves k.moves h.leads k.leads;
       by_caller = All-append (IsBy old.caller) h.moves k.moves h.by_caller by;
       counts = steps-append h.moves k.moves ∙ (let e = h.counts in let f = k.counts in cc);
-      script = λ calls on.
-          let next = k.script (calls ++ calls_of old.caller h.moves) (h.script calls on) in
+      calls = λ calls on.
+          let next = k.calls (calls ++ calls_of old.caller h.moves) (h.calls calls on) in
           let same : (calls ++ calls_of old.caller h.moves) ++ calls_of mid.caller k.moves ≡ calls ++ calls_of old.caller (h.moves ++ k.moves) =
           ap (λ caller. (calls ++ calls_of old.caller h.moves) ++ calls_of caller k.moves) h.caller
           ∙ append_assoc calls (calls_of old.caller h.moves) (calls_of old.caller k.moves)
           ∙ ap (λ xs. calls ++ xs) (sym (calls-append old.caller h.moves k.moves)) in
-          subst (IsOnScriptOf operations new) same next;
+          subst (IsLaneOn c operations new) same next;
       stands = k.stands;
       others = λ other has apart.
           let first = h.others other has apart in
@@ -104,9 +105,8 @@ pub between-idle :
     (c : CoreFields) (operations : List Op) (lane : LaneState Grip) → StandsOn c operations lane → lane.stage ≡ stage.Between
     → IsIdle (errand_at c.errands lane.caller)
 between-idle c operations lane stands is =
-    let l = stands.stands.stands in
-    let at = subst (λ at. IsAt lane.caller c.events (errand_at c.errands lane.caller) l.position (progress_on lane).registers (drop (length lane.outcomes.items) operations) at l.added) is l.stands in
-    at.0
+    (lane-resting c.geometry lane.caller c.events (errand_at c.errands lane.caller) operations
+    (registers_at (machine_at c lane.caller) lane.registers.items) lane.outcomes.items lane.stage stands.calls is stands.stands.stands).rests.idle
 
 -- a step is made by a caller in a call
 first-idle :
@@ -128,8 +128,7 @@ ended-left operations lane ended = omega (arith, ended.all)
 -- a lane that has ended makes no step, and stays so
 ended-stays :
     (c after : CoreFields) (operations : List Op) (old new : LaneState Grip) (made : Bool) → StandsOn c operations old
-    → HasAdvanced c after old.caller operations (progress_on old)
-    (progress_on new) made
+    → HasAdvanced c after old.caller operations old new made
     → HasEnded operations old → (made ≡ false) × HasEnded operations new
 ended-stays c after operations old new made stands advanced ended =
     let idle = between-idle c operations old stands ended.between in
@@ -164,7 +163,7 @@ advanced-ran passed c after operations old new made stands goes = record {
   leads = goes.advanced.leads;
   by_caller = goes.advanced.by_caller;
   counts = goes.advanced.one_step;
-  script = goes.advanced.script;
+  calls = goes.advanced.script;
   stands = goes.stands;
   others = λ other has apart. goes.others other apart;
   still = λ ended.

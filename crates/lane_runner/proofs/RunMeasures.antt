@@ -1,5 +1,5 @@
 -- A lane that runs alone ends: each of its advances leaves less of its script, or fewer steps of its call.
-use Rattle.std.proofs.Common.{ℕ, ◌≡◌, ◌<◌, ◌≤◌, ◌+◌, ◌*◌, ◌^◌, ◌⊎◌, Bool, true, false, not, if◌then◌else◌, Option, Some, None, List, [], ◌∷◌, ◌++◌, length, length-append, drop, refl, sym, ap, ◌∙◌, subst, inl, inr, arith}
+use Rattle.std.proofs.Common.{ℕ, ◌≡◌, ◌<◌, ◌≤◌, ◌+◌, ◌*◌, ◌^◌, ◌⊎◌, Bool, true, false, not, if◌then◌else◌, Option, Some, None, List, [], ◌∷◌, ◌++◌, length, length-append, refl, sym, ap, ◌∙◌, subst, inl, inr, arith}
 use Rattle.std.proofs.lemmas.Bool.{true≢false}
 use Rattle.heap_geometry.specs.declared.geometry.Geometry.{Geometry}
 use Rattle.heap_geometry.specs.declared.limits.TheConstants.{CALL_STEPS}
@@ -9,7 +9,6 @@ use Rattle.pool_model.specs.Histories.{caller_of, own}
 use Rattle.pool_model.proofs.HistoryLemmas.{own-append}
 use Rattle.pool_model.proofs.OwnerLemmas.{own-none}
 use Rattle.trace_text.specs.declared.trace.Op.{Op}
-use Rattle.trace_text.specs.declared.trace.Op.TheVariants as op
 use Rattle.step_parts.specs.declared.large.point.LargePoint.TheVariants as large
 use Rattle.step_parts.specs.declared.superblock.point.BlockPoint.{BlockPoint}
 use Rattle.step_parts.specs.declared.superblock.point.BlockPoint.TheVariants as block
@@ -49,18 +48,11 @@ use Rattle.sound_laws.proofs.bounds_lemmas.StaleLemmas.{none-stale}
 use Rattle.step_machine.specs.Cores.{CoreFields, IsCore, errand_at, state_of}
 use Rattle.step_machine.proofs.CoreLemmas.{core-sound}
 use Rattle.lane_engine.specs.declared.grip.Grip.{Grip}
-use Rattle.lane_outcomes.specs.declared.outcome.Outcome.{Outcome}
-use Rattle.lane_outcomes.specs.declared.registers.Held.{Held}
-use Rattle.lane_outcomes.specs.Lane.{Position}
 use Rattle.trace_lane.specs.declared.lane.LaneState.{LaneState}
-use Rattle.trace_lane.specs.declared.stage.OperationStage.{OperationStage}
-use Rattle.trace_lane.specs.declared.stage.OperationStage.TheVariants as stage
-use Rattle.trace_lane.specs.Lanes.{IsAt}
-use Rattle.trace_lane.specs.Operations.{IsDoing}
-use Rattle.trace_lane.specs.Paths.{MovesLead, StaysInCall}
+use Rattle.trace_lane.specs.Paths.{MovesLead}
 use Rattle.trace_lane.specs.Scripts.{script_left}
-use Rattle.trace_lane.specs.Advances.{AdvancesOn}
-use Rattle.trace_lane.specs.States.{StandsOn, progress_on}
+use Rattle.trace_lane.specs.Advances.{AdvancesOn, StaysInCall}
+use Rattle.trace_lane.specs.States.{StandsOn}
 
 -- a take isn't under way in a superblock, nor at a stack, at the descriptors or at a partial superblock
 block-none : (caller k : ℕ) (p : BlockPoint) (o : Continuation) (added : List Event) → SoFar caller (take k) (block_stage p o) added → ⊥
@@ -101,67 +93,6 @@ missed-lost caller k e (point.Large (large.TakeBlock shelf place need) o) x adde
 missed-lost caller k e (point.Large (large.ConfirmNothing shelf) o) x added way idle none =
     won-none x.won (TakeNone caller shelf) none
 missed-lost caller k e (point.Large p o) x added way idle none = absurd way
-
--- a take was under way before, where one has begun again and the stage is the same
-doing-take :
-    (caller shelf : ℕ) (events events' : List Event) (p : Point) (position position' : Position) (registers registers' : List (Option Held)) (operation : Op)
-    (at : OperationStage) (added added' : List Event) → IsDoing caller events p position registers operation at added
-    → IsDoing caller events' (point.Large (large.LoadShelf shelf) continuation.Nothing) position' registers' operation at added'
-    → (k : ℕ) × IsUnderWay caller (take k) p added
-doing-take caller shelf events events' p position position' registers registers' (op.Alloc r need v) stage.Calling added added' d d' = absurd d'.3
-doing-take caller shelf events events' p position position' registers registers' (op.Alloc r need v) (stage.Filling next) added added' d d' =
-    absurd d'.4.writing.under_way
-doing-take caller shelf events events' p position position' registers registers' (op.Free r) stage.Calling added added' d d' = absurd d'.under_way
-doing-take caller shelf events events' p position position' registers registers' (op.Fill r v) (stage.Filling next) added added' d d' =
-    absurd d'.3.under_way
-doing-take caller shelf events events' p position position' registers registers' (op.Check r) (stage.Summing next total) added added' d d' =
-    absurd d'.3.under_way
-doing-take caller shelf events events' p position position' registers registers' (op.Put r k) stage.Calling added added' d d' = absurd d'.under_way
-doing-take caller shelf events events' p position position' registers registers' (op.Take r k) stage.Calling added added' d d' = (k, d.2)
-doing-take caller shelf events events' p position position' registers registers' (op.Resize r need) stage.Calling added added' d d' =
-    absurd d'.under_way
-doing-take caller shelf events events' p position position' registers registers' (op.Resize r need) (stage.Copying old next None) added added' d d' =
-    absurd d'.under_way
-doing-take caller shelf events events' p position position' registers registers' (op.Resize r need) (stage.Copying old next (Some word)) added added' d d' =
-    absurd d'.under_way
-doing-take caller shelf events events' p position position' registers registers' (op.Resize r need) stage.Releasing added added' d d' =
-    absurd d'.under_way
-doing-take caller shelf events events' p position position' registers registers' operation at added added' d d' = absurd d
-
-under-take :
-    (caller shelf : ℕ) (events events' : List Event) (p : Point) (position position' : Position) (registers registers' : List (Option Held)) (operations : List Op)
-    (at : OperationStage) (added added' : List Event)
-    → (operation : Op) × (rest : List Op) × (operations ≡ operation ∷ rest) × IsDoing caller events p position registers operation at added
-    → (operation : Op) × (rest : List Op) × (operations ≡ operation ∷ rest)
-    × IsDoing caller events' (point.Large (large.LoadShelf shelf) continuation.Nothing) position' registers' operation at added'
-    → (k : ℕ) × IsUnderWay caller (take k) p added
-under-take caller shelf events events' p position position' registers registers' operations at added added' d d' =
-    let same : d'.0 ≡ d.0 = (let e = d.2 in let f = d'.2 in cc) in
-    doing-take caller shelf events events' p position position' registers registers' d.0 at added added' d.3
-    (subst (λ operation. IsDoing caller events' (point.Large (large.LoadShelf shelf) continuation.Nothing) position' registers' operation at added') same d'.3)
-
-at-take :
-    (caller shelf : ℕ) (events events' : List Event) (e e' : ErrandFields) (position position' : Position) (registers registers' : List (Option Held))
-    (operations : List Op) (at : OperationStage) (added added' : List Event) → IsAt caller events e position registers operations at added
-    → IsAt caller events' e' position' registers' operations at added' → e'.point ≡ point.Large (large.LoadShelf shelf) continuation.Nothing
-    → (k : ℕ) × IsUnderWay caller (take k) e.point added
-at-take caller shelf events events' e e' position position' registers registers' operations stage.Between added added' d d' is =
-    absurd (true≢false (sym d'.0 ∙ ap is_idle is))
-at-take caller shelf events events' e e' position position' registers registers' operations stage.Calling added added' d d' is =
-    under-take caller shelf events events' e.point position position' registers registers' operations stage.Calling added added' d
-    (d'.0, d'.1, d'.2, subst (λ p. IsDoing caller events' p position' registers' d'.0 stage.Calling added') is d'.3)
-at-take caller shelf events events' e e' position position' registers registers' operations (stage.Filling next) added added' d d' is =
-    under-take caller shelf events events' e.point position position' registers registers' operations (stage.Filling next) added added' d
-    (d'.0, d'.1, d'.2, subst (λ p. IsDoing caller events' p position' registers' d'.0 (stage.Filling next) added') is d'.3)
-at-take caller shelf events events' e e' position position' registers registers' operations (stage.Summing next total) added added' d d' is =
-    under-take caller shelf events events' e.point position position' registers registers' operations (stage.Summing next total) added added' d
-    (d'.0, d'.1, d'.2, subst (λ p. IsDoing caller events' p position' registers' d'.0 (stage.Summing next total) added') is d'.3)
-at-take caller shelf events events' e e' position position' registers registers' operations (stage.Copying old next word) added added' d d' is =
-    under-take caller shelf events events' e.point position position' registers registers' operations (stage.Copying old next word) added added' d
-    (d'.0, d'.1, d'.2, subst (λ p. IsDoing caller events' p position' registers' d'.0 (stage.Copying old next word) added') is d'.3)
-at-take caller shelf events events' e e' position position' registers registers' operations stage.Releasing added added' d d' is =
-    under-take caller shelf events events' e.point position position' registers registers' operations stage.Releasing added added' d
-    (d'.0, d'.1, d'.2, subst (λ p. IsDoing caller events' p position' registers' d'.0 stage.Releasing added') is d'.3)
 
 -- an event of the caller's would be seen
 append-none : (xs ys : List Event) → xs ++ ys ≡ xs → ys ≡ []
@@ -254,45 +185,16 @@ tried-falls c after caller shelf k added core has leads same way =
     subst P (sym leads.2.2)
     (subst (λ g. alone_left g (state_of end) caller < alone_left c.geometry (state_of c) caller) (sym (leads.2.1.heap ∙ leads.1.heap)) falls)
 
--- the point at which a take has begun
-begun-point :
-    (c after : CoreFields) (caller shelf : ℕ) → MovesLead c (steps caller ∷ begins caller (take shelf) ∷ []) after
-    → (errand_at after.errands caller).point ≡ point.Large (large.LoadShelf shelf) continuation.Nothing
-unfolding take_begun
-begun-point c after caller shelf leads =
-    ap (λ (d : CoreFields). (errand_at d.errands caller).point) leads.2.2
-    ∙ ap (λ (t : State). (t.errand caller).point) leads.2.1.moved.1.after
-    ∙ ap (λ (e : ErrandFields). e.point) leads.2.1.moved.1.moves.here
-
 alone-left-falls :
-    (c after : CoreFields) (operations : List Op) (old new : LaneState Grip) (moves : List Move) → StandsOn c operations old
-    → StandsOn after operations new → new.caller ≡ old.caller → MovesLead c moves after → count_by is_step moves ≡ 1
-    → new.outcomes.items ≡ old.outcomes.items → new.stage ≡ old.stage
-    → StaysInCall old.caller c.events after.events moves ⊎ (moves ≡ [])
+    (c after : CoreFields) (operations : List Op) (old new : LaneState Grip) (moves : List Move) → StandsOn c operations old → MovesLead c moves after
+    → count_by is_step moves ≡ 1 → StaysInCall old.caller c after moves ⊎ (moves ≡ [])
     → alone_left after.geometry (state_of after) old.caller < alone_left c.geometry (state_of c) old.caller
-alone-left-falls c after operations old new moves stands now caller leads one results same stays =
+alone-left-falls c after operations old new moves stands leads one stays =
     elim stays [
       | inl goes ↦ elim goes [
         | inl is ↦ step-falls c after old.caller stands.core stands.has (subst (λ moves. MovesLead c moves after) is leads)
         | inr again ↦
-            let lead = subst (λ moves. MovesLead c moves after) again.1 leads in
-            let l = stands.stands.stands in
-            let l' = now.stands.stands in
-            let registers' = (progress_on new).registers in
-            let first =
-            subst (λ caller. IsAt caller after.events (errand_at after.errands caller) l'.position registers'
-            (drop (length new.outcomes.items) operations) new.stage l'.added) caller l'.stands in
-            let second =
-            subst (λ (results : List Outcome). IsAt old.caller after.events (errand_at after.errands old.caller) l'.position registers'
-            (drop (length results) operations) new.stage l'.added) results first in
-            let third =
-            subst (λ at. IsAt old.caller after.events (errand_at after.errands old.caller) l'.position registers'
-            (drop (length old.outcomes.items) operations) at l'.added) same second in
-            let way =
-            at-take old.caller again.0 c.events after.events (errand_at c.errands old.caller) (errand_at after.errands old.caller) l.position l'.position
-            (progress_on old).registers registers' (drop (length old.outcomes.items) operations)
-            old.stage l.added l'.added l.stands third (begun-point c after old.caller again.0 lead) in
-            tried-falls c after old.caller again.0 way.0 l.added stands.core stands.has lead again.2 way.1
+            tried-falls c after old.caller again.0 again.0 [] stands.core stands.has (subst (λ moves. MovesLead c moves after) again.1 leads) again.2 again.3
       ]
       | inr is ↦ absurd (let e : count_by is_step moves ≡ 0 = ap (count_by is_step) is in omega (arith, one, e))
     ]
@@ -306,6 +208,5 @@ advance-falls passed c after operations old new stands goes =
       | inr same ↦ below-alone _ _ _ _
           (let e = same.0 in let f = same.1 in cc)
           (subst (λ k. alone_left after.geometry (state_of after) k < alone_left c.geometry (state_of c) old.caller) (sym goes.caller)
-          (alone-left-falls c after operations old new goes.advanced.moves stands goes.stands goes.caller goes.advanced.leads goes.advanced.one_step same.0
-          same.1 same.2))
+          (alone-left-falls c after operations old new goes.advanced.moves stands goes.advanced.leads goes.advanced.one_step same.2))
     ]

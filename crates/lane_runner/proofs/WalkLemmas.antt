@@ -16,8 +16,8 @@ use Rattle.lane_outcomes.specs.Rows.{Setting}
 use Rattle.lane_outcomes.specs.Standing.{setting_in}
 use Rattle.trace_lane.specs.Made.{AllMade, MadeFor, register_of}
 use Rattle.lane_runner.proofs.OutcomeRows.{spent-still}
-use Rattle.lane_runner.proofs.TurnCounts.{answered_in}
-use Rattle.lane_runner.proofs.ClosedFits.{spent-on}
+use Rattle.trace_lane.proofs.TurnLemmas.{answered_in}
+use Rattle.trace_lane.proofs.FitLemmas.{spent-on}
 use Rattle.lane_runner.proofs.WholeCalls.{IsOnward, onward-none, onward-then}
 use Rattle.block_cache.specs.declared.cache.Cache.{Cache}
 use Rattle.block_cache.specs.Whole.{RestsAt}

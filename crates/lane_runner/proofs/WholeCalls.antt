@@ -1,5 +1,5 @@
 -- What whole calls of a pass leave: how their caller goes on, and what it keeps.
-use Rattle.std.proofs.Common.{ℕ, zero, suc, true, false, ◌≡◌, ◌∷◌, ◌++◌, List, refl, sym, ◌∙◌, subst, ◌<◌, ◌≤◌, ◌+◌, ◌%◌, ◌^◌, ◌≢◌, [], Some, None, length, map, ap, inl, inr, arith, append-nil, append_assoc}
+use Rattle.std.proofs.Common.{ℕ, zero, suc, true, false, ◌≡◌, ◌∷◌, ◌++◌, List, refl, sym, ◌∙◌, subst, ◌<◌, ◌≤◌, ◌+◌, ◌≢◌, [], Some, None, length, map, ap, inl, inr, arith, append-nil, append_assoc}
 use Rattle.pool_model.specs.declared.event.Event.{Event}
 use Rattle.errand_steps.specs.Begins.{IsBusy, IsIdle, alloc_answer}
 use Rattle.errand_steps.specs.Calls.{Call, alloc, free, write, read, put, take, begun_by}
@@ -16,7 +16,8 @@ use Rattle.live_heap.specs.declared.pass.Pass.{Pass}
 use Rattle.live_heap.specs.Calls.{HasCalled, StepsOn}
 use Rattle.live_heap.specs.Passes.{seen, view}
 use Rattle.live_heap.specs.Whole.{IsAtRest, OwnsFor, MadeByPass, by_steps, at_once}
-use Rattle.lane_runner.proofs.CallAnswers.{HasBegun, MayCall, call-begun, ends-read, goes-on as call-goes_on, moved-on, settled-of}
+use Rattle.trace_lane.proofs.HoldsLemmas.{leads-split}
+use Rattle.trace_lane.proofs.AnswerLemmas.{HasBegun, MayCall, call-begun, ends-read, goes-on as call-goes_on, moved-on, settled-of}
 use Rattle.sound_laws.specs.events.Made.{Made, LeadsBy, answered, copied, copied_word}
 use Rattle.std.specs.Prelude.{min}
 use Rattle.std.specs.List.{flat_map, range_with_len, slice_index_or}
@@ -201,14 +202,6 @@ below-both i m n one two =
       | inl less ↦ let le : m ≤ n = omega (arith, less) in subst (λ k. i < k) (sym (min-eq_left le)) one
       | inr more ↦ subst (λ k. i < k) (sym (min-eq_right more)) two
     ]
-
--- calls and then others lead through a state between them
-pub leads-split :
-    {S : Type 0} (called : S → Call → Reply → S → Type 0) (s u : S) (made more : List Made) → LeadsBy called s (made ++ more) u
-    → (t : S) × LeadsBy called s made t × LeadsBy called t more u
-leads-split called s u [] more leads = (s, refl, leads)
-leads-split called s u (m ∷ made) more (t, one, leads) =
-    let rest = leads-split called t u made more leads in (rest.0, (t, one, rest.1), rest.2)
 
 -- what a lane writes into the new block: the words that were read of the old one, and 0 behind them
 abbrev pub value_of : List ℕ → ℕ → ℕ

@@ -23,7 +23,7 @@ use Rattle.trace_lane.specs.Begun.{calls_of}
 use Rattle.trace_lane.specs.declared.stage.OperationStage.{OperationStage}
 use Rattle.trace_lane.specs.declared.stage.OperationStage.TheVariants as stage
 use Rattle.trace_lane.specs.Lanes.{IsLane}
-use Rattle.trace_lane.specs.Scripts.{IsOnScript, Scripts}
+use Rattle.trace_lane.specs.Scripts.{Scripts}
 
 -- who makes each of the steps among moves
 abbrev pub steppers_of : List Move → List ℕ
@@ -31,13 +31,12 @@ steppers_of [] = []
 steppers_of (begins caller call ∷ moves) = steppers_of moves
 steppers_of (steps caller ∷ moves) = caller ∷ steppers_of moves
 
--- a lane of these operations that has begun these calls is on its script, and stands by its rule in this state: its outcomes so far fit its events so far
+-- a lane of these operations that has begun these calls stands by its rule in this state
 pub record IsOnItsWay (g : Geometry) (operations : List Op) (lane : ℕ) (s : State) (calls : List Call) : Type 0 where
   pub registers : List (Option Held)
   pub results : List Outcome
   pub at : OperationStage
-  pub script : IsOnScript operations registers results at calls
-  pub rule : IsLane g lane s.history (s.errand lane) operations registers results at
+  pub rule : IsLane g lane s.history (s.errand lane) operations registers results at calls
 
 -- the caller whose move it is
 abbrev pub mover_of : Move → ℕ
@@ -59,10 +58,10 @@ Drives g lanes earlier s (move ∷ rest) s' =
 abbrev pub lost_by_all : CoreFields → ℕ
 lost_by_all c = callers_sum c.geometry lost_of (errand_at c.errands)
 
--- a lane of these operations stands by its rule in this state, behind its last operation, with these outcomes
-pub record IsAtItsEnd (g : Geometry) (operations : List Op) (lane : ℕ) (s : State) (results : List Outcome) : Type 0 where
+-- a lane of these operations stands by its rule in this state, behind its last operation, with these outcomes, and has begun these calls
+pub record IsAtItsEnd (g : Geometry) (operations : List Op) (lane : ℕ) (s : State) (results : List Outcome) (calls : List Call) : Type 0 where
   pub registers : List (Option Held)
-  pub rule : IsLane g lane s.history (s.errand lane) operations registers results stage.Between
+  pub rule : IsLane g lane s.history (s.errand lane) operations registers results stage.Between calls
 
 -- lanes of a trace have run on this machine since its opening, in this order: moves of its lanes led to it, and each lane is on its way
 pub record IsDrivenSoFar (trace : Trace) (orders : List OrderRun) (c : CoreFields) : Type 0 where
@@ -86,6 +85,6 @@ pub record IsDriven (trace : Trace) (orders : List OrderRun) (c : CoreFields) (o
       → Scripts (replicate REGISTERS None) (slice_index_or trace.lanes lane []) (slice_index_or outcomes lane []) (calls_of lane so_far.moves)
   pub ended :
       (lane : ℕ) → lane < length trace.lanes
-      → IsAtItsEnd trace.heap (slice_index_or trace.lanes lane []) lane (state_of c) (slice_index_or outcomes lane [])
+      → IsAtItsEnd trace.heap (slice_index_or trace.lanes lane []) lane (state_of c) (slice_index_or outcomes lane []) (calls_of lane so_far.moves)
   pub idle : (caller : ℕ) → caller < trace.heap.callers → IsIdle (errand_at c.errands caller)
   pub fit : OutcomesFit trace.heap c.events (lost_by_all c) trace.lanes outcomes

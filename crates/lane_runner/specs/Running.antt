@@ -17,18 +17,12 @@ use Rattle.trace_lane.specs.Begun.{calls_of}
 use Rattle.lane_runner.specs.Driven.{Drives, steppers_of}
 use Rattle.lane_runner.specs.Orders.{InOrder, OneByOne}
 use Rattle.trace_lane.specs.Paths.{IsBy, MovesLead, FirstPassed, begun_count}
-use Rattle.trace_lane.specs.Scripts.{IsOnScript}
-use Rattle.trace_lane.specs.States.{StandsOn, progress_on}
+use Rattle.trace_lane.specs.States.{IsLaneOn, StandsOn}
 
 -- no operation of the lane is under way, and none is left
 pub record HasEnded (operations : List Op) (lane : LaneState Grip) : Type 0 where
   pub between : lane.stage ≡ stage.Between
   pub all : length lane.outcomes.items ≡ length operations
-
--- a lane that has begun these calls is on its script
-abbrev pub IsOnScriptOf : List Op → LaneState Grip → List Call → Type 0
-IsOnScriptOf operations lane calls =
-    let p = progress_on lane in IsOnScript operations p.registers p.results p.at calls
 
 -- as many operations as a lane has begun have passed the gate
 abbrev pub HasPassed : (ℕ → ℕ → Type 0) → LaneState Grip → Type 0
@@ -42,7 +36,7 @@ pub record HasRun (passed : ℕ → ℕ → Type 0) (c after : CoreFields) (oper
   pub leads : MovesLead c moves after
   pub by_caller : All (IsBy old.caller) moves
   pub counts : count_by is_step moves ≡ made
-  pub script : (calls : List Call) → IsOnScriptOf operations old calls → IsOnScriptOf operations new (calls ++ calls_of old.caller moves)
+  pub calls : (calls : List Call) → IsLaneOn c operations old calls → IsLaneOn after operations new (calls ++ calls_of old.caller moves)
   pub stands : StandsOn after operations new
   pub others :
       (other : ℕ) → other < c.geometry.callers → other ≢ old.caller
@@ -93,14 +87,14 @@ pub record LanesRan (passed : ℕ → ℕ → Type 0) (trace : Trace) (c after :
   pub moves : List Move
   pub leads : MovesLead c moves after
   pub by_lanes : All (IsBelow (length old)) moves
-  pub scripts :
+  pub calls :
       (lane : ℕ) (before now : LaneState Grip) (calls : List Call) → lane < length old → before ≡ slice_index_or old lane before
-      → now ≡ slice_index_or new lane now → IsOnScriptOf (operations_in trace lane) before calls
-      → IsOnScriptOf (operations_in trace lane) now (calls ++ calls_of lane moves)
+      → now ≡ slice_index_or new lane now → IsLaneOn c (operations_in trace lane) before calls
+      → IsLaneOn after (operations_in trace lane) now (calls ++ calls_of lane moves)
   pub drives :
       (earlier : List Move)
       → ((lane : ℕ) (state : LaneState Grip) → lane < length old → state ≡ slice_index_or old lane state
-      → IsOnScriptOf (operations_in trace lane) state (calls_of lane earlier))
+      → IsLaneOn c (operations_in trace lane) state (calls_of lane earlier))
       → Drives trace.heap trace.lanes earlier (state_of c) moves (state_of after)
   pub still : (lane : ℕ) → HasEndedIn trace old lane → (¬ Contains (steppers_of moves) lane) × HasEndedIn trace new lane
   pub gates :

@@ -180,9 +180,9 @@ pub fn run_core<G: Gate>(
     ensures stopped { OnErr result (IsDrivenSoFar trace.now trace.now.orders core.new) }
     ensures geometry { core.new.geometry ≡ core.old.geometry }
 {
-    let mut lanes = open_lanes(alloc, trace)?;
     // Lanes stand on what the machine's type keeps.
     let _ = core.steps();
+    let mut lanes = open_lanes(alloc, trace)?;
     follow_runs(gate, trace, &mut lanes, core)?;
     finish_lanes(gate, trace, &mut lanes, core)?;
     outcomes_of(alloc, lanes)

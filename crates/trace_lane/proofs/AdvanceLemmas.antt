@@ -4,18 +4,22 @@ use Rattle.std.specs.Prelude.{◌⊎◌, count_by, if◌then◌else◌}
 use Rattle.std.proofs.lemmas.List.Sums.{sum_by-append}
 use Rattle.std.proofs.lemmas.Bool.{cases_Bool, eq-eqb}
 use Rattle.std.proofs.lemmas.List.Elements.{All-nil, All-cons, All-append}
+use Rattle.std.proofs.lemmas.List.{append-nil}
 use Rattle.errand_steps.specs.Calls.{Call, take as take_call}
-use Rattle.pool_model.specs.declared.event.Event.{Event}
 use Rattle.pool_model.specs.Histories.{own}
 use Rattle.sound_state.specs.Moves.{is_step}
 use Rattle.sound_state.specs.Runs.{Move, begins, steps}
-use Rattle.step_machine.specs.Cores.{CoreFields}
+use Rattle.step_machine.specs.Cores.{CoreFields, errand_at}
 use Rattle.trace_text.specs.declared.trace.Op.{Op}
 use Rattle.lane_engine.specs.Machines.{MovesCore}
 use Rattle.trace_lane.specs.Begun.{calls_of}
-use Rattle.trace_lane.specs.Paths.{HasAdvanced, IsBy, MovesLead, Progressed, StaysInCall}
-use Rattle.trace_lane.specs.Scripts.{IsOnScript, script_left}
-use Rattle.trace_lane.proofs.ScriptLemmas.{script-stays}
+use Rattle.trace_lane.specs.Advances.{HasAdvanced, StaysInCall}
+use Rattle.trace_lane.specs.Paths.{IsBy, MovesLead}
+use Rattle.trace_lane.specs.States.{IsLaneOn}
+use Rattle.trace_lane.specs.declared.lane.LaneState.{LaneState}
+use Rattle.lane_engine.specs.declared.grip.Grip.{Grip}
+use Rattle.trace_lane.specs.Scripts.{script_left}
+use Rattle.sound_laws.specs.events.UnderWay.{IsUnderWay}
 
 -- moves one after the other, and their calls and steps
 pub leads-append :
@@ -43,47 +47,47 @@ steps-append moves more = sum_by-append (λ move. if is_step move then 1 else 0)
 none-before : (n : ℕ) → 0 + n ≡ n
 none-before n = omega arith
 
--- the lane's script with the calls of some moves
-abbrev pub OnScriptWith : List Op → Progressed → Progressed → List Call → Type 0
-OnScriptWith operations old new more =
-    (calls : List Call) → IsOnScript operations old.registers old.results old.at calls
-    → IsOnScript operations new.registers new.results new.at (calls ++ more)
+-- the lane stands on a machine with the calls of some moves
+abbrev pub OnScriptWith : List Op → CoreFields → CoreFields → LaneState Grip → LaneState Grip → List Call → Type 0
+OnScriptWith operations s t old new more = (calls : List Call) → IsLaneOn s operations old calls → IsLaneOn t operations new (calls ++ more)
 
 -- less is left of the lane's script
-abbrev pub Falls : List Op → Progressed → Progressed → Type 0
-Falls operations old new = script_left operations new.results new.at < script_left operations old.results old.at
+abbrev pub Falls : List Op → LaneState Grip → LaneState Grip → Type 0
+Falls operations old new = script_left operations new.outcomes.items new.stage < script_left operations old.outcomes.items old.stage
 
 -- the operation stays where it is
-abbrev pub Stays : Progressed → Progressed → Type 0
-Stays old new = (new.results ≡ old.results) × (new.at ≡ old.at)
+abbrev pub Stays : LaneState Grip → LaneState Grip → Type 0
+Stays old new = (new.outcomes.items ≡ old.outcomes.items) × (new.stage ≡ old.stage)
 
-stays-left : (operations : List Op) (old new : Progressed) → Stays old new → script_left operations new.results new.at ≡ script_left operations old.results old.at
+stays-left :
+    (operations : List Op) (old new : LaneState Grip) → Stays old new
+    → script_left operations new.outcomes.items new.stage ≡ script_left operations old.outcomes.items old.stage
 stays-left operations old new stays =
-    ap (λ results. script_left operations results new.at) stays.0 ∙ ap (λ at. script_left operations old.results at) stays.1
+    ap (λ results. script_left operations results new.stage) stays.0 ∙ ap (λ at. script_left operations old.outcomes.items at) stays.1
 
 -- an advance in which nothing happens
-pub advance-none : (s : CoreFields) (caller : ℕ) (operations : List Op) (p : Progressed) → HasAdvanced s s caller operations p p false
+pub advance-none : (s : CoreFields) (caller : ℕ) (operations : List Op) (p : LaneState Grip) → HasAdvanced s s caller operations p p false
 advance-none s caller operations p =
     record {
       moves = [];
       leads = refl;
       by_caller = All-nil (IsBy caller);
       one_step = refl;
-      script = λ calls script. script-stays operations p.results p.registers p.at calls script;
+      script = λ calls on. subst (IsLaneOn s operations p) (sym (append-nil calls)) on;
       goes_on = inr (refl, refl, inr refl);
     }
 
 -- an operation has its outcome at once, without a call
 pub advance-skips :
-    (s : CoreFields) (caller : ℕ) (operations : List Op) (old new : Progressed) → OnScriptWith operations old new [] → Falls operations old new
+    (s : CoreFields) (caller : ℕ) (operations : List Op) (old new : LaneState Grip) → OnScriptWith operations s s old new [] → Falls operations old new
     → HasAdvanced s s caller operations old new false
 advance-skips s caller operations old new script falls =
     record { moves = []; leads = refl; by_caller = All-nil (IsBy caller); one_step = refl; script = script; goes_on = inl falls }
 
 -- a call begins
 pub advance-begins :
-    (before after : CoreFields) (caller : ℕ) (call : Call) (operations : List Op) (old new : Progressed) → MovesCore before (begins caller call) after
-    → OnScriptWith operations old new (call ∷ []) → Falls operations old new
+    (before after : CoreFields) (caller : ℕ) (call : Call) (operations : List Op) (old new : LaneState Grip) → MovesCore before (begins caller call) after
+    → OnScriptWith operations before after old new (call ∷ []) → Falls operations old new
     → HasAdvanced before after caller operations old new false
 advance-begins before after caller call operations old new move script falls =
     record {
@@ -92,14 +96,14 @@ advance-begins before after caller call operations old new move script falls =
       by_caller = All-cons (IsBy caller) (begins caller call) [] refl (All-nil (IsBy caller));
       one_step = refl;
       script = λ calls on.
-          subst (λ more. IsOnScript operations new.registers new.results new.at (calls ++ more)) (sym (calls-one caller call)) (script calls on);
+          subst (λ more. IsLaneOn after operations new (calls ++ more)) (sym (calls-one caller call)) (script calls on);
       goes_on = inl falls;
     }
 
 -- an advance by the step of the call under way, behind which nothing begins
 pub advance-steps :
-    (before after : CoreFields) (caller : ℕ) (operations : List Op) (old new : Progressed) → MovesCore before (steps caller) after
-    → OnScriptWith operations old new [] → Falls operations old new ⊎ Stays old new
+    (before after : CoreFields) (caller : ℕ) (operations : List Op) (old new : LaneState Grip) → MovesCore before (steps caller) after
+    → OnScriptWith operations before after old new [] → Falls operations old new ⊎ Stays old new
     → HasAdvanced before after caller operations old new true
 advance-steps before after caller operations old new move script goes =
     record {
@@ -116,11 +120,13 @@ advance-steps before after caller operations old new move script goes =
 
 -- a take that begins again, where no event of the caller was added; and an advance by a step and a call behind it
 abbrev pub IsTakenAgain : ℕ → Call → CoreFields → CoreFields → Type 0
-IsTakenAgain caller call before after = (shelf : ℕ) × (call ≡ take_call shelf) × (own caller after.events ≡ own caller before.events)
+IsTakenAgain caller call before after =
+    (shelf : ℕ) × (call ≡ take_call shelf) × (own caller after.events ≡ own caller before.events)
+    × IsUnderWay caller (take_call shelf) (errand_at before.errands caller).point []
 
 pub advance-steps_begins :
-    (before middle after : CoreFields) (caller : ℕ) (call : Call) (operations : List Op) (old new : Progressed) → MovesCore before (steps caller) middle
-    → MovesCore middle (begins caller call) after → OnScriptWith operations old new (call ∷ [])
+    (before middle after : CoreFields) (caller : ℕ) (call : Call) (operations : List Op) (old new : LaneState Grip) → MovesCore before (steps caller) middle
+    → MovesCore middle (begins caller call) after → OnScriptWith operations before after old new (call ∷ [])
     → Falls operations old new ⊎ (Stays old new × IsTakenAgain caller call before after)
     → HasAdvanced before after caller operations old new true
 advance-steps_begins before middle after caller call operations old new step begin script goes =
@@ -132,20 +138,21 @@ advance-steps_begins before middle after caller call operations old new step beg
           (All-cons (IsBy caller) (begins caller call) [] refl (All-nil (IsBy caller)));
       one_step = refl;
       script = λ calls on.
-          subst (λ more. IsOnScript operations new.registers new.results new.at (calls ++ more)) (sym (calls-one caller call)) (script calls on);
+          subst (λ more. IsLaneOn after operations new (calls ++ more)) (sym (calls-one caller call)) (script calls on);
       goes_on = elim goes [
         | inl falls ↦ inl falls
         | inr stays ↦ inr (
           stays.0.0,
           stays.0.1,
-          inl (inr (stays.1.0, ap (λ (c : Call). steps caller ∷ begins caller c ∷ []) stays.1.1, stays.1.2)),
+          inl (inr (stays.1.0, ap (λ (c : Call). steps caller ∷ begins caller c ∷ []) stays.1.1, stays.1.2, stays.1.3)),
         )
       ];
     }
 
 -- moves without a step are none of those that stay in a call
-no-step : (caller : ℕ) (seen now : List Event) (moves : List Move) → count_by is_step moves ≡ 0 → StaysInCall caller seen now moves ⊎ (moves ≡ []) → moves ≡ []
-no-step caller seen now moves none goes =
+no-step :
+    (caller : ℕ) (before after : CoreFields) (moves : List Move) → count_by is_step moves ≡ 0 → StaysInCall caller before after moves ⊎ (moves ≡ []) → moves ≡ []
+no-step caller before after moves none goes =
     elim goes [
       | inl stays ↦ elim stays [
         | inl one ↦ absurd (let e : 1 ≡ 0 = sym (ap (count_by is_step) one) ∙ none in omega arith)
@@ -157,17 +164,17 @@ no-step caller seen now moves none goes =
 -- an advance stays in its call, too, when no move is put before it
 stays-on :
     (before middle after : CoreFields) (caller : ℕ) (moves more : List Move) → moves ≡ [] → MovesLead before moves middle
-    → StaysInCall caller middle.events after.events more ⊎ (more ≡ [])
-    → StaysInCall caller before.events after.events (moves ++ more) ⊎ (moves ++ more ≡ [])
+    → StaysInCall caller middle after more ⊎ (more ≡ [])
+    → StaysInCall caller before after (moves ++ more) ⊎ (moves ++ more ≡ [])
 stays-on before middle after caller moves more none leads goes =
     let same : middle ≡ before = subst (λ ms. MovesLead before ms middle) none leads in
     let whole : moves ++ more ≡ more = ap (λ ms. ms ++ more) none in
-    subst (λ ms. StaysInCall caller before.events after.events ms ⊎ (ms ≡ [])) (sym whole)
-    (subst (λ (s : CoreFields). StaysInCall caller s.events after.events more ⊎ (more ≡ [])) same goes)
+    subst (λ ms. StaysInCall caller before after ms ⊎ (ms ≡ [])) (sym whole)
+    (subst (λ (s : CoreFields). StaysInCall caller s after more ⊎ (more ≡ [])) same goes)
 
 -- an advance without a step, and then another advance
 pub advance-then :
-    (before middle after : CoreFields) (caller : ℕ) (operations : List Op) (old between new : Progressed) (made : Bool)
+    (before middle after : CoreFields) (caller : ℕ) (operations : List Op) (old between new : LaneState Grip) (made : Bool)
     → HasAdvanced before middle caller operations old between false
     → HasAdvanced middle after caller operations between new made
     → HasAdvanced before after caller operations old new made
@@ -180,7 +187,7 @@ advance-then before middle after caller operations old between new made first se
       one_step = count ∙ ap (λ n. n + count_by is_step second.moves) first.one_step ∙ none-before (count_by is_step second.moves) ∙ second.one_step;
       script = λ calls on.
           let later = second.script (calls ++ calls_of caller first.moves) (first.script calls on) in
-          subst (IsOnScript operations new.registers new.results new.at)
+          subst (IsLaneOn after operations new)
           (append_assoc calls (calls_of caller first.moves) (calls_of caller second.moves)
           ∙ ap (λ xs. calls ++ xs) (sym (calls-append caller first.moves second.moves)))
           later;
@@ -195,7 +202,7 @@ advance-then before middle after caller operations old between new made first se
             stays.0 ∙ stood.0,
             stays.1 ∙ stood.1,
             stays-on before middle after caller first.moves second.moves
-                (no-step caller before.events middle.events first.moves first.one_step stood.2) first.leads stays.2,
+                (no-step caller before middle first.moves first.one_step stood.2) first.leads stays.2,
           )
         ]
       ];

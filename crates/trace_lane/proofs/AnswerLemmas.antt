@@ -26,8 +26,8 @@ use Rattle.step_parts.specs.declared.large.point.LargePoint.{LargePoint}
 use Rattle.step_parts.specs.declared.large.point.LargePoint.TheVariants as large
 use Rattle.errand_steps.specs.Begins.{IsIdle, IsBusy, IsHeapBlock, alloc_answer, begins_alloc, alloc_begun, free_begun, write_begun, read_begun, put_begun, take_begun}
 use Rattle.errand_steps.specs.Calls.{Call, alloc, free, write, read, put, take, begun_by}
-use Rattle.errand_steps.specs.Errands.{ErrandFields, IsErrand, plan_of, settle_of, answer_of, course_of, is_spent, begins_turn, after_list, counts_lost}
-use Rattle.errand_steps.specs.Errands.{counts_cleared, raised, told as told_by}
+use Rattle.errand_steps.specs.Errands.{ErrandFields, IsErrand, plan_of, settle_of, answer_of, is_spent, begins_turn, after_list, counts_lost}
+use Rattle.errand_steps.specs.Errands.{raised}
 use Rattle.errand_steps.specs.Events.{event_of}
 use Rattle.errand_steps.specs.Nexts.{next_of}
 use Rattle.errand_steps.specs.Offers.{offered_at}
@@ -245,7 +245,7 @@ goes-on e f call before after added answer on moment way =
     }
 
 -- a call that ends answers one of its own answers
-has-ended :
+pub has-ended :
     (e f : ErrandFields) (call : Call) (before after added : List Event) (r : Reply) (s : IsSettled e f before after (progress.Done r))
     → IsUnderWay e.caller call e.point added → HasEnded e.caller call r (with_event added (event_of e.caller e.point s.x))
 has-ended e f call before after added r s way = step-ends e s.x call added r s.rule s.word s.won way (sym s.answers)
@@ -271,14 +271,6 @@ ends-not :
 ends-not e f call before after added r none moment way =
     let ended = has-ended e f call before after added r (settled-of e f before after (progress.Done r) moment) way in
     let both : Some ended.ended.0 ≡ None = sym ended.ended.1 ∙ none in cc
-
--- no step of a call answers that its caller is idle
-told-not_idle : (n : Next) (lost cleared : Bool) → told_by n lost cleared ≢ progress.Idle
-told-not_idle n lost cleared is = grind (arith)
-
-pub answer-not_idle : (e : ErrandFields) (x : Found) → answer_of e x ≢ progress.Idle
-unfolding answer_of
-answer-not_idle e x is = told-not_idle (course_of e x) (counts_lost e.point x) (counts_cleared e.point x) is
 
 -- what the answer of a call says, in the state after the step
 meant :
@@ -307,7 +299,7 @@ word-read : (word : Option ℕ) (v : ℕ) → ((w : ℕ) → word ≡ Some w →
 word-read None v is = tt
 word-read (Some w) v is = is w refl
 
-ends-read :
+pub ends-read :
     (e f : ErrandFields) (before after added : List Event) (place : ℕ) (need : Need) (i v : ℕ)
     → IsMoment e f before after (progress.Done (reply.Word v)) → IsUnderWay e.caller (read place need i) e.point added
     → EndsRead e f place i v before after added
@@ -329,7 +321,7 @@ ends-read e f before after added place need i v m way =
       fits = subst (λ n. n < 2 ^ 64) (sym says.7) (sound.parts.1.formed.words (name.Arena (says.0 + 1 + says.1)));
     }
 
-ends-full :
+pub ends-full :
     (e f : ErrandFields) (before after added : List Event) (place : ℕ) (need : Need) (shelf found back : ℕ) (back_need : Need)
     → IsMoment e f before after (progress.Done (reply.Full found)) → offered_at e.point ≡ Some (record { place = back; need = back_need })
     → IsUnderWay e.caller (put place need shelf) e.point added → EndsFull e f place need shelf back back_need before after added
@@ -399,7 +391,7 @@ ends-given e f before after added words place need m way =
       owned = owned-after e f before after _ m place need (meant e f before after r m).3;
     }
 
-ends-spent_call :
+pub ends-spent_call :
     (e f : ErrandFields) (before after added : List Event) (words : ℕ)
     → IsMoment e f before after (progress.Done reply.Spent) → IsUnderWay e.caller (alloc words) e.point added
     → EndsSpent e f words before after added
@@ -409,12 +401,6 @@ ends-spent_call e f before after added words m way =
       ends = ends-as e f (alloc words) before after added reply.Spent (ended.alloc_spent words) refl m way;
       limit = ap (λ (d : ErrandFields). d.turns) s.settled ∙ (ends-spent e s.x (sym s.answers)).1;
     }
-
--- the caller of a step is in a call
-pub never-idle : (e f : ErrandFields) (before after : List Event) → IsMoment e f before after progress.Idle → ⊥
-never-idle e f before after m =
-    let s = settled-of e f before after progress.Idle m in
-    answer-not_idle e s.x (sym s.answers)
 
 -- the ending that each call has, and no other one
 module _ {B : Type 0} (place_of : B → ℕ) (block_need : B → Need) (e f : ErrandFields) (before after added : List Event) where

@@ -1,113 +1,159 @@
--- A lane before its first operation, and one that has all outcomes.
-use Rattle.std.proofs.Common.{ℕ, zero, suc, ◌≡◌, ◌≤◌, ◌∷◌, ◌++◌, List, [], Option, Some, None, length, take, drop, replicate, refl, sym, ap, ◌∙◌, subst}
-use Rattle.std.proofs.Common.{arith, append-nil}
+-- A lane before its first operation, one beside others, and one that has all outcomes.
+use Rattle.std.proofs.Common.{ℕ, ◌≡◌, ◌++◌, List, [], Option, Some, None, length, refl, sym, ap, ◌∙◌, subst, arith, append_assoc, append-nil}
 use Rattle.std.proofs.Math.ListN.{length-replicate}
-use Rattle.std.proofs.lemmas.Bool.{true≢false}
-use Rattle.std.specs.List.{slice_index_or}
 use Rattle.heap_geometry.specs.declared.geometry.Geometry.{Geometry}
-use Rattle.heap_geometry.specs.declared.need.Need.{Need}
 use Rattle.pool_model.specs.declared.event.Event.{Event}
 use Rattle.pool_model.specs.Histories.{own}
-use Rattle.pool_model.specs.Pool.{pool_of}
+use Rattle.pool_model.proofs.HistoryLemmas.{own-append}
 use Rattle.errand_steps.specs.Begins.{IsIdle}
-use Rattle.errand_steps.specs.Errands.{ErrandFields}
+use Rattle.errand_steps.specs.Calls.{Call}
+use Rattle.errand_steps.specs.Errands.{ErrandFields, open_errand}
+use Rattle.sound_laws.specs.events.Made.{LeadsBy, Made}
+use Rattle.step_machine.specs.Moments.{HasSeenMore, IsServed}
 use Rattle.trace_text.specs.declared.limits.TheConstants.{REGISTERS}
 use Rattle.trace_text.specs.declared.trace.Op.{Op}
+use Rattle.lane_engine.specs.Callers.{Caller, IsAtRest, IsCall, new_caller}
 use Rattle.lane_engine.specs.Engines.{Engine}
 use Rattle.lane_outcomes.specs.declared.registers.Held.{Held}
 use Rattle.lane_outcomes.specs.declared.outcome.Outcome.{Outcome}
-use Rattle.lane_outcomes.specs.Fits.{Fits, Walks}
-use Rattle.lane_outcomes.specs.Lane.{start}
-use Rattle.lane_outcomes.specs.Standing.{setting_in}
-use Rattle.lane_outcomes.proofs.HoldLemmas.{holds-nothing}
 use Rattle.trace_lane.specs.declared.lane.LaneState.{LaneState}
 use Rattle.trace_lane.specs.declared.stage.OperationStage.{OperationStage}
 use Rattle.trace_lane.specs.declared.stage.OperationStage.TheVariants as stage
-use Rattle.trace_lane.specs.Lanes.{IsAt, IsLane}
-use Rattle.trace_lane.specs.Paths.{held_blocks}
-use Rattle.trace_lane.specs.Scripts.{IsOnScript}
+use Rattle.trace_lane.specs.Doing.{AllMadeFor, IsMaking}
+use Rattle.trace_lane.specs.Lanes.{IsLane, StandsBy}
+use Rattle.trace_lane.specs.Made.{calls_in, calls_made}
+use Rattle.trace_lane.specs.Scripts.{Scripts, registers_from}
 use Rattle.trace_lane.specs.States.{IsLaneOf, IsNew, registers_at}
-use Rattle.trace_lane.proofs.BesideLemmas.{walks-on}
-use Rattle.trace_lane.proofs.ScriptLemmas.{empty, script-none, take_all}
+use Rattle.trace_lane.proofs.CallerLemmas.{Owns, leads-first}
+use Rattle.trace_lane.proofs.MakingLemmas.{empty, making-between}
+use Rattle.trace_lane.proofs.OwnLemmas.{blocks-none, empty-holds}
+use Rattle.trace_lane.proofs.ScriptLemmas.{all-script}
 
--- between two operations its caller is idle, and has added nothing that its outcomes don't tell
-pub lane-between :
-    (g : Geometry) (caller : ℕ) (events : List Event) (e : ErrandFields) (operations : List Op) (registers : List (Option Held))
-    (results : List Outcome) (at : OperationStage) (lane : IsLane g caller events e operations registers results at) → at ≡ stage.Between
-    → IsIdle e × (registers ≡ lane.position.registers) × (own caller events ≡ lane.position.done)
-lane-between g caller events e operations registers results at lane between =
-    let stands : IsAt caller events e lane.position registers (drop (length results) operations) stage.Between lane.added =
-    subst (λ a. IsAt caller events e lane.position registers (drop (length results) operations) a lane.added) between lane.stands in
-    (stands.0, stands.1, lane.own_events ∙ ap (λ xs. lane.position.done ++ xs) stands.2 ∙ append-nil lane.position.done)
+-- a lane has made nothing before its first operation
+pub making-none : (operations : List Op) → IsMaking operations empty [] stage.Between [] None
+making-none operations =
+    record { within = omega arith; past = []; present = []; all = refl; ended = refl; doing = (refl, refl, refl) }
 
--- the outcomes of a lane that has all of them fit the events, however much more was lost
-pub lane-fits :
-    (g : Geometry) (caller : ℕ) (events : List Event) (e : ErrandFields) (operations : List Op) (registers : List (Option Held))
-    (results : List Outcome) (at : OperationStage) (lost : ℕ) → IsLane g caller events e operations registers results at → at ≡ stage.Between
-    → length results ≡ length operations → e.lost ≤ lost → Fits (setting_in events caller g.turn_limit lost) operations results
-lane-fits g caller events e operations registers results at lost lane between ended rises =
-    let whole : take (length results) operations ≡ operations = ap (λ n. take n operations) ended ∙ take_all operations in
+seen-none : (caller : ℕ) (events : List Event) → events ≡ [] → HasSeenMore caller [] events
+seen-none caller events none = record { more = []; seen = none; not_own = refl }
+
+-- a lane stands before its first operation, where nothing has happened
+pub lane-start :
+    (g : Geometry) (caller : ℕ) (events : List Event) (e : ErrandFields) (operations : List Op) → e ≡ open_errand caller g → events ≡ []
+    → IsServed g caller e events → IsLane g caller events e operations empty [] stage.Between []
+lane-start g caller events e operations opened none served =
+    let first_served : IsServed g caller (open_errand caller g) [] =
+    subst (λ h. IsServed g caller (open_errand caller g) h) none (subst (λ f. IsServed g caller f events) opened served) in
     record {
-      end = lane.position;
-      walks = walks-on events events [] caller g.turn_limit e.lost lost start lane.position operations results (sym (append-nil events)) rises
-          (subst (λ ops. Walks (setting_in events caller g.turn_limit e.lost) start ops results lane.position) whole lane.walks);
-      all_used = (lane-between g caller events e operations registers results at lane between).2;
+      made = [];
+      under = None;
+      making = making-none operations;
+      begun = refl;
+      sight = [];
+      stands = (
+        ap (λ (f : ErrandFields). let c : Caller = record { errand = f; seen = [] } in c) opened,
+        record {
+          served = subst (λ f. IsServed g f.caller f []) (sym opened) first_served;
+          idle = subst IsIdle (sym opened) refl;
+        },
+      );
+      more = seen-none caller events none;
     }
 
--- registers that hold nothing hold no block
-pub blocks-none :
-    {B : Type 0} (place_of : B → ℕ) (need_of : B → Need) (n : ℕ) → held_blocks place_of need_of (replicate n None) ≡ replicate n None
-blocks-none place_of need_of zero = refl
-blocks-none place_of need_of (suc n) = ap (λ xs. None ∷ xs) (blocks-none place_of need_of n)
-
-none-at : {B : Type 0} (n r : ℕ) → slice_index_or (replicate {A = Option B} n None) r None ≡ None
-none-at zero r = refl
-none-at (suc n) zero = refl
-none-at (suc n) (suc r) = none-at n r
-
--- a lane stands before its first operation where its caller is idle and has no events
-pub lane-start :
-    (g : Geometry) (caller : ℕ) (events : List Event) (e : ErrandFields) (operations : List Op) → own caller events ≡ [] → IsIdle e
-    → IsLane g caller events e operations empty [] stage.Between
-lane-start g caller events e operations none idle = record {
-  position = start;
-  within = omega arith;
-  walks = refl;
-  added = [];
-  own_events = none;
-  stands = (idle, refl, refl);
-  size = length-replicate {A = Option Held} REGISTERS None;
-  holds = holds-nothing (pool_of events) caller REGISTERS;
-  answered = refl;
-  spent = λ is. absurd (true≢false (sym is));
-}
-
--- a new lane stands before its first operation, where its caller is idle and has no events
 pub lane-new :
-    {B : Type 0} (engine : Engine B) (caller : ℕ) (operations : List Op) (lane : LaneState B) → IsNew caller (length operations) lane
-    → own caller engine.events ≡ [] → IsIdle engine.errand → IsLaneOf engine operations lane
-lane-new {B = B} engine caller operations lane new none idle =
+    {B : Type 0} (engine : Engine B) (operations : List Op) (lane : LaneState B) → IsNew lane.caller (length operations) lane
+    → engine.errand ≡ open_errand lane.caller engine.geometry → engine.events ≡ [] → IsServed engine.geometry lane.caller engine.errand engine.events
+    → IsLaneOf engine operations lane []
+lane-new {B = B} engine operations lane new opened none served =
     let held = registers_at engine lane.registers.items in
-    let is_empty : held ≡ empty =
-    ap (registers_at engine) new.empty ∙ blocks-none engine.place_of engine.need_of REGISTERS in
-    let stands = lane-start engine.geometry caller engine.events engine.errand operations none idle in
+    let is_empty : held ≡ empty = ap (registers_at engine) new.empty ∙ blocks-none engine.place_of engine.need_of REGISTERS in
+    let g = engine.geometry in
+    let stands = lane-start g lane.caller engine.events engine.errand operations opened none served in
     record {
       stands =
-          subst (λ k. IsLane engine.geometry k engine.events engine.errand operations held lane.outcomes.items lane.stage) (sym new.caller_is)
-          (subst (λ rs. IsLane engine.geometry caller engine.events engine.errand operations rs lane.outcomes.items lane.stage) (sym is_empty)
-          (subst (λ os. IsLane engine.geometry caller engine.events engine.errand operations empty os lane.stage) (sym new.none)
-          (subst (IsLane engine.geometry caller engine.events engine.errand operations empty []) (sym new.between) stands)));
-      owned = λ r block full.
-          absurd (let e : None ≡ Some block = sym (none-at {B = B} REGISTERS r)
-          ∙ ap (λ rs. slice_index_or rs r None) (sym new.empty) ∙ full in cc);
+          subst (λ rs. IsLane g lane.caller engine.events engine.errand operations rs lane.outcomes.items lane.stage []) (sym is_empty)
+          (subst (λ os. IsLane g lane.caller engine.events engine.errand operations empty os lane.stage []) (sym new.none)
+          (subst (λ at. IsLane g lane.caller engine.events engine.errand operations empty [] at []) (sym new.between) stands));
+      size = ap length new.empty ∙ length-replicate {A = Option B} REGISTERS None;
       room = new.room;
     }
 
--- a new lane is on its script, and has begun no call
-pub script-new :
-    {B : Type 0} (place_of : B → ℕ) (need_of : B → Need) (caller count : ℕ) (operations : List Op) (lane : LaneState B) → IsNew caller count lane
-    → IsOnScript operations (held_blocks place_of need_of lane.registers.items) lane.outcomes.items lane.stage []
-script-new place_of need_of caller count operations lane new =
-    subst (λ os. IsOnScript operations (held_blocks place_of need_of lane.registers.items) os lane.stage []) (sym new.none)
-    (subst (λ at. IsOnScript operations (held_blocks place_of need_of lane.registers.items) [] at []) (sym new.between)
-    (script-none operations (held_blocks place_of need_of lane.registers.items)))
+-- a lane stands as it stood, whatever others did
+pub lane-beside :
+    (g : Geometry) (caller : ℕ) (before after : List Event) (e : ErrandFields) (operations : List Op) (registers : List (Option Held))
+    (results : List Outcome) (at : OperationStage) (calls : List Call) → IsLane g caller before e operations registers results at calls
+    → HasSeenMore caller before after → IsLane g caller after e operations registers results at calls
+lane-beside g caller before after e operations registers results at calls lane more = record {
+  made = lane.made;
+  under = lane.under;
+  making = lane.making;
+  begun = lane.begun;
+  sight = lane.sight;
+  stands = lane.stands;
+  more = record {
+    more = lane.more.more ++ more.more;
+    seen = more.seen ∙ ap (λ xs. xs ++ more.more) lane.more.seen ∙ append_assoc lane.sight lane.more.more more.more;
+    not_own = own-append caller lane.more.more more.more ∙ ap (λ xs. xs ++ own caller more.more) lane.more.not_own ∙ more.not_own;
+  };
+}
+
+pub lane_of-beside :
+    {B : Type 0} (engine : Engine B) (after : List Event) (operations : List Op) (lane : LaneState B) (calls : List Call)
+    → IsLaneOf engine operations lane calls → HasSeenMore lane.caller engine.events after → IsLaneOf (record engine { events = after }) operations lane calls
+lane_of-beside engine after operations lane calls is more = record {
+  stands =
+      lane-beside engine.geometry lane.caller engine.events after engine.errand operations (registers_at engine lane.registers.items) lane.outcomes.items
+      lane.stage calls is.stands more;
+  size = is.size;
+  room = is.room;
+}
+
+-- what a lane between two operations has made
+pub record IsResting (g : Geometry) (caller : ℕ) (events : List Event) (e : ErrandFields) (operations : List Op) (registers : List (Option Held)) (results : List Outcome)
+    (calls : List Call) : Type 0 where
+  pub made : List Made
+  pub sight : List Event
+  pub registers_are : registers ≡ registers_from empty operations results
+  pub all : AllMadeFor empty operations results made
+  pub leads : LeadsBy (IsCall g) (new_caller caller g) made (record { errand = e; seen = sight })
+  pub rests : IsAtRest g (record { errand = e; seen = sight })
+  pub calls_are : calls ≡ calls_made made
+  pub others : HasSeenMore caller sight events
+
+resting-by :
+    (g : Geometry) (caller : ℕ) (events : List Event) (e : ErrandFields) (operations : List Op) (registers : List (Option Held)) (results : List Outcome)
+    (at : OperationStage) (calls : List Call) (lane : IsLane g caller events e operations registers results at calls) (under : Option Call)
+    → under ≡ None → calls ≡ calls_made lane.made ++ calls_in under → StandsBy g caller lane.made under (record { errand = e; seen = lane.sight })
+    → registers ≡ registers_from empty operations results → AllMadeFor empty operations results lane.made
+    → IsResting g caller events e operations registers results calls
+resting-by g caller events e operations registers results at calls lane None is are so registers_are all = record {
+  made = lane.made;
+  sight = lane.sight;
+  registers_are = registers_are;
+  all = all;
+  leads = so.0;
+  rests = so.1;
+  calls_are = are ∙ append-nil (calls_made lane.made);
+  others = lane.more;
+}
+resting-by g caller events e operations registers results at calls lane (Some call) is are so registers_are all = absurd (cc)
+
+pub lane-resting :
+    (g : Geometry) (caller : ℕ) (events : List Event) (e : ErrandFields) (operations : List Op) (registers : List (Option Held)) (results : List Outcome)
+    (at : OperationStage) (calls : List Call) → at ≡ stage.Between → IsLane g caller events e operations registers results at calls
+    → IsResting g caller events e operations registers results calls
+lane-resting g caller events e operations registers results at calls between lane =
+    let m = making-between operations registers results at lane.made lane.under between lane.making in
+    resting-by g caller events e operations registers results at calls lane lane.under m.2 lane.begun lane.stands m.0 m.1
+
+-- the calls of a lane that rests are those of its operations with their outcomes
+pub lane-script :
+    (g : Geometry) (caller : ℕ) (events : List Event) (e : ErrandFields) (operations : List Op) (registers : List (Option Held)) (results : List Outcome)
+    (calls : List Call) → IsLane g caller events e operations registers results stage.Between calls → Scripts empty operations results calls
+lane-script g caller events e operations registers results calls lane =
+    let r = lane-resting g caller events e operations registers results stage.Between calls refl lane in
+    let now : Caller = record { errand = e; seen = r.sight } in
+    let first = leads-first g (new_caller caller g) now r.made r.rests r.leads in
+    subst (Scripts empty operations results) (sym r.calls_are)
+    (all-script g operations results empty r.made (new_caller caller g) now first
+    (empty-holds (Owns (new_caller caller g))) r.all r.leads)

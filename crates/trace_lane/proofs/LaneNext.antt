@@ -1,19 +1,17 @@
 -- An advance of a lane, part after part.
-use Rattle.std.proofs.Common.{ℕ, suc, true, false, ◌≡◌, ◌≢◌, ◌<◌, ◌+◌, ◌-◌, ◌%◌, ◌^◌, ◌∷◌, List, [], Option, Some, None, length, min, drop, refl, sym, ap}
+use Rattle.std.proofs.Common.{ℕ, suc, true, false, ◌≡◌, ◌≢◌, ◌<◌, ◌+◌, ◌-◌, ◌^◌, ◌∷◌, List, [], Option, Some, None, length, min, drop, refl, sym, ap}
 use Rattle.std.proofs.Common.{◌∙◌, subst, arith, get_or, drop-cons, below_more}
 use Rattle.heap_geometry.specs.declared.geometry.Geometry.{Geometry}
-use Rattle.heap_geometry.specs.Need.{need_of}
-use Rattle.pool_model.specs.declared.event.Event.{Event}
 use Rattle.errand_steps.specs.declared.told.Stepped.{Stepped}
 use Rattle.errand_steps.specs.Begins.{IsBusy}
+use Rattle.errand_steps.specs.Calls.{Call}
 use Rattle.errand_steps.specs.Errands.{ErrandFields}
-use Rattle.errand_steps.specs.Calls.{alloc, free, write, read, put, take}
-use Rattle.sound_laws.proofs.events_lemmas.EndLemmas.{way-busy}
+use Rattle.sound_laws.specs.events.Made.{Made}
 use Rattle.sound_state.specs.Runs.{steps}
 use Rattle.step_machine.specs.Cores.{CoreFields, IsCore, errand_at}
 use Rattle.step_machine.specs.Moments.{HasSeenMore, IsServed}
 use Rattle.trace_text.specs.declared.trace.Op.{Op}
-use Rattle.trace_text.specs.declared.trace.Op.TheVariants as op
+use Rattle.lane_engine.specs.Callers.{Caller}
 use Rattle.lane_engine.specs.Engines.{machine_at}
 use Rattle.lane_engine.specs.declared.grip.Grip.{Grip}
 use Rattle.lane_engine.specs.Machines.{MovesCore, grip_need, grip_place}
@@ -21,73 +19,17 @@ use Rattle.lane_engine.specs.Told.{HasStepped}
 use Rattle.step_machine.proofs.MomentLemmas.{core-served, same-seen}
 use Rattle.lane_outcomes.specs.declared.registers.Held.{Held}
 use Rattle.lane_outcomes.specs.declared.outcome.Outcome.{Outcome}
-use Rattle.lane_outcomes.specs.Lane.{Position}
-use Rattle.trace_lane.specs.Advances.{AdvancesOn, GoesOnBy, BeginsOperation, IsAtHand, MayAnswer, MayBeginOperation}
+use Rattle.trace_lane.specs.Advances.{AdvancesOn, BeginsOperation, GoesOnBy, HasAdvanced, IsAtHand, MayBeginOperation, MayGoOn}
 use Rattle.trace_lane.specs.declared.lane.LaneState.{LaneState}
 use Rattle.trace_lane.specs.declared.stage.OperationStage.{OperationStage}
 use Rattle.trace_lane.specs.declared.stage.OperationStage.TheVariants as stage
-use Rattle.trace_lane.specs.Lanes.{IsAt}
-use Rattle.trace_lane.specs.Operations.{IsDoing}
-use Rattle.trace_lane.specs.Paths.{FirstPassed, HasAdvanced, begun_count}
-use Rattle.trace_lane.specs.States.{IsLaneOf, IsLaneOn, StandsOn, progress_on}
+use Rattle.trace_lane.specs.Doing.{DoingIn}
+use Rattle.trace_lane.specs.Lanes.{StandsBy}
+use Rattle.trace_lane.specs.Paths.{FirstPassed, begun_count}
+use Rattle.trace_lane.specs.States.{IsLaneOf, IsLaneOn, StandsOn}
 use Rattle.trace_lane.proofs.AdvanceLemmas.{advance-none, advance-then}
-use Rattle.trace_lane.proofs.ScriptLemmas.{here-below}
+use Rattle.trace_lane.proofs.NeedLemmas.{here-below}
 use Rattle.trace_lane.proofs.PartAdvances.{calls-kept, part-begins, part-steps}
-
--- the caller of a lane is busy where an operation is under way
-doing-busy :
-    (caller : ℕ) (events : List Event) (e : ErrandFields) (position : Position) (registers : List (Option Held)) (operation : Op) (at : OperationStage)
-    (added : List Event) → IsDoing caller events e.point position registers operation at added → IsBusy e
-doing-busy caller pool e position registers (op.Alloc r need v) stage.Calling added doing = way-busy caller (alloc need) e.point added doing.3
-doing-busy caller pool e position registers (op.Alloc r need v) (stage.Filling i) added doing =
-    way-busy caller (write doing.0.place doing.4.writing.need i ((v + i) % 2 ^ 64)) e.point [] doing.4.writing.under_way
-doing-busy caller pool e position registers (op.Alloc r need v) stage.Between added doing = absurd doing
-doing-busy caller pool e position registers (op.Alloc r need v) (stage.Summing i total) added doing = absurd doing
-doing-busy caller pool e position registers (op.Alloc r need v) (stage.Copying from i w) added doing = absurd doing
-doing-busy caller pool e position registers (op.Alloc r need v) stage.Releasing added doing = absurd doing
-doing-busy caller pool e position registers (op.Free r) stage.Calling added doing = way-busy caller (free doing.held.place doing.need) e.point added doing.under_way
-doing-busy caller pool e position registers (op.Free r) stage.Between added doing = absurd doing
-doing-busy caller pool e position registers (op.Free r) (stage.Filling i) added doing = absurd doing
-doing-busy caller pool e position registers (op.Free r) (stage.Summing i total) added doing = absurd doing
-doing-busy caller pool e position registers (op.Free r) (stage.Copying from i w) added doing = absurd doing
-doing-busy caller pool e position registers (op.Free r) stage.Releasing added doing = absurd doing
-doing-busy caller pool e position registers (op.Fill r v) (stage.Filling i) added doing =
-    way-busy caller (write doing.0.place doing.3.need i ((v + i) % 2 ^ 64)) e.point [] doing.3.under_way
-doing-busy caller pool e position registers (op.Fill r v) stage.Between added doing = absurd doing
-doing-busy caller pool e position registers (op.Fill r v) stage.Calling added doing = absurd doing
-doing-busy caller pool e position registers (op.Fill r v) (stage.Summing i total) added doing = absurd doing
-doing-busy caller pool e position registers (op.Fill r v) (stage.Copying from i w) added doing = absurd doing
-doing-busy caller pool e position registers (op.Fill r v) stage.Releasing added doing = absurd doing
-doing-busy caller pool e position registers (op.Check r) (stage.Summing i total) added doing =
-    way-busy caller (read doing.0.place doing.3.need i) e.point [] doing.3.under_way
-doing-busy caller pool e position registers (op.Check r) stage.Between added doing = absurd doing
-doing-busy caller pool e position registers (op.Check r) stage.Calling added doing = absurd doing
-doing-busy caller pool e position registers (op.Check r) (stage.Filling i) added doing = absurd doing
-doing-busy caller pool e position registers (op.Check r) (stage.Copying from i w) added doing = absurd doing
-doing-busy caller pool e position registers (op.Check r) stage.Releasing added doing = absurd doing
-doing-busy caller pool e position registers (op.Put r shelf) stage.Calling added doing =
-    way-busy caller (put doing.held.place doing.need shelf) e.point added doing.under_way
-doing-busy caller pool e position registers (op.Put r shelf) stage.Between added doing = absurd doing
-doing-busy caller pool e position registers (op.Put r shelf) (stage.Filling i) added doing = absurd doing
-doing-busy caller pool e position registers (op.Put r shelf) (stage.Summing i total) added doing = absurd doing
-doing-busy caller pool e position registers (op.Put r shelf) (stage.Copying from i w) added doing = absurd doing
-doing-busy caller pool e position registers (op.Put r shelf) stage.Releasing added doing = absurd doing
-doing-busy caller pool e position registers (op.Take r shelf) stage.Calling added doing = way-busy caller (take shelf) e.point added doing.2
-doing-busy caller pool e position registers (op.Take r shelf) stage.Between added doing = absurd doing
-doing-busy caller pool e position registers (op.Take r shelf) (stage.Filling i) added doing = absurd doing
-doing-busy caller pool e position registers (op.Take r shelf) (stage.Summing i total) added doing = absurd doing
-doing-busy caller pool e position registers (op.Take r shelf) (stage.Copying from i w) added doing = absurd doing
-doing-busy caller pool e position registers (op.Take r shelf) stage.Releasing added doing = absurd doing
-doing-busy caller pool e position registers (op.Resize r need) stage.Calling added doing = way-busy caller (alloc need) e.point added doing.under_way
-doing-busy caller pool e position registers (op.Resize r need) (stage.Copying old i None) added doing =
-    way-busy caller (read old.place old.need i) e.point [] doing.under_way
-doing-busy caller pool e position registers (op.Resize r need) (stage.Copying old i (Some word)) added doing =
-    way-busy caller (write doing.new.place (need_of need) i word) e.point [] doing.under_way
-doing-busy caller pool e position registers (op.Resize r need) stage.Releasing added doing =
-    way-busy caller (free doing.old.place doing.old.need) e.point doing.part doing.under_way
-doing-busy caller pool e position registers (op.Resize r need) stage.Between added doing = absurd doing
-doing-busy caller pool e position registers (op.Resize r need) (stage.Filling i) added doing = absurd doing
-doing-busy caller pool e position registers (op.Resize r need) (stage.Summing i total) added doing = absurd doing
 
 -- an operation that is under way counts as begun
 pub count-under : (results : List Outcome) (at : OperationStage) → at ≢ stage.Between → begun_count results at ≡ length results + 1
@@ -98,28 +40,6 @@ count-under results (stage.Summing i total) not = omega arith
 count-under results (stage.Copying old i None) not = omega arith
 count-under results (stage.Copying old i (Some word)) not = omega arith
 count-under results stage.Releasing not = omega arith
-
--- an operation of the script is under way
-pub record IsUnder (e : ErrandFields) (operations : List Op) : Type 0 where
-  pub operation : Op
-  pub rest : List Op
-  pub next : operations ≡ operation ∷ rest
-  pub busy : IsBusy e
-
-under-at :
-    (caller : ℕ) (events : List Event) (e : ErrandFields) (position : Position) (registers : List (Option Held)) (operations : List Op) (at : OperationStage)
-    (added : List Event) → at ≢ stage.Between → IsAt caller events e position registers operations at added → IsUnder e operations
-under-at caller events e position registers operations stage.Between added not stands = absurd (not refl)
-under-at caller events e position registers operations stage.Calling added not (o, rest, next, doing) =
-    record { operation = o; rest = rest; next = next; busy = doing-busy caller events e position registers o stage.Calling added doing }
-under-at caller events e position registers operations (stage.Filling i) added not (o, rest, next, doing) =
-    record { operation = o; rest = rest; next = next; busy = doing-busy caller events e position registers o (stage.Filling i) added doing }
-under-at caller events e position registers operations (stage.Summing i total) added not (o, rest, next, doing) =
-    record { operation = o; rest = rest; next = next; busy = doing-busy caller events e position registers o (stage.Summing i total) added doing }
-under-at caller events e position registers operations (stage.Copying old i word) added not (o, rest, next, doing) =
-    record { operation = o; rest = rest; next = next; busy = doing-busy caller events e position registers o (stage.Copying old i word) added doing }
-under-at caller events e position registers operations stage.Releasing added not (o, rest, next, doing) =
-    record { operation = o; rest = rest; next = next; busy = doing-busy caller events e position registers o stage.Releasing added doing }
 
 -- a list from one of its elements on
 pub next-op :
@@ -134,40 +54,69 @@ pub passed-more :
     → FirstPassed passed caller (count + 1)
 passed-more passed caller count before last = below_more (λ k. passed caller (min k (2 ^ 32 - 1))) count before last
 
+-- an operation of the script is under way
+pub record IsUnder (e : ErrandFields) (operations : List Op) : Type 0 where
+  pub operation : Op
+  pub rest : List Op
+  pub next : operations ≡ operation ∷ rest
+  pub busy : IsBusy e
+
 -- a lane that is not between two operations
+in-some :
+    (before registers : List (Option Held)) (left : List Op) (at : OperationStage) (present : List Made) (under : Option Call) → at ≢ stage.Between
+    → DoingIn before registers left at present under → (operation : Op) × (rest : List Op) × (left ≡ operation ∷ rest) × (under ≢ None)
+in-some before registers left stage.Between present under not doing = absurd (not refl)
+in-some before registers left stage.Calling present under not (o, rest, next, doing, is) = (o, rest, next, λ none. cc)
+in-some before registers left (stage.Filling i) present under not (o, rest, next, doing, is) = (o, rest, next, λ none. cc)
+in-some before registers left (stage.Summing i total) present under not (o, rest, next, doing, is) = (o, rest, next, λ none. cc)
+in-some before registers left (stage.Copying old i w) present under not (o, rest, next, doing, is) = (o, rest, next, λ none. cc)
+in-some before registers left stage.Releasing present under not (o, rest, next, doing, is) = (o, rest, next, λ none. cc)
+
+by-busy : (g : Geometry) (caller : ℕ) (made : List Made) (under : Option Call) (now : Caller) → under ≢ None → StandsBy g caller made under now → IsBusy now.errand
+by-busy g caller made None now some stands = absurd (some refl)
+by-busy g caller made (Some call) now some (last, leads, rests, owned, is) = is.busy
+
 lane-under :
-    (c : CoreFields) (operations : List Op) (lane : LaneState Grip) → IsLaneOn c operations lane → lane.stage ≢ stage.Between
+    (c : CoreFields) (operations : List Op) (lane : LaneState Grip) (calls : List Call) → IsLaneOn c operations lane calls → lane.stage ≢ stage.Between
     → IsUnder (errand_at c.errands lane.caller) (drop (length lane.outcomes.items) operations)
-lane-under c operations lane stands not =
+lane-under c operations lane calls stands not =
     let l = stands.stands in
-    under-at lane.caller c.events (errand_at c.errands lane.caller) l.position _ (drop (length lane.outcomes.items) operations) lane.stage l.added not
-    l.stands
+    let so = in-some _ _ (drop (length lane.outcomes.items) operations) lane.stage l.making.present l.under not l.making.doing in
+    record {
+      operation = so.0;
+      rest = so.1;
+      next = so.2;
+      busy =
+          by-busy c.geometry lane.caller l.made l.under (record { errand = errand_at c.errands lane.caller; seen = l.sight }) so.3 l.stands;
+    }
 
 -- a lane stands on a machine that its calls and steps have made of another one
 stands-after :
     (c after : CoreFields) (operations : List Op) (lane new : LaneState Grip) → StandsOn c operations lane → IsCore after
-    → after.geometry ≡ c.geometry → new.caller ≡ lane.caller
-    → IsLaneOf (machine_at after lane.caller) operations new → StandsOn after operations new
-stands-after c after operations lane new on core heap same stands =
+    → after.geometry ≡ c.geometry → new.caller ≡ lane.caller → (calls : List Call)
+    → IsLaneOf (machine_at after lane.caller) operations new calls → StandsOn after operations new
+stands-after c after operations lane new on core heap same calls stands =
     record {
       core = core;
       has = subst (λ k. k < after.geometry.callers) (sym same) (subst (λ (g : Geometry). lane.caller < g.callers) (sym heap) on.has);
-      stands = subst (λ k. IsLaneOf (machine_at after k) operations new) (sym same) stands;
+      calls = calls;
+      stands = subst (λ k. IsLaneOf (machine_at after k) operations new calls) (sym same) stands;
     }
 
 -- a lane between two operations begins the next one
 pub before-next :
     (c : CoreFields) (operations : List Op) (lane : LaneState Grip) (operation : Op) → StandsOn c operations lane → lane.stage ≡ stage.Between
-    → IsAtHand operations lane.outcomes.items operation → MayBeginOperation operation c operations lane
-before-next c operations lane operation on between next =
-    record { next = next; between = between; stands = on.stands; served = core-served c lane.caller on.core on.has }
+    → IsAtHand operations lane.outcomes.items operation → (calls : List Call) → IsLaneOn c operations lane calls
+    → MayBeginOperation operation c operations calls lane
+before-next c operations lane operation on between next calls stands =
+    record { next = next; between = between; stands = stands; served = core-served c lane.caller on.core on.has }
 
 -- a lane with as many outcomes, between two operations, may begin the operation at this place
 pub next-ready :
-    (c : CoreFields) (operations : List Op) (lane : LaneState Grip) (k : ℕ) (d : Op) → StandsOn c operations lane → lane.stage ≡ stage.Between
-    → length lane.outcomes.items ≡ k → k < length operations → MayBeginOperation (get_or operations k d) c operations lane
+    (c : CoreFields) (operations : List Op) (lane : LaneState Grip) (k : ℕ) (d : Op) (on : StandsOn c operations lane) → lane.stage ≡ stage.Between
+    → length lane.outcomes.items ≡ k → k < length operations → MayBeginOperation (get_or operations k d) c operations on.calls lane
 next-ready c operations lane k d on between here below =
-    before-next c operations lane (get_or operations k d) on between (next-op operations lane.outcomes.items k d here below)
+    before-next c operations lane (get_or operations k d) on between (next-op operations lane.outcomes.items k d here below) on.calls on.stands
 
 -- the gate was told of the operation's number
 pub gate-number :
@@ -198,30 +147,32 @@ module _ (passed : ℕ → ℕ → Type 0) (operations : List Op) where
         caller = refl;
         stands = stands;
         others = λ other ne. (refl, same-seen other c.events c.events refl);
-        advanced = advance-none c lane.caller operations (progress_on lane);
+        advanced = advance-none c lane.caller operations lane;
         gate = λ h. h;
       }
 
   -- a lane has gone on without a step, and one more operation has begun
   pub onward-more :
-      (s t u : CoreFields) (lane mid after : LaneState Grip) (operation : Op) → AdvancesOn passed operations s t lane mid false → IsCore u
-      → MayBeginOperation operation t operations mid → BeginsOperation operation t u mid after → passed lane.caller (min (length mid.outcomes.items) (2 ^ 32 - 1))
+      (s t u : CoreFields) (lane mid after : LaneState Grip) (operation : Op) (so : AdvancesOn passed operations s t lane mid false) → IsCore u
+      → MayBeginOperation operation t operations so.stands.calls mid → BeginsOperation operation t u mid after → passed lane.caller (min (length mid.outcomes.items) (2 ^ 32 - 1))
       → AdvancesOn passed operations s u lane after false
   onward-more s t u lane mid after operation so core before goes last =
       let k : mid.caller ≡ lane.caller = so.caller in
-      let gone = goes.gone_on [] operations before in
+      let calls = so.stands.calls in
+      let gone = goes.gone_on [] (errand_at t.errands mid.caller) operations calls before in
       let kept = calls-kept mid.caller goes.begun t u goes.called in
       record {
         geometry = kept.geometry ∙ so.geometry;
         caller = goes.same_caller ∙ k;
-        stands = stands-after t u operations mid after so.stands core kept.geometry goes.same_caller gone.stands;
+        stands = stands-after t u operations mid after so.stands core kept.geometry goes.same_caller _ gone.stands;
         others = λ other ne.
             let stood = so.others other ne in
             (kept.others other (λ is. ne (is ∙ k)) ∙ stood.0, subst (HasSeenMore other s.events) (sym kept.no_event) stood.1);
         advanced =
-            advance-then s t u lane.caller operations (progress_on lane) (progress_on mid) (progress_on after) false so.advanced
-            (subst (λ c. HasAdvanced t u c operations (progress_on mid) (progress_on after) false) k
-            (part-begins t u mid after _ goes [] operations before));
+            advance-then s t u lane.caller operations lane mid after false so.advanced
+            (subst (λ c. HasAdvanced t u c operations mid after false) k
+            (part-begins t u mid after _ goes [] (errand_at t.errands mid.caller) operations calls before
+            (λ cs on. before-next t operations mid operation so.stands before.between before.next cs on)));
         gate = λ first.
             let here : begun_count mid.outcomes.items mid.stage ≡ length mid.outcomes.items =
             ap (λ a. begun_count mid.outcomes.items a) before.between ∙ omega arith in
@@ -246,22 +197,22 @@ module _ (passed : ℕ → ℕ → Type 0) (operations : List Op) where
             onward-more s t u lane mid after (get_or operations k d) so core ready goes
             (gate-number passed mid.caller lane.caller number k (length mid.outcomes.items) so.caller number_is here told);
         no_event = (calls-kept mid.caller goes.begun t u goes.called).no_event;
-        count = (goes.gone_on [] operations ready).count;
+        count = (goes.gone_on [] (errand_at t.errands mid.caller) operations so.stands.calls ready).count;
       }
 
   -- a step of the operation that is under way may be answered
   pub step-told :
-      (s t u : CoreFields) (lane mid : LaneState Grip) (told : Stepped Grip) (k : ℕ) (d : Op) → AdvancesOn passed operations s t lane mid false
+      (s t u : CoreFields) (lane mid : LaneState Grip) (told : Stepped Grip) (k : ℕ) (d : Op) (so : AdvancesOn passed operations s t lane mid false)
       → mid.stage ≢ stage.Between → HasMade t u mid told
-      → length mid.outcomes.items ≡ k → MayAnswer (get_or operations k d) told u t.events operations mid
-  step-told s t u lane mid told k d so not made here =
+      → length mid.outcomes.items ≡ k → (calls : List Call) → IsLaneOn t operations mid calls
+      → MayGoOn (get_or operations k d) told u t.events (errand_at t.errands mid.caller) operations calls mid
+  step-told s t u lane mid told k d so not made here calls stands =
       let on = so.stands in
-      let under = lane-under t operations mid on.stands not in
+      let under = lane-under t operations mid calls stands not in
       let below = here-below operations under.rest mid.outcomes.items under.operation under.next in
       record {
         next = next-op operations mid.outcomes.items k d here (subst (λ n. n < length operations) here below);
-        e = errand_at t.errands mid.caller;
-        stood = subst (λ g. IsLaneOf (record (machine_at t mid.caller) { geometry = g }) operations mid) (sym made.geometry) on.stands;
+        stood = subst (λ g. IsLaneOf (record (machine_at t mid.caller) { geometry = g }) operations mid calls) (sym made.geometry) stands;
         stepped = made.busy under.busy;
         served =
             subst (λ g. IsServed g mid.caller (errand_at t.errands mid.caller) t.events) (sym made.geometry)
@@ -276,26 +227,28 @@ module _ (passed : ℕ → ℕ → Type 0) (operations : List Op) where
       → length mid.outcomes.items ≡ k → GoesOnBy (get_or operations k d) told u v mid after → IsCore v
       → AdvancesOn passed operations s v lane after true
   onward-steps s t u v lane mid after told k d so same not made here goes core =
-      let operation = get_or operations k d in
-      let ready = step-told s t u lane mid told k d so not made here in
-      let k : mid.caller ≡ lane.caller = so.caller in
-      let step = made.moves (lane-under t operations mid so.stands.stands not).busy in
-      let gone = goes.gone_on t.events operations ready in
+      let place = k in
+      let calls = so.stands.calls in
+      let ready = step-told s t u lane mid told k d so not made here calls so.stands.stands in
+      let same_caller : mid.caller ≡ lane.caller = so.caller in
+      let step = made.moves (lane-under t operations mid calls so.stands.stands not).busy in
+      let gone = goes.gone_on t.events (errand_at t.errands mid.caller) operations calls ready in
       let kept = calls-kept mid.caller goes.begun u v goes.called in
       record {
         geometry = kept.geometry ∙ step.heap ∙ so.geometry;
-        caller = goes.same_caller ∙ k;
-        stands = stands-after t v operations mid after so.stands core (kept.geometry ∙ step.heap) goes.same_caller gone.stands;
+        caller = goes.same_caller ∙ same_caller;
+        stands = stands-after t v operations mid after so.stands core (kept.geometry ∙ step.heap) goes.same_caller _ gone.stands;
         others = λ other ne.
-            let mine : other ≢ mid.caller = λ is. ne (is ∙ k) in
+            let mine : other ≢ mid.caller = λ is. ne (is ∙ same_caller) in
             let stepped = made.others other mine in (
               kept.others other mine ∙ stepped.0 ∙ (so.others other ne).0,
               subst (λ b. HasSeenMore other b v.events) same (subst (HasSeenMore other t.events) (sym kept.no_event) stepped.1),
             );
         advanced =
-            advance-then s t v lane.caller operations (progress_on lane) (progress_on mid) (progress_on after) true so.advanced
-            (subst (λ c. HasAdvanced t v c operations (progress_on mid) (progress_on after) true) k
-            (part-steps u v mid after t _ step goes operations ready));
+            advance-then s t v lane.caller operations lane mid after true so.advanced
+            (subst (λ c. HasAdvanced t v c operations mid after true) same_caller
+            (part-steps u v mid after t _ step goes operations calls ready
+            (λ cs on. step-told s t u lane mid told place d so not made here cs on)));
         gate = λ first.
             let count : begun_count mid.outcomes.items mid.stage ≡ length mid.outcomes.items + 1 =
             count-under mid.outcomes.items mid.stage not in

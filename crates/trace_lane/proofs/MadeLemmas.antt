@@ -24,8 +24,7 @@ use Rattle.lane_outcomes.specs.declared.outcome.Outcome.TheVariants as outcome
 use Rattle.lane_outcomes.specs.Lane.{held_in, registers_after}
 use Rattle.trace_lane.specs.declared.lane.LaneState.{LaneState}
 use Rattle.trace_lane.specs.Advances.{IsAtHand}
-use Rattle.trace_lane.specs.Made.{AllMade, AreMisses, HasRun, HoldsBlocks, MadeFor, Makes, OneMade, Skips, Takes, register_of}
-use Rattle.trace_lane.specs.Operations.{IsUnasked}
+use Rattle.trace_lane.specs.Made.{AllMade, AreMisses, HasRun, HoldsBlocks, IsUnasked, MadeFor, Makes, OneMade, Skips, Takes, register_of}
 use Rattle.trace_lane.specs.declared.stage.OperationStage.TheVariants as stage
 use Rattle.trace_lane.specs.Paths.{held_by, held_blocks}
 use Rattle.trace_lane.specs.Scripts.{registers_from}

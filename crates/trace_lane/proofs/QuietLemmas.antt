@@ -1,23 +1,19 @@
 -- A caller's block is as it was behind events of which its own leave it alone.
-use Rattle.std.proofs.Common.{ℕ, zero, suc, Bool, true, false, eqb, ◌≡◌, ◌≢◌, ◌∷◌, ◌++◌, List, [], Some, refl, sym, ◌∙◌, subst, inl, inr, append-nil}
+use Rattle.std.proofs.Common.{ℕ, zero, suc, true, false, eqb, ◌≡◌, ◌≢◌, ◌∷◌, ◌++◌, List, [], Some, refl, sym, ◌∙◌, subst, inl, inr, append-nil}
 use Rattle.std.proofs.lemmas.Bool.{cases_Bool, cases_eq, eq-eqb}
 use Rattle.heap_geometry.specs.declared.geometry.Geometry.{Geometry}
 use Rattle.heap_geometry.specs.declared.need.Need.{Need}
 use Rattle.heap_geometry.specs.declared.need.Need.TheVariants.{Small, Large, TooLarge}
-use Rattle.heap_geometry.specs.Need.{need_of}
 use Rattle.pool_model.specs.declared.event.Event.{Event}
 use Rattle.pool_model.specs.declared.event.Event.TheVariants.{Alloc, Looked, Refuse, Free, Write, Put, Take, TakeNone}
 use Rattle.pool_model.specs.declared.owner.Owner.TheVariants.{Caller, Shelf}
-use Rattle.pool_model.specs.Calls.{IsGiving, IsRefusing, looks}
+use Rattle.pool_model.specs.Calls.{IsGiving, looks}
 use Rattle.pool_model.specs.Histories.{caller_of, own}
 use Rattle.pool_model.specs.Legal.{IsAllowed, IsLegalWithoutCounts}
 use Rattle.pool_model.specs.Pool.{Block, block_at, handed_to, fresh_block, pool_after, pool_of, written}
 use Rattle.pool_model.proofs.HistoryLemmas.{pool_of-push, push-append}
 use Rattle.pool_model.proofs.OwnerLemmas.{free-elsewhere, others-keep, owner-one}
 use Rattle.pool_model.proofs.PoolLemmas.{block_at-past, block_at-without_other, block_at-changed_other}
-use Rattle.errand_steps.specs.Calls.{alloc}
-use Rattle.errand_steps.specs.tables.CallStage.{StageOfCall, asking, asking_run, refused, given}
-use Rattle.sound_laws.specs.events.UnderWay.{HasLooked, SoFar}
 
 -- the event neither gives the block at this place away nor writes into it; none of the events does
 abbrev pub Quiet : ℕ → Event → Type 0
@@ -90,29 +86,8 @@ quiet-looks place caller class (suc count) events h = (tt, quiet-looks place cal
 quiet-as : (place : ℕ) (events other : List Event) → events ≡ other → AllQuiet place other → AllQuiet place events
 quiet-as place events other same h = subst (AllQuiet place) (sym same) h
 
-only-looks : (place caller class count : ℕ) → AllQuiet place (looks caller class count)
-only-looks place caller class zero = tt
-only-looks place caller class (suc count) = (tt, only-looks place caller class count)
-
-quiet-looked : (place caller class : ℕ) (looked : Bool) (events : List Event) → HasLooked caller class looked events → AllQuiet place events
-quiet-looked place caller class false events h = quiet-as place events _ h.1 (only-looks place caller class h.0)
-quiet-looked place caller class true events h = quiet-as place events _ h.1 (only-looks place caller class (suc h.0))
-
 pub quiet-giving : (place caller need at : ℕ) (n : Need) (events : List Event) → IsGiving caller need at n events → AllQuiet place events
 quiet-giving place caller need at (Small class) events h =
     quiet-as place events _ h.1 (quiet-looks place caller class h.0 (Alloc caller need at ∷ []) (tt, tt))
 quiet-giving place caller need at (Large units) events h = quiet-as place events (Alloc caller need at ∷ []) h (tt, tt)
 quiet-giving place caller need at TooLarge events h = absurd h
-
-quiet-refusing : (place caller need : ℕ) (n : Need) (events : List Event) → IsRefusing caller need n events → AllQuiet place events
-quiet-refusing place caller need (Small class) events h =
-    quiet-as place events _ h.1 (quiet-looks place caller class (suc h.0) (Refuse caller need ∷ []) (tt, tt))
-quiet-refusing place caller need (Large units) events h = quiet-as place events (Refuse caller need ∷ []) h (tt, tt)
-quiet-refusing place caller need TooLarge events h = absurd h
-
-pub quiet-asking : (place caller n : ℕ) (stage : StageOfCall) (events : List Event) → SoFar caller (alloc n) stage events → AllQuiet place events
-quiet-asking place caller n (asking words class looked) events h = quiet-looked place caller class looked events h.2
-quiet-asking place caller n (asking_run words units) events h = quiet-as place events [] h.2 tt
-quiet-asking place caller n refused events h = quiet-refusing place caller n (need_of n) events h
-quiet-asking place caller n (given at need) events h = quiet-giving place caller n at (need_of n) events h.1
-quiet-asking place caller n stage events h = absurd h

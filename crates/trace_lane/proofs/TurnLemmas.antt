@@ -1,6 +1,6 @@
 -- How many small allocations of a lane were answered, and where it has no turn left.
 use Rattle.std.proofs.Common.{ℕ, zero, suc, Bool, true, false, eqb, ◌≡◌, ◌≢◌, ◌≤◌, ◌+◌, ◌%◌, ◌^◌, ◌&&◌, ◌∷◌, ◌++◌, List, [], Option, Some, None, append-nil}
-use Rattle.std.proofs.Common.{refl, sym, ap, ◌∙◌, subst, inl, inr, arith}
+use Rattle.std.proofs.Common.{refl, sym, ap, ◌∙◌, inl, inr, arith}
 use Rattle.std.specs.Prelude.{count_by, if◌then◌else◌, nat_le}
 use Rattle.std.proofs.lemmas.Bool.{cases_Bool, true≢false, eq-eqb}
 use Rattle.std.proofs.lemmas.List.Sums.{sum_by-append, sum_by-cons}
@@ -346,27 +346,6 @@ is-spent g caller after f position need piece served idle limit own_is answered 
     record { before = after; begins = ([], sym (append-nil after)); own_done = own_is } in
     spent-rows (setting_in after caller g.turn_limit f.lost) position need piece position.spent events (spending-small caller (need_of need) piece events)
     none few moment given
-
-pub spent-row :
-    (g : Geometry) (caller : ℕ) (after : List Event) (f : ErrandFields) (position : Position) (r need v : ℕ) (piece : List Event)
-    → IsServed g caller f after → IsIdle f → f.turns ≡ g.turn_limit → own caller after ≡ position.done ++ piece
-    → position.answered ≡ answered_in caller position.done → EventsOf caller (alloc_spent need) piece → (position.spent ≡ true → piece ≡ [])
-    → held_in position.registers r ≡ None
-    → FitsRow (setting_in after caller g.turn_limit f.lost) position (op.Alloc r need v) outcome.Spent piece
-spent-row g caller after f position r need v piece served idle limit own_is answered events none empty =
-    subst (λ h. AllocRow (setting_in after caller g.turn_limit f.lost) position need v h outcome.Spent piece) (sym empty)
-    (is-spent g caller after f position need piece served idle limit own_is answered events none)
-
--- a resize to another need that finds no turn left fits, where its caller has begun as many turns as it may
-pub resize-spent_row :
-    (g : Geometry) (caller : ℕ) (after : List Event) (f : ErrandFields) (position : Position) (r need : ℕ) (held : Held) (piece : List Event)
-    → IsServed g caller f after → IsIdle f → f.turns ≡ g.turn_limit → own caller after ≡ position.done ++ piece
-    → position.answered ≡ answered_in caller position.done → EventsOf caller (alloc_spent need) piece → (position.spent ≡ true → piece ≡ [])
-    → held_in position.registers r ≡ Some held → need_of need ≢ held.need
-    → FitsRow (setting_in after caller g.turn_limit f.lost) position (op.Resize r need) outcome.Spent piece
-resize-spent_row g caller after f position r need held piece served idle limit own_is answered events none full differ =
-    subst (λ h. ResizeRow (setting_in after caller g.turn_limit f.lost) position need h outcome.Spent piece) (sym full)
-    (differ, is-spent g caller after f position need piece served idle limit own_is answered events none)
 
 -- a lane that is spent is answered so: so an allocation that starts may ask
 started-asks :

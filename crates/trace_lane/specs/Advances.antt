@@ -1,36 +1,47 @@
--- What each part of an advance does: it begins a call, or answers what a step came to.
-use Rattle.std.specs.Prelude.{ℕ, ◌≡◌, ◌≢◌, ◌<◌, ◌+◌, ◌%◌, ◌^◌, ◌∷◌, ◌++◌, ◌⊎◌, List, [], Bool, Option, Some, None, drop, length, nat_lt, if◌then◌else◌}
+-- What the parts of an advance do: what is said of the lane's calls, and what of the machine.
+use Rattle.std.specs.Prelude.{ℕ, ◌≡◌, ◌≢◌, ◌<◌, ◌+◌, ◌%◌, ◌^◌, ◌∷◌, ◌++◌, ◌⊎◌, List, [], Bool, Option, Some, None, drop, length, nat_lt, count_by, All, vec_capacity}
+use Rattle.std.specs.Prelude.{if◌then◌else◌}
+use Rattle.heap_geometry.specs.declared.limits.TheConstants.{LARGE_MOST}
+use Rattle.heap_geometry.specs.declared.need.Need.{Need}
+use Rattle.heap_geometry.specs.Need.{need_of}
+use Rattle.heap_geometry.specs.Need.{usable_words}
 use Rattle.pool_model.specs.declared.event.Event.{Event}
 use Rattle.pool_model.specs.Histories.{own}
 use Rattle.errand_steps.specs.declared.told.Ending.{Ending}
+use Rattle.errand_steps.specs.declared.told.Ending.TheVariants as ending
 use Rattle.errand_steps.specs.declared.told.Stepped.{Stepped}
-use Rattle.errand_steps.specs.declared.told.Stepped.TheVariants as stepped
-use Rattle.errand_steps.specs.Calls.{Call, take}
+use Rattle.errand_steps.specs.Calls.{Call, alloc, free, write, read, put, take}
 use Rattle.errand_steps.specs.Errands.{ErrandFields}
-use Rattle.sound_state.specs.Runs.{begins}
+use Rattle.errand_steps.specs.Told.{ended_as}
+use Rattle.sound_laws.specs.events.Made.{Made, answered}
+use Rattle.sound_laws.specs.events.UnderWay.{IsUnderWay}
+use Rattle.sound_state.specs.Moves.{is_step}
+use Rattle.sound_state.specs.Runs.{Move, begins, steps}
 use Rattle.step_machine.specs.Cores.{CoreFields, errand_at}
 use Rattle.step_machine.specs.Moments.{HasSeenMore, IsServed}
 use Rattle.trace_text.specs.declared.trace.Op.{Op}
+use Rattle.lane_engine.specs.declared.begins.NextCall.{NextCall}
 use Rattle.lane_engine.specs.declared.grip.Grip.{Grip}
+use Rattle.lane_engine.specs.Begins.{call_of}
 use Rattle.lane_engine.specs.Engines.{Engine, machine_at}
 use Rattle.lane_engine.specs.Machines.{MovesCore}
 use Rattle.lane_engine.specs.Told.{HasStepped}
+use Rattle.lane_outcomes.specs.declared.registers.Held.{Held}
 use Rattle.lane_outcomes.specs.declared.outcome.Outcome.{Outcome}
+use Rattle.lane_outcomes.specs.Lane.{held_in, registers_after}
 use Rattle.trace_lane.specs.declared.lane.LaneState.{LaneState}
 use Rattle.trace_lane.specs.declared.stage.OperationStage.{OperationStage}
 use Rattle.trace_lane.specs.declared.stage.OperationStage.TheVariants as stage
-use Rattle.trace_lane.specs.Paths.{FirstPassed, HasAdvanced, begun_count}
-use Rattle.trace_lane.specs.Scripts.{IsOnScript, script_left}
-use Rattle.trace_lane.specs.States.{IsLaneOf, StandsOn, progress_on, registers_at}
+use Rattle.trace_lane.specs.Begun.{calls_of}
+use Rattle.trace_lane.specs.Doing.{DoingOf, call_at}
+use Rattle.trace_lane.specs.Made.{MadeFor, calls_in, register_of}
+use Rattle.trace_lane.specs.Paths.{FirstPassed, IsBy, MovesLead, begun_count, held_blocks}
+use Rattle.trace_lane.specs.Scripts.{script_left, stage_begun}
+use Rattle.trace_lane.specs.States.{IsLaneOf, IsLaneOn, StandsOn}
 
 -- the operation at hand, where these have their outcomes, is this one
 abbrev pub IsAtHand : List Op → List Outcome → Op → Type 0
 IsAtHand operations results operation = (rest : List Op) × (drop (length results) operations ≡ operation ∷ rest)
-
--- a caller of a machine began this call, or did nothing
-abbrev pub BeganAtMost : ℕ → Option Call → CoreFields → CoreFields → Type 0
-BeganAtMost caller None old new = new ≡ old
-BeganAtMost caller (Some call) old new = MovesCore old (begins caller call) new
 
 -- the word behind the one whose write or read is under way, if the block has so many
 abbrev pub behind : ℕ → ℕ → Option ℕ
@@ -47,73 +58,153 @@ abbrev pub total_with : OperationStage → ℕ → ℕ
 total_with (stage.Summing next total) word = (total + word) % 2 ^ 64
 total_with at word = word
 
--- the calls that began
-abbrev pub calls_in : Option Call → List Call
-calls_in None = []
-calls_in (Some call) = call ∷ []
+module _ {B : Type 0} (place_of : B → ℕ) (block_need : B → Need) where
+  abbrev pub blocks_of : LaneState B → List (Option Held)
+  blocks_of lane = held_blocks place_of block_need lane.registers.items
+
+  -- a call of these answers so: with an answer of its own, a block that serves what was asked for, and the block back that a full shelf didn't take
+  abbrev pub AnswersCall : Call → Ending B → Type 0
+  AnswersCall (alloc words) (ending.Given block) = (block_need block ≡ need_of words) × (0 < usable_words (need_of words))
+  AnswersCall (alloc words) ending.Refused = Unit {0}
+  AnswersCall (alloc words) ending.Spent = Unit {0}
+  AnswersCall (free place need) ending.Freed = Unit {0}
+  AnswersCall (write place need i value) ending.Wrote = i < usable_words need
+  AnswersCall (read place need i) (ending.Word word) = i < usable_words need
+  AnswersCall (put place need shelf) ending.Put = Unit {0}
+  AnswersCall (put place need shelf) (ending.Full block found) = (place_of block ≡ place) × (block_need block ≡ need)
+  AnswersCall (take shelf) (ending.Got block) = Unit {0}
+  AnswersCall (take shelf) ending.Empty = Unit {0}
+  AnswersCall (take shelf) (ending.Missed expected found) = Unit {0}
+  AnswersCall call ended = ⊥
+
+  -- the word that a write is about is one of those that the largest block has
+  abbrev pub IsShort : Call → Type 0
+  IsShort (write place need i value) = i < LARGE_MOST
+  IsShort call = Unit {0}
+
+  -- the operation has ended these calls: it has its outcome where it has no call more, else that call is the next one
+  abbrev pub ComesTo : Op → List (Option Held) → List Outcome → List Made → Option NextCall → LaneState B → Type 0
+  ComesTo operation before results made None lane =
+      (result : Outcome) × (lane.outcomes.items ≡ results ++ result ∷ []) × (lane.stage ≡ stage.Between)
+      × MadeFor (held_in before (register_of operation)) operation result made
+      × (blocks_of lane ≡ registers_after before operation result)
+  ComesTo operation before results made (Some call) lane =
+      (lane.outcomes.items ≡ results) × DoingOf before (blocks_of lane) operation lane.stage made
+      × (call_of call ≡ call_at before (blocks_of lane) operation lane.stage)
+
+  -- a call more is further on in the operation; but a take that missed is tried again where it stands
+  abbrev pub Rises : OperationStage → Option NextCall → OperationStage → Type 0
+  Rises at None to = Unit {0}
+  Rises at (Some call) to = (stage_begun at < stage_begun to) ⊎ ((shelf : ℕ) × (call_of call ≡ take shelf) × (at ≡ stage.Calling) × (to ≡ stage.Calling))
+
+  -- what both leave as it is
+  pub record KeepsLane (old new : LaneState B) : Type 0 where
+    pub caller : new.caller ≡ old.caller
+    pub size : length new.registers.items ≡ length old.registers.items
+    pub room : vec_capacity new.outcomes ≡ vec_capacity old.outcomes
+
+  -- an operation begins
+  pub record HasBegun (operation : Op) (old : LaneState B) (next : Option NextCall) (new : LaneState B) : Type 0 where
+    pub keeps : KeepsLane old new
+    pub comes : ComesTo operation (blocks_of old) old.outcomes.items [] next new
+
+  -- a call of the operation has ended so
+  pub record MayAnswer (operation : Op) (ended : Ending B) (lane : LaneState B) : Type 0 where
+    pub before : List (Option Held)
+    pub made : List Made
+    pub doing : DoingOf before (blocks_of lane) operation lane.stage made
+    pub answers : AnswersCall (call_at before (blocks_of lane) operation lane.stage) ended
+    pub short : IsShort (call_at before (blocks_of lane) operation lane.stage)
+
+  pub record HasAnswered (operation : Op) (ended : Ending B) (old : LaneState B) (next : Option NextCall) (new : LaneState B) : Type 0 where
+    pub keeps : KeepsLane old new
+    pub rises : Rises old.stage next new.stage
+    pub over : ended ≡ ending.Spent → next ≡ None
+    pub comes :
+        (before : List (Option Held)) (made : List Made) → DoingOf before (blocks_of old) operation old.stage made
+        → AnswersCall (call_at before (blocks_of old) operation old.stage) ended
+        → ComesTo operation before old.outcomes.items
+        (made ++ answered (call_at before (blocks_of old) operation old.stage) (ended_as place_of block_need ended) ∷ []) next new
+
+-- a caller of a machine began this call, or did nothing
+abbrev pub BeganAtMost : ℕ → Option Call → CoreFields → CoreFields → Type 0
+BeganAtMost caller None old new = new ≡ old
+BeganAtMost caller (Some call) old new = MovesCore old (begins caller call) new
 
 -- no call began; or a take was tried again, and the step before it added no event of the caller
-abbrev pub IsAgain : ℕ → List Event → List Event → Option Call → Type 0
-IsAgain caller seen now begun = (begun ≡ None) ⊎ ((shelf : ℕ) × (begun ≡ Some (take shelf)) × (own caller now ≡ own caller seen))
+abbrev pub IsAgain : ℕ → List Event → ErrandFields → List Event → Option Call → Type 0
+IsAgain caller seen e now begun =
+    (begun ≡ None)
+    ⊎ ((shelf : ℕ) × (begun ≡ Some (take shelf)) × (own caller now ≡ own caller seen) × IsUnderWay caller (take shelf) e.point [])
 
--- a lane of these operations is between two of them, and this one is the next
-pub record IsBefore {B : Type 0} (engine : Engine B) (operation : Op) (operations : List Op) (lane : LaneState B) : Type 0 where
+-- a lane of these operations, which has begun these calls, is between two of them, and this one is the next
+pub record IsBefore {B : Type 0} (engine : Engine B) (operation : Op) (operations : List Op) (calls : List Call) (lane : LaneState B) : Type 0 where
   pub next : IsAtHand operations lane.outcomes.items operation
   pub between : lane.stage ≡ stage.Between
-  pub stands : IsLaneOf engine operations lane
+  pub stands : IsLaneOf engine operations lane calls
   pub served : IsServed engine.geometry lane.caller engine.errand engine.events
 
--- a step of the call under way, which belongs to this operation, came to what is told, where these events were seen before it; the lane has not gone on by that yet
-pub record IsTold {B : Type 0} (engine : Engine B) (operation : Op) (told : Stepped B) (seen : List Event) (operations : List Op) (lane : LaneState B) : Type 0 where
+-- a step of the call under way, which belongs to this operation, came to what is told, where the caller had this errand and these events were seen before it; the lane has not gone on by that yet
+pub record IsTold {B : Type 0} (engine : Engine B) (operation : Op) (told : Stepped B) (seen : List Event) (e : ErrandFields) (operations : List Op)
+    (calls : List Call) (lane : LaneState B) : Type 0 where
   pub next : IsAtHand operations lane.outcomes.items operation
-  pub e : ErrandFields
-  pub stood : IsLaneOf (record engine { events = seen; errand = e }) operations lane
+  pub stood : IsLaneOf (record engine { events = seen; errand = e }) operations lane calls
   pub stepped : HasStepped engine.place_of engine.need_of e engine.errand seen engine.events told
   pub served : IsServed engine.geometry lane.caller e seen
   pub still_served : IsServed engine.geometry lane.caller engine.errand engine.events
 
--- what a lane has when it has gone on, and began this call or none: it stands, its script holds one call more, and what is left of it falls, but where the operation stays where it is
-pub record HasGoneOn {B : Type 0} (engine : Engine B) (begun : Option Call) (again : Option Call → Type 0) (operations : List Op) (old new : LaneState B) : Type 0 where
-  pub stands : IsLaneOf engine operations new
-  pub script :
-      (calls : List Call)
-      → IsOnScript operations (registers_at engine old.registers.items) old.outcomes.items old.stage calls
-      → IsOnScript operations (registers_at engine new.registers.items) new.outcomes.items new.stage
-      (calls ++ calls_in begun)
+-- what a lane has when it has gone on, and began this call or none: it stands, with this call more, and what is left of its script falls, but where the operation stays where it is
+pub record HasGoneOn {B : Type 0} (engine : Engine B) (begun : Option Call) (again : Option Call → Type 0) (operations : List Op) (calls : List Call)
+    (old new : LaneState B) : Type 0 where
+  pub stands : IsLaneOf engine operations new (calls ++ calls_in begun)
   pub falls :
       (script_left operations new.outcomes.items new.stage < script_left operations old.outcomes.items old.stage)
       ⊎ ((new.outcomes.items ≡ old.outcomes.items) × (new.stage ≡ old.stage) × again begun)
   pub count : begun_count new.outcomes.items new.stage ≡ length old.outcomes.items + 1
 
 -- a lane went on over a machine without a step, whatever its operations are, if they and the lane were ready for that
-pub record LaneGoesOn (again : List Event → Option Call → Type 0) (ready : List Event → List Op → LaneState Grip → Type 0) (old new : CoreFields)
-    (lane after : LaneState Grip) : Type 0 where
+pub record LaneGoesOn (again : List Event → ErrandFields → Option Call → Type 0)
+    (ready : List Event → ErrandFields → List Op → List Call → LaneState Grip → Type 0) (old new : CoreFields) (lane after : LaneState Grip) : Type 0 where
   pub begun : Option Call
   pub called : BeganAtMost lane.caller begun old new
   pub same_caller : after.caller ≡ lane.caller
   pub gone_on :
-      (seen : List Event) (operations : List Op) → ready seen operations lane
-      → HasGoneOn (machine_at new lane.caller) begun (again seen) operations lane after
+      (seen : List Event) (e : ErrandFields) (operations : List Op) (calls : List Call) → ready seen e operations calls lane
+      → HasGoneOn (machine_at new lane.caller) begun (again seen e) operations calls lane after
 
--- a lane is between two operations, and this one is the next; a step of this one came to what is told, or ended its call so
-abbrev pub MayBeginOperation : Op → CoreFields → List Op → LaneState Grip → Type 0
-MayBeginOperation operation c operations lane = IsBefore (machine_at c lane.caller) operation operations lane
+-- a lane is between two operations, and this one is the next; a step of this one came to what is told
+abbrev pub MayBeginOperation : Op → CoreFields → List Op → List Call → LaneState Grip → Type 0
+MayBeginOperation operation c operations calls lane = IsBefore (machine_at c lane.caller) operation operations calls lane
 
-abbrev pub MayAnswer : Op → Stepped Grip → CoreFields → List Event → List Op → LaneState Grip → Type 0
-MayAnswer operation told c seen operations lane = IsTold (machine_at c lane.caller) operation told seen operations lane
+abbrev pub MayGoOn : Op → Stepped Grip → CoreFields → List Event → ErrandFields → List Op → List Call → LaneState Grip → Type 0
+MayGoOn operation told c seen e operations calls lane = IsTold (machine_at c lane.caller) operation told seen e operations calls lane
 
-abbrev pub MayAnswerEnd : Op → Ending Grip → CoreFields → List Event → List Op → LaneState Grip → Type 0
-MayAnswerEnd operation ended c seen operations lane = MayAnswer operation (stepped.Done ended) c seen operations lane
-
--- a lane goes on as its operation begins or has its outcome; and as it answers what was told
+-- a lane goes on as its operation begins or has its outcome; and by what was told
 abbrev pub BeginsOperation : Op → CoreFields → CoreFields → LaneState Grip → LaneState Grip → Type 0
-BeginsOperation operation old new lane after = LaneGoesOn (λ seen begun. ⊥) (λ seen. MayBeginOperation operation old) old new lane after
+BeginsOperation operation old new lane after = LaneGoesOn (λ seen e begun. ⊥) (λ seen e. MayBeginOperation operation old) old new lane after
 
 abbrev pub GoesOnBy : Op → Stepped Grip → CoreFields → CoreFields → LaneState Grip → LaneState Grip → Type 0
-GoesOnBy operation told old new lane after = LaneGoesOn (λ seen. IsAgain lane.caller seen new.events) (MayAnswer operation told old) old new lane after
+GoesOnBy operation told old new lane after = LaneGoesOn (λ seen e. IsAgain lane.caller seen e new.events) (MayGoOn operation told old) old new lane after
 
-abbrev pub GoesOnByEnd : Op → Ending Grip → CoreFields → CoreFields → LaneState Grip → LaneState Grip → Type 0
-GoesOnByEnd operation ended old new lane after = GoesOnBy operation (stepped.Done ended) old new lane after
+-- an advance goes on with the call that was under way before, or tries a take again that missed: a step that missed adds no event of the caller to those seen
+abbrev pub StaysInCall : ℕ → CoreFields → CoreFields → List Move → Type 0
+StaysInCall caller before after moves =
+    (moves ≡ steps caller ∷ [])
+    ⊎ ((shelf : ℕ) × (moves ≡ steps caller ∷ begins caller (take shelf) ∷ []) × (own caller after.events ≡ own caller before.events)
+    × IsUnderWay caller (take shelf) (errand_at before.errands caller).point [])
+
+-- an advance of a lane: its caller alone moved, by one step where it made one and by none else, and began the calls of its script; what is left of the script falls with each step, but where the call goes on
+pub record HasAdvanced (before after : CoreFields) (caller : ℕ) (operations : List Op) (old new : LaneState Grip) (made : Bool) : Type 0 where
+  pub moves : List Move
+  pub leads : MovesLead before moves after
+  pub by_caller : All (IsBy caller) moves
+  pub one_step : count_by is_step moves ≡ (if made then 1 else 0)
+  pub script :
+      (calls : List Call) → IsLaneOn before operations old calls
+      → IsLaneOn after operations new (calls ++ calls_of caller moves)
+  pub goes_on :
+      (script_left operations new.outcomes.items new.stage < script_left operations old.outcomes.items old.stage)
+      ⊎ ((new.outcomes.items ≡ old.outcomes.items) × (new.stage ≡ old.stage) × (StaysInCall caller before after moves ⊎ (moves ≡ [])))
 
 -- a lane of these operations has gone on over a machine, by one step where it made one and by none else: it stands, no other caller moved, and what it has begun has passed the gate
 pub record AdvancesOn (passed : ℕ → ℕ → Type 0) (operations : List Op) (old new : CoreFields) (lane after : LaneState Grip) (made : Bool) : Type 0 where
@@ -123,7 +214,7 @@ pub record AdvancesOn (passed : ℕ → ℕ → Type 0) (operations : List Op) (
   pub others :
       (other : ℕ) → other ≢ lane.caller
       → (errand_at new.errands other ≡ errand_at old.errands other) × HasSeenMore other old.events new.events
-  pub advanced : HasAdvanced old new lane.caller operations (progress_on lane) (progress_on after) made
+  pub advanced : HasAdvanced old new lane.caller operations lane after made
   pub gate :
       FirstPassed passed lane.caller (begun_count lane.outcomes.items lane.stage)
       → FirstPassed passed lane.caller (begun_count after.outcomes.items after.stage)

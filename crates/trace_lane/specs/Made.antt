@@ -24,6 +24,11 @@ use Rattle.trace_lane.specs.Scripts.{registers_from}
 abbrev pub calls_made : List Made → List Call
 calls_made made = map (λ m. m.call) made
 
+-- the call that is under way, if one is
+abbrev pub calls_in : Option Call → List Call
+calls_in None = []
+calls_in (Some call) = call ∷ []
+
 -- takes that missed the shelf's block
 abbrev pub AreMisses : ℕ → List Made → Type 0
 AreMisses shelf [] = Unit {0}
@@ -34,6 +39,12 @@ AreMisses shelf (made ∷ rest) =
 abbrev pub OnBlock : Option Held → (Held → Need → Type 0) → Type 0
 OnBlock None P = ⊥
 OnBlock (Some held) P = (held.words ≡ usable_words held.need) × P held held.need
+
+-- the outcome of a resize that asks for no block: its register is empty, or the block there serves the need
+abbrev pub IsUnasked : Option Held → ℕ → Option Outcome → Type 0
+IsUnasked None need result = result ≡ Some outcome.Skipped
+IsUnasked (Some held) need None = need_of need ≢ held.need
+IsUnasked (Some held) need (Some result) = (need_of need ≡ held.need) × (result ≡ outcome.Kept held.words held.place)
 
 -- an operation on a register of this kind is skipped: an allocation and a take where it is full, any other where it is empty
 abbrev pub Skips : Option Held → Op → Type 0

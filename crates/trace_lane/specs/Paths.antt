@@ -1,21 +1,15 @@
--- What a lane's advance does to its machine, and what the lane keeps.
-use Rattle.std.specs.Prelude.{ℕ, ◌≡◌, ◌<◌, ◌+◌, ◌-◌, ◌^◌, ◌++◌, ◌∷◌, ◌⊎◌, List, [], Bool, Option, map, min, length, count_by, All, if◌then◌else◌}
+-- Blocks in hand as a register's, the moves of a lane's caller, and which operations have passed a gate.
+use Rattle.std.specs.Prelude.{ℕ, ◌≡◌, ◌<◌, ◌+◌, ◌-◌, ◌^◌, ◌∷◌, List, [], Option, map, min, length}
 use Rattle.std.specs.Option.{option_map}
 use Rattle.heap_geometry.specs.declared.need.Need.{Need}
 use Rattle.heap_geometry.specs.Need.{usable_words}
-use Rattle.pool_model.specs.declared.event.Event.{Event}
-use Rattle.pool_model.specs.Histories.{own}
-use Rattle.trace_text.specs.declared.trace.Op.{Op}
-use Rattle.errand_steps.specs.Calls as call
-use Rattle.sound_state.specs.Moves.{is_step}
 use Rattle.sound_state.specs.Runs.{Move, begins, steps}
 use Rattle.step_machine.specs.Cores.{CoreFields}
 use Rattle.lane_engine.specs.Machines.{MovesCore}
 use Rattle.lane_outcomes.specs.declared.registers.Held.{Held}
 use Rattle.lane_outcomes.specs.declared.outcome.Outcome.{Outcome}
 use Rattle.trace_lane.specs.declared.stage.OperationStage.{OperationStage}
-use Rattle.trace_lane.specs.Begun.{calls_of}
-use Rattle.trace_lane.specs.Scripts.{IsOnScript, script_left, stage_begun}
+use Rattle.trace_lane.specs.Scripts.{stage_begun}
 
 -- a block in hand as a register's: its place, its usable words and its need
 abbrev pub held_by : {B : Type 0} → (B → ℕ) → (B → Need) → B → Held
@@ -34,31 +28,6 @@ MovesLead before (move ∷ moves) after = (next : CoreFields) × MovesCore befor
 abbrev pub IsBy : ℕ → Move → Type 0
 IsBy caller (begins other call) = other ≡ caller
 IsBy caller (steps other) = other ≡ caller
-
--- how far a lane is: its outcomes so far, its registers and its stage
-pub record Progressed : Type 0 where
-  pub registers : List (Option Held)
-  pub results : List Outcome
-  pub at : OperationStage
-
--- an advance goes on with the call that was under way before, or tries a take again that missed: a step that missed adds no event of the caller to those seen
-abbrev pub StaysInCall : ℕ → List Event → List Event → List Move → Type 0
-StaysInCall caller seen now moves =
-    (moves ≡ steps caller ∷ [])
-    ⊎ ((shelf : ℕ) × (moves ≡ steps caller ∷ begins caller (call.take shelf) ∷ []) × (own caller now ≡ own caller seen))
-
--- an advance of a lane: its caller alone moved, by one step where it made one and by none else, and began the calls of its script; what is left of the script falls with each step, but where the call goes on
-pub record HasAdvanced (before after : CoreFields) (caller : ℕ) (operations : List Op) (old new : Progressed) (made : Bool) : Type 0 where
-  pub moves : List Move
-  pub leads : MovesLead before moves after
-  pub by_caller : All (IsBy caller) moves
-  pub one_step : count_by is_step moves ≡ (if made then 1 else 0)
-  pub script :
-      (calls : List call.Call) → IsOnScript operations old.registers old.results old.at calls
-      → IsOnScript operations new.registers new.results new.at (calls ++ calls_of caller moves)
-  pub goes_on :
-      (script_left operations new.results new.at < script_left operations old.results old.at)
-      ⊎ ((new.results ≡ old.results) × (new.at ≡ old.at) × (StaysInCall caller before.events after.events moves ⊎ (moves ≡ [])))
 
 -- how many operations a lane has begun
 abbrev pub begun_count : List Outcome → OperationStage → ℕ

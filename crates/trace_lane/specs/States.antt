@@ -1,18 +1,17 @@
 -- A lane's state, and a new one.
-use Rattle.std.specs.Prelude.{ℕ, ◌≡◌, ◌<◌, ◌≤◌, [], List, Option, Some, None, length, replicate, vec_capacity}
+use Rattle.std.specs.Prelude.{ℕ, ◌≡◌, ◌<◌, ◌≤◌, [], List, Option, None, length, replicate, vec_capacity}
 use Rattle.std.specs.List.{slice_index_or}
-use Rattle.heap_geometry.specs.declared.need.Need.{Need}
-use Rattle.step_machine.specs.Cores.{CoreFields, IsCore, OwnsAfter}
+use Rattle.errand_steps.specs.Calls.{Call}
+use Rattle.step_machine.specs.Cores.{CoreFields, IsCore}
 use Rattle.trace_text.specs.declared.limits.TheConstants.{REGISTERS}
 use Rattle.trace_text.specs.declared.trace.Op.{Op}
 use Rattle.lane_engine.specs.declared.grip.Grip.{Grip}
 use Rattle.lane_engine.specs.Engines.{Engine, machine_at}
-use Rattle.lane_engine.specs.Machines.{grip_need, grip_place}
 use Rattle.lane_outcomes.specs.declared.registers.Held.{Held}
 use Rattle.trace_lane.specs.declared.lane.LaneState.{LaneState}
 use Rattle.trace_lane.specs.declared.stage.OperationStage.TheVariants as stage
 use Rattle.trace_lane.specs.Lanes.{IsLane}
-use Rattle.trace_lane.specs.Paths.{Progressed, held_blocks, held_by}
+use Rattle.trace_lane.specs.Paths.{held_blocks, held_by}
 
 -- a lane before its first operation, with room for so many outcomes
 pub record IsNew {B : Type 0} (caller count : ℕ) (lane : LaneState B) : Type 0 where
@@ -29,11 +28,6 @@ pub record AreNew {B : Type 0} (lanes : List (List Op)) (states : List (LaneStat
       (lane : ℕ) (state : LaneState B) → lane < length states → state ≡ slice_index_or states lane state
       → IsNew lane (length (slice_index_or lanes lane [])) state
 
--- how far a lane is
-abbrev pub progress_of : {B : Type 0} → (B → ℕ) → (B → Need) → LaneState B → Progressed
-progress_of place_of need_of lane =
-    record { registers = held_blocks place_of need_of lane.registers.items; results = lane.outcomes.items; at = lane.stage }
-
 -- a block in hand as a register's, as this engine has it; and registers that hold blocks in hand
 abbrev pub held_at : {B : Type 0} → Engine B → B → Held
 held_at engine block = held_by engine.place_of engine.need_of block
@@ -41,26 +35,21 @@ held_at engine block = held_by engine.place_of engine.need_of block
 abbrev pub registers_at : {B : Type 0} → Engine B → List (Option B) → List (Option Held)
 registers_at engine registers = held_blocks engine.place_of engine.need_of registers
 
--- the lane of these operations stands so over this engine; it owns each block in its registers, and has room for all outcomes
-pub record IsLaneOf {B : Type 0} (engine : Engine B) (operations : List Op) (lane : LaneState B) : Type 0 where
+-- the lane of these operations stands so over this engine, and has begun these calls; it has room for all outcomes
+pub record IsLaneOf {B : Type 0} (engine : Engine B) (operations : List Op) (lane : LaneState B) (calls : List Call) : Type 0 where
   pub stands :
       IsLane engine.geometry lane.caller engine.events engine.errand operations
-      (registers_at engine lane.registers.items) lane.outcomes.items lane.stage
-  pub owned :
-      (r : ℕ) (block : B) → slice_index_or lane.registers.items r None ≡ Some block
-      → OwnsAfter engine.events lane.caller (engine.place_of block) (engine.need_of block)
+      (registers_at engine lane.registers.items) lane.outcomes.items lane.stage calls
+  pub size : length lane.registers.items ≡ REGISTERS
   pub room : length operations ≤ vec_capacity lane.outcomes
 
--- the lane of these operations stands on a machine
-abbrev pub IsLaneOn : CoreFields → List Op → LaneState Grip → Type 0
-IsLaneOn c operations lane = IsLaneOf (machine_at c lane.caller) operations lane
+-- the lane of these operations stands on a machine, and has begun these calls
+abbrev pub IsLaneOn : CoreFields → List Op → LaneState Grip → List Call → Type 0
+IsLaneOn c operations lane calls = IsLaneOf (machine_at c lane.caller) operations lane calls
 
 -- the lane of these operations is one of a machine's callers, and stands on it
 pub record StandsOn (c : CoreFields) (operations : List Op) (lane : LaneState Grip) : Type 0 where
   pub core : IsCore c
   pub has : lane.caller < c.geometry.callers
-  pub stands : IsLaneOn c operations lane
-
--- how far a lane on a machine is
-abbrev pub progress_on : LaneState Grip → Progressed
-progress_on lane = progress_of grip_place grip_need lane
+  pub calls : List Call
+  pub stands : IsLaneOn c operations lane calls

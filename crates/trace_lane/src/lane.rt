@@ -1,12 +1,17 @@
 //! One lane of a trace, and how it goes on by one atomic step of a machine after another.
 
-ghost use Rattle.std.specs.Prelude.{◌≡◌, ◌<◌, ◌-◌, ◌^◌, ◌↔◌, ◌++◌, ◌∷◌, [], None, Ok, IfOk, OnErr, All, length, min, false, replicate, IsTrue};
+ghost use Rattle.std.specs.Prelude.{ℕ, ◌≡◌, ◌<◌, ◌-◌, ◌^◌, ◌↔◌, ◌++◌, ◌∷◌, List, [], None, Ok, IfOk, OnErr, All, length, min, false, replicate, IsTrue};
 ghost use Rattle.std.specs.Vec.{vec_capacity};
 ghost use Rattle.trace_text.specs.declared.limits.TheConstants.{REGISTERS};
 ghost use Rattle.trace_text.specs.Traces.{IsOp};
 ghost use Rattle.trace_lane.specs.declared.stage.OperationStage.TheVariants as stage;
-ghost use Rattle.trace_lane.specs.Advances.{AdvancesOn};
+ghost use Rattle.trace_lane.specs.Advances.{AdvancesOn, BeginsOperation, GoesOnBy, MayBeginOperation, MayGoOn};
 ghost use Rattle.trace_lane.specs.States.{IsNew, StandsOn};
+ghost use Rattle.pool_model.specs.declared.event.Event.{Event};
+ghost use Rattle.errand_steps.specs.Calls.{Call};
+ghost use Rattle.errand_steps.specs.Errands.{ErrandFields};
+ghost use Rattle.trace_text.specs.declared.trace.Op.{Op};
+ghost use Rattle.lane_engine.specs.Machines.{ServesCaller};
 
 mod answers;
 mod begins;
@@ -15,6 +20,9 @@ mod registers;
 
 use crate::stage::OperationStage;
 use edge_io::gate::Gate;
+use errand_steps::reply::Begun;
+use errand_steps::told::{Ending, Stepped};
+use lane_engine::begins::{NextCall, begin};
 use lane_engine::grip::Grip;
 use lane_engine::over_core::step;
 use lane_outcomes::outcome::Outcome;
@@ -114,9 +122,58 @@ impl<B: Token + Drop> LaneState<B> {
         self.outcomes.push_reserved(outcome);
         self.stage = OperationStage::Between;
     }
+
+    /// So it does where the operation has no call more.
+    fn end(&mut self, outcome: Outcome) -> Option<NextCall>
+        requires { length self.old.outcomes.items < vec_capacity self.old.outcomes }
+        ensures none { result ≡ None }
+        ensures caller { self.new.caller ≡ self.old.caller }
+        ensures registers { self.new.registers ≡ self.old.registers }
+        ensures outcomes { self.new.outcomes.items ≡ self.old.outcomes.items ++ outcome ∷ [] }
+        ensures room { vec_capacity self.new.outcomes ≡ vec_capacity self.old.outcomes }
+        ensures stage { self.new.stage ≡ stage.Between }
+    {
+        self.finish(outcome);
+        None
+    }
 }
 
 impl LaneState<Grip> {
+    /// Begins an operation: its first call, or its outcome where it has none, or no turn is left for it.
+    fn start(&mut self, core: &mut Core, operation: Op)
+        requires serves { ServesCaller core.old self.old.caller }
+        requires operation { IsOp operation }
+        requires ready { (operations : List Op) × (calls : List Call) × MayBeginOperation operation core.old operations calls self.old }
+        ensures begun { BeginsOperation operation core.old core.new self.old self.new }
+    {
+        let Some(call) = self.begin(operation) else {
+            return;
+        };
+        match begin(core, self.caller, call) {
+            Begun::Started => {}
+            Begun::Spent => {
+                let _ = self.answer(operation, Ending::Spent);
+            }
+            Begun::TooLarge => unreachable!(),
+        }
+    }
+
+    /// Goes on by what a step of the operation at hand came to: begins its next call, if it has one.
+    fn go_on(&mut self, core: &mut Core, operation: Op, told: Stepped<Grip>)
+        requires serves { ServesCaller core.old self.old.caller }
+        requires operation { IsOp operation }
+        requires ready { (seen : List Event) × (e : ErrandFields) × (operations : List Op) × (calls : List Call)
+            × MayGoOn operation told core.old seen e operations calls self.old }
+        ensures answered { GoesOnBy operation told core.old core.new self.old self.new }
+    {
+        let Stepped::Done(ended) = told else {
+            return;
+        };
+        if let Some(call) = self.answer(operation, ended) {
+            let _ = begin(core, self.caller, call);
+        }
+    }
+
     /// Begins the operations that are next, up to the first one that takes a step; where an operation is
     /// under way nothing begins.
     fn begin_next<G: Gate>(&mut self, core: &mut Core, operations: &[Op], gate: &G)
@@ -131,7 +188,7 @@ impl LaneState<Grip> {
         }
         for op in self.outcomes.len()..operations.len() {
             gate.pass(self.caller, number_of(op));
-            self.begin(core, operations[op]);
+            self.start(core, operations[op]);
             // Lanes stand on what the machine's type keeps.
             let _ = core.steps();
             if !self.is_between() {
@@ -165,7 +222,7 @@ impl LaneState<Grip> {
         }
         let told = step(core, self.caller)?;
         let op = self.outcomes.len();
-        self.answer(core, operations[op], told);
+        self.go_on(core, operations[op], told);
         // Lanes stand on what the machine's type keeps.
         let _ = core.steps();
         Ok(true)

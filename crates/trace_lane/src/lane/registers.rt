@@ -3,11 +3,13 @@
 ghost use Rattle.std.specs.Prelude.{◌≡◌, ◌<◌, ◌↔◌, length, Some, None, slice_set, IsTrue, IsSome};
 ghost use Rattle.std.specs.List.{slice_index_or};
 ghost use Rattle.std.specs.Option.{option_map};
-ghost use Rattle.trace_lane.specs.Operations.{IsUnasked};
+ghost use Rattle.trace_lane.specs.Doing.{held_there};
+ghost use Rattle.trace_lane.specs.Made.{IsUnasked};
 ghost use Rattle.trace_lane.specs.Paths.{held_by};
 
-use heap_geometry::need::class_of;
+use heap_geometry::need::{Need, class_of};
 use lane_outcomes::outcome::Outcome;
+use lane_outcomes::registers::Held;
 use step_machine::token::Token;
 
 /// Whether the register holds a block.
@@ -16,6 +18,25 @@ pub(super) fn is_full<B>(registers: &Vec<Option<B>>, r: u16) -> bool
     ensures { IsTrue result ↔ IsSome (slice_index_or registers.now.items r None) }
 {
     registers[usize::from(r)].is_some()
+}
+
+/// The block of a full register, by its numbers.
+pub(super) fn held_at<B: Token>(registers: &Vec<Option<B>>, r: u16) -> Held
+    requires { r < length registers.now.items }
+    ensures { result ≡ held_there (option_map (held_by B.place_of B.need_of) (slice_index_or registers.now.items r None)) }
+{
+    match &registers[usize::from(r)] {
+        Some(block) => Held {
+            place: block.place(),
+            words: block.words(),
+            need: block.need(),
+        },
+        None => Held {
+            place: 0,
+            words: 0,
+            need: Need::TooLarge,
+        },
+    }
 }
 
 /// Empties the register, and hands back what it held.

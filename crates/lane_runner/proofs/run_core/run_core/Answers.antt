@@ -25,19 +25,20 @@ returns-clause-passed g c =
 
 pub returns-in_err-lanes-clause-stopped : goal.returns-in_err-lanes-clause-stopped
 returns-in_err-lanes-clause-stopped g c =
-    on-err c.from_residual.result _ (so-none c.args.trace.now c.args.core.now c.requires.trace c.requires.opened)
+    on-err c.from_residual.result _ (so-none c.args.trace.now c.args.core.now c.requires.trace c.requires.opened c.steps.ensures.rule)
 
 pub returns-in_err-follow_runs-clause-stopped : goal.returns-in_err-follow_runs-clause-stopped
 returns-in_err-follow_runs-clause-stopped g c =
     on-err c.from_residual-in_err-follow_runs.result _
     (so-far (g.G.Gate.passed c.args.gate.now) c.args.trace.now c.args.core.now c.follow_runs.new.core c.in_ok-lanes.lanes.items
-    c.follow_runs.new.lanes.items c.requires.opened c.in_ok-lanes.ensures c.in_err-follow_runs.ensures.stopped)
+    c.follow_runs.new.lanes.items c.requires.trace c.requires.opened c.steps.ensures.rule c.in_ok-lanes.ensures c.in_err-follow_runs.ensures.stopped)
 
 pub returns-in_err-finish_lanes-clause-stopped : goal.returns-in_err-finish_lanes-clause-stopped
 returns-in_err-finish_lanes-clause-stopped g c =
     on-err c.from_residual-in_err-finish_lanes.result _
     (stopped (g.G.Gate.passed c.args.gate.now) c.args.trace.now c.args.core.now c.follow_runs.new.core c.finish_lanes.new.core c.in_ok-lanes.lanes.items
-    c.follow_runs.new.lanes.items c.finish_lanes.new.lanes.items c.requires.opened c.in_ok-lanes.ensures c.in_ok-follow_runs.ensures.ran
+    c.follow_runs.new.lanes.items c.finish_lanes.new.lanes.items c.requires.trace c.requires.opened c.steps.ensures.rule c.in_ok-lanes.ensures
+    c.in_ok-follow_runs.ensures.ran
     c.in_err-finish_lanes.ensures.stopped)
 
 pub returns-clause-stopped : goal.returns-clause-stopped
@@ -45,6 +46,7 @@ returns-clause-stopped g c =
     let passed = g.G.Gate.passed c.args.gate.now in
     on-err c.outcomes_of.result _
     (stopped passed c.args.trace.now c.args.core.now c.follow_runs.new.core c.finish_lanes.new.core c.in_ok-lanes.lanes.items
-    c.follow_runs.new.lanes.items c.finish_lanes.new.lanes.items c.requires.opened c.in_ok-lanes.ensures c.in_ok-follow_runs.ensures.ran
+    c.follow_runs.new.lanes.items c.finish_lanes.new.lanes.items c.requires.trace c.requires.opened c.steps.ensures.rule c.in_ok-lanes.ensures
+    c.in_ok-follow_runs.ensures.ran
     (finished-so passed c.args.trace.now c.follow_runs.new.core c.finish_lanes.new.core c.follow_runs.new.lanes.items c.finish_lanes.new.lanes.items
     c.in_ok-finish_lanes.ensures.ran))

@@ -1,5 +1,4 @@
-use Rattle.std.proofs.Common.{◌≡◌, ◌++◌, ◌∷◌, [], List, length, length-append, append-nil, rules, vec_len, sym, ap, ◌∙◌, subst, arith}
-use Rattle.crossbeam_utils.specs.declared.cache_padded.CachePadded.{CachePadded}
+use Rattle.std.proofs.Common.{◌≡◌, ◌++◌, ◌∷◌, [], List, length, length-append, ap, ◌∙◌, arith}
 use Rattle.live_heap.specs.declared.pass.Pass.{Pass}
 use Rattle.lane_runner.specs.Threads.{passes_behind}
 use Rattle.lane_runner.specs.declared.run_lanes.CacheThread.{CacheThread}

@@ -5,10 +5,12 @@ use Rattle.trace_lane.proofs.lane.LaneState+Grip.advance.Goals as goal
 pub step-requires : goal.step-requires
 step-requires g c = record { serves = (c.begin_next.ensures.advanced.stands.core, c.begin_next.ensures.advanced.stands.has) }
 
-pub answer-requires-clause-ready : goal.answer-requires-clause-ready
-answer-requires-clause-ready g c = (
+pub go_on-requires-clause-ready : goal.go_on-requires-clause-ready
+go_on-requires-clause-ready g c = (
   c.begin_next.new.core.events,
+  _,
   c.args.operations.now,
+  c.begin_next.ensures.advanced.stands.calls,
   step-told (g.G.Gate.passed c.args.gate.now) c.args.operations.now c.args.core.now c.begin_next.new.core c.step.new.core c.args.self.now
       c.begin_next.new.self c.in_ok-told.told c.len-op.result _ c.begin_next.ensures.advanced
       (λ e. let yes : c.is_between.result ≡ true = c.is_between.ensures.1 e in cc)
@@ -18,13 +20,13 @@ answer-requires-clause-ready g c = (
         busy = c.in_ok-told.ensures.busy;
         moves = c.in_ok-told.ensures.moved;
         others = c.in_ok-told.ensures.others;
-      }) (search rules),
+      }) (search rules) c.begin_next.ensures.advanced.stands.calls c.begin_next.ensures.advanced.stands.stands,
 )
 
 pub returns-clause-advanced : goal.returns-clause-advanced
 returns-clause-advanced g c =
-    onward-steps (g.G.Gate.passed c.args.gate.now) c.args.operations.now c.args.core.now c.begin_next.new.core c.step.new.core c.answer.new.core
-    c.args.self.now c.begin_next.new.self c.answer.new.self c.in_ok-told.told c.len-op.result _ c.begin_next.ensures.advanced
+    onward-steps (g.G.Gate.passed c.args.gate.now) c.args.operations.now c.args.core.now c.begin_next.new.core c.step.new.core c.go_on.new.core
+    c.args.self.now c.begin_next.new.self c.go_on.new.self c.in_ok-told.told c.len-op.result _ c.begin_next.ensures.advanced
     c.begin_next.ensures.events (λ e. let yes : c.is_between.result ≡ true = c.is_between.ensures.1 e in cc)
     (record {
       rule = c.in_ok-told.ensures.rule;
@@ -32,4 +34,4 @@ returns-clause-advanced g c =
       busy = c.in_ok-told.ensures.busy;
       moves = c.in_ok-told.ensures.moved;
       others = c.in_ok-told.ensures.others;
-    }) (search rules) c.answer.ensures.answered c.steps.ensures.rule
+    }) (search rules) c.go_on.ensures.answered c.steps.ensures.rule

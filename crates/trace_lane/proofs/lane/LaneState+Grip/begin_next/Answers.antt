@@ -15,39 +15,40 @@ loop-op-init g c = record {
   here = search rules;
 }
 
-pub begin-requires-clause-serves : goal.begin-requires-clause-serves
-begin-requires-clause-serves g c = (c.loop-op.invariant.so.stands.core, c.loop-op.invariant.so.stands.has)
+pub start-requires-clause-serves : goal.start-requires-clause-serves
+start-requires-clause-serves g c = (c.loop-op.invariant.so.stands.core, c.loop-op.invariant.so.stands.has)
 
-pub begin-requires-clause-ready : goal.begin-requires-clause-ready
-begin-requires-clause-ready g c = (
+pub start-requires-clause-ready : goal.start-requires-clause-ready
+start-requires-clause-ready g c = (
   c.args.operations.now,
+  c.loop-op.invariant.so.stands.calls,
   next-ready c.loop-op.core c.args.operations.now c.loop-op.self c.loop-op.op _ c.loop-op.invariant.so.stands c.loop-op.invariant.between
       c.loop-op.invariant.here c.loop-op-test.true,
 )
 
 pub returns-then-not-is_between-2-clause-events : goal.returns-then-not-is_between-2-clause-events
 returns-then-not-is_between-2-clause-events g c =
-    (onward-next (g.G.Gate.passed c.args.gate.now) c.args.operations.now c.args.core.now c.loop-op.core c.begin.new.core c.args.self.now
-    c.loop-op.self c.begin.new.self c.loop-op.op c.number_of.result _ c.loop-op.invariant.so c.steps.ensures.rule c.loop-op.invariant.between
-    c.loop-op.invariant.here c.loop-op-test.true c.begin.ensures.begun c.number_of.ensures c.pass.ensures).no_event
+    (onward-next (g.G.Gate.passed c.args.gate.now) c.args.operations.now c.args.core.now c.loop-op.core c.start.new.core c.args.self.now
+    c.loop-op.self c.start.new.self c.loop-op.op c.number_of.result _ c.loop-op.invariant.so c.steps.ensures.rule c.loop-op.invariant.between
+    c.loop-op.invariant.here c.loop-op-test.true c.start.ensures.begun c.number_of.ensures c.pass.ensures).no_event
     ∙ c.loop-op.invariant.same
 
 pub returns-then-not-is_between-2-clause-advanced : goal.returns-then-not-is_between-2-clause-advanced
 returns-then-not-is_between-2-clause-advanced g c =
-    (onward-next (g.G.Gate.passed c.args.gate.now) c.args.operations.now c.args.core.now c.loop-op.core c.begin.new.core c.args.self.now
-    c.loop-op.self c.begin.new.self c.loop-op.op c.number_of.result _ c.loop-op.invariant.so c.steps.ensures.rule c.loop-op.invariant.between
-    c.loop-op.invariant.here c.loop-op-test.true c.begin.ensures.begun c.number_of.ensures c.pass.ensures).so
+    (onward-next (g.G.Gate.passed c.args.gate.now) c.args.operations.now c.args.core.now c.loop-op.core c.start.new.core c.args.self.now
+    c.loop-op.self c.start.new.self c.loop-op.op c.number_of.result _ c.loop-op.invariant.so c.steps.ensures.rule c.loop-op.invariant.between
+    c.loop-op.invariant.here c.loop-op-test.true c.start.ensures.begun c.number_of.ensures c.pass.ensures).so
 
 pub loop-op-preserved : goal.loop-op-preserved
 loop-op-preserved g c =
-    let between : c.begin.new.self.stage ≡ stage.Between = search rules in
-    let next = onward-next (g.G.Gate.passed c.args.gate.now) c.args.operations.now c.args.core.now c.loop-op.core c.begin.new.core c.args.self.now
-    c.loop-op.self c.begin.new.self c.loop-op.op c.number_of.result _ c.loop-op.invariant.so c.steps.ensures.rule c.loop-op.invariant.between
-    c.loop-op.invariant.here c.loop-op-test.true c.begin.ensures.begun c.number_of.ensures c.pass.ensures in
+    let between : c.start.new.self.stage ≡ stage.Between = search rules in
+    let next = onward-next (g.G.Gate.passed c.args.gate.now) c.args.operations.now c.args.core.now c.loop-op.core c.start.new.core c.args.self.now
+    c.loop-op.self c.start.new.self c.loop-op.op c.number_of.result _ c.loop-op.invariant.so c.steps.ensures.rule c.loop-op.invariant.between
+    c.loop-op.invariant.here c.loop-op-test.true c.start.ensures.begun c.number_of.ensures c.pass.ensures in
     record {
       so = next.so;
       same = next.no_event ∙ c.loop-op.invariant.same;
       between = between;
-      here = begun-more c.loop-op.self.outcomes.items c.begin.new.self.outcomes.items c.begin.new.self.stage c.loop-op.op between next.count
+      here = begun-more c.loop-op.self.outcomes.items c.start.new.self.outcomes.items c.start.new.self.stage c.loop-op.op between next.count
           c.loop-op.invariant.here;
     }

@@ -4,7 +4,7 @@ use Rattle.errand_steps.specs.Calls.{alloc}
 use Rattle.errand_steps.specs.declared.reply.Reply.TheVariants as reply
 use Rattle.trace_text.specs.declared.trace.Op.TheVariants as op
 use Rattle.trace_lane.specs.Made.{Skips}
-use Rattle.trace_lane.proofs.LaneBegun.{slot-none, slot-some}
+use Rattle.trace_lane.proofs.LaneParts.{slot-none, slot-some}
 use Rattle.trace_lane.proofs.LaneParts.{slot-full}
 use Rattle.trace_lane.proofs.MadeLemmas.{made-given, made-refused, made-skip, made-spent}
 use Rattle.trace_lane.proofs.lane.LaneState.make_alloc.Goals as goal

@@ -3,7 +3,7 @@ use Rattle.std.specs.Prelude.{slice_set}
 use Rattle.std.specs.List.{slice_index_or}
 use Rattle.trace_text.specs.declared.trace.Op.TheVariants as op
 use Rattle.trace_lane.specs.Made.{Skips}
-use Rattle.trace_lane.proofs.LaneBegun.{emptied-empty}
+use Rattle.trace_lane.proofs.LaneParts.{emptied-empty}
 use Rattle.trace_lane.proofs.LaneParts.{slot-empty}
 use Rattle.trace_lane.proofs.MadeLemmas.{made-put, made-put_full, made-skip}
 use Rattle.trace_lane.proofs.lane.LaneState.make_put.Goals as goal

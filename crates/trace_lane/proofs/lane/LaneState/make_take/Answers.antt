@@ -2,7 +2,7 @@ use Rattle.std.proofs.Common.{None, sym, ap, ◌∙◌, subst}
 use Rattle.std.specs.List.{slice_index_or}
 use Rattle.trace_text.specs.declared.trace.Op.TheVariants as op
 use Rattle.trace_lane.specs.Made.{Skips}
-use Rattle.trace_lane.proofs.LaneBegun.{slot-none, slot-some}
+use Rattle.trace_lane.proofs.LaneParts.{slot-none, slot-some}
 use Rattle.trace_lane.proofs.LaneParts.{slot-full}
 use Rattle.trace_lane.proofs.MadeLemmas.{made-empty, made-got, made-skip}
 use Rattle.trace_lane.proofs.lane.LaneState.make_take.Goals as goal

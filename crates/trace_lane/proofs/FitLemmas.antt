@@ -1,0 +1,229 @@
+-- The outcomes of a lane so far fit the events that are seen.
+use Rattle.std.proofs.Common.{ℕ, zero, suc, Bool, true, false, ◌≡◌, ◌<◌, ◌≤◌, ◌∷◌, ◌++◌, List, [], Option, Some, None, length, take, refl, sym, ap, ◌∙◌, subst, arith, append_assoc, append-nil}
+use Rattle.std.specs.List.{slice_index_or}
+use Rattle.std.proofs.lemmas.Bool.{true≢false}
+use Rattle.heap_geometry.specs.declared.geometry.Geometry.{Geometry}
+use Rattle.pool_model.specs.declared.event.Event.{Event}
+use Rattle.pool_model.specs.Histories.{own}
+use Rattle.pool_model.proofs.HistoryLemmas.{own-append}
+use Rattle.errand_steps.specs.Calls.{Call}
+use Rattle.errand_steps.specs.Errands.{ErrandFields}
+use Rattle.errand_steps.specs.declared.reply.Reply.{Reply}
+use Rattle.sound_laws.specs.events.Made.{LeadsBy, Made}
+use Rattle.trace_text.specs.declared.trace.Op.{Op}
+use Rattle.lane_engine.specs.Callers.{Caller, IsAtRest, IsCall, MadeBy, OwnsFor, at_once, by_steps, new_caller}
+use Rattle.lane_outcomes.specs.declared.registers.Held.{Held}
+use Rattle.lane_outcomes.specs.declared.outcome.Outcome.{Outcome}
+use Rattle.lane_outcomes.specs.declared.outcome.Outcome.TheVariants as outcome
+use Rattle.lane_outcomes.specs.Fits.{Fits, Walks}
+use Rattle.lane_outcomes.specs.Lane.{Position, position_after, spent_after, start}
+use Rattle.lane_outcomes.specs.Rows.{Setting}
+use Rattle.lane_outcomes.specs.Standing.{setting_in}
+use Rattle.lane_outcomes.proofs.FitLemmas.{walks-later}
+use Rattle.trace_lane.specs.declared.stage.OperationStage.{OperationStage}
+use Rattle.trace_lane.specs.declared.stage.OperationStage.TheVariants as stage
+use Rattle.trace_lane.specs.Doing.{AllMadeFor}
+use Rattle.trace_lane.specs.Lanes.{IsLane, StandsBy}
+use Rattle.trace_lane.proofs.AnswerLemmas.{HasMovedOn}
+use Rattle.trace_lane.proofs.CallerLemmas.{Owns, ends-called, in-begun, in-way, leads-first, leads-rest, moved-none, moved-then}
+use Rattle.trace_lane.proofs.EndedLemmas.{lane-resting}
+use Rattle.trace_lane.proofs.HoldsLemmas.{leads-split}
+use Rattle.trace_lane.proofs.MakingLemmas.{empty}
+use Rattle.trace_lane.proofs.NeedLemmas.{take_all}
+use Rattle.trace_lane.proofs.OwnLemmas.{empty-holds}
+use Rattle.trace_lane.proofs.RowLemmas.{IsBetween, setting_at}
+use Rattle.trace_lane.proofs.WalkLemmas.{HasWalked, all-walk}
+use Rattle.trace_lane.proofs.WorkLemmas.{all-made}
+
+-- whole calls move their caller on
+call-moved :
+    (g : Geometry) (c d : Caller) (call : Call) (answer : Reply) → IsAtRest g c → OwnsFor c.seen c.errand.caller call → MadeBy c call answer d
+    → (all : List Event) × HasMovedOn c.errand d.errand c.seen d.seen all
+call-moved g c d call answer rests owned (by_steps ends) = let h = ends-called g c d call answer rests owned ends in (h.added, h.moved)
+call-moved g c d call answer rests owned (at_once words is_alloc is_spent spent same) =
+    ([], subst (λ (x : Caller). HasMovedOn c.errand x.errand c.seen x.seen []) (sym same) (moved-none c.errand c.seen))
+
+leads-moved :
+    (g : Geometry) (made : List Made) (c d : Caller) → LeadsBy (IsCall g) c made d → (all : List Event) × HasMovedOn c.errand d.errand c.seen d.seen all
+leads-moved g [] c d same =
+    ([], subst (λ (x : Caller). HasMovedOn c.errand x.errand c.seen x.seen []) (sym same) (moved-none c.errand c.seen))
+leads-moved g (m ∷ made) c d (t, one, leads) =
+    let first = call-moved g c t m.call m.answer one.rested one.owned one.made in
+    let rest = leads-moved g made t d leads in
+    (first.0 ++ rest.0, moved-then c.errand t.errand d.errand c.seen t.seen d.seen first.0 rest.0 first.1 rest.1)
+
+-- as many operations have walked as have outcomes
+used-first :
+    (setting : Setting) (from to : Position) (used rest : List Op) (results : List Outcome) → Walks setting from used results to
+    → take (length results) (used ++ rest) ≡ used
+used-first setting from to [] rest [] walks = refl
+used-first setting from to [] rest (result ∷ results) walks = absurd walks
+used-first setting from to (operation ∷ used) rest [] walks = absurd walks
+used-first setting from to (operation ∷ used) rest (result ∷ results) (piece, row, walks) =
+    ap (λ xs. operation ∷ xs) (used-first setting (position_after from operation result piece) to used rest results walks)
+
+-- a new lane is before its first operation
+new-between : (g : Geometry) (caller : ℕ) → IsAtRest g (new_caller caller g) → IsBetween g (new_caller caller g) start
+new-between g caller rests = record {
+  rests = rests;
+  done = refl;
+  answered = refl;
+  spent = λ is. absurd (true≢false (sym is));
+  holds = empty-holds (Owns (new_caller caller g));
+}
+
+-- what a lane has walked when its caller stood behind its last outcome
+pub record HasCome (g : Geometry) (caller : ℕ) (events : List Event) (e : ErrandFields) (operations : List Op) (results : List Outcome) : Type 0 where
+  pub last : Caller
+  pub walked : HasWalked g (new_caller caller g) last start operations results
+  pub more : List Event
+  pub seen : events ≡ last.seen ++ more
+  pub lost : last.errand.lost ≤ e.lost
+  pub at_limit : last.errand.turns ≡ g.turn_limit → e.turns ≡ g.turn_limit
+
+come-by :
+    (g : Geometry) (caller : ℕ) (events : List Event) (e : ErrandFields) (operations : List Op) (results : List Outcome) (past present : List Made)
+    (now : Caller) (sight others : List Event) → events ≡ sight ++ others → IsAtRest g now → AllMadeFor empty operations results past
+    → LeadsBy (IsCall g) (new_caller caller g) (past ++ present) now → (all : List Event) → HasMovedOn now.errand e now.seen sight all
+    → HasCome g caller events e operations results
+come-by g caller events e operations results past present now sight others seen rests all leads piece on =
+    let first = new_caller caller g in
+    let parts = leads-split (IsCall g) first now past present leads in
+    let s = parts.0 in
+    let first_rests = leads-first g first now (past ++ present) rests leads in
+    let s_rests = leads-rest g first s past first_rests parts.1 in
+    let walked = all-walk g operations results first s start (new-between g caller first_rests) (all-made (IsCall g) empty operations results past first s all parts.1) in
+    let moved = leads-moved g present s now parts.2 in
+    let whole = moved-then s.errand now.errand e s.seen now.seen sight moved.0 piece moved.1 on in
+    let heap : s.errand.geometry ≡ g = s_rests.served.own_errand.geometry in
+    record {
+      last = s;
+      walked = walked;
+      more = whole.rest ++ others;
+      seen = seen ∙ ap (λ xs. xs ++ others) whole.seen ∙ append_assoc s.seen whole.rest others;
+      lost = whole.lost;
+      at_limit = λ is.
+          whole.at_limit (is ∙ ap (λ (x : Geometry). x.turn_limit) (sym heap)) ∙ ap (λ (x : Geometry). x.turn_limit) heap;
+    }
+
+stands-come :
+    (g : Geometry) (caller : ℕ) (events : List Event) (e : ErrandFields) (operations : List Op) (results : List Outcome) (past present : List Made)
+    (under : Option Call) (sight others : List Event) → events ≡ sight ++ others → AllMadeFor empty operations results past
+    → StandsBy g caller (past ++ present) under (record { errand = e; seen = sight }) → HasCome g caller events e operations results
+stands-come g caller events e operations results past present None sight others seen all (leads, rests) =
+    let now : Caller = record { errand = e; seen = sight } in
+    come-by g caller events e operations results past present now sight others seen rests all leads [] (moved-none e sight)
+stands-come g caller events e operations results past present (Some call) sight others seen all (last, leads, rests, owned, is_in) =
+    let now : Caller = record { errand = e; seen = sight } in
+    let way = in-way last call (in-begun g last now call rests owned is_in) now is_in in
+    come-by g caller events e operations results past present last sight others seen rests all leads way.added way.moved
+
+pub lane-come :
+    (g : Geometry) (caller : ℕ) (events : List Event) (e : ErrandFields) (operations : List Op) (registers : List (Option Held)) (results : List Outcome)
+    (at : OperationStage) (calls : List Call) → IsLane g caller events e operations registers results at calls → HasCome g caller events e operations results
+lane-come g caller events e operations registers results at calls lane =
+    let m = lane.making in
+    stands-come g caller events e operations results m.past m.present lane.under lane.sight lane.more.more lane.more.seen m.ended
+    (subst (λ ms. StandsBy g caller ms lane.under (record { errand = e; seen = lane.sight })) m.all lane.stands)
+
+-- the outcomes so far fit the events that are seen, however much more was lost
+pub come-fits :
+    (g : Geometry) (caller : ℕ) (events : List Event) (e : ErrandFields) (operations : List Op) (results : List Outcome) (lost : ℕ) → e.lost ≤ lost
+    → (come : HasCome g caller events e operations results)
+    → Walks (setting_in events caller g.turn_limit lost) start (take (length results) operations) results come.walked.end
+come-fits g caller events e operations results lost more come =
+    let w = come.walked in
+    let setting = setting_at g (new_caller caller g) come.last in
+    let least = come.lost in
+    let later =
+    walks-later setting come.more lost (omega (arith, least, more)) start w.end w.used results w.walks in
+    let here : Walks (setting_in events caller g.turn_limit lost) start w.used results w.end =
+    subst (λ h. Walks (setting_in h caller g.turn_limit lost) start w.used results w.end) (sym come.seen) later in
+    let used : take (length results) operations ≡ w.used =
+    ap (λ ops. take (length results) ops) w.cut ∙ used-first setting start w.end w.used w.rest results w.walks in
+    subst (λ ops. Walks (setting_in events caller g.turn_limit lost) start ops results w.end) (sym used) here
+
+-- what a lane at rest has added is what its outcomes tell
+pub record HasEndedSo (g : Geometry) (caller : ℕ) (events : List Event) (e : ErrandFields) (operations : List Op) (results : List Outcome) : Type 0 where
+  pub come : HasCome g caller events e operations results
+  pub done : own caller events ≡ come.walked.end.done
+  pub turns : come.walked.end.spent ≡ true → e.turns ≡ g.turn_limit
+
+pub lane-ended :
+    (g : Geometry) (caller : ℕ) (events : List Event) (e : ErrandFields) (operations : List Op) (registers : List (Option Held)) (results : List Outcome)
+    (calls : List Call) → IsLane g caller events e operations registers results stage.Between calls
+    → HasEndedSo g caller events e operations results
+lane-ended g caller events e operations registers results calls lane =
+    let r = lane-resting g caller events e operations registers results stage.Between calls refl lane in
+    let now : Caller = record { errand = e; seen = r.sight } in
+    let first = new_caller caller g in
+    let first_rests = leads-first g first now r.made r.rests r.leads in
+    let walked =
+    all-walk g operations results first now start (new-between g caller first_rests) (all-made (IsCall g) empty operations results r.made first now r.all r.leads) in
+    let heap : e.geometry ≡ g = r.rests.served.own_errand.geometry in
+    let come : HasCome g caller events e operations results = record {
+      last = now;
+      walked = walked;
+      more = r.others.more;
+      seen = r.others.seen;
+      lost = omega arith;
+      at_limit = λ is. is;
+    } in
+    let number : e.caller ≡ caller = walked.moved.same_caller in
+    record {
+      come = come;
+      done =
+          ap (own caller) r.others.seen ∙ own-append caller r.sight r.others.more ∙ ap (λ xs. own caller r.sight ++ xs) r.others.not_own
+          ∙ append-nil (own caller r.sight) ∙ subst (λ k. own k r.sight ≡ walked.end.done) number walked.stands.done;
+      turns = walked.stands.spent;
+    }
+
+-- the outcomes of a lane that has all of them fit
+pub lane-fits :
+    (g : Geometry) (caller : ℕ) (events : List Event) (e : ErrandFields) (operations : List Op) (registers : List (Option Held)) (results : List Outcome)
+    (calls : List Call) (lost : ℕ) → IsLane g caller events e operations registers results stage.Between calls → length results ≡ length operations
+    → e.lost ≤ lost → Fits (setting_in events caller g.turn_limit lost) operations results
+lane-fits g caller events e operations registers results calls lost lane whole more =
+    let ended = lane-ended g caller events e operations registers results calls lane in
+    let walks = come-fits g caller events e operations results lost more ended.come in
+    let end = ended.come.walked.end in
+    let all : take (length results) operations ≡ operations = ap (λ n. take n operations) whole ∙ take_all operations in
+    record {
+      end = end;
+      walks = subst (λ ops. Walks (setting_in events caller g.turn_limit lost) start ops results end) all walks;
+      all_used = ended.done;
+    }
+
+pub spent-on : (spent : Bool) (result : Outcome) → spent ≡ true → spent_after spent result ≡ true
+spent-on spent outcome.Spent is = refl
+spent-on spent result is = is
+
+-- a lane that was told to have no turn left has none
+stays-spent :
+    (setting : Setting) (from to : Position) (operations : List Op) (results : List Outcome) → Walks setting from operations results to → from.spent ≡ true
+    → to.spent ≡ true
+stays-spent setting from to [] [] walks is = ap (λ (p : Position). p.spent) walks ∙ is
+stays-spent setting from to [] (result ∷ results) walks is = absurd walks
+stays-spent setting from to (operation ∷ operations) [] walks is = absurd walks
+stays-spent setting from to (operation ∷ operations) (result ∷ results) (piece, row, walks) is =
+    stays-spent setting (position_after from operation result piece) to operations results walks (spent-on from.spent result is)
+
+told-spent :
+    (setting : Setting) (from to : Position) (operations : List Op) (results : List Outcome) (k : ℕ) → Walks setting from operations results to
+    → k < length results → slice_index_or results k outcome.Spent ≡ outcome.Spent → to.spent ≡ true
+told-spent setting from to operations [] k walks lt is = absurd (omega (arith, lt))
+told-spent setting from to [] (result ∷ results) k walks lt is = absurd walks
+told-spent setting from to (operation ∷ operations) (result ∷ results) zero (piece, row, walks) lt is =
+    stays-spent setting (position_after from operation result piece) to operations results walks
+    (subst (λ r. spent_after from.spent r ≡ true) (sym is) refl)
+told-spent setting from to (operation ∷ operations) (result ∷ results) (suc k) (piece, row, walks) lt is =
+    told-spent setting (position_after from operation result piece) to operations results k walks (omega (arith, lt)) is
+
+pub lane-spent :
+    (g : Geometry) (caller : ℕ) (events : List Event) (e : ErrandFields) (operations : List Op) (registers : List (Option Held)) (results : List Outcome)
+    (calls : List Call) (k : ℕ) → IsLane g caller events e operations registers results stage.Between calls → k < length results
+    → slice_index_or results k outcome.Spent ≡ outcome.Spent → e.turns ≡ g.turn_limit
+lane-spent g caller events e operations registers results calls k lane below is =
+    let ended = lane-ended g caller events e operations registers results calls lane in
+    let w = ended.come.walked in
+    ended.turns (told-spent (setting_at g (new_caller caller g) ended.come.last) start w.end w.used results k w.walks below is)

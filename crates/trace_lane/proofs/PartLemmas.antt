@@ -1,0 +1,146 @@
+-- What a part of the code makes of a lane, by its registers, its outcomes and its stage.
+use Rattle.std.proofs.Common.{ℕ, ◌≡◌, ◌≢◌, ◌<◌, ◌∷◌, ◌++◌, List, [], Option, Some, None, length, sym, ap, ◌∙◌, subst, inl, inr, vec_capacity}
+use Rattle.std.specs.Prelude.{◌⊎◌, slice_set}
+use Rattle.std.specs.Option.{option_map}
+use Rattle.std.specs.List.{slice_index_or}
+use Rattle.heap_geometry.specs.declared.need.Need.{Need}
+use Rattle.errand_steps.specs.declared.told.Ending.{Ending}
+use Rattle.errand_steps.specs.declared.told.Ending.TheVariants as ending
+use Rattle.errand_steps.specs.Calls.{Call, take}
+use Rattle.errand_steps.specs.Told.{ended_as}
+use Rattle.sound_laws.specs.events.Made.{Made, answered}
+use Rattle.trace_text.specs.declared.trace.Op.{Op}
+use Rattle.lane_engine.specs.declared.begins.NextCall.{NextCall}
+use Rattle.lane_engine.specs.Begins.{call_of}
+use Rattle.lane_outcomes.specs.declared.registers.Held.{Held}
+use Rattle.lane_outcomes.specs.declared.outcome.Outcome.{Outcome}
+use Rattle.lane_outcomes.specs.Lane.{held_in, registers_after}
+use Rattle.trace_lane.specs.Advances.{AnswersCall, ComesTo, HasAnswered, HasBegun, Rises}
+use Rattle.trace_lane.specs.declared.lane.LaneState.{LaneState}
+use Rattle.trace_lane.specs.declared.stage.OperationStage.{OperationStage}
+use Rattle.trace_lane.specs.declared.stage.OperationStage.TheVariants as stage
+use Rattle.trace_lane.specs.Doing.{DoingOf, call_at, held_there}
+use Rattle.trace_lane.specs.Made.{MadeFor, register_of}
+use Rattle.trace_lane.specs.Paths.{held_blocks, held_by}
+use Rattle.trace_lane.specs.Scripts.{stage_begun}
+use Rattle.trace_lane.proofs.LaneParts.{set-held, slot-held}
+
+module _ {B : Type 0} (place_of : B → ℕ) (block_need : B → Need) (old new : LaneState B) (next : Option NextCall) where
+  -- the operation has its outcome
+  pub record IsEnded (blocks : List (Option B)) (result : Outcome) : Type 0 where
+    pub none : next ≡ None
+    pub caller : new.caller ≡ old.caller
+    pub blocks_are : new.registers.items ≡ blocks
+    pub outcomes : new.outcomes.items ≡ old.outcomes.items ++ result ∷ []
+    pub room : vec_capacity new.outcomes ≡ vec_capacity old.outcomes
+    pub between : new.stage ≡ stage.Between
+
+  -- the operation goes on with a call
+  pub record IsGone (blocks : List (Option B)) (at : OperationStage) (call : Call) : Type 0 where
+    pub some : (c : NextCall) × (next ≡ Some c) × (call_of c ≡ call)
+    pub caller : new.caller ≡ old.caller
+    pub blocks_are : new.registers.items ≡ blocks
+    pub outcomes : new.outcomes.items ≡ old.outcomes.items
+    pub room : vec_capacity new.outcomes ≡ vec_capacity old.outcomes
+    pub at_is : new.stage ≡ at
+
+  abbrev held : List (Option B) → List (Option Held)
+  held blocks = held_blocks place_of block_need blocks
+
+  ended-comes :
+      (operation : Op) (before : List (Option Held)) (made : List Made) (blocks : List (Option B)) (result : Outcome) → IsEnded blocks result
+      → MadeFor (held_in before (register_of operation)) operation result made → held blocks ≡ registers_after before operation result
+      → ComesTo place_of block_need operation before old.outcomes.items made next new
+  ended-comes operation before made blocks result e for registers =
+      subst (λ n. ComesTo place_of block_need operation before old.outcomes.items made n new) (sym e.none)
+      (result, e.outcomes, e.between, for, ap held e.blocks_are ∙ registers)
+
+  gone-comes :
+      (operation : Op) (before : List (Option Held)) (made : List Made) (blocks : List (Option B)) (at : OperationStage) (call : Call) → IsGone blocks at call
+      → DoingOf before (held blocks) operation at made → call ≡ call_at before (held blocks) operation at
+      → ComesTo place_of block_need operation before old.outcomes.items made next new
+  gone-comes operation before made blocks at call e doing is =
+      let P = λ (rs : List (Option Held)) (a : OperationStage).
+      DoingOf before rs operation a made × (call_of e.some.0 ≡ call_at before rs operation a) in
+      let here : P (held blocks) at = (doing, e.some.2 ∙ is) in
+      let there : P (held new.registers.items) new.stage =
+      subst (λ a. P (held new.registers.items) a) (sym e.at_is) (subst (λ bs. P (held bs) at) (sym e.blocks_are) here) in
+      subst (λ n. ComesTo place_of block_need operation before old.outcomes.items made n new) (sym e.some.1) (e.outcomes, there.0, there.1)
+
+  pub begin-goes :
+      (operation : Op) (blocks : List (Option B)) (at : OperationStage) (call : Call) → IsGone blocks at call → length blocks ≡ length old.registers.items
+      → DoingOf (held old.registers.items) (held blocks) operation at []
+      → call ≡ call_at (held old.registers.items) (held blocks) operation at → HasBegun place_of block_need operation old next new
+  begin-goes operation blocks at call e size doing is = record {
+    keeps = record { caller = e.caller; size = ap length e.blocks_are ∙ size; room = e.room };
+    comes = gone-comes operation (held old.registers.items) [] blocks at call e doing is;
+  }
+
+  pub answer-ends :
+      (operation : Op) (ended : Ending B) (blocks : List (Option B)) (result : Outcome) → IsEnded blocks result → length blocks ≡ length old.registers.items
+      → ((before : List (Option Held)) (made : List Made) → DoingOf before (held old.registers.items) operation old.stage made
+      → AnswersCall place_of block_need (call_at before (held old.registers.items) operation old.stage) ended
+      → MadeFor (held_in before (register_of operation)) operation result
+      (made ++ answered (call_at before (held old.registers.items) operation old.stage) (ended_as place_of block_need ended) ∷ [])
+      × (held blocks ≡ registers_after before operation result)) → HasAnswered place_of block_need operation ended old next new
+  answer-ends operation ended blocks result e size so = record {
+    keeps = record { caller = e.caller; size = ap length e.blocks_are ∙ size; room = e.room };
+    rises = subst (λ n. Rises place_of block_need old.stage n new.stage) (sym e.none) tt;
+    over = λ spent. e.none;
+    comes = λ before made doing answers.
+        let s = so before made doing answers in
+        ended-comes operation before
+        (made ++ answered (call_at before (held old.registers.items) operation old.stage) (ended_as place_of block_need ended) ∷ []) blocks result e s.0 s.1;
+  }
+
+  pub answer-goes :
+      (operation : Op) (ended : Ending B) (blocks : List (Option B)) (at : OperationStage) (call : Call) → IsGone blocks at call
+      → length blocks ≡ length old.registers.items → ended ≢ ending.Spent
+      → (stage_begun old.stage < stage_begun at) ⊎ ((shelf : ℕ) × (call ≡ take shelf) × (old.stage ≡ stage.Calling) × (at ≡ stage.Calling))
+      → ((before : List (Option Held)) (made : List Made) → DoingOf before (held old.registers.items) operation old.stage made
+      → AnswersCall place_of block_need (call_at before (held old.registers.items) operation old.stage) ended
+      → DoingOf before (held blocks) operation at
+      (made ++ answered (call_at before (held old.registers.items) operation old.stage) (ended_as place_of block_need ended) ∷ [])
+      × (call ≡ call_at before (held blocks) operation at)) → HasAnswered place_of block_need operation ended old next new
+  answer-goes operation ended blocks at call e size over rises so =
+      let goes : Rises place_of block_need old.stage (Some e.some.0) new.stage = elim rises [
+        | inl less ↦ inl (subst (λ a. stage_begun old.stage < stage_begun a) (sym e.at_is) less)
+        | inr again ↦ inr (again.0, e.some.2 ∙ again.1, again.2, e.at_is ∙ again.3)
+      ] in
+      record {
+        keeps = record { caller = e.caller; size = ap length e.blocks_are ∙ size; room = e.room };
+        rises = subst (λ n. Rises place_of block_need old.stage n new.stage) (sym e.some.1) goes;
+        over = λ spent. absurd (over spent);
+        comes = λ before made doing answers.
+            let s = so before made doing answers in
+            gone-comes operation before
+            (made ++ answered (call_at before (held old.registers.items) operation old.stage) (ended_as place_of block_need ended) ∷ []) blocks at call e s.0
+            s.1;
+      }
+
+  -- what the code leaves of a lane whose stage it has set, and of one that it has given its outcome
+  pub staged :
+      (from : LaneState B) (at : OperationStage) (call : Call) → ((c : NextCall) × (next ≡ Some c) × (call_of c ≡ call)) → new ≡ record from { stage = at }
+      → from.caller ≡ old.caller → from.outcomes ≡ old.outcomes → IsGone from.registers.items at call
+  staged from at call some is caller outcomes = record {
+    some = some;
+    caller = ap (λ (l : LaneState B). l.caller) is ∙ caller;
+    blocks_are = ap (λ (l : LaneState B). l.registers.items) is;
+    outcomes = ap (λ (l : LaneState B). l.outcomes.items) is ∙ ap (λ os. os.items) outcomes;
+    room = ap (λ (l : LaneState B). vec_capacity l.outcomes) is ∙ ap (λ os. vec_capacity os) outcomes;
+    at_is = ap (λ (l : LaneState B). l.stage) is;
+  }
+
+-- the block of a register, as the code reads it
+pub read-held :
+    {B : Type 0} (place_of : B → ℕ) (block_need : B → Need) (blocks : List (Option B)) (r : ℕ) (held : Held)
+    → held ≡ held_there (option_map (held_by place_of block_need) (slice_index_or blocks r None))
+    → held ≡ held_there (held_in (held_blocks place_of block_need blocks) r)
+read-held place_of block_need blocks r held is = is ∙ ap held_there (sym (slot-held place_of block_need blocks r))
+
+-- a register that is set to a block
+pub set-block :
+    {B : Type 0} (place_of : B → ℕ) (block_need : B → Need) (blocks now : List (Option B)) (r : ℕ) (block : B) → now ≡ slice_set blocks r (Some block)
+    → held_blocks place_of block_need now ≡ slice_set (held_blocks place_of block_need blocks) r (Some (held_by place_of block_need block))
+set-block place_of block_need blocks now r block is =
+    ap (held_blocks place_of block_need) is ∙ set-held place_of block_need blocks r (Some block)

@@ -1,0 +1,747 @@
+-- A lane stands behind each part of an advance: where its operation begins, where its call goes on, and where that has ended.
+use Rattle.std.proofs.Common.{ℕ, true, false, suc, ◌≡◌, ◌<◌, ◌≤◌, ◌+◌, ◌∷◌, ◌++◌, List, [], Option, Some, None, length, refl, sym, ap, ◌∙◌, subst, inl, inr, arith, append_assoc, append-nil, vec_capacity}
+use Rattle.std.specs.Option.{option_map}
+use Rattle.std.proofs.lemmas.List.{length-append, map-append}
+use Rattle.heap_geometry.specs.declared.geometry.Geometry.{Geometry}
+use Rattle.heap_geometry.specs.declared.need.Need.{Need}
+use Rattle.pool_model.specs.declared.event.Event.{Event}
+use Rattle.pool_model.specs.Histories.{own}
+use Rattle.pool_model.specs.Calls.{Ended, EventsOf}
+use Rattle.pool_model.specs.Calls as event_end
+use Rattle.pool_model.proofs.HistoryLemmas.{own-append}
+use Rattle.sound_laws.specs.events.Ends.{HasEnded}
+use Rattle.pool_model.specs.Legal.{IsLegal}
+use Rattle.errand_steps.specs.declared.reply.Begun.TheVariants as begun
+use Rattle.errand_steps.specs.declared.reply.Progress.{Progress}
+use Rattle.errand_steps.specs.declared.reply.Progress.TheVariants as progress
+use Rattle.errand_steps.specs.declared.reply.Reply.{Reply}
+use Rattle.errand_steps.specs.declared.reply.Reply.TheVariants as reply
+use Rattle.errand_steps.specs.declared.told.Ending.{Ending}
+use Rattle.errand_steps.specs.declared.told.Ending.TheVariants as ending
+use Rattle.errand_steps.specs.declared.told.Stepped.{Stepped}
+use Rattle.errand_steps.specs.declared.told.Stepped.TheVariants as stepped
+use Rattle.errand_steps.specs.Begins.{IsBusy, IsIdle, alloc_answer}
+use Rattle.errand_steps.specs.Calls.{Call, alloc, free, write, read, put, take, begun_by}
+use Rattle.errand_steps.specs.Errands.{ErrandFields}
+use Rattle.errand_steps.specs.Told.{ended_as, stepped_as}
+use Rattle.errand_steps.proofs.AnswerLemmas.{done-told}
+use Rattle.sound_laws.specs.events.Made.{LeadsBy, Made, answered}
+use Rattle.sound_laws.specs.events.UnderWay.{IsUnderWay}
+use Rattle.sound_laws.proofs.events_lemmas.MadeLemmas.{leads-more}
+use Rattle.sound_laws.specs.events.Stages.{stage_of}
+use Rattle.step_machine.proofs.SpareLemmas.{take-none}
+use Rattle.step_machine.specs.Moments.{HasSeenMore, IsMoment, IsServed}
+use Rattle.step_machine.proofs.MomentLemmas.{same-seen}
+use Rattle.trace_text.specs.declared.limits.TheConstants.{REGISTERS}
+use Rattle.trace_text.specs.declared.trace.Op.{Op}
+use Rattle.trace_text.specs.declared.trace.Op.TheVariants as op
+use Rattle.trace_text.specs.Traces.{IsOp}
+use Rattle.lane_engine.specs.declared.begins.NextCall.{NextCall}
+use Rattle.lane_engine.specs.Begins.{begin_answer, call_of}
+use Rattle.lane_engine.specs.Callers.{Caller, FitsCall, IsAtRest, IsCall, IsIn, OwnsFor, at_once, by_steps, new_caller}
+use Rattle.lane_engine.specs.Engines.{Engine}
+use Rattle.lane_engine.specs.Told.{HasStepped}
+use Rattle.lane_outcomes.specs.declared.registers.Held.{Held}
+use Rattle.lane_outcomes.specs.declared.outcome.Outcome.{Outcome}
+use Rattle.lane_outcomes.specs.Lane.{held_in}
+use Rattle.trace_lane.specs.Advances.{AnswersCall, ComesTo, HasAnswered, HasBegun, HasGoneOn, IsAgain, IsAtHand, IsBefore, IsShort, IsTold, KeepsLane, MayAnswer}
+use Rattle.trace_lane.specs.declared.lane.LaneState.{LaneState}
+use Rattle.trace_lane.specs.declared.stage.OperationStage.{OperationStage}
+use Rattle.trace_lane.specs.declared.stage.OperationStage.TheVariants as stage
+use Rattle.trace_lane.specs.Doing.{AllMadeFor, DoingOf, IsMaking, call_at}
+use Rattle.trace_lane.specs.Lanes.{IsLane, StandsBy}
+use Rattle.trace_lane.specs.Made.{AreMisses, calls_in, calls_made}
+use Rattle.trace_lane.specs.Paths.{begun_count}
+use Rattle.trace_lane.specs.Scripts.{begun_bound, registers_from, script_left, stage_begun}
+use Rattle.trace_lane.specs.States.{IsLaneOf, registers_at}
+use Rattle.trace_lane.proofs.AnswerLemmas.{MayCall, alloc-not_begun, call-begun, goes-on as call-goes_on, settled-of}
+use Rattle.trace_lane.proofs.ApartLemmas.{owns-on}
+use Rattle.trace_lane.proofs.CallerLemmas.{IsWay, Owns, answers-so, ends-called, in-begun, in-way, moment-from}
+use Rattle.trace_lane.proofs.DoingLemmas.{on-block}
+use Rattle.trace_lane.proofs.HoldsLemmas.{HoldsAll, all-hold, leads-split}
+use Rattle.trace_lane.proofs.LaneParts.{blocks-size}
+use Rattle.trace_lane.proofs.MakingLemmas.{HasNeed, IsAtWork, comes-making, doing-begun, doing-few, doing-fits, empty, making-between, making-work}
+use Rattle.trace_lane.proofs.NeedLemmas.{left-ends, left-rises, need-words}
+use Rattle.trace_lane.proofs.OwnLemmas.{empty-holds}
+use Rattle.trace_lane.proofs.WorkLemmas.{all-made, caller-laws, doing-owns, owned-has}
+
+-- what a caller owns it owns still, whatever others did
+pub owns-beside :
+    (g : Geometry) (caller : ℕ) (before after : List Event) (call : Call) → HasSeenMore caller before after → IsLegal g after
+    → OwnsFor before caller call → OwnsFor after caller call
+owns-beside g caller before after (alloc words) seen legal owned = tt
+owns-beside g caller before after (free place need) seen legal owned =
+    owns-on g caller place need before after [] legal (seen.more, seen.seen, seen.not_own) tt owned
+owns-beside g caller before after (write place need i v) seen legal owned =
+    owns-on g caller place need before after [] legal (seen.more, seen.seen, seen.not_own) tt owned
+owns-beside g caller before after (read place need i) seen legal owned =
+    owns-on g caller place need before after [] legal (seen.more, seen.seen, seen.not_own) tt owned
+owns-beside g caller before after (put place need shelf) seen legal owned =
+    owns-on g caller place need before after [] legal (seen.more, seen.seen, seen.not_own) tt owned
+owns-beside g caller before after (take shelf) seen legal owned = tt
+
+-- a call that begins started
+may-begin :
+    (e : ErrandFields) (events : List Event) (call : Call) → begin_answer e call ≡ begun.Started → OwnsFor events e.caller call → MayCall e events call
+may-begin e events (alloc words) started owned = started
+may-begin e events (free place need) started owned = owned
+may-begin e events (write place need i v) started owned = owned
+may-begin e events (read place need i) started owned = owned
+may-begin e events (put place need shelf) started owned = owned
+may-begin e events (take shelf) started owned = tt
+
+-- only an allocation finds no turn left
+spent-alloc :
+    (e : ErrandFields) (call : Call) → begin_answer e call ≡ begun.Spent → (words : ℕ) × (call ≡ alloc words) × (alloc_answer e words ≡ begun.Spent)
+spent-alloc e (alloc words) spent = (words, refl, spent)
+spent-alloc e (free place need) spent = absurd (cc)
+spent-alloc e (write place need i v) spent = absurd (cc)
+spent-alloc e (read place need i) spent = absurd (cc)
+spent-alloc e (put place need shelf) spent = absurd (cc)
+spent-alloc e (take shelf) spent = absurd (cc)
+
+resize-none :
+    (before registers : List (Option Held)) (r need : ℕ) (made : List Made) → DoingOf before registers (op.Resize r need) stage.Calling made → made ≡ []
+resize-none before registers r need made doing = (on-block (held_in before r) _ doing).so.2
+
+-- an operation that has ended a call has no allocation under way
+longer-not : (made : List Made) (m : Made) → made ++ m ∷ [] ≡ [] → ⊥
+longer-not made m none = let long = length-append made (m ∷ []) in let zero_long = ap length none in omega (arith, long, zero_long)
+
+next-started :
+    (e : ErrandFields) (before registers : List (Option Held)) (operation : Op) (at : OperationStage) (made : List Made) (m : Made)
+    → DoingOf before registers operation at (made ++ m ∷ []) → begin_answer e (call_at before registers operation at) ≡ begun.Started
+next-started e before registers (op.Alloc r need v) stage.Calling made m doing = absurd (longer-not made m doing.2)
+next-started e before registers (op.Alloc r need v) (stage.Filling i) made m doing = refl
+next-started e before registers (op.Free r) stage.Calling made m doing = refl
+next-started e before registers (op.Fill r v) (stage.Filling i) made m doing = refl
+next-started e before registers (op.Check r) (stage.Summing i total) made m doing = refl
+next-started e before registers (op.Put r shelf) stage.Calling made m doing = refl
+next-started e before registers (op.Take r shelf) stage.Calling made m doing = refl
+next-started e before registers (op.Resize r need) stage.Calling made m doing =
+    absurd (longer-not made m (resize-none before registers r need (made ++ m ∷ []) doing))
+next-started e before registers (op.Resize r need) (stage.Copying old i None) made m doing = refl
+next-started e before registers (op.Resize r need) (stage.Copying old i (Some w)) made m doing = refl
+next-started e before registers (op.Resize r need) stage.Releasing made m doing = refl
+next-started e before registers (op.Alloc r need v) stage.Between made m doing = absurd doing
+next-started e before registers (op.Alloc r need v) (stage.Summing i total) made m doing = absurd doing
+next-started e before registers (op.Alloc r need v) (stage.Copying old i w) made m doing = absurd doing
+next-started e before registers (op.Alloc r need v) stage.Releasing made m doing = absurd doing
+next-started e before registers (op.Free r) stage.Between made m doing = absurd doing
+next-started e before registers (op.Free r) (stage.Filling i) made m doing = absurd doing
+next-started e before registers (op.Free r) (stage.Summing i total) made m doing = absurd doing
+next-started e before registers (op.Free r) (stage.Copying old i w) made m doing = absurd doing
+next-started e before registers (op.Free r) stage.Releasing made m doing = absurd doing
+next-started e before registers (op.Fill r v) stage.Between made m doing = absurd doing
+next-started e before registers (op.Fill r v) stage.Calling made m doing = absurd doing
+next-started e before registers (op.Fill r v) (stage.Summing i total) made m doing = absurd doing
+next-started e before registers (op.Fill r v) (stage.Copying old i w) made m doing = absurd doing
+next-started e before registers (op.Fill r v) stage.Releasing made m doing = absurd doing
+next-started e before registers (op.Check r) stage.Between made m doing = absurd doing
+next-started e before registers (op.Check r) stage.Calling made m doing = absurd doing
+next-started e before registers (op.Check r) (stage.Filling i) made m doing = absurd doing
+next-started e before registers (op.Check r) (stage.Copying old i w) made m doing = absurd doing
+next-started e before registers (op.Check r) stage.Releasing made m doing = absurd doing
+next-started e before registers (op.Put r shelf) stage.Between made m doing = absurd doing
+next-started e before registers (op.Put r shelf) (stage.Filling i) made m doing = absurd doing
+next-started e before registers (op.Put r shelf) (stage.Summing i total) made m doing = absurd doing
+next-started e before registers (op.Put r shelf) (stage.Copying old i w) made m doing = absurd doing
+next-started e before registers (op.Put r shelf) stage.Releasing made m doing = absurd doing
+next-started e before registers (op.Take r shelf) stage.Between made m doing = absurd doing
+next-started e before registers (op.Take r shelf) (stage.Filling i) made m doing = absurd doing
+next-started e before registers (op.Take r shelf) (stage.Summing i total) made m doing = absurd doing
+next-started e before registers (op.Take r shelf) (stage.Copying old i w) made m doing = absurd doing
+next-started e before registers (op.Take r shelf) stage.Releasing made m doing = absurd doing
+next-started e before registers (op.Resize r need) stage.Between made m doing = absurd doing
+next-started e before registers (op.Resize r need) (stage.Filling i) made m doing = absurd doing
+next-started e before registers (op.Resize r need) (stage.Summing i total) made m doing = absurd doing
+
+-- a take that begins again had been missed
+misses-last :
+    (shelf : ℕ) (made : List Made) (m : Made) → AreMisses shelf (made ++ m ∷ []) → (expected : ℕ) × (found : ℕ) × (m.answer ≡ reply.Missed expected found)
+misses-last shelf [] m (expected, found, is, rest) = (expected, found, ap (λ (x : Made). x.answer) is)
+misses-last shelf (x ∷ made) m (expected, found, is, rest) = misses-last shelf made m rest
+
+again-so :
+    (before registers now : List (Option Held)) (operation : Op) (made : List Made) (m : Made) (shelf : ℕ)
+    → DoingOf before now operation stage.Calling (made ++ m ∷ []) → call_at before now operation stage.Calling ≡ take shelf
+    → (call_at before registers operation stage.Calling ≡ take shelf) × (expected : ℕ) × (found : ℕ) × (m.answer ≡ reply.Missed expected found)
+again-so before registers now (op.Take r k) made m shelf doing is =
+    let missed = misses-last k made m doing.2 in (is, missed.0, missed.1, missed.2)
+again-so before registers now (op.Alloc r need v) made m shelf doing is = absurd (cc)
+again-so before registers now (op.Free r) made m shelf doing is = absurd (cc)
+again-so before registers now (op.Fill r v) made m shelf doing is = absurd (cc)
+again-so before registers now (op.Check r) made m shelf doing is = absurd (cc)
+again-so before registers now (op.Put r k) made m shelf doing is = absurd (cc)
+again-so before registers now (op.Resize r need) made m shelf doing is = absurd (cc)
+
+missed-none :
+    (caller shelf expected found : ℕ) (added : List Event) → HasEnded caller (take shelf) (reply.Missed expected found) added → added ≡ []
+missed-none caller shelf expected found added h =
+    let is : Some event_end.take_missed ≡ Some h.ended.0 = h.ended.1 in
+    let same : h.ended.0 ≡ event_end.take_missed = cc in
+    subst (λ (x : Ended). EventsOf caller x added) same h.ended.2
+
+-- the word of a write is one of those that the largest block has
+short-by : {B : Type 0} (place_of : B → ℕ) (block_need : B → Need) (call : Call) → FitsCall call → HasNeed call → IsShort place_of block_need call
+short-by place_of block_need (write place need i v) fits has = let most = need-words need has in omega (arith, fits, most)
+short-by place_of block_need (alloc words) fits has = tt
+short-by place_of block_need (free place need) fits has = tt
+short-by place_of block_need (read place need i) fits has = tt
+short-by place_of block_need (put place need shelf) fits has = tt
+short-by place_of block_need (take shelf) fits has = tt
+
+-- a step that ended no call
+undone-so :
+    {B : Type 0} (place_of : B → ℕ) (block_need : B → Need) (told : Stepped B) → ((ended : Ending B) → told ≡ stepped.Done ended → ⊥) → (r : Reply)
+    → stepped_as place_of block_need told ≡ progress.Done r → ⊥
+undone-so place_of block_need (stepped.Done ended) undone r is = undone ended refl
+undone-so place_of block_need stepped.Idle undone r is = cc
+undone-so place_of block_need stepped.More undone r is = cc
+undone-so place_of block_need stepped.Lost undone r is = cc
+undone-so place_of block_need stepped.Cleared undone r is = cc
+
+module _ {B : Type 0} (engine : Engine B) where
+  abbrev pub g : Geometry
+  g = engine.geometry
+
+  abbrev pub blocks : LaneState B → List (Option Held)
+  blocks lane = registers_at engine lane.registers.items
+
+  -- a lane that has kept its room, with what it has made and where its caller stands
+  lane-stands :
+      (operations : List Op) (old new : LaneState B) (made : List Made) (under : Option Call) (calls : List Call) (f : ErrandFields) (sight : List Event)
+      → length operations ≤ vec_capacity old.outcomes → length old.registers.items ≡ REGISTERS → KeepsLane engine.place_of engine.need_of old new
+      → IsMaking operations (blocks new) new.outcomes.items new.stage made under → calls ≡ calls_made made ++ calls_in under
+      → StandsBy g old.caller made under (record { errand = f; seen = sight }) → HasSeenMore old.caller sight engine.events
+      → IsLaneOf (record engine { errand = f }) operations new calls
+  lane-stands operations old new made under calls f sight room size keeps making are stands more = record {
+    stands = record {
+      made = made;
+      under = under;
+      making = making;
+      begun = are;
+      sight = sight;
+      stands = subst (λ k. StandsBy g k made under (record { errand = f; seen = sight })) (sym keeps.caller) stands;
+      more = subst (λ k. HasSeenMore k sight engine.events) (sym keeps.caller) more;
+    };
+    size = keeps.size ∙ size;
+    room = subst (λ n. length operations ≤ n) (sym keeps.room) room;
+  }
+
+  -- one operation more has begun
+  count-so :
+      (operation : Op) (before : List (Option Held)) (results : List Outcome) (made : List Made) (next : Option NextCall) (new : LaneState B)
+      → ComesTo engine.place_of engine.need_of operation before results made next new → begun_count new.outcomes.items new.stage ≡ length results + 1
+  count-so operation before results made (Some call) new (same, doing, is) =
+      let some = doing-begun before (blocks new) operation new.stage made doing in
+      ap (λ os. begun_count os new.stage) same ∙ omega (arith, some)
+  count-so operation before results made None new (result, outcomes, between, for, registers) =
+      let longer = length-append results (result ∷ []) in
+      ap (λ os. begun_count os new.stage) outcomes ∙ ap (λ at. begun_count (results ++ result ∷ []) at) between ∙ omega (arith, longer)
+
+  -- less is left of the script
+  falls-so :
+      (operations : List Op) (operation : Op) (before : List (Option Held)) (results : List Outcome) (made : List Made) (next : Option NextCall) (new : LaneState B)
+      (at : OperationStage) → IsAtHand operations results operation → stage_begun at < begun_bound
+      → ComesTo engine.place_of engine.need_of operation before results made next new
+      → ((call : NextCall) → next ≡ Some call → stage_begun at < stage_begun new.stage)
+      → script_left operations new.outcomes.items new.stage < script_left operations results at
+  falls-so operations operation before results made (Some call) new at (rest, here) few (same, doing, is) rises =
+      subst (λ os. script_left operations os new.stage < script_left operations results at) (sym same)
+      (left-rises operations rest results operation at new.stage here (rises call refl) few)
+  falls-so operations operation before results made None new at (rest, here) few (result, outcomes, between, for, registers) rises =
+      subst (λ os. script_left operations os new.stage < script_left operations results at) (sym outcomes)
+      (subst (λ to. script_left operations (results ++ result ∷ []) to < script_left operations results at) (sym between)
+      (left-ends operations rest results operation result at here few))
+
+  -- the registers hold blocks of the caller's between two operations
+  holds-between :
+      (operations : List Op) (results : List Outcome) (caller : ℕ) (made : List Made) (c : Caller)
+      → LeadsBy (IsCall g) (new_caller caller g) made c → AllMadeFor empty operations results made
+      → HoldsAll (IsCall g) Owns (caller-laws g) c (registers_from empty operations results)
+  holds-between operations results caller made c leads all =
+      all-hold (IsCall g) Owns (caller-laws g) (new_caller caller g) c empty operations results (empty-holds (Owns (new_caller caller g)))
+      (all-made (IsCall g) empty operations results made (new_caller caller g) c all leads)
+
+  module _ {operation : Op} {operations : List Op} {calls : List Call} {lane : LaneState B} (b : IsBefore engine operation operations calls lane) where
+    abbrev pub stands : IsLane g lane.caller engine.events engine.errand operations (blocks lane) lane.outcomes.items lane.stage calls
+    stands = b.stands.stands
+
+    abbrev pub now : Caller
+    now = record { errand = engine.errand; seen = stands.sight }
+
+    -- what was made, and that the caller is in no call
+    pub record IsResting : Type 0 where
+      pub registers : blocks lane ≡ registers_from empty operations lane.outcomes.items
+      pub all : AllMadeFor empty operations lane.outcomes.items stands.made
+      pub leads : LeadsBy (IsCall g) (new_caller lane.caller g) stands.made now
+      pub rests : IsAtRest g now
+      pub calls_are : calls ≡ calls_made stands.made
+
+    resting-by :
+        (under : Option Call) → under ≡ None → calls ≡ calls_made stands.made ++ calls_in under → StandsBy g lane.caller stands.made under now
+        → (blocks lane ≡ registers_from empty operations lane.outcomes.items) → AllMadeFor empty operations lane.outcomes.items stands.made → IsResting
+    resting-by None is are so registers all = record {
+      registers = registers;
+      all = all;
+      leads = so.0;
+      rests = so.1;
+      calls_are = are ∙ append-nil (calls_made stands.made);
+    }
+    resting-by (Some call) is are so registers all = absurd (cc)
+
+    pub resting : IsResting
+    resting =
+        let m = making-between operations (blocks lane) lane.outcomes.items lane.stage stands.made stands.under b.between stands.making in
+        resting-by stands.under m.2 stands.begun stands.stands m.0 m.1
+
+    holds-now : HoldsAll (IsCall g) Owns (caller-laws g) now (registers_from empty operations lane.outcomes.items)
+    holds-now = holds-between operations lane.outcomes.items lane.caller stands.made now resting.leads resting.all
+
+    number : engine.errand.caller ≡ lane.caller
+    number = b.served.own_errand.number
+
+    -- what the operation comes to, from the registers behind those before it
+    comes-so :
+        (next : Option NextCall) (new : LaneState B) → HasBegun engine.place_of engine.need_of operation lane next new
+        → ComesTo engine.place_of engine.need_of operation (registers_from empty operations lane.outcomes.items) lane.outcomes.items [] next new
+    comes-so next new h =
+        subst (λ rs. ComesTo engine.place_of engine.need_of operation rs lane.outcomes.items [] next new) resting.registers h.comes
+
+    making-so :
+        (next : Option NextCall) (new : LaneState B) → HasBegun engine.place_of engine.need_of operation lane next new
+        → IsMaking operations (blocks new) new.outcomes.items new.stage stands.made (option_map call_of next)
+    making-so next new h =
+        subst (λ ms. IsMaking operations (blocks new) new.outcomes.items new.stage ms (option_map call_of next)) (append-nil stands.made)
+        (comes-making engine.place_of engine.need_of operations lane.outcomes.items operation stands.made [] next new b.next resting.all (comes-so next new h))
+
+    falls-begun :
+        (next : Option NextCall) (new : LaneState B) → HasBegun engine.place_of engine.need_of operation lane next new
+        → script_left operations new.outcomes.items new.stage < script_left operations lane.outcomes.items lane.stage
+    falls-begun next new h =
+        subst (λ at. script_left operations new.outcomes.items new.stage < script_left operations lane.outcomes.items at) (sym b.between)
+        (falls-so operations operation (registers_from empty operations lane.outcomes.items) lane.outcomes.items [] next new stage.Between b.next (omega arith)
+        (comes-so next new h)
+        (λ call is.
+        let comes = subst (λ n. ComesTo engine.place_of engine.need_of operation (registers_from empty operations lane.outcomes.items) lane.outcomes.items [] n new) is (comes-so next new h) in
+        let some = doing-begun (registers_from empty operations lane.outcomes.items) (blocks new) operation new.stage [] comes.1 in
+        omega (arith, some)))
+
+    -- the operation has its outcome at once
+    pub begins-none :
+        (again : Option Call → Type 0) (new : LaneState B) → HasBegun engine.place_of engine.need_of operation lane None new
+        → HasGoneOn engine None again operations calls lane new
+    begins-none again new h = record {
+      stands =
+          lane-stands operations lane new stands.made None (calls ++ []) engine.errand stands.sight b.stands.room b.stands.size h.keeps
+          (making-so None new h) (append-nil calls ∙ resting.calls_are ∙ sym (append-nil (calls_made stands.made))) (resting.leads, resting.rests) stands.more;
+      falls = inl (falls-begun None new h);
+      count = count-so operation (registers_from empty operations lane.outcomes.items) lane.outcomes.items [] None new (comes-so None new h);
+    }
+
+    -- its first call may begin
+    pub record MayBeginNow (call : Call) : Type 0 where
+      pub idle : IsIdle engine.errand
+      pub sight_owned : OwnsFor stands.sight engine.errand.caller call
+      pub owned : OwnsFor engine.events lane.caller call
+      pub fits : FitsCall call
+
+    pub begins-may :
+        (call : NextCall) (new : LaneState B) → IsOp operation → HasBegun engine.place_of engine.need_of operation lane (Some call) new
+        → MayBeginNow (call_of call)
+    begins-may call new is_op h =
+        let before = registers_from empty operations lane.outcomes.items in
+        let (same, doing, is) = comes-so (Some call) new h in
+        let size = blocks-size engine.place_of engine.need_of new.registers.items ∙ h.keeps.size ∙ b.stands.size in
+        let owned = doing-owns g before (blocks new) now now holds-now operation new.stage [] size is_op doing refl in
+        let has = owned-has g now.seen now.errand.caller (call_at before (blocks new) operation new.stage) resting.rests.served.legal owned in
+        let fits = doing-fits before (blocks new) operation new.stage [] size is_op doing has.1 in
+        let owned_call = subst (λ c. OwnsFor now.seen now.errand.caller c) (sym is) owned in
+        record {
+          idle = resting.rests.idle;
+          sight_owned = owned_call;
+          owned =
+              owns-beside g lane.caller stands.sight engine.events (call_of call) stands.more b.served.legal
+              (subst (λ k. OwnsFor stands.sight k (call_of call)) number owned_call);
+          fits = subst FitsCall (sym is) fits;
+        }
+
+    -- its first call has begun
+    pub begins-call :
+        (again : Option Call → Type 0) (call : NextCall) (new : LaneState B) → HasBegun engine.place_of engine.need_of operation lane (Some call) new
+        → MayBeginNow (call_of call) → begin_answer engine.errand (call_of call) ≡ begun.Started
+        → HasGoneOn (record engine { errand = begun_by engine.errand (call_of call) }) (Some (call_of call)) again operations calls lane new
+    begins-call again call new h may started =
+        let made_call = call_of call in
+        let begun_so =
+        call-begun g engine.errand.caller engine.errand stands.sight made_call resting.rests.served resting.rests.idle
+        (may-begin engine.errand stands.sight made_call started may.sight_owned) in
+        record {
+          stands =
+              lane-stands operations lane new stands.made (Some made_call) (calls ++ made_call ∷ []) (begun_by engine.errand made_call) stands.sight
+              b.stands.room b.stands.size h.keeps (making-so (Some call) new h) (ap (λ cs. cs ++ made_call ∷ []) resting.calls_are)
+              (now, resting.leads, resting.rests, may.sight_owned, record { steps = 0; on = refl; busy = begun_so.busy }) stands.more;
+          falls = inl (falls-begun (Some call) new h);
+          count = count-so operation (registers_from empty operations lane.outcomes.items) lane.outcomes.items [] (Some call) new (comes-so (Some call) new h);
+        }
+
+    -- its allocation found no turn left
+    pub begins-spent :
+        (again : Option Call → Type 0) (call : NextCall) (mid new : LaneState B) → HasBegun engine.place_of engine.need_of operation lane (Some call) mid
+        → MayBeginNow (call_of call) → begin_answer engine.errand (call_of call) ≡ begun.Spent → (next : Option NextCall)
+        → HasAnswered engine.place_of engine.need_of operation ending.Spent mid next new
+        → HasGoneOn (record engine { errand = begun_by engine.errand (call_of call) }) (Some (call_of call)) again operations calls lane new
+    begins-spent again call mid new h may is_spent next answers =
+        let before = registers_from empty operations lane.outcomes.items in
+        let (words, is_alloc, spent) = spent-alloc engine.errand (call_of call) is_spent in
+        let (same, doing, is) = comes-so (Some call) mid h in
+        let at_call = call_at before (blocks mid) operation mid.stage in
+        let at_alloc : at_call ≡ alloc words = sym is ∙ is_alloc in
+        let none : next ≡ None = answers.over refl in
+        let so : AnswersCall engine.place_of engine.need_of at_call ending.Spent =
+        subst (λ c. AnswersCall engine.place_of engine.need_of c ending.Spent) (sym at_alloc) tt in
+        let comes : ComesTo engine.place_of engine.need_of operation before lane.outcomes.items (answered at_call reply.Spent ∷ []) None new =
+        subst (λ os. ComesTo engine.place_of engine.need_of operation before os (answered at_call reply.Spent ∷ []) None new) same
+        (subst (λ n. ComesTo engine.place_of engine.need_of operation before mid.outcomes.items (answered at_call reply.Spent ∷ []) n new) none
+        (answers.comes before [] doing so)) in
+        let one : Made = answered (call_of call) reply.Spent in
+        let comes_call : ComesTo engine.place_of engine.need_of operation before lane.outcomes.items (one ∷ []) None new =
+        subst (λ c. ComesTo engine.place_of engine.need_of operation before lane.outcomes.items (answered c reply.Spent ∷ []) None new) (sym is) comes in
+        let making =
+        comes-making engine.place_of engine.need_of operations lane.outcomes.items operation stands.made (one ∷ []) None new b.next resting.all comes_call in
+        let keeps : KeepsLane engine.place_of engine.need_of lane new = record {
+          caller = answers.keeps.caller ∙ h.keeps.caller;
+          size = answers.keeps.size ∙ h.keeps.size;
+          room = answers.keeps.room ∙ h.keeps.room;
+        } in
+        let unchanged : begun_by engine.errand (call_of call) ≡ engine.errand =
+        ap (begun_by engine.errand) is_alloc ∙ (alloc-not_begun engine.errand words spent).same in
+        let call_made : IsCall g now (call_of call) reply.Spent now = record {
+          rested = resting.rests;
+          made = at_once words is_alloc refl spent refl;
+          owned = may.sight_owned;
+          rests = resting.rests;
+        } in
+        let leads = leads-more (IsCall g) (new_caller lane.caller g) now now stands.made (call_of call) reply.Spent resting.leads call_made in
+        record {
+          stands =
+              subst (λ f. IsLaneOf (record engine { errand = f }) operations new (calls ++ call_of call ∷ [])) (sym unchanged)
+              (lane-stands operations lane new (stands.made ++ one ∷ []) None (calls ++ call_of call ∷ []) engine.errand stands.sight b.stands.room
+              b.stands.size keeps making
+              (ap (λ cs. cs ++ call_of call ∷ []) resting.calls_are
+              ∙ sym (append-nil (calls_made (stands.made ++ one ∷ [])) ∙ map-append (λ (m : Made). m.call) stands.made (one ∷ [])))
+              (leads, resting.rests) stands.more);
+          falls =
+              inl
+              (subst (λ at. script_left operations new.outcomes.items new.stage < script_left operations lane.outcomes.items at) (sym b.between)
+              (falls-so operations operation before lane.outcomes.items (one ∷ []) None new stage.Between b.next (omega arith) comes_call
+              (λ c no. absurd (cc))));
+          count = count-so operation before lane.outcomes.items (one ∷ []) None new comes_call;
+        }
+
+    -- the answer of an allocation that found none may be told
+    pub spent-may :
+        (call : NextCall) (mid : LaneState B) → HasBegun engine.place_of engine.need_of operation lane (Some call) mid
+        → begin_answer engine.errand (call_of call) ≡ begun.Spent → MayAnswer engine.place_of engine.need_of operation ending.Spent mid
+    spent-may call mid h is_spent =
+        let before = registers_from empty operations lane.outcomes.items in
+        let (words, is_alloc, spent) = spent-alloc engine.errand (call_of call) is_spent in
+        let (same, doing, is) = comes-so (Some call) mid h in
+        record {
+          before = before;
+          made = [];
+          doing = doing;
+          answers =
+              subst (λ c. AnswersCall engine.place_of engine.need_of c ending.Spent) is
+              (subst (λ c. AnswersCall engine.place_of engine.need_of c ending.Spent) (sym is_alloc) tt);
+          short =
+              subst (λ c. IsShort engine.place_of engine.need_of c) is (subst (λ c. IsShort engine.place_of engine.need_of c) (sym is_alloc) tt);
+        }
+
+  -- a step of the operation's call was made
+  module _ {operation : Op} {told : Stepped B} {seen : List Event} {e : ErrandFields} {operations : List Op} {calls : List Call} {lane : LaneState B}
+      (t : IsTold engine operation told seen e operations calls lane) where
+    abbrev pub told-stands : IsLane g lane.caller seen e operations (blocks lane) lane.outcomes.items lane.stage calls
+    told-stands = t.stood.stands
+
+    told-number : e.caller ≡ lane.caller
+    told-number = t.served.own_errand.number
+
+    told-busy : IsBusy e
+    told-busy = (settled-of e engine.errand seen engine.events _ t.stepped.moment).busy
+
+    abbrev pub before-step : Caller
+    before-step = record { errand = e; seen = told-stands.sight }
+
+    abbrev pub after-step : Caller
+    after-step = record { errand = engine.errand; seen = engine.events }
+
+    -- the call that is under way, and what was made before it
+    pub record IsCalling : Type 0 where
+      pub call : Call
+      pub under : told-stands.under ≡ Some call
+      pub last : Caller
+      pub leads : LeadsBy (IsCall g) (new_caller lane.caller g) told-stands.made last
+      pub rests : IsAtRest g last
+      pub owned : OwnsFor last.seen last.errand.caller call
+      pub is_in : IsIn last call before-step
+
+    calling-by : (under : Option Call) → told-stands.under ≡ under → StandsBy g lane.caller told-stands.made under before-step → IsCalling
+    calling-by None is so = absurd (let both : true ≡ false = sym so.1.idle ∙ told-busy in cc)
+    calling-by (Some call) is (last, leads, rests, owned, is_in) =
+        record { call = call; under = is; last = last; leads = leads; rests = rests; owned = owned; is_in = is_in }
+
+    pub calling : IsCalling
+    calling = calling-by told-stands.under refl told-stands.stands
+
+    pub work : IsAtWork operations (blocks lane) lane.outcomes.items operation lane.stage told-stands.made told-stands.under
+    work =
+        making-work operations (blocks lane) lane.outcomes.items lane.stage told-stands.made told-stands.under operation t.next
+        (λ none. let both : Some calling.call ≡ None = sym calling.under ∙ none in cc) told-stands.making
+
+    abbrev pub here : Call
+    here = call_at (registers_from empty operations lane.outcomes.items) (blocks lane) operation lane.stage
+
+    call-is : calling.call ≡ here
+    call-is = let both : Some calling.call ≡ Some here = sym calling.under ∙ work.call in cc
+
+    way : IsWay calling.last calling.call before-step
+    way = in-way calling.last calling.call (in-begun g calling.last before-step calling.call calling.rests calling.owned calling.is_in) before-step calling.is_in
+
+    -- the step, from where the caller stood
+    step-from : (answer : Progress) → IsMoment e engine.errand seen engine.events answer → IsMoment e engine.errand told-stands.sight engine.events answer
+    step-from answer m =
+        moment-from e engine.errand told-stands.sight seen engine.events answer
+        (subst (λ k. HasSeenMore k told-stands.sight seen) (sym told-number) told-stands.more) m
+
+    -- the call goes on, and nothing changes
+    pub told-stays :
+        ((ended : Ending B) → told ≡ stepped.Done ended → ⊥)
+        → HasGoneOn engine None (IsAgain lane.caller seen e engine.events) operations calls lane lane
+    told-stays undone =
+        let m = step-from (stepped_as engine.place_of engine.need_of told) t.stepped.moment in
+        let goes =
+        call-goes_on e engine.errand calling.call told-stands.sight engine.events way.added (stepped_as engine.place_of engine.need_of told)
+        (λ r is. undone-so engine.place_of engine.need_of told undone r is) m way.under_way in
+        let now_in : IsIn calling.last calling.call after-step = record {
+          steps = suc calling.is_in.steps;
+          on = (before-step, stepped_as engine.place_of engine.need_of told, calling.is_in.on, m, goes.busy);
+          busy = goes.busy;
+        } in
+        let some = doing-begun (registers_from empty operations lane.outcomes.items) (blocks lane) operation lane.stage work.present work.doing in
+        record {
+          stands =
+              lane-stands operations lane lane told-stands.made (Some calling.call) (calls ++ []) engine.errand engine.events t.stood.room t.stood.size
+              (record { caller = refl; size = refl; room = refl })
+              (subst (λ u. IsMaking operations (blocks lane) lane.outcomes.items lane.stage told-stands.made u) calling.under told-stands.making)
+              (append-nil calls ∙ told-stands.begun ∙ ap (λ u. calls_made told-stands.made ++ calls_in u) calling.under)
+              (calling.last, calling.leads, calling.rests, calling.owned, now_in) (same-seen lane.caller engine.events engine.events refl);
+          falls = inr (refl, refl, inl refl);
+          count = omega (arith, some);
+        }
+
+    -- the call has ended
+    module _ (ended : Ending B) (done : told ≡ stepped.Done ended) where
+      abbrev pub answer : Reply
+      answer = ended_as engine.place_of engine.need_of ended
+
+      done-step : HasStepped engine.place_of engine.need_of e engine.errand seen engine.events (stepped.Done ended)
+      done-step = subst (λ x. HasStepped engine.place_of engine.need_of e engine.errand seen engine.events x) done t.stepped
+
+      done-from : HasStepped engine.place_of engine.need_of e engine.errand told-stands.sight engine.events (stepped.Done ended)
+      done-from = record { moment = step-from (progress.Done answer) done-step.moment; back = done-step.back }
+
+      done-idle : IsIdle engine.errand
+      done-idle =
+          let s = settled-of e engine.errand seen engine.events (progress.Done answer) done-step.moment in
+          subst IsIdle (sym s.settled) ((done-told e s.x s.busy).1 (answer, sym s.answers))
+
+      rests-after : IsAtRest g after-step
+      rests-after = record {
+        served = subst (λ k. IsServed g k engine.errand engine.events) (sym t.still_served.own_errand.number) t.still_served;
+        idle = done-idle;
+      }
+
+      call-ended : IsCall g calling.last calling.call answer after-step
+      call-ended = record {
+        rested = calling.rests;
+        made = by_steps (record { last = before-step; in_call = calling.is_in; moment = done-from.moment });
+        owned = calling.owned;
+        rests = rests-after;
+      }
+
+      leads-after : LeadsBy (IsCall g) (new_caller lane.caller g) (told-stands.made ++ answered calling.call answer ∷ []) after-step
+      leads-after =
+          leads-more (IsCall g) (new_caller lane.caller g) calling.last after-step told-stands.made calling.call answer calling.leads call-ended
+
+      -- how many operations were made before, and the registers then
+      past-leads : (s : Caller) × LeadsBy (IsCall g) (new_caller lane.caller g) work.past s × LeadsBy (IsCall g) s work.present calling.last
+      past-leads =
+          leads-split (IsCall g) (new_caller lane.caller g) calling.last work.past work.present
+          (subst (λ ms. LeadsBy (IsCall g) (new_caller lane.caller g) ms calling.last) work.all calling.leads)
+
+      holds-past : HoldsAll (IsCall g) Owns (caller-laws g) past-leads.0 (registers_from empty operations lane.outcomes.items)
+      holds-past = holds-between operations lane.outcomes.items lane.caller work.past past-leads.0 past-leads.1 work.ended
+
+      has-here : IsOp operation → FitsCall here × HasNeed here
+      has-here is_op =
+          let size = blocks-size engine.place_of engine.need_of lane.registers.items ∙ t.stood.size in
+          let before = registers_from empty operations lane.outcomes.items in
+          let owned = subst (λ c. OwnsFor calling.last.seen calling.last.errand.caller c) call-is calling.owned in
+          let has = owned-has g calling.last.seen calling.last.errand.caller here calling.rests.served.legal owned in
+          (doing-fits before (blocks lane) operation lane.stage work.present size is_op work.doing has.1, has.0)
+
+      answers-here : IsOp operation → AnswersCall engine.place_of engine.need_of here ended
+      answers-here is_op =
+          subst (λ c. AnswersCall engine.place_of engine.need_of c ended) call-is
+          (answers-so engine.place_of engine.need_of g e engine.errand told-stands.sight engine.events way.added t.still_served.legal calling.call ended
+          (subst FitsCall (sym call-is) (has-here is_op).0) way.under_way done-from)
+
+      pub told-may : IsOp operation → MayAnswer engine.place_of engine.need_of operation ended lane
+      told-may is_op = record {
+        before = registers_from empty operations lane.outcomes.items;
+        made = work.present;
+        doing = work.doing;
+        answers = answers-here is_op;
+        short = short-by engine.place_of engine.need_of here (has-here is_op).0 (has-here is_op).1;
+      }
+
+      abbrev pub present-after : List Made
+      present-after = work.present ++ answered here answer ∷ []
+
+      made-after : told-stands.made ++ answered calling.call answer ∷ [] ≡ work.past ++ present-after
+      made-after =
+          ap (λ ms. ms ++ answered calling.call answer ∷ []) work.all ∙ append_assoc work.past work.present (answered calling.call answer ∷ [])
+          ∙ ap (λ c. work.past ++ (work.present ++ answered c answer ∷ [])) call-is
+
+      module _ (is_op : IsOp operation) (next : Option NextCall) (new : LaneState B)
+          (answers : HasAnswered engine.place_of engine.need_of operation ended lane next new) where
+        comes : ComesTo engine.place_of engine.need_of operation (registers_from empty operations lane.outcomes.items) lane.outcomes.items present-after next new
+        comes = answers.comes (registers_from empty operations lane.outcomes.items) work.present work.doing (answers-here is_op)
+
+        making-after : IsMaking operations (blocks new) new.outcomes.items new.stage (told-stands.made ++ answered calling.call answer ∷ []) (option_map call_of next)
+        making-after =
+            subst (λ ms. IsMaking operations (blocks new) new.outcomes.items new.stage ms (option_map call_of next)) (sym made-after)
+            (comes-making engine.place_of engine.need_of operations lane.outcomes.items operation work.past present-after next new t.next work.ended comes)
+
+        few : stage_begun lane.stage < begun_bound
+        few =
+            let has = has-here is_op in
+            doing-few (registers_from empty operations lane.outcomes.items) (blocks lane) operation lane.stage work.present work.doing has.0 has.1
+
+        calls-after : (more : Option Call) → calls ++ calls_in more ≡ calls_made (told-stands.made ++ answered calling.call answer ∷ []) ++ calls_in more
+        calls-after more =
+            ap (λ cs. cs ++ calls_in more)
+            (told-stands.begun ∙ ap (λ u. calls_made told-stands.made ++ calls_in u) calling.under
+            ∙ sym (map-append (λ (m : Made). m.call) told-stands.made (answered calling.call answer ∷ [])))
+
+      -- the operation has its outcome
+      pub told-ends :
+          (again : Option Call → Type 0) (new : LaneState B) → IsOp operation → HasAnswered engine.place_of engine.need_of operation ended lane None new
+          → HasGoneOn engine None again operations calls lane new
+      told-ends again new is_op answers = record {
+        stands =
+            lane-stands operations lane new (told-stands.made ++ answered calling.call answer ∷ []) None (calls ++ []) engine.errand engine.events t.stood.room
+            t.stood.size answers.keeps (making-after is_op None new answers) (calls-after is_op None new answers None) (leads-after, rests-after)
+            (same-seen lane.caller engine.events engine.events refl);
+        falls =
+            inl
+            (falls-so operations operation (registers_from empty operations lane.outcomes.items) lane.outcomes.items present-after None new lane.stage t.next
+            (few is_op None new answers) (comes is_op None new answers) (λ c no. absurd (cc)));
+        count =
+            count-so operation (registers_from empty operations lane.outcomes.items) lane.outcomes.items present-after None new (comes is_op None new answers);
+      }
+
+      -- its next call may begin
+      pub told-next :
+          (call : NextCall) (new : LaneState B) → IsOp operation → HasAnswered engine.place_of engine.need_of operation ended lane (Some call) new
+          → IsIdle engine.errand × OwnsFor engine.events lane.caller (call_of call) × FitsCall (call_of call)
+          × (begin_answer engine.errand (call_of call) ≡ begun.Started)
+      told-next call new is_op answers =
+          let before = registers_from empty operations lane.outcomes.items in
+          let (same, doing, is) = comes is_op (Some call) new answers in
+          let size = blocks-size engine.place_of engine.need_of new.registers.items ∙ answers.keeps.size ∙ t.stood.size in
+          let present = leads-more (IsCall g) past-leads.0 calling.last after-step work.present calling.call answer past-leads.2 call-ended in
+          let present_so = subst (λ c. LeadsBy (IsCall g) past-leads.0 (work.present ++ answered c answer ∷ []) after-step) call-is present in
+          let owned = doing-owns g before (blocks new) past-leads.0 after-step holds-past operation new.stage present-after size is_op doing present_so in
+          let owned_call = subst (λ c. OwnsFor engine.events engine.errand.caller c) (sym is) owned in
+          let has = owned-has g engine.events engine.errand.caller (call_at before (blocks new) operation new.stage) t.still_served.legal owned in
+          let fits = doing-fits before (blocks new) operation new.stage present-after size is_op doing has.1 in
+          let started = next-started engine.errand before (blocks new) operation new.stage work.present (answered here answer) doing in (
+            done-idle,
+            subst (λ k. OwnsFor engine.events k (call_of call)) t.still_served.own_errand.number owned_call,
+            subst FitsCall (sym is) fits,
+            ap (begin_answer engine.errand) is ∙ started,
+          )
+
+      -- a take that is tried again was missed, and has added no event
+      again-missed :
+          (call : NextCall) (new : LaneState B) → IsOp operation → HasAnswered engine.place_of engine.need_of operation ended lane (Some call) new
+          → (shelf : ℕ) → call_of call ≡ take shelf → lane.stage ≡ stage.Calling → new.stage ≡ stage.Calling
+          → (own lane.caller engine.events ≡ own lane.caller seen) × IsUnderWay lane.caller (take shelf) e.point []
+      again-missed call new is_op answers shelf is_take at_was at_now =
+          let before = registers_from empty operations lane.outcomes.items in
+          let (same, doing, is) = comes is_op (Some call) new answers in
+          let doing_so = subst (λ at. DoingOf before (blocks new) operation at present-after) at_now doing in
+          let take_so : call_at before (blocks new) operation stage.Calling ≡ take shelf =
+          ap (call_at before (blocks new) operation) (sym at_now) ∙ sym is ∙ is_take in
+          let (here_so, expected, found, missed) = again-so before (blocks lane) (blocks new) operation work.present (answered here answer) shelf doing_so take_so in
+          let call_take : calling.call ≡ take shelf = call-is ∙ ap (call_at before (blocks lane) operation) at_was ∙ here_so in
+          let under : IsUnderWay e.caller (take shelf) e.point way.added = subst (λ c. IsUnderWay e.caller c e.point way.added) call_take way.under_way in
+          let none : way.added ≡ [] = take-none e.caller shelf (stage_of e.point) way.added under in
+          let h = ends-called g calling.last after-step calling.call answer calling.rests calling.owned
+          (record { last = before-step; in_call = calling.is_in; moment = done-from.moment }) in
+          let ended_so : HasEnded calling.last.errand.caller (take shelf) (reply.Missed expected found) h.added =
+          subst (λ c. HasEnded calling.last.errand.caller c (reply.Missed expected found) h.added) call_take
+          (subst (λ r. HasEnded calling.last.errand.caller calling.call r h.added) missed h.ended) in
+          let none_too : h.added ≡ [] = missed-none calling.last.errand.caller shelf expected found h.added ended_so in
+          let last_number : calling.last.errand.caller ≡ lane.caller = sym way.moved.same_caller ∙ told-number in
+          let own_sight : own lane.caller told-stands.sight ≡ own lane.caller calling.last.seen =
+          subst (λ k. own k told-stands.sight ≡ own k calling.last.seen) last_number
+          (way.moved.own_events ∙ ap (λ xs. own calling.last.errand.caller calling.last.seen ++ xs) none
+          ∙ append-nil (own calling.last.errand.caller calling.last.seen)) in
+          let own_now : own lane.caller engine.events ≡ own lane.caller calling.last.seen =
+          subst (λ k. own k engine.events ≡ own k calling.last.seen) last_number
+          (h.moved.own_events ∙ ap (λ xs. own calling.last.errand.caller calling.last.seen ++ xs) none_too
+          ∙ append-nil (own calling.last.errand.caller calling.last.seen)) in
+          let own_seen : own lane.caller seen ≡ own lane.caller told-stands.sight =
+          ap (own lane.caller) told-stands.more.seen ∙ own-append lane.caller told-stands.sight told-stands.more.more
+          ∙ ap (λ xs. own lane.caller told-stands.sight ++ xs) told-stands.more.not_own ∙ append-nil (own lane.caller told-stands.sight) in (
+            own_now ∙ sym own_sight ∙ sym own_seen,
+            subst (λ k. IsUnderWay k (take shelf) e.point []) told-number (subst (λ xs. IsUnderWay e.caller (take shelf) e.point xs) none under),
+          )
+
+      -- and has begun
+      pub told-goes :
+          (call : NextCall) (new : LaneState B) → IsOp operation → HasAnswered engine.place_of engine.need_of operation ended lane (Some call) new
+          → HasGoneOn (record engine { errand = begun_by engine.errand (call_of call) }) (Some (call_of call)) (IsAgain lane.caller seen e engine.events)
+          operations calls lane new
+      told-goes call new is_op answers =
+          let (idle, owned, fits, started) = told-next call new is_op answers in
+          let own_call = subst (λ k. OwnsFor engine.events k (call_of call)) (sym t.still_served.own_errand.number) owned in
+          let begins =
+          call-begun g lane.caller engine.errand engine.events (call_of call) t.still_served idle (may-begin engine.errand engine.events (call_of call) started own_call) in
+          record {
+            stands =
+                lane-stands operations lane new (told-stands.made ++ answered calling.call answer ∷ []) (Some (call_of call)) (calls ++ call_of call ∷ [])
+                (begun_by engine.errand (call_of call)) engine.events t.stood.room t.stood.size answers.keeps (making-after is_op (Some call) new answers)
+                (calls-after is_op (Some call) new answers (Some (call_of call)))
+                (after-step, leads-after, rests-after, own_call, record { steps = 0; on = refl; busy = begins.busy })
+                (same-seen lane.caller engine.events engine.events refl);
+            falls = elim answers.rises [
+              | inl rises ↦ inl
+                  (falls-so operations operation (registers_from empty operations lane.outcomes.items) lane.outcomes.items present-after (Some call) new
+                  lane.stage t.next (few is_op (Some call) new answers) (comes is_op (Some call) new answers) (λ c is. rises))
+              | inr again ↦ inr (
+                (comes is_op (Some call) new answers).0,
+                again.3 ∙ sym again.2,
+                inr
+                    (let missed = again-missed call new is_op answers again.0 again.1 again.2 again.3 in
+                    (again.0, ap Some again.1, missed.0, missed.1)),
+              )
+            ];
+            count =
+                count-so operation (registers_from empty operations lane.outcomes.items) lane.outcomes.items present-after (Some call) new
+                (comes is_op (Some call) new answers);
+          }
