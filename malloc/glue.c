@@ -1,53 +1,56 @@
 /* The symbols of malloc over balloc's heaps. What decides is crates/balloc_malloc; here is what that can't have: a thread's
- * own variables, its first call and its end, and the names. In front of the caller's memory stands the heap's own word
- * alone: which seat told it, and its kind, is noted aside, in a byte for each 16. Only the seat's thread makes calls with it:
- * others put what they free on its list. What no seat gives is the C library's, and goes back there. README.md has the rest. */
-#define _GNU_SOURCE
+ * own variables, its first call and its end, and the names. Before the caller's memory stands the heap's own word alone:
+ * which seat told it, and its kind, is noted aside, in a byte for each 16. Only the seat's thread makes calls with it: others
+ * put what they free on its list. What no seat gives is the C library's, and goes back there. README.md has the rest. */
 #include "balloc_malloc.h"
 #include <dlfcn.h>
 #include <errno.h>
+#include <malloc.h>
 #include <pthread.h>
 #include <stdatomic.h>
-#include <stdio.h>
 #include <stdlib.h>
 #include <string.h>
 #include <sys/mman.h>
+#include <sys/sysinfo.h>
 #define EXPORT __attribute__((visibility("default")))
 #define COUNT(at) atomic_store_explicit(&(at), (at) + 1, memory_order_relaxed) /* by one thread; others only look */
-enum { HEAPS = 256, SEATS = 16, DEPTH = 2048, FRAMES = 512, WORD = 8, DONE = BALLOC_MALLOC_DONE, OPEN = PROT_READ | PROT_WRITE };
-static const size_t SLOT = 1 << 28, ALL = (size_t)HEAPS << 28, MOST = BALLOC_MALLOC_MOST_BYTES;
+enum { HEAPS = 256, SEATS = 16, SHARED = 4, DEPTH = BALLOC_MALLOC_MOST_DEPTH, FRAMES = 512, FRAME = 1 << 15, WORD = 8, LONGEST = 32,
+       MOST = 1016, DONE = BALLOC_MALLOC_DONE, OPEN = PROT_READ | PROT_WRITE };
+static const size_t SLOT = 1 << 28, ALL = (size_t)HEAPS << 28, BEHIND = 9 << 24, ROOM = (1 << 20) + 96 * SEATS * DEPTH;
 extern void *__libc_malloc(size_t), *__libc_calloc(size_t, size_t), *__libc_realloc(void *, size_t);
 extern void *__libc_memalign(size_t, size_t), __libc_free(void *);
-typedef struct seat {
+typedef struct seat { /* what others read, what its thread alone writes, and what others write are apart */
     _Alignas(64) _Atomic(void *) owner; /* the `me` of its thread; NULL where it is free */
     struct seat *next;                  /* a thread's seats stand in a ring */
     balloc_seat *pass; size_t number;   /* counted as if slots began at address 0 */
-    _Atomic size_t given[16], freed[16], awaits; /* by kind; its heap refused: it is asked first again once as many are freed */
+    _Alignas(64) _Atomic size_t given[16], freed[16], awaits; /* by kind; its heap refused: asked first again once as many are freed */
     _Alignas(64) _Atomic(void **) list; /* what other threads freed: in each stands where the next one is */
 } seat;
-static balloc_seat passes[HEAPS * SEATS];
-static seat seats[HEAPS * SEATS];
-static size_t sizes[HEAPS]; static pthread_key_t at_end;
+static balloc_seat passes[HEAPS * SEATS]; static seat seats[HEAPS * SEATS]; static pthread_key_t at_end;
+static size_t sizes[HEAPS], behind; /* where the next thing that lies behind a heap's words begins */
 static _Atomic size_t opened, region = 1ull << 63; /* where the heaps' slots begin, and the notes behind them; first, nowhere */
 static uint8_t *notes; /* where the note of address 0 would be */
 static atomic_flag door = ATOMIC_FLAG_INIT; /* who finds it closed uses the C library; so may a forked child for ever */
-static _Thread_local struct { seat *first; size_t from; } me; /* from: the heap from which on it looks for a seat */
+static _Thread_local struct { seat *first; size_t from; /* a seat of its own; from this heap on it looks for another one */
+    seat *to; void **top, **last; size_t count; } me;   /* what it freed that will go on another's list, all at once */
 static inline int is_ours(void *p) { return (size_t)p - region < ALL; }
 static inline uint8_t *note_of(void *p) { return notes + (size_t)p / 16; }
 static inline size_t number_of(void *p) { return (size_t)p / SLOT * SEATS + *note_of(p) / 16; }
 static inline size_t bytes_of(void *p) { return balloc_malloc_bytes(*note_of(p) % 16); }
-/* What the library asks for when it opens a heap: the heap's words, far more than all else, begin its slot. */
+/* What the library asks for when it opens a heap, and keeps: its words, far more than all else, begin its slot. */
 void *glue_malloc(size_t n)
 {
-    void *slot = (void *)(region + opened * SLOT);
-    return n < MOST * FRAMES ? __libc_malloc(n) : n < SLOT && !mprotect(slot, n, OPEN) ? slot : NULL;
+    size_t slot = region + opened * SLOT, at = behind;
+    if (n >= (size_t)FRAMES * FRAME) return n < BEHIND && !mprotect((void *)slot, n, OPEN) ? (void *)slot : NULL;
+    return n > ROOM || at + n > slot + BEHIND + ROOM ? NULL : (behind += (n + 15) / 16 * 16, (void *)at);
 }
-void glue_free(void *p) { if (!is_ours(p)) __libc_free(p); }
+void glue_free(void *p) { (void)p; }
 static size_t sum(_Atomic size_t *counts) { size_t all = 0; for (int k = 0; k < 16; k++) all += counts[k]; return all; }
 static inline uint32_t take(seat *s, size_t n, void **p)
 {
     uint32_t kind = balloc_malloc_take(s->pass, n, p);
-    if (kind < BALLOC_MALLOC_KINDS) COUNT(s->given[kind % 16]), *note_of(*p) = s->number % SEATS << 4 | kind;
+    const uint8_t note = s->number % SEATS << 4 | kind; /* mostly it stands there already, and others read those beside it */
+    if (kind < BALLOC_MALLOC_KINDS && (COUNT(s->given[kind % 16]), *note_of(*p) != note)) *note_of(*p) = note;
     return kind;
 }
 static inline int give(seat *s, void *p) /* a heap's memory begins a word behind its slot */
@@ -55,11 +58,15 @@ static inline int give(seat *s, void *p) /* a heap's memory begins a word behind
     uint32_t kind = *note_of(p) % 16, code = balloc_malloc_give(s->pass, (size_t)p % SLOT / WORD - 2, kind);
     return code == DONE && (COUNT(s->freed[kind]), 1);
 }
-static __attribute__((noinline)) void give_or_push(void **p)
+static void push(void) { if (me.count) for (void **at = me.to->list; *me.last = at, !atomic_compare_exchange_weak(&me.to->list, &at, me.top);); }
+static __attribute__((noinline)) void give_or_push(void **p) /* by LONGEST at once, where the thread's end will be told */
 {
     seat *s = &seats[number_of(p) - region / SLOT * SEATS];
-    if (s->owner != &me || !give(s, p)) for (void **top = s->list; *p = top, !atomic_compare_exchange_weak(&s->list, &top, p);) {}
-    else if (s->awaits && sum(s->freed) >= s->awaits) me.first = s, s->awaits = 0;
+    if (s->owner != &me || !give(s, p)) {
+        if (me.to != s || me.count == LONGEST) push(), me.count = 0;
+        *p = me.top, me.top = p, me.last = me.count++ ? me.last : p, me.to = s;
+        if (!me.first) push(), me.count = 0;
+    } else if (s->awaits && sum(s->freed) >= s->awaits) me.first = s, s->awaits = 0;
 }
 EXPORT void free(void *p) /* most often of the first seat: its words are then on their way before the note is read */
 {
@@ -68,7 +75,7 @@ EXPORT void free(void *p) /* most often of the first seat: its words are then on
 }
 static void leave(void *first) /* at the thread's end */
 {
-    me.first = NULL, me.from = 0; for (seat *s = first, *next; s; s = next != first ? next : NULL) next = s->next, s->owner = NULL;
+    push(), me.count = me.from = 0, me.first = NULL; for (seat *s = first, *next; s; s = next != first ? next : NULL) next = s->next, s->owner = NULL;
 }
 static int open_heap(size_t h) /* the first one takes the addresses of all; what is opened since others refused is larger */
 {
@@ -76,8 +83,8 @@ static int open_heap(size_t h) /* the first one takes the addresses of all; what
     void *words, *all = region >> 63 ? mmap(NULL, ALL + ALL / 16 + SLOT, PROT_NONE, how, -1, 0) : NULL;
     if (h == HEAPS || all == MAP_FAILED || (all && pthread_key_create(&at_end, leave))) return 0;
     if (all) region = ((size_t)all + SLOT - 1) / SLOT * SLOT;
-    notes = (uint8_t *)region + ALL - region / 16;
-    return DONE == balloc_malloc_open(frames, SEATS, DEPTH, &passes[h * SEATS], SEATS, &words, &sizes[h])
+    notes = (uint8_t *)region + ALL - region / 16, behind = region + h * SLOT + BEHIND;
+    return !mprotect((void *)behind, ROOM, OPEN) && DONE == balloc_malloc_open(frames, SHARED, DEPTH, &passes[h * SEATS], SEATS, &words, &sizes[h])
         && (size_t)words == region + h * SLOT + WORD && !mprotect(note_of(words), sizes[h] / 16 + 1, OPEN);
 }
 static seat *sit(void) /* on a seat of a heap where this thread has none */
@@ -86,6 +93,7 @@ static seat *sit(void) /* on a seat of a heap where this thread has none */
     if (me.from > HEAPS || atomic_flag_test_and_set(&door)) return NULL;
     while (i < opened * SEATS && seats[i].owner) i++;
     if (i == opened * SEATS && open_heap(opened)) opened++;
+    if (i == 1) mallopt(M_ARENA_MAX, get_nprocs()); /* the C library's: threads ask less of it */
     seat *found = i < opened * SEATS && !pthread_setspecific(at_end, &seats[i]) ? &seats[i] : NULL;
     me.from = found ? i / SEATS + 1 : HEAPS + 1; /* where there is none it looks no more */
     if (found) found->next = me.first ? me.first->next : found, *(me.first ? &me.first->next : &me.first) = found;
@@ -94,11 +102,10 @@ static seat *sit(void) /* on a seat of a heap where this thread has none */
 }
 static __attribute__((noinline)) void *search(size_t n) /* from seat to seat of the ring, and then on new ones */
 {
-    uint32_t code = DONE;
-    for (seat *s = n > MOST ? NULL : me.first ? me.first : sit(); s;
-         s = s->next != me.first ? s->next : code == BALLOC_MALLOC_REFUSED || code == BALLOC_MALLOC_SPENT ? sit() : NULL) {
+    uint32_t code = DONE; seat *s = n > MOST ? NULL : me.first ? me.first : sit();
+    for (; s; s = s->next != me.first ? s->next : code == BALLOC_MALLOC_REFUSED || code == BALLOC_MALLOC_SPENT ? sit() : NULL) {
         void **p = atomic_exchange(&s->list, NULL);
-        for (void **next; p; p = next) next = *p, free(p);
+        for (void **next; p; p = next) if (next = *p, !give(s, p)) give_or_push(p);
         if ((code = take(s, n, (void **)&p)) < BALLOC_MALLOC_KINDS) return me.first = s, p;
         s->awaits = sum(s->freed) + (sum(s->given) - sum(s->freed)) / 8 + 1;
     }
@@ -106,14 +113,12 @@ static __attribute__((noinline)) void *search(size_t n) /* from seat to seat of 
 }
 EXPORT void *malloc(size_t n)
 {
-    void *p;
-    seat *s = me.first;
+    seat *s = me.first; void *p;
     return s && n <= MOST && !s->list && take(s, n, &p) < BALLOC_MALLOC_KINDS ? p : search(n);
 }
 EXPORT void *calloc(size_t n, size_t m)
 {
-    size_t all;
-    void *p = __builtin_mul_overflow(n, m, &all) || all > MOST ? NULL : malloc(all);
+    size_t all; void *p = __builtin_mul_overflow(n, m, &all) || all > MOST ? NULL : malloc(all);
     return p ? memset(p, 0, all) : __libc_calloc(n, m);
 }
 EXPORT void *realloc(void *p, size_t n) /* to 0 bytes it frees, as the C library's does */
@@ -121,16 +126,11 @@ EXPORT void *realloc(void *p, size_t n) /* to 0 bytes it frees, as the C library
     if (!is_ours(p)) return p ? __libc_realloc(p, n) : malloc(n);
     size_t had = bytes_of(p);
     if (n && n <= had && n >= had / 2) return p;
-    void *to = n ? malloc(n) : NULL;
-    if (to) memcpy(to, p, n < had ? n : had);
-    if (to || !n) free(p);
-    return to;
+    void *to = n ? malloc(n) : NULL; if (to) memcpy(to, p, n < had ? n : had);
+    return to || !n ? free(p), to : NULL;
 }
-EXPORT void *aligned_alloc(size_t a, size_t n)
-{
-    return !a || a & (a - 1) ? errno = EINVAL, NULL : a > 16 ? __libc_memalign(a, n) : malloc(n);
-}
-EXPORT void *memalign(size_t a, size_t n) { return aligned_alloc(a, n); }
+EXPORT void *memalign(size_t a, size_t n) { return !a || a & (a - 1) ? errno = EINVAL, NULL : a > 16 ? __libc_memalign(a, n) : malloc(n); }
+EXPORT void *aligned_alloc(size_t a, size_t n) { return memalign(a, n); }
 EXPORT int posix_memalign(void **p, size_t a, size_t n) { return a < 8 || a & (a - 1) ? EINVAL : (*p = memalign(a, n)) ? 0 : ENOMEM; }
 EXPORT size_t malloc_usable_size(void *p) { return is_ours(p) ? bytes_of(p) : ((size_t (*)(void *))dlsym(RTLD_NEXT, "malloc_usable_size"))(p); }
 EXPORT void balloc_report(void) /* on standard error, also for a debugger; nothing while a thread looks for a seat */

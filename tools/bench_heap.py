@@ -3,6 +3,7 @@
 
     tools/bench_heap.py [--count N] [--runs N] [--threads N,..]
     tools/bench_heap.py caches [--count N] [--runs N] [--threads N,..]
+    tools/bench_heap.py blocks [--count N] [--runs N] [--threads N,..]
     tools/bench_heap.py stress [--cached] [--rounds N] [--steps N] [--threads N,..] [--seed N]
 
 Run it when the heap's calls or a cache have changed, for the figures of docs/PERFORMANCE.md; `stress` before a release. It
@@ -23,6 +24,9 @@ processors run. The programs take turns, so that all see the same load.
 heap's own pairs and those of each allocator of the machine, and prints a table: nanoseconds of processor time
 for a pair, in brackets by the clock, and how many times that of the best of the allocators, and of glibc, a
 pair through a cache takes.
+
+`blocks` does the same with blocks of 31 words, each allocated, filled, summed and freed: by fills and sums of the heap, and
+with plain stores and loads of memory of malloc.
 
 `stress` makes rounds of calls of all kinds in which each block is filled and checked, with 2, 4, 8 and 16
 threads, in three heaps from roomy to crowded, and prints the counts; it ends with 1 where a word was
@@ -46,6 +50,7 @@ MODES = ["bare", "steps", "hold", "pairs", "malloc"]
 
 MALLOC = r"""
 #include <pthread.h>
+#include <stdint.h>
 #include <stdlib.h>
 
 static unsigned long count;
@@ -60,19 +65,37 @@ static void *pairs(void *unused)
     return unused;
 }
 
+static void *blocks(void *wrong)
+{
+    for (unsigned long k = 0; k < count; k++) {
+        uint64_t *block = malloc(31 * sizeof *block);
+        for (uint64_t i = 0; i < 31; i++)
+            block[i] = k + i;
+        __asm__ volatile("" : : "r"(block) : "memory");
+        uint64_t sum = 0;
+        for (int i = 0; i < 31; i++)
+            sum += block[i];
+        free(block);
+        if (sum != 31 * k + 465)
+            abort();
+    }
+    return wrong;
+}
+
 int main(int words, char **word)
 {
     pthread_t thread[16];
-    if (words != 3)
+    if (words != 4)
         return 2;
-    count = strtoul(word[1], NULL, 10);
-    int threads = atoi(word[2]);
+    void *(*work)(void *) = word[1][0] == 'b' ? blocks : pairs;
+    count = strtoul(word[2], NULL, 10);
+    int threads = atoi(word[3]);
     if (threads < 1 || threads > 16)
         return 2;
     if (threads == 1)
-        return pairs(NULL) != NULL;
+        return work(NULL) != NULL;
     for (int k = 0; k < threads; k++)
-        if (pthread_create(&thread[k], NULL, pairs, NULL))
+        if (pthread_create(&thread[k], NULL, work, NULL))
             return 6;
     for (int k = 0; k < threads; k++)
         pthread_join(thread[k], NULL);
@@ -84,7 +107,7 @@ int main(int words, char **word)
 def seconds(malloc, mode, count, threads):
     """The user time of one run, and the time on the wall."""
     if mode == "malloc":
-        words = [malloc, str(count), str(threads)]
+        words = [malloc, "pairs", str(count), str(threads)]
     else:
         words = [PROGRAM, "heap", mode, "1", str(count), str(threads), *HEAP]
     used = resource.getrusage(resource.RUSAGE_CHILDREN).ru_utime
@@ -118,7 +141,8 @@ def bench(said):
 
 
 def caches(said):
-    """Prints a table of pairs through caches and what stands beside them."""
+    """Prints a table of pairs, or blocks, through caches and what stands beside them."""
+    mode = "blocks" if said.what == "blocks" else "pairs"
     print(timed.heading(said))
     with tempfile.TemporaryDirectory() as folder:
         malloc = timed.compiled(MALLOC, "pairs", folder)
@@ -126,11 +150,11 @@ def caches(said):
         print(timed.table_head(["threads", "through a cache", "the heap's own", *found, "to the best", "to glibc"]))
         for threads in said.threads:
             programs = {
-                "cache": lambda count: ([PROGRAM, "cache", "pairs", "1", str(count), str(threads), *HEAP], None),
-                "heap": lambda count: ([PROGRAM, "heap", "pairs", "1", str(count), str(threads), *HEAP], None),
+                "cache": lambda count: ([PROGRAM, "cache", mode, "1", str(count), str(threads), *HEAP], None),
+                "heap": lambda count: ([PROGRAM, "heap", mode, "1", str(count), str(threads), *HEAP], None),
             }
             for name, library in found.items():
-                programs[name] = lambda count, library=library: ([malloc, str(count), str(threads)], library)
+                programs[name] = lambda count, library=library: ([malloc, mode, str(count), str(threads)], library)
             taken, _ = timed.figures(programs, said.count, said.runs)
             pair = {name: figure.of_each(threads) for name, figure in taken.items()}
             best = min(pair[name].processor for name in found)
@@ -167,7 +191,7 @@ def stress(said):
 
 def main():
     parser = argparse.ArgumentParser(description=__doc__.split("\n")[0])
-    parser.add_argument("what", nargs="?", choices=["bench", "caches", "stress"], default="bench")
+    parser.add_argument("what", nargs="?", choices=["bench", "caches", "blocks", "stress"], default="bench")
     parser.add_argument("--count", type=int)
     parser.add_argument("--runs", type=int)
     parser.add_argument("--rounds", type=int, default=20_000)
@@ -181,7 +205,7 @@ def main():
         said.threads = said.threads or [2, 4, 8, 16]
         sys.exit(0 if stress(said) else 1)
     said.threads = said.threads or [1, 2, 4]
-    if said.what == "caches":
+    if said.what in ("caches", "blocks"):
         said.count, said.runs = said.count or 10_000_000, said.runs or 7
         caches(said)
     else:

@@ -8,8 +8,8 @@ built yet, `rt lib` proves and builds it; with --over another archive stands for
 for its header. It prints where the library lies: malloc/out/libballoc.so, or as --to says.
 
 The kit asks for memory by malloc, realloc and free, which are this library's own once it is preloaded: in copies of
-the archives these names are others, of the glue's (glue_malloc, which knows the memory of a heap) or the C library's. No symbol but malloc's and its like is seen
-from outside.
+the archives these names are others, of the glue's (glue_malloc, which has the memory of heaps) or the C library's. No
+symbol but malloc's and its like is seen from outside.
 """
 import argparse
 import os
@@ -23,8 +23,8 @@ OURS = f"{CRATE}/out/libballoc_malloc.a"
 BUILT = f"{TOP}/malloc/out/libballoc.so"
 RENAMED = {"malloc": "glue_malloc", "calloc": "__libc_calloc", "realloc": "__libc_realloc", "free": "glue_free",
            "aligned_alloc": "__libc_memalign"}
-FLAGS = ["-std=c11", "-O2", "-g", "-Wall", "-Wextra", "-Werror", "-fPIC", "-fvisibility=hidden", "-ftls-model=initial-exec",
-         "-fno-builtin-malloc", "-fno-builtin-calloc", "-shared"]
+FLAGS = ["-std=c11", "-D_GNU_SOURCE", "-O2", "-g", "-Wall", "-Wextra", "-Werror", "-fPIC", "-fvisibility=hidden",
+         "-ftls-model=initial-exec", "-fno-builtin-malloc", "-fno-builtin-calloc", "-shared"]
 LINKED = ["-Wl,--exclude-libs,ALL", "-Wl,-Bsymbolic", "-Wl,-z,defs", "-Wl,-z,now", "-pthread", "-lm"]
 
 

@@ -14,6 +14,7 @@ Run it before each commit, which takes some seconds, and `traces` once the progr
     points      the tables over the points, beside docs/PROOFS.md
     pictures    the pictures beside what they are drawn from, and the figures of docs/PERFORMANCE.md beside each other
     steps       the tables of docs/STEPS.md beside the code
+    builders    what crates over the heap take from its proofs
 
 Prints what isn't so, a line each, and ends with 1 where there is something. A check that is named alone prints what it
 has looked at, too: `words` each document's, `points` each table. tools/checks/ has what each asks for.
@@ -22,10 +23,10 @@ has looked at, too: `words` each document's, `points` each table. tools/checks/ 
 import signal
 import sys
 
-from checks import documents, header, pictures, points, steps, traces, twice, words
+from checks import builders, documents, header, pictures, points, steps, traces, twice, words
 
 CHECKS = {"documents": documents, "words": words, "twice": twice, "header": header, "points": points, "pictures": pictures,
-          "steps": steps}
+          "steps": steps, "builders": builders}
 
 
 def report(name, check, *given, listed=False):

@@ -132,10 +132,11 @@ static void call_memory(struct caller *c) {
     struct block *block = find(c, id);
     void *memory = c;
     int32_t code = balloc_memory(c->pass, id, &memory);
-    int32_t wanted = block == NULL ? BALLOC_NO_BLOCK : block->memory ? BALLOC_OUT : BALLOC_DONE;
+    int32_t wanted = block == NULL ? BALLOC_NO_BLOCK : BALLOC_DONE;
     expect(c, "memory", code == wanted && (code == BALLOC_DONE || !memory), code);
     if (code != BALLOC_DONE || code != wanted) return;
-    go_out(c, block, memory);
+    if (block->memory) expect(c, "memory that is told again", memory == block->memory, code);
+    else go_out(c, block, memory);
     code = balloc_read(c->pass, id, 0, &word);
     expect(c, "a read of memory that is out", code == BALLOC_OUT, code);
 }

@@ -33,7 +33,7 @@ PAGES = [
 ]
 VERSION = ["BALLOC_VERSION_MAJOR", "BALLOC_VERSION_MINOR", "BALLOC_VERSION_PATCH"]
 TYPES = {"bool": "bool", "u8": "uint8_t", "u32": "uint32_t", "u64": "uint64_t", "i32": "int32_t", "usize": "size_t",
-         "*mut u64": "void *", "Spot": "void *", "Seat": "balloc_seat", "PassHandle": "balloc_pass",
+         "*mut u64": "void *", "Spot": "void *", "ThreadSeat": "balloc_seat", "PassHandle": "balloc_pass",
          "Counted": "balloc_census"}
 
 
@@ -162,7 +162,7 @@ def limits(page, header):
 def layouts(header):
     handle = re.search(r"pub struct PassHandle \{(.*?)\n\}", text_of(f"{CRATE}/src/handle.rt"), flags=re.S).group(1)
     fields = re.findall(r"^    (?:pub )?(\w+): ([^{}\n]+),$", handle, flags=re.M)
-    if fields != [("live", "bool"), ("held", "Held"), ("rest", "[u64; 6]")]:
+    if fields != [("live", "bool"), ("held", "ErasedBox"), ("rest", "[u64; 6]")]:
         yield f"a pass has other fields than the header's: {fields}"
     for name, wanted in {"balloc_class_count": class_fields(), "balloc_census": census_fields()}.items():
         if struct_fields(header, name) != wanted:

@@ -64,14 +64,14 @@ module _ {M : Type 1} {𝓤 : Ura M} (𝓛 : Logic 𝓤) where
     returns : (ps : List Place) (xs : List Range) → length ps ≡ z.words → ⟦ here z ps ⟧ ∗ ⟦ carried z xs ⟧ ⊢ After ps xs gives
     returns ps [] long = guard_i 𝓤 (length ps ≡ z.words) (⟦ here z ps ⟧ ∗ ⟦ carried z [] ⟧) long
     returns ps (x ∷ xs) long = qed 𝓛 (‵ (here z ps) ∷ ‵ (carried z (x ∷ xs)) ∷ []) ∵ move ! (1 ∷ []) $ fsplit3 ! $ fpick ! (λ at. drop ! $ fsplit ! $ drop ! $ let le : x.0 + length x.1 ≤ length ps = omega (arith, at, long) in
-        check ! (length-put ps x.0 x.1 le ∙ long) $ move ! (2 ∷ 0 ∷ []) $ use2 𝓛 (‵ (here z (put ps x.0 x.1))) (range_in 𝓛 b o ps x.0 x.1 le) $ done !)
+        check ! (length-put ps x.0 x.1 le ∙ long) $ move ! (2 ∷ 0 ∷ []) $ use2 𝓛 (‵ (here z (put ps x.0 x.1))) (range_in 𝓛 b o 0 ps x.0 x.0 (omega arith) x.1 le) $ done !)
 
     pub acts : Lies z.at z.words → (a : Act) (ps : List Place) (xs : List Range) → length ps ≡ z.words → Valid a (ps, xs) → ⟦ here z ps ⟧ ∗ ⟦ carried z xs ⟧ ⊢ After ps xs a
     acts lies keeps ps xs long ok = guard_i 𝓤 (length ps ≡ z.words) (⟦ here z ps ⟧ ∗ ⟦ carried z xs ⟧) long
     acts lies (takes k n) ps xs long ok = let mid : List Place = run ps k n in let same : length (outs n) ≡ n = length-replicate n None in let count : length mid ≡ n = length-run ps k n ok in let le : k + length mid ≤ z.words = omega (arith, ok, long, count) in
         let room : z.words * 8 < 2 ^ 63 = lies.1 in let small : (k + length mid) * 8 < 2 ^ 63 = omega arith in
         qed 𝓛 (‵ (here z ps) ∷ ‵ (carried z xs) ∷ []) ∵ check ! (length-put ps k (outs n) (omega (arith, ok, same)) ∙ long) $
-        use1 𝓛 (‵ (row b (k * 8 + o) mid) ⊛ ‵ (here z (put ps k (outs n)))) (range_out 𝓛 b o ps k n ok) $ split ! $ move ! (1 ∷ []) $ frame ! $
+        use1 𝓛 (‵ (row b o k mid) ⊛ ‵ (here z (put ps k (outs n)))) (range_out 𝓛 b o 0 ps k k (omega arith) n ok) $ split ! $ move ! (1 ∷ []) $ frame ! $
         nothing ! $ fpack ! (Lies z.at (k + length mid)) (λ _. ftrue) (lies.0, small) $ fjoin ! $ nothing ! $ fpack ! (k + length mid ≤ z.words) (λ _. ftrue) le $ done !
     acts lies gives ps xs long ok = returns ps xs long
     acts lies (chain a a') ps xs long ok = let ps' : List Place = (after a (ps, xs)).0 in let xs' : List Range = (after a (ps, xs)).1 in qed 𝓛 (‵ (here z ps) ∷ ‵ (carried z xs) ∷ []) ∵
@@ -191,7 +191,7 @@ module _ {M : Type 1} {𝓤 : Ura M} (𝓛 : Logic 𝓤) where
 
     -- the words that are at home, which begin their memory
     rests : Lies z.at z.words → (ps : List Place) → length ps ≡ z.words → ⟦ Here ps ⟧ ⊢ ⟦ plain_owns z.at 0 ps ⟧
-    rests lies ps long = let same : o z ≡ 0 * 8 + o z = omega arith in let size : z.words ≡ 0 + length ps = omega (arith, long) in qed 𝓛 (‵ (Here ps) ∷ []) ∵ rewrite ! 0 (λ (k : ℕ). ‵ (row (b z) k ps)) same refl $
+    rests lies ps long = let size : z.words ≡ 0 + length ps = omega (arith, long) in qed 𝓛 (‵ (Here ps) ∷ []) ∵
         nothing ! $ fpack ! (Lies z.at (0 + length ps)) (λ _. ftrue) (lies.0, subst (λ (k : ℕ). k * 8 < 2 ^ 63) size lies.1) $ done !
 
     abbrev pub Ended : List Place → Pr
@@ -216,9 +216,9 @@ module _ {M : Type 1} {𝓤 : Ura M} (𝓛 : Logic 𝓤) where
     abbrev pub Begun : RegionId → Pr
     Begun z = guard 𝓤 ((z.at ≡ p) × (z.words ≡ length ps)) (⟦ region_owns cv.code z holds ⟧ ∗ ⟦ mine z cv.code 0 (v, []) ⟧)
 
-    pub begins : InBlock p → length ps * 8 < 2 ^ 63 → holds (opening ps v) → ⟦ row (block_of p) (count_of p) ps ⟧ ⊢ H.⇛ (ex 𝓤 Begun)
+    pub begins : InBlock p → length ps * 8 < 2 ^ 63 → holds (opening ps v) → ⟦ row (block_of p) (count_of p) 0 ps ⟧ ⊢ H.⇛ (ex 𝓤 Begun)
     unfolding Rattle.atomic_region.specs.Owned.seal
-    begins in_block small good = qed 𝓛 (‵ (row (block_of p) (count_of p) ps) ∷ []) ∵ updating ! $ lft_new ! tt (λ a.
+    begins in_block small good = qed 𝓛 (‵ (row (block_of p) (count_of p) 0 ps) ∷ []) ∵ updating ! $ lft_new ! tt (λ a.
         use0 𝓛 (later (some (λ (γ : ℕ). ‵ (unused cv.code γ 0 v)))) (via 𝓤 _ (entries_new halved 𝓛 0 (λ _. (full_share, cv.code v))) (basic 𝓛 (ex 𝓤 (λ (γ : ℕ). ⟦ unused cv.code γ 0 v ⟧)))) $ await ! tt $ pick ! (λ γ.
         let z : RegionId = record { at = p; words = length ps; views_name = γ; atom = a } in let κ : Lft = age z in let I : Fml = inner z cv.code holds in let L : Fml = seen cv.code γ 0 quarter v in let Mine : Fml = seen cv.code γ 0 three_quarters v in
         use1 𝓛 (‵ (seen cv.code γ 0 full_share v) ⊛ ‵ (unused cv.code γ 1 v)) (entries_take halved 𝓛 γ 0 (λ _. (full_share, cv.code v))) $ split ! $

@@ -26,7 +26,7 @@ module _ (z : RegionId) where
 
     module _ (holds : State V → Type 0) where
       inner_keyless : Keyless (inner z c holds)
-      inner_keyless = λ s. (row_keyless (block_of z.at) (count_of z.at) s.places, (roster_keyless c z.views_name 0 s.views, λ _. tt))
+      inner_keyless = λ s. (row_keyless (block_of z.at) (count_of z.at) 0 s.places, (roster_keyless c z.views_name 0 s.views, λ _. tt))
 
       pub owns_keyless : Keyless (region_owns c z holds)
       unfolding Rattle.atomic_region.specs.Owned.seal

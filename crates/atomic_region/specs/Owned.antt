@@ -27,7 +27,7 @@ age z = z.atom ∷ []
 
 module _ (z : RegionId) where
   abbrev pub here : List Place → Fml
-  here ps = row (block_of z.at) (count_of z.at) ps
+  here ps = row (block_of z.at) (count_of z.at) 0 ps
 
   abbrev pub carried : List Range → Fml
   carried [] = ftrue

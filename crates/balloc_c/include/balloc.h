@@ -5,7 +5,7 @@
  * - One call at a time is made with a pass. It may go from one thread to another by a lock, or by the start or
  *   the end of a thread.
  * - Each pointer points to an object of its type, or to `count` of them, for the call alone; no two overlap.
- * - The memory of a block is touched by nobody but who balloc_alloc or balloc_memory told it, or whom that one lets: only
+ * - The memory of a block is touched by nobody but who balloc_alloc or balloc_memory told it first, or whom that one lets: only
  *   its bytes, only until balloc_free or balloc_home has made its call, and for balloc_home each of its words holds a number.
  * - malloc, realloc and free come from one allocator. Only balloc_open, balloc_close and a call that gets a
  *   block use them; none is called from a signal handler, or in the forked child of a process with threads.
@@ -27,7 +27,7 @@
  * be changed (while it is 0, MINOR does), MINOR where a name or a code is added, and PATCH where all names, numbers and
  * layouts stay. A program is built with the page of the very library that it is linked with. */
 #define BALLOC_VERSION_MAJOR 0
-#define BALLOC_VERSION_MINOR 2
+#define BALLOC_VERSION_MINOR 3
 #define BALLOC_VERSION_PATCH 0
 
 #ifdef __cplusplus
@@ -134,9 +134,10 @@ int32_t balloc_alloc(balloc_pass *pass, size_t bytes, uint64_t *id, void **memor
  * BALLOC_SPENT, BALLOC_INTERRUPTED */
 int32_t balloc_alloc_words(balloc_pass *pass, uint32_t words, uint64_t *id);
 
-/* Tells where the memory of a block begins whose words are home: it is out from now on, with what is in it, 8 bytes for each of
- * its words (balloc_words). NULL where it is refused.
- * BALLOC_DONE, BALLOC_CLOSED, BALLOC_IN_CALL, BALLOC_NO_BLOCK, BALLOC_OUT */
+/* Tells where the memory of a block begins, 8 bytes for each of its words (balloc_words): words that are home are out from now
+ * on, with what is in them. Where they are out already it tells the same address again, and they stay whose they are. NULL
+ * where it is refused.
+ * BALLOC_DONE, BALLOC_CLOSED, BALLOC_IN_CALL, BALLOC_NO_BLOCK */
 int32_t balloc_memory(balloc_pass *pass, uint64_t id, void **memory);
 
 /* Brings the memory of a block home, with what is in it. Where it is home nothing happens.

@@ -8,7 +8,7 @@ use Rattle.errand_steps.specs.Points.{is_idle}
 use Rattle.live_heap.specs.declared.block.Block.{Block}
 use Rattle.balloc_c.specs.declared.kept.Kept.{Kept}
 use Rattle.balloc_c.specs.declared.kept.Kept.TheVariants as kept
-use Rattle.balloc_c.specs.declared.lent.Lent.{Lent}
+use Rattle.balloc_c.specs.declared.lent.LentBlock.{LentBlock}
 use Rattle.balloc_c.specs.Kept.{is_out}
 use Rattle.live_heap.specs.declared.pass.Pass.{Pass}
 use Rattle.block_cache.specs.declared.cache.Cache.{Cache}
@@ -66,7 +66,7 @@ a-block p t number rest block idle names =
     ∙ not-barred (names_out t number) refusal.Out rest (ap is_out names)
 
 pub out-block :
-    (p : Pass) (t : Table) (number : ℕ) (rest : Option Refusal) (lent : Lent) → is_idle p.errand.point ≡ true → named t number ≡ Some (kept.Out lent)
+    (p : Pass) (t : Table) (number : ℕ) (rest : Option Refusal) (lent : LentBlock) → is_idle p.errand.point ≡ true → named t number ≡ Some (kept.Out lent)
     → barred (is_busy p) refusal.InCall (barred (names_none t number) refusal.NoBlock (barred (names_out t number) refusal.Out rest)) ≡ Some refusal.Out
 out-block p t number rest lent idle names =
     some-block p t number (barred (names_out t number) refusal.Out rest) (kept.Out lent) idle names

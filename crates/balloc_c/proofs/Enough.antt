@@ -7,7 +7,7 @@ use Rattle.heap_geometry.specs.declared.need.Need.{Need}
 use Rattle.heap_geometry.specs.Need.{class_words, least, need_of, run_words, usable_words}
 use Rattle.live_heap.specs.declared.answers.AllocAnswer.TheVariants as alloc_answer
 use Rattle.live_heap.specs.declared.block.Block.{Block}
-use Rattle.live_heap.proofs.Enough.{given-enough}
+use Rattle.live_heap.proofs.laws_for_builders.Giving.{given-enough}
 use Rattle.block_cache.specs.declared.cache.Cache.{Cache}
 use Rattle.block_cache.specs.Caches.{stacks_in}
 use Rattle.block_cache.proofs.MagazineLemmas.{for-or-not}

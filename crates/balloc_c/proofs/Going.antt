@@ -31,8 +31,8 @@ use Rattle.live_heap.specs.Holdings.{ChangesHand, Holds}
 use Rattle.live_heap.specs.Memory.{writes_from}
 use Rattle.live_heap.specs.Passes.{IsHome, IsOf, Owns, view}
 use Rattle.live_heap.specs.Words.{CallsOnWord}
-use Rattle.live_heap.proofs.Holding.{holds-out}
-use Rattle.live_heap.proofs.LawsKept.{stays-home}
+use Rattle.live_heap.proofs.laws_for_builders.Hands.{hand-left}
+use Rattle.live_heap.proofs.laws_for_builders.Keeping.{stays-home}
 use Rattle.block_cache.specs.declared.cache.Cache.{Cache}
 use Rattle.block_cache.specs.declared.magazines.Magazines.{Magazines}
 use Rattle.block_cache.specs.Caches.{HasServed, IsCache, KeepsMagazines, cached_in, stacks_in}
@@ -41,7 +41,6 @@ use Rattle.block_cache.proofs.MagazineLemmas.{for-or-not, room-or-not, top-split
 use Rattle.balloc_c.specs.declared.calls.TheConstants.{TRIES}
 use Rattle.balloc_c.specs.declared.kept.Kept.{Kept}
 use Rattle.balloc_c.specs.declared.kept.Kept.TheVariants as kept
-use Rattle.balloc_c.specs.Ranges.{wrote_from}
 use Rattle.balloc_c.specs.Tended.{HasAll, Stands, at_home}
 use Rattle.balloc_c.specs.Through.{IsAllocation, IsFree}
 use Rattle.balloc_c.proofs.AllBlocks.{alloc-all, comes-all, ended-all, ended-home, free-all, home-of, leaves-all, put-all, take-all, waiting-all}
@@ -51,11 +50,11 @@ abbrev pub LentSame : Pass → Pass → Type 0
 LentSame p q = (view q).lent ≡ (view p).lent
 
 -- how a slot's block stands stays so
-pub stands-on : (p q : Pass) (slot : Option Kept) → LentSame p q → Stands p slot → Stands q slot
-stands-on p q None lent stands = tt
-stands-on p q (Some (kept.Home block)) lent home = stays-home p q block.place lent home
-stands-on p q (Some (kept.Out out)) lent (n, b, at, there, serves) =
-    (n, b, ap (λ (l : List OutBlock). get_elem? l n) lent ∙ at, there, serves)
+pub stands-on : (h : HeapFields) (p q : Pass) (slot : Option Kept) → LentSame p q → Stands h p slot → Stands h q slot
+stands-on h p q None lent stands = tt
+stands-on h p q (Some (kept.Home block)) lent home = stays-home p q block.place lent home
+stands-on h p q (Some (kept.Out out)) lent ((n, b, at, there, serves), lies) =
+    ((n, b, ap (λ (l : List OutBlock). get_elem? l n) lent ∙ at, there, serves), lies)
 
 -- a call has made these blocks of those, and takes no words out
 pub record Goes (h : HeapFields) (c d : Cache) (had has : List Block) : Type 0 where
@@ -84,7 +83,7 @@ asked-goes h c d brought held lent keeps goes =
     }
 
 -- which words are out behind each call
-alloc-lent : (p q : Pass) (words tries : ℕ) (answer : AllocAnswer) → AllocTells p words tries answer q → LentSame p q
+alloc-lent : (p q : Pass) (words tries : ℕ) (answer : AllocAnswer Block) → AllocTells p words tries answer q → LentSame p q
 alloc-lent p q words tries (alloc_answer.Given block) tells = tells.0.called.lent
 alloc-lent p q words tries alloc_answer.Refused tells = tells.called.lent
 alloc-lent p q words tries alloc_answer.TooLarge tells = ap (λ (x : Pass). (view x).lent) tells
@@ -106,7 +105,7 @@ resumed-lent first p q call made tries resumed.Busy tells = tells.calling.lent
 
 -- an allocation
 pub alloc-goes :
-    (h : HeapFields) (c d : Cache) (words : ℕ) (answer : AllocAnswer) (held : List Block) → IsCache h c → IsCache h d → IsIdle c.pass.errand
+    (h : HeapFields) (c d : Cache) (words : ℕ) (answer : AllocAnswer Block) (held : List Block) → IsCache h c → IsCache h d → IsIdle c.pass.errand
     → IsAllocation c words answer d → Goes h c d held (given_by answer ++ held)
 alloc-goes h c d words answer held was is idle told =
     elim (for-or-not (stacks_in c) (need_of words)) [
@@ -114,7 +113,7 @@ alloc-goes h c d words answer held was is idle told =
           let served = told.served has in
           let s = served.2 in
           let split = top-splits s.class served.0 (stacks_in c) (stacks_in d) s.top in
-          subst (λ (a : AllocAnswer). Goes h c d held (given_by a ++ held)) (sym served.1)
+          subst (λ (a : AllocAnswer Block). Goes h c d held (given_by a ++ held)) (sym served.1)
           (record {
             lent = lent-same c d s.pass;
             all = λ all. pass-same h c d (served.0 ∷ (held ++ cached_in d)) s.pass (leaves-all h c.pass held (cached_in c) (cached_in d) served.0 split all);
@@ -139,7 +138,7 @@ given-home h c d words block was idle told =
           let s = served.2 in
           let split = top-splits s.class served.0 (stacks_in c) (stacks_in d) s.top in
           let owns : Owns c.pass served.0 =
-          (holds-out c.pass split.front split.back served.0 (subst (Holds c.pass) split.with_it (was.hand.holds idle))).0 in
+          (hand-left c.pass split.front split.back served.0 (subst (Holds c.pass) split.with_it (was.hand.holds idle))).0 in
           let same : block ≡ served.0 = same-given block served.0 served.1 in
           subst (λ (p : Pass). IsHome p block.place) (sym s.pass) (subst (λ (b : Block). IsHome c.pass b.place) (sym same) owns.1)
       | inr none ↦ (told.asked none).0.1.1
@@ -206,13 +205,13 @@ put-goes h c d block shelf answer held was is idle lies back keeps =
           (put-all h c.pass d.pass block (held ++ cached_in c) shelf answer idle was.hand.of is.hand.of lies back all));
     }
 
-take-lent : (p q : Pass) (shelf : ℕ) (answer : Taken) → TakeTells p shelf answer q → LentSame p q
+take-lent : (p q : Pass) (shelf : ℕ) (answer : Taken Block) → TakeTells p shelf answer q → LentSame p q
 take-lent p q shelf (taken.Got block) tells = tells.0.lent
 take-lent p q shelf taken.Empty tells = tells.lent
 take-lent p q shelf (taken.Missed expected found) tells = tells.0.lent
 
 pub take-goes :
-    (h : HeapFields) (c d : Cache) (shelf : ℕ) (answer : Taken) (held : List Block) → IsCache h c → IsCache h d → IsIdle c.pass.errand
+    (h : HeapFields) (c d : Cache) (shelf : ℕ) (answer : Taken Block) (held : List Block) → IsCache h c → IsCache h d → IsIdle c.pass.errand
     → TakeTells c.pass shelf answer d.pass → KeepsMagazines c d → Goes h c d held (taken_by answer ++ held)
 take-goes h c d shelf answer held was is idle tells keeps =
     asked-goes h c d (taken_by answer) held (take-lent c.pass d.pass shelf answer tells) keeps
@@ -273,10 +272,6 @@ word-goes h c d call answer held was is idle on called keeps =
     }
 
 -- rows of such calls
-pub wrote-on : (place : ℕ) (need : Need) (i : ℕ) (words : List ℕ) → AreOnWords (wrote_from place need i words)
-wrote-on place need i [] = tt
-wrote-on place need i (word ∷ words) = (tt, wrote-on place need (suc i) words)
-
 pub writes-on : (place : ℕ) (need : Need) (i : ℕ) (words : List ℕ) → AreOnWords (writes_from place need i words)
 writes-on place need i [] = tt
 writes-on place need i (word ∷ words) = (tt, writes-on place need (suc i) words)

@@ -1,11 +1,13 @@
 -- A cache tends the blocks of a table while words go out and come home.
-use Rattle.std.proofs.Common.{ℕ, zero, suc, true, false, true≢false, ◌≡◌, ◌≢◌, ◌<◌, ◌++◌, ◌∙◌, List, [], ◌∷◌, Option, Some, None, length, slice_index_or, refl, sym, ap, subst}
+use Rattle.std.proofs.Common.{ℕ, zero, suc, true, false, true≢false, ◌≡◌, ◌≢◌, ◌<◌, ◌+◌, ◌*◌, ◌^◌, ◌++◌, ◌∙◌, List, [], ◌∷◌, Option, Some, None, length, slice_index_or, refl, sym, ap, subst, arith}
 use Rattle.std.specs.Prelude.{map}
 use Rattle.std.proofs.lemmas.Bool.Decides.{eqb_tells}
 use mathlib.Core.Option.{some, some-injective}
 use lib.ListN.{get_elem?}
+use denote.RawPtr.{InBlock}
 use Rattle.errand_steps.specs.Begins.{IsIdle}
 use Rattle.sound_laws.specs.events.Made.{LeadsBy}
+use Rattle.plain_words.specs.Owned.{Lies}
 use Rattle.plain_words.specs.declared.plain.PlainWords.{PlainWords}
 use Rattle.live_heap.specs.declared.block.Block.{Block}
 use Rattle.live_heap.specs.declared.view.Lent.{Lent as OutBlock}
@@ -14,14 +16,14 @@ use Rattle.live_heap.specs.declared.pass.Pass.{Pass}
 use Rattle.live_heap.specs.declared.plain.Memory.{Memory}
 use Rattle.live_heap.specs.Holdings.{HoldsExactly}
 use Rattle.live_heap.specs.Lending.{lent_block}
-use Rattle.live_heap.specs.Memory.{HasTaken, IsLastTaken, IsTaken, before_taking, writes_from}
+use Rattle.live_heap.specs.Memory.{HasTaken, IsLastTaken, IsMemoryOf, IsTaken, before_taking, writes_from}
 use Rattle.live_heap.specs.Passes.{IsHome, Owns, view}
 use Rattle.live_heap.specs.Words.{CallsOnWord}
 use Rattle.block_cache.specs.declared.cache.Cache.{Cache}
 use Rattle.block_cache.specs.Caches.{IsCache, KeepsMagazines, cached_in}
 use Rattle.balloc_c.specs.declared.kept.Kept.{Kept}
 use Rattle.balloc_c.specs.declared.kept.Kept.TheVariants as kept
-use Rattle.balloc_c.specs.declared.lent.Lent.{Lent}
+use Rattle.balloc_c.specs.declared.lent.LentBlock.{LentBlock}
 use Rattle.balloc_c.specs.declared.table.Slot.{Slot}
 use Rattle.balloc_c.specs.Kept.{block_of, is_out}
 use Rattle.balloc_c.specs.Slots.{block_at, lots_of, no_slot, set_block}
@@ -39,20 +41,29 @@ home-behind p q x place lent apart home zero b at =
 home-behind p q x place lent apart home (suc n) b at = home n b (sym (ap (λ (l : List OutBlock). get_elem? l (suc n)) lent) ∙ at)
 
 stands-behind :
-    (p q : Pass) (x : OutBlock) (slot : Option Kept) → (view q).lent ≡ x ∷ (view p).lent
-    → ((block : Kept) → slot ≡ Some block → (block_of block).place ≢ x.place) → Stands p slot → Stands q slot
-stands-behind p q x None lent apart stands = tt
-stands-behind p q x (Some (kept.Home block)) lent apart home = home-behind p q x block.place lent (apart (kept.Home block) refl) home
-stands-behind p q x (Some (kept.Out out)) lent apart (n, b, at, there, serves) =
-    (suc n, b, ap (λ (l : List OutBlock). get_elem? l (suc n)) lent ∙ at, there, serves)
+    (h : HeapFields) (p q : Pass) (x : OutBlock) (slot : Option Kept) → (view q).lent ≡ x ∷ (view p).lent
+    → ((block : Kept) → slot ≡ Some block → (block_of block).place ≢ x.place) → Stands h p slot → Stands h q slot
+stands-behind h p q x None lent apart stands = tt
+stands-behind h p q x (Some (kept.Home block)) lent apart home = home-behind p q x block.place lent (apart (kept.Home block) refl) home
+stands-behind h p q x (Some (kept.Out out)) lent apart ((n, b, at, there, serves), lies) =
+    ((suc n, b, ap (λ (l : List OutBlock). get_elem? l (suc n)) lent ∙ at, there, serves), lies)
+
+-- the first word of a block's memory has an address
+pub lies-first :
+    (h : HeapFields) (place : ℕ) (m : Memory) → IsMemoryOf h m → m.block.place ≡ place → Lies m.words.at (m.words.first + length m.words.places)
+    → Lies h.region.at (place + 1)
+lies-first h place m is at lies =
+    let first : m.words.first ≡ m.block.place + 1 = is.first in
+    let room : (m.words.first + length m.words.places) * 8 < 2 ^ 63 = lies.1 in
+    (subst InBlock is.at lies.0, omega (arith, first, room, at))
 
 -- the cache tends a table in which the words of a block have gone out
 pub out-tends :
-    (h : HeapFields) (c d : Cache) (slots middle after : List Slot) (i : ℕ) (block : Block) (lent : Lent) (m : Memory) (ns : List ℕ) → Tends h c slots
+    (h : HeapFields) (c d : Cache) (slots middle after : List Slot) (i : ℕ) (block : Block) (lent : LentBlock) (m : Memory) (ns : List ℕ) → Tends h c slots
     → IsIdle c.pass.errand → IsIdle d.pass.errand → i < length slots → block_at slots i ≡ Some (kept.Home block) → middle ≡ set_block slots i None
     → after ≡ set_block middle i (Some (kept.Out lent)) → block_of (kept.Out lent) ≡ block → m.block ≡ block → IsCache h d → KeepsMagazines c d
-    → before_taking d.pass block.place ≡ c.pass → IsLastTaken d.pass m ns (view c.pass).lent → Tends h d after
-out-tends h c d slots middle after i block lent m ns tends idle rests_d within is out_is back_is token of is_cache keeps before last =
+    → before_taking d.pass block.place ≡ c.pass → IsLastTaken d.pass m ns (view c.pass).lent → Lies h.region.at (lent.place + 1) → Tends h d after
+out-tends h c d slots middle after i block lent m ns tends idle rests_d within is out_is back_is token of is_cache keeps before last lies =
     let none : Slot = record (slice_index_or slots i no_slot) { block = None } in
     let bare = set_block slots i None in
     let vacant = vacant-set slots i within in
@@ -73,12 +84,12 @@ out-tends h c d slots middle after i block lent m ns tends idle rests_d within i
       all = subst (λ (l : List Slot). HasAll h d.pass (lots_of l ++ cached_in d)) (sym whole)
           (placed h d.pass bare i (kept.Out lent) (cached_in d) vacant
           (subst (λ (b : Block). HasAll h d.pass (b ∷ (lots_of bare ++ cached_in d))) (sym token) over));
-      stand = λ j. subst (λ (l : List Slot). Stands d.pass (block_at l j)) (sym whole)
+      stand = λ j. subst (λ (l : List Slot). Stands h d.pass (block_at l j)) (sym whole)
           (by_case
-          (λ at. subst (λ (k : ℕ). Stands d.pass (block_at (set_block bare i (Some (kept.Out lent))) k)) (sym at.1)
-          (subst (Stands d.pass) (sym (block-set_same bare i full vacant.0)) taken))
-          (λ apart. subst (Stands d.pass) (sym (block-set_other bare i j full apart.1 ∙ block-set_other slots i j none apart.1))
-          (stands-behind c.pass d.pass x (block_at slots j) last
+          (λ at. subst (λ (k : ℕ). Stands h d.pass (block_at (set_block bare i (Some (kept.Out lent))) k)) (sym at.1)
+          (subst (Stands h d.pass) (sym (block-set_same bare i full vacant.0)) (taken, lies)))
+          (λ apart. subst (Stands h d.pass) (sym (block-set_other bare i j full apart.1 ∙ block-set_other slots i j none apart.1))
+          (stands-behind h c.pass d.pass x (block_at slots j) last
           (λ other there at.
           apart-at h c slots i j (kept.Home block) other tends idle within is apart.1 there (at ∙ ap (λ (b : Block). b.place) of))
           (tends.stand j)))
@@ -87,7 +98,7 @@ out-tends h c d slots middle after i block lent m ns tends idle rests_d within i
 
 -- and one in which they have come home
 pub home-tends :
-    (h : HeapFields) (c d : Cache) (slots middle after : List Slot) (i : ℕ) (lent : Lent) (block : Block) (words : PlainWords) (ns : List ℕ) → Tends h c slots
+    (h : HeapFields) (c d : Cache) (slots middle after : List Slot) (i : ℕ) (lent : LentBlock) (block : Block) (words : PlainWords) (ns : List ℕ) → Tends h c slots
     → IsIdle c.pass.errand → i < length slots → block_at slots i ≡ Some (kept.Out lent) → middle ≡ set_block slots i None
     → after ≡ set_block middle i (Some (kept.Home block)) → block ≡ block_of (kept.Out lent) → IsCache h d → KeepsMagazines c d
     → LeadsBy (CallsOnWord h) (before_taking c.pass lent.place) (writes_from lent.place lent.need 0 ns) d.pass → Owns d.pass block
@@ -111,25 +122,25 @@ home-tends h c d slots middle after i lent block words ns tends idle within is o
       all = subst (λ (l : List Slot). HasAll h d.pass (lots_of l ++ cached_in d)) (sym whole)
           (placed h d.pass bare i (kept.Home block) (cached_in d) vacant
           (subst (λ (b : Block). HasAll h d.pass (b ∷ (lots_of bare ++ cached_in d))) (sym token) over));
-      stand = λ j. subst (λ (l : List Slot). Stands d.pass (block_at l j)) (sym whole)
+      stand = λ j. subst (λ (l : List Slot). Stands h d.pass (block_at l j)) (sym whole)
           (by_case
-          (λ at. subst (λ (k : ℕ). Stands d.pass (block_at (set_block bare i (Some (kept.Home block))) k)) (sym at.1)
-          (subst (Stands d.pass) (sym (block-set_same bare i full vacant.0)) owned.1))
-          (λ apart. subst (Stands d.pass) (sym (block-set_other bare i j full apart.1 ∙ block-set_other slots i j none apart.1))
+          (λ at. subst (λ (k : ℕ). Stands h d.pass (block_at (set_block bare i (Some (kept.Home block))) k)) (sym at.1)
+          (subst (Stands h d.pass) (sym (block-set_same bare i full vacant.0)) owned.1))
+          (λ apart. subst (Stands h d.pass) (sym (block-set_other bare i j full apart.1 ∙ block-set_other slots i j none apart.1))
           (still j (block_at slots j) refl apart.1 (tends.stand j)))
           (eqb_tells j i));
     }
   where
-    still : (j : ℕ) (slot : Option Kept) → block_at slots j ≡ slot → j ≢ i → Stands c.pass slot → Stands d.pass slot
+    still : (j : ℕ) (slot : Option Kept) → block_at slots j ≡ slot → j ≢ i → Stands h c.pass slot → Stands h d.pass slot
     still j None there ne stands = tt
     still j (Some (kept.Home other)) there ne stands =
         (owns other (held-at h c slots j other tends idle (within-of slots j (kept.Home other) there) there).0).1
-    still j (Some (kept.Out other)) there ne taken =
+    still j (Some (kept.Out other)) there ne (taken, lies) =
         let apart = apart-at h c slots i j (kept.Out lent) (kept.Out other) tends idle within is ne there in
-        others (record { block = block_of (kept.Out other); words = words }) taken apart
+        (others (record { block = block_of (kept.Out other); words = words }) taken apart, lies)
 
 -- what a slot tells of a block whose words are out, and of one whose words are home
-pub same-lent : (a b : Lent) → Some (kept.Out a) ≡ Some (kept.Out b) → a ≡ b
+pub same-lent : (a b : LentBlock) → Some (kept.Out a) ≡ Some (kept.Out b) → a ≡ b
 same-lent a b same = cc
 
 pub home-slot : (slot : Option Kept) → slot ≢ None → is_out slot ≡ false → (block : Block) × (slot ≡ Some (kept.Home block))
@@ -137,7 +148,7 @@ home-slot None there home = absurd (there refl)
 home-slot (Some (kept.Home block)) there home = (block, refl)
 home-slot (Some (kept.Out lent)) there home = absurd (true≢false home)
 
-pub out-slot : (slot : Option Kept) → is_out slot ≡ true → (lent : Lent) × (slot ≡ Some (kept.Out lent))
+pub out-slot : (slot : Option Kept) → is_out slot ≡ true → (lent : LentBlock) × (slot ≡ Some (kept.Out lent))
 out-slot None out = absurd (true≢false (sym out))
 out-slot (Some (kept.Home block)) out = absurd (true≢false (sym out))
 out-slot (Some (kept.Out lent)) out = (lent, refl)

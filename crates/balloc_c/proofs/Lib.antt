@@ -10,7 +10,6 @@ mod MemoryCalls
 mod Numbers
 mod OpenLemmas
 mod Packing
-mod RangeLemmas
 pub mod Seal
 mod Slots
 mod Tending

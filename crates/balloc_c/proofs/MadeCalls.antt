@@ -15,6 +15,7 @@ use Rattle.live_heap.specs.declared.block.Block.{Block}
 use Rattle.live_heap.specs.Heaps.{HeapFields}
 use Rattle.live_heap.specs.Answers.{IsContents, PutTellsFull, TakeTells}
 use Rattle.live_heap.specs.Calls.{HasCalled}
+use Rattle.live_heap.specs.Memory.{writes_from}
 use Rattle.live_heap.specs.Passes.{IsOf}
 use Rattle.live_heap.specs.Words.{CallsOnWord}
 use Rattle.block_cache.specs.declared.cache.Cache.{Cache}
@@ -25,7 +26,7 @@ use Rattle.balloc_c.specs.declared.table.Slot.{Slot}
 use Rattle.balloc_c.specs.declared.table.Table.{Table}
 use Rattle.balloc_c.specs.Numbers.{NamesOneMore, HasSlotReady, KeepsNumbers, NamesOneLess, named}
 use Rattle.balloc_c.specs.Outcomes.{Allocs, Frees, GoesOnTo, HasAllocated, HasFreed, HasPut, HasRead, HasResumed, HasTaken, HasWritten, Puts, Reads, Resumes, Takes, Writes, alloc_bar, free_bar, put_bar, resume_bar, take_bar, word_bar}
-use Rattle.balloc_c.specs.Ranges.{Adds, Fills, HasFilled, HasReadRange, HasSummed, HasWrittenRange, ReadsRange, WritesRange, range_bar, wrote_from}
+use Rattle.balloc_c.specs.Ranges.{Adds, Fills, HasFilled, HasReadRange, HasSummed, HasWrittenRange, ReadsRange, WritesRange, range_bar}
 use Rattle.balloc_c.specs.Slots.{HasAged, block_at, set_block}
 use Rattle.balloc_c.specs.Through.{Asked, IsAllocation, IsFree}
 use Rattle.balloc_c.proofs.BarLemmas.{alloc-made, free-made, makes, put-made, range-made, resume-made, take-made, word-made}
@@ -52,7 +53,7 @@ write-answers c t number i value block d idle names has called keeps =
 pub writes-answers :
     (h : HeapFields) (c : Cache) (t : Table) (number from : ℕ) (words : List ℕ) (block : Block) (d : Cache) → is_idle c.pass.errand.point ≡ true
     → named t number ≡ Some (kept.Home block) → from + length words ≤ usable_words block.need → IsOf h c.pass
-    → Asked (λ p q. LeadsBy (CallsOnWord h) p (wrote_from block.place block.need from words) q) c d → HasWrittenRange c t number from words (Ok tt) d t
+    → Asked (λ p q. LeadsBy (CallsOnWord h) p (writes_from block.place block.need from words) q) c d → HasWrittenRange c t number from words (Ok tt) d t
 writes-answers h c t number from words block d idle names has of leads =
     makes (range_bar c.pass t number from (length words)) (WritesRange c t number from words) c t (Ok tt) d t
     (range-made c.pass t number from (length words) block idle names has) ((block, names, (h, of, leads)), refl)

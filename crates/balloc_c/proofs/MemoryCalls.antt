@@ -21,7 +21,7 @@ use Rattle.block_cache.specs.Caches.{stacks_in}
 use Rattle.block_cache.proofs.MagazineLemmas.{for-or-not}
 use Rattle.balloc_c.specs.declared.kept.Kept.{Kept}
 use Rattle.balloc_c.specs.declared.kept.Kept.TheVariants as kept
-use Rattle.balloc_c.specs.declared.lent.Lent.{Lent}
+use Rattle.balloc_c.specs.declared.lent.LentBlock.{LentBlock}
 use Rattle.balloc_c.specs.declared.refusal.Refusal.{Refusal}
 use Rattle.balloc_c.specs.declared.refusal.Refusal.TheVariants as refusal
 use Rattle.balloc_c.specs.declared.table.Table.{Table}
@@ -31,26 +31,38 @@ use Rattle.balloc_c.specs.Handled.{IsBackOf}
 use Rattle.balloc_c.specs.Hands.{heap_of}
 use Rattle.balloc_c.specs.Lending.{AllocatesMemory, AreNumbers, GivesBack, HasComeHome, HasGoneOut, HasToldMemory, IsBackFor, IsRoomFor, NothingWhere, StayOut, StaysHome, TellsMemory, home_bar, memory_at, zeros}
 use Rattle.balloc_c.specs.Numbers.{NamesOneMore, named}
-use Rattle.balloc_c.specs.Outcomes.{Allocs, Answers, HasAllocated, alloc_bar, barred, free_bar, is_busy}
+use Rattle.balloc_c.specs.Outcomes.{Allocs, Answers, HasAllocated, alloc_bar, barred, is_busy}
 use Rattle.balloc_c.specs.Through.{IsAllocation}
-use Rattle.balloc_c.proofs.BarLemmas.{free-made, makes, refuses, some-block}
+use Rattle.balloc_c.proofs.BarLemmas.{makes, refuses, some-block}
 
--- memory that is told, and that isn't
+-- memory that is told, that is told again, and that isn't
+abbrev Tells : HeapFields → Cache → Table → ℕ → Ptr → Option PlainWords → Result (Unit {0}) Refusal → Cache → Table → Type 0
+Tells h c t number at words outcome e v = TellsMemory h c t number outcome at words e v
+
 pub memory-answers :
     (h : HeapFields) (c : Cache) (t : Table) (number : ℕ) (at : Ptr) (words : Option PlainWords) (block : Block) (memory : Memory) (d : Cache) (u : Table)
     → is_idle c.pass.errand.point ≡ true → named t number ≡ Some (kept.Home block) → words ≡ Some memory.words → at ≡ memory_at h memory.block.place
     → HasGoneOut h c t number memory d u → HasToldMemory h c t number (Ok tt) at words d u
 memory-answers h c t number at words block memory d u idle names is begins out = (
-  makes (free_bar c.pass t number) (λ outcome e v. TellsMemory h c t number outcome at words e v) c t (Ok tt) d u
-      (free-made c.pass t number block idle names) (memory, is, begins, out),
+  makes (home_bar c t number) (Tells h c t number at words) c t (Ok tt) d u
+      (some-block c.pass t number None (kept.Home block) idle names) (inl (memory, is, begins, out)),
+  tt,
+)
+
+pub memory-again :
+    (h : HeapFields) (c : Cache) (t : Table) (number : ℕ) (at : Ptr) (words : Option PlainWords) (lent : LentBlock) → is_idle c.pass.errand.point ≡ true
+    → named t number ≡ Some (kept.Out lent) → at ≡ memory_at h lent.place → words ≡ None → HasToldMemory h c t number (Ok tt) at words c t
+memory-again h c t number at words lent idle names begins none = (
+  makes (home_bar c t number) (Tells h c t number at words) c t (Ok tt) c t
+      (some-block c.pass t number None (kept.Out lent) idle names) (inr (lent, names, begins, none, refl, refl)),
   tt,
 )
 
 pub memory-refused :
-    (h : HeapFields) (c : Cache) (t : Table) (number : ℕ) (cause : Refusal) (at : Ptr) (words : Option PlainWords) → free_bar c.pass t number ≡ Some cause
+    (h : HeapFields) (c : Cache) (t : Table) (number : ℕ) (cause : Refusal) (at : Ptr) (words : Option PlainWords) → home_bar c t number ≡ Some cause
     → at ≡ null_ptr → words ≡ None → HasToldMemory h c t number (Err cause) at words c t
 memory-refused h c t number cause at words bar nowhere none =
-    (refuses (free_bar c.pass t number) cause (λ outcome e v. TellsMemory h c t number outcome at words e v) c t bar, (nowhere, none))
+    (refuses (home_bar c t number) cause (Tells h c t number at words) c t bar, (nowhere, none))
 
 -- what is given back for a number that names no block whose words are out: nothing; and what for one that does
 pub nothing-back : (h : HeapFields) (slot : Option Kept) (back : Option PlainWords) → is_out slot ≡ false → IsBackFor h slot back → back ≡ None
@@ -59,7 +71,7 @@ nothing-back h (Some (kept.Home block)) back home is = is
 nothing-back h (Some (kept.Out lent)) back home is = absurd (true≢false home)
 
 pub words-back :
-    (h : HeapFields) (lent : Lent) (back : Option PlainWords) → IsBackFor h (Some (kept.Out lent)) back
+    (h : HeapFields) (lent : LentBlock) (back : Option PlainWords) → IsBackFor h (Some (kept.Out lent)) back
     → (words : PlainWords) × (back ≡ Some words) × IsRoomFor h lent words
 words-back h lent None is = absurd is
 words-back h lent (Some words) is = (words, refl, is)
@@ -154,7 +166,7 @@ back-of was hand number back is given = subst (λ (o : Option Hand). IsBackOf o 
 
 -- the words of a block, each laid with 0, are its memory; and so are words that hold numbers
 pub zeros-memory :
-    (h : HeapFields) (lent : Lent) (words laid_words : PlainWords) → IsRoomFor h lent words → laid_words.at ≡ words.at → laid_words.first ≡ words.first
+    (h : HeapFields) (lent : LentBlock) (words laid_words : PlainWords) → IsRoomFor h lent words → laid_words.at ≡ words.at → laid_words.first ≡ words.first
     → laid_words.places ≡ laids (zeros words) → IsMemoryOf h (record { block = block_of (kept.Out lent); words = laid_words })
 zeros-memory h lent words laid_words room at first is =
     record {
@@ -165,7 +177,7 @@ zeros-memory h lent words laid_words room at first is =
     }
 
 pub numbers-memory :
-    (h : HeapFields) (lent : Lent) (words : PlainWords) → IsRoomFor h lent words → AreNumbers (Some words)
+    (h : HeapFields) (lent : LentBlock) (words : PlainWords) → IsRoomFor h lent words → AreNumbers (Some words)
     → IsMemoryOf h (record { block = block_of (kept.Out lent); words = words })
 numbers-memory h lent words room are =
     record { at = room.at; first = room.first; long = room.long; laid = are }

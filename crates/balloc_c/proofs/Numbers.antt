@@ -210,6 +210,12 @@ some-not-none block same = true≢false (ap is_there same)
     is_there None = false
     is_there (Some b) = true
 
+-- a number that names a block names that in its slot
+pub slot-named :
+    (t : Table) (n i : ℕ) (block : Kept) → i ≡ n % 2 ^ 32 → named t n ≡ Some block → named t n ≡ block_at t.slots.items i
+slot-named t n i block at is =
+    named-yes t n (names-itself t n (λ none. some-not-none block (sym is ∙ none))) ∙ sym (ap (block_at t.slots.items) at)
+
 pub behind-none : (slots : List Slot) (i : ℕ) → length slots ≤ i → block_at slots i ≡ None
 behind-none [] i past = refl
 behind-none (x ∷ xs) zero past = absurd (omega (arith, past))

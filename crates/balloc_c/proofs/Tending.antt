@@ -111,7 +111,7 @@ pub held-at :
 held-at h c slots i block tends idle within is =
     let all = taken-out h c.pass slots i (kept.Home block) (cached_in c) within is tends.all in
     let held = (all.at_rest idle).0 in
-    ((held.0.0, subst (Stands c.pass) is (tends.stand i)), all-back (λ (other : Block). other.place ≢ block.place) (lots_of (set_block slots i None)) (cached_in c) held.1)
+    ((held.0.0, subst (Stands h c.pass) is (tends.stand i)), all-back (λ (other : Block). other.place ≢ block.place) (lots_of (set_block slots i None)) (cached_in c) held.1)
 
 -- the blocks in other slots lie at other places
 pub apart-at :
@@ -132,7 +132,7 @@ same-tends h c d slots after tends is goes blocks same =
     record {
       cache = is;
       all = subst (λ (l : List Kept). HasAll h d.pass (map block_of l ++ cached_in d)) (sym blocks) (goes.all tends.all);
-      stand = λ i. subst (Stands d.pass) (sym (same i)) (stands-on c.pass d.pass (block_at slots i) goes.lent (tends.stand i));
+      stand = λ i. subst (Stands h d.pass) (sym (same i)) (stands-on h c.pass d.pass (block_at slots i) goes.lent (tends.stand i));
     }
 
 -- and one where a block comes into a vacant slot
@@ -147,12 +147,12 @@ filled-tends h c d slots middle after i block tends is goes home blocks same vac
       all = subst (λ (l : List Slot). HasAll h d.pass (lots_of l ++ cached_in d)) (sym set)
           (placed h d.pass middle i (kept.Home block) (cached_in d) vacant
           (subst (λ (l : List Kept). HasAll h d.pass (block ∷ (map block_of l ++ cached_in d))) (sym blocks) (goes.all tends.all)));
-      stand = λ j. subst (λ (l : List Slot). Stands d.pass (block_at l j)) (sym set)
+      stand = λ j. subst (λ (l : List Slot). Stands h d.pass (block_at l j)) (sym set)
           (by_case
-          (λ at. subst (λ (k : ℕ). Stands d.pass (block_at (set_block middle i (Some (kept.Home block))) k)) (sym at.1)
-          (subst (Stands d.pass) (sym (block-set_same middle i slot vacant.0)) home))
-          (λ apart. subst (Stands d.pass) (sym (block-set_other middle i j slot apart.1 ∙ same j))
-          (stands-on c.pass d.pass (block_at slots j) goes.lent (tends.stand j)))
+          (λ at. subst (λ (k : ℕ). Stands h d.pass (block_at (set_block middle i (Some (kept.Home block))) k)) (sym at.1)
+          (subst (Stands h d.pass) (sym (block-set_same middle i slot vacant.0)) home))
+          (λ apart. subst (Stands h d.pass) (sym (block-set_other middle i j slot apart.1 ∙ same j))
+          (stands-on h c.pass d.pass (block_at slots j) goes.lent (tends.stand j)))
           (eqb_tells j i));
     }
 
@@ -170,11 +170,11 @@ gone-tends h c d slots middle after i block tends within is set blocks same cach
       cache = cache;
       all = subst (λ (l : List Kept). HasAll h d.pass (map block_of l ++ cached_in d)) (sym (blocks ∙ ap blocks_of set))
           (went.all (taken-out h c.pass slots i (kept.Home block) (cached_in c) within is tends.all));
-      stand = λ j. subst (Stands d.pass) (sym (same j ∙ ap (λ (l : List Slot). block_at l j) set))
+      stand = λ j. subst (Stands h d.pass) (sym (same j ∙ ap (λ (l : List Slot). block_at l j) set))
           (by_case
-          (λ at. subst (λ (k : ℕ). Stands d.pass (block_at bare k)) (sym at.1) (subst (Stands d.pass) (sym (block-set_same slots i none within)) tt))
-          (λ apart. subst (Stands d.pass) (sym (block-set_other slots i j none apart.1))
-          (stands-on c.pass d.pass (block_at slots j) went.lent (tends.stand j)))
+          (λ at. subst (λ (k : ℕ). Stands h d.pass (block_at bare k)) (sym at.1) (subst (Stands h d.pass) (sym (block-set_same slots i none within)) tt))
+          (λ apart. subst (Stands h d.pass) (sym (block-set_other slots i j none apart.1))
+          (stands-on h c.pass d.pass (block_at slots j) went.lent (tends.stand j)))
           (eqb_tells j i));
     }
 
@@ -195,12 +195,12 @@ back-tends h c d slots middle after i block back tends within is out_is back_is 
       all = subst (λ (l : List Slot). HasAll h d.pass (lots_of l ++ cached_in d)) (sym whole)
           (placed h d.pass bare i (kept.Home back) (cached_in d) vacant
           (went.all (taken-out h c.pass slots i (kept.Home block) (cached_in c) within is tends.all)));
-      stand = λ j. subst (λ (l : List Slot). Stands d.pass (block_at l j)) (sym whole)
+      stand = λ j. subst (λ (l : List Slot). Stands h d.pass (block_at l j)) (sym whole)
           (by_case
-          (λ at. subst (λ (k : ℕ). Stands d.pass (block_at (set_block bare i (Some (kept.Home back))) k)) (sym at.1)
-          (subst (Stands d.pass) (sym (block-set_same bare i some_block vacant.0)) home))
-          (λ apart. subst (Stands d.pass) (sym (block-set_other bare i j some_block apart.1 ∙ block-set_other slots i j none apart.1))
-          (stands-on c.pass d.pass (block_at slots j) went.lent (tends.stand j)))
+          (λ at. subst (λ (k : ℕ). Stands h d.pass (block_at (set_block bare i (Some (kept.Home back))) k)) (sym at.1)
+          (subst (Stands h d.pass) (sym (block-set_same bare i some_block vacant.0)) home))
+          (λ apart. subst (Stands h d.pass) (sym (block-set_other bare i j some_block apart.1 ∙ block-set_other slots i j none apart.1))
+          (stands-on h c.pass d.pass (block_at slots j) went.lent (tends.stand j)))
           (eqb_tells j i));
     }
 
@@ -226,5 +226,5 @@ holds-bare h c slots is holds bare =
     record {
       cache = is;
       all = subst (λ (l : List Kept). HasAll h c.pass (map block_of l ++ cached_in c)) (sym bare) (all-home h c.pass (cached_in c) is.hand.of holds);
-      stand = λ i. subst (Stands c.pass) (sym (bare-at slots i bare)) tt;
+      stand = λ i. subst (Stands h c.pass) (sym (bare-at slots i bare)) tt;
     }

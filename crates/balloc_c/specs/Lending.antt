@@ -16,13 +16,13 @@ use Rattle.block_cache.specs.declared.cache.Cache.{Cache}
 use Rattle.block_cache.specs.Caches.{KeepsMagazines}
 use Rattle.balloc_c.specs.declared.kept.Kept.{Kept}
 use Rattle.balloc_c.specs.declared.kept.Kept.TheVariants as kept
-use Rattle.balloc_c.specs.declared.lent.Lent.{Lent}
+use Rattle.balloc_c.specs.declared.lent.LentBlock.{LentBlock}
 use Rattle.balloc_c.specs.declared.refusal.Refusal.{Refusal}
 use Rattle.balloc_c.specs.declared.refusal.Refusal.TheVariants as refusal
 use Rattle.balloc_c.specs.declared.table.Table.{Table}
 use Rattle.balloc_c.specs.Kept.{block_of}
 use Rattle.balloc_c.specs.Numbers.{GaveAway, named}
-use Rattle.balloc_c.specs.Outcomes.{Answers, HasAllocated, HasFreed, barred, free_bar, is_busy, names_none}
+use Rattle.balloc_c.specs.Outcomes.{Answers, HasAllocated, HasFreed, barred, is_busy, names_none}
 
 -- how many words have so many bytes; more than any block has stand for all that are more
 abbrev pub words_for : ℕ → ℕ
@@ -41,7 +41,7 @@ pub record Renames (t : Table) (number : ℕ) (block : Kept) (u : Table) : Type 
 -- the words of the block with this number have gone out: all its usable words, each of which holds a number; they begin at an odd word of memory that begins 8 bytes behind a multiple of 16. The pass stood before as it would stand now, had it not taken them out
 pub record HasGoneOut (h : HeapFields) (c : Cache) (t : Table) (number : ℕ) (memory : Memory) (d : Cache) (u : Table) : Type 0 where
   pub was : named t number ≡ Some (kept.Home memory.block)
-  pub lent : Lent
+  pub lent : LentBlock
   pub token : block_of (kept.Out lent) ≡ memory.block
   pub now : Renames t number (kept.Out lent) u
   pub words : IsMemoryOf h memory
@@ -50,10 +50,22 @@ pub record HasGoneOut (h : HeapFields) (c : Cache) (t : Table) (number : ℕ) (m
   pub before : before_taking d.pass memory.block.place ≡ c.pass
   pub keeps : KeepsMagazines c d
 
+-- what bars a call on a block, wherever its words are
+abbrev pub home_bar : Cache → Table → ℕ → Option Refusal
+home_bar c t number = barred (is_busy c.pass) refusal.InCall (barred (names_none t number) refusal.NoBlock None)
+
 -- C is told where a block's memory begins, whose words are C's from now on
-abbrev pub TellsMemory : HeapFields → Cache → Table → ℕ → Result (Unit {0}) Refusal → Ptr → Option PlainWords → Cache → Table → Type 0
-TellsMemory h c t number (Ok done) at words d u =
+abbrev pub TellsOut : HeapFields → Cache → Table → ℕ → Ptr → Option PlainWords → Cache → Table → Type 0
+TellsOut h c t number at words d u =
     (memory : Memory) × (words ≡ Some memory.words) × (at ≡ memory_at h memory.block.place) × HasGoneOut h c t number memory d u
+
+-- C is told again where a block's memory begins, whose words are out already; nothing else happens, and they stay whose they are
+abbrev pub TellsAgain : HeapFields → Cache → Table → ℕ → Ptr → Option PlainWords → Cache → Table → Type 0
+TellsAgain h c t number at words d u =
+    (lent : LentBlock) × (named t number ≡ Some (kept.Out lent)) × (at ≡ memory_at h lent.place) × (words ≡ None) × (d ≡ c) × (u ≡ t)
+
+abbrev pub TellsMemory : HeapFields → Cache → Table → ℕ → Result (Unit {0}) Refusal → Ptr → Option PlainWords → Cache → Table → Type 0
+TellsMemory h c t number (Ok done) at words d u = TellsOut h c t number at words d u ⊎ TellsAgain h c t number at words d u
 TellsMemory h c t number (Err cause) at words d u = ⊥
 
 -- no memory is told, and no words go out, where a call is refused
@@ -63,7 +75,7 @@ NothingWhere (Err cause) at words = (at ≡ null_ptr) × (words ≡ None)
 
 abbrev pub HasToldMemory : HeapFields → Cache → Table → ℕ → Result (Unit {0}) Refusal → Ptr → Option PlainWords → Cache → Table → Type 0
 HasToldMemory h c t number result at words d u =
-    Answers (free_bar c.pass t number) (λ outcome e v. TellsMemory h c t number outcome at words e v) c t result d u × NothingWhere result at words
+    Answers (home_bar c t number) (λ outcome e v. TellsMemory h c t number outcome at words e v) c t result d u × NothingWhere result at words
 
 -- an allocation of so many bytes, and the memory of the block that it gives, which has as many and is C's; where it gives none there is none
 abbrev pub AllocatesMemory : HeapFields → Cache → Table → ℕ → Result ℕ Refusal → Ptr → Option PlainWords → Cache → Table → Type 0
@@ -74,7 +86,7 @@ AllocatesMemory h c t bytes (Ok number) at words d u =
 AllocatesMemory h c t bytes (Err cause) at words d u = (at ≡ null_ptr) × (words ≡ None) × HasAllocated c t (words_for bytes) (Err cause) d u
 
 -- words are those of the block, all of them, as plain memory; some may never have been written
-pub record IsRoomFor (h : HeapFields) (lent : Lent) (words : PlainWords) : Type 0 where
+pub record IsRoomFor (h : HeapFields) (lent : LentBlock) (words : PlainWords) : Type 0 where
   pub at : words.at ≡ h.region.at
   pub first : words.first ≡ lent.place + 1
   pub long : length words.places ≡ usable_words lent.need
@@ -98,7 +110,7 @@ StayOut outcome left = left ≡ None
 
 -- the words of the block with this number have come home: each was written with the number that is in it
 pub record HasComeHome (h : HeapFields) (c : Cache) (t : Table) (number : ℕ) (ns : List ℕ) (d : Cache) (u : Table) : Type 0 where
-  pub lent : Lent
+  pub lent : LentBlock
   pub was : named t number ≡ Some (kept.Out lent)
   pub now : Renames t number (kept.Home (block_of (kept.Out lent))) u
   pub wrote : LeadsBy (CallsOnWord h) (before_taking c.pass lent.place) (writes_from lent.place lent.need 0 ns) d.pass
@@ -119,10 +131,7 @@ zeros words = replicate (length words.places) 0
 abbrev pub FreesBack : HeapFields → Cache → Table → ℕ → Option PlainWords → Result (Unit {0}) Refusal → Option PlainWords → Cache → Table → Type 0
 FreesBack h c t number = GivesBack h c t number zeros (λ e v result d u. HasFreed e v number result d u)
 
--- a call by which words come home with what is in them; what bars it. Where they are home nothing happens
-abbrev pub home_bar : Cache → Table → ℕ → Option Refusal
-home_bar c t number = barred (is_busy c.pass) refusal.InCall (barred (names_none t number) refusal.NoBlock None)
-
+-- a call by which words come home with what is in them. Where they are home nothing happens
 abbrev pub StaysHome : Cache → Table → ℕ → Result (Unit {0}) Refusal → Cache → Table → Type 0
 StaysHome c t number = Answers (home_bar c t number) (λ outcome d u. (outcome ≡ Ok tt) × (d ≡ c) × (u ≡ t)) c t
 

@@ -2,19 +2,19 @@
 use Rattle.std.specs.Prelude.{Option, Some, refl, true}
 use Rattle.std.specs.Borrow.{Lends, LendsIf, MutBor, Fml}
 use Rattle.balloc_c.specs.declared.hand.Hand.{Hand}
-use Rattle.balloc_c.specs.declared.held.Held.{Held}
+use Rattle.balloc_c.specs.declared.erased_box.ErasedBox.{ErasedBox}
 use Rattle.balloc_c.specs.declared.handle.PassHandle.{PassHandle}
 use Rattle.balloc_c.specs.contracts.hand.Hand as hand
-use Rattle.balloc_c.specs.contracts.held.Held as held
+use Rattle.balloc_c.specs.contracts.erased_box.ErasedBox as held
 use Rattle.balloc_c.specs.contracts.handle.PassHandle as handle
 
 -- what is held, with this pass
-abbrev pub with_hand : Held → Hand → Held
+abbrev pub with_hand : ErasedBox → Hand → ErasedBox
 with_hand h w = record h { hand = Some w }
 
 -- when the borrow ends, what is held is the pass as the borrow leaves it
-abbrev pub LendsHeld : MutBor Held → MutBor Hand → Fml
-LendsHeld s r = Lends held.the_row hand.the_row s r (with_hand s.now)
+abbrev pub LendsErasedBox : MutBor ErasedBox → MutBor Hand → Fml
+LendsErasedBox s r = Lends held.the_row hand.the_row s r (with_hand s.now)
 
 -- the handle that holds this pass
 abbrev pub holding : PassHandle → Hand → PassHandle

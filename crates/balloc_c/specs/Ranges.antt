@@ -1,14 +1,12 @@
 -- Calls on the words of a block in a row.
-use Rattle.std.specs.Prelude.{ℕ, suc, ◌≡◌, ◌+◌, Bool, false, nat_lt, Option, Some, None, Result, Ok, Err, List, [], ◌∷◌, length}
-use Rattle.heap_geometry.specs.declared.need.Need.{Need}
+use Rattle.std.specs.Prelude.{ℕ, ◌≡◌, ◌+◌, Bool, false, nat_lt, Option, Some, None, Result, Ok, Err, List, length}
 use Rattle.heap_geometry.specs.Need.{usable_words}
-use Rattle.errand_steps.specs.declared.reply.Reply.TheVariants as reply
-use Rattle.errand_steps.specs.Calls.{write}
-use Rattle.sound_laws.specs.events.Made.{LeadsBy, Made, Sums, answered, found_from, wrote}
+use Rattle.sound_laws.specs.events.Made.{LeadsBy, Made, Sums, found_from, wrote}
 use Rattle.balloc_c.specs.declared.kept.Kept.{Kept}
 use Rattle.balloc_c.specs.Kept.{block_of}
 use Rattle.live_heap.specs.Heaps.{HeapFields}
 use Rattle.live_heap.specs.declared.pass.Pass.{Pass}
+use Rattle.live_heap.specs.Memory.{writes_from}
 use Rattle.live_heap.specs.Passes.{IsOf}
 use Rattle.live_heap.specs.Words.{CallsOnWord}
 use Rattle.block_cache.specs.declared.cache.Cache.{Cache}
@@ -18,11 +16,6 @@ use Rattle.balloc_c.specs.declared.table.Table.{Table}
 use Rattle.balloc_c.specs.Numbers.{named}
 use Rattle.balloc_c.specs.Outcomes.{Answers, Of, barred, free_bar, is_busy, names_none, names_out}
 use Rattle.balloc_c.specs.Through.{Asked}
-
--- a write for each of these words, from word i on
-abbrev pub wrote_from : ℕ → Need → ℕ → List ℕ → List Made
-wrote_from place need i [] = []
-wrote_from place need i (word ∷ words) = answered (write place need i word) reply.Wrote ∷ wrote_from place need (suc i) words
 
 -- the block has not all words of the range
 abbrev pub lacks_range : Option Kept → ℕ → ℕ → Bool
@@ -41,7 +34,7 @@ MadeLead c made d = (h : HeapFields) × IsOf h c.pass × Asked (λ p q. LeadsBy 
 
 -- each word of the range was written, in their order
 abbrev pub WritesRange : Cache → Table → ℕ → ℕ → List ℕ → Result (Unit {0}) Refusal → Cache → Table → Type 0
-WritesRange c t number from words (Ok done) d u = Of t number (λ block. MadeLead c (wrote_from block.place block.need from words) d) × (u ≡ t)
+WritesRange c t number from words (Ok done) d u = Of t number (λ block. MadeLead c (writes_from block.place block.need from words) d) × (u ≡ t)
 WritesRange c t number from words (Err cause) d u = ⊥
 
 -- each word of the range was read, and these words were found

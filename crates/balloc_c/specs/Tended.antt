@@ -1,7 +1,8 @@
 -- What is so of a pass for C between calls. The words of some of its blocks may be out with C.
-use Rattle.std.specs.Prelude.{ℕ, ◌++◌, Option, Some, None, List, []}
+use Rattle.std.specs.Prelude.{ℕ, ◌+◌, ◌++◌, Option, Some, None, List, []}
 use Rattle.errand_steps.specs.Begins.{IsBusy, IsIdle}
 use Rattle.errand_steps.specs.Calls.{Call}
+use Rattle.plain_words.specs.Owned.{Lies}
 use Rattle.live_heap.specs.declared.block.Block.{Block}
 use Rattle.live_heap.specs.declared.pass.Pass.{Pass}
 use Rattle.live_heap.specs.Answers.{IsTried}
@@ -44,14 +45,14 @@ pub record HasAll (h : HeapFields) (p : Pass) (blocks : List Block) : Type 0 whe
   pub at_rest : IsIdle p.errand → HoldsExactly (at_home p) blocks
   pub in_call : IsBusy p.errand → HasAllInCall h p blocks
 
--- the words of a slot's block are home, or they are out
-abbrev pub Stands : Pass → Option Kept → Type 0
-Stands p None = Unit {0}
-Stands p (Some (kept.Home block)) = IsHome p block.place
-Stands p (Some (kept.Out lent)) = IsTaken p lent.place lent.need
+-- the words of a slot's block are home, or they are out, and the first of them has an address
+abbrev pub Stands : HeapFields → Pass → Option Kept → Type 0
+Stands h p None = Unit {0}
+Stands h p (Some (kept.Home block)) = IsHome p block.place
+Stands h p (Some (kept.Out lent)) = IsTaken p lent.place lent.need × Lies h.region.at (lent.place + 1)
 
 -- the cache is one in front of the heap; the blocks in slots and those in magazines are all that its caller owns, each once, but for the one that a call under way is about; and the words of each stand as its slot says
 pub record Tends (h : HeapFields) (c : Cache) (slots : List Slot) : Type 0 where
   pub cache : IsCache h c
   pub all : HasAll h c.pass (lots_of slots ++ cached_in c)
-  pub stand : (index : ℕ) → Stands c.pass (block_at slots index)
+  pub stand : (index : ℕ) → Stands h c.pass (block_at slots index)

@@ -20,7 +20,7 @@ abbrev pub Asked : (Pass → Pass → Type 0) → Cache → Cache → Type 0
 Asked Made c d = Made c.pass d.pass × KeepsMagazines c d
 
 -- an allocation of so many words: a magazine that has a block for them gives it, and where none has one the heap is asked
-pub record IsAllocation (c : Cache) (words : ℕ) (answer : AllocAnswer) (d : Cache) : Type 0 where
+pub record IsAllocation (c : Cache) (words : ℕ) (answer : AllocAnswer Block) (d : Cache) : Type 0 where
   pub served : HasFor c (need_of words) → (block : Block) × (answer ≡ alloc_answer.Given block) × HasServed c words block d
   pub asked : (¬ HasFor c (need_of words)) → Asked (λ p q. AllocTells p words TRIES answer q) c d
   pub depth : d.magazines.depth ≡ c.magazines.depth

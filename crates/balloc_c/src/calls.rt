@@ -1,10 +1,15 @@
 //! Calls on a pass with magazines, whose blocks have numbers.
 
-ghost use Rattle.std.specs.Prelude.{ℕ, ◌≡◌, ◌<◌, None, false, length, not};
+ghost use Rattle.std.specs.Prelude.{ℕ, ◌≡◌, ◌<◌, ◌%◌, ◌^◌, None, Some, false, length, not, true};
 ghost use Rattle.errand_steps.specs.Begins.{IsIdle};
+ghost use Rattle.live_heap.specs.declared.block.Block.{Block};
+ghost use Rattle.live_heap.specs.Heaps.{HeapFields};
+ghost use Rattle.block_cache.specs.Caches.{IsCache};
+ghost use Rattle.balloc_c.specs.declared.kept.Kept.TheVariants as kept;
 ghost use Rattle.balloc_c.specs.Outcomes.{TellsWords, HasAllocated, HasFreed, HasPut, HasRead, HasResumed, HasTaken, HasWritten};
 ghost use Rattle.balloc_c.specs.Closed.{FreesSlot, FreesTable, HasFreedAll, has_out};
 ghost use Rattle.balloc_c.specs.Kept.{is_out};
+ghost use Rattle.balloc_c.specs.Numbers.{named};
 ghost use Rattle.balloc_c.specs.Packed.{HasOneMoreAtMost, IsPacked};
 ghost use Rattle.balloc_c.specs.Slots.{block_at, blocks_of, set_block};
 ghost use Rattle.balloc_c.specs.Tended.{Tends};
@@ -14,14 +19,59 @@ use crate::refusal::Refusal;
 use crate::table::Table;
 use block_cache::cache::Cache;
 use heap_geometry::limits::{LARGE_MOST, SHELVES};
+use heap_geometry::need::{Need, class_of};
 use live_heap::answers::{AllocAnswer, FreeAnswer, Full, Resumed, Taken};
 use live_heap::heap::Heap;
 
 /// How many lost exchanges interrupt a call.
 pub const TRIES: u32 = 1000;
 
-/// An allocation of so many usable words. Answers the block's number.
+/// An allocation of so many usable words. Answers the block's number. Where a magazine and a slot stand ready it is made here,
+/// with no call; else by a function of its own, so that what that needs costs nothing here.
+#[inline(always)]
 pub fn alloc(heap: &Heap, cache: &mut Cache, table: &mut Table, words: u32) -> Result<u64, Refusal>
+    requires tends { Tends heap.now cache.old table.old.slots.items }
+    requires packed { IsPacked table.old }
+    ensures tends { Tends heap.now cache.new table.new.slots.items }
+    ensures packed { IsPacked table.new }
+    ensures few { HasOneMoreAtMost table.old table.new }
+    ensures answers { HasAllocated cache.old table.old words result cache.new table.new }
+{
+    if is_ready(cache, table, words) {
+        alloc_here(heap, cache, table, words)
+    } else {
+        alloc_away(heap, cache, table, words)
+    }
+}
+
+/// Whether no call is under way, a magazine has a block for so many words, and a slot stands ready for that.
+#[inline(always)]
+fn is_ready(cache: &Cache, table: &Table, words: u32) -> bool
+    requires { (h : HeapFields) × IsCache h cache.now }
+    ensures { result ≡ true → IsIdle cache.now.pass.errand }
+{
+    match class_of(words) {
+        Need::Small(class) => cache.idle() && table.has_spare() && cache.cached(class) > 0,
+        _ => false,
+    }
+}
+
+/// The same allocation, apart from who makes it.
+#[inline(never)]
+fn alloc_away(heap: &Heap, cache: &mut Cache, table: &mut Table, words: u32) -> Result<u64, Refusal>
+    requires tends { Tends heap.now cache.old table.old.slots.items }
+    requires packed { IsPacked table.old }
+    ensures tends { Tends heap.now cache.new table.new.slots.items }
+    ensures packed { IsPacked table.new }
+    ensures few { HasOneMoreAtMost table.old table.new }
+    ensures answers { HasAllocated cache.old table.old words result cache.new table.new }
+{
+    alloc_here(heap, cache, table, words)
+}
+
+/// The same allocation.
+#[inline(always)]
+fn alloc_here(heap: &Heap, cache: &mut Cache, table: &mut Table, words: u32) -> Result<u64, Refusal>
     requires tends { Tends heap.now cache.old table.old.slots.items }
     requires packed { IsPacked table.old }
     ensures tends { Tends heap.now cache.new table.new.slots.items }
@@ -48,24 +98,26 @@ pub fn alloc(heap: &Heap, cache: &mut Cache, table: &mut Table, words: u32) -> R
     }
 }
 
-/// The free of the block of this number.
-pub fn free(heap: &Heap, cache: &mut Cache, table: &mut Table, number: u64) -> Result<(), Refusal>
+/// The free of the block in a slot, whose number this is and whose words are home.
+pub fn free_home(
+    heap: &Heap,
+    cache: &mut Cache,
+    table: &mut Table,
+    index: usize,
+    _number: u64,
+) -> Result<(), Refusal>
     requires tends { Tends heap.now cache.old table.old.slots.items }
     requires packed { IsPacked table.old }
+    requires idle { IsIdle cache.old.pass.errand }
+    requires within { index < length table.old.slots.items }
+    requires is { index ≡ _number % 2 ^ 32 }
+    requires home { (block : Block) × (block_at table.old.slots.items index ≡ Some (kept.Home block)) }
+    requires named { named table.old _number ≡ block_at table.old.slots.items index }
     ensures tends { Tends heap.now cache.new table.new.slots.items }
     ensures packed { IsPacked table.new }
     ensures few { HasOneMoreAtMost table.old table.new }
-    ensures answers { HasFreed cache.old table.old number result cache.new table.new }
+    ensures answers { HasFreed cache.old table.old _number result cache.new table.new }
 {
-    if !cache.idle() {
-        return Err(Refusal::InCall);
-    }
-    let Some(index) = table.find(number) else {
-        return Err(Refusal::NoBlock);
-    };
-    if table.is_out(index) {
-        return Err(Refusal::Out);
-    }
     let block = table.take_home(index);
     table.retire(index);
     match cache.free(heap, block, TRIES) {

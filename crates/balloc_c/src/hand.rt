@@ -86,7 +86,7 @@ impl Hand {
         )
     }
 
-    /// Where the memory of the block of this number begins, whose words go out.
+    /// Where the memory of the block of this number begins. Words that are home go out.
     pub fn memory(&mut self, number: u64) -> Handed
         ensures { (outcome : Result (Unit {0}) Refusal) × (result.code ≡ word_in outcome)
             × Makes (λ c t answer d u. HasToldMemory (heap_of self.old) c t number answer result.memory result.words d u) self.old outcome self.new }

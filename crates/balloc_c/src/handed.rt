@@ -1,11 +1,12 @@
 //! Words that go to C by a bare pointer, and come back.
 
-ghost use Rattle.std.specs.Prelude.{◌≡◌, Option, Some, None};
+ghost use Rattle.std.specs.Prelude.{◌≡◌, ◌+◌, Option, Some, None, length};
 ghost use Rattle.std.specs.Coded.{coded_option};
 ghost use Rattle.std.specs.Ptr.{ptr_add};
 ghost use Rattle.std.specs.Borrow.{u64};
 ghost use denote.RawPtr.{null_ptr};
 ghost use Rattle.plain_words.specs.contracts.plain.PlainWords.{the_row};
+ghost use Rattle.plain_words.specs.Owned.{Lies};
 ghost use Rattle.plain_words.specs.declared.plain.PlainWords.{PlainWords as Words};
 ghost use Rattle.balloc_c.specs.Handing.{words_own};
 
@@ -29,9 +30,19 @@ impl Handed {
     /// Words that go out.
     pub fn of_words(words: PlainWords, start: Start, first: usize, code: u32) -> Handed
         requires { (start.at ≡ words.at) × (first ≡ words.first) }
-        ensures { (result.memory ≡ ptr_add u64 words.first words.at) × (result.code ≡ code) × (result.words ≡ Some words) }
+        ensures { (result.memory ≡ ptr_add u64 words.first words.at) × (result.code ≡ code) × (result.words ≡ Some words)
+            × Lies words.at (words.first + length words.places) }
     {
         let PlainWords { mark: _ } = words;
+        let memory = unsafe { start.at.add(first) };
+        Handed { memory, code }
+    }
+
+    /// No words, and where memory begins whose words are out already.
+    pub fn again(start: Start, first: usize, code: u32) -> Handed
+        requires { Lies start.at first }
+        ensures { (result.memory ≡ ptr_add u64 first start.at) × (result.code ≡ code) × (result.words ≡ None) }
+    {
         let memory = unsafe { start.at.add(first) };
         Handed { memory, code }
     }

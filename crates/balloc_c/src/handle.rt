@@ -2,8 +2,8 @@
 
 ghost use Rattle.std.specs.Prelude.{◌≡◌, Option, Some, None, is_some, option_map};
 
+use crate::erased_box::ErasedBox;
 use crate::hand::Hand;
-use crate::held::Held;
 use crate::parts::Parts;
 use std::alloc::Global;
 
@@ -12,7 +12,7 @@ use std::alloc::Global;
 #[repr(C)]
 pub struct PassHandle {
     live: bool,
-    held: Held,
+    held: ErasedBox,
     /// What fills the cache line.
     rest: [u64; 6],
     ghost is_live: { live ≡ is_some held.hand },
@@ -48,7 +48,7 @@ impl PassHandle {
     {
         if self.live {
             self.live = false;
-            let held = std::mem::replace(&mut self.held, Held::none(alloc));
+            let held = std::mem::replace(&mut self.held, ErasedBox::none(alloc));
             Some(held.into_parts().into_box())
         } else {
             None
@@ -61,7 +61,7 @@ impl PassHandle {
         ensures { self.new.held.hand ≡ Some hand.value }
     {
         self.live = true;
-        let held = std::mem::replace(&mut self.held, Held::of_parts(Parts::of(hand)));
+        let held = std::mem::replace(&mut self.held, ErasedBox::of_parts(Parts::of(hand)));
         held.forget();
     }
 }

@@ -4,7 +4,7 @@ ghost use Rattle.std.specs.Prelude.{◌≡◌};
 ghost use Rattle.heap_geometry.specs.Need.{usable_words};
 ghost use Rattle.balloc_c.specs.Kept.{block_of};
 
-use crate::lent::Lent;
+use crate::lent::LentBlock;
 use heap_geometry::need::usable;
 use live_heap::block::Block;
 
@@ -14,7 +14,7 @@ pub enum Kept {
     /// Its words are home: calls write and read them.
     Home(Block),
     /// Its words are out with C.
-    Out(Lent),
+    Out(LentBlock),
 }
 
 impl Kept {

@@ -1,17 +1,18 @@
 //! How the memory of a block goes out to C, and comes home.
 
-ghost use Rattle.std.specs.Prelude.{ℕ, ◌≡◌, ◌<◌, ◌%◌, ◌^◌, None, Result, Some, length};
+ghost use Rattle.std.specs.Prelude.{ℕ, ◌≡◌, ◌<◌, ◌+◌, ◌%◌, ◌^◌, None, Result, Some, length};
 ghost use Rattle.errand_steps.specs.Begins.{IsIdle};
 ghost use Rattle.live_heap.specs.declared.block.Block.{Block};
 ghost use Rattle.live_heap.specs.declared.plain.Memory.{Memory as Lot};
 ghost use Rattle.live_heap.specs.Memory.{IsMemoryOf};
+ghost use Rattle.plain_words.specs.Owned.{Lies};
 ghost use Rattle.plain_words.specs.Places.{laids, numbers};
 ghost use Rattle.plain_words.specs.declared.plain.PlainWords.{PlainWords as Words};
 ghost use Rattle.balloc_c.specs.declared.kept.Kept.TheVariants as kept;
 ghost use Rattle.balloc_c.specs.declared.refusal.Refusal.{Refusal as Cause};
 ghost use Rattle.balloc_c.specs.declared.refusal.Refusal.TheVariants as refusal;
 ghost use Rattle.balloc_c.specs.Codes.{code_of, value_in, word_in, word_of};
-ghost use Rattle.balloc_c.specs.declared.lent.Lent.{Lent as Out};
+ghost use Rattle.balloc_c.specs.declared.lent.LentBlock.{LentBlock as Out};
 ghost use Rattle.balloc_c.specs.Kept.{block_of};
 ghost use Rattle.balloc_c.specs.Lending.{AllocatesMemory, AreNumbers, BringsHome, FreesBack, HasComeHome, HasGoneOut, HasToldMemory, IsBackFor, IsRoomFor, StayOut, memory_at, words_for, zeros};
 ghost use Rattle.balloc_c.specs.Numbers.{named};
@@ -19,10 +20,10 @@ ghost use Rattle.balloc_c.specs.Packed.{HasOneMoreAtMost, IsPacked};
 ghost use Rattle.balloc_c.specs.Slots.{block_at, blocks_of};
 ghost use Rattle.balloc_c.specs.Tended.{Tends};
 
-use crate::calls::{alloc, free};
+use crate::calls::{alloc, free_home};
 use crate::handed::Handed;
 use crate::kept::Kept;
-use crate::lent::Lent;
+use crate::lent::LentBlock;
 use crate::refusal::Refusal;
 use crate::table::Table;
 use block_cache::cache::Cache;
@@ -35,7 +36,7 @@ use plain_words::PlainWords;
 /// The call was made.
 const MADE: u32 = 0;
 
-/// Where the memory of the block of this number begins, whose words go out.
+/// Where the memory of the block of this number begins. Words that are home go out; those that are out stay whose they are.
 pub fn memory(heap: &Heap, cache: &mut Cache, table: &mut Table, number: u64) -> Handed
     requires tends { Tends heap.now cache.old table.old.slots.items }
     requires packed { IsPacked table.old }
@@ -52,9 +53,23 @@ pub fn memory(heap: &Heap, cache: &mut Cache, table: &mut Table, number: u64) ->
         return Handed::none(Refusal::NoBlock.word());
     };
     if table.is_out(index) {
-        return Handed::none(Refusal::Out.word());
+        return told_again(heap, table, index);
     }
     go_out(heap, cache, table, index, number)
+}
+
+/// Where the memory of the block in a slot begins, whose words are out.
+fn told_again(heap: &Heap, table: &Table, index: usize) -> Handed
+    requires within { index < length table.now.slots.items }
+    requires out { (lent : Out) × (block_at table.now.slots.items index ≡ Some (kept.Out lent)) × Lies heap.now.region.at (lent.place + 1) }
+    ensures code { result.code ≡ 0 }
+    ensures words { result.words ≡ None }
+    ensures memory { (lent : Out) × (block_at table.now.slots.items index ≡ Some (kept.Out lent)) × (result.memory ≡ memory_at heap.now lent.place) }
+{
+    let Some(lent) = table.out(index) else {
+        unreachable!();
+    };
+    Handed::again(heap.start(), lent.place as usize + 1, MADE)
 }
 
 /// The words of the block in a slot go out, whose number this is.
@@ -79,7 +94,7 @@ fn go_out(heap: &Heap, cache: &mut Cache, table: &mut Table, index: usize, _numb
     let memory = cache.take_out(heap, block);
     let first = place as usize + 1;
     let words = Handed::of_words(memory.into_words(), heap.start(), first, MADE);
-    let _ = table.set(index, Some(Kept::Out(Lent::new(place, need))));
+    let _ = table.set(index, Some(Kept::Out(LentBlock::new(place, need))));
     words
 }
 
@@ -114,7 +129,7 @@ fn come_home(
 }
 
 /// The same words, each of them 0.
-fn zeroed(heap: &Heap, lent: &Lent, words: PlainWords) -> PlainWords
+fn zeroed(heap: &Heap, lent: &LentBlock, words: PlainWords) -> PlainWords
     requires { IsRoomFor heap.now lent.now words }
     ensures { (result.at ≡ words.at) × (result.first ≡ words.first) × (result.places ≡ laids (zeros words)) }
 {
@@ -154,10 +169,12 @@ pub fn free_back(
         let freed = free_out(heap, cache, table, index, number, back);
         return Handed::none(word(freed));
     }
-    Handed::none(word(free(heap, cache, table, number)))
+    Handed::none(word(free_home(heap, cache, table, index, number)))
 }
 
-/// The free of the block in a slot, whose number this is and whose words are out.
+/// The free of the block in a slot, whose number this is and whose words are out. It stands apart, so that a free of words
+/// that are home saves no registers for it.
+#[inline(never)]
 fn free_out(
     heap: &Heap,
     cache: &mut Cache,
@@ -184,7 +201,7 @@ fn free_out(
     };
     let words = zeroed(heap, lent, back.into_words());
     come_home(heap, cache, table, index, number, words);
-    free(heap, cache, table, number)
+    free_home(heap, cache, table, index, number)
 }
 
 /// Words that are out come home, with what is in them. Where a call is under way they go out again.
@@ -253,9 +270,7 @@ pub fn alloc_memory(
     match alloc(heap, cache, table, least_words(bytes)) {
         Ok(number) => {
             *id = number;
-            let Some(index) = table.find(number) else {
-                unreachable!();
-            };
+            let index = (number % 0x1_0000_0000) as usize;
             go_out(heap, cache, table, index, number)
         }
         Err(cause) => Handed::none(cause.word()),

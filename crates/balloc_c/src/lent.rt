@@ -6,20 +6,21 @@ ghost use Rattle.step_machine.specs.Needs.{IsNeed-prop};
 
 use heap_geometry::need::Need;
 
-/// A block whose memory is out with C: where the block lies, and what it serves.
+/// A block whose memory is out with C: where it lies and what it serves, of which its token is made again when the
+/// memory comes home.
 #[derive(Drop)]
-pub struct Lent {
+pub struct LentBlock {
     pub place: u32,
     pub need: Need,
     ghost is_need: { IsNeed need } by { IsNeed-prop need },
 }
 
-impl Lent {
+impl LentBlock {
     /// A block at this place, that serves this need.
-    pub fn new(place: u32, need: Need) -> Lent
+    pub fn new(place: u32, need: Need) -> LentBlock
         requires { IsNeed need }
         ensures { (result.place ≡ place) × (result.need ≡ need) }
     {
-        Lent { place, need }
+        LentBlock { place, need }
     }
 }

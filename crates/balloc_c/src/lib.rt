@@ -9,11 +9,11 @@
 
 mod calls;
 mod counted;
+mod erased_box;
 mod hand;
 mod handed;
 mod handle;
 mod handled;
-mod held;
 mod kept;
 pub mod laws;
 mod lending;
@@ -185,8 +185,8 @@ pub extern "C" fn balloc_counts(
     }
 }
 
-/// Tells where the memory of a block begins whose words are home: they are the caller's from now on. The code is told as
-/// the number of 32 bits that stands for it.
+/// Tells where the memory of a block begins. Words that are home are the caller's from now on; those that are out stay whose
+/// they are, and it tells the same again. The code is told as the number of 32 bits that stands for it.
 #[unsafe(no_mangle)]
 pub extern "C" fn balloc_memory(pass: &mut PassHandle, id: u64, memory: &mut *mut u64) -> u32
     ensures* told { sem 𝓛 (handed (λ words. TellsBy pass.old.held.hand id result memory.new words pass.new.held.hand)) }

@@ -1,15 +1,9 @@
-//! Calls on the words of a block in a row: one loop over words.
+//! Calls on the words of a block in a row.
 
-ghost use Rattle.std.specs.Prelude.{◌≡◌, ◌<◌, ◌+◌, ◌≤◌, List, None, IfSome, length};
+ghost use Rattle.std.specs.Prelude.{◌≡◌, ◌<◌, ◌+◌, ◌≤◌, false, length, true};
 ghost use Rattle.heap_geometry.specs.Need.{usable_words};
-ghost use Rattle.sound_laws.specs.events.Made.{LeadsBy, found_from};
-ghost use Rattle.errand_steps.specs.Begins.{IsIdle};
-ghost use Rattle.live_heap.specs.declared.block.Block.{Block};
-ghost use Rattle.live_heap.specs.Words.{CallsOnWord};
-ghost use Rattle.block_cache.specs.Caches.{Holds, HoldsBlock, IsCache};
-ghost use Rattle.balloc_c.specs.Ranges.{HasFilled, HasReadRange, HasSummed, HasWrittenRange, IsFound, wrote_from};
+ghost use Rattle.balloc_c.specs.Ranges.{HasFilled, HasReadRange, HasSummed, HasWrittenRange, IsFound};
 ghost use Rattle.balloc_c.specs.Tended.{Tends};
-ghost use Rattle.balloc_c.specs.Through.{Asked};
 
 use crate::kept::Kept;
 use crate::refusal::Refusal;
@@ -43,10 +37,10 @@ pub fn write_range(
     let Kept::Home(block) = kept else {
         return Err(Refusal::Out);
     };
-    let Some(end) = range_end(block, from, words.len()) else {
+    if !has_range(block, from, words.len()) {
         return Err(Refusal::NoWord);
-    };
-    write_words(heap, cache, block, from, end, words);
+    }
+    cache.write_slice(heap, block, from, words);
     Ok(())
 }
 
@@ -76,10 +70,10 @@ pub fn read_range(
     let Kept::Home(block) = kept else {
         return Err(Refusal::Out);
     };
-    let Some(end) = range_end(block, from, words.len()) else {
+    if !has_range(block, from, words.len()) {
         return Err(Refusal::NoWord);
-    };
-    read_words(heap, cache, block, from, end, words);
+    }
+    cache.read_slice(heap, block, from, words);
     Ok(())
 }
 
@@ -132,47 +126,11 @@ pub fn sum(heap: &Heap, cache: &mut Cache, table: &Table, number: u64) -> Result
     Ok(cache.sum(heap, block))
 }
 
-/// Where a range of a block ends; nowhere, if the block hasn't all its words.
-fn range_end(block: &Block, from: u32, count: usize) -> Option<u32>
-    ensures within { IfSome result (λ end. (end ≡ from + count) × (end ≤ usable_words block.now.need)) }
-    ensures lacks { result ≡ None → usable_words block.now.need < from + count }
+/// Whether a block has all words of a range.
+fn has_range(block: &Block, from: u32, count: usize) -> bool
+    ensures has { result ≡ true → from + count ≤ usable_words block.now.need }
+    ensures lacks { result ≡ false → usable_words block.now.need < from + count }
 {
     let usable = block.usable_words();
-    if from <= usable && count <= (usable - from) as usize {
-        Some(from + count as u32)
-    } else {
-        None
-    }
-}
-
-/// Writes the words of a block from one on, up to another, with these.
-fn write_words(heap: &Heap, cache: &mut Cache, block: &Block, from: u32, end: u32, words: &[u64])
-    requires cache { IsCache heap.now cache.old }
-    requires idle { IsIdle cache.old.pass.errand }
-    requires held { HoldsBlock cache.old block.now }
-    requires within { end ≤ usable_words block.now.need }
-    requires count { from + length words.now ≡ end }
-    ensures cache { IsCache heap.now cache.new }
-    ensures holds { (held : List Block) → Holds cache.old held → Holds cache.new held }
-    ensures wrote { Asked (λ p q. LeadsBy (CallsOnWord heap.now) p (wrote_from block.now.place block.now.need from words.now) q) cache.old cache.new }
-{
-    for i in from..end {
-        cache.write(heap, block, i, words[(i - from) as usize]);
-    }
-}
-
-/// Reads the words of a block from one on, up to another, into these.
-fn read_words(heap: &Heap, cache: &mut Cache, block: &Block, from: u32, end: u32, words: &mut [u64])
-    requires cache { IsCache heap.now cache.old }
-    requires idle { IsIdle cache.old.pass.errand }
-    requires held { HoldsBlock cache.old block.now }
-    requires within { end ≤ usable_words block.now.need }
-    requires count { from + length words.old ≡ end }
-    ensures cache { IsCache heap.now cache.new }
-    ensures holds { (held : List Block) → Holds cache.old held → Holds cache.new held }
-    ensures found { Asked (λ p q. LeadsBy (CallsOnWord heap.now) p (found_from block.now.place block.now.need from words.new) q) cache.old cache.new }
-{
-    for i in from..end {
-        words[(i - from) as usize] = cache.read(heap, block, i);
-    }
+    from <= usable && count <= (usable - from) as usize
 }

@@ -1,15 +1,15 @@
 //! The table of a pass's blocks. A number names a slot, and how often that slot has given a block away.
 
-ghost use Rattle.std.specs.Prelude.{ℕ, ◌≡◌, ◌≢◌, ◌<◌, ◌≤◌, ◌%◌, ◌^◌, [], length, None, Some, false, IfOk, IfSome};
+ghost use Rattle.std.specs.Prelude.{ℕ, ◌≡◌, ◌≢◌, ◌<◌, ◌≤◌, ◌%◌, ◌^◌, [], length, None, Some, false, IfOk, IfSome, true};
 ghost use Rattle.std.specs.Result.{IfErr};
 ghost use Rattle.live_heap.specs.declared.block.Block.{Block};
 ghost use Rattle.balloc_c.specs.declared.kept.Kept.TheVariants as kept;
-ghost use Rattle.balloc_c.specs.declared.lent.Lent.{Lent as Out};
+ghost use Rattle.balloc_c.specs.declared.lent.LentBlock.{LentBlock as Out};
 ghost use Rattle.balloc_c.specs.declared.refusal.Refusal.TheVariants as refusal;
 ghost use Rattle.balloc_c.specs.declared.table.TheConstants.{NONE};
 
 use crate::kept::Kept;
-use crate::lent::Lent;
+use crate::lent::LentBlock;
 use crate::refusal::Refusal;
 use live_heap::block::Block;
 use std::alloc::Global;
@@ -57,6 +57,14 @@ impl Table {
         ensures { result ≡ length self.now.slots.items }
     {
         self.slots.len()
+    }
+
+    /// Whether a slot stands ready.
+    #[inline(always)]
+    pub fn has_spare(&self) -> bool
+        ensures { result ≡ true → self.now.spare ≢ NONE }
+    {
+        self.spare != NONE
     }
 
     /// A slot with no block, which stays the spare one until it is filled: one that has given its block away,
@@ -154,7 +162,7 @@ impl Table {
     }
 
     /// What is known of the block in a slot, where its words are out.
-    pub fn out(&self, index: usize) -> Option<&Lent>
+    pub fn out(&self, index: usize) -> Option<&LentBlock>
         requires { index < length self.now.slots.items }
         ensures out { IfSome result (λ lent. block_at self.now.slots.items index ≡ Some (kept.Out lent.now)) }
         ensures home { result ≡ None → is_out (block_at self.now.slots.items index) ≡ false }
@@ -166,7 +174,7 @@ impl Table {
     }
 
     /// Takes out of its slot what is known of a block whose words are out.
-    pub fn take_lent(&mut self, index: usize) -> Lent
+    pub fn take_lent(&mut self, index: usize) -> LentBlock
         requires within { index < length self.old.slots.items }
         requires out { (lent : Out) × (block_at self.old.slots.items index ≡ Some (kept.Out lent)) }
         ensures slots { self.new.slots.items ≡ set_block self.old.slots.items index None }

@@ -12,7 +12,7 @@ use Rattle.live_heap.specs.declared.plain.Memory.{Memory}
 use Rattle.block_cache.specs.declared.magazines.Magazines.{Magazines}
 use Rattle.block_cache.specs.Magazines.{HasRoomFor, stacks_of}
 use Rattle.block_cache.proofs.MagazineLemmas.{stack-few, top-here}
-use Rattle.memory_cache.specs.declared.answers.MemoryAnswer.TheVariants as answer
+use Rattle.live_heap.specs.declared.answers.AllocAnswer.TheVariants as answer
 use Rattle.memory_cache.specs.declared.cache.MemoryCache.{MemoryCache}
 use Rattle.memory_cache.specs.Asking.{TakeTells}
 use Rattle.memory_cache.specs.Caches.{HasFor, HasRoom, HasServed, IsCache, magazine_in}

@@ -7,8 +7,8 @@ use Rattle.heap_geometry.specs.Need.{need_of, usable_words}
 use Rattle.live_heap.specs.Heaps.{HeapFields}
 use Rattle.live_heap.specs.declared.plain.Memory.{Memory}
 use Rattle.plain_words.specs.declared.plain.PlainWords.{PlainWords}
-use Rattle.memory_cache.specs.declared.answers.MemoryAnswer.{MemoryAnswer}
-use Rattle.memory_cache.specs.declared.answers.MemoryAnswer.TheVariants.{Given, Refused, TooLarge, Spent, Busy}
+use Rattle.live_heap.specs.declared.answers.AllocAnswer.{AllocAnswer}
+use Rattle.live_heap.specs.declared.answers.AllocAnswer.TheVariants.{Given, Refused, TooLarge, Spent, Busy}
 use Rattle.memory_cache.specs.declared.cache.MemoryCache.{MemoryCache}
 use Rattle.memory_cache.specs.Asking.{LiesElsewhere, TakeTells}
 use Rattle.memory_cache.specs.Caches.{HasFor, HasServed, IsHeld, KeepsMagazines}
@@ -31,7 +31,7 @@ pub stays :
     → IsTooMuch before bytes code after ⊎ IsRefused before bytes code after → Takes before bytes code words p after
 stays before after bytes code words p is null why = subst (λ (o : Option PlainWords). Takes before bytes code o p after) (sym is) (null, why)
 
-pub lacks : (a : MemoryAnswer) → ((memory : Memory) → a ≡ Given memory → ⊥) → KINDS ≤ code_of a
+pub lacks : (a : AllocAnswer Memory) → ((memory : Memory) → a ≡ Given memory → ⊥) → KINDS ≤ code_of a
 lacks (Given memory) none = absurd (none memory refl)
 lacks Refused none = omega arith
 lacks TooLarge none = omega arith
@@ -39,7 +39,7 @@ lacks Spent none = omega arith
 lacks Busy none = omega arith
 
 -- what a cache tells of a take
-pub record Told (h : HeapFields) (before : Tenant) (cache : MemoryCache) (words : ℕ) (answer : MemoryAnswer) : Type 0 where
+pub record Told (h : HeapFields) (before : Tenant) (cache : MemoryCache) (words : ℕ) (answer : AllocAnswer Memory) : Type 0 where
   pub heap : h ≡ heap_of before
   pub large : words ≤ LARGE_MOST
   pub keeps : (other : Memory) → IsHeld before.cache other → IsHeld cache other
@@ -48,7 +48,7 @@ pub record Told (h : HeapFields) (before : Tenant) (cache : MemoryCache) (words 
   pub asked : (¬ HasFor before.cache (need_of words)) → words ≤ LARGE_MOST → TakeTells h before.cache.pass words TRIES answer cache.pass × KeepsMagazines before.cache cache
 
 is_asked :
-    (h : HeapFields) (before after : Tenant) (words : ℕ) (answer : MemoryAnswer) → Told h before after.cache words answer → (¬ HasFor before.cache (need_of words))
+    (h : HeapFields) (before after : Tenant) (words : ℕ) (answer : AllocAnswer Memory) → Told h before after.cache words answer → (¬ HasFor before.cache (need_of words))
     → IsAsked before words answer after
 is_asked h before after words answer told none =
     let tells = told.asked none told.large in
@@ -59,7 +59,7 @@ is_asked h before after words answer told none =
     }
 
 -- where no memory is given there is none that others lie apart from
-pub elsewhere : (a : MemoryAnswer) (other : Memory) → ((memory : Memory) → a ≡ Given memory → ⊥) → LiesElsewhere a other
+pub elsewhere : (a : AllocAnswer Memory) (other : Memory) → ((memory : Memory) → a ≡ Given memory → ⊥) → LiesElsewhere a other
 elsewhere (Given memory) other none = absurd (none memory refl)
 elsewhere Refused other none = tt
 elsewhere TooLarge other none = tt
@@ -67,7 +67,7 @@ elsewhere Spent other none = tt
 elsewhere Busy other none = tt
 
 pub is_refused :
-    (h : HeapFields) (before after : Tenant) (bytes code : ℕ) (answer : MemoryAnswer) → after.heap ≡ before.heap → Told h before after.cache (words_for bytes) answer
+    (h : HeapFields) (before after : Tenant) (bytes code : ℕ) (answer : AllocAnswer Memory) → after.heap ≡ before.heap → Told h before after.cache (words_for bytes) answer
     → bytes ≤ 8 * LARGE_MOST → code ≡ code_of answer → ((memory : Memory) → answer ≡ Given memory → ⊥) → IsRefused before bytes code after
 is_refused h before after bytes code answer heap told fits is none = record {
   fits = fits;

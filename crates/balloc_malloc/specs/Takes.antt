@@ -5,8 +5,8 @@ use Rattle.heap_geometry.specs.declared.limits.TheConstants.{LARGE_MOST}
 use Rattle.heap_geometry.specs.Need.{need_of}
 use Rattle.live_heap.specs.declared.plain.Memory.{Memory}
 use Rattle.plain_words.specs.declared.plain.PlainWords.{PlainWords}
-use Rattle.memory_cache.specs.declared.answers.MemoryAnswer.{MemoryAnswer}
-use Rattle.memory_cache.specs.declared.answers.MemoryAnswer.TheVariants as answer
+use Rattle.live_heap.specs.declared.answers.AllocAnswer.{AllocAnswer}
+use Rattle.live_heap.specs.declared.answers.AllocAnswer.TheVariants as answer
 use Rattle.memory_cache.specs.Asking.{TakeTells}
 use Rattle.memory_cache.specs.Caches.{HasFor, HasServed, IsHeld, KeepsMagazines}
 use Rattle.balloc_malloc.specs.declared.codes.TheConstants.{EMPTY, KINDS, TOO_LARGE}
@@ -18,7 +18,7 @@ use Rattle.balloc_malloc.specs.Out.{IsAt, IsOut}
 use Rattle.balloc_malloc.specs.Tenants.{heap_of}
 
 -- the heap was asked for so many words, and this is what came of it; the magazines had nothing for them and are as they were
-pub record IsAsked (before : Tenant) (words : ℕ) (answer : MemoryAnswer) (after : Tenant) : Type 0 where
+pub record IsAsked (before : Tenant) (words : ℕ) (answer : AllocAnswer Memory) (after : Tenant) : Type 0 where
   pub none : ¬ HasFor before.cache (need_of words)
   pub tells : TakeTells (heap_of before) before.cache.pass words TRIES answer after.cache.pass
   pub keeps : KeepsMagazines before.cache after.cache
@@ -48,7 +48,7 @@ pub record IsTooMuch (before : Tenant) (bytes code : ℕ) (after : Tenant) : Typ
 -- the heap was asked, and has no memory for so many bytes now; what C has it has still
 pub record IsRefused (before : Tenant) (bytes code : ℕ) (after : Tenant) : Type 0 where
   pub fits : bytes ≤ 8 * LARGE_MOST
-  pub answer : MemoryAnswer
+  pub answer : AllocAnswer Memory
   pub told : code ≡ code_of answer
   pub lacks : KINDS ≤ code
   pub asked : IsAsked before (words_for bytes) answer after

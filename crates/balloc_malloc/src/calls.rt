@@ -9,11 +9,11 @@ ghost use Rattle.balloc_malloc.specs.Takes.{TakesBy};
 
 use crate::codes::EMPTY;
 use crate::handed::Handed;
-use crate::seat::Seat;
+use crate::seat::ThreadSeat;
 use plain_words::PlainWords;
 
 /// Memory of at least so many bytes.
-pub fn take(seat: &mut Seat, bytes: usize) -> Handed
+pub fn take(seat: &mut ThreadSeat, bytes: usize) -> Handed
     ensures { TakesBy seat.old.held.tenant bytes result.code result.words result.memory seat.new.held.tenant }
 {
     match seat.tenant() {
@@ -24,7 +24,7 @@ pub fn take(seat: &mut Seat, bytes: usize) -> Handed
 
 /// Takes memory back, by its place and its kind. The words come out again where a call of the heap is under way that
 /// doesn't end.
-pub fn give(seat: &mut Seat, words: PlainWords, place: u32, kind: u32) -> Handed
+pub fn give(seat: &mut ThreadSeat, words: PlainWords, place: u32, kind: u32) -> Handed
     requires { (lot : Memory) × (words ≡ lot.words) × HasOut seat.old.held.tenant lot place kind }
     ensures { (lot : Memory) → words ≡ lot.words → HasOut seat.old.held.tenant lot place kind
         → GivesBy seat.old.held.tenant lot result.code result.words seat.new.held.tenant }
@@ -36,7 +36,13 @@ pub fn give(seat: &mut Seat, words: PlainWords, place: u32, kind: u32) -> Handed
 }
 
 /// Memory of at least so many bytes, with what this one has, as far as both go.
-pub fn resize(seat: &mut Seat, words: PlainWords, place: u32, kind: u32, bytes: usize) -> Handed
+pub fn resize(
+    seat: &mut ThreadSeat,
+    words: PlainWords,
+    place: u32,
+    kind: u32,
+    bytes: usize,
+) -> Handed
     requires { (lot : Memory) × (words ≡ lot.words) × HasOut seat.old.held.tenant lot place kind × IsNumbered lot }
     ensures { (lot : Memory) → words ≡ lot.words → HasOut seat.old.held.tenant lot place kind
         → ResizesBy seat.old.held.tenant lot bytes result.code result.words result.memory seat.new.held.tenant }

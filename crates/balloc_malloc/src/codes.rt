@@ -4,7 +4,8 @@ ghost use Rattle.std.specs.Prelude.{◌≡◌};
 ghost use Rattle.balloc_malloc.specs.Codes.{code_of};
 
 use crate::kind::kind;
-use memory_cache::answers::MemoryAnswer;
+use live_heap::answers::AllocAnswer;
+use live_heap::plain::Memory;
 
 /// The call was made, and told no memory.
 pub const DONE: u32 = 0;
@@ -34,14 +35,14 @@ pub const BAD_NUMBERS: u32 = 262;
 pub const NO_MEMORY: u32 = 263;
 
 /// The code of what a cache answers: the kind of memory, or a cause.
-pub fn answer_code(answer: &MemoryAnswer) -> u32
+pub fn answer_code(answer: &AllocAnswer<Memory>) -> u32
     ensures { result ≡ code_of answer.now }
 {
     match answer {
-        MemoryAnswer::Given(memory) => kind(memory.need()),
-        MemoryAnswer::Refused => REFUSED,
-        MemoryAnswer::TooLarge => TOO_LARGE,
-        MemoryAnswer::Spent => SPENT,
-        MemoryAnswer::Busy => BUSY,
+        AllocAnswer::Given(memory) => kind(memory.need()),
+        AllocAnswer::Refused => REFUSED,
+        AllocAnswer::TooLarge => TOO_LARGE,
+        AllocAnswer::Spent => SPENT,
+        AllocAnswer::Busy => BUSY,
     }
 }

@@ -8,9 +8,9 @@
 
 mod calls;
 mod codes;
+mod erased_box;
 mod handed;
 mod handing;
-mod held;
 mod kind;
 mod opening;
 mod parts;
@@ -42,7 +42,7 @@ use kind::bytes_of_kind;
 use live_heap::placement::Placement;
 use opening::open_all;
 use plain_words::PlainWords;
-use seat::Seat;
+use seat::ThreadSeat;
 use spot::Spot;
 use std::alloc::Global;
 use std::marker::PhantomData;
@@ -55,7 +55,7 @@ pub extern "C" fn balloc_malloc_open(
     frames: u32,
     heaps: u32,
     depth: u32,
-    seats: &mut [Seat],
+    seats: &mut [ThreadSeat],
     memory: &mut Spot,
     bytes: &mut usize,
 ) -> u32
@@ -81,7 +81,11 @@ pub extern "C" fn balloc_malloc_open(
 
 /// Memory of at least so many bytes, to which the pointer leads, and its kind, as the result.
 #[unsafe(no_mangle)]
-pub extern "C" fn balloc_malloc_take(seat: &mut Seat, bytes: usize, memory: &mut *mut u64) -> u32
+pub extern "C" fn balloc_malloc_take(
+    seat: &mut ThreadSeat,
+    bytes: usize,
+    memory: &mut *mut u64,
+) -> u32
     ensures* memory { sem 𝓛 (handed (λ words. TakesBy seat.old.held.tenant bytes result words memory.new seat.new.held.tenant)) }
 {
     let Handed { memory: at, code } = take(seat, bytes);
@@ -91,7 +95,7 @@ pub extern "C" fn balloc_malloc_take(seat: &mut Seat, bytes: usize, memory: &mut
 
 /// Takes memory back that this seat gave and that was not given back since, by its place and its kind.
 #[unsafe(no_mangle)]
-pub unsafe extern "C" fn balloc_malloc_give(seat: &mut Seat, place: u32, kind: u32) -> u32
+pub unsafe extern "C" fn balloc_malloc_give(seat: &mut ThreadSeat, place: u32, kind: u32) -> u32
     ghost lot: { Memory }
     requires out { HasOut seat.old.held.tenant lot place kind }
     requires* words { sem 𝓛 (words_own (Some lot.words)) }
@@ -106,7 +110,7 @@ pub unsafe extern "C" fn balloc_malloc_give(seat: &mut Seat, place: u32, kind: u
 /// another one, and this one is given back. The kind of what is told is the result.
 #[unsafe(no_mangle)]
 pub unsafe extern "C" fn balloc_malloc_resize(
-    seat: &mut Seat,
+    seat: &mut ThreadSeat,
     place: u32,
     kind: u32,
     bytes: usize,
@@ -136,7 +140,7 @@ pub extern "C" fn balloc_malloc_bytes(kind: u32) -> usize
 /// pass has lost.
 #[unsafe(no_mangle)]
 pub extern "C" fn balloc_malloc_counts(
-    seat: &mut Seat,
+    seat: &mut ThreadSeat,
     hits: &mut u64,
     out: &mut u64,
     lost: &mut u64,

@@ -7,7 +7,7 @@ ghost use Rattle.memory_cache.specs.Caches.{IsCache, kept_in};
 ghost use Rattle.balloc_malloc.specs.Opened.{AreEmpty, Fit, HoldNew, Opens};
 
 use crate::codes::{BAD_NUMBERS, NO_MEMORY};
-use crate::seat::Seat;
+use crate::seat::ThreadSeat;
 use crate::tenant::Tenant;
 use heap_geometry::geometry::Geometry;
 use live_heap::heap::Heap;
@@ -28,7 +28,7 @@ pub fn open_all(
     alloc: Global,
     geometry: Geometry,
     depth: u32,
-    seats: &mut [Seat],
+    seats: &mut [ThreadSeat],
 ) -> Result<Start, u32>
     requires callers { geometry.callers ≡ min (length seats.old) 1000 }
     ensures { Opens seats.old geometry depth result seats.new }
@@ -63,7 +63,7 @@ fn checked(geometry: Geometry, depth: u32) -> Option<(Geometry, u16)>
 }
 
 /// Whether no seat has a pass.
-fn are_empty(seats: &[Seat]) -> bool
+fn are_empty(seats: &[ThreadSeat]) -> bool
     ensures yes { result ≡ true → AreEmpty seats.now }
     ensures no { result ≡ false → ¬ AreEmpty seats.now }
 {
@@ -76,7 +76,7 @@ fn are_empty(seats: &[Seat]) -> bool
 }
 
 /// Lets all passes go.
-fn empty_all(alloc: Global, seats: &mut [Seat])
+fn empty_all(alloc: Global, seats: &mut [ThreadSeat])
     ensures { AreEmpty seats.new }
 {
     for number in 0..seats.len() {
@@ -89,7 +89,7 @@ fn give_all(
     alloc: Global,
     geometry: Geometry,
     depth: u16,
-    seats: &mut [Seat],
+    seats: &mut [ThreadSeat],
 ) -> Result<Start, AllocError>
     requires fit { Fit geometry depth }
     requires callers { geometry.callers ≡ length seats.old }

@@ -2,22 +2,22 @@
 
 ghost use Rattle.std.specs.Prelude.{◌≡◌, Option, Some, None, is_some, option_map};
 
-use crate::held::Held;
+use crate::erased_box::ErasedBox;
 use crate::parts::Parts;
 use crate::tenant::Tenant;
 use std::alloc::Global;
 
 /// A tenant, or nothing, on a cache line of its own. C has it, and never copies it; all bytes zero are nothing.
 #[repr(C)]
-pub struct Seat {
+pub struct ThreadSeat {
     live: bool,
-    held: Held,
+    held: ErasedBox,
     /// What fills the cache line.
     rest: [u64; 6],
     ghost is_live: { live ≡ is_some held.tenant },
 }
 
-impl Seat {
+impl ThreadSeat {
     ghost use Rattle.std.specs.Borrow.{sem};
     ghost use Rattle.balloc_malloc.specs.Lent.{LendsTenant};
 
@@ -47,7 +47,7 @@ impl Seat {
     {
         if self.live {
             self.live = false;
-            let held = std::mem::replace(&mut self.held, Held::none(alloc));
+            let held = std::mem::replace(&mut self.held, ErasedBox::none(alloc));
             Some(held.into_parts().into_box())
         } else {
             None
@@ -60,7 +60,7 @@ impl Seat {
         ensures { self.new.held.tenant ≡ Some tenant.value }
     {
         self.live = true;
-        let held = std::mem::replace(&mut self.held, Held::of_parts(Parts::of(tenant)));
+        let held = std::mem::replace(&mut self.held, ErasedBox::of_parts(Parts::of(tenant)));
         held.forget();
     }
 }
@@ -70,5 +70,5 @@ fn crosses<T: Send>() {}
 
 /// A seat may go to another thread: C may let threads take over those that others leave.
 pub fn seats_cross() {
-    crosses::<Seat>();
+    crosses::<ThreadSeat>();
 }

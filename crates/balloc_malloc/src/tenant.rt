@@ -9,9 +9,9 @@ ghost use Rattle.memory_cache.specs.Caches.{HasRoom, IsCache, IsHeld};
 use crate::codes::{BUSY, DONE, TOO_LARGE, answer_code};
 use crate::handed::Handed;
 use crate::handing::{bring_in, bytes_in, copied, hand_out, send_out, words_for};
+use live_heap::answers::AllocAnswer;
 use live_heap::heap::Heap;
 use live_heap::plain::Memory;
-use memory_cache::answers::MemoryAnswer;
 use memory_cache::cache::MemoryCache;
 use plain_words::PlainWords;
 use std::alloc::Global;
@@ -59,7 +59,7 @@ impl Tenant {
             return Handed::none(TOO_LARGE);
         };
         match self.cache.take(&self.heap, words, TRIES) {
-            MemoryAnswer::Given(memory) => hand_out(&self.heap, memory),
+            AllocAnswer::Given(memory) => hand_out(&self.heap, memory),
             refused => Handed::none(answer_code(&refused)),
         }
     }
@@ -95,7 +95,7 @@ impl Tenant {
             return send_out(&self.heap, TOO_LARGE, memory);
         };
         match self.cache.take(&self.heap, words, TRIES) {
-            MemoryAnswer::Given(larger) => self.move_to(memory, larger),
+            AllocAnswer::Given(larger) => self.move_to(memory, larger),
             refused => send_out(&self.heap, answer_code(&refused), memory),
         }
     }

@@ -12,6 +12,7 @@ use Rattle.live_heap.specs.declared.pass.Pass.{Pass}
 use Rattle.live_heap.specs.Calls.{HasCalled}
 use Rattle.live_heap.specs.Hands.{resumed_by}
 use Rattle.live_heap.specs.Passes.{IsOf}
+use Rattle.live_heap.specs.Words.{CallsOnWord}
 use Rattle.live_heap.specs.Whole.{MadeByPass, ResumesTo, at_once, by_steps}
 use Rattle.block_cache.specs.declared.cache.Cache.{Cache}
 use Rattle.block_cache.specs.Whole.{IsWholeCall, asked, kept, served}
@@ -40,6 +41,13 @@ resumed-home h first call resumed.Freed q was home is ended = called-home h firs
 resumed-home h first call resumed.Refused q was home is ended = called-home h first q call ended.0 _ was home is ended.1
 resumed-home h first call resumed.Spent q was home is ended = called-home h first q call ended.0 _ was home is ended.1
 resumed-home h first call resumed.Busy q was home is ended = absurd ended
+
+-- behind calls on words
+pub on-words-home :
+    (h : HeapFields) (p q : Pass) (calls : List Made) → IsOf h p → p.out ≡ 0 → LeadsBy (CallsOnWord h) p calls q → q.out ≡ 0
+on-words-home h p q [] of home same = ap (λ (r : Pass). r.out) same ∙ home
+on-words-home h p q (made ∷ calls) of home (next, m, rest) =
+    on-words-home h next q calls m.of (called-home h p next made.call 0 made.answer of home m.of m.called) rest
 
 -- behind calls one after the other
 pub ended-home :

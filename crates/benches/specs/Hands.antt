@@ -9,7 +9,7 @@ use Rattle.live_heap.specs.declared.pass.Pass.{Pass}
 use Rattle.live_heap.specs.Answers.{IsTried}
 use Rattle.live_heap.specs.Calls.{IsCalling}
 use Rattle.live_heap.specs.Passes.{IsOf, Owns}
-use Rattle.benches.specs.declared.heap.worker.Held.{Held}
+use Rattle.benches.specs.declared.heap.worker.Stamped.{Stamped}
 use Rattle.benches.specs.declared.heap.worker.Worker.{Worker}
 
 -- the pass is of this heap, in no call, and no block's words are out with it
@@ -37,7 +37,7 @@ got_by None = []
 got_by (Some block) = block ∷ []
 
 -- the blocks in a hand
-abbrev pub blocks_of : List Held → List Block
+abbrev pub blocks_of : List Stamped → List Block
 blocks_of hand = map (λ held. held.block) hand
 
 -- whatever blocks a caller held it holds still

@@ -17,8 +17,8 @@ use std::io::Print;
 use std::thread::Threads;
 use std::{io, thread};
 
-/// How many blocks of a class a magazine keeps.
-const DEPTH: u16 = 1024;
+/// How many blocks of a class a magazine keeps: more than a map of 100,000 keys has.
+const DEPTH: u16 = 16_384;
 
 /// How many exchanges a call may lose.
 const TRIES: u32 = 1000;

@@ -26,14 +26,14 @@ use Rattle.live_heap.specs.Calls.{HasCalled, IsCalling, IsInterrupted}
 use Rattle.live_heap.specs.Hands.{given_by, resumed_by, returned_by, taken_by}
 use Rattle.live_heap.specs.Holdings.{ChangesHand, HoldsExactly}
 use Rattle.live_heap.specs.Passes.{IsOf, seen}
-use Rattle.live_heap.proofs.Exact.{called-exact, order-exact}
-use Rattle.live_heap.proofs.Holding.{idle-free}
+use Rattle.live_heap.proofs.laws_for_builders.AllBlocks.{called-exact, order-exact}
+use Rattle.live_heap.proofs.laws_for_builders.Hands.{idle-not_busy}
 use Rattle.block_cache.specs.Accounts.{Began, HasAll}
 use Rattle.block_cache.specs.Magazines.{Splits}
 
 -- a caller has all its blocks between calls, and while one waits
 pub rests : (p : Pass) (blocks : List Block) → IsIdle p.errand → HoldsExactly p blocks → HasAll p blocks
-rests p blocks idle exact = record { at_rest = λ still. exact; in_call = λ busy. absurd (idle-free p.errand idle busy) }
+rests p blocks idle exact = record { at_rest = λ still. exact; in_call = λ busy. absurd (idle-not_busy p.errand idle busy) }
 
 -- two heaps that one pass is of have the same numbers and the same memory, and so a pass that is of the one is of the other
 of-other : (h k : HeapFields) (p first : Pass) → IsOf h p → IsOf h first → IsOf k p → IsOf k first
@@ -60,7 +60,7 @@ waits :
     → IsInterrupted first call made p tries q → IsTried call → Began call blocks had → HoldsExactly first had → HasAll q blocks
 waits h first p q blocks had call made tries was of i tried began exact =
     record {
-      at_rest = λ idle. absurd (idle-free q.errand idle i.calling.busy);
+      at_rest = λ idle. absurd (idle-not_busy q.errand idle i.calling.busy);
       in_call = λ busy.
           record {
             first = first;
@@ -112,7 +112,7 @@ resumed-all h first p q blocks call made tries answer was of tells tried had beg
 
 -- all blocks of a caller behind an allocation
 pub alloc-all :
-    (h : HeapFields) (p q : Pass) (blocks : List Block) (words tries : ℕ) (answer : AllocAnswer) → IsIdle p.errand → IsOf h p → IsOf h q
+    (h : HeapFields) (p q : Pass) (blocks : List Block) (words tries : ℕ) (answer : AllocAnswer Block) → IsIdle p.errand → IsOf h p → IsOf h q
     → AllocTells p words tries answer q → HasAll p blocks → HasAll q (given_by answer ++ blocks)
 alloc-all h p q blocks words tries (alloc_answer.Given block) idle was of tells all =
     resumed-all h p p q blocks (alloc words) 0 tries (resumed.Given block) was of tells tt blocks refl (all.at_rest idle)
@@ -159,7 +159,7 @@ put-all h p q block blocks shelf (Err full) idle was of lies back all =
 
 -- all blocks of a caller behind a take
 pub take-all :
-    (h : HeapFields) (p q : Pass) (blocks : List Block) (shelf : ℕ) (answer : Taken) → IsIdle p.errand → IsOf h p → IsOf h q → TakeTells p shelf answer q
+    (h : HeapFields) (p q : Pass) (blocks : List Block) (shelf : ℕ) (answer : Taken Block) → IsIdle p.errand → IsOf h p → IsOf h q → TakeTells p shelf answer q
     → HasAll p blocks → HasAll q (taken_by answer ++ blocks)
 take-all h p q blocks shelf (taken.Got block) idle was of tells all =
     ended-all h p q (take shelf) 1 (reply.Got block.place block.need) blocks (block ∷ blocks) was of tells.0 (block, refl, refl, refl) (all.at_rest idle)

@@ -11,7 +11,7 @@ use Rattle.live_heap.specs.Answers.{IsResumable}
 use Rattle.live_heap.specs.Hands.{IsHand}
 use Rattle.live_heap.specs.Holdings.{Holds}
 use Rattle.live_heap.specs.Passes.{Owns}
-use Rattle.live_heap.proofs.Holding.{holds-in, holds-out, idle-free}
+use Rattle.live_heap.proofs.laws_for_builders.Hands.{hand-joined, hand-left, idle-not_busy}
 use Rattle.block_cache.specs.declared.cache.Cache.{Cache}
 use Rattle.block_cache.specs.declared.magazines.Magazines.{Magazines}
 use Rattle.block_cache.specs.Caches.{IsCache, cached_in}
@@ -78,8 +78,8 @@ leaves-hand h p more less block s idle hand =
     record {
       of = hand.of;
       holds = λ still.
-          subst (Holds p) (sym s.without_it) (holds-out p s.front s.back block (subst (Holds p) s.with_it (hand.holds still))).2;
-      waits = λ busy. absurd (idle-free p.errand idle busy);
+          subst (Holds p) (sym s.without_it) (hand-left p s.front s.back block (subst (Holds p) s.with_it (hand.holds still))).2;
+      waits = λ busy. absurd (idle-not_busy p.errand idle busy);
     }
 
 -- the hand to which one block comes
@@ -90,7 +90,7 @@ comes-hand h p more less block s idle owned apart hand =
       of = hand.of;
       holds = λ still.
           subst (Holds p) (sym s.with_it)
-          (holds-in p s.front s.back block
+          (hand-joined p s.front s.back block
           (owned, subst (All (λ (other : Block). other.place ≢ block.place)) s.without_it apart, subst (Holds p) s.without_it (hand.holds still)));
-      waits = λ busy. absurd (idle-free p.errand idle busy);
+      waits = λ busy. absurd (idle-not_busy p.errand idle busy);
     }

@@ -22,9 +22,9 @@ use Rattle.sound_laws.specs.events.Ends.{HasEnded}
 use Rattle.pool_model.specs.declared.event.Event.{Event}
 use Rattle.pool_model.proofs.WellFormedLemmas.{sound-of, separate-found}
 use Rattle.pool_model.proofs.HistoryLemmas.{legal-weaker}
-use Rattle.live_heap.proofs.Changes.{called-changes, whole-changes}
-use Rattle.live_heap.proofs.Holding.{holds-all, holds-out}
-use Rattle.live_heap.proofs.WholeLaws.{pass-apart}
+use Rattle.live_heap.proofs.laws_for_builders.Changing.{called-changes, whole-changes}
+use Rattle.live_heap.proofs.laws_for_builders.Giving.{pass-apart}
+use Rattle.live_heap.proofs.laws_for_builders.Hands.{hand-all, hand-left}
 use Rattle.block_cache.specs.declared.cache.Cache.{Cache}
 use Rattle.block_cache.specs.Caches.{HasKept, HasServed, IsCache, KeepsMagazines, cached_in, stacks_in}
 use Rattle.block_cache.specs.Flushes.{FlushTells, Frees, HasStopped}
@@ -50,7 +50,7 @@ served-gains : (h : HeapFields) (c d : Cache) (words : ℕ) (block : Block) → 
 served-gains h c d words block rests is has =
     let p = c.pass in
     let split = top-splits has.class block (stacks_in c) (stacks_in d) has.top in
-    let out = holds-out p split.front split.back block (subst (Holds p) split.with_it (rests.0.hand.holds rests.1)) in
+    let out = hand-left p split.front split.back block (subst (Holds p) split.with_it (rests.0.hand.holds rests.1)) in
     let owns = out.0.0 in
     let owned : owned_in p block.place ≡ Some owns.0 = ap (if_of p.errand.caller) owns.1 ∙ of-self p.errand.caller owns.0 owns.2 in
     let owned_then : owned_in d.pass block.place ≡ Some owns.0 = ap (λ (q : Pass). owned_in q block.place) has.pass ∙ owned in
@@ -114,7 +114,7 @@ asked-shows : (h : HeapFields) (c d : Cache) (call : Call) (ended : Reply) → R
 asked-shows h c d (alloc words) (reply.Given place need) rests is whole keeps changed =
     let block = fresh_block c.pass.errand.caller words place in
     let apart =
-    holds-all c.pass (λ other. other.place ≢ place)
+    hand-all c.pass (λ other. other.place ≢ place)
     (λ other owns. pass-apart h h c.pass d.pass (alloc words) (reply.Given place need) place other.place need other.need whole (refl, refl) owns.0)
     (cached_in c) (rests.0.hand.holds rests.1) in
     record {

@@ -1,5 +1,5 @@
 -- The magazines of a cache while words go out and come home.
-use Rattle.std.proofs.Common.{◌≡◌, ◌≢◌, List, [], ◌∷◌}
+use Rattle.std.proofs.Common.{◌≢◌, List, [], ◌∷◌}
 use Rattle.std.specs.Prelude.{All}
 use Rattle.std.proofs.lemmas.List.Elements.{All-head, All-tail}
 use Rattle.errand_steps.specs.Begins.{IsIdle}
@@ -9,7 +9,7 @@ use Rattle.live_heap.specs.declared.pass.Pass.{Pass}
 use Rattle.live_heap.specs.Hands.{IsHand}
 use Rattle.live_heap.specs.Holdings.{Holds}
 use Rattle.live_heap.specs.Passes.{IsOf, Owns}
-use Rattle.live_heap.proofs.Holding.{idle-free}
+use Rattle.live_heap.proofs.laws_for_builders.Hands.{idle-not_busy}
 use Rattle.block_cache.specs.declared.cache.Cache.{Cache}
 use Rattle.block_cache.specs.Caches.{HoldsBlock, IsCache, cached_in}
 use Rattle.block_cache.proofs.CacheLemmas.{passed}
@@ -31,7 +31,7 @@ all-held p q [] owns held = tt
 all-held p q (b ∷ bs) owns held = (owns b held.0, held.1, all-held p q bs owns held.2)
 
 hand-of : (h : HeapFields) (q : Pass) (blocks : List Block) → IsOf h q → IsIdle q.errand → Holds q blocks → IsHand h q blocks
-hand-of h q blocks of idle held = record { of = of; holds = λ still. held; waits = λ busy. absurd (idle-free q.errand idle busy) }
+hand-of h q blocks of idle held = record { of = of; holds = λ still. held; waits = λ busy. absurd (idle-not_busy q.errand idle busy) }
 
 -- a cache is one behind a take out, and behind a bring home
 pub out-cache :

@@ -26,9 +26,8 @@ use Rattle.live_heap.specs.Answers.{IsTried}
 use Rattle.live_heap.specs.Holdings.{ChangesHandSoFar, HoldsExactly}
 use Rattle.live_heap.specs.Holdings.{Holds as HoldsPart}
 use Rattle.live_heap.specs.Passes.{Owns, seen}
-use Rattle.live_heap.proofs.CallsOne.{block-same}
-use Rattle.live_heap.proofs.Exact.{calling-exact, order-exact}
-use Rattle.live_heap.proofs.Holding.{holds-out}
+use Rattle.live_heap.proofs.laws_for_builders.AllBlocks.{calling-exact, order-exact}
+use Rattle.live_heap.proofs.laws_for_builders.Hands.{block-same, hand-left}
 use Rattle.block_cache.specs.declared.cache.Cache.{Cache}
 use Rattle.block_cache.specs.Accounts.{Began, HasAllInCall, IsAmong, KeepsUnderWay}
 use Rattle.block_cache.specs.Caches.{Holds, HoldsBlock, IsCache, cached_in}
@@ -230,7 +229,7 @@ among-held h c held block is idle all =
       λ holds.
           elim (find block.place held) [
             | inl l ↦
-                let out = holds-out p l.before (l.after ++ cached) l.block (regroup l.before l.after l.block l.is) in
+                let out = hand-left p l.before (l.after ++ cached) l.block (regroup l.before l.after l.block l.is) in
                 let same = same-token p block l.block holds.0 out.0 (sym l.here) in
                 (l.before, l.after, l.is ∙ ap (λ (b : Block). l.before ++ b ∷ l.after) (sym same))
             | inr apart ↦
@@ -240,6 +239,6 @@ among-held h c held block is idle all =
                 ∙ (ap (if_of p.errand.caller) owns.1 ∙ of-self p.errand.caller owns.0 owns.2)))
           ],
       λ (before, after, in_held).
-          let out = holds-out p before (after ++ cached) block (regroup before after block in_held) in
+          let out = hand-left p before (after ++ cached) block (regroup before after block in_held) in
           (out.0, all-back (λ b. b.place ≢ block.place) after cached (all-back (λ b. b.place ≢ block.place) before (after ++ cached) out.1)),
     )

@@ -17,16 +17,16 @@ use Rattle.live_heap.specs.declared.pass.Pass.{Pass}
 use Rattle.live_heap.specs.Answers.{AllocTells, FreeTells}
 use Rattle.live_heap.specs.Passes.{IsHome, IsOf, OwnsAt}
 use Rattle.live_heap.specs.Whole.{HasEndedCall, IsWhole, MadeByPass, OwnsFor, at_once, by_steps}
-use Rattle.live_heap.proofs.Holding.{all-in, all-out, holds-all, holds-out}
-use Rattle.live_heap.proofs.LawsKept.{given-home, got-home}
-use Rattle.live_heap.proofs.WholeLaws.{pass-apart, pass-hands, whole-keeps as pass-keeps}
+use Rattle.live_heap.proofs.laws_for_builders.Giving.{given-home, got-home, pass-apart, pass-hands}
+use Rattle.live_heap.proofs.laws_for_builders.Hands.{hand-all, hand-left}
+use Rattle.live_heap.proofs.laws_for_builders.Keeping.{whole-keeps as pass-keeps}
 use Rattle.live_heap.specs.Holdings.{Holds}
 use Rattle.block_cache.specs.declared.cache.Cache.{Cache}
 use Rattle.block_cache.specs.declared.magazines.Magazines.{Magazines}
 use Rattle.block_cache.specs.Magazines.{all_in, stacks_of}
 use Rattle.block_cache.specs.Caches.{HasFor, HasKept, HasRoom, HasServed, HoldsBlock, IsCache, KeepsMagazines, cached_in, stacks_in}
 use Rattle.block_cache.specs.Whole.{Asks, EndsAs, HoldsAt, IsWholeCall, RestsAt, asked, kept, served}
-use Rattle.block_cache.proofs.MagazineLemmas.{for-or-not, room-or-not, stack-few, top-splits}
+use Rattle.block_cache.proofs.MagazineLemmas.{all-in, all-out, for-or-not, room-or-not, stack-few, top-splits}
 
 -- with a depth of 0 no magazine has a block or room
 pub no-depth : (h : HeapFields) (c : Cache) (need : Need) → IsCache h c → c.magazines.depth ≡ 0 → (¬ HasFor c need) × (¬ HasRoom c need)
@@ -65,7 +65,7 @@ pub asked-whole :
 asked-whole h c d call ended rests is asks made keeps = made-whole h c d call ended rests is asks (by_steps made) keeps
 
 -- an allocation of the heap that has ended is a whole call of its pass
-alloc-made : (p : Pass) (words tries : ℕ) (told : AllocAnswer) (ended : Reply) (q : Pass) → AllocTells p words tries told q → EndsAs told ended
+alloc-made : (p : Pass) (words tries : ℕ) (told : AllocAnswer Block) (ended : Reply) (q : Pass) → AllocTells p words tries told q → EndsAs told ended
     → MadeByPass p (alloc words) ended q
 alloc-made p words tries (answer.Given block) ended q tells is =
     subst (λ (r : Reply). MadeByPass p (alloc words) r q) (sym is) (by_steps (tells.0.steps, tells.0.called))
@@ -79,7 +79,7 @@ alloc-made p words tries answer.TooLarge ended q tells is = absurd is
 alloc-made p words tries answer.Busy ended q tells is = absurd is
 
 pub alloc-whole :
-    (h : HeapFields) (c d : Cache) (words tries : ℕ) (told : AllocAnswer) (ended : Reply) → RestsAt h c → IsCache h d
+    (h : HeapFields) (c d : Cache) (words tries : ℕ) (told : AllocAnswer Block) (ended : Reply) → RestsAt h c → IsCache h d
     → (HasFor c (need_of words) → (block : Block) × (told ≡ answer.Given block) × HasServed c words block d)
     → ((¬ HasFor c (need_of words)) → AllocTells c.pass words tries told d.pass × KeepsMagazines c d)
     → EndsAs told ended → IsWholeCall h c (alloc words) ended d
@@ -90,7 +90,7 @@ alloc-whole h c d words tries told ended rests is if_for if_not ends =
           record {
             before = rests;
             after = (is, subst (λ (p : Pass). IsIdle p.errand) (sym s.2.pass) rests.1);
-            made = served words s.0 refl (subst (λ (a : AllocAnswer). EndsAs a ended) s.1 ends) s.2;
+            made = served words s.0 refl (subst (λ (a : AllocAnswer Block). EndsAs a ended) s.1 ends) s.2;
           }
       | inr none ↦
           let s = if_not none in made-whole h c d (alloc words) ended rests is none (alloc-made c.pass words tries told ended d.pass s.0 ends) s.1
@@ -164,7 +164,7 @@ whole-hands h c d call ended place need w hands =
     elim w.made [
       | served words block is_alloc is_given has ↦
           let split = top-splits has.class block (stacks_in c) (stacks_in d) has.top in
-          let out = holds-out c.pass split.front split.back block (subst (Holds c.pass) split.with_it hand) in
+          let out = hand-left c.pass split.front split.back block (subst (Holds c.pass) split.with_it hand) in
           let is : (block.place ≡ place) × (block.need ≡ need) = subst (λ (r : Reply). Hands r place need) is_given hands in
           subst (λ k. HoldsAt d k need) is.0
           (subst (λ n. HoldsAt d block.place n) is.1 (
@@ -178,7 +178,7 @@ whole-hands h c d call ended place need w hands =
           handed-home h c.pass d.pass call ended place need w.before.0.hand.of whole hands,
         ),
         subst (All (λ (other : Block). other.place ≢ place)) (sym (same-cached c d keeps))
-            (holds-all c.pass (λ other. other.place ≢ place)
+            (hand-all c.pass (λ other. other.place ≢ place)
             (λ other owns. pass-apart h h c.pass d.pass call ended place other.place need other.need whole hands owns.0) (cached_in c) hand),
       )
     ]

@@ -15,8 +15,9 @@ use Rattle.live_heap.specs.declared.block.Block.{Block}
 use Rattle.live_heap.specs.Heaps.{HeapFields}
 use Rattle.live_heap.specs.declared.pass.Pass.{Pass}
 use Rattle.live_heap.specs.Holdings.{ChangesHand}
+use Rattle.live_heap.specs.Memory.{writes_from}
 use Rattle.live_heap.specs.Words.{CallsOnWord}
-use Rattle.live_heap.proofs.Holding.{ended-hand}
+use Rattle.live_heap.proofs.laws_for_builders.Hands.{ended-hand}
 use Rattle.block_cache.specs.declared.cache.Cache.{Cache}
 use Rattle.block_cache.specs.Caches.{Holds, IsCache, KeepsMagazines, cached_in}
 use Rattle.block_cache.specs.Whole.{Asks, HoldsAt, IsWholeCall, IsWholeOnWord, RestsAt}
@@ -126,6 +127,11 @@ wrote-on c place need from count held = writes-on c place need (λ i. (from + i)
 pub found-on : (c : Cache) (place : ℕ) (need : Need) (i : ℕ) (words : List ℕ) → HoldsAt c place need → AreOnHeld c (found_from place need i words)
 found-on c place need i [] held = tt
 found-on c place need i (word ∷ words) held = (held, found-on c place need (suc i) words held)
+
+-- and so are those of slices
+pub written-on : (c : Cache) (place : ℕ) (need : Need) (i : ℕ) (words : List ℕ) → HoldsAt c place need → AreOnHeld c (writes_from place need i words)
+written-on c place need i [] held = tt
+written-on c place need i (word ∷ words) held = (held, written-on c place need (suc i) words held)
 
 module _ (c : Cache) (from : ℕ) (from_need : Need) (to : ℕ) (to_need : Need) (held : HoldsAt c from from_need) (held_too : HoldsAt c to to_need)
     (words : List ℕ) where

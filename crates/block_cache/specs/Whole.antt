@@ -51,7 +51,7 @@ abbrev pub IsWholeOnWord : HeapFields → Cache → Call → Reply → Cache →
 IsWholeOnWord h c call answer d = IsWholeCall h c call answer d × KeepsMagazines c d
 
 -- an allocation has ended, and its answer is this reply
-abbrev pub EndsAs : AllocAnswer → Reply → Type 0
+abbrev pub EndsAs : AllocAnswer Block → Reply → Type 0
 EndsAs (answer.Given block) told = told ≡ reply.Given block.place block.need
 EndsAs answer.Refused told = told ≡ reply.Refused
 EndsAs answer.Spent told = told ≡ reply.Spent

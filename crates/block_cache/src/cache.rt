@@ -20,8 +20,7 @@ ghost use Rattle.live_heap.specs.Calls.{HasCalled, IsCalling};
 ghost use Rattle.live_heap.specs.Hands.{given_by, resumed_by, returned_by, taken_by};
 ghost use Rattle.live_heap.specs.Passes.{IsOf, seen};
 ghost use Rattle.live_heap.specs.Words.{CallsOnWord};
-ghost use Rattle.block_cache.specs.Accounts.{HasAll};
-ghost use Rattle.block_cache.specs.Caches.{HasFor, HasKept, HasRoom, HasServed, Holds, HoldsBlock, IsCache, KeepsMagazines, cached_in, magazine_in, stacks_in};
+ghost use Rattle.block_cache.specs.Caches.{HasFor, HasKept, HasRoom, HasServed, Holds, HoldsBlock, IsCache, KeepsMagazines, cached_in, magazine_in};
 
 use crate::magazines::Magazines;
 use heap_geometry::need::{Need, class_of};
@@ -71,7 +70,7 @@ impl Cache {
 
     /// An allocation of so many usable words. Where the magazine for them has a block it is given that,
     /// the last one, without a step; else it is the heap's.
-    #[inline]
+    #[inline(always)]
     pub fn alloc(&mut self, heap: &Heap, need: u32, tries: u32) -> AllocAnswer
         requires cache { IsCache heap.now self.old }
         requires idle { IsIdle self.old.pass.errand }

@@ -12,11 +12,9 @@ ghost use Rattle.sound_laws.specs.events.Stages.{stage_of};
 ghost use Rattle.step_machine.specs.Keeping.{Hands, LeavesPlace};
 ghost use Rattle.live_heap.specs.declared.answers.AllocAnswer.{AllocAnswer};
 ghost use Rattle.live_heap.specs.declared.answers.AllocAnswer.TheVariants as answer;
-ghost use Rattle.live_heap.specs.declared.answers.FreeAnswer.{FreeAnswer};
 ghost use Rattle.live_heap.specs.declared.answers.FreeAnswer.TheVariants as free_answer;
 ghost use Rattle.live_heap.specs.declared.block.Block.{Block};
 ghost use Rattle.live_heap.specs.Heaps.{HeapFields};
-ghost use Rattle.live_heap.specs.declared.pass.Pass.{Pass};
 ghost use Rattle.live_heap.specs.Answers.{AllocTells, FreeTells};
 ghost use Rattle.live_heap.specs.Holdings.{HoldsExactly};
 ghost use Rattle.live_heap.specs.Passes.{IsOf};
@@ -46,7 +44,7 @@ pub fn caches_account_for_all_blocks()
 /// A call that has ended is a whole call: an allocation or a free that its magazine served, and each that the
 /// heap was asked for, with what resumed it.
 pub fn ended_calls_are_whole()
-    ensures alloc { (h : HeapFields) (c d : Cache) (words tries : ℕ) (told : AllocAnswer) (ended : Reply) → RestsAt h c → IsCache h d
+    ensures alloc { (h : HeapFields) (c d : Cache) (words tries : ℕ) (told : AllocAnswer Block) (ended : Reply) → RestsAt h c → IsCache h d
         → (HasFor c (need_of words) → (block : Block) × (told ≡ answer.Given block) × HasServed c words block d)
         → ((¬ HasFor c (need_of words)) → AllocTells c.pass words tries told d.pass × KeepsMagazines c d)
         → EndsAs told ended → IsWholeCall h c (alloc words) ended d }

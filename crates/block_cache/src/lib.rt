@@ -8,3 +8,4 @@ mod flushes;
 pub mod laws;
 mod lends;
 pub mod magazines;
+mod slices;

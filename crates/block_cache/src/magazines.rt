@@ -1,6 +1,6 @@
 //! The magazines of a cache.
 
-ghost use Rattle.std.specs.Prelude.{ℕ, ◌≡◌, ◌<◌, ◌≤◌, ◌∷◌, [], IfOk, IfSome, None, length};
+ghost use Rattle.std.specs.Prelude.{◌≡◌, ◌<◌, ◌≤◌, ◌∷◌, [], IfOk, IfSome, None, length};
 ghost use Rattle.heap_geometry.specs.declared.limits.TheConstants.{CLASSES};
 ghost use Rattle.heap_geometry.specs.declared.need.Need.TheVariants.{Small};
 ghost use Rattle.block_cache.specs.Magazines.{AreForClasses, HasOnTop, Splits, all_in, leaving, stack_at, stacks_of};

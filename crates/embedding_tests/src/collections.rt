@@ -22,7 +22,11 @@ fn live(closed: &Closed) -> u64 {
 fn collections_live_in_a_heap(rt: HostRuntime) -> Result<(), Fail> {
     match share(&rt, rt.alloc(), 300)? {
         Some(report) => {
-            expect(&rt, report.one == 900 && report.other == 900, 0);
+            expect(
+                &rt,
+                report.one.count() == 900 && report.other.count() == 900,
+                0,
+            );
             expect(&rt, live(&report.closed) == 0, 1);
         }
         None => panic!(rt; "a thread had no memory"),
@@ -34,7 +38,7 @@ fn collections_live_in_a_heap(rt: HostRuntime) -> Result<(), Fail> {
 fn memory_that_ended_is_there_again(rt: HostRuntime) -> Result<(), Fail> {
     match end(rt.alloc(), 300)? {
         Some(ended) => {
-            expect(&rt, ended.most == 2048 && ended.built == 900, 0);
+            expect(&rt, ended.most == 2048 && ended.built.count() == 900, 0);
             expect(&rt, live(&ended.closed) == 0, 1);
         }
         None => panic!(rt; "there was no memory behind the end"),

@@ -36,8 +36,8 @@ pub struct Refused {
 }
 
 impl<'h> HeapAllocator<'h> {
-    /// An allocator over a pass that holds no blocks, with magazines for so many pieces of each class, at most 4,096. A call
-    /// of the heap has so many tries. All memory but for the table of what is out is taken here.
+    /// An allocator over a pass that holds no blocks, with magazines for so many pieces of each class. A call of the heap has
+    /// so many tries. All memory but for the table of what is out is taken here.
     pub fn new(
         alloc: Global,
         heap: &'h Heap,
@@ -48,7 +48,6 @@ impl<'h> HeapAllocator<'h> {
         requires of { IsOf heap.now pass }
         requires idle { IsIdle pass.errand }
         requires holds { HoldsExactly pass [] }
-        requires few { depth ≤ 4096 }
         requires tries { 0 < tries }
         ensures heap { IfOk result (λ allocator. allocator.heap.now ≡ heap.now) }
         ensures caller { IfOk result (λ allocator. allocator.caller ≡ pass.errand.caller) }
@@ -76,6 +75,13 @@ impl<'h> HeapAllocator<'h> {
             }
             Err(refused) => Err(Refused { pass: refused.pass }),
         }
+    }
+
+    /// The heap in which it gives memory.
+    pub fn heap(&self) -> &'h Heap
+        ensures { result.now ≡ self.now.heap.now }
+    {
+        self.heap
     }
 
     /// Frees what the magazines have, and gives the pass back where nothing is out. Else, or where a call of the heap is

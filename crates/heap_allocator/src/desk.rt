@@ -1,6 +1,6 @@
 //! What stands behind an allocator: its cache, and which blocks are out with collections.
 
-ghost use Rattle.std.specs.Prelude.{ℕ, true, false, ◌≡◌, ◌≢◌, ◌<◌, ◌≤◌, ◌⊎◌, [], Some, None, IfSome, IsSomeAnd};
+ghost use Rattle.std.specs.Prelude.{ℕ, true, false, ◌≡◌, ◌≢◌, ◌%◌, ◌<◌, ◌≤◌, ◌⊎◌, [], Some, None, IfSome, IsSomeAnd};
 ghost use Rattle.slab.specs.Slab.{get};
 ghost use Rattle.heap_geometry.specs.Need.{need_of, usable_words};
 ghost use Rattle.errand_steps.specs.Begins.{IsBusy, IsIdle};
@@ -13,10 +13,10 @@ ghost use Rattle.heap_allocator.specs.declared.desk.Entry.{Entry};
 ghost use Rattle.heap_allocator.specs.Desks.{HoldsEntries, IsCallers, IsDesk, IsEntryOf};
 
 use heap_geometry::need::Need;
+use live_heap::answers::AllocAnswer;
 use live_heap::heap::Heap;
 use live_heap::pass::Pass;
 use live_heap::plain::Memory;
-use memory_cache::answers::MemoryAnswer;
 use memory_cache::cache::MemoryCache;
 use slab::Slab;
 
@@ -43,6 +43,7 @@ impl Desk {
         ensures desk { IsDesk heap.now self.new }
         ensures given { IfSome result (λ given. IsRoomOf heap.now given.1 × (words ≤ usable_words given.1.block.need)
             × (given.1.block.need ≡ need_of words)) }
+        ensures aligned { IfSome result (λ given. given.1.words.first % 2 ≡ 1) }
         ensures caller { (caller : ℕ) → IsCallers caller self.old → IsCallers caller self.new }
         ensures entered { IfSome result (λ given. (e : Entry) × (get self.new.out given.0 ≡ Some e) × IsEntryOf given.1 e) }
     {
@@ -53,7 +54,7 @@ impl Desk {
         let Some(cache) = &mut self.cache else {
             return None;
         };
-        let MemoryAnswer::Given(memory) = cache.take(heap, words, self.tries) else {
+        let AllocAnswer::Given(memory) = cache.take(heap, words, self.tries) else {
             return None;
         };
         self.out.insert_reserved(Entry {

@@ -1,6 +1,6 @@
 //! An allocator that moves whatever grows or shrinks.
 
-ghost use Rattle.std.specs.Prelude.{◌≡◌, ◌<◌, ◌≤◌, ◌+◌, ◌/◌, true, IfSome, length};
+ghost use Rattle.std.specs.Prelude.{◌≡◌, ◌<◌, ◌≤◌, ◌+◌, ◌/◌, ◌%◌, true, IfSome, length};
 ghost use Rattle.heap_geometry.specs.Need.{need_of, usable_words};
 ghost use Rattle.plain_words.specs.Places.{AllHere};
 ghost use Rattle.memory_cache.specs.Rooms.{IsRoomOf};
@@ -31,9 +31,9 @@ pub(crate) struct Mover<'h> {
 impl<'h> Mover<'h> {
     /// A piece of so many bytes.
     pub(crate) fn take(&self, size: usize, align: usize) -> Option<Piece>
-        ensures { IfSome result (λ p. IsServed self.now.heap.now.region.at p × (p.size ≡ size) × (align ≤ 8)) }
+        ensures { IfSome result (λ p. IsServed self.now.heap.now.region.at p × (p.size ≡ size) × (align ≤ 16) × (p.first % 2 ≡ 1)) }
     {
-        if align > 8 || size > MOST_BYTES {
+        if align > 16 || size > MOST_BYTES {
             return None;
         }
         let mut desk = self.slot.replace(None)?;
@@ -110,12 +110,14 @@ fn words_of(size: usize) -> usize
 /// The piece of memory that is out under this key. Its label has the key and the place of its block.
 fn piece_of(heap: &Heap, key: u32, memory: Memory, size: usize) -> Piece
     requires room { IsRoomOf heap.now memory }
+    requires aligned { memory.words.first % 2 ≡ 1 }
     requires need { memory.block.need ≡ need_of (words_for size) }
     requires long { words_for size ≤ usable_words memory.block.need }
     requires size { size ≤ MOST_BYTES }
     ensures label { result.label / HALF ≡ key }
     ensures served { IsServed heap.now.region.at result }
     ensures size { result.size ≡ size }
+    ensures aligned { result.first % 2 ≡ 1 }
 {
     let start = heap.start();
     let place = memory.place();

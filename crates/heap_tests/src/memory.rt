@@ -73,6 +73,7 @@ fn words_are_memory_until_they_come_home(rt: HostRuntime) -> Result<(), Fail> {
     let block = heap.bring_home(&mut pass, memory);
     assert_eq!(rt; word(&heap, &mut pass, &block, 0), Some(6));
     assert_eq!(rt; word(&heap, &mut pass, &block, 2), Some(8));
+    heap.rest(&mut pass);
     Ok(())
 }
 

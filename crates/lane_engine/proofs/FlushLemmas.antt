@@ -1,10 +1,9 @@
 -- Magazines that are emptied, one interrupted free after the other.
-use Rattle.std.proofs.Common.{ℕ, suc, ◌≡◌, ◌∷◌, ◌++◌, List, [], refl, sym, ap, ◌∙◌, subst, append_assoc, append-nil, map}
+use Rattle.std.proofs.Common.{ℕ, ◌≡◌, ◌∷◌, ◌++◌, List, [], refl, sym, ap, ◌∙◌, subst, append_assoc}
 use Rattle.std.proofs.lemmas.List.{map-append}
-use Rattle.errand_steps.specs.declared.reply.Reply.{Reply}
 use Rattle.errand_steps.specs.declared.reply.Reply.TheVariants as reply
 use Rattle.errand_steps.specs.Begins.{IsIdle}
-use Rattle.errand_steps.specs.Calls.{Call, free}
+use Rattle.errand_steps.specs.Calls.{free}
 use Rattle.sound_laws.specs.events.Made.{LeadsBy, Made, answered}
 use Rattle.live_heap.specs.declared.answers.Resumed.{Resumed}
 use Rattle.live_heap.specs.declared.block.Block.{Block}

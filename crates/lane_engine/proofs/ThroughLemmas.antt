@@ -15,8 +15,7 @@ use Rattle.live_heap.specs.declared.answers.Resumed.{Resumed}
 use Rattle.live_heap.specs.declared.answers.Resumed.TheVariants as resumed
 use Rattle.live_heap.specs.declared.block.Block.{Block}
 use Rattle.live_heap.specs.declared.pass.Pass.{Pass}
-use Rattle.live_heap.specs.Answers.{IsResumable, ResumeTells}
-use Rattle.live_heap.specs.Calls.{IsCalling}
+use Rattle.live_heap.specs.Answers.{ResumeTells}
 use Rattle.live_heap.specs.Whole.{HasEndedCall, ResumesTo}
 use Rattle.block_cache.specs.declared.cache.Cache.{Cache}
 use Rattle.block_cache.specs.declared.magazines.Magazines.{Magazines}
@@ -25,13 +24,6 @@ use Rattle.block_cache.specs.Magazines.{all_in, stacks_of}
 use Rattle.block_cache.specs.Whole.{IsWholeOnWord}
 use Rattle.lane_engine.specs.declared.over_cache.CachedCalls.{CachedCalls}
 use Rattle.lane_engine.specs.Caches.{IsCachedCall}
-
--- an interrupted call can still be resumed when it has made more steps
-pub resumable-on :
-    (p q : Pass) → IsResumable p
-    → ((first : Pass) (call : Call) (made : ℕ) → IsCalling first call made p → (steps : ℕ) × IsCalling first call steps q) → IsResumable q
-resumable-on p q r on =
-    let n = on r.first r.call r.steps r.calling in record { first = r.first; call = r.call; steps = n.0; calling = n.1; tried = r.tried }
 
 -- a resumed call that isn't told to be busy has ended
 pub resume-ended :
@@ -92,7 +84,7 @@ words-lead e c d (m ∷ made) (t, one, leads) = (with_cache e t, ((one.0, keeps-
 
 -- an allocation that is under way found no block in a magazine, and a free under way no room in one
 pub busy-asks :
-    (c : Cache) (need : ℕ) (d : Cache) (told : AllocAnswer) → told ≡ answer.Busy
+    (c : Cache) (need : ℕ) (d : Cache) (told : AllocAnswer Block) → told ≡ answer.Busy
     → (HasFor c (need_of need) → (block : Block) × (told ≡ answer.Given block) × HasServed c need block d) → ¬ HasFor c (need_of need)
 busy-asks c need d told is served has =
     let s = served has in

@@ -8,8 +8,8 @@ use Rattle.errand_steps.specs.Calls.{Call, alloc}
 use Rattle.step_machine.specs.Keeping.{Hands, LeavesPlace}
 use Rattle.lane_engine.specs.declared.calls.Allocated.{Allocated}
 use Rattle.lane_engine.specs.declared.calls.Allocated.TheVariants as allocated
-use Rattle.lane_engine.specs.declared.calls.Taken.{Taken}
-use Rattle.lane_engine.specs.declared.calls.Taken.TheVariants as taken
+use Rattle.live_heap.specs.declared.answers.Taken.{Taken}
+use Rattle.live_heap.specs.declared.answers.Taken.TheVariants as taken
 
 module _ {B : Type 0} (place_of : B → ℕ) (need_of : B → Need) where
   -- the answer of an allocation
@@ -28,7 +28,7 @@ module _ {B : Type 0} (place_of : B → ℕ) (need_of : B → Need) where
   abbrev pub TakeTells : (Reply → Type 0) → Taken B → Type 0
   TakeTells ended (taken.Got block) = ended (reply.Got (place_of block) (need_of block))
   TakeTells ended taken.Empty = ended reply.Empty
-  TakeTells ended taken.Missed = (expected : ℕ) × (found : ℕ) × ended (reply.Missed expected found)
+  TakeTells ended (taken.Missed expected found) = ended (reply.Missed expected found)
 
 -- what makes whole calls, to a lane: where it is in no call, which blocks are its caller's, what it runs on, which no call changes, and which calls, ended with which answer, led from one state to another
 pub record Maker (S : Type 0) : Type 1 where

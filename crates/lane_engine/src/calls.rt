@@ -10,10 +10,12 @@ ghost use Rattle.errand_steps.specs.Calls.{Call, alloc, free, put, take};
 ghost use Rattle.lane_engine.specs.Whole.{KeepBlocks, Maker, PutTells, TakeTells, allocated_as};
 ghost use Rattle.sound_laws.specs.events.Made.{Copies, LeadsBy, Sums, wrote};
 
+pub use live_heap::answers::Taken;
 use std::sync::Wait;
 use step_machine::token::Token;
 
-/// What an allocation came to.
+/// What an allocation came to once it had ended: whole calls go on while they are busy, and a lane asks for no more
+/// words than a block has.
 #[derive(Debug, PartialEq, Eq, Drop)]
 pub enum Allocated<B> {
     /// The block.
@@ -22,17 +24,6 @@ pub enum Allocated<B> {
     Refused,
     /// The caller has no turn left.
     Spent,
-}
-
-/// What a take came to.
-#[derive(Debug, PartialEq, Eq, Drop)]
-pub enum Taken<B> {
-    /// The block that lay on the shelf.
-    Got(B),
-    /// The shelf is empty.
-    Empty,
-    /// Another caller changed the shelf in between.
-    Missed,
 }
 
 /// One caller of a heap, or something in front of it, that makes whole calls. What a call did, and what

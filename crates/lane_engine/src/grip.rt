@@ -7,7 +7,8 @@ use errand_steps::told::MakesBlocks;
 use heap_geometry::need::{Need, usable};
 use step_machine::token::Token;
 
-/// A block that a caller of a machine holds. `place` is the arena word of its prefix.
+/// A block that a caller of a machine holds, since a heap alone makes a `Block`. `place` is the arena word of its
+/// prefix.
 #[derive(Debug, PartialEq, Eq, Drop)]
 pub struct Grip {
     pub place: u32,

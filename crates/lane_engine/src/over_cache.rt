@@ -14,10 +14,10 @@ ghost use Rattle.block_cache.specs.Caches.{IsCache, KeepsMagazines};
 ghost use Rattle.block_cache.specs.Whole.{HoldsAt, RestsAt};
 ghost use Rattle.lane_engine.specs.Caches.{HasEmptied, IsCachedCall};
 
-use crate::calls::{Allocated, Calls, Taken};
+use crate::calls::{Allocated, Calls};
 use block_cache::cache::Cache;
 use block_cache::laws::{calls_on_words_are_whole, ended_calls_are_whole, whole_calls_keep_blocks};
-use live_heap::answers::{AllocAnswer, FreeAnswer, Resumed, Taken as Found};
+use live_heap::answers::{AllocAnswer, FreeAnswer, Resumed, Taken};
 use live_heap::block::Block;
 use live_heap::heap::Heap;
 use std::sync::Wait;
@@ -195,11 +195,7 @@ impl<'a> Calls for CachedCalls<'a> {
         ended_calls_are_whole();
         // A take that misses has lost an exchange, and is tried again: it yields as the others do.
         let _ = tries(self.cache, &mut self.last);
-        match self.cache.take(self.heap, shelf) {
-            Found::Got(block) => Taken::Got(block),
-            Found::Empty => Taken::Empty,
-            Found::Missed { .. } => Taken::Missed,
-        }
+        self.cache.take(self.heap, shelf)
     }
 
     fn calls_keep_blocks()

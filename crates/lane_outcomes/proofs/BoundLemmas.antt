@@ -11,7 +11,7 @@ use Rattle.heap_geometry.specs.Need.{need_of}
 use Rattle.pool_model.specs.declared.event.Event.{Event}
 use Rattle.trace_text.specs.declared.trace.Op.{Op}
 use Rattle.trace_text.specs.declared.trace.Op.TheVariants as op
-use Rattle.lane_outcomes.specs.declared.registers.Held.{Held}
+use Rattle.lane_outcomes.specs.declared.registers.HeldBlock.{HeldBlock}
 use Rattle.lane_outcomes.specs.declared.outcome.Outcome.{Outcome}
 use Rattle.lane_outcomes.specs.declared.outcome.Outcome.TheVariants as outcome
 use Rattle.lane_outcomes.specs.Lane.{held_in}
@@ -64,13 +64,13 @@ shallow-kept depth true magazines place (Large units) keeps shallow = shallow
 shallow-kept depth true magazines place TooLarge keeps shallow = shallow
 shallow-kept depth false magazines place need keeps shallow = shallow
 
-shallow-freed : (depth : ℕ) (magazines : List (List ℕ)) (held : Option Held) → IsShallow depth magazines → IsShallow depth (magazines_freed depth magazines held)
+shallow-freed : (depth : ℕ) (magazines : List (List ℕ)) (held : Option HeldBlock) → IsShallow depth magazines → IsShallow depth (magazines_freed depth magazines held)
 shallow-freed depth magazines None shallow = shallow
 shallow-freed depth magazines (Some held) shallow =
     shallow-kept depth (is_kept depth magazines held.need) magazines held.place held.need refl shallow
 
 shallow-after :
-    (depth : ℕ) (magazines : List (List ℕ)) (registers : List (Option Held)) (operation : Op) (result : Outcome) → IsShallow depth magazines
+    (depth : ℕ) (magazines : List (List ℕ)) (registers : List (Option HeldBlock)) (operation : Op) (result : Outcome) → IsShallow depth magazines
     → IsShallow depth (magazines_after depth magazines registers operation result)
 shallow-after depth magazines registers (op.Alloc r need v) (outcome.Given words place) shallow =
     shallow-given depth (served_by magazines (need_of need)) magazines (need_of need) shallow
@@ -84,11 +84,10 @@ shallow-walk :
     (setting : Setting) (depth : ℕ) (from to : CachedPosition) (operations : List Op) (results : List Outcome)
     → CachedWalks setting depth from operations results to → IsShallow depth from.magazines → IsShallow depth to.magazines
 shallow-walk setting depth from to [] [] walks shallow = rw walks shallow
-shallow-walk setting depth from to [] (result ∷ results) walks shallow = absurd walks
-shallow-walk setting depth from to (operation ∷ operations) [] walks shallow = absurd walks
 shallow-walk setting depth from to (operation ∷ operations) (result ∷ results) walks shallow =
     shallow-walk setting depth (cached_after depth from operation result walks.0) to operations results walks.2
     (shallow-after depth from.magazines from.base.registers operation result shallow)
+shallow-walk setting depth from to operations results walks shallow = absurd walks
 
 pub walk-shallow :
     (setting : Setting) (depth : ℕ) (operations : List Op) (results : List Outcome) (position : CachedPosition)
@@ -112,14 +111,13 @@ hits-walk :
     (setting : Setting) (depth : ℕ) (from to : CachedPosition) (operations : List Op) (results : List Outcome)
     → CachedWalks setting depth from operations results to → to.hits ≤ from.hits + lane_given as_one operations results
 hits-walk setting depth from to [] [] walks = omega (arith, ap (λ (p : CachedPosition). p.hits) walks)
-hits-walk setting depth from to [] (result ∷ results) walks = absurd walks
-hits-walk setting depth from to (operation ∷ operations) [] walks = absurd walks
 hits-walk setting depth from to (operation ∷ operations) (result ∷ results) walks =
     omega (
       arith,
       hit-given from.magazines operation result,
       hits-walk setting depth (cached_after depth from operation result walks.0) to operations results walks.2,
     )
+hits-walk setting depth from to operations results walks = absurd walks
 
 pub lane-hits :
     (setting : Setting) (depth : ℕ) (operations : List Op) (results : List Outcome) (hits : ℕ) → CachedFits setting depth operations results hits
@@ -131,7 +129,6 @@ pub lanes-hits :
     (g : Geometry) (history : List Event) (lost depth lane : ℕ) (lanes : List (List Op)) (outcomes : List (List Outcome)) (hits : ℕ)
     → CachedLanesFit g history lost depth lane lanes outcomes hits → hits ≤ lanes_given as_one lanes outcomes
 lanes-hits g history lost depth lane [] [] hits fit = omega (arith, fit)
-lanes-hits g history lost depth lane [] (results ∷ outcomes) hits fit = absurd fit
-lanes-hits g history lost depth lane (operations ∷ lanes) [] hits fit = absurd fit
 lanes-hits g history lost depth lane (operations ∷ lanes) (results ∷ outcomes) hits (these, others, all, one, more) =
     omega (arith, all, lane-hits _ depth operations results these one, lanes-hits g history lost depth (suc lane) lanes outcomes others more)
+lanes-hits g history lost depth lane lanes outcomes hits fit = absurd fit

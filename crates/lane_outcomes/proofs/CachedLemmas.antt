@@ -11,15 +11,14 @@ use Rattle.pool_model.specs.Legal.{IsLegalWithoutCounts}
 use Rattle.trace_text.specs.declared.limits.TheConstants.{REGISTERS}
 use Rattle.trace_text.specs.declared.trace.Op.{Op}
 use Rattle.trace_text.specs.declared.trace.Op.TheVariants as op
-use Rattle.lane_outcomes.specs.declared.registers.Held.{Held}
+use Rattle.lane_outcomes.specs.declared.registers.HeldBlock.{HeldBlock}
 use Rattle.lane_outcomes.specs.declared.outcome.Outcome.{Outcome}
 use Rattle.lane_outcomes.specs.declared.outcome.Outcome.TheVariants as outcome
 use Rattle.lane_outcomes.specs.Lane.{Position, held_in, registers_after, writing}
 use Rattle.lane_outcomes.specs.LaneCounts.{as_one, count_with, lane_freed, lane_given, words_freed, words_given}
 use Rattle.lane_outcomes.specs.Rows.{AllocRow, CheckRow, FillRow, FitsRow, FreeRow, Moment, PutRow, ResizeRow, Setting, TakeRow}
 use Rattle.lane_outcomes.specs.Standing.{HoldsOwn}
-use Rattle.lane_outcomes.proofs.FollowLemmas.{FollowsAt, at-as}
-use Rattle.lane_outcomes.proofs.LiveLemmas.{at-start}
+use Rattle.lane_outcomes.proofs.FollowLemmas.{FollowsAt, at-as, at-start}
 use Rattle.lane_outcomes.proofs.WalkLemmas.{row-after}
 use Rattle.lane_outcomes.specs.Cached.{CachedPosition, CachedRow, CachedWalks, cached_after, cached_start}
 use Rattle.lane_outcomes.specs.Magazines.{freeing, is_kept, kept_from, magazines_given, served_by}
@@ -38,18 +37,18 @@ shifted n (op.Take r shelf) = op.Take (n + r) shelf
 shifted n (op.Resize r need) = op.Resize (n + r) need
 
 -- a lane whose registers stand behind the blocks that it keeps
-abbrev pub behind : List Held → Position → Position
+abbrev pub behind : List HeldBlock → Position → Position
 behind kept position = record position { registers = slots kept position.registers }
 
 resize-behind :
-    (setting : Setting) (kept : List Held) (position : Position) (need : ℕ) (held : Option Held) (result : Outcome) (piece : List Event)
+    (setting : Setting) (kept : List HeldBlock) (position : Position) (need : ℕ) (held : Option HeldBlock) (result : Outcome) (piece : List Event)
     → ResizeRow setting position need held result piece → ResizeRow setting (behind kept position) need held result piece
 resize-behind setting kept position need (Some held) (outcome.Resized words place) piece (differ, may, words_are, calls, given, value, copy, is) =
     (differ, may, words_are, calls, given, value, record { moment = copy.moment; block = copy.block; live = copy.live; each = copy.each }, is)
 resize-behind setting kept position need held result piece row = row
 
 pub row-shifted :
-    (setting : Setting) (kept : List Held) (position : Position) (operation : Op) (result : Outcome) (piece : List Event)
+    (setting : Setting) (kept : List HeldBlock) (position : Position) (operation : Op) (result : Outcome) (piece : List Event)
     → FitsRow setting position operation result piece → FitsRow setting (behind kept position) (shifted (length kept) operation) result piece
 row-shifted setting kept position (op.Alloc r need v) result piece row =
     subst (λ held. AllocRow setting (behind kept position) need v held result piece) (sym (slot-held kept position.registers r)) row
@@ -68,7 +67,7 @@ row-shifted setting kept position (op.Resize r need) result piece row =
     (resize-behind setting kept position need (held_in position.registers r) result piece row)
 
 pub registers-shifted :
-    (kept : List Held) (registers : List (Option Held)) (operation : Op) (result : Outcome)
+    (kept : List HeldBlock) (registers : List (Option HeldBlock)) (operation : Op) (result : Outcome)
     → registers_after (slots kept registers) (shifted (length kept) operation) result ≡ slots kept (registers_after registers operation result)
 registers-shifted kept registers (op.Alloc r need v) (outcome.Given words place) = slot-set kept registers r _
 registers-shifted kept registers (op.Take r shelf) (outcome.Took words place need) = slot-set kept registers r _
@@ -82,7 +81,7 @@ given-shifted n (op.Alloc r need v) result = refl
 given-shifted n operation result = refl
 
 freed-shifted :
-    (kept : List Held) (registers : List (Option Held)) (operation : Op) (result : Outcome)
+    (kept : List HeldBlock) (registers : List (Option HeldBlock)) (operation : Op) (result : Outcome)
     → words_freed (slots kept registers) (shifted (length kept) operation) result ≡ words_freed registers operation result
 freed-shifted kept registers (op.Free r) outcome.Freed = ap (option_map (λ held. held.words)) (slot-held kept registers r)
 freed-shifted kept registers (op.Resize r need) (outcome.Resized words place) = ap (option_map (λ held. held.words)) (slot-held kept registers r)
@@ -107,8 +106,8 @@ row-keeps :
     (registers_after position.base.registers operation result) (got + count_with f (words_given operation result))
     (gone + count_with f (words_freed position.base.registers operation result))
 row-keeps f g setting position operation result piece got gone legal row keeps =
-    let registers : List (Option Held) = position.base.registers in
-    let kept : List Held = kept_from 0 position.magazines in
+    let registers : List (Option HeldBlock) = position.base.registers in
+    let kept : List HeldBlock = kept_from 0 position.magazines in
     let gives : ℕ = count_with f (words_given operation result) in
     let frees : ℕ = count_with f (words_freed registers operation result) in
     let moved : Op = shifted (length kept) operation in
@@ -128,7 +127,7 @@ row-keeps f g setting position operation result piece got gone legal row keeps =
 
 -- a lane that keeps blocks does so with equal events, registers and numbers
 keeps-as :
-    (f : ℕ → ℕ) (history : List Event) (caller : ℕ) (done others : List Event) (kept : List Held) (registers after : List (Option Held))
+    (f : ℕ → ℕ) (history : List Event) (caller : ℕ) (done others : List Event) (kept : List HeldBlock) (registers after : List (Option HeldBlock))
     (got gone got_too gone_too : ℕ) → done ≡ others → registers ≡ after → got ≡ got_too → gone ≡ gone_too
     → KeepsAt f history caller done kept registers got gone → KeepsAt f history caller others kept after got_too gone_too
 keeps-as f history caller done others kept registers after got gone got_too gone_too done_same registers_same got_same gone_same keeps =
@@ -166,8 +165,8 @@ resize-keeps f g setting depth position r need words place piece got gone legal 
     let made : List Event = calls ++ writing setting.caller place words value in
     let magazines : List (List ℕ) = magazines_given position.magazines (need_of need) in
     let stacks : Bool = is_kept depth magazines held.need in
-    let emptied : List (Option Held) = set position.base.registers r None in
-    let new : Option Held = Some (record { place = place; words = words; need = need_of need }) in
+    let emptied : List (Option HeldBlock) = set position.base.registers r None in
+    let new : Option HeldBlock = Some (record { place = place; words = words; need = need_of need }) in
     rw full
     (keeps-as f setting.history setting.caller ((done ++ made) ++ freeing setting.caller stacks held.place) (done ++ piece) _ _ _
     (got + f words) (gone + f held.words) (got + f words) (gone + f held.words)
@@ -208,8 +207,6 @@ pub walk-keeps :
     → Stands f setting to (got + lane_given f operations results) (gone + lane_freed f from.base.registers operations results)
 walk-keeps f g setting depth from to [] [] got gone legal long walks keeps =
     rw walks (keeps-as f setting.history setting.caller from.base.done from.base.done _ _ _ got gone (got + 0) (gone + 0) refl refl (omega arith) (omega arith) keeps)
-walk-keeps f g setting depth from to [] (result ∷ results) got gone legal long walks keeps = absurd walks
-walk-keeps f g setting depth from to (operation ∷ operations) [] got gone legal long walks keeps = absurd walks
 walk-keeps f g setting depth from to (operation ∷ operations) (result ∷ results) got gone legal long walks keeps =
     let next : CachedPosition = cached_after depth from operation result walks.0 in
     keeps-as f setting.history setting.caller to.base.done to.base.done _ _ _ _ _ _ _ refl refl (omega arith) (omega arith)
@@ -217,6 +214,7 @@ walk-keeps f g setting depth from to (operation ∷ operations) (result ∷ resu
     (gone + count_with f (words_freed from.base.registers operation result)) legal
     (magazines-long depth from.magazines from.base.registers operation result ∙ long) walks.2
     (cached-row-keeps f g setting depth from operation result walks.0 got gone legal long walks.1 keeps))
+walk-keeps f g setting depth from to operations results got gone legal long walks keeps = absurd walks
 
 -- a lane before its first operation
 pub starts-keeping : (f : ℕ → ℕ) (setting : Setting) → Stands f setting cached_start 0 0

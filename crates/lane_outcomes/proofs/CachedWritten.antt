@@ -11,16 +11,16 @@ use Rattle.heap_geometry.specs.Need.{need_of, usable_words}
 use Rattle.pool_model.specs.declared.event.Event.{Event}
 use Rattle.pool_model.specs.declared.event.Event.TheVariants.{Free, Put}
 use Rattle.pool_model.specs.Histories.{caller_of, own, Begins}
-use Rattle.pool_model.specs.Pool.{Block, block_at, pool_of}
+use Rattle.pool_model.specs.Pool.{Block, pool_of}
 use Rattle.pool_model.specs.Legal.{IsLegalEventWithoutCounts, IsLegalWithoutCounts}
 use Rattle.pool_model.proofs.HistoryLemmas.{EachAfter-cut, own-append}
 use Rattle.trace_text.specs.declared.limits.TheConstants.{REGISTERS}
 use Rattle.trace_text.specs.declared.trace.Op.{Op}
 use Rattle.trace_text.specs.declared.trace.Op.TheVariants as op
-use Rattle.lane_outcomes.specs.declared.registers.Held.{Held}
+use Rattle.lane_outcomes.specs.declared.registers.HeldBlock.{HeldBlock}
 use Rattle.lane_outcomes.specs.declared.outcome.Outcome.{Outcome}
 use Rattle.lane_outcomes.specs.declared.outcome.Outcome.TheVariants as outcome
-use Rattle.lane_outcomes.specs.Cached.{CachedFits, CachedLanesFit, CachedOutcomesFit, CachedPosition, CachedRow, CachedWalks, IsGivenBy, cached_after, cached_start}
+use Rattle.lane_outcomes.specs.Cached.{CachedOutcomesFit, CachedPosition, CachedRow, CachedWalks, IsGivenBy, cached_after, cached_start}
 use Rattle.lane_outcomes.specs.Lane.{Position, held_in, registers_after, writing}
 use Rattle.lane_outcomes.specs.LaneCounts.{as_one, count_with, words_freed, words_given}
 use Rattle.lane_outcomes.specs.Magazines.{emptying, freeing, given_from, is_kept, kept_from, kept_with, magazines_freed, magazines_given, served_by}
@@ -33,11 +33,12 @@ use Rattle.lane_outcomes.proofs.FollowLemmas.{FollowsAt, IsStill}
 use Rattle.lane_outcomes.proofs.HoldLemmas.{held-inside, held-nothing}
 use Rattle.lane_outcomes.proofs.KeepingLemmas.{KeepsAt, keeps-handed, keeps-lifted, owned-whole}
 use Rattle.lane_outcomes.proofs.KeptLemmas.{block_for, given-long, kept-freed, kept-given, kept-nothing, magazines-long}
+use Rattle.lane_outcomes.proofs.LanesLemmas.{cached-lane}
 use Rattle.lane_outcomes.proofs.SlotLemmas.{exchanged, held-exchanged, slot-exchanged, slot-held, slot-set, slots}
 use Rattle.lane_outcomes.proofs.WalkLemmas.{given-of, stills-writing}
 use Rattle.lane_outcomes.proofs.WrittenBlocks.{AllSet, OwnsSuch, at-own, words-of}
 use Rattle.lane_outcomes.proofs.WrittenLemmas.{ShelvesSet, check-at, copied-word, one-of, shelved-by, shelves-by, writes-same}
-use Rattle.lane_outcomes.proofs.WrittenRows.{HeldSet, IsNoPut, IsPutOf, ShelfSet, given-set, made-puts, no_puts-append, other-freed, past-puts, put-here, quiet, row-puts, row-set, still-no_puts}
+use Rattle.lane_outcomes.proofs.WrittenRows.{HeldSet, IsNoPut, IsPutOf, given-set, made-puts, no_puts-append, other-freed, past-puts, put-here, quiet, row-puts, row-set, still-no_puts}
 
 -- frees put nothing on a shelf, and neither does what a free leaves
 frees-no_puts : (caller : ℕ) (places : List ℕ) → AllByRecursion IsNoPut (map (λ place. Free caller place) places)
@@ -53,11 +54,10 @@ cached-adds :
     (setting : Setting) (depth : ℕ) (from to : CachedPosition) (operations : List Op) (results : List Outcome)
     → CachedWalks setting depth from operations results to → (more : List Event) × (to.base.done ≡ from.base.done ++ more)
 cached-adds setting depth from to [] [] walks = ([], ap (λ (p : CachedPosition). p.base.done) walks ∙ sym (append-nil from.base.done))
-cached-adds setting depth from to [] (result ∷ results) walks = absurd walks
-cached-adds setting depth from to (operation ∷ operations) [] walks = absurd walks
 cached-adds setting depth from to (operation ∷ operations) (result ∷ results) (piece, row, walks) =
     let later = cached-adds setting depth (cached_after depth from operation result piece) to operations results walks in
     (piece ++ later.0, later.1 ∙ append_assoc from.base.done piece later.0)
+cached-adds setting depth from to operations results walks = absurd walks
 
 -- an operation puts nothing on a shelf, or its register's block
 module _ (setting : Setting) (depth : ℕ) (position : CachedPosition) where
@@ -91,29 +91,29 @@ module _ (setting : Setting) (depth : ℕ) (position : CachedPosition) where
 
 -- on a lane, where each block on a shelf has all its words written, up to so many events
 module _ (g : Geometry) (setting : Setting) (depth : ℕ) (legal : IsLegalWithoutCounts g setting.history) (most : ℕ) (shelves : ShelvesSet setting.history most) where
-  abbrev SetIn : List Event → List (Option Held) → Type 0
+  abbrev SetIn : List Event → List (Option HeldBlock) → Type 0
   SetIn done now = HeldSet g setting legal most shelves done now
 
   -- blocks that go from one slot to another
-  set-shuffled : (done : List Event) (old new : List (Option Held)) → IsPermutation old new → SetIn done old → SetIn done new
+  set-shuffled : (done : List Event) (old new : List (Option HeldBlock)) → IsPermutation old new → SetIn done old → SetIn done new
   set-shuffled done old new shuffled all =
       IsPermutation-keeps old (SetIn done) all
       (λ now i j below under sets r held full. sets (exchanged i j r) held (sym (held-exchanged now i j below under r) ∙ full)) new shuffled
 
   set-ordered :
-      (done : List Event) (kept others : List Held) (registers : List (Option Held)) → IsPermutation kept others → SetIn done (slots kept registers)
+      (done : List Event) (kept others : List HeldBlock) (registers : List (Option HeldBlock)) → IsPermutation kept others → SetIn done (slots kept registers)
       → SetIn done (slots others registers)
   set-ordered done kept others registers shuffled all =
       set-shuffled done (slots kept registers) (slots others registers)
       (IsPermutation-append_left registers _ _ (IsPermutation-map (λ held. Some held) kept others shuffled)) all
 
-  none-first : (done : List Event) (rest : List (Option Held)) → SetIn done rest → SetIn done (None ∷ rest)
+  none-first : (done : List Event) (rest : List (Option HeldBlock)) → SetIn done rest → SetIn done (None ∷ rest)
   none-first done rest all zero held full = absurd (let e : None ≡ Some held = full in cc)
   none-first done rest all (suc r) held full = all r held full
 
   -- a register's block is kept, and a block that was kept is given to a register
   set-lifted :
-      (done : List Event) (r : ℕ) (held : Held) (kept : List Held) (registers : List (Option Held)) → held_in registers r ≡ Some held
+      (done : List Event) (r : ℕ) (held : HeldBlock) (kept : List HeldBlock) (registers : List (Option HeldBlock)) → held_in registers r ≡ Some held
       → SetIn done (slots kept registers) → SetIn done (slots (held ∷ kept) (set registers r None))
   set-lifted done r held kept registers full all =
       set-shuffled done (None ∷ slots kept registers) (slots (held ∷ kept) (set registers r None))
@@ -122,7 +122,7 @@ module _ (g : Geometry) (setting : Setting) (depth : ℕ) (legal : IsLegalWithou
       (none-first done (slots kept registers) all)
 
   set-served :
-      (done : List Event) (r : ℕ) (new : Held) (kept others : List Held) (registers : List (Option Held)) → IsPermutation kept (new ∷ others)
+      (done : List Event) (r : ℕ) (new : HeldBlock) (kept others : List HeldBlock) (registers : List (Option HeldBlock)) → IsPermutation kept (new ∷ others)
       → SetIn done (slots kept registers) → SetIn done (slots others (set registers r (Some new)))
   set-served done r new kept others registers shuffled all =
       let ordered = set-ordered done kept (new ∷ others) registers shuffled all in
@@ -137,16 +137,16 @@ module _ (g : Geometry) (setting : Setting) (depth : ℕ) (legal : IsLegalWithou
 
   -- a magazine or the heap gives a block, and it is written; some blocks are kept besides those in magazines
   handed :
-      (position : CachedPosition) (done : List Event) (r need words place : ℕ) (value : ℕ → ℕ) (calls piece : List Event) (beside : List Held)
-      (registers : List (Option Held)) (served : Option ℕ) → words ≡ usable_words (need_of need) → served_by position.magazines (need_of need) ≡ served
+      (position : CachedPosition) (done : List Event) (r need words place : ℕ) (value : ℕ → ℕ) (calls piece : List Event) (beside : List HeldBlock)
+      (registers : List (Option HeldBlock)) (served : Option ℕ) → words ≡ usable_words (need_of need) → served_by position.magazines (need_of need) ≡ served
       → IsGivenBy served setting position need place calls → piece ≡ calls ++ writing setting.caller place words value
       → SetIn done (slots (beside ++ kept_from 0 position.magazines) registers)
       → SetIn (done ++ piece)
       (slots (beside ++ kept_from 0 (magazines_given position.magazines (need_of need)))
       (set registers r (Some (record { place = place; words = words; need = need_of need }))))
   handed position done r need words place value calls piece beside registers None words_are served given piece_is all =
-      let kept : List Held = beside ++ kept_from 0 position.magazines in
-      let new : Held = record { place = place; words = words; need = need_of need } in
+      let kept : List HeldBlock = beside ++ kept_from 0 position.magazines in
+      let new : HeldBlock = record { place = place; words = words; need = need_of need } in
       let wide : Position = record { registers = slots kept registers; done = done; answered = 0; spent = false } in
       subst (λ magazines. SetIn (done ++ piece) (slots (beside ++ kept_from 0 magazines) (set registers r (Some new))))
       (sym (ap (λ from. given_from from position.magazines (need_of need)) served))
@@ -154,10 +154,10 @@ module _ (g : Geometry) (setting : Setting) (depth : ℕ) (legal : IsLegalWithou
       (given-set g setting legal most shelves wide (length kept + r) need words place value calls piece words_are
       (given-of setting.caller need place (need_of need) calls given.1) piece_is all))
   handed position done r need words place value calls piece beside registers (Some at) words_are served given piece_is all =
-      let new : Held = record { place = place; words = words; need = need_of need } in
+      let new : HeldBlock = record { place = place; words = words; need = need_of need } in
       let same : block_for (need_of need) at ≡ new =
       ap (block_for (need_of need)) (sym given.0) ∙ ap (λ n. record { place = place; words = n; need = need_of need }) (sym words_are) in
-      let left : List Held = kept_from 0 (magazines_given position.magazines (need_of need)) in
+      let left : List HeldBlock = kept_from 0 (magazines_given position.magazines (need_of need)) in
       let shuffled : IsPermutation (kept_from 0 position.magazines) (new ∷ left) =
       subst (λ first. IsPermutation (kept_from 0 position.magazines) (first ∷ left)) same (kept-given position.magazines (need_of need) at served) in
       let written : piece ≡ writing setting.caller place words value = piece_is ∙ ap (λ xs. xs ++ writing setting.caller place words value) given.1 in
@@ -168,7 +168,7 @@ module _ (g : Geometry) (setting : Setting) (depth : ℕ) (legal : IsLegalWithou
 
   -- the first of the blocks that are kept is freed, or goes into its magazine
   freed-first :
-      (done : List Event) (held : Held) (kept : List Held) (registers : List (Option Held)) (given freed : ℕ)
+      (done : List Event) (held : HeldBlock) (kept : List HeldBlock) (registers : List (Option HeldBlock)) (given freed : ℕ)
       → FollowsAt as_one setting.history setting.caller done (slots (held ∷ kept) registers) given freed
       → SetIn done (slots (held ∷ kept) registers) → SetIn (done ++ Free setting.caller held.place ∷ []) (slots kept registers)
   freed-first done held kept registers given freed at all r other full =
@@ -179,15 +179,15 @@ module _ (g : Geometry) (setting : Setting) (depth : ℕ) (legal : IsLegalWithou
       (all (suc r) other full before few begins own_is))
 
   settled :
-      (done : List Event) (magazines : List (List ℕ)) (held : Held) (registers : List (Option Held)) (got gone : ℕ) (stacks : Bool)
+      (done : List Event) (magazines : List (List ℕ)) (held : HeldBlock) (registers : List (Option HeldBlock)) (got gone : ℕ) (stacks : Bool)
       → length magazines ≡ CLASSES → is_kept depth magazines held.need ≡ stacks
       → KeepsAt as_one setting.history setting.caller done (held ∷ kept_from 0 magazines) registers got gone
       → SetIn done (slots (held ∷ kept_from 0 magazines) registers)
       → SetIn (done ++ freeing setting.caller stacks held.place) (slots (kept_from 0 (kept_with stacks magazines held.place held.need)) registers)
   settled done magazines held registers got gone true long is keeps all =
       let caller = setting.caller in
-      let kept : List Held = kept_from 0 magazines in
-      let stacked : List Held = kept_from 0 (kept_with true magazines held.place held.need) in
+      let kept : List HeldBlock = kept_from 0 magazines in
+      let stacked : List HeldBlock = kept_from 0 (kept_with true magazines held.place held.need) in
       subst (λ events. SetIn events (slots stacked registers)) (sym (append-nil done))
       (λ r other full before few begins own_is.
       let legal_here = EachAfter-cut (IsLegalEventWithoutCounts g) before begins.0 (subst (IsLegalWithoutCounts g) begins.1 legal) in
@@ -207,7 +207,7 @@ module _ (g : Geometry) (setting : Setting) (depth : ℕ) (legal : IsLegalWithou
       → FitsRow setting position.base operation result piece → Stands as_one setting position got gone → StandsSet position
       → SetIn (position.base.done ++ piece) (slots (kept_from 0 position.magazines) (registers_after position.base.registers operation result))
   plain-set position operation result piece got gone row keeps all =
-      let kept : List Held = kept_from 0 position.magazines in
+      let kept : List HeldBlock = kept_from 0 position.magazines in
       subst (SetIn (position.base.done ++ piece)) (registers-shifted kept position.base.registers operation result)
       (row-set g setting legal most shelves (behind kept position.base) (shifted (length kept) operation) result piece keeps.given keeps.freed
       (row-shifted setting kept position.base operation result piece row) keeps.at all)
@@ -221,14 +221,14 @@ module _ (g : Geometry) (setting : Setting) (depth : ℕ) (legal : IsLegalWithou
       (served_by position.magazines (need_of need)) words_are refl given is all
   row-written position (op.Resize r need) (outcome.Resized words place) piece got gone long (held, full, differ, words_are, calls, given, value, copy, is) keeps all =
       let done : List Event = position.base.done in
-      let registers : List (Option Held) = position.base.registers in
-      let kept : List Held = kept_from 0 position.magazines in
+      let registers : List (Option HeldBlock) = position.base.registers in
+      let kept : List HeldBlock = kept_from 0 position.magazines in
       let made : List Event = calls ++ writing setting.caller place words value in
       let magazines : List (List ℕ) = magazines_given position.magazines (need_of need) in
       let served : Option ℕ = served_by position.magazines (need_of need) in
       let stacks : Bool = is_kept depth magazines held.need in
-      let emptied : List (Option Held) = set registers r None in
-      let new : Option Held = Some (record { place = place; words = words; need = need_of need }) in
+      let emptied : List (Option HeldBlock) = set registers r None in
+      let new : Option HeldBlock = Some (record { place = place; words = words; need = need_of need }) in
       let lifted = keeps-lifted as_one setting.history setting.caller done r held kept registers got gone full keeps in
       let given_too = keeps-handed as_one g setting position done r need words place value calls made (held ∷ []) emptied got (gone + as_one held.words) served
       legal words_are refl given refl lifted in
@@ -236,17 +236,17 @@ module _ (g : Geometry) (setting : Setting) (depth : ℕ) (legal : IsLegalWithou
       (set-lifted done r held kept registers full all) in
       let last = settled (done ++ made) magazines held (set emptied r new) (got + as_one words) (gone + as_one held.words) stacks
       (given-long served position.magazines (need_of need) ∙ long) refl given_too set_too in
-      let stacked : List Held = kept_from 0 (kept_with stacks magazines held.place held.need) in
+      let stacked : List HeldBlock = kept_from 0 (kept_with stacks magazines held.place held.need) in
       subst (λ slot. SetIn (done ++ piece) (slots (kept_from 0 (magazines_freed depth magazines slot)) (set registers r new))) (sym full)
       (subst (λ events. SetIn events (slots stacked (set registers r new)))
       (append_assoc done made (freeing setting.caller stacks held.place) ∙ ap (λ xs. done ++ xs) (sym is))
       (subst (λ after. SetIn ((done ++ made) ++ freeing setting.caller stacks held.place) (slots stacked after)) (set-set registers r None new) last))
   row-written position (op.Free r) outcome.Freed piece got gone long (held, full, is) keeps all =
       let done : List Event = position.base.done in
-      let registers : List (Option Held) = position.base.registers in
-      let kept : List Held = kept_from 0 position.magazines in
+      let registers : List (Option HeldBlock) = position.base.registers in
+      let kept : List HeldBlock = kept_from 0 position.magazines in
       let stacks : Bool = is_kept depth position.magazines held.need in
-      let emptied : List (Option Held) = set registers r None in
+      let emptied : List (Option HeldBlock) = set registers r None in
       subst (λ slot. SetIn (done ++ piece) (slots (kept_from 0 (magazines_freed depth position.magazines slot)) emptied)) (sym full)
       (subst (λ xs. SetIn (done ++ xs) (slots (kept_from 0 (kept_with stacks position.magazines held.place held.need)) emptied)) (sym is)
       (settled done position.magazines held emptied got (gone + as_one held.words) stacks long refl
@@ -266,19 +266,18 @@ module _ (g : Geometry) (setting : Setting) (depth : ℕ) (legal : IsLegalWithou
       (from to : CachedPosition) (operations : List Op) (results : List Outcome) (got gone : ℕ) → length from.magazines ≡ CLASSES
       → CachedWalks setting depth from operations results to → Stands as_one setting from got gone → StandsSet from → StandsSet to
   walk-written from to [] [] got gone long walks keeps all = subst StandsSet (sym walks) all
-  walk-written from to [] (result ∷ results) got gone long walks keeps all = absurd walks
-  walk-written from to (operation ∷ operations) [] got gone long walks keeps all = absurd walks
   walk-written from to (operation ∷ operations) (result ∷ results) got gone long (piece, row, walks) keeps all =
       walk-written (cached_after depth from operation result piece) to operations results (got + count_with as_one (words_given operation result))
       (gone + count_with as_one (words_freed from.base.registers operation result))
       (magazines-long depth from.magazines from.base.registers operation result ∙ long) walks
       (cached-row-keeps as_one g setting depth from operation result piece got gone legal long row keeps)
       (row-written from operation result piece got gone long row keeps all)
+  walk-written from to operations results got gone long walks keeps all = absurd walks
 
   -- the registers are among the slots
   in-registers : (position : CachedPosition) → StandsSet position → SetIn position.base.done position.base.registers
   in-registers position all r held full =
-      let kept : List Held = kept_from 0 position.magazines in
+      let kept : List HeldBlock = kept_from 0 position.magazines in
       all (length kept + r) held (slot-held kept position.base.registers r ∙ full)
 
   -- a block that a walk puts on a shelf has all its words written; behind the walk its lane puts none
@@ -295,8 +294,6 @@ module _ (g : Geometry) (setting : Setting) (depth : ℕ) (legal : IsLegalWithou
       (sym ends ∙ ap (λ (p : CachedPosition). p.base.done ++ last) walks ∙ ap (λ l. from.base.done ++ l) (sym (append-nil last))) in
       let found = past-puts setting.caller place shelf last xs ys [] none same in
       absurd (omega (arith, ap length found.2, length-append found.0 (event ∷ ys)))
-  put-through from to [] (result ∷ results) got gone before last place shelf xs ys long walks keeps all few begins own_is none ends = absurd walks
-  put-through from to (operation ∷ operations) [] got gone before last place shelf xs ys long walks keeps all few begins own_is none ends = absurd walks
   put-through from to (operation ∷ operations) (result ∷ results) got gone before last place shelf xs ys long (piece, row, walks) keeps all few begins own_is none ends =
       let event = Put setting.caller place shelf in
       let next : CachedPosition = cached_after depth from operation result piece in
@@ -322,23 +319,7 @@ module _ (g : Geometry) (setting : Setting) (depth : ℕ) (legal : IsLegalWithou
         | inr puts ↦
             put-here g setting legal most shelves from.base piece before place shelf xs ys behind_it puts (in-registers from all) few begins own_is meets later
       ]
-
--- the outcomes of a lane among those of all
-cached-at :
-    (g : Geometry) (history : List Event) (lost depth first : ℕ) (lanes : List (List Op)) (outcomes : List (List Outcome)) (hits : ℕ)
-    → CachedLanesFit g history lost depth first lanes outcomes hits → (k : ℕ) → k < length lanes
-    → (these : ℕ) × CachedFits (setting_in history (first + k) g.turn_limit lost) depth (get_or lanes k []) (get_or outcomes k []) these
-cached-at g history lost depth first [] [] hits fit k below = absurd (omega (arith, below))
-cached-at g history lost depth first [] (results ∷ outcomes) hits fit k below = absurd fit
-cached-at g history lost depth first (operations ∷ lanes) [] hits fit k below = absurd fit
-cached-at g history lost depth first (operations ∷ lanes) (results ∷ outcomes) hits (these, others, both, fits, rest) zero below =
-    (these, subst (λ n. CachedFits (setting_in history n g.turn_limit lost) depth operations results these) (let same : first ≡ first + 0 = omega arith in same) fits)
-cached-at g history lost depth first (operations ∷ lanes) (results ∷ outcomes) hits (these, others, both, fits, rest) (suc k) below =
-    let it = cached-at g history lost depth (suc first) lanes outcomes others rest k (omega (arith, below)) in (
-      it.0,
-      subst (λ n. CachedFits (setting_in history n g.turn_limit lost) depth (get_or lanes k []) (get_or outcomes k []) it.0)
-          (let same : suc first + k ≡ first + suc k = omega arith in same) it.1,
-    )
+  put-through from to operations results got gone before last place shelf xs ys long walks keeps all few begins own_is none ends = absurd walks
 
 module _ (g : Geometry) (history : List Event) (lost depth : ℕ) (lanes : List (List Op)) (outcomes : List (List Outcome)) (hits : ℕ) (legal : IsLegalWithoutCounts g history) (fit : CachedOutcomesFit g history lost depth lanes outcomes hits) where
   -- a lane's registers and magazines hold nothing at first
@@ -353,15 +334,6 @@ module _ (g : Geometry) (history : List Event) (lost depth : ℕ) (lanes : List 
   as-many : length (cached_start).magazines ≡ CLASSES
   as-many = let none : List ℕ = [] in length-replicate CLASSES none
 
-  lane-of : (caller : ℕ) → caller < length lanes
-      → (these : ℕ) × CachedFits (setting_in history caller g.turn_limit lost) depth (get_or lanes caller []) (get_or outcomes caller []) these
-  lane-of caller below =
-      let it = cached-at g history lost depth 0 lanes outcomes hits fit.lanes_fit caller below in (
-        it.0,
-        subst (λ n. CachedFits (setting_in history n g.turn_limit lost) depth (get_or lanes caller []) (get_or outcomes caller []) it.0)
-            (let same : 0 + caller ≡ caller = omega arith in same) it.1,
-      )
-
   -- whoever puts a block on a shelf is a lane, and has written all its words
   put-by-lane :
       (most caller place shelf : ℕ) (before rest : List Event) → ShelvesSet history most → length before ≤ most
@@ -372,7 +344,7 @@ module _ (g : Geometry) (history : List Event) (lost depth : ℕ) (lanes : List 
       one-of (λ event. caller_of event < length lanes) before rest event
       (subst (AllByRecursion (λ event. caller_of event < length lanes)) is fit.callers) in
       let setting = setting_in history caller g.turn_limit lost in
-      let fits = (lane-of caller below).1 in
+      let fits = (cached-lane g history lost depth lanes outcomes hits fit.lanes_fit caller below).1 in
       let last : List Event = emptying caller fits.end.magazines in
       let hers : own caller (event ∷ rest) ≡ event ∷ own caller rest = rw (eq-eqb caller caller refl) refl in
       let ends : fits.end.base.done ++ last ≡ own caller before ++ event ∷ own caller rest =
@@ -405,7 +377,7 @@ module _ (g : Geometry) (history : List Event) (lost depth : ℕ) (lanes : List 
       → CachedWalks (setting_in history caller limit more) depth cached_start operations results position
       → (moment : Moment (setting_in history caller limit more) position.base.done) → HoldsWritten (pool_of moment.before) position.base.registers
   registers-written caller limit more operations results position walks moment r held block full live =
-      let kept : List Held = kept_from 0 position.magazines in
+      let kept : List HeldBlock = kept_from 0 position.magazines in
       slots-written caller limit more operations results position walks moment (length kept + r) held block
       (slot-held kept position.base.registers r ∙ full) live
 
@@ -443,7 +415,7 @@ module _ (g : Geometry) (history : List Event) (lost depth : ℕ) (lanes : List 
               let none : get_or lanes lane [] ≡ [] = get_or_past lanes lane [] past in
               absurd (omega (arith, ap length (sym none ∙ operations_are), length-append earlier (operation ∷ later)))
         ] in
-        let fits = (lane-of lane below).1 in
+        let fits = (cached-lane g history lost depth lanes outcomes hits fit.lanes_fit lane below).1 in
         let walks : CachedWalks here depth cached_start (earlier ++ operation ∷ later) (results ++ result ∷ more) fits.end =
         subst (λ rs. CachedWalks here depth cached_start (earlier ++ operation ∷ later) rs fits.end) results_are
         (subst (λ ops. CachedWalks here depth cached_start ops (get_or outcomes lane []) fits.end) operations_are fits.walks) in

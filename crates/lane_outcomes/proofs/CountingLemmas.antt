@@ -4,11 +4,10 @@ use Rattle.std.proofs.lemmas.List.{drop_more}
 use Rattle.std.proofs.Math.ListN.{drop_of_length-le}
 use Rattle.trace_text.specs.declared.limits.TheConstants.{REGISTERS}
 use Rattle.trace_text.specs.declared.trace.Op.{Op}
-use Rattle.lane_outcomes.specs.declared.registers.Held.{Held}
+use Rattle.lane_outcomes.specs.declared.registers.HeldBlock.{HeldBlock}
 use Rattle.lane_outcomes.specs.declared.outcome.Outcome.{Outcome}
 use Rattle.lane_outcomes.specs.declared.live.Amount.{Amount}
-use Rattle.lane_outcomes.specs.Lane.{registers_after}
-use Rattle.lane_outcomes.specs.LaneCounts.{words_given, words_freed, count_with, lane_given, lane_freed, lanes_given, lanes_freed, GrowsBy}
+use Rattle.lane_outcomes.specs.LaneCounts.{lane_given, lane_freed, lanes_given, lanes_freed, GrowsBy}
 
 -- what is counted so far, with what is left, makes the whole
 pub record IsCounting (start now : Amount) (blocks_left words_left blocks words : ℕ) : Type 0 where
@@ -46,30 +45,12 @@ counting-end start now blocks_left words_left blocks words so_far no_blocks no_w
       words_grow = remain-end now.words words_left _ _ no_words so_far.words_remain;
     }
 
--- what a lane is given from an operation on: what that one is given, and what the others are
-pub lane_given-drop :
-    (f : ℕ → ℕ) (operations : List Op) (results : List Outcome) (k : ℕ) (operation : Op) (result : Outcome)
-    → k < length operations → k < length results → operation ≡ get_or operations k operation → result ≡ get_or results k result
-    → lane_given f (drop k operations) (drop k results)
-    ≡ count_with f (words_given operation result) + lane_given f (drop (k + 1) operations) (drop (k + 1) results)
-lane_given-drop f operations results k operation result within inside op_is result_is =
-    rw (drop_more operations k operation within, drop_more results k result inside, ← op_is, ← result_is) refl
-
-pub lane_freed-drop :
-    (f : ℕ → ℕ) (registers : List (Option Held)) (operations : List Op) (results : List Outcome) (k : ℕ) (operation : Op) (result : Outcome)
-    → k < length operations → k < length results → operation ≡ get_or operations k operation → result ≡ get_or results k result
-    → lane_freed f registers (drop k operations) (drop k results)
-    ≡ count_with f (words_freed registers operation result)
-    + lane_freed f (registers_after registers operation result) (drop (k + 1) operations) (drop (k + 1) results)
-lane_freed-drop f registers operations results k operation result within inside op_is result_is =
-    rw (drop_more operations k operation within, drop_more results k result inside, ← op_is, ← result_is) refl
-
 -- nothing is given where the operations or the outcomes are at their end
 lane_given-none : (f : ℕ → ℕ) (operations : List Op) → lane_given f operations [] ≡ 0
 lane_given-none f [] = refl
 lane_given-none f (operation ∷ operations) = refl
 
-lane_freed-none : (f : ℕ → ℕ) (registers : List (Option Held)) (operations : List Op) → lane_freed f registers operations [] ≡ 0
+lane_freed-none : (f : ℕ → ℕ) (registers : List (Option HeldBlock)) (operations : List Op) → lane_freed f registers operations [] ≡ 0
 lane_freed-none f registers [] = refl
 lane_freed-none f registers (operation ∷ operations) = refl
 
@@ -77,17 +58,9 @@ pub lane_given-past : (f : ℕ → ℕ) (operations : List Op) (results : List O
 lane_given-past f operations results k past = rw (drop_of_length-le results past) (lane_given-none f (drop k operations))
 
 pub lane_freed-past :
-    (f : ℕ → ℕ) (registers : List (Option Held)) (operations : List Op) (results : List Outcome) (k : ℕ) → length results ≤ k
+    (f : ℕ → ℕ) (registers : List (Option HeldBlock)) (operations : List Op) (results : List Outcome) (k : ℕ) → length results ≤ k
     → lane_freed f registers (drop k operations) (drop k results) ≡ 0
 lane_freed-past f registers operations results k past = rw (drop_of_length-le results past) (lane_freed-none f registers (drop k operations))
-
-pub lane_given-over : (f : ℕ → ℕ) (operations : List Op) (results : List Outcome) (k : ℕ) → length operations ≤ k → lane_given f (drop k operations) (drop k results) ≡ 0
-lane_given-over f operations results k past = rw (drop_of_length-le operations past) refl
-
-pub lane_freed-over :
-    (f : ℕ → ℕ) (registers : List (Option Held)) (operations : List Op) (results : List Outcome) (k : ℕ) → length operations ≤ k
-    → lane_freed f registers (drop k operations) (drop k results) ≡ 0
-lane_freed-over f registers operations results k past = rw (drop_of_length-le operations past) refl
 
 -- what lanes are given from one on: what that one is given, and what the others are
 pub lanes_given-drop :

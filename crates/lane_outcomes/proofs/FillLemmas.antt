@@ -6,7 +6,7 @@ use Rattle.pool_model.specs.declared.event.Event.{Event}
 use Rattle.pool_model.specs.declared.event.Event.TheVariants.{Write}
 use Rattle.pool_model.specs.Pool.{Pool, block_at, pool_after, written}
 use Rattle.pool_model.proofs.PoolLemmas.{block_at-changed_other, block_at-changed_same}
-use Rattle.lane_outcomes.specs.declared.registers.Held.{Held}
+use Rattle.lane_outcomes.specs.declared.registers.HeldBlock.{HeldBlock}
 use Rattle.lane_outcomes.specs.Standing.{OwnsHeld}
 
 -- writes of words from `first` on, each with its value
@@ -19,7 +19,7 @@ writes caller place v first count = writes_of caller place (λ i. (v + i) % 2 ^ 
 
 -- a caller's block is still its own after a write of some block, and has as many words
 pub owns-written :
-    (pool : Pool) (caller : ℕ) (held : Held) (writer place i v : ℕ) → OwnsHeld pool caller held
+    (pool : Pool) (caller : ℕ) (held : HeldBlock) (writer place i v : ℕ) → OwnsHeld pool caller held
     → OwnsHeld (pool_after pool (Write writer place i v)) caller held
 owns-written pool caller held writer place i v h =
     elim (cases_eq held.place place) [

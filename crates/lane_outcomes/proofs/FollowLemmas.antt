@@ -1,5 +1,5 @@
 -- A lane's registers at the moments of a history, other callers' events between its own.
-use Rattle.std.proofs.Common.{ℕ, true, eqb, ◌≡◌, ◌+◌, List, [], ◌∷◌, ◌++◌, Option, refl, sym, ◌∙◌, ap, subst, inl, inr, arith, eq-eqb, append_assoc, append-nil}
+use Rattle.std.proofs.Common.{ℕ, replicate, None, true, eqb, ◌≡◌, ◌+◌, List, [], ◌∷◌, ◌++◌, Option, refl, sym, ◌∙◌, ap, subst, inl, inr, arith, eq-eqb, append_assoc, append-nil}
 use Rattle.std.specs.List.{AllByRecursion}
 use Rattle.std.proofs.lemmas.Bool.{cases_Bool}
 use Rattle.heap_geometry.specs.declared.geometry.Geometry.{Geometry}
@@ -10,21 +10,23 @@ use Rattle.pool_model.specs.Pool.{pool_of}
 use Rattle.pool_model.specs.Legal.{IsLegalWithoutCounts, IsLegalEventWithoutCounts}
 use Rattle.pool_model.proofs.HistoryLemmas.{own-append, pool_of-push, push-append, EachAfter-cut}
 use Rattle.pool_model.proofs.OwnerLemmas.{others-keep_all}
-use Rattle.lane_outcomes.specs.declared.registers.Held.{Held}
+use Rattle.trace_text.specs.declared.limits.TheConstants.{REGISTERS}
+use Rattle.lane_outcomes.specs.declared.registers.HeldBlock.{HeldBlock}
 use Rattle.lane_outcomes.specs.Standing.{HoldsOwn}
 use Rattle.lane_outcomes.proofs.FillLemmas.{owns-written}
-use Rattle.lane_outcomes.proofs.HoldLemmas.{holds-still}
+use Rattle.lane_outcomes.specs.Rows.{Setting}
+use Rattle.lane_outcomes.proofs.HoldLemmas.{holds-nothing, holds-still}
 use Rattle.lane_outcomes.proofs.TallyLemmas.{tally, of_caller, tally-append, tally-none, tally-own}
 use Rattle.lane_outcomes.proofs.MeasureLemmas.{give_at, free_at}
 
 -- a lane's registers follow a history: they hold the lane's blocks, and its events gave and freed so much
-pub record Follows (f : ℕ → ℕ) (caller : ℕ) (before : List Event) (registers : List (Option Held)) (given freed : ℕ) : Type 0 where
+pub record Follows (f : ℕ → ℕ) (caller : ℕ) (before : List Event) (registers : List (Option HeldBlock)) (given freed : ℕ) : Type 0 where
   pub holds : HoldsOwn (pool_of before) caller registers
   pub given_is : tally (of_caller caller (give_at f)) [] before ≡ given
   pub freed_is : tally (of_caller caller (free_at f)) [] before ≡ freed
 
 -- a lane's registers follow a history at each of its moments at which these are the lane's events
-abbrev pub FollowsAt : (ℕ → ℕ) → List Event → ℕ → List Event → List (Option Held) → ℕ → ℕ → Type 0
+abbrev pub FollowsAt : (ℕ → ℕ) → List Event → ℕ → List Event → List (Option HeldBlock) → ℕ → ℕ → Type 0
 FollowsAt f history caller done registers given freed =
     (before : List Event) → Begins before history → own caller before ≡ done → Follows f caller before registers given freed
 
@@ -123,7 +125,7 @@ same-moment caller event (first ∷ front) (second ∷ other) back rest hers who
 
 -- events of other callers leave registers that follow a history
 follows-others :
-    (f : ℕ → ℕ) (g : Geometry) (caller : ℕ) (before rest : List Event) (registers : List (Option Held)) (given freed : ℕ)
+    (f : ℕ → ℕ) (g : Geometry) (caller : ℕ) (before rest : List Event) (registers : List (Option HeldBlock)) (given freed : ℕ)
     → IsLegalWithoutCounts g (before ++ rest) → own caller rest ≡ [] → Follows f caller before registers given freed
     → Follows f caller (before ++ rest) registers given freed
 follows-others f g caller before rest registers given freed legal none h =
@@ -146,13 +148,13 @@ follows-others f g caller before rest registers given freed legal none h =
     }
 
 -- what an event of the lane makes of its registers, of what it was given and of what it freed
-pub record Steps (f : ℕ → ℕ) (caller : ℕ) (before : List Event) (event : Event) (after : List (Option Held)) (given freed given_after freed_after : ℕ) : Type 0 where
+pub record Steps (f : ℕ → ℕ) (caller : ℕ) (before : List Event) (event : Event) (after : List (Option HeldBlock)) (given freed given_after freed_after : ℕ) : Type 0 where
   pub holds : HoldsOwn (pool_of (before ++ event ∷ [])) caller after
   pub given_is : given_after ≡ given + give_at f (pool_of before) event
   pub freed_is : freed_after ≡ freed + free_at f (pool_of before) event
 
 follows-step :
-    (f : ℕ → ℕ) (caller : ℕ) (before : List Event) (event : Event) (registers after : List (Option Held)) (given freed given_after freed_after : ℕ)
+    (f : ℕ → ℕ) (caller : ℕ) (before : List Event) (event : Event) (registers after : List (Option HeldBlock)) (given freed given_after freed_after : ℕ)
     → caller_of event ≡ caller → Steps f caller before event after given freed given_after freed_after
     → Follows f caller before registers given freed → Follows f caller (before ++ event ∷ []) after given_after freed_after
 follows-step f caller before event registers after given freed given_after freed_after hers step h =
@@ -168,7 +170,7 @@ follows-step f caller before event registers after given freed given_after freed
 
 -- a lane's registers that follow a history go on by an event of its own
 pub at-step :
-    (f : ℕ → ℕ) (g : Geometry) (history : List Event) (caller : ℕ) (done : List Event) (event : Event) (registers after : List (Option Held))
+    (f : ℕ → ℕ) (g : Geometry) (history : List Event) (caller : ℕ) (done : List Event) (event : Event) (registers after : List (Option HeldBlock))
     (given freed given_after freed_after : ℕ) → IsLegalWithoutCounts g history → caller_of event ≡ caller
     → ((before : List Event) → IsLegalWithoutCounts g (before ++ event ∷ []) → Begins (before ++ event ∷ []) history → own caller before ≡ done
     → HoldsOwn (pool_of before) caller registers → Steps f caller before event after given freed given_after freed_after)
@@ -191,7 +193,7 @@ at-step f g history caller done event registers after given freed given_after fr
 
 -- a lane's registers that follow a history do so with equal events and numbers
 pub at-as :
-    (f : ℕ → ℕ) (history : List Event) (caller : ℕ) (done others : List Event) (registers : List (Option Held)) (given freed given_too freed_too : ℕ)
+    (f : ℕ → ℕ) (history : List Event) (caller : ℕ) (done others : List Event) (registers : List (Option HeldBlock)) (given freed given_too freed_too : ℕ)
     → done ≡ others → given ≡ given_too → freed ≡ freed_too → FollowsAt f history caller done registers given freed
     → FollowsAt f history caller others registers given_too freed_too
 at-as f history caller done others registers given freed given_too freed_too same given_same freed_same at before begins own_is =
@@ -220,7 +222,7 @@ still-own caller (Take other shelf place) still = absurd still
 still-own caller (TakeNone other shelf) still = still
 
 still-holds :
-    (caller : ℕ) (before : List Event) (event : Event) (registers : List (Option Held)) → IsStill caller event → HoldsOwn (pool_of before) caller registers
+    (caller : ℕ) (before : List Event) (event : Event) (registers : List (Option HeldBlock)) → IsStill caller event → HoldsOwn (pool_of before) caller registers
     → HoldsOwn (pool_of (before ++ event ∷ [])) caller registers
 still-holds caller before (Alloc other need place) registers still h = absurd still
 still-holds caller before (Looked other class) registers still h = rw (pool_of-push before (Looked other class)) h
@@ -243,7 +245,7 @@ still-frees f caller before event still = refl
 
 -- a lane's registers follow a history over events that give no block, free none and hand none over
 pub at-stills :
-    (f : ℕ → ℕ) (g : Geometry) (history : List Event) (caller : ℕ) (done events : List Event) (registers : List (Option Held)) (given freed : ℕ)
+    (f : ℕ → ℕ) (g : Geometry) (history : List Event) (caller : ℕ) (done events : List Event) (registers : List (Option HeldBlock)) (given freed : ℕ)
     → IsLegalWithoutCounts g history → AllByRecursion (IsStill caller) events → FollowsAt f history caller done registers given freed
     → FollowsAt f history caller (done ++ events) registers given freed
 at-stills f g history caller done [] registers given freed legal stills at =
@@ -258,3 +260,12 @@ at-stills f g history caller done (event ∷ events) registers given freed legal
       given_is = omega (arith, still-gives f caller before event stills.0);
       freed_is = omega (arith, still-frees f caller before event stills.0);
     }) at))
+
+-- empty registers follow a history before the lane's first event
+pub at-start : (f : ℕ → ℕ) (setting : Setting) → FollowsAt f setting.history setting.caller [] (replicate REGISTERS None) 0 0
+at-start f setting =
+    λ before begins own_is. record {
+      holds = holds-nothing (pool_of before) setting.caller REGISTERS;
+      given_is = tally-none (give_at f) setting.caller [] before own_is;
+      freed_is = tally-none (free_at f) setting.caller [] before own_is;
+    }

@@ -15,13 +15,13 @@ use Rattle.pool_model.specs.Legal.{IsLegalWithoutCounts}
 use Rattle.pool_model.proofs.HistoryLemmas.{pool_of-push}
 use Rattle.pool_model.proofs.PoolLemmas.{block_at-here, block_at-past, block_at-without_other, block_at-changed_other, block_at-changed_same, place-found, every-found, Differ, Pairs}
 use Rattle.pool_model.proofs.WellFormedLemmas.{sound-differ, sound-of}
-use Rattle.lane_outcomes.specs.declared.registers.Held.{Held}
+use Rattle.lane_outcomes.specs.declared.registers.HeldBlock.{HeldBlock}
 use Rattle.lane_outcomes.specs.Lane.{held_in}
 use Rattle.lane_outcomes.specs.Standing.{OwnsHeld, HoldsOwn}
 
 -- a register that is set holds what it was set to, and the others hold what they held
 pub held-set :
-    (registers : List (Option Held)) (r q : ℕ) (held : Option Held) → r < length registers
+    (registers : List (Option HeldBlock)) (r q : ℕ) (held : Option HeldBlock) → r < length registers
     → ((q ≡ r) × (held_in (slice_set registers r held) q ≡ held)) ⊎ ((q ≢ r) × (held_in (slice_set registers r held) q ≡ held_in registers q))
 held-set registers r q held within =
     elim (cases_eq q r) [
@@ -57,7 +57,7 @@ owns-fresh history caller need place words is =
 
 -- a block at another place is still owned after an allocation, after a free, and after a block was handed over
 pub owns-past :
-    (history : List Event) (caller : ℕ) (held : Held) (giver need place : ℕ) → held.place ≢ place → OwnsHeld (pool_of history) caller held
+    (history : List Event) (caller : ℕ) (held : HeldBlock) (giver need place : ℕ) → held.place ≢ place → OwnsHeld (pool_of history) caller held
     → OwnsHeld (pool_of (history ++ Alloc giver need place ∷ [])) caller held
 owns-past history caller held giver need place differ h =
     record {
@@ -71,7 +71,7 @@ owns-past history caller held giver need place differ h =
     }
 
 pub owns-freed :
-    (history : List Event) (caller : ℕ) (held : Held) (giver place : ℕ) → held.place ≢ place → OwnsHeld (pool_of history) caller held
+    (history : List Event) (caller : ℕ) (held : HeldBlock) (giver place : ℕ) → held.place ≢ place → OwnsHeld (pool_of history) caller held
     → OwnsHeld (pool_of (history ++ Free giver place ∷ [])) caller held
 owns-freed history caller held giver place differ h =
     record {
@@ -84,7 +84,7 @@ owns-freed history caller held giver place differ h =
     }
 
 pub owns-handed :
-    (pool : Pool) (caller : ℕ) (held : Held) (place : ℕ) (to : Owner) → held.place ≢ place → OwnsHeld pool caller held
+    (pool : Pool) (caller : ℕ) (held : HeldBlock) (place : ℕ) (to : Owner) → held.place ≢ place → OwnsHeld pool caller held
     → OwnsHeld (with_changed place (handed_to to) pool) caller held
 owns-handed pool caller held place to differ h =
     record {
@@ -96,7 +96,7 @@ owns-handed pool caller held place to differ h =
     }
 
 -- a block as a register's
-abbrev pub held_of : ℕ → Block → Held
+abbrev pub held_of : ℕ → Block → HeldBlock
 held_of place block = record { place = place; words = usable_words block.need; need = block.need }
 
 -- the caller owns the block that it took from a shelf
@@ -115,9 +115,9 @@ owns-taken history caller shelf place block live =
     }
 
 -- no two registers hold the same block
-abbrev pub HoldsOnce : List (Option Held) → Type 0
+abbrev pub HoldsOnce : List (Option HeldBlock) → Type 0
 HoldsOnce registers =
-    (r q : ℕ) (held other : Held) → held_in registers r ≡ Some held → held_in registers q ≡ Some other → r ≢ q
+    (r q : ℕ) (held other : HeldBlock) → held_in registers r ≡ Some held → held_in registers q ≡ Some other → r ≢ q
     → held.place ≢ other.place
 
 -- empty registers hold nothing
@@ -135,34 +135,34 @@ holds-nothing pool caller n =
 
 -- registers hold the caller's blocks when one of them is set to another block of the caller's
 holds-inside :
-    (pool : Pool) (caller r : ℕ) (new : Held) (registers : List (Option Held)) → r < length registers
+    (pool : Pool) (caller r : ℕ) (new : HeldBlock) (registers : List (Option HeldBlock)) → r < length registers
     → OwnsHeld pool caller new
-    → ((q : ℕ) (held : Held) → held_in registers q ≡ Some held → (held.place ≢ new.place) × OwnsHeld pool caller held)
+    → ((q : ℕ) (held : HeldBlock) → held_in registers q ≡ Some held → (held.place ≢ new.place) × OwnsHeld pool caller held)
     → HoldsOnce registers → HoldsOwn pool caller (slice_set registers r (Some new))
 holds-inside pool caller r new registers within owns others once =
     record {
       owned = λ q held eq. elim (held-set registers r q (Some new) within) [
         | inl here ↦ let same : new ≡ held = let e : Some new ≡ Some held = sym here.1 ∙ eq in cc in
-            subst (λ (x : Held). OwnsHeld pool caller x) same owns
+            subst (λ (x : HeldBlock). OwnsHeld pool caller x) same owns
         | inr there ↦ (others q held (sym there.1 ∙ eq)).1
       ];
       once = λ p q held other at_p at_q differ. elim (held-set registers r p (Some new) within) [
         | inl here ↦ elim (held-set registers r q (Some new) within) [
           | inl also ↦ absurd (differ (here.0 ∙ sym also.0))
           | inr there ↦ let same : new ≡ held = let e : Some new ≡ Some held = sym here.1 ∙ at_p in cc in
-              λ e. (others q other (sym there.1 ∙ at_q)).0 (sym e ∙ sym (ap (λ (x : Held). x.place) same))
+              λ e. (others q other (sym there.1 ∙ at_q)).0 (sym e ∙ sym (ap (λ (x : HeldBlock). x.place) same))
         ]
         | inr there ↦ elim (held-set registers r q (Some new) within) [
           | inl here ↦ let same : new ≡ other = let e : Some new ≡ Some other = sym here.1 ∙ at_q in cc in
-              λ e. (others p held (sym there.1 ∙ at_p)).0 (e ∙ sym (ap (λ (x : Held). x.place) same))
+              λ e. (others p held (sym there.1 ∙ at_p)).0 (e ∙ sym (ap (λ (x : HeldBlock). x.place) same))
           | inr also ↦ once p q held other (sym there.1 ∙ at_p) (sym also.1 ∙ at_q) differ
         ]
       ];
     }
 
 pub holds-set :
-    (pool : Pool) (caller r : ℕ) (new : Held) (registers : List (Option Held)) → OwnsHeld pool caller new
-    → ((q : ℕ) (held : Held) → held_in registers q ≡ Some held → (held.place ≢ new.place) × OwnsHeld pool caller held)
+    (pool : Pool) (caller r : ℕ) (new : HeldBlock) (registers : List (Option HeldBlock)) → OwnsHeld pool caller new
+    → ((q : ℕ) (held : HeldBlock) → held_in registers q ≡ Some held → (held.place ≢ new.place) × OwnsHeld pool caller held)
     → HoldsOnce registers → HoldsOwn pool caller (slice_set registers r (Some new))
 holds-set pool caller r new registers owns others once =
     elim (cases_lt r (length registers)) [
@@ -173,7 +173,7 @@ holds-set pool caller r new registers owns others once =
     ]
 
 -- a register that holds a block is there
-pub held-inside : (registers : List (Option Held)) (r : ℕ) (held : Held) → held_in registers r ≡ Some held → r < length registers
+pub held-inside : (registers : List (Option HeldBlock)) (r : ℕ) (held : HeldBlock) → held_in registers r ≡ Some held → r < length registers
 held-inside registers r held full =
     elim (cases_lt r (length registers)) [
       | inl within ↦ within
@@ -182,8 +182,8 @@ held-inside registers r held full =
 
 -- registers hold the caller's blocks when one of them is emptied
 pub holds-emptied :
-    (pool : Pool) (caller r : ℕ) (registers : List (Option Held)) → r < length registers
-    → ((q : ℕ) (held : Held) → q ≢ r → held_in registers q ≡ Some held → OwnsHeld pool caller held)
+    (pool : Pool) (caller r : ℕ) (registers : List (Option HeldBlock)) → r < length registers
+    → ((q : ℕ) (held : HeldBlock) → q ≢ r → held_in registers q ≡ Some held → OwnsHeld pool caller held)
     → HoldsOnce registers → HoldsOwn pool caller (slice_set registers r None)
 holds-emptied pool caller r registers within others once =
     record {
@@ -202,15 +202,15 @@ holds-emptied pool caller r registers within others once =
 
 -- blocks that stay the caller's are held as before
 pub holds-still :
-    (old new : Pool) (caller : ℕ) (registers : List (Option Held))
-    → ((held : Held) → OwnsHeld old caller held → OwnsHeld new caller held)
+    (old new : Pool) (caller : ℕ) (registers : List (Option HeldBlock))
+    → ((held : HeldBlock) → OwnsHeld old caller held → OwnsHeld new caller held)
     → HoldsOwn old caller registers → HoldsOwn new caller registers
 holds-still old new caller registers keep h =
     record { owned = λ r held eq. keep held (h.owned r held eq); once = h.once }
 
 -- after an allocation, the registers hold the caller's blocks, the new one among them
 pub holds-fresh :
-    (g : Geometry) (history : List Event) (caller need place words r : ℕ) (registers : List (Option Held))
+    (g : Geometry) (history : List Event) (caller need place words r : ℕ) (registers : List (Option HeldBlock))
     → IsLegalWithoutCounts g (history ++ Alloc caller need place ∷ []) → words ≡ usable_words (need_of need)
     → HoldsOwn (pool_of history) caller registers
     → HoldsOwn (pool_of (history ++ Alloc caller need place ∷ [])) caller
@@ -226,7 +226,7 @@ holds-fresh g history caller need place words r registers legal is h =
 
 -- after a free, the other registers hold the caller's blocks
 pub holds-freed :
-    (history : List Event) (caller r : ℕ) (freed : Held) (registers : List (Option Held))
+    (history : List Event) (caller r : ℕ) (freed : HeldBlock) (registers : List (Option HeldBlock))
     → held_in registers r ≡ Some freed → HoldsOwn (pool_of history) caller registers
     → HoldsOwn (pool_of (history ++ Free caller freed.place ∷ [])) caller (slice_set registers r None)
 holds-freed history caller r freed registers holds h =
@@ -237,7 +237,7 @@ holds-freed history caller r freed registers holds h =
 
 -- after a put, the other registers hold the caller's blocks
 pub holds-put :
-    (history : List Event) (caller r shelf : ℕ) (held : Held) (registers : List (Option Held))
+    (history : List Event) (caller r shelf : ℕ) (held : HeldBlock) (registers : List (Option HeldBlock))
     → held_in registers r ≡ Some held → HoldsOwn (pool_of history) caller registers
     → HoldsOwn (pool_of (history ++ Put caller held.place shelf ∷ [])) caller (slice_set registers r None)
 holds-put history caller r shelf held registers holds h =
@@ -249,7 +249,7 @@ holds-put history caller r shelf held registers holds h =
 
 -- after a take, the registers hold the caller's blocks, the one taken among them
 pub holds-taken :
-    (history : List Event) (caller r shelf place : ℕ) (block : Block) (registers : List (Option Held))
+    (history : List Event) (caller r shelf place : ℕ) (block : Block) (registers : List (Option HeldBlock))
     → Owns (pool_of history) (Shelf shelf) place → block_at place (pool_of history) ≡ Some block → HoldsOwn (pool_of history) caller registers
     → HoldsOwn (pool_of (history ++ Take caller shelf place ∷ [])) caller (slice_set registers r (Some (held_of place block)))
 holds-taken history caller r shelf place block registers shelved live h =
@@ -267,7 +267,7 @@ holds-taken history caller r shelf place block registers shelved live h =
 
 -- the caller's blocks are still its own after an allocation
 pub holds-beside :
-    (g : Geometry) (history : List Event) (caller need place : ℕ) (registers : List (Option Held))
+    (g : Geometry) (history : List Event) (caller need place : ℕ) (registers : List (Option HeldBlock))
     → IsLegalWithoutCounts g (history ++ Alloc caller need place ∷ []) → HoldsOwn (pool_of history) caller registers
     → HoldsOwn (pool_of (history ++ Alloc caller need place ∷ [])) caller registers
 holds-beside g history caller need place registers legal h =
@@ -278,9 +278,9 @@ holds-beside g history caller need place registers legal h =
 
 -- a block with another need than the one that a register holds lies elsewhere, and so do those of the other registers
 pub held-apart :
-    (pool : Pool) (caller r : ℕ) (new held : Held) (registers : List (Option Held)) → held_in registers r ≡ Some held → new.need ≢ held.need
+    (pool : Pool) (caller r : ℕ) (new held : HeldBlock) (registers : List (Option HeldBlock)) → held_in registers r ≡ Some held → new.need ≢ held.need
     → HoldsOwn pool caller registers → HoldsOwn pool caller (slice_set registers r (Some new))
-    → (q : ℕ) (other : Held) → held_in (slice_set registers r (Some new)) q ≡ Some other → other.place ≢ held.place
+    → (q : ℕ) (other : HeldBlock) → held_in (slice_set registers r (Some new)) q ≡ Some other → other.place ≢ held.place
 held-apart pool caller r new held registers full differ old now q other there =
     elim (held-set registers r q (Some new) (held-inside registers r held full)) [
       | inl here ↦
@@ -290,6 +290,6 @@ held-apart pool caller r new held registers full differ old now q other there =
           λ e.
           let blocks : owns.block ≡ kept.block =
           let both : Some owns.block ≡ Some kept.block = sym owns.live ∙ ap (λ (p : ℕ). block_at p pool) e ∙ kept.live in cc in
-          differ (ap (λ (h : Held). h.need) same ∙ owns.need_is ∙ ap (λ (b : Block). b.need) blocks ∙ sym kept.need_is)
+          differ (ap (λ (h : HeldBlock). h.need) same ∙ owns.need_is ∙ ap (λ (b : Block). b.need) blocks ∙ sym kept.need_is)
       | inr past ↦ λ e. old.once r q held other full (sym past.1 ∙ there) (λ s. past.0 (sym s)) (sym e)
     ]

@@ -16,7 +16,7 @@ use Rattle.pool_model.specs.WellFormed.{IsWellFormed}
 use Rattle.pool_model.proofs.HistoryLemmas.{EachAfter-cut, push-append}
 use Rattle.pool_model.proofs.PoolLemmas.{every-found}
 use Rattle.pool_model.proofs.WellFormedLemmas.{sound-of}
-use Rattle.lane_outcomes.specs.declared.registers.Held.{Held}
+use Rattle.lane_outcomes.specs.declared.registers.HeldBlock.{HeldBlock}
 use Rattle.lane_outcomes.specs.Lane.{Position, held_in, writing}
 use Rattle.lane_outcomes.specs.Rows.{Setting}
 use Rattle.lane_outcomes.specs.Standing.{OwnsHeld, HoldsOwn}
@@ -30,12 +30,12 @@ use Rattle.lane_outcomes.proofs.KeptLemmas.{block_for, freeing_all, kept-freed, 
 use Rattle.lane_outcomes.proofs.SlotLemmas.{holds-lifted, holds-reordered, holds-rest, holds-served, slot-set, slots}
 
 -- what blocks count, where one of so many words counts as `f` says
-abbrev pub amount : (ℕ → ℕ) → List Held → ℕ
+abbrev pub amount : (ℕ → ℕ) → List HeldBlock → ℕ
 amount f kept = sum_by (λ held. f held.words) kept
 
 -- the lane keeps these blocks beside its registers. By its outcomes it was given and has freed so much: as much as by its events, but that what it keeps
 -- is freed by no event yet
-pub record KeepsAt (f : ℕ → ℕ) (history : List Event) (caller : ℕ) (done : List Event) (kept : List Held) (registers : List (Option Held)) (got gone : ℕ) : Type 0 where
+pub record KeepsAt (f : ℕ → ℕ) (history : List Event) (caller : ℕ) (done : List Event) (kept : List HeldBlock) (registers : List (Option HeldBlock)) (got gone : ℕ) : Type 0 where
   pub given : ℕ
   pub freed : ℕ
   pub at : FollowsAt f history caller done (slots kept registers) given freed
@@ -56,7 +56,7 @@ moment-earlier history caller done (event ∷ piece) before begins own_is =
 
 -- a lane that keeps blocks goes on by a piece of events, and its balance with it
 pub keeps-on :
-    (f : ℕ → ℕ) (history : List Event) (caller : ℕ) (done piece : List Event) (kept others : List Held) (registers after : List (Option Held))
+    (f : ℕ → ℕ) (history : List Event) (caller : ℕ) (done piece : List Event) (kept others : List HeldBlock) (registers after : List (Option HeldBlock))
     (got gone got_after gone_after given freed : ℕ) (keeps : KeepsAt f history caller done kept registers got gone)
     → FollowsAt f history caller (done ++ piece) (slots others after) given freed
     → (keeps.given + gone ≡ got + keeps.freed + amount f kept → given + gone_after ≡ got_after + freed + amount f others)
@@ -73,7 +73,7 @@ keeps-on f history caller done piece kept others registers after got gone got_af
 
 -- blocks that a lane holds or keeps change places without an event
 keeps-moved :
-    (f : ℕ → ℕ) (history : List Event) (caller : ℕ) (done : List Event) (kept others : List Held) (registers after : List (Option Held))
+    (f : ℕ → ℕ) (history : List Event) (caller : ℕ) (done : List Event) (kept others : List HeldBlock) (registers after : List (Option HeldBlock))
     (got gone got_after gone_after : ℕ) (keeps : KeepsAt f history caller done kept registers got gone)
     → ((pool : Pool) → HoldsOwn pool caller (slots kept registers) → HoldsOwn pool caller (slots others after))
     → (keeps.given + gone ≡ got + keeps.freed + amount f kept → keeps.given + gone_after ≡ got_after + keeps.freed + amount f others)
@@ -90,30 +90,30 @@ keeps-moved f history caller done kept others registers after got gone got_after
 
 -- a register's block that the lane frees is kept first
 pub keeps-lifted :
-    (f : ℕ → ℕ) (history : List Event) (caller : ℕ) (done : List Event) (r : ℕ) (held : Held) (kept : List Held) (registers : List (Option Held))
+    (f : ℕ → ℕ) (history : List Event) (caller : ℕ) (done : List Event) (r : ℕ) (held : HeldBlock) (kept : List HeldBlock) (registers : List (Option HeldBlock))
     (got gone : ℕ) → held_in registers r ≡ Some held → KeepsAt f history caller done kept registers got gone
     → KeepsAt f history caller done (held ∷ kept) (set registers r None) got (gone + f held.words)
 keeps-lifted f history caller done r held kept registers got gone full keeps =
-    let more = sum_by-cons (λ (h : Held). f h.words) held kept in
+    let more = sum_by-cons (λ (h : HeldBlock). f h.words) held kept in
     keeps-moved f history caller done kept (held ∷ kept) registers (set registers r None) got gone got (gone + f held.words) keeps
     (λ pool. holds-lifted pool caller r held kept registers full)
     (λ balance. omega (arith, balance, more))
 
 -- the lane is given a block that it kept
 pub keeps-served :
-    (f : ℕ → ℕ) (history : List Event) (caller : ℕ) (done : List Event) (r : ℕ) (new : Held) (kept others : List Held) (registers : List (Option Held))
+    (f : ℕ → ℕ) (history : List Event) (caller : ℕ) (done : List Event) (r : ℕ) (new : HeldBlock) (kept others : List HeldBlock) (registers : List (Option HeldBlock))
     (got gone : ℕ) → IsPermutation kept (new ∷ others) → KeepsAt f history caller done kept registers got gone
     → KeepsAt f history caller done others (set registers r (Some new)) (got + f new.words) gone
 keeps-served f history caller done r new kept others registers got gone shuffled keeps =
-    let same = sum_by-IsPermutation (λ (h : Held). f h.words) kept (new ∷ others) shuffled in
-    let more = sum_by-cons (λ (h : Held). f h.words) new others in
+    let same = sum_by-IsPermutation (λ (h : HeldBlock). f h.words) kept (new ∷ others) shuffled in
+    let more = sum_by-cons (λ (h : HeldBlock). f h.words) new others in
     keeps-moved f history caller done kept others registers (set registers r (Some new)) got gone (got + f new.words) gone keeps
     (λ pool holds. holds-served pool caller r new others registers (holds-reordered pool caller kept (new ∷ others) registers shuffled holds))
     (λ balance. omega (arith, balance, same, more))
 
 -- events that give no block, free none and hand none over leave what a lane keeps
 pub keeps-stills :
-    (f : ℕ → ℕ) (g : Geometry) (history : List Event) (caller : ℕ) (done events : List Event) (kept : List Held) (registers : List (Option Held)) (got gone : ℕ)
+    (f : ℕ → ℕ) (g : Geometry) (history : List Event) (caller : ℕ) (done events : List Event) (kept : List HeldBlock) (registers : List (Option HeldBlock)) (got gone : ℕ)
     → IsLegalWithoutCounts g history → AllByRecursion (IsStill caller) events → KeepsAt f history caller done kept registers got gone
     → KeepsAt f history caller (done ++ events) kept registers got gone
 keeps-stills f g history caller done events kept registers got gone legal stills keeps =
@@ -123,14 +123,14 @@ keeps-stills f g history caller done events kept registers got gone legal stills
 -- the heap gives a lane that keeps blocks another one, and it is written
 pub keeps-given :
     (f : ℕ → ℕ) (g : Geometry) (setting : Setting) (done : List Event) (r need words place : ℕ) (value : ℕ → ℕ) (calls piece : List Event)
-    (kept : List Held) (registers : List (Option Held)) (got gone : ℕ)
+    (kept : List HeldBlock) (registers : List (Option HeldBlock)) (got gone : ℕ)
     → IsLegalWithoutCounts g setting.history → words ≡ usable_words (need_of need) → IsGiven setting.caller need place calls
     → piece ≡ calls ++ writing setting.caller place words value → KeepsAt f setting.history setting.caller done kept registers got gone
     → KeepsAt f setting.history setting.caller (done ++ piece) kept
     (set registers r (Some (record { place = place; words = words; need = need_of need }))) (got + f words) gone
 keeps-given f g setting done r need words place value calls piece kept registers got gone legal words_are given piece_is keeps =
     let wide : Position = record { registers = slots kept registers; done = done; answered = 0; spent = false } in
-    let new : Held = record { place = place; words = words; need = need_of need } in
+    let new : HeldBlock = record { place = place; words = words; need = need_of need } in
     keeps-on f setting.history setting.caller done piece kept kept registers (set registers r (Some new)) got gone (got + f words) gone
     (keeps.given + f words) (keeps.freed + 0) keeps
     (subst (λ after. FollowsAt f setting.history setting.caller (done ++ piece) after (keeps.given + f words) (keeps.freed + 0))
@@ -140,11 +140,11 @@ keeps-given f g setting done r need words place value calls piece kept registers
 
 -- the first of the blocks that are kept is freed
 pub keeps-freed :
-    (f : ℕ → ℕ) (g : Geometry) (history : List Event) (caller : ℕ) (done : List Event) (held : Held) (kept : List Held) (registers : List (Option Held))
+    (f : ℕ → ℕ) (g : Geometry) (history : List Event) (caller : ℕ) (done : List Event) (held : HeldBlock) (kept : List HeldBlock) (registers : List (Option HeldBlock))
     (got gone : ℕ) → IsLegalWithoutCounts g history → KeepsAt f history caller done (held ∷ kept) registers got gone
     → KeepsAt f history caller (done ++ Free caller held.place ∷ []) kept registers got gone
 keeps-freed f g history caller done held kept registers got gone legal keeps =
-    let more = sum_by-cons (λ (h : Held). f h.words) held kept in
+    let more = sum_by-cons (λ (h : HeldBlock). f h.words) held kept in
     keeps-on f history caller done (Free caller held.place ∷ []) (held ∷ kept) kept registers registers got gone got gone
     keeps.given (keeps.freed + f held.words) keeps
     (at-step f g history caller done (Free caller held.place) (slots (held ∷ kept) registers) (slots kept registers) keeps.given keeps.freed
@@ -160,7 +160,7 @@ keeps-freed f g history caller done held kept registers got gone legal keeps =
 
 -- all blocks that are kept are freed
 pub keeps-emptied :
-    (f : ℕ → ℕ) (g : Geometry) (history : List Event) (caller : ℕ) (done : List Event) (kept : List Held) (registers : List (Option Held))
+    (f : ℕ → ℕ) (g : Geometry) (history : List Event) (caller : ℕ) (done : List Event) (kept : List HeldBlock) (registers : List (Option HeldBlock))
     (got gone : ℕ) → IsLegalWithoutCounts g history → KeepsAt f history caller done kept registers got gone
     → KeepsAt f history caller (done ++ freeing_all caller kept) [] registers got gone
 keeps-emptied f g history caller done [] registers got gone legal keeps =
@@ -172,7 +172,7 @@ keeps-emptied f g history caller done (held ∷ kept) registers got gone legal k
 
 -- a block that a caller owns is one for its need, and the need is one
 pub owned-whole :
-    (g : Geometry) (history : List Event) (caller : ℕ) (held : Held) → IsLegalWithoutCounts g history → OwnsHeld (pool_of history) caller held
+    (g : Geometry) (history : List Event) (caller : ℕ) (held : HeldBlock) → IsLegalWithoutCounts g history → OwnsHeld (pool_of history) caller held
     → (held ≡ block_for held.need held.place) × IsNeed held.need
 owned-whole g history caller held legal owns =
     let formed : IsWellFormed g owns.block = every-found (IsWellFormed g) held.place (pool_of history) owns.block (sound-of g history legal).each owns.live in (
@@ -182,13 +182,13 @@ owned-whole g history caller held legal owns =
 
 -- the first of the blocks that are kept goes into its magazine
 keeps-stacked :
-    (f : ℕ → ℕ) (g : Geometry) (history : List Event) (caller : ℕ) (done : List Event) (depth : ℕ) (magazines : List (List ℕ)) (held : Held)
-    (registers : List (Option Held)) (got gone : ℕ) → IsLegalWithoutCounts g history → length magazines ≡ CLASSES → is_kept depth magazines held.need ≡ true
+    (f : ℕ → ℕ) (g : Geometry) (history : List Event) (caller : ℕ) (done : List Event) (depth : ℕ) (magazines : List (List ℕ)) (held : HeldBlock)
+    (registers : List (Option HeldBlock)) (got gone : ℕ) → IsLegalWithoutCounts g history → length magazines ≡ CLASSES → is_kept depth magazines held.need ≡ true
     → KeepsAt f history caller done (held ∷ kept_from 0 magazines) registers got gone
     → KeepsAt f history caller done (kept_from 0 (kept_with true magazines held.place held.need)) registers got gone
 keeps-stacked f g history caller done depth magazines held registers got gone legal long keeps_it keeps =
-    let kept : List Held = kept_from 0 magazines in
-    let stacked : List Held = kept_from 0 (kept_with true magazines held.place held.need) in
+    let kept : List HeldBlock = kept_from 0 magazines in
+    let stacked : List HeldBlock = kept_from 0 (kept_with true magazines held.place held.need) in
     let shuffled : (before : List Event) → Begins before history → own caller before ≡ done → IsPermutation (held ∷ kept) stacked =
     λ before begins own_is.
     let legal_here = EachAfter-cut (IsLegalEventWithoutCounts g) before begins.0 (subst (IsLegalWithoutCounts g) begins.1 legal) in
@@ -206,14 +206,14 @@ keeps-stacked f g history caller done depth magazines held registers got gone le
             freed_is = follows.freed_is;
           };
       balance = λ before begins own_is.
-          let same = sum_by-IsPermutation (λ (h : Held). f h.words) (held ∷ kept) stacked (shuffled before begins own_is) in
+          let same = sum_by-IsPermutation (λ (h : HeldBlock). f h.words) (held ∷ kept) stacked (shuffled before begins own_is) in
           omega (arith, keeps.balance before begins own_is, same);
     }
 
 -- the first of the blocks that are kept goes into its magazine, or is freed
 pub keeps-settled :
-    (f : ℕ → ℕ) (g : Geometry) (history : List Event) (caller : ℕ) (done : List Event) (depth : ℕ) (magazines : List (List ℕ)) (held : Held)
-    (registers : List (Option Held)) (got gone : ℕ) (stacks : Bool) → IsLegalWithoutCounts g history → length magazines ≡ CLASSES
+    (f : ℕ → ℕ) (g : Geometry) (history : List Event) (caller : ℕ) (done : List Event) (depth : ℕ) (magazines : List (List ℕ)) (held : HeldBlock)
+    (registers : List (Option HeldBlock)) (got gone : ℕ) (stacks : Bool) → IsLegalWithoutCounts g history → length magazines ≡ CLASSES
     → is_kept depth magazines held.need ≡ stacks
     → KeepsAt f history caller done (held ∷ kept_from 0 magazines) registers got gone
     → KeepsAt f history caller (done ++ freeing caller stacks held.place) (kept_from 0 (kept_with stacks magazines held.place held.need)) registers got gone
@@ -226,23 +226,23 @@ keeps-settled f g history caller done depth magazines held registers got gone fa
 -- a magazine or the heap gives a block, and it is written; some blocks are kept besides those in magazines
 pub keeps-handed :
     (f : ℕ → ℕ) (g : Geometry) (setting : Setting) (position : CachedPosition) (done : List Event) (r need words place : ℕ) (value : ℕ → ℕ)
-    (calls piece : List Event) (beside : List Held) (registers : List (Option Held)) (got gone : ℕ) (served : Option ℕ)
+    (calls piece : List Event) (beside : List HeldBlock) (registers : List (Option HeldBlock)) (got gone : ℕ) (served : Option ℕ)
     → IsLegalWithoutCounts g setting.history → words ≡ usable_words (need_of need) → served_by position.magazines (need_of need) ≡ served
     → IsGivenBy served setting position need place calls → piece ≡ calls ++ writing setting.caller place words value
     → KeepsAt f setting.history setting.caller done (beside ++ kept_from 0 position.magazines) registers got gone
     → KeepsAt f setting.history setting.caller (done ++ piece) (beside ++ kept_from 0 (magazines_given position.magazines (need_of need)))
     (set registers r (Some (record { place = place; words = words; need = need_of need }))) (got + f words) gone
 keeps-handed f g setting position done r need words place value calls piece beside registers got gone None legal words_are served given piece_is keeps =
-    let after : List (Option Held) = set registers r (Some (record { place = place; words = words; need = need_of need })) in
+    let after : List (Option HeldBlock) = set registers r (Some (record { place = place; words = words; need = need_of need })) in
     subst (λ magazines. KeepsAt f setting.history setting.caller (done ++ piece) (beside ++ kept_from 0 magazines) after (got + f words) gone)
     (sym (ap (λ from. given_from from position.magazines (need_of need)) served))
     (keeps-given f g setting done r need words place value calls piece (beside ++ kept_from 0 position.magazines) registers got gone legal words_are
     (given-of setting.caller need place (need_of need) calls given.1) piece_is keeps)
 keeps-handed f g setting position done r need words place value calls piece beside registers got gone (Some at) legal words_are served given piece_is keeps =
-    let new : Held = record { place = place; words = words; need = need_of need } in
+    let new : HeldBlock = record { place = place; words = words; need = need_of need } in
     let same : block_for (need_of need) at ≡ new =
     ap (block_for (need_of need)) (sym given.0) ∙ ap (λ n. record { place = place; words = n; need = need_of need }) (sym words_are) in
-    let left : List Held = kept_from 0 (magazines_given position.magazines (need_of need)) in
+    let left : List HeldBlock = kept_from 0 (magazines_given position.magazines (need_of need)) in
     let shuffled : IsPermutation (kept_from 0 position.magazines) (new ∷ left) =
     subst (λ first. IsPermutation (kept_from 0 position.magazines) (first ∷ left)) same (kept-given position.magazines (need_of need) at served) in
     let written : piece ≡ writing setting.caller place words value = piece_is ∙ ap (λ xs. xs ++ writing setting.caller place words value) given.1 in

@@ -14,7 +14,7 @@ use Rattle.pool_model.specs.declared.event.Event.{Event}
 use Rattle.pool_model.specs.declared.event.Event.TheVariants.{Free}
 use Rattle.trace_text.specs.declared.trace.Op.{Op}
 use Rattle.trace_text.specs.declared.trace.Op.TheVariants as op
-use Rattle.lane_outcomes.specs.declared.registers.Held.{Held}
+use Rattle.lane_outcomes.specs.declared.registers.HeldBlock.{HeldBlock}
 use Rattle.lane_outcomes.specs.declared.outcome.Outcome.{Outcome}
 use Rattle.lane_outcomes.specs.declared.outcome.Outcome.TheVariants as outcome
 use Rattle.lane_outcomes.specs.Lane.{held_in}
@@ -60,7 +60,7 @@ kept-popped magazines class place places below is =
     (kept-pushed popped class place (let long = length-set magazines class places in omega (arith, long))))
 
 -- a block that serves a need
-abbrev pub block_for : Need → ℕ → Held
+abbrev pub block_for : Need → ℕ → HeldBlock
 block_for need place = record { place = place; words = usable_words need; need = need }
 
 last-first : (places : List ℕ) (place : ℕ) → last_in places ≡ Some place → places ≡ place ∷ others_in places
@@ -102,12 +102,12 @@ kept-long true magazines place (Large units) = refl
 kept-long true magazines place TooLarge = refl
 kept-long false magazines place need = refl
 
-freed-long : (depth : ℕ) (magazines : List (List ℕ)) (held : Option Held) → length (magazines_freed depth magazines held) ≡ length magazines
+freed-long : (depth : ℕ) (magazines : List (List ℕ)) (held : Option HeldBlock) → length (magazines_freed depth magazines held) ≡ length magazines
 freed-long depth magazines None = refl
 freed-long depth magazines (Some held) = kept-long (is_kept depth magazines held.need) magazines held.place held.need
 
 pub magazines-long :
-    (depth : ℕ) (magazines : List (List ℕ)) (registers : List (Option Held)) (operation : Op) (result : Outcome)
+    (depth : ℕ) (magazines : List (List ℕ)) (registers : List (Option HeldBlock)) (operation : Op) (result : Outcome)
     → length (magazines_after depth magazines registers operation result) ≡ length magazines
 magazines-long depth magazines registers (op.Alloc r need v) (outcome.Given words place) = given-long (served_by magazines (need_of need)) magazines (need_of need)
 magazines-long depth magazines registers (op.Free r) outcome.Freed = freed-long depth magazines (held_in registers r)
@@ -122,7 +122,7 @@ kept-nothing first zero = refl
 kept-nothing first (suc n) = kept-nothing (suc first) n
 
 -- emptied magazines' events are the frees of their blocks
-abbrev pub freeing_all : ℕ → List Held → List Event
+abbrev pub freeing_all : ℕ → List HeldBlock → List Event
 freeing_all caller kept = map (λ held. Free caller held.place) kept
 
 pub kept-emptied : (caller first : ℕ) (magazines : List (List ℕ)) → freeing_all caller (kept_from first magazines) ≡ emptying caller magazines

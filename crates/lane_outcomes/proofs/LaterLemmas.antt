@@ -1,17 +1,17 @@
 -- Outcomes that fit a history still fit it when other callers' events are added.
-use Rattle.std.proofs.Common.{ℕ, ◌≡◌, ◌≤◌, ◌∷◌, ◌++◌, List, [], Option, Some, None, subst, ap, ◌∙◌, append-nil}
+use Rattle.std.proofs.Common.{ℕ, ◌≡◌, ◌≤◌, ◌∷◌, ◌++◌, List, [], Option, Some, None, ap, ◌∙◌, append-nil}
 use Rattle.heap_geometry.specs.Need.{need_of}
 use Rattle.pool_model.specs.declared.event.Event.{Event}
 use Rattle.pool_model.specs.Histories.{own}
 use Rattle.pool_model.proofs.HistoryLemmas.{own-append}
 use Rattle.trace_text.specs.declared.trace.Op.{Op}
 use Rattle.trace_text.specs.declared.trace.Op.TheVariants as op
-use Rattle.lane_outcomes.specs.declared.registers.Held.{Held}
 use Rattle.lane_outcomes.specs.declared.outcome.Outcome.{Outcome}
 use Rattle.lane_outcomes.specs.declared.outcome.Outcome.TheVariants as outcome
-use Rattle.lane_outcomes.specs.Lane.{Position}
-use Rattle.lane_outcomes.specs.Rows.{IsCopy, Setting}
-use Rattle.lane_outcomes.proofs.FitLemmas.{later, moment-later, row-later}
+use Rattle.lane_outcomes.specs.Rows.{Setting}
+use Rattle.lane_outcomes.proofs.FitLemmas.{copy-later, later, row-later}
+use Rattle.lane_outcomes.specs.Fits.{Fits}
+use Rattle.lane_outcomes.proofs.RoomLemmas.{fits-plain, fits-room}
 use Rattle.lane_outcomes.specs.Cached.{CachedFits, CachedPosition, CachedRow, CachedWalks, IsGivenBy, cached_after}
 use Rattle.lane_outcomes.specs.Magazines.{served_by}
 
@@ -20,12 +20,6 @@ given-later :
     → IsGivenBy served setting position need place calls → IsGivenBy served (later setting rest lost) position need place calls
 given-later setting rest lost position need place calls None is = is
 given-later setting rest lost position need place calls (Some at) is = is
-
-copy-later :
-    (setting : Setting) (rest : List Event) (lost : ℕ) (position : Position) (held : Held) (words : ℕ) (value : ℕ → ℕ)
-    → IsCopy setting position held words value → IsCopy (later setting rest lost) position held words value
-copy-later setting rest lost position held words value copy =
-    record { moment = moment-later setting rest lost position.done copy.moment; block = copy.block; live = copy.live; each = copy.each }
 
 -- a row with a cache that fits a setting fits one with a longer history and more exchanges lost
 pub cached-row-later :
@@ -63,33 +57,12 @@ pub cached-walks-later :
     (setting : Setting) (rest : List Event) (lost depth : ℕ) → setting.lost ≤ lost
     → (from to : CachedPosition) (operations : List Op) (results : List Outcome)
     → CachedWalks setting depth from operations results to → CachedWalks (later setting rest lost) depth from operations results to
-cached-walks-later setting rest lost depth more from to [] [] walks = walks
-cached-walks-later setting rest lost depth more from to [] (result ∷ results) walks = walks
-cached-walks-later setting rest lost depth more from to (operation ∷ operations) [] walks = walks
 cached-walks-later setting rest lost depth more from to (operation ∷ operations) (result ∷ results) walks = (
   walks.0,
   cached-row-later setting rest lost depth more from operation result walks.0 walks.1,
   cached-walks-later setting rest lost depth more (cached_after depth from operation result walks.0) to operations results walks.2,
 )
-
--- a walk with a cache goes on by one operation more
-pub cached-walks-more :
-    (setting : Setting) (depth : ℕ) (from to : CachedPosition) (operations : List Op) (results : List Outcome) (operation : Op) (result : Outcome)
-    (piece : List Event)
-    → CachedWalks setting depth from operations results to → CachedRow setting depth to operation result piece
-    → CachedWalks setting depth from (operations ++ operation ∷ []) (results ++ result ∷ []) (cached_after depth to operation result piece)
-cached-walks-more setting depth from to [] [] operation result piece walks row = (
-  piece,
-  subst (λ at. CachedRow setting depth at operation result piece) walks row,
-  ap (λ at. cached_after depth at operation result piece) walks,
-)
-cached-walks-more setting depth from to [] (first ∷ results) operation result piece walks row = absurd walks
-cached-walks-more setting depth from to (first ∷ operations) [] operation result piece walks row = absurd walks
-cached-walks-more setting depth from to (one ∷ operations) (first ∷ results) operation result piece walks row = (
-  walks.0,
-  walks.1,
-  cached-walks-more setting depth (cached_after depth from one first walks.0) to operations results operation result piece walks.2 row,
-)
+cached-walks-later setting rest lost depth more from to operations results walks = walks
 
 -- the outcomes of a lane fit a history that other callers went on with
 pub cached-fits-later :
@@ -105,3 +78,11 @@ cached-fits-later setting rest lost depth operations results hits more none fits
           ∙ (append-nil (own setting.caller setting.history) ∙ fits.all_used));
       hits_are = fits.hits_are;
     }
+
+-- so do those of a lane without a cache
+pub fits-later :
+    (setting : Setting) (rest : List Event) (lost : ℕ) (operations : List Op) (results : List Outcome)
+    → setting.lost ≤ lost → own setting.caller rest ≡ [] → Fits setting operations results → Fits (later setting rest lost) operations results
+fits-later setting rest lost operations results more none fits =
+    (fits-plain (later setting rest lost) operations results 0
+    (cached-fits-later setting rest lost 0 operations results 0 more none (fits-room setting operations results fits))).0

@@ -4,10 +4,10 @@ pub mod FillLemmas
 pub mod HoldLemmas
 pub mod NeedLemmas
 pub mod FollowLemmas
+pub mod SlotRows
 pub mod CountingLemmas
 pub mod WalkLemmas
 pub mod LiveLemmas
-pub mod RunLemmas
 pub mod FitLemmas
 pub mod ReportLemmas
 pub mod LanesLemmas
@@ -22,4 +22,6 @@ pub mod KeptLemmas
 pub mod LaterLemmas
 pub mod RoomLemmas
 pub mod SlotLemmas
-mod CachedWritten
+pub mod SpentLemmas
+pub mod CachedWritten
+mod PlainWritten

@@ -13,7 +13,7 @@ use Rattle.pool_model.specs.Calls.{EventsOf, alloc_given}
 use Rattle.pool_model.specs.declared.event.Event.TheVariants.{Free}
 use Rattle.trace_text.specs.declared.trace.Op.{Op}
 use Rattle.trace_text.specs.declared.trace.Op.TheVariants as op
-use Rattle.lane_outcomes.specs.declared.registers.Held.{Held}
+use Rattle.lane_outcomes.specs.declared.registers.HeldBlock.{HeldBlock}
 use Rattle.lane_outcomes.specs.declared.outcome.Outcome.{Outcome}
 use Rattle.lane_outcomes.specs.declared.outcome.Outcome.TheVariants as outcome
 use Rattle.lane_outcomes.specs.Fits.{Fits, LanesFit, OutcomesFit, Walks}
@@ -42,12 +42,12 @@ none-given : (need : Need) → magazines_given empty_magazines need ≡ empty_ma
 none-given need = ap (λ served. given_from served empty_magazines need) (none-served need)
 
 -- magazines without room keep no block
-none-kept : (magazines : List (List ℕ)) (need : Need) → is_kept 0 magazines need ≡ false
+pub none-kept : (magazines : List (List ℕ)) (need : Need) → is_kept 0 magazines need ≡ false
 none-kept magazines (Small class) = le-ltb (length (magazine_of magazines class)) 0 (omega arith)
 none-kept magazines (Large units) = refl
 none-kept magazines TooLarge = refl
 
-none-freed : (magazines : List (List ℕ)) (held : Option Held) → magazines_freed 0 magazines held ≡ magazines
+none-freed : (magazines : List (List ℕ)) (held : Option HeldBlock) → magazines_freed 0 magazines held ≡ magazines
 none-freed magazines None = refl
 none-freed magazines (Some held) = ap (λ keeps. kept_with keeps magazines held.place held.need) (none-kept magazines held.need)
 
@@ -59,7 +59,7 @@ none-emptied : (caller : ℕ) → emptying caller empty_magazines ≡ []
 none-emptied caller = ap (map (λ place. Free caller place)) (none-left CLASSES)
 
 -- empty magazines without room stay empty after an operation
-magazines-stay : (registers : List (Option Held)) (operation : Op) (result : Outcome) → magazines_after 0 empty_magazines registers operation result ≡ empty_magazines
+magazines-stay : (registers : List (Option HeldBlock)) (operation : Op) (result : Outcome) → magazines_after 0 empty_magazines registers operation result ≡ empty_magazines
 magazines-stay registers (op.Alloc r need v) (outcome.Given words place) = none-given (need_of need)
 magazines-stay registers (op.Free r) outcome.Freed = none-freed empty_magazines (held_in registers r)
 magazines-stay registers (op.Resize r need) (outcome.Resized words place) =
@@ -72,7 +72,7 @@ none-for (op.Resize r need) (outcome.Resized words place) = none-served (need_of
 none-for operation result = refl
 
 -- a lane at this position whose magazines are empty
-abbrev plain : Position → CachedPosition
+abbrev pub plain : Position → CachedPosition
 plain position = record { base = position; magazines = empty_magazines; hits = 0 }
 
 plain-after :
@@ -83,7 +83,7 @@ plain-after position operation result piece =
     let stay = magazines-stay position.registers operation result in
     rw none (rw stay refl)
 
-given-plain :
+pub given-plain :
     (setting : Setting) (position : Position) (need place : ℕ) (calls : List Event)
     → IsGivenBy (served_by empty_magazines (need_of need)) setting (plain position) need place calls
     → MayAsk position need × EventsOf setting.caller (alloc_given need place) calls
@@ -117,17 +117,16 @@ row-plain setting position (op.Free r) outcome.Freed piece (held, full, is) =
     (is ∙ ap (λ keeps. freeing setting.caller keeps held.place) (none-kept empty_magazines held.need))
 row-plain setting position operation result piece row = row
 
-walks-plain :
+pub walks-plain :
     (setting : Setting) (from : Position) (to : CachedPosition) (operations : List Op) (results : List Outcome)
     → CachedWalks setting 0 (plain from) operations results to → (end : Position) × (to ≡ plain end) × Walks setting from operations results end
 walks-plain setting from to [] [] walks = (from, walks, refl)
-walks-plain setting from to [] (result ∷ results) walks = absurd walks
-walks-plain setting from to (operation ∷ operations) [] walks = absurd walks
 walks-plain setting from to (operation ∷ operations) (result ∷ results) (piece, row, walks) =
     let rest =
     walks-plain setting (position_after from operation result piece) to operations results
     (subst (λ p. CachedWalks setting 0 p operations results to) (plain-after from operation result piece) walks) in
     (rest.0, rest.1, (piece, row-plain setting from operation result piece row, rest.2))
+walks-plain setting from to operations results walks = absurd walks
 
 pub fits-plain :
     (setting : Setting) (operations : List Op) (results : List Outcome) (hits : ℕ) → CachedFits setting 0 operations results hits
@@ -149,12 +148,11 @@ lanes-plain :
     (g : Geometry) (history : List Event) (lost lane : ℕ) (lanes : List (List Op)) (outcomes : List (List Outcome)) (hits : ℕ)
     → CachedLanesFit g history lost 0 lane lanes outcomes hits → LanesFit g history lost lane lanes outcomes × (hits ≡ 0)
 lanes-plain g history lost lane [] [] hits fit = (tt, fit)
-lanes-plain g history lost lane [] (results ∷ outcomes) hits fit = absurd fit
-lanes-plain g history lost lane (operations ∷ lanes) [] hits fit = absurd fit
 lanes-plain g history lost lane (operations ∷ lanes) (results ∷ outcomes) hits (these, others, all, one, more) =
     let first = fits-plain (record { caller = lane; turn_limit = g.turn_limit; history = history; lost = lost }) operations results these one in
     let rest = lanes-plain g history lost (suc lane) lanes outcomes others more in
     ((first.0, rest.0), omega (arith, all, first.1, rest.1))
+lanes-plain g history lost lane lanes outcomes hits fit = absurd fit
 
 pub outcomes-plain :
     (g : Geometry) (history : List Event) (lost : ℕ) (lanes : List (List Op)) (outcomes : List (List Outcome)) (hits : ℕ)
@@ -162,3 +160,97 @@ pub outcomes-plain :
 outcomes-plain g history lost lanes outcomes hits fit =
     let all = lanes-plain g history lost 0 lanes outcomes hits fit.lanes_fit in
     (record { lanes_fit = all.0; callers = fit.callers }, all.1)
+
+-- and the other way round: a lane without a cache stands as one without room
+given-room :
+    (setting : Setting) (position : Position) (need place : ℕ) (calls : List Event) → MayAsk position need → EventsOf setting.caller (alloc_given need place) calls
+    → IsGivenBy (served_by empty_magazines (need_of need)) setting (plain position) need place calls
+given-room setting position need place calls may events =
+    subst (λ served. IsGivenBy served setting (plain position) need place calls) (sym (none-served (need_of need))) (may, events)
+
+alloc-room :
+    (setting : Setting) (position : Position) (r need v words place : ℕ) (piece : List Event) (held : Option HeldBlock) → held_in position.registers r ≡ held
+    → AllocRow setting position need v held (outcome.Given words place) piece
+    → CachedRow setting 0 (plain position) (op.Alloc r need v) (outcome.Given words place) piece
+alloc-room setting position r need v words place piece None empty (may, words_are, calls, events, is) =
+    (empty, words_are, calls, given-room setting position need place calls may events, is)
+alloc-room setting position r need v words place piece (Some held) empty row = absurd row
+
+resize-room :
+    (setting : Setting) (position : Position) (r need words place : ℕ) (piece : List Event) (slot : Option HeldBlock) → held_in position.registers r ≡ slot
+    → ResizeRow setting position need slot (outcome.Resized words place) piece
+    → CachedRow setting 0 (plain position) (op.Resize r need) (outcome.Resized words place) piece
+resize-room setting position r need words place piece None full row = absurd row
+resize-room setting position r need words place piece (Some held) full (differ, may, words_are, calls, events, value, copy, is) = (
+  held,
+  full,
+  differ,
+  words_are,
+  calls,
+  given-room setting position need place calls may events,
+  value,
+  copy,
+  is
+      ∙ ap (λ keeps. calls ++ writing setting.caller place words value ++ freeing setting.caller keeps held.place)
+      (sym (none-kept (magazines_given empty_magazines (need_of need)) held.need)),
+)
+
+free-room :
+    (setting : Setting) (position : Position) (r : ℕ) (piece : List Event) (slot : Option HeldBlock) → held_in position.registers r ≡ slot
+    → FreeRow setting slot outcome.Freed piece → CachedRow setting 0 (plain position) (op.Free r) outcome.Freed piece
+free-room setting position r piece None full row = absurd row
+free-room setting position r piece (Some held) full row =
+    (held, full, row ∙ ap (λ keeps. freeing setting.caller keeps held.place) (sym (none-kept empty_magazines held.need)))
+
+row-room :
+    (setting : Setting) (position : Position) (operation : Op) (result : Outcome) (piece : List Event) → FitsRow setting position operation result piece
+    → CachedRow setting 0 (plain position) operation result piece
+row-room setting position (op.Alloc r need v) (outcome.Given words place) piece row =
+    alloc-room setting position r need v words place piece (held_in position.registers r) refl row
+row-room setting position (op.Resize r need) (outcome.Resized words place) piece row =
+    resize-room setting position r need words place piece (held_in position.registers r) refl row
+row-room setting position (op.Free r) outcome.Freed piece row = free-room setting position r piece (held_in position.registers r) refl row
+row-room setting position (op.Alloc r need v) outcome.Refused piece row = (none-served (need_of need), row)
+row-room setting position (op.Alloc r need v) outcome.Spent piece row = (none-served (need_of need), row)
+row-room setting position (op.Resize r need) outcome.Refused piece row = (none-served (need_of need), row)
+row-room setting position (op.Resize r need) outcome.Spent piece row = (none-served (need_of need), row)
+row-room setting position operation result piece row = row
+
+pub walks-room :
+    (setting : Setting) (from to : Position) (operations : List Op) (results : List Outcome) → Walks setting from operations results to
+    → CachedWalks setting 0 (plain from) operations results (plain to)
+walks-room setting from to [] [] walks = ap plain walks
+walks-room setting from to (operation ∷ operations) (result ∷ results) (piece, row, walks) = (
+  piece,
+  row-room setting from operation result piece row,
+  subst (λ p. CachedWalks setting 0 p operations results (plain to)) (sym (plain-after from operation result piece))
+      (walks-room setting (position_after from operation result piece) to operations results walks),
+)
+walks-room setting from to operations results walks = absurd walks
+
+pub fits-room :
+    (setting : Setting) (operations : List Op) (results : List Outcome) → Fits setting operations results → CachedFits setting 0 operations results 0
+fits-room setting operations results fits = record {
+  end = plain fits.end;
+  walks = walks-room setting start fits.end operations results fits.walks;
+  all_used = fits.all_used ∙ sym (append-nil fits.end.done) ∙ ap (λ xs. fits.end.done ++ xs) (sym (none-emptied setting.caller));
+  hits_are = refl;
+}
+
+pub lanes-room :
+    (g : Geometry) (history : List Event) (lost lane : ℕ) (lanes : List (List Op)) (outcomes : List (List Outcome)) → LanesFit g history lost lane lanes outcomes
+    → CachedLanesFit g history lost 0 lane lanes outcomes 0
+lanes-room g history lost lane [] [] fit = refl
+lanes-room g history lost lane (operations ∷ lanes) (results ∷ outcomes) (one, more) = (
+  0,
+  0,
+  refl,
+  fits-room (record { caller = lane; turn_limit = g.turn_limit; history = history; lost = lost }) operations results one,
+  lanes-room g history lost (suc lane) lanes outcomes more,
+)
+lanes-room g history lost lane lanes outcomes fit = absurd fit
+
+pub outcomes-room :
+    (g : Geometry) (history : List Event) (lost : ℕ) (lanes : List (List Op)) (outcomes : List (List Outcome)) → OutcomesFit g history lost lanes outcomes
+    → CachedOutcomesFit g history lost 0 lanes outcomes 0
+outcomes-room g history lost lanes outcomes fit = record { lanes_fit = lanes-room g history lost 0 lanes outcomes fit.lanes_fit; callers = fit.callers }

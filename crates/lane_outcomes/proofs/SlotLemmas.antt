@@ -7,17 +7,17 @@ use Rattle.std.proofs.lemmas.List.{set_past}
 use Rattle.std.proofs.lemmas.List.Edits.{swapped_from_swap}
 use Rattle.std.proofs.lemmas.List.Sorted.{IsPermutation-keeps, IsPermutation-middle, IsPermutation-trans, IsPermutation-cons, IsPermutation-map, IsPermutation-append_left}
 use Rattle.pool_model.specs.Pool.{Pool}
-use Rattle.lane_outcomes.specs.declared.registers.Held.{Held}
+use Rattle.lane_outcomes.specs.declared.registers.HeldBlock.{HeldBlock}
 use Rattle.lane_outcomes.specs.Lane.{held_in}
 use Rattle.lane_outcomes.specs.Standing.{OwnsHeld, HoldsOwn}
 use Rattle.lane_outcomes.proofs.HoldLemmas.{held-inside}
 
-abbrev pub slots : List Held → List (Option Held) → List (Option Held)
+abbrev pub slots : List HeldBlock → List (Option HeldBlock) → List (Option HeldBlock)
 slots kept registers = map (λ held. Some held) kept ++ registers
 
 -- slots that hold what others hold, each at another number, hold the caller's blocks too
 holds-by :
-    (pool : Pool) (caller : ℕ) (old new : List (Option Held)) (to : ℕ → ℕ) → ((r : ℕ) → to (to r) ≡ r) → ((r : ℕ) → held_in new r ≡ held_in old (to r))
+    (pool : Pool) (caller : ℕ) (old new : List (Option HeldBlock)) (to : ℕ → ℕ) → ((r : ℕ) → to (to r) ≡ r) → ((r : ℕ) → held_in new r ≡ held_in old (to r))
     → HoldsOwn pool caller old → HoldsOwn pool caller new
 holds-by pool caller old new to back same h =
     record {
@@ -54,7 +54,7 @@ exchanged-back i j r =
     ]
 
 pub held-exchanged :
-    (old : List (Option Held)) (i j : ℕ) → i < length old → j < length old
+    (old : List (Option HeldBlock)) (i j : ℕ) → i < length old → j < length old
     → (r : ℕ) → held_in (swap old i j) r ≡ held_in old (exchanged i j r)
 held-exchanged old i j below under r =
     let moved = swapped_from_swap old (swap old i j) i j None below under refl in
@@ -68,7 +68,7 @@ held-exchanged old i j below under r =
 
 -- slots in another order hold the caller's blocks too
 pub holds-shuffled :
-    (pool : Pool) (caller : ℕ) (old new : List (Option Held)) → IsPermutation old new → HoldsOwn pool caller old → HoldsOwn pool caller new
+    (pool : Pool) (caller : ℕ) (old new : List (Option HeldBlock)) → IsPermutation old new → HoldsOwn pool caller old → HoldsOwn pool caller new
 holds-shuffled pool caller old new shuffled h =
     IsPermutation-keeps old (HoldsOwn pool caller) h
     (λ now i j below under holds.
@@ -76,7 +76,7 @@ holds-shuffled pool caller old new shuffled h =
     new shuffled
 
 -- slots without the first one hold the caller's blocks too
-pub holds-rest : (pool : Pool) (caller : ℕ) (first : Option Held) (rest : List (Option Held)) → HoldsOwn pool caller (first ∷ rest) → HoldsOwn pool caller rest
+pub holds-rest : (pool : Pool) (caller : ℕ) (first : Option HeldBlock) (rest : List (Option HeldBlock)) → HoldsOwn pool caller (first ∷ rest) → HoldsOwn pool caller rest
 holds-rest pool caller first rest h =
     record {
       owned = λ r held full. h.owned (suc r) held full;
@@ -84,22 +84,22 @@ holds-rest pool caller first rest h =
     }
 
 -- slots with an empty one before them hold the caller's blocks too
-pub holds-none : (pool : Pool) (caller : ℕ) (rest : List (Option Held)) → HoldsOwn pool caller rest → HoldsOwn pool caller (None ∷ rest)
+pub holds-none : (pool : Pool) (caller : ℕ) (rest : List (Option HeldBlock)) → HoldsOwn pool caller rest → HoldsOwn pool caller (None ∷ rest)
 holds-none pool caller rest h = record { owned = owned; once = once }
   where
-    owned : (r : ℕ) (held : Held) → held_in (None ∷ rest) r ≡ Some held → OwnsHeld pool caller held
+    owned : (r : ℕ) (held : HeldBlock) → held_in (None ∷ rest) r ≡ Some held → OwnsHeld pool caller held
     owned zero held full = absurd (let e : None ≡ Some held = full in cc)
     owned (suc r) held full = h.owned r held full
 
     once :
-        (r q : ℕ) (held other : Held) → held_in (None ∷ rest) r ≡ Some held → held_in (None ∷ rest) q ≡ Some other → r ≢ q → held.place ≢ other.place
+        (r q : ℕ) (held other : HeldBlock) → held_in (None ∷ rest) r ≡ Some held → held_in (None ∷ rest) q ≡ Some other → r ≢ q → held.place ≢ other.place
     once zero q held other at_r at_q differ = absurd (let e : None ≡ Some held = at_r in cc)
     once (suc r) zero held other at_r at_q differ = absurd (let e : None ≡ Some other = at_q in cc)
     once (suc r) (suc q) held other at_r at_q differ = h.once r q held other at_r at_q (λ e. differ (ap suc e))
 
 -- the first slot and a register in each other's place
 first-exchanged :
-    (first : Option Held) (registers : List (Option Held)) (r : ℕ) → r < length registers
+    (first : Option HeldBlock) (registers : List (Option HeldBlock)) (r : ℕ) → r < length registers
     → IsPermutation (first ∷ registers) (held_in registers r ∷ set registers r first)
 first-exchanged first [] r below = absurd (omega arith)
 first-exchanged first (register ∷ registers) zero below = IsPermutation-middle (first ∷ []) register registers
@@ -109,7 +109,7 @@ first-exchanged first (register ∷ registers) (suc r) below =
     (IsPermutation-middle (register ∷ []) (held_in registers r) (set registers r first)))
 
 pub slot-exchanged :
-    (first : Option Held) (kept : List Held) (registers : List (Option Held)) (r : ℕ) → r < length registers
+    (first : Option HeldBlock) (kept : List HeldBlock) (registers : List (Option HeldBlock)) (r : ℕ) → r < length registers
     → IsPermutation (first ∷ slots kept registers) (held_in registers r ∷ slots kept (set registers r first))
 slot-exchanged first [] registers r below = first-exchanged first registers r below
 slot-exchanged first (held ∷ kept) registers r below =
@@ -119,7 +119,7 @@ slot-exchanged first (held ∷ kept) registers r below =
 
 -- a register's block is kept
 pub holds-lifted :
-    (pool : Pool) (caller r : ℕ) (held : Held) (kept : List Held) (registers : List (Option Held)) → held_in registers r ≡ Some held
+    (pool : Pool) (caller r : ℕ) (held : HeldBlock) (kept : List HeldBlock) (registers : List (Option HeldBlock)) → held_in registers r ≡ Some held
     → HoldsOwn pool caller (slots kept registers) → HoldsOwn pool caller (slots (held ∷ kept) (set registers r None))
 holds-lifted pool caller r held kept registers full h =
     holds-shuffled pool caller (None ∷ slots kept registers) (slots (held ∷ kept) (set registers r None))
@@ -129,7 +129,7 @@ holds-lifted pool caller r held kept registers full h =
 
 -- a block that was kept is given to a register
 pub holds-served :
-    (pool : Pool) (caller r : ℕ) (held : Held) (kept : List Held) (registers : List (Option Held))
+    (pool : Pool) (caller r : ℕ) (held : HeldBlock) (kept : List HeldBlock) (registers : List (Option HeldBlock))
     → HoldsOwn pool caller (slots (held ∷ kept) registers) → HoldsOwn pool caller (slots kept (set registers r (Some held)))
 holds-served pool caller r held kept registers h =
     elim (cases_lt r (length registers)) [
@@ -142,21 +142,21 @@ holds-served pool caller r held kept registers h =
     ]
 
 pub holds-reordered :
-    (pool : Pool) (caller : ℕ) (kept others : List Held) (registers : List (Option Held)) → IsPermutation kept others
+    (pool : Pool) (caller : ℕ) (kept others : List HeldBlock) (registers : List (Option HeldBlock)) → IsPermutation kept others
     → HoldsOwn pool caller (slots kept registers) → HoldsOwn pool caller (slots others registers)
 holds-reordered pool caller kept others registers shuffled h =
     holds-shuffled pool caller (slots kept registers) (slots others registers)
     (IsPermutation-append_left registers _ _ (IsPermutation-map (λ held. Some held) kept others shuffled)) h
 
 -- a register is a slot behind those that are kept
-pub slot-held : (kept : List Held) (registers : List (Option Held)) (r : ℕ) → held_in (slots kept registers) (length kept + r) ≡ held_in registers r
+pub slot-held : (kept : List HeldBlock) (registers : List (Option HeldBlock)) (r : ℕ) → held_in (slots kept registers) (length kept + r) ≡ held_in registers r
 slot-held [] registers r = let same : 0 + r ≡ r = omega arith in ap (held_in registers) same
 slot-held (held ∷ kept) registers r =
     let next : suc (length kept) + r ≡ suc (length kept + r) = omega arith in
     ap (held_in (slots (held ∷ kept) registers)) next ∙ slot-held kept registers r
 
 pub slot-set :
-    (kept : List Held) (registers : List (Option Held)) (r : ℕ) (held : Option Held)
+    (kept : List HeldBlock) (registers : List (Option HeldBlock)) (r : ℕ) (held : Option HeldBlock)
     → set (slots kept registers) (length kept + r) held ≡ slots kept (set registers r held)
 slot-set [] registers r held = let same : 0 + r ≡ r = omega arith in ap (λ k. set registers k held) same
 slot-set (first ∷ kept) registers r held =

@@ -15,11 +15,11 @@ use Rattle.pool_model.specs.Legal.{IsLegalWithoutCounts}
 use Rattle.pool_model.proofs.HistoryLemmas.{push-append}
 use Rattle.trace_text.specs.declared.trace.Op.{Op}
 use Rattle.trace_text.specs.declared.trace.Op.TheVariants as op
-use Rattle.lane_outcomes.specs.declared.registers.Held.{Held}
+use Rattle.lane_outcomes.specs.declared.registers.HeldBlock.{HeldBlock}
 use Rattle.lane_outcomes.specs.declared.outcome.Outcome.{Outcome}
 use Rattle.lane_outcomes.specs.declared.outcome.Outcome.TheVariants as outcome
 use Rattle.lane_outcomes.specs.Lane.{Position, held_in, registers_after, position_after, filling, writing}
-use Rattle.lane_outcomes.specs.Rows.{Setting, IsSpent, AllocRow, FreeRow, FillRow, CheckRow, PutRow, TakeRow, ResizeRow, FitsRow}
+use Rattle.lane_outcomes.specs.Rows.{Setting, IsSpent, FitsRow}
 use Rattle.lane_outcomes.specs.Fits.{Walks}
 use Rattle.lane_outcomes.specs.LaneCounts.{words_given, words_freed, count_with, lane_given, lane_freed}
 use Rattle.lane_outcomes.specs.Standing.{HoldsOwn, OwnsHeld}
@@ -27,6 +27,7 @@ use Rattle.lane_outcomes.proofs.FillLemmas.{writes_of}
 use Rattle.lane_outcomes.proofs.HoldLemmas.{held_of, held-apart, holds-beside, holds-fresh, owns-freed, holds-freed, holds-put, holds-taken}
 use Rattle.lane_outcomes.proofs.FollowLemmas.{FollowsAt, IsStill, at-step, at-stills, at-as, same-moment}
 use Rattle.lane_outcomes.proofs.MeasureLemmas.{block_with}
+use Rattle.lane_outcomes.proofs.SlotRows.{MovesBlock, RowAt, row-at, slot_of}
 
 -- looks, fills and refusals give and free nothing
 stills-looks : (caller class count : ℕ) → AllByRecursion (IsStill caller) (looks caller class count)
@@ -111,7 +112,7 @@ none-still caller piece none = rw none tt
 
 -- a block is given and filled: what the registers hold behind the allocation they hold from there on
 alloc-filled :
-    (f : ℕ → ℕ) (g : Geometry) (setting : Setting) (position : Position) (need words place : ℕ) (value : ℕ → ℕ) (after : List (Option Held))
+    (f : ℕ → ℕ) (g : Geometry) (setting : Setting) (position : Position) (need words place : ℕ) (value : ℕ → ℕ) (after : List (Option HeldBlock))
     (calls piece : List Event) (given freed : ℕ)
     → IsLegalWithoutCounts g setting.history → words ≡ usable_words (need_of need) → IsGiven setting.caller need place calls
     → piece ≡ calls ++ writing setting.caller place words value
@@ -152,12 +153,12 @@ abbrev pub made_for : Setting → ℕ → ℕ → (ℕ → ℕ) → List Event �
 made_for setting place words value calls = calls ++ writing setting.caller place words value
 
 -- a held block that is about to be freed: the lane still owns it, and what the registers are about to hold lies elsewhere
-pub record IsLeaving (pool : Pool) (caller : ℕ) (held : Held) (registers : List (Option Held)) : Type 0 where
+pub record IsLeaving (pool : Pool) (caller : ℕ) (held : HeldBlock) (registers : List (Option HeldBlock)) : Type 0 where
   pub owned : OwnsHeld pool caller held
-  pub apart : (q : ℕ) (other : Held) → held_in registers q ≡ Some other → other.place ≢ held.place
+  pub apart : (q : ℕ) (other : HeldBlock) → held_in registers q ≡ Some other → other.place ≢ held.place
 
 pub leaving :
-    (f : ℕ → ℕ) (g : Geometry) (setting : Setting) (position : Position) (r need words place : ℕ) (held : Held) (value : ℕ → ℕ) (calls : List Event)
+    (f : ℕ → ℕ) (g : Geometry) (setting : Setting) (position : Position) (r need words place : ℕ) (held : HeldBlock) (value : ℕ → ℕ) (calls : List Event)
     (given freed : ℕ) → IsLegalWithoutCounts g setting.history → held_in position.registers r ≡ Some held → need_of need ≢ held.need
     → words ≡ usable_words (need_of need) → IsGiven setting.caller need place calls → Before f setting position given freed
     → (before : List Event) → Begins before setting.history → own setting.caller before ≡ position.done ++ made_for setting place words value calls
@@ -176,7 +177,7 @@ leaving f g setting position r need words place held value calls given freed leg
     }
 
 resized-after :
-    (f : ℕ → ℕ) (g : Geometry) (setting : Setting) (position : Position) (r need words place : ℕ) (held : Held) (value : ℕ → ℕ)
+    (f : ℕ → ℕ) (g : Geometry) (setting : Setting) (position : Position) (r need words place : ℕ) (held : HeldBlock) (value : ℕ → ℕ)
     (calls piece : List Event) (given freed : ℕ) → IsLegalWithoutCounts g setting.history → held_in position.registers r ≡ Some held
     → need_of need ≢ held.need → words ≡ usable_words (need_of need) → IsGiven setting.caller need place calls
     → piece ≡ made_for setting place words value calls ++ Free setting.caller held.place ∷ [] → Before f setting position given freed
@@ -185,7 +186,7 @@ resized-after :
 resized-after f g setting position r need words place held value calls piece given freed legal full differ words_are is piece_is at =
     let caller = setting.caller in
     let made : List Event = made_for setting place words value calls in
-    let set : List (Option Held) = slice_set position.registers r (Some (record { place = place; words = words; need = need_of need })) in
+    let set : List (Option HeldBlock) = slice_set position.registers r (Some (record { place = place; words = words; need = need_of need })) in
     let at_made = given-after f g setting position r need words place value calls made given freed legal words_are is refl at in
     let at_freed =
     at-step f g setting.history caller (position.done ++ made) (Free caller held.place) set set (given + f words) (freed + 0) (given + f words)
@@ -206,149 +207,105 @@ resized-after f g setting position r need words place held value calls piece giv
     at-as f setting.history caller _ (position.done ++ piece) set (given + f words) (freed + f held.words) (given + f words) (freed + f held.words)
     (append_assoc position.done made (Free caller held.place ∷ []) ∙ ap (λ xs. position.done ++ xs) (sym piece_is)) refl refl at_freed
 
-alloc-after :
-    (f : ℕ → ℕ) (g : Geometry) (setting : Setting) (position : Position) (r need v : ℕ) (held : Option Held) (result : Outcome) (piece : List Event)
-    (given freed : ℕ) → IsLegalWithoutCounts g setting.history → AllocRow setting position need v held result piece → Before f setting position given freed
-    → After f setting position (op.Alloc r need v) result piece given freed
-alloc-after f g setting position r need v (Some held) outcome.Skipped piece given freed legal row at =
-    quiet f g setting position piece given freed legal (none-still setting.caller piece row) at
-alloc-after f g setting position r need v None (outcome.Given words place) piece given freed legal row at =
-    given-after f g setting position r need words place (λ i. (v + i) % 2 ^ 64) row.2 piece given freed legal row.1
-    (given-of setting.caller need place (need_of need) row.2 row.3) row.4 at
-alloc-after f g setting position r need v None outcome.Refused piece given freed legal row at =
-    quiet f g setting position piece given freed legal (stills-refusing setting.caller need (need_of need) piece row.1) at
-alloc-after f g setting position r need v None outcome.Spent piece given freed legal row at =
-    quiet f g setting position piece given freed legal (stills-spent setting position need piece position.spent row) at
-alloc-after f g setting position r need v held result piece given freed legal row at = absurd row
+-- an operation that moves no block has events that give none, free none and hand none over
+pub stills-at :
+    (setting : Setting) (position : Position) (piece : List Event) (operation : Op) (slot : Option HeldBlock) (result : Outcome) → ¬ MovesBlock operation result
+    → RowAt setting position operation slot result piece → AllByRecursion (IsStill setting.caller) piece
+stills-at setting position piece (op.Alloc r need v) slot (outcome.Given words place) not row = absurd (not tt)
+stills-at setting position piece (op.Free r) slot outcome.Freed not row = absurd (not tt)
+stills-at setting position piece (op.Put r shelf) slot outcome.Put not row = absurd (not tt)
+stills-at setting position piece (op.Take r shelf) slot (outcome.Took words place need) not row = absurd (not tt)
+stills-at setting position piece (op.Resize r need) slot (outcome.Resized words place) not row = absurd (not tt)
+stills-at setting position piece (op.Alloc r need v) (Some held) outcome.Skipped not row = none-still setting.caller piece row
+stills-at setting position piece (op.Alloc r need v) None outcome.Refused not row = stills-refusing setting.caller need (need_of need) piece row.1
+stills-at setting position piece (op.Alloc r need v) None outcome.Spent not row = stills-spent setting position need piece position.spent row
+stills-at setting position piece (op.Free r) None outcome.Skipped not row = none-still setting.caller piece row
+stills-at setting position piece (op.Fill r v) None outcome.Skipped not row = none-still setting.caller piece row
+stills-at setting position piece (op.Fill r v) (Some held) outcome.Filled not row = rw row (stills-filling setting.caller held.place held.words v)
+stills-at setting position piece (op.Check r) None outcome.Skipped not row = none-still setting.caller piece row
+stills-at setting position piece (op.Check r) (Some held) (outcome.Sum total) not row = none-still setting.caller piece row.0
+stills-at setting position piece (op.Put r shelf) None outcome.Skipped not row = none-still setting.caller piece row
+stills-at setting position piece (op.Put r shelf) (Some held) outcome.ShelfFull not row = none-still setting.caller piece row.0
+stills-at setting position piece (op.Take r shelf) (Some held) outcome.Skipped not row = none-still setting.caller piece row
+stills-at setting position piece (op.Take r shelf) None outcome.ShelfEmpty not row = rw row (refl, tt)
+stills-at setting position piece (op.Resize r need) None outcome.Skipped not row = none-still setting.caller piece row
+stills-at setting position piece (op.Resize r need) (Some held) (outcome.Kept words place) not row = none-still setting.caller piece row.0
+stills-at setting position piece (op.Resize r need) (Some held) outcome.Refused not row =
+    stills-refusing setting.caller need (need_of need) piece row.2
+stills-at setting position piece (op.Resize r need) (Some held) outcome.Spent not row = stills-spent setting position need piece position.spent row.1
+stills-at setting position piece operation None result not row = absurd row
+stills-at setting position piece operation (Some held) result not row = absurd row
 
-free-after :
-    (f : ℕ → ℕ) (g : Geometry) (setting : Setting) (position : Position) (r : ℕ) (held : Option Held) (result : Outcome) (piece : List Event)
-    (given freed : ℕ) → IsLegalWithoutCounts g setting.history → held_in position.registers r ≡ held → FreeRow setting held result piece
-    → Before f setting position given freed → After f setting position (op.Free r) result piece given freed
-free-after f g setting position r None outcome.Skipped piece given freed legal full row at =
-    quiet f g setting position piece given freed legal (none-still setting.caller piece row) at
-free-after f g setting position r (Some held) outcome.Freed piece given freed legal full row at =
-    let caller = setting.caller in
-    rw (row, full)
-    (at-step f g setting.history caller position.done (Free caller held.place) position.registers (slice_set position.registers r None) given freed (given + 0)
-    (freed + f held.words) legal refl
-    (λ before legal_here begins own_is holds.
-    let owns : OwnsHeld (pool_of before) caller held = holds.owned r held full in
-    record {
-      holds = holds-freed before caller r held position.registers full holds;
-      given_is = refl;
-      freed_is = ap (λ n. freed + f n) owns.words_are ∙ ap (λ found. freed + block_with f found) (sym owns.live);
-    }) at)
-free-after f g setting position r held result piece given freed legal full row at = absurd row
-
-fill-after :
-    (f : ℕ → ℕ) (g : Geometry) (setting : Setting) (position : Position) (r v : ℕ) (held : Option Held) (result : Outcome) (piece : List Event)
-    (given freed : ℕ) → IsLegalWithoutCounts g setting.history → FillRow setting v held result piece → Before f setting position given freed
-    → After f setting position (op.Fill r v) result piece given freed
-fill-after f g setting position r v None outcome.Skipped piece given freed legal row at =
-    quiet f g setting position piece given freed legal (none-still setting.caller piece row) at
-fill-after f g setting position r v (Some held) outcome.Filled piece given freed legal row at =
-    quiet f g setting position piece given freed legal (rw row (stills-filling setting.caller held.place held.words v)) at
-fill-after f g setting position r v held result piece given freed legal row at = absurd row
-
-check-after :
-    (f : ℕ → ℕ) (g : Geometry) (setting : Setting) (position : Position) (r : ℕ) (held : Option Held) (result : Outcome) (piece : List Event)
-    (given freed : ℕ) → IsLegalWithoutCounts g setting.history → CheckRow setting position held result piece → Before f setting position given freed
-    → After f setting position (op.Check r) result piece given freed
-check-after f g setting position r None outcome.Skipped piece given freed legal row at =
-    quiet f g setting position piece given freed legal (none-still setting.caller piece row) at
-check-after f g setting position r (Some held) (outcome.Sum total) piece given freed legal row at =
-    quiet f g setting position piece given freed legal (none-still setting.caller piece row.0) at
-check-after f g setting position r held result piece given freed legal row at = absurd row
-
-put-after :
-    (f : ℕ → ℕ) (g : Geometry) (setting : Setting) (position : Position) (r shelf : ℕ) (held : Option Held) (result : Outcome) (piece : List Event)
-    (given freed : ℕ) → IsLegalWithoutCounts g setting.history → held_in position.registers r ≡ held → PutRow setting position shelf held result piece
-    → Before f setting position given freed → After f setting position (op.Put r shelf) result piece given freed
-put-after f g setting position r shelf None outcome.Skipped piece given freed legal full row at =
-    quiet f g setting position piece given freed legal (none-still setting.caller piece row) at
-put-after f g setting position r shelf (Some held) outcome.Put piece given freed legal full row at =
-    rw row
-    (at-step f g setting.history setting.caller position.done (Put setting.caller held.place shelf) position.registers (slice_set position.registers r None) given
-    freed (given + 0) (freed + 0) legal refl
-    (λ before legal_here begins own_is holds. record {
-      holds = holds-put before setting.caller r shelf held position.registers full holds;
-      given_is = refl;
-      freed_is = refl;
-    }) at)
-put-after f g setting position r shelf (Some held) outcome.ShelfFull piece given freed legal full row at =
-    quiet f g setting position piece given freed legal (none-still setting.caller piece row.0) at
-put-after f g setting position r shelf held result piece given freed legal full row at = absurd row
-
-take-after :
-    (f : ℕ → ℕ) (g : Geometry) (setting : Setting) (position : Position) (r shelf : ℕ) (held : Option Held) (result : Outcome) (piece : List Event)
-    (given freed : ℕ) → IsLegalWithoutCounts g setting.history → TakeRow setting position shelf held result piece
-    → Before f setting position given freed → After f setting position (op.Take r shelf) result piece given freed
-take-after f g setting position r shelf (Some held) outcome.Skipped piece given freed legal row at =
-    quiet f g setting position piece given freed legal (none-still setting.caller piece row) at
-take-after f g setting position r shelf None outcome.ShelfEmpty piece given freed legal row at =
-    quiet f g setting position piece given freed legal (rw row (refl, tt)) at
-take-after f g setting position r shelf None (outcome.Took words place need) piece given freed legal row at =
-    let event : Event = Take setting.caller shelf place in
-    rw row.0
-    (at-step f g setting.history setting.caller position.done event position.registers
-    (slice_set position.registers r (Some (record { place = place; words = words; need = need }))) given freed (given + 0) (freed + 0) legal refl
-    (λ before legal_here begins own_is holds.
-    let there : setting.history ≡ row.1.before ++ event ∷ row.3.0 =
-    row.3.1 ∙ ap (λ xs. (row.1.before ++ xs) ++ row.3.0) row.0 ∙ push-append row.1.before row.3.0 event in
-    let here : setting.history ≡ before ++ event ∷ begins.0 = begins.1 ∙ push-append before begins.0 event in
-    let same : row.1.before ≡ before =
-    same-moment setting.caller event row.1.before before row.3.0 begins.0 refl (sym there ∙ here) (row.1.own_done ∙ sym own_is) in
-    let live : block_at place (pool_of before) ≡ Some row.2 = subst (λ (h : List Event). block_at place (pool_of h) ≡ Some row.2) same row.4 in
-    let held_same : held_of place row.2 ≡ record { place = place; words = words; need = need } =
-    ap (λ w. record { place = place; words = w; need = row.2.need }) (sym row.5)
-    ∙ ap (λ (n : Need). record { place = place; words = words; need = n }) (sym row.6) in
-    let allowed = (legal_here before [] event refl).1 in
-    record {
-      holds =
-          subst (λ (h : Held). HoldsOwn (pool_of (before ++ event ∷ [])) setting.caller (slice_set position.registers r (Some h))) held_same
-          (holds-taken before setting.caller r shelf place row.2 position.registers allowed.0 live holds);
-      given_is = refl;
-      freed_is = refl;
-    }) at)
-take-after f g setting position r shelf held result piece given freed legal row at = absurd row
-
-resize-after :
-    (f : ℕ → ℕ) (g : Geometry) (setting : Setting) (position : Position) (r need : ℕ) (held : Option Held) (result : Outcome) (piece : List Event)
-    (given freed : ℕ) → IsLegalWithoutCounts g setting.history → held_in position.registers r ≡ held → ResizeRow setting position need held result piece
-    → Before f setting position given freed → After f setting position (op.Resize r need) result piece given freed
-resize-after f g setting position r need None outcome.Skipped piece given freed legal full row at =
-    quiet f g setting position piece given freed legal (none-still setting.caller piece row) at
-resize-after f g setting position r need (Some held) (outcome.Kept words place) piece given freed legal full row at =
-    quiet f g setting position piece given freed legal (none-still setting.caller piece row.0) at
-resize-after f g setting position r need (Some held) (outcome.Resized words place) piece given freed legal full row at =
-    rw full
-    (resized-after f g setting position r need words place held row.5 row.3 piece given freed legal full row.0 row.2
-    (given-of setting.caller need place (need_of need) row.3 row.4) row.7 at)
-resize-after f g setting position r need (Some held) outcome.Refused piece given freed legal full row at =
-    quiet f g setting position piece given freed legal (stills-refusing setting.caller need (need_of need) piece row.2) at
-resize-after f g setting position r need (Some held) outcome.Spent piece given freed legal full row at =
-    quiet f g setting position piece given freed legal (stills-spent setting position need piece position.spent row.1) at
-resize-after f g setting position r need held result piece given freed legal full row at = absurd row
+module _ (f : ℕ → ℕ) (g : Geometry) (setting : Setting) (position : Position) (piece : List Event) (given freed : ℕ) (legal : IsLegalWithoutCounts g setting.history) (at : Before f setting position given freed) where
+  after-at :
+      (operation : Op) (slot : Option HeldBlock) (result : Outcome) → slot_of position.registers operation ≡ slot
+      → RowAt setting position operation slot result piece → After f setting position operation result piece given freed
+  after-at (op.Alloc r need v) None (outcome.Given words place) empty row =
+      given-after f g setting position r need words place (λ i. (v + i) % 2 ^ 64) row.2 piece given freed legal row.1
+      (given-of setting.caller need place (need_of need) row.2 row.3) row.4 at
+  after-at (op.Free r) (Some held) outcome.Freed full row =
+      let caller = setting.caller in
+      rw (row, full)
+      (at-step f g setting.history caller position.done (Free caller held.place) position.registers (slice_set position.registers r None) given freed (given + 0)
+      (freed + f held.words) legal refl
+      (λ before legal_here begins own_is holds.
+      let owns : OwnsHeld (pool_of before) caller held = holds.owned r held full in
+      record {
+        holds = holds-freed before caller r held position.registers full holds;
+        given_is = refl;
+        freed_is = ap (λ n. freed + f n) owns.words_are ∙ ap (λ found. freed + block_with f found) (sym owns.live);
+      }) at)
+  after-at (op.Put r shelf) (Some held) outcome.Put full row =
+      rw row
+      (at-step f g setting.history setting.caller position.done (Put setting.caller held.place shelf) position.registers (slice_set position.registers r None) given
+      freed (given + 0) (freed + 0) legal refl
+      (λ before legal_here begins own_is holds. record {
+        holds = holds-put before setting.caller r shelf held position.registers full holds;
+        given_is = refl;
+        freed_is = refl;
+      }) at)
+  after-at (op.Take r shelf) None (outcome.Took words place need) empty row =
+      let event : Event = Take setting.caller shelf place in
+      rw row.0
+      (at-step f g setting.history setting.caller position.done event position.registers
+      (slice_set position.registers r (Some (record { place = place; words = words; need = need }))) given freed (given + 0) (freed + 0) legal refl
+      (λ before legal_here begins own_is holds.
+      let there : setting.history ≡ row.1.before ++ event ∷ row.3.0 =
+      row.3.1 ∙ ap (λ xs. (row.1.before ++ xs) ++ row.3.0) row.0 ∙ push-append row.1.before row.3.0 event in
+      let here : setting.history ≡ before ++ event ∷ begins.0 = begins.1 ∙ push-append before begins.0 event in
+      let same : row.1.before ≡ before =
+      same-moment setting.caller event row.1.before before row.3.0 begins.0 refl (sym there ∙ here) (row.1.own_done ∙ sym own_is) in
+      let live : block_at place (pool_of before) ≡ Some row.2 = subst (λ (h : List Event). block_at place (pool_of h) ≡ Some row.2) same row.4 in
+      let held_same : held_of place row.2 ≡ record { place = place; words = words; need = need } =
+      ap (λ w. record { place = place; words = w; need = row.2.need }) (sym row.5)
+      ∙ ap (λ (n : Need). record { place = place; words = words; need = n }) (sym row.6) in
+      let allowed = (legal_here before [] event refl).1 in
+      record {
+        holds =
+            subst (λ (h : HeldBlock). HoldsOwn (pool_of (before ++ event ∷ [])) setting.caller (slice_set position.registers r (Some h))) held_same
+            (holds-taken before setting.caller r shelf place row.2 position.registers allowed.0 live holds);
+        given_is = refl;
+        freed_is = refl;
+      }) at)
+  after-at (op.Resize r need) (Some held) (outcome.Resized words place) full row =
+      rw full
+      (resized-after f g setting position r need words place held row.5 row.3 piece given freed legal full row.0 row.2
+      (given-of setting.caller need place (need_of need) row.3 row.4) row.7 at)
+  after-at (op.Alloc r need v) (Some held) (outcome.Given words place) full row = absurd row
+  after-at (op.Free r) None outcome.Freed full row = absurd row
+  after-at (op.Put r shelf) None outcome.Put full row = absurd row
+  after-at (op.Take r shelf) (Some held) (outcome.Took words place need) full row = absurd row
+  after-at (op.Resize r need) None (outcome.Resized words place) full row = absurd row
+  after-at operation slot result full row =
+      quiet f g setting position piece given freed legal (stills-at setting position piece operation slot result (λ moves. moves) row) at
 
 pub row-after :
     (f : ℕ → ℕ) (g : Geometry) (setting : Setting) (position : Position) (operation : Op) (result : Outcome) (piece : List Event) (given freed : ℕ)
     → IsLegalWithoutCounts g setting.history → FitsRow setting position operation result piece → Before f setting position given freed
     → After f setting position operation result piece given freed
-row-after f g setting position (op.Alloc r need v) result piece given freed legal row at =
-    alloc-after f g setting position r need v (held_in position.registers r) result piece given freed legal row at
-row-after f g setting position (op.Free r) result piece given freed legal row at =
-    free-after f g setting position r (held_in position.registers r) result piece given freed legal refl row at
-row-after f g setting position (op.Fill r v) result piece given freed legal row at =
-    fill-after f g setting position r v (held_in position.registers r) result piece given freed legal row at
-row-after f g setting position (op.Check r) result piece given freed legal row at =
-    check-after f g setting position r (held_in position.registers r) result piece given freed legal row at
-row-after f g setting position (op.Put r shelf) result piece given freed legal row at =
-    put-after f g setting position r shelf (held_in position.registers r) result piece given freed legal refl row at
-row-after f g setting position (op.Take r shelf) result piece given freed legal row at =
-    take-after f g setting position r shelf (held_in position.registers r) result piece given freed legal row at
-row-after f g setting position (op.Resize r need) result piece given freed legal row at =
-    resize-after f g setting position r need (held_in position.registers r) result piece given freed legal refl row at
+row-after f g setting position operation result piece given freed legal row at =
+    after-at f g setting position piece given freed legal at operation (slot_of position.registers operation) result refl
+    (row-at setting position operation result piece row)
 
 -- the lane's registers follow the history to the end of a walk
 pub walk-after :
@@ -358,11 +315,10 @@ pub walk-after :
 walk-after f g setting from to [] [] given freed legal walks at =
     subst (λ (s : Position). Before f setting s (given + 0) (freed + 0)) (sym walks)
     (at-as f setting.history setting.caller from.done from.done from.registers given freed (given + 0) (freed + 0) refl (omega arith) (omega arith) at)
-walk-after f g setting from to [] (result ∷ results) given freed legal walks at = absurd walks
-walk-after f g setting from to (operation ∷ operations) [] given freed legal walks at = absurd walks
 walk-after f g setting from to (operation ∷ operations) (result ∷ results) given freed legal walks at =
     let next : Position = position_after from operation result walks.0 in
     at-as f setting.history setting.caller to.done to.done to.registers _ _ _ _ refl (omega arith) (omega arith)
     (walk-after f g setting next to operations results (given + count_with f (words_given operation result))
     (freed + count_with f (words_freed from.registers operation result)) legal walks.2
     (row-after f g setting from operation result walks.0 given freed legal walks.1 at))
+walk-after f g setting from to operations results given freed legal walks at = absurd walks

@@ -39,10 +39,9 @@ words-of (word ∷ contents) all =
 -- numbers for words that were written are their values
 pub known-words : (numbers words : List ℕ) → AllZip IsWord (map (λ n. Some n) numbers) words → words ≡ numbers
 known-words [] [] each = refl
-known-words [] (word ∷ words) each = absurd each
-known-words (n ∷ numbers) [] each = absurd each
 known-words (n ∷ numbers) (word ∷ words) each =
     ap (λ w. w ∷ words) each.0 ∙ ap (λ ws. n ∷ ws) (known-words numbers words each.1)
+known-words numbers words each = absurd each
 
 -- a word that was written stays so, and the next one is written
 set-kept : (contents : List (Option ℕ)) (i k v : ℕ) → IsSet contents k → IsSet (slice_set contents i (Some v)) k

@@ -1,35 +1,25 @@
 -- Where all callers are lanes whose outcomes fit, blocks on shelves, blocks in registers and blocks that are checked have all their words written.
-use Rattle.std.proofs.Common.{ℕ, zero, suc, ◌≡◌, ◌<◌, ◌≤◌, ◌+◌, map, ◌∷◌, ◌++◌, List, [], Option, Some, None, sum, length, get_or, replicate, refl, sym, ◌∙◌, ap, subst, inl, inr, arith, ◌%◌, ◌^◌, eq-eqb, length-append}
+use Rattle.std.proofs.Common.{ℕ, zero, suc, ◌≡◌, ◌<◌, ◌≤◌, ◌+◌, map, ◌∷◌, ◌++◌, List, [], Option, Some, None, sum, length, get_or, refl, sym, ◌∙◌, ap, subst, inl, inr, arith, ◌%◌, ◌^◌, length-append}
 use Rattle.std.specs.List.{AllByRecursion, AllZip}
-use Rattle.std.proofs.lemmas.Bool.{cases_eq, cases_lt}
-use Rattle.std.proofs.lemmas.List.{get_or_past}
+use Rattle.std.proofs.lemmas.Bool.{cases_eq}
 use Rattle.heap_geometry.specs.declared.geometry.Geometry.{Geometry}
 use Rattle.pool_model.specs.declared.event.Event.{Event}
 use Rattle.pool_model.specs.declared.event.Event.TheVariants.{Alloc, Looked, Refuse, Free, Write, Put, Take, TakeNone}
 use Rattle.pool_model.specs.declared.owner.Owner.TheVariants.{Caller, Shelf}
-use Rattle.pool_model.specs.Histories.{caller_of, own, Begins}
+use Rattle.pool_model.specs.Histories.{Begins}
 use Rattle.pool_model.specs.Pool.{Block, Pool, block_at, fresh_block, handed_to, pool_after, pool_of, with_changed, written}
 use Rattle.pool_model.specs.Legal.{IsLegalEventWithoutCounts, IsLegalWithoutCounts}
-use Rattle.pool_model.proofs.HistoryLemmas.{EachAfter-cut, last_cases, own-append, pool_of-push, push-append}
+use Rattle.pool_model.proofs.HistoryLemmas.{EachAfter-cut, last_cases, pool_of-push, push-append}
 use Rattle.pool_model.proofs.PoolLemmas.{block_at-changed_other, block_at-changed_same, block_at-here, block_at-past, block_at-without_other, block_at-without_same}
 use Rattle.pool_model.proofs.WellFormedLemmas.{sound-differ, sound-of}
-use Rattle.trace_text.specs.declared.limits.TheConstants.{REGISTERS}
-use Rattle.trace_text.specs.declared.trace.Op.{Op}
 use Rattle.trace_text.specs.declared.trace.Op.TheVariants as op
-use Rattle.lane_outcomes.specs.declared.registers.Held.{Held}
-use Rattle.lane_outcomes.specs.declared.outcome.Outcome.{Outcome}
+use Rattle.lane_outcomes.specs.declared.registers.HeldBlock.{HeldBlock}
 use Rattle.lane_outcomes.specs.declared.outcome.Outcome.TheVariants as outcome
-use Rattle.lane_outcomes.specs.Fits.{OutcomesFit, Walks}
-use Rattle.lane_outcomes.specs.Lane.{Position, held_in, position_after, start, writing}
-use Rattle.lane_outcomes.specs.LaneCounts.{as_one}
-use Rattle.lane_outcomes.specs.Rows.{CheckRow, ResizeRow, FitsRow, IsWord, Moment, Setting}
-use Rattle.lane_outcomes.specs.Standing.{setting_in}
-use Rattle.lane_outcomes.specs.Written.{HoldsWritten, ShelvesWritten, SumsWritten, CopiesWritten}
-use Rattle.lane_outcomes.proofs.HoldLemmas.{held-nothing}
-use Rattle.lane_outcomes.proofs.LanesLemmas.{lane-fits}
-use Rattle.lane_outcomes.proofs.LiveLemmas.{at-start}
+use Rattle.lane_outcomes.specs.Lane.{Position, held_in}
+use Rattle.lane_outcomes.specs.Rows.{CheckRow, FitsRow, IsWord, Moment, Setting}
+use Rattle.lane_outcomes.specs.Written.{HoldsWritten, ShelvesWritten, SumsWritten}
 use Rattle.lane_outcomes.proofs.WrittenBlocks.{AllSet, OwnsSuch, known-words, words-of}
-use Rattle.lane_outcomes.proofs.WrittenRows.{HeldSet, ShelfSet, put-full, walk-adds, walk-set}
+use Rattle.lane_outcomes.proofs.WrittenRows.{ShelfSet}
 use Rattle.lane_outcomes.proofs.FillLemmas.{writes_of}
 
 -- what an event makes of the blocks on shelves
@@ -129,75 +119,9 @@ module _ (g : Geometry) (history : List Event) (legal : IsLegalWithoutCounts g h
   shelved-by before begins place block live shelf owner =
       words-of block.contents (shelves-by (length before) before (omega arith) begins place block shelf live owner)
 
-module _ (g : Geometry) (history : List Event) (lost : ℕ) (lanes : List (List Op)) (outcomes : List (List Outcome)) (legal : IsLegalWithoutCounts g history) (fit : OutcomesFit g history lost lanes outcomes) where
-  -- a lane's registers hold nothing at first
-  none-held :
-      (caller limit more most : ℕ) (shelves : ShelvesSet history most)
-      → HeldSet g (setting_in history caller limit more) legal most shelves [] (replicate REGISTERS None)
-  none-held caller limit more most shelves r held full = absurd (let e : None ≡ Some held = sym (held-nothing REGISTERS r) ∙ full in cc)
-
-  -- whoever puts a block on a shelf is a lane, and has written all its words
-  put-by-lane :
-      (most caller place shelf : ℕ) (before rest : List Event) → ShelvesSet history most → length before ≤ most
-      → history ≡ before ++ Put caller place shelf ∷ rest → OwnsSuch AllSet (pool_of before) caller place
-  put-by-lane most caller place shelf before rest shelves few is =
-      let event = Put caller place shelf in
-      let below : caller < length lanes =
-      one-of (λ event. caller_of event < length lanes) before rest event
-      (subst (AllByRecursion (λ event. caller_of event < length lanes)) is fit.callers) in
-      let setting = setting_in history caller g.turn_limit lost in
-      let fits = lane-fits g history lost lanes outcomes fit.lanes_fit caller below in
-      let hers : own caller (event ∷ rest) ≡ event ∷ own caller rest = rw (eq-eqb caller caller refl) refl in
-      let ends : fits.end.done ≡ own caller before ++ event ∷ own caller rest =
-      sym fits.all_used ∙ ap (own caller) is ∙ own-append caller before (event ∷ rest) ∙ ap (λ es. own caller before ++ es) hers in
-      put-full g setting legal most shelves start fits.end (get_or lanes caller []) (get_or outcomes caller []) 0 0 before place shelf (own caller before)
-      (own caller rest) fits.walks (at-start as_one setting) (none-held caller g.turn_limit lost most shelves) few (event ∷ rest, is) refl ends
-
-  shelves-set : (most : ℕ) → ShelvesSet history most
-  shelves-set = shelves-by g history legal put-by-lane
-
-  pub shelved : (before : List Event) → Begins before history → ShelvesWritten (pool_of before)
-  shelved = shelved-by g history legal put-by-lane
-
--- each word of the blocks in a lane's registers was written, at a moment at which the lane stands there
-pub held-written :
-    (g : Geometry) (setting : Setting) (lost : ℕ) (lanes : List (List Op)) (outcomes : List (List Outcome)) (operations : List Op)
-    (results : List Outcome) (position : Position) → IsLegalWithoutCounts g setting.history → OutcomesFit g setting.history lost lanes outcomes
-    → Walks setting start operations results position → (moment : Moment setting position.done)
-    → HoldsWritten (pool_of moment.before) position.registers
-held-written g setting lost lanes outcomes operations results position legal fit walks moment r held block full live =
-    let most = length moment.before in
-    let shelves = shelves-set g setting.history lost lanes outcomes legal fit most in
-    let owns =
-    walk-set g setting legal most shelves start position operations results 0 0 walks (at-start as_one setting)
-    (none-held g setting.history lost lanes outcomes legal fit setting.caller setting.turn_limit setting.lost most shelves) r held full moment.before
-    (omega arith) moment.begins moment.own_done in
-    let same : owns.block ≡ block = let e : Some owns.block ≡ Some block = sym owns.live ∙ live in cc in
-    words-of block.contents (subst (λ (b : Block). AllSet b.contents) same owns.such)
-
--- a walk is cut at an operation
-record IsCutAt (setting : Setting) (from to : Position) (earlier later : List Op) (results more : List Outcome) (operation : Op) (result : Outcome) : Type 0 where
-  pub at : Position
-  pub walks : Walks setting from earlier results at
-  pub piece : List Event
-  pub row : FitsRow setting at operation result piece
-  pub rest : Walks setting (position_after at operation result piece) later more to
-
-cut-at :
-    (setting : Setting) (from to : Position) (earlier later : List Op) (results more : List Outcome) (operation : Op) (result : Outcome)
-    → length results ≡ length earlier → Walks setting from (earlier ++ operation ∷ later) (results ++ result ∷ more) to
-    → IsCutAt setting from to earlier later results more operation result
-cut-at setting from to [] later [] more operation result same (piece, row, walks) =
-    record { at = from; walks = refl; piece = piece; row = row; rest = walks }
-cut-at setting from to [] later (first ∷ results) more operation result same walks = absurd (omega (arith, same))
-cut-at setting from to (first ∷ earlier) later [] more operation result same walks = absurd (omega (arith, same))
-cut-at setting from to (first ∷ earlier) later (second ∷ results) more operation result same (piece, row, walks) =
-    let cut = cut-at setting (position_after from first second piece) to earlier later results more operation result (omega (arith, same)) walks in
-    record { at = cut.at; walks = (piece, row, cut.walks); piece = cut.piece; row = cut.row; rest = cut.rest }
-
 -- the sum of a check is that of words that were written
 check-sum :
-    (setting : Setting) (position : Position) (r total : ℕ) (piece : List Event) (held : Option Held) → held_in position.registers r ≡ held
+    (setting : Setting) (position : Position) (r total : ℕ) (piece : List Event) (held : Option HeldBlock) → held_in position.registers r ≡ held
     → ((moment : Moment setting position.done) → HoldsWritten (pool_of moment.before) position.registers)
     → CheckRow setting position held (outcome.Sum total) piece → SumsWritten setting position r total
 check-sum setting position r total piece None full all row = absurd row
@@ -223,43 +147,6 @@ pub check-at :
     → FitsRow setting position (op.Check r) (outcome.Sum total) piece → SumsWritten setting position r total
 check-at setting position r total piece all row = check-sum setting position r total piece (held_in position.registers r) refl all row
 
--- a lane's walk is cut at an operation
-lane-cut :
-    (g : Geometry) (history : List Event) (lost : ℕ) (lanes : List (List Op)) (outcomes : List (List Outcome)) (lane : ℕ) (earlier later : List Op)
-    (results more : List Outcome) (operation : Op) (result : Outcome) → OutcomesFit g history lost lanes outcomes
-    → get_or lanes lane [] ≡ earlier ++ operation ∷ later → get_or outcomes lane [] ≡ results ++ result ∷ more → length results ≡ length earlier
-    → (end : Position) × IsCutAt (setting_in history lane g.turn_limit lost) start end earlier later results more operation result
-    × (own lane history ≡ end.done)
-lane-cut g history lost lanes outcomes lane earlier later results more operation result fit operations_are results_are same =
-    let below : lane < length lanes =
-    elim (cases_lt lane (length lanes)) [
-      | inl lt ↦ lt
-      | inr past ↦
-          let none : get_or lanes lane [] ≡ [] = get_or_past lanes lane [] past in
-          absurd (omega (arith, ap length (sym none ∙ operations_are), length-append earlier (operation ∷ later)))
-    ] in
-    let setting = setting_in history lane g.turn_limit lost in
-    let fits = lane-fits g history lost lanes outcomes fit.lanes_fit lane below in
-    let walks : Walks setting start (earlier ++ operation ∷ later) (results ++ result ∷ more) fits.end =
-    subst (λ rs. Walks setting start (earlier ++ operation ∷ later) rs fits.end) results_are
-    (subst (λ ops. Walks setting start ops (get_or outcomes lane []) fits.end) operations_are fits.walks) in
-    (fits.end, cut-at setting start fits.end earlier later results more operation result same walks, fits.all_used)
-
-pub check-written :
-    (g : Geometry) (history : List Event) (lost : ℕ) (lanes : List (List Op)) (outcomes : List (List Outcome)) (lane r total : ℕ)
-    (earlier later : List Op) (results more : List Outcome) → IsLegalWithoutCounts g history → OutcomesFit g history lost lanes outcomes
-    → get_or lanes lane [] ≡ earlier ++ op.Check r ∷ later → get_or outcomes lane [] ≡ results ++ outcome.Sum total ∷ more
-    → length results ≡ length earlier
-    → (position : Position) × Walks (setting_in history lane g.turn_limit lost) start earlier results position
-    × SumsWritten (setting_in history lane g.turn_limit lost) position r total
-check-written g history lost lanes outcomes lane r total earlier later results more legal fit operations_are results_are same =
-    let setting = setting_in history lane g.turn_limit lost in
-    let (end, cut, used) = lane-cut g history lost lanes outcomes lane earlier later results more (op.Check r) (outcome.Sum total) fit operations_are results_are same in (
-      cut.at,
-      cut.walks,
-      check-at setting cut.at r total cut.piece (held-written g setting lost lanes outcomes earlier results cut.at legal fit cut.walks) cut.row,
-    )
-
 -- a number for a copied word is the word that was written, and 0 past the end
 pub copied-word : (values : List ℕ) (i n : ℕ) → IsWord (get_or (map (λ word. Some word) values) i (Some 0)) n → n ≡ get_or values i 0
 copied-word [] i n is = is
@@ -275,57 +162,3 @@ writes-same caller place (suc count) first value other same =
     ap (λ n. Write caller place first n ∷ writes_of caller place value (first + 1) count) (same first (omega arith))
     ∙ ap (λ es. Write caller place first (other first) ∷ es)
     (writes-same caller place count (first + 1) value other (λ i lt. same i (omega (arith, lt))))
-
--- the copy of a resize is one of words that were written
-resize-copy :
-    (setting : Setting) (position : Position) (r need words place : ℕ) (piece : List Event) (held : Option Held) → held_in position.registers r ≡ held
-    → ((moment : Moment setting position.done) → HoldsWritten (pool_of moment.before) position.registers)
-    → Begins (position.done ++ piece) (own setting.caller setting.history) → ResizeRow setting position need held (outcome.Resized words place) piece
-    → CopiesWritten setting position r need words place
-resize-copy setting position r need words place piece None full all goes_on row = absurd row
-resize-copy setting position r need words place piece (Some held) full all goes_on (differ, asks, words_are, calls, given, value, copy, piece_is) =
-    let values = all copy.moment r held copy.block full copy.live in
-    let each : (i : ℕ) → i < 0 + words → value i ≡ get_or values.0 i 0 =
-    λ i lt.
-    copied-word values.0 i (value i) (subst (λ (cs : List (Option ℕ)). IsWord (get_or cs i (Some 0)) (value i)) values.1 (copy.each i (omega (arith, lt)))) in
-    let freed : List Event = Free setting.caller held.place ∷ [] in
-    let piece_same : piece ≡ (calls ++ writing setting.caller place words (λ i. get_or values.0 i 0)) ++ freed =
-    piece_is ∙ ap (λ es. (calls ++ es) ++ freed) (writes-same setting.caller place words 0 value (λ i. get_or values.0 i 0) each) in
-    record {
-      held = held;
-      holds = full;
-      moment = copy.moment;
-      block = copy.block;
-      live = copy.live;
-      values = values.0;
-      written = values.1;
-      calls = calls;
-      allocates = given;
-      goes_on = subst (λ (es : List Event). Begins (position.done ++ es) (own setting.caller setting.history)) piece_same goes_on;
-    }
-
-resize-at :
-    (setting : Setting) (position : Position) (r need words place : ℕ) (piece : List Event)
-    → ((moment : Moment setting position.done) → HoldsWritten (pool_of moment.before) position.registers)
-    → Begins (position.done ++ piece) (own setting.caller setting.history) → FitsRow setting position (op.Resize r need) (outcome.Resized words place) piece
-    → CopiesWritten setting position r need words place
-resize-at setting position r need words place piece all goes_on row =
-    resize-copy setting position r need words place piece (held_in position.registers r) refl all goes_on row
-
-pub resize-written :
-    (g : Geometry) (history : List Event) (lost : ℕ) (lanes : List (List Op)) (outcomes : List (List Outcome)) (lane r need words place : ℕ)
-    (earlier later : List Op) (results more : List Outcome) → IsLegalWithoutCounts g history → OutcomesFit g history lost lanes outcomes
-    → get_or lanes lane [] ≡ earlier ++ op.Resize r need ∷ later → get_or outcomes lane [] ≡ results ++ outcome.Resized words place ∷ more
-    → length results ≡ length earlier
-    → (position : Position) × Walks (setting_in history lane g.turn_limit lost) start earlier results position
-    × CopiesWritten (setting_in history lane g.turn_limit lost) position r need words place
-resize-written g history lost lanes outcomes lane r need words place earlier later results more legal fit operations_are results_are same =
-    let setting = setting_in history lane g.turn_limit lost in
-    let (end, cut, used) =
-    lane-cut g history lost lanes outcomes lane earlier later results more (op.Resize r need) (outcome.Resized words place) fit operations_are results_are same in
-    let adds = walk-adds setting (position_after cut.at (op.Resize r need) (outcome.Resized words place) cut.piece) end later more cut.rest in (
-      cut.at,
-      cut.walks,
-      resize-at setting cut.at r need words place cut.piece (held-written g setting lost lanes outcomes earlier results cut.at legal fit cut.walks)
-          (adds.0, used ∙ adds.1) cut.row,
-    )

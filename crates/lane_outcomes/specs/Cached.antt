@@ -8,7 +8,7 @@ use Rattle.pool_model.specs.Calls.{EventsOf, alloc_given}
 use Rattle.pool_model.specs.Histories.{own, caller_of}
 use Rattle.trace_text.specs.declared.trace.Op.{Op}
 use Rattle.trace_text.specs.declared.trace.Op.TheVariants as op
-use Rattle.lane_outcomes.specs.declared.registers.Held.{Held}
+use Rattle.lane_outcomes.specs.declared.registers.HeldBlock.{HeldBlock}
 use Rattle.lane_outcomes.specs.declared.outcome.Outcome.{Outcome}
 use Rattle.lane_outcomes.specs.declared.outcome.Outcome.TheVariants as outcome
 use Rattle.lane_outcomes.specs.Lane.{Position, answered_after, filling, held_in, registers_after, spent_after, start, writing}
@@ -42,7 +42,7 @@ CachedRow setting depth position (op.Alloc r need v) (outcome.Given words place)
     × (calls : List Event) × IsGiven setting position need place calls
     × (piece ≡ calls ++ filling setting.caller place words v)
 CachedRow setting depth position (op.Resize r need) (outcome.Resized words place) piece =
-    (held : Held) × (held_in position.base.registers r ≡ Some held) × (need_of need ≢ held.need) × (words ≡ usable_words (need_of need))
+    (held : HeldBlock) × (held_in position.base.registers r ≡ Some held) × (need_of need ≢ held.need) × (words ≡ usable_words (need_of need))
     × (calls : List Event) × IsGiven setting position need place calls
     × (value : ℕ → ℕ) × IsCopy setting position.base held words value
     × (piece
@@ -57,7 +57,7 @@ CachedRow setting depth position (op.Resize r need) outcome.Refused piece =
 CachedRow setting depth position (op.Resize r need) outcome.Spent piece =
     (served_by position.magazines (need_of need) ≡ None) × FitsRow setting position.base (op.Resize r need) outcome.Spent piece
 CachedRow setting depth position (op.Free r) outcome.Freed piece =
-    (held : Held) × (held_in position.base.registers r ≡ Some held)
+    (held : HeldBlock) × (held_in position.base.registers r ≡ Some held)
     × (piece ≡ freeing setting.caller (is_kept depth position.magazines held.need) held.place)
 CachedRow setting depth position operation result piece = FitsRow setting position.base operation result piece
 
@@ -77,7 +77,7 @@ answered_by None answered operation result = answered_after answered operation r
 answered_by (Some place) answered operation result = answered
 
 -- the magazines after an operation
-abbrev pub magazines_after : ℕ → List (List ℕ) → List (Option Held) → Op → Outcome → List (List ℕ)
+abbrev pub magazines_after : ℕ → List (List ℕ) → List (Option HeldBlock) → Op → Outcome → List (List ℕ)
 magazines_after depth magazines registers (op.Alloc r need v) (outcome.Given words place) = magazines_given magazines (need_of need)
 magazines_after depth magazines registers (op.Free r) outcome.Freed = magazines_freed depth magazines (held_in registers r)
 magazines_after depth magazines registers (op.Resize r need) (outcome.Resized words place) =

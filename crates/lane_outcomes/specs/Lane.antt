@@ -9,14 +9,14 @@ use Rattle.pool_model.specs.declared.event.Event.TheVariants.{Write}
 use Rattle.trace_text.specs.declared.limits.TheConstants.{REGISTERS}
 use Rattle.trace_text.specs.declared.trace.Op.{Op}
 use Rattle.trace_text.specs.declared.trace.Op.TheVariants as op
-use Rattle.lane_outcomes.specs.declared.registers.Held.{Held}
+use Rattle.lane_outcomes.specs.declared.registers.HeldBlock.{HeldBlock}
 use Rattle.lane_outcomes.specs.declared.outcome.Outcome.{Outcome}
 use Rattle.lane_outcomes.specs.declared.outcome.Outcome.TheVariants as outcome
 
 -- a lane between two operations: what each of its registers holds, its own events so far, how many of its small
 -- allocations, resizes among them, were given a block or refused, and whether it has no turn left
 pub record Position : Type 0 where
-  pub registers : List (Option Held)
+  pub registers : List (Option HeldBlock)
   pub done : List Event
   pub answered : ℕ
   pub spent : Bool
@@ -26,11 +26,11 @@ abbrev pub start : Position
 start = record { registers = replicate REGISTERS None; done = []; answered = 0; spent = false }
 
 -- what a register holds
-abbrev pub held_in : List (Option Held) → ℕ → Option Held
+abbrev pub held_in : List (Option HeldBlock) → ℕ → Option HeldBlock
 held_in registers r = slice_index_or registers r None
 
 -- the registers after an operation with its outcome
-abbrev pub registers_after : List (Option Held) → Op → Outcome → List (Option Held)
+abbrev pub registers_after : List (Option HeldBlock) → Op → Outcome → List (Option HeldBlock)
 registers_after registers (op.Alloc r need v) (outcome.Given words place) =
     slice_set registers r (Some (record { place = place; words = words; need = need_of need }))
 registers_after registers (op.Take r shelf) (outcome.Took words place need) =

@@ -5,7 +5,7 @@ use Rattle.std.specs.Option.{option_map}
 use Rattle.trace_text.specs.declared.limits.TheConstants.{REGISTERS}
 use Rattle.trace_text.specs.declared.trace.Op.{Op}
 use Rattle.trace_text.specs.declared.trace.Op.TheVariants as op
-use Rattle.lane_outcomes.specs.declared.registers.Held.{Held}
+use Rattle.lane_outcomes.specs.declared.registers.HeldBlock.{HeldBlock}
 use Rattle.lane_outcomes.specs.declared.outcome.Outcome.{Outcome}
 use Rattle.lane_outcomes.specs.declared.outcome.Outcome.TheVariants as outcome
 use Rattle.lane_outcomes.specs.declared.live.Amount.{Amount}
@@ -18,7 +18,7 @@ words_given (op.Resize r need) (outcome.Resized words place) = Some words
 words_given operation result = None
 
 -- the words of the block that an operation freed
-abbrev pub words_freed : List (Option Held) → Op → Outcome → Option ℕ
+abbrev pub words_freed : List (Option HeldBlock) → Op → Outcome → Option ℕ
 words_freed registers (op.Free r) outcome.Freed = option_map (λ held. held.words) (held_in registers r)
 words_freed registers (op.Resize r need) (outcome.Resized words place) = option_map (λ held. held.words) (held_in registers r)
 words_freed registers operation result = None
@@ -42,7 +42,7 @@ lane_given f (operation ∷ operations) [] = 0
 lane_given f (operation ∷ operations) (result ∷ results) = count_with f (words_given operation result) + lane_given f operations results
 
 -- what a lane's blocks count that it freed, from these registers on
-abbrev pub lane_freed : (ℕ → ℕ) → List (Option Held) → List Op → List Outcome → ℕ
+abbrev pub lane_freed : (ℕ → ℕ) → List (Option HeldBlock) → List Op → List Outcome → ℕ
 lane_freed f registers [] results = 0
 lane_freed f registers (operation ∷ operations) [] = 0
 lane_freed f registers (operation ∷ operations) (result ∷ results) =

@@ -7,7 +7,7 @@ use Rattle.heap_geometry.specs.declared.need.Need.TheVariants.{Small, Large, Too
 use Rattle.heap_geometry.specs.Need.{usable_words}
 use Rattle.pool_model.specs.declared.event.Event.{Event}
 use Rattle.pool_model.specs.declared.event.Event.TheVariants.{Free}
-use Rattle.lane_outcomes.specs.declared.registers.Held.{Held}
+use Rattle.lane_outcomes.specs.declared.registers.HeldBlock.{HeldBlock}
 
 -- empty magazines, one for each class
 abbrev pub empty_magazines : List (List ℕ)
@@ -52,7 +52,7 @@ abbrev pub kept_with : Bool → List (List ℕ) → ℕ → Need → List (List 
 kept_with true magazines place (Small class) = slice_set magazines class (place ∷ magazine_of magazines class)
 kept_with keeps magazines place need = magazines
 
-abbrev pub magazines_freed : ℕ → List (List ℕ) → Option Held → List (List ℕ)
+abbrev pub magazines_freed : ℕ → List (List ℕ) → Option HeldBlock → List (List ℕ)
 magazines_freed depth magazines None = magazines
 magazines_freed depth magazines (Some held) = kept_with (is_kept depth magazines held.need) magazines held.place held.need
 
@@ -66,10 +66,10 @@ abbrev pub emptying : ℕ → List (List ℕ) → List Event
 emptying caller magazines = map (λ place. Free caller place) (flat_map (λ magazine. magazine) magazines)
 
 -- a magazine's block as a register's
-abbrev pub kept_block : ℕ → ℕ → Held
+abbrev pub kept_block : ℕ → ℕ → HeldBlock
 kept_block class place = record { place = place; words = usable_words (Small class); need = Small class }
 
 -- the blocks in magazines of the classes from `class` on, in the order in which emptying frees them
-abbrev pub kept_from : ℕ → List (List ℕ) → List Held
+abbrev pub kept_from : ℕ → List (List ℕ) → List HeldBlock
 kept_from class [] = []
 kept_from class (places ∷ magazines) = map (kept_block class) places ++ kept_from (suc class) magazines

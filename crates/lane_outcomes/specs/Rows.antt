@@ -10,7 +10,7 @@ use Rattle.pool_model.specs.Pool.{Block, Pool, block_at, pool_of}
 use Rattle.pool_model.specs.Calls.{EventsOf, alloc_given, alloc_refused, alloc_spent}
 use Rattle.trace_text.specs.declared.trace.Op.{Op}
 use Rattle.trace_text.specs.declared.trace.Op.TheVariants as op
-use Rattle.lane_outcomes.specs.declared.registers.Held.{Held}
+use Rattle.lane_outcomes.specs.declared.registers.HeldBlock.{HeldBlock}
 use Rattle.lane_outcomes.specs.declared.outcome.Outcome.{Outcome}
 use Rattle.lane_outcomes.specs.declared.outcome.Outcome.TheVariants as outcome
 use Rattle.lane_outcomes.specs.Lane.{Position, held_in, is_small, filling, writing}
@@ -64,7 +64,7 @@ IsSpent setting position need piece false =
     × (setting.turn_limit ≤ position.answered + count_by (gives_another_small setting.caller) moment.before)
 
 -- an allocation: a block that is given is filled with rising numbers
-abbrev pub AllocRow : Setting → Position → ℕ → ℕ → Option Held → Outcome → List Event → Type 0
+abbrev pub AllocRow : Setting → Position → ℕ → ℕ → Option HeldBlock → Outcome → List Event → Type 0
 AllocRow setting position need v (Some held) outcome.Skipped piece = piece ≡ []
 AllocRow setting position need v None (outcome.Given words place) piece =
     MayAsk position need × (words ≡ usable_words (need_of need))
@@ -76,19 +76,19 @@ AllocRow setting position need v None outcome.Spent piece = IsSpent setting posi
 AllocRow setting position need v held result piece = ⊥
 
 -- a free gives the held block back
-abbrev pub FreeRow : Setting → Option Held → Outcome → List Event → Type 0
+abbrev pub FreeRow : Setting → Option HeldBlock → Outcome → List Event → Type 0
 FreeRow setting None outcome.Skipped piece = piece ≡ []
 FreeRow setting (Some held) outcome.Freed piece = piece ≡ Free setting.caller held.place ∷ []
 FreeRow setting held result piece = ⊥
 
 -- a fill writes every usable word of the held block
-abbrev pub FillRow : Setting → ℕ → Option Held → Outcome → List Event → Type 0
+abbrev pub FillRow : Setting → ℕ → Option HeldBlock → Outcome → List Event → Type 0
 FillRow setting v None outcome.Skipped piece = piece ≡ []
 FillRow setting v (Some held) outcome.Filled piece = piece ≡ filling setting.caller held.place held.words v
 FillRow setting v held result piece = ⊥
 
 -- a check sums what the held block contains after the lane's events so far
-abbrev pub CheckRow : Setting → Position → Option Held → Outcome → List Event → Type 0
+abbrev pub CheckRow : Setting → Position → Option HeldBlock → Outcome → List Event → Type 0
 CheckRow setting position None outcome.Skipped piece = piece ≡ []
 CheckRow setting position (Some held) (outcome.Sum total) piece =
     (piece ≡ []) × (moment : Moment setting position.done) × (block : Block)
@@ -96,7 +96,7 @@ CheckRow setting position (Some held) (outcome.Sum total) piece =
 CheckRow setting position held result piece = ⊥
 
 -- a put lays the held block on the shelf, or finds a block there
-abbrev pub PutRow : Setting → Position → ℕ → Option Held → Outcome → List Event → Type 0
+abbrev pub PutRow : Setting → Position → ℕ → Option HeldBlock → Outcome → List Event → Type 0
 PutRow setting position shelf None outcome.Skipped piece = piece ≡ []
 PutRow setting position shelf (Some held) outcome.Put piece = piece ≡ Put setting.caller held.place shelf ∷ []
 PutRow setting position shelf (Some held) outcome.ShelfFull piece =
@@ -104,7 +104,7 @@ PutRow setting position shelf (Some held) outcome.ShelfFull piece =
 PutRow setting position shelf held result piece = ⊥
 
 -- a take gets the block that lies on the shelf at that moment, or finds none
-abbrev pub TakeRow : Setting → Position → ℕ → Option Held → Outcome → List Event → Type 0
+abbrev pub TakeRow : Setting → Position → ℕ → Option HeldBlock → Outcome → List Event → Type 0
 TakeRow setting position shelf (Some held) outcome.Skipped piece = piece ≡ []
 TakeRow setting position shelf None (outcome.Took words place need) piece =
     (piece ≡ Take setting.caller shelf place ∷ []) × (moment : Moment setting position.done) × (block : Block)
@@ -116,14 +116,14 @@ TakeRow setting position shelf held result piece = ⊥
 
 -- the values that a resized block of so many words is written with: those of the held block after the lane's events so far, an unwritten word
 -- standing for some number, and 0 past its end
-pub record IsCopy (setting : Setting) (position : Position) (held : Held) (words : ℕ) (value : ℕ → ℕ) : Type 0 where
+pub record IsCopy (setting : Setting) (position : Position) (held : HeldBlock) (words : ℕ) (value : ℕ → ℕ) : Type 0 where
   pub moment : Moment setting position.done
   pub block : Block
   pub live : block_at held.place (pool_of moment.before) ≡ Some block
   pub each : (i : ℕ) → i < words → IsWord (slice_index_or block.contents i (Some 0)) (value i)
 
 -- a resize leaves a block that has the need; for another one it allocates a block, copies the held block's words there and then frees that block
-abbrev pub ResizeRow : Setting → Position → ℕ → Option Held → Outcome → List Event → Type 0
+abbrev pub ResizeRow : Setting → Position → ℕ → Option HeldBlock → Outcome → List Event → Type 0
 ResizeRow setting position need None outcome.Skipped piece = piece ≡ []
 ResizeRow setting position need (Some held) (outcome.Kept words place) piece =
     (piece ≡ []) × (need_of need ≡ held.need) × (words ≡ held.words) × (place ≡ held.place)

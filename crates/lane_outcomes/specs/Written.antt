@@ -7,7 +7,7 @@ use Rattle.pool_model.specs.declared.owner.Owner.TheVariants.{Shelf}
 use Rattle.pool_model.specs.Calls.{EventsOf, alloc_given}
 use Rattle.pool_model.specs.Histories.{own, Begins}
 use Rattle.pool_model.specs.Pool.{Block, Pool, EachBlock, block_at, pool_of}
-use Rattle.lane_outcomes.specs.declared.registers.Held.{Held}
+use Rattle.lane_outcomes.specs.declared.registers.HeldBlock.{HeldBlock}
 use Rattle.lane_outcomes.specs.Lane.{Position, held_in, writing}
 use Rattle.lane_outcomes.specs.Rows.{Setting, Moment}
 
@@ -16,9 +16,9 @@ abbrev pub AreWritten : List (Option ℕ) → Type 0
 AreWritten contents = (words : List ℕ) × (contents ≡ map (λ word. Some word) words)
 
 -- each word was written of each block that the registers hold
-abbrev pub HoldsWritten : Pool → List (Option Held) → Type 0
+abbrev pub HoldsWritten : Pool → List (Option HeldBlock) → Type 0
 HoldsWritten pool registers =
-    (r : ℕ) (held : Held) (block : Block) → held_in registers r ≡ Some held → block_at held.place pool ≡ Some block → AreWritten block.contents
+    (r : ℕ) (held : HeldBlock) (block : Block) → held_in registers r ≡ Some held → block_at held.place pool ≡ Some block → AreWritten block.contents
 
 -- each word was written of each block that lies on a shelf
 abbrev pub ShelvesWritten : Pool → Type 0
@@ -26,7 +26,7 @@ ShelvesWritten pool = EachBlock (λ block. (shelf : ℕ) → block.owner ≡ She
 
 -- a check's sum is that of the words of its register's block, each of which was written, at a moment at which the lane has made exactly its events so far
 pub record SumsWritten (setting : Setting) (position : Position) (r total : ℕ) : Type 0 where
-  pub held : Held
+  pub held : HeldBlock
   pub holds : held_in position.registers r ≡ Some held
   pub moment : Moment setting position.done
   pub block : Block
@@ -38,7 +38,7 @@ pub record SumsWritten (setting : Setting) (position : Position) (r total : ℕ)
 -- a resize copies the words of its register's block, each of which was written, at a moment at which the lane has made exactly its events so far. The
 -- lane's own events go on with those of the allocation, a write of every usable word, 0 past the old block's end, and the free of the old block
 pub record CopiesWritten (setting : Setting) (position : Position) (r need words place : ℕ) : Type 0 where
-  pub held : Held
+  pub held : HeldBlock
   pub holds : held_in position.registers r ≡ Some held
   pub moment : Moment setting position.done
   pub block : Block

@@ -5,7 +5,7 @@ use Rattle.heap_geometry.specs.Need.{need_of}
 use Rattle.pool_model.specs.declared.event.Event.{Event}
 use Rattle.pool_model.specs.Histories.{own, Begins}
 use Rattle.pool_model.specs.Pool.{Block, block_at, pool_of}
-use Rattle.lane_outcomes.specs.declared.registers.Held.{Held}
+use Rattle.lane_outcomes.specs.declared.registers.HeldBlock.{HeldBlock}
 use Rattle.lane_outcomes.specs.Cached.{CachedPosition, IsGiven}
 use Rattle.lane_outcomes.specs.Lane.{held_in, writing}
 use Rattle.lane_outcomes.specs.Magazines.{freeing, is_kept, magazines_given}
@@ -15,7 +15,7 @@ use Rattle.lane_outcomes.specs.Rows.{Setting, Moment}
 -- lane's own events go on with those of the allocation, if the heap made one, a write of every usable word, 0 past the old block's end, and the free of
 -- the old block, unless a magazine keeps it
 pub record CopiesWrittenThrough (setting : Setting) (depth : ℕ) (position : CachedPosition) (r need words place : ℕ) : Type 0 where
-  pub held : Held
+  pub held : HeldBlock
   pub holds : held_in position.base.registers r ≡ Some held
   pub moment : Moment setting position.base.done
   pub block : Block

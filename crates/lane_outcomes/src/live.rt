@@ -12,7 +12,7 @@ ghost use Rattle.lane_outcomes.specs.Lane.{held_in, registers_after};
 ghost use Rattle.lane_outcomes.specs.LaneCounts.{words_given, words_freed, count_with, as_one, as_words, lane_given, lane_freed, lanes_given, lanes_freed, live_of, GrowsBy};
 
 use crate::outcome::Outcome;
-use crate::registers::{Held, Registers};
+use crate::registers::{HeldBlock, Registers};
 use heap_geometry::need::class_of;
 use trace_text::trace::{Op, Trace};
 
@@ -90,14 +90,14 @@ fn follow(registers: &mut Registers, operation: Op, outcome: Outcome)
     match (operation, outcome) {
         (Op::Alloc { r, need, .. }, Outcome::Given { words, place }) => {
             let need = class_of(need);
-            registers.set(r, Some(Held { place, words, need }));
+            registers.set(r, Some(HeldBlock { place, words, need }));
         }
         (Op::Resize { r, need }, Outcome::Resized { words, place }) => {
             let need = class_of(need);
-            registers.set(r, Some(Held { place, words, need }));
+            registers.set(r, Some(HeldBlock { place, words, need }));
         }
         (Op::Take { r, .. }, Outcome::Took { words, place, need }) => {
-            registers.set(r, Some(Held { place, words, need }));
+            registers.set(r, Some(HeldBlock { place, words, need }));
         }
         (Op::Free { r }, Outcome::Freed) => registers.set(r, None),
         (Op::Put { r, .. }, Outcome::Put) => registers.set(r, None),

@@ -2,8 +2,9 @@
 
 use heap_geometry::need::Need;
 
-/// What became of an operation. Places are told beside what the report prints, since a history names
-/// its blocks by their places; and the need of a block that was taken, which no operation of the lane says.
+/// What became of an operation, which makes several calls, or none. Places are told beside what the report prints,
+/// since a history names its blocks by their places; and the need of a block that was taken, which no operation of
+/// the lane says.
 #[derive(Clone, Copy, PartialEq, Eq)]
 pub enum Outcome {
     /// A block of `words` usable words was given, and filled.

@@ -1,5 +1,5 @@
 -- The outcomes of lanes that ran on threads fit the history of their closed heap.
-use Rattle.std.proofs.Common.{ℕ, zero, ◌≡◌, ◌<◌, ◌≤◌, ◌+◌, List, [], ◌∷◌, ◌++◌, length, length-append, append_assoc, get_or, max, refl, sym, ap, ◌∙◌, subst, inl, inr, arith, zero-add}
+use Rattle.std.proofs.Common.{ℕ, ◌≡◌, ◌<◌, ◌≤◌, ◌+◌, List, [], ◌∷◌, ◌++◌, length, length-append, append_assoc, get_or, max, refl, sym, ap, ◌∙◌, subst, inl, inr, arith, zero-add}
 use Rattle.std.specs.Prelude.{Contains}
 use Rattle.std.specs.List.{AllByRecursion}
 use Rattle.std.proofs.lemmas.Bool.{cases_lt}
@@ -22,17 +22,18 @@ use Rattle.trace_text.specs.Traces.{IsTrace}
 use Rattle.lane_outcomes.specs.declared.outcome.Outcome.{Outcome}
 use Rattle.lane_outcomes.specs.declared.outcome.Outcome.TheVariants as outcome
 use Rattle.lane_outcomes.specs.Fits.{Fits, OutcomesFit}
+use Rattle.lane_outcomes.specs.Rows.{Setting}
 use Rattle.lane_outcomes.specs.Standing.{setting_in}
-use Rattle.lane_outcomes.proofs.FitLemmas.{fits-later}
+use Rattle.lane_outcomes.proofs.LaterLemmas.{fits-later}
 use Rattle.live_heap.specs.Heaps.{HeapFields}
 use Rattle.live_heap.specs.declared.pass.Pass.{Pass}
 use Rattle.live_heap.specs.Endings.{ClosedFields, HasClosed, HasTakenIn, IsResting, machine_of}
-use Rattle.live_heap.specs.Passes.{seen}
+use Rattle.live_heap.specs.Passes.{IsFresh, seen}
 use Rattle.trace_lane.specs.Begun.{calls_of}
 use Rattle.trace_lane.proofs.FitLemmas.{lane-spent}
 use Rattle.lane_runner.specs.Driven.{IsDriven}
 use Rattle.lane_runner.specs.Running.{operations_in}
-use Rattle.lane_runner.specs.Passes.{HasEndedOver, HaveRun}
+use Rattle.lane_runner.specs.Passes.{HaveRun}
 use Rattle.lane_runner.proofs.DrivenLemmas.{fits-all}
 use Rattle.lane_runner.proofs.RunLanes.{element_at}
 
@@ -69,72 +70,97 @@ driven-taken trace orders c outcomes lane driven lt told =
     lane-spent trace.heap lane c.events (errand_at c.errands lane) (operations_in trace lane) end.registers (get_or outcomes lane [])
     (calls_of lane driven.so_far.moves) told.0 end.rule told.1 told.2
 
-module _ (trace : Trace) (h : HeapFields) (passes : List Pass) (outcomes : List (List Outcome)) (c : ClosedFields) (is : IsTrace trace) (laid : h.layout ≡ trace.heap) (run : HaveRun trace h passes outcomes) (closed : HasClosed h passes c) (rests : IsResting c) where
+-- passes with which a heap was closed
+module _ (trace : Trace) (h : HeapFields) (passes : List Pass) (c : ClosedFields) (is : IsTrace trace) (laid : h.layout ≡ trace.heap) (all : length passes ≡ trace.heap.callers) (closed : HasClosed h passes c) (rests : IsResting c) where
   layout : c.geometry ≡ trace.heap
   layout = closed.heap ∙ laid
 
-  lost_by : ℕ
+  abbrev pub lost_by : ℕ
   lost_by = callers_sum c.geometry lost_of (errand_at c.errands)
 
-  legal : IsLegal c.geometry c.events
-  legal = (core-sound (machine_of c rests.steps) rests.core).legal
+  pass-at : (k : ℕ) → k < length passes → (p : Pass) × (p ≡ get_or passes k p) × HasTakenIn c p
+  pass-at k lt =
+      let it = element_at passes k lt in
+      (it.0, it.1, subst (HasTakenIn c) (sym it.1) (All-get_or (HasTakenIn c) passes k it.0 lt closed.each))
 
-  taken : (k : ℕ) (p : Pass) → k < length passes → p ≡ get_or passes k p → HasTakenIn c p
-  taken k p lt there = subst (HasTakenIn c) (sym there) (All-get_or (HasTakenIn c) passes k p lt closed.each)
+  -- the pass of a lane, as the closed heap has taken it in
+  pub pass-of : (lane : ℕ) → lane < length trace.lanes → (p : Pass) × (p ≡ get_or passes lane p) × HasTakenIn c p
+  pass-of lane lt = pass-at lane (omega (arith, lt, at-least-one (length trace.lanes) trace.heap.callers is.callers, all))
 
-  -- the pass of a lane that has ended, as the closed heap has taken it in
-  ended :
-      (lane : ℕ) → lane < length trace.lanes
-      → (p : Pass) × HasEndedOver h (operations_in trace lane) lane p (get_or outcomes lane []) × HasTakenIn c p × (errand_at c.errands lane ≡ p.errand)
-  ended lane lt =
-      let below : lane < length passes = omega (arith, lt, at-least-one (length trace.lanes) trace.heap.callers is.callers, run.all) in
-      let it = element_at passes lane below in
-      let e = run.each lane it.0 lt it.1 in
-      let t = taken lane it.0 below it.1 in
-      (it.0, e, t, ap (errand_at c.errands) (sym e.caller) ∙ t.errand)
+  -- others' events followed what it had seen, and it lost no more exchanges than all callers did
+  pub record IsBehind (lane : ℕ) (p : Pass) : Type 0 where
+    pub rest : List Event
+    pub whole : c.events ≡ seen p ++ rest
+    pub none : own lane rest ≡ []
+    pub lost : p.errand.lost ≤ lost_by
+    pub errand : errand_at c.errands lane ≡ p.errand
 
-  fits-at :
-      (lane : ℕ) → lane < length trace.lanes
-      → Fits (setting_in c.events (0 + lane) trace.heap.turn_limit lost_by) (get_or trace.lanes lane []) (get_or outcomes lane [])
-  unfolding lost_by callers_sum
-  fits-at lane lt =
-      let (p, e, t, errand) = ended lane lt in
-      let operations = operations_in trace lane in
-      let results = get_or outcomes lane [] in
+  pub behind : (lane : ℕ) (p : Pass) → lane < length trace.lanes → p.errand.caller ≡ lane → HasTakenIn c p → IsBehind lane p
+  unfolding callers_sum
+  behind lane p lt caller t =
       let rest : List Event = t.seen_before.0 in
-      let same : own lane c.events ≡ own lane (seen p) = subst (λ k. own k c.events ≡ own k (seen p)) e.caller t.events in
-      let none : own lane rest ≡ [] =
-      nothing-more (own lane (seen p)) (own lane rest) (sym (own-append lane (seen p) rest) ∙ ap (own lane) (sym t.seen_before.1) ∙ same) in
+      let same : own lane c.events ≡ own lane (seen p) = subst (λ k. own k c.events ≡ own k (seen p)) caller t.events in
       let has : lane < trace.heap.callers = omega (arith, lt, at-least-one (length trace.lanes) trace.heap.callers is.callers) in
       let most : (errand_at c.errands lane).lost ≤ lost_by =
       term-sum c.geometry.callers (λ k. lost_of (errand_at c.errands k)) lane (subst (λ (g : Geometry). lane < g.callers) (sym layout) has) in
-      let later = fits-later (setting_in (seen p) lane h.layout.turn_limit p.errand.lost) rest lost_by operations results
-      (subst (λ (f : ErrandFields). f.lost ≤ lost_by) errand most) none e.fit in
-      let here : Fits (setting_in c.events lane h.layout.turn_limit lost_by) operations results =
-      subst (λ history. Fits (setting_in history lane h.layout.turn_limit lost_by) operations results) (sym t.seen_before.1) later in
-      subst (λ k. Fits (setting_in c.events k trace.heap.turn_limit lost_by) operations results) (sym (zero-add lane))
-      (subst (λ (g : Geometry). Fits (setting_in c.events lane g.turn_limit lost_by) operations results) laid here)
+      let errand = ap (errand_at c.errands) (sym caller) ∙ t.errand in
+      record {
+        rest = rest;
+        whole = t.seen_before.1;
+        none =
+            nothing-more (own lane (seen p)) (own lane rest) (sym (own-append lane (seen p) rest) ∙ ap (own lane) (sym t.seen_before.1) ∙ same);
+        lost = subst (λ (f : ErrandFields). f.lost ≤ lost_by) errand most;
+        errand = errand;
+      }
+
+  -- what fits what the pass had seen, and others' events behind it, fits the closed heap
+  pub fits-here :
+      (P : Setting → Type 0) (lane : ℕ) (p : Pass) (b : IsBehind lane p) → P (setting_in (seen p ++ b.rest) lane h.layout.turn_limit lost_by)
+      → P (setting_in c.events (0 + lane) trace.heap.turn_limit lost_by)
+  fits-here P lane p b it =
+      subst (λ k. P (setting_in c.events k trace.heap.turn_limit lost_by)) (sym (zero-add lane))
+      (subst (λ (g : Geometry). P (setting_in c.events lane g.turn_limit lost_by)) laid
+      (subst (λ history. P (setting_in history lane h.layout.turn_limit lost_by)) (sym b.whole) it))
+
+  -- no event is of a caller without a lane
+  pub lanes-alone :
+      ((k : ℕ) (p : Pass) → length trace.lanes ≤ k → k < length passes → p ≡ get_or passes k p → IsFresh h p × (p.errand.caller ≡ k))
+      → AllByRecursion (λ event. caller_of event < length trace.lanes) c.events
+  lanes-alone fresh =
+      events-below c.geometry (length trace.lanes) c.events [] c.events (core-sound (machine_of c rests.steps) rests.core).legal refl
+      (λ k least has.
+      let below : k < length passes = omega (arith, has, all, ap (λ (g : Geometry). g.callers) layout) in
+      let (p, there, t) = pass-at k below in
+      let is_fresh = fresh k p least below there in
+      subst (λ n. own n c.events ≡ own n (seen p)) is_fresh.1 t.events ∙ ap (own k) is_fresh.0.nothing_seen)
+
+module _ (trace : Trace) (h : HeapFields) (passes : List Pass) (outcomes : List (List Outcome)) (c : ClosedFields) (is : IsTrace trace) (laid : h.layout ≡ trace.heap) (run : HaveRun trace h passes outcomes) (closed : HasClosed h passes c) (rests : IsResting c) where
+  fits-at :
+      (lane : ℕ) → lane < length trace.lanes
+      → Fits (setting_in c.events (0 + lane) trace.heap.turn_limit (lost_by trace h passes c is laid run.all closed rests)) (get_or trace.lanes lane [])
+      (get_or outcomes lane [])
+  fits-at lane lt =
+      let (p, there, t) = pass-of trace h passes c is laid run.all closed rests lane lt in
+      let e = run.each lane p lt there in
+      let b = behind trace h passes c is laid run.all closed rests lane p lt e.caller t in
+      let operations = operations_in trace lane in
+      let results = get_or outcomes lane [] in
+      fits-here trace h passes c is laid run.all closed rests (λ setting. Fits setting operations results) lane p b
+      (fits-later (setting_in (seen p) lane h.layout.turn_limit p.errand.lost) b.rest (lost_by trace h passes c is laid run.all closed rests) operations results
+      b.lost b.none e.fit)
 
   -- a lane that was told to have no turn left has taken them all
   pub all-taken :
       (lane : ℕ) → lane < length trace.lanes → Contains (get_or outcomes lane []) outcome.Spent
       → (errand_at c.errands lane).turns ≡ trace.heap.turn_limit
   all-taken lane lt told =
-      let it = ended lane lt in
-      ap (λ (f : ErrandFields). f.turns) it.3 ∙ it.1.spent told ∙ ap (λ (g : Geometry). g.turn_limit) laid
-
-  none-from : (k : ℕ) → length trace.lanes ≤ k → k < c.geometry.callers → own k c.events ≡ []
-  none-from k least has =
-      let below : k < length passes = omega (arith, has, run.all, ap (λ (g : Geometry). g.callers) layout) in
-      let it = element_at passes k below in
-      let p = it.0 in
-      let fresh = run.rest k p least below it.1 in
-      let t = taken k p below it.1 in
-      subst (λ n. own n c.events ≡ own n (seen p)) fresh.1 t.events ∙ ap (own k) fresh.0.nothing_seen
+      let (p, there, t) = pass-of trace h passes c is laid run.all closed rests lane lt in
+      let e = run.each lane p lt there in
+      ap (λ (f : ErrandFields). f.turns) (behind trace h passes c is laid run.all closed rests lane p lt e.caller t).errand ∙ e.spent told
+      ∙ ap (λ (g : Geometry). g.turn_limit) laid
 
   pub closed-fit : OutcomesFit trace.heap c.events (callers_sum c.geometry lost_of (errand_at c.errands)) trace.lanes outcomes
-  unfolding lost_by
   closed-fit = record {
-    lanes_fit = fits-all trace.heap c.events lost_by 0 trace.lanes outcomes run.lists fits-at;
-    callers = events-below c.geometry (length trace.lanes) c.events [] c.events legal refl none-from;
+    lanes_fit = fits-all trace.heap c.events (lost_by trace h passes c is laid run.all closed rests) 0 trace.lanes outcomes run.lists fits-at;
+    callers = lanes-alone trace h passes c is laid run.all closed rests run.rest;
   }

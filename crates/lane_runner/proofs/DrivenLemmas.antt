@@ -36,7 +36,7 @@ use Rattle.lane_engine.specs.declared.grip.Grip.{Grip}
 use Rattle.lane_outcomes.specs.declared.outcome.Outcome.{Outcome}
 use Rattle.step_machine.specs.Moments.{IsServed}
 use Rattle.step_machine.proofs.MomentLemmas.{core-served}
-use Rattle.lane_outcomes.specs.declared.registers.Held.{Held}
+use Rattle.lane_outcomes.specs.declared.registers.HeldBlock.{HeldBlock}
 use Rattle.lane_outcomes.specs.Fits.{Fits, LanesFit}
 use Rattle.lane_outcomes.specs.Passed.{AllPassed}
 use Rattle.lane_outcomes.specs.Standing.{setting_in}
@@ -192,7 +192,7 @@ new-passed passed lane none between op lt =
     absurd (omega (arith, lt, zero_begun))
 
 -- what a lane's registers hold
-abbrev registers_on : CoreFields → LaneState Grip → List (Option Held)
+abbrev registers_on : CoreFields → LaneState Grip → List (Option HeldBlock)
 registers_on c lane = registers_at (machine_at c lane.caller) lane.registers.items
 
 -- a lane that stands on the machine of a trace stands by its rule there

@@ -1,4 +1,3 @@
-pub mod AddedLemmas
 pub mod CacheRuns
 pub mod CallLemmas
 pub mod ClosedFits
@@ -8,8 +7,8 @@ pub mod GivenLemmas
 pub mod HoldsLemmas
 pub mod Numbered
 pub mod OrderLemmas
-pub mod OutcomeRows
 pub mod PairLemmas
+pub mod PassLemmas
 pub mod Places
 mod PlainRuns
 pub mod RowLemmas
@@ -19,5 +18,4 @@ pub mod RunMeasures
 pub mod StopLemmas
 pub mod ThreadLemmas
 pub mod WalkLemmas
-pub mod WholeCalls
 mod WholeScripts

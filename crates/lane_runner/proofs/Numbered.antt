@@ -1,5 +1,5 @@
 -- Elements with their numbers: passes, and what threads work on.
-use Rattle.std.proofs.Common.{ℕ, zero, suc, ◌≡◌, ◌<◌, ◌≤◌, ◌+◌, ◌↔◌, Bool, false, IsTrue, List, [], ◌∷◌, ◌++◌, length, get_or, take, drop, refl, sym, ap, ◌∙◌, subst, inl, inr, arith}
+use Rattle.std.proofs.Common.{ℕ, suc, ◌≡◌, ◌<◌, ◌≤◌, ◌+◌, ◌↔◌, Bool, false, IsTrue, List, [], ◌∷◌, ◌++◌, length, get_or, take, drop, refl, sym, ap, ◌∙◌, subst, inl, inr, arith}
 use Rattle.std.specs.Prelude.{All}
 use Rattle.std.proofs.lemmas.Bool.{cases_eq, cases_lt, true≢false}
 use Rattle.std.proofs.lemmas.Grind.{common_steps}
@@ -12,7 +12,7 @@ use Rattle.trace_text.specs.declared.trace.Trace.{Trace}
 use Rattle.lane_outcomes.specs.Passed.{AllPassed}
 use Rattle.live_heap.specs.Heaps.{HeapFields}
 use Rattle.live_heap.specs.declared.pass.Pass.{Pass}
-use Rattle.live_heap.specs.Passes.{AreFrom, IsFresh, IsOf}
+use Rattle.live_heap.specs.Passes.{AreFrom, IsFresh}
 use Rattle.trace_lane.specs.Paths.{FirstPassed}
 use Rattle.lane_runner.specs.Running.{operations_in}
 use Rattle.lane_runner.specs.Threads.{AreDown}
@@ -68,29 +68,9 @@ from-pop h k (q ∷ ps) p all =
     let rest = from-pop h (suc k) ps p all.2 in
     ((all.0, all.1, rest.0), rest.1, rest.2 ∙ omega arith)
 
-pub from-at :
-    (h : HeapFields) (k : ℕ) (ps : List Pass) (i : ℕ) (p : Pass) → AreFrom h k ps → i < length ps → p ≡ get_or ps i p
-    → IsFresh h p × (p.errand.caller ≡ k + i)
-from-at h k [] i p all lt there = absurd (omega (arith, lt))
-from-at h k (q ∷ ps) zero p all lt there =
-    let P : Pass → Type 0 = λ r. IsFresh h r × (r.errand.caller ≡ k + 0) in
-    subst P (sym there) (all.0, all.1 ∙ omega arith)
-from-at h k (q ∷ ps) (suc i) p all lt there =
-    let rest = from-at h (suc k) ps i p all.2 (omega (arith, lt)) there in
-    (rest.0, rest.1 ∙ omega arith)
-
 -- a pass that has made no step is in no call
 pub fresh-idle : (h : HeapFields) (p : Pass) → IsFresh h p → IsIdle p.errand
 fresh-idle h p fresh = subst IsIdle (sym fresh.errand) refl
-
-pub from-idle : (h : HeapFields) (k : ℕ) (ps : List Pass) → AreFrom h k ps → All (λ p. IsOf h p × IsIdle p.errand) ps
-from-idle h k [] all = All-nil (λ p. IsOf h p × IsIdle p.errand)
-from-idle h k (p ∷ ps) all =
-    All-cons (λ p. IsOf h p × IsIdle p.errand) p ps (all.0.of, fresh-idle h p all.0) (from-idle h (suc k) ps all.2)
-
-pub from-home : (h : HeapFields) (k : ℕ) (ps : List Pass) → AreFrom h k ps → All (λ p. p.out ≡ 0) ps
-from-home h k [] all = All-nil (λ (p : Pass). p.out ≡ 0)
-from-home h k (p ∷ ps) all = All-cons (λ (p : Pass). p.out ≡ 0) p ps all.0.home (from-home h (suc k) ps all.2)
 
 -- each lane's operations have passed the gate, and so have all
 pub all-gone :

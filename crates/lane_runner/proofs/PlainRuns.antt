@@ -1,27 +1,24 @@
 -- Lanes through caches of depth 0 have run on their passes.
-use Rattle.std.proofs.Common.{ℕ, zero, suc, ◌≡◌, ◌<◌, ◌≤◌, ◌+◌, ◌∷◌, ◌++◌, Option, List, [], Vec, Global, length, get_or, sym, ap, refl, ◌∙◌, subst, arith}
+use Rattle.std.proofs.Common.{ℕ, zero, suc, ◌≡◌, ◌<◌, ◌≤◌, ◌+◌, ◌∷◌, ◌++◌, List, [], Vec, Global, length, get_or, sym, ap, refl, ◌∙◌, subst, arith}
 use Rattle.std.specs.Prelude.{All, reverse}
 use Rattle.std.proofs.lemmas.List.{length-append}
 use Rattle.std.proofs.lemmas.List.Elements.{All-from_get_or}
 use Rattle.errand_steps.specs.declared.reply.Reply.{Reply}
 use Rattle.errand_steps.specs.Calls.{Call}
 use Rattle.heap_geometry.specs.Need.{need_of}
-use Rattle.sound_laws.specs.events.Made.{LeadsBy, Made}
+use Rattle.sound_laws.specs.events.Made.{LeadsBy}
 use Rattle.trace_text.specs.declared.trace.Op.{Op}
 use Rattle.trace_text.specs.declared.trace.Trace.{Trace}
 use Rattle.trace_text.specs.Traces.{IsTrace}
 use Rattle.lane_outcomes.specs.declared.outcome.Outcome.{Outcome}
-use Rattle.lane_outcomes.specs.declared.registers.Held.{Held}
-use Rattle.lane_outcomes.specs.Cached.{CachedFits, CachedWalks, cached_start}
-use Rattle.lane_outcomes.specs.Lane.{registers_after}
 use Rattle.lane_outcomes.specs.Standing.{setting_in}
-use Rattle.lane_outcomes.proofs.LaterLemmas.{cached-walks-later}
 use Rattle.lane_outcomes.proofs.RoomLemmas.{fits-plain}
 use Rattle.live_heap.specs.declared.block.Block.{Block}
 use Rattle.live_heap.specs.Heaps.{HeapFields}
 use Rattle.live_heap.specs.declared.pass.Pass.{Pass}
 use Rattle.live_heap.specs.Passes.{seen}
 use Rattle.trace_lane.specs.Made.{AllMade}
+use Rattle.trace_lane.proofs.HoldsLemmas.{made-of}
 use Rattle.block_cache.specs.declared.cache.Cache.{Cache}
 use Rattle.block_cache.specs.Caches.{stacks_in}
 use Rattle.block_cache.specs.Magazines.{AreMagazines, HasOnTop, leaving, stack_at, stacks_of}
@@ -29,14 +26,12 @@ use Rattle.block_cache.specs.Whole.{RestsAt, asked, kept, served}
 use Rattle.block_cache.proofs.WholeLemmas.{no-depth}
 use Rattle.lane_engine.specs.Caches.{HasEndedAt, IsCachedCall, frees_of}
 use Rattle.lane_runner.specs.Passes.{HasEndedOver, HaveRun, WholeAt}
-use Rattle.lane_runner.specs.Threads.{HasEndedThrough, HasEndedWith, HaveRunThrough}
+use Rattle.lane_runner.specs.Threads.{HasEndedWith, HaveRunThrough}
 use Rattle.lane_runner.specs.Running.{operations_in}
 use Rattle.lane_runner.proofs.ClosedFits.{at-least-one}
-use Rattle.lane_runner.proofs.ClosedLemmas.{ended-come}
-use Rattle.lane_runner.proofs.RowLemmas.{stands_at}
+use Rattle.lane_runner.proofs.ClosedLemmas.{come-fits, come-spent, ended-come}
 use Rattle.lane_runner.proofs.RunLanes.{element_at}
 use Rattle.lane_runner.proofs.ThreadLemmas.{through-home}
-use Rattle.lane_runner.proofs.WalkLemmas.{told-spent}
 
 -- a stack with a block on its top has one
 stack-there : (before after : List (List Block)) (stack : List Block) (class : ℕ) → length before ≡ class → stack_at (before ++ stack ∷ after) class ≡ stack
@@ -53,47 +48,18 @@ top-some class block more less top =
     subst (λ (l : List Block). 0 < length l) (sym is) (omega (arith, length-append top.stack (block ∷ [])))
 
 -- a call through a cache without depth is its pass's
-module _ (h : HeapFields) where
-  bare-call :
-      (c d : Cache) (call : Call) (answer : Reply) → c.magazines.depth ≡ 0 → IsCachedCall h c call answer d
-      → WholeAt h c.pass call answer d.pass × (d.magazines.depth ≡ 0)
-  bare-call c d call answer none (whole, deep) = (
-    elim whole.made [
-      | served words block is_alloc is_given has ↦
-          absurd ((no-depth h c (need_of words) whole.before.0 none).0 (has.class, has.small, top-some has.class block (stacks_in c) (stacks_in d) has.top))
-      | kept block is_free is_freed held room has ↦ absurd ((no-depth h c block.need whole.before.0 none).1 room)
-      | asked asks made keeps ↦ (made.0, made.1, made.3)
-    ],
-    deep ∙ none,
-  )
-
-  bare-leads :
-      (made : List Made) (c d : Cache) → c.magazines.depth ≡ 0 → RestsAt h c → LeadsBy (IsCachedCall h) c made d
-      → LeadsBy (WholeAt h) c.pass made d.pass × (d.magazines.depth ≡ 0) × RestsAt h d
-  bare-leads [] c d none rests same = (
-    ap (λ (x : Cache). x.pass) same,
-    ap (λ (x : Cache). x.magazines.depth) same ∙ none,
-    subst (RestsAt h) (sym same) rests,
-  )
-  bare-leads (m ∷ made) c d none rests (t, one, leads) =
-      let first = bare-call c t m.call m.answer none one in
-      let more = bare-leads made t d first.1 one.0.after leads in
-      ((t.pass, first.0, more.0), more.1, more.2)
-
-  bare-made :
-      (registers : List (Option Held)) (left : List Op) (outs : List Outcome) (c d : Cache) → c.magazines.depth ≡ 0 → RestsAt h c
-      → AllMade (IsCachedCall h) registers left outs c d
-      → AllMade (WholeAt h) registers left outs c.pass d.pass × (d.magazines.depth ≡ 0) × RestsAt h d
-  bare-made registers left [] c d none rests same = (
-    ap (λ (x : Cache). x.pass) same,
-    ap (λ (x : Cache). x.magazines.depth) same ∙ none,
-    subst (RestsAt h) (sym same) rests,
-  )
-  bare-made registers [] (r ∷ outs) c d none rests all = absurd all
-  bare-made registers (o ∷ left) (r ∷ outs) c d none rests (t, (made, for, leads), all) =
-      let first = bare-leads made c t none rests leads in
-      let more = bare-made (registers_after registers o r) left outs t d first.1 first.2 all in
-      ((t.pass, (made, for, first.0), more.0), more.1, more.2)
+bare-call :
+    (h : HeapFields) (c d : Cache) (call : Call) (answer : Reply) → (c.magazines.depth ≡ 0) × RestsAt h c → IsCachedCall h c call answer d
+    → WholeAt h c.pass call answer d.pass × ((d.magazines.depth ≡ 0) × RestsAt h d)
+bare-call h c d call answer (none, rests) (whole, deep) = (
+  elim whole.made [
+    | served words block is_alloc is_given has ↦
+        absurd ((no-depth h c (need_of words) rests.0 none).0 (has.class, has.small, top-some has.class block (stacks_in c) (stacks_in d) has.top))
+    | kept block is_free is_freed held room has ↦ absurd ((no-depth h c block.need rests.0 none).1 room)
+    | asked asks made keeps ↦ (made.0, made.1, made.3)
+  ],
+  (deep ∙ none, whole.after),
+)
 
 -- and nothing is left to be freed
 no-blocks : (blocks : List Block) → length blocks ≤ 0 → blocks ≡ []
@@ -111,25 +77,6 @@ none-freed h c q none rests frees =
     none-leave 0 c.magazines.stacks.items (subst (λ n. AreMagazines (λ (b : Block). b.need) 0 n c.magazines.stacks.items) none rests.0.magazines.each) in
     subst (λ (l : List Block). LeadsBy (HasEndedAt h) c.pass (frees_of l) q) leave frees
 
--- the outcomes of a lane that has ended fit what its pass has seen
-come-fits :
-    (h : HeapFields) (depth : ℕ) (operations : List Op) (lane : ℕ) (outcomes : List Outcome) (c : Cache) → HasEndedThrough h depth operations lane outcomes c
-    → CachedFits (setting_in (seen c.pass) lane h.layout.turn_limit c.pass.errand.lost) depth operations outcomes c.hits
-come-fits h depth operations lane outcomes c e =
-    let come = ended-come h depth operations lane outcomes c e in
-    let ran = come.ran in
-    let to = stands_at ran come.end in
-    let limit = h.layout.turn_limit in
-    let later = cached-walks-later (setting_in (seen ran.pass) lane limit ran.pass.errand.lost) come.onward.rest c.pass.errand.lost depth
-    come.onward.lost cached_start to operations outcomes come.walks in
-    record {
-      end = to;
-      walks =
-          subst (λ history. CachedWalks (setting_in history lane limit c.pass.errand.lost) depth cached_start operations outcomes to) (sym come.onward.sees) later;
-      all_used = come.own_all;
-      hits_are = come.hits;
-    }
-
 pub bare-ended :
     (h : HeapFields) (operations : List Op) (lane : ℕ) (p : Pass) (outcomes : List Outcome) (hits : ℕ) → HasEndedWith h 0 operations lane p outcomes hits
     → HasEndedOver h operations lane p outcomes × (hits ≡ 0)
@@ -140,9 +87,10 @@ bare-ended h operations lane p outcomes hits ended =
     let come = ended-come h 0 operations lane outcomes c e in
     let rests = e.through.rests in
     let fit = fits-plain (setting_in (seen c.pass) lane h.layout.turn_limit c.pass.errand.lost) operations outcomes c.hits
-    (come-fits h 0 operations lane outcomes c e) in
-    let made = bare-made h _ operations outcomes first e.through.ran e.opened.deep e.opened.rests e.through.made in
-    let same : c.pass ≡ e.through.ran.pass = none-freed h e.through.ran c.pass made.1 made.2 e.through.emptied.frees in
+    (come-fits h 0 operations lane outcomes c come) in
+    let made = made-of (IsCachedCall h) (WholeAt h) (λ (x : Cache). x.pass) (λ (x : Cache). (x.magazines.depth ≡ 0) × RestsAt h x) (bare-call h) _ operations outcomes first e.through.ran (e.opened.deep, e.opened.rests)
+    e.through.made in
+    let same : c.pass ≡ e.through.ran.pass = none-freed h e.through.ran c.pass made.1.0 made.1.1 e.through.emptied.frees in
     let over : HasEndedOver h operations lane c.pass outcomes = record {
       of = rests.0.hand.of;
       idle = rests.1;
@@ -150,10 +98,7 @@ bare-ended h operations lane p outcomes hits ended =
       caller = come.caller;
       all = e.all;
       fit = fit.0;
-      spent = λ told.
-          come.spent
-          (told-spent (setting_in (seen come.ran.pass) lane h.layout.turn_limit come.ran.pass.errand.lost) 0 cached_start (stands_at come.ran come.end)
-          operations outcomes told.0 come.walks told.1 told.2);
+      spent = come-spent h 0 operations lane outcomes c come;
       calls =
           record {
             first = first.pass;

@@ -1,35 +1,30 @@
 -- Lanes through caches on threads: how they are run and taken back.
-use Rattle.std.proofs.Common.{ℕ, zero, suc, ◌≡◌, ◌<◌, ◌+◌, List, [], ◌∷◌, ◌++◌, Option, None, Vec, Global, length, map, max, get_or, replicate, refl, sym, ap, ◌∙◌, subst, arith}
+use Rattle.std.proofs.Common.{ℕ, zero, suc, ◌≡◌, ◌<◌, ◌+◌, List, [], ◌∷◌, ◌++◌, None, Vec, Global, length, map, max, get_or, replicate, refl, sym, ap, ◌∙◌, subst, arith}
 use Rattle.std.specs.Prelude.{All}
 use Rattle.std.proofs.lemmas.List.{length-map}
 use Rattle.std.proofs.lemmas.List.Elements.{All-cons, All-nil}
 use Rattle.crossbeam_utils.specs.declared.cache_padded.CachePadded.{CachePadded}
 use Rattle.crossbeam_utils.specs.Padded.{padded_value}
-use Rattle.errand_steps.specs.declared.reply.Reply.{Reply}
 use Rattle.errand_steps.specs.Begins.{IsIdle}
-use Rattle.errand_steps.specs.Calls.{Call}
-use Rattle.sound_laws.specs.events.Made.{LeadsBy, Made}
+use Rattle.sound_laws.specs.events.Made.{LeadsBy}
 use Rattle.trace_text.specs.declared.limits.TheConstants.{REGISTERS}
 use Rattle.trace_text.specs.declared.trace.Op.{Op}
 use Rattle.trace_text.specs.declared.trace.Trace.{Trace}
 use Rattle.trace_text.specs.Traces.{IsTrace}
 use Rattle.lane_outcomes.specs.declared.outcome.Outcome.{Outcome}
-use Rattle.lane_outcomes.specs.declared.registers.Held.{Held}
-use Rattle.lane_outcomes.specs.Lane.{registers_after}
 use Rattle.lane_outcomes.specs.Passed.{AllPassed}
 use Rattle.live_heap.specs.declared.block.Block.{Block}
 use Rattle.live_heap.specs.Heaps.{HeapFields}
 use Rattle.live_heap.specs.declared.pass.Pass.{Pass}
-use Rattle.live_heap.specs.Passes.{AreFrom, IsOf, view}
-use Rattle.trace_lane.specs.Made.{AllMade}
+use Rattle.live_heap.specs.Passes.{IsOf, view}
+use Rattle.trace_lane.proofs.HoldsLemmas.{made-of}
 use Rattle.trace_lane.specs.Paths.{FirstPassed}
 use Rattle.lane_runner.specs.Running.{operations_in}
-use Rattle.lane_runner.proofs.WholeCalls.{made-lent}
-use Rattle.lane_runner.proofs.Numbered.{all-gone, down-done, down-find, from-at}
+use Rattle.lane_runner.proofs.CallLemmas.{call-lent}
+use Rattle.lane_runner.proofs.Numbered.{all-gone, down-done, down-find}
 use Rattle.block_cache.specs.declared.cache.Cache.{Cache}
 use Rattle.block_cache.specs.Caches.{stacks_in}
 use Rattle.block_cache.specs.Magazines.{leaving}
-use Rattle.block_cache.specs.Whole.{asked, kept, served}
 use Rattle.lane_engine.specs.Caches.{HasEndedAt, IsCachedCall, frees_of}
 use Rattle.lane_runner.specs.declared.run_lanes.CacheThread.{CacheThread}
 use Rattle.lane_runner.specs.Threads.{AreDone, AreEnded, AreReady, HasEndedThrough, HasEndedWith, HasRunOn, HaveRunThrough, IsDone, IsPaired, IsReady}
@@ -121,28 +116,6 @@ ended-idle trace h depth k (p ∷ ps) (o ∷ os) (n ∷ ns) all =
     (ended-idle trace h depth (suc k) ps os ns all.1)
 ended-idle trace h depth k ps os ns all = absurd all
 
--- whole calls through a cache leave the words of the same blocks out
-call-lent :
-    (h : HeapFields) (c d : Cache) (call : Call) (answer : Reply) → IsCachedCall h c call answer d → (view d.pass).lent ≡ (view c.pass).lent
-call-lent h c d call answer (whole, deep) =
-    elim whole.made [
-      | served words block is_alloc is_given has ↦ ap (λ (p : Pass). (view p).lent) has.pass
-      | kept block is_free is_freed held room has ↦ ap (λ (p : Pass). (view p).lent) has.pass
-      | asked asks made keeps ↦ made-lent c.pass call answer d.pass made.0
-    ]
-
-leads-lent : (h : HeapFields) (c d : Cache) (made : List Made) → LeadsBy (IsCachedCall h) c made d → (view d.pass).lent ≡ (view c.pass).lent
-leads-lent h c d [] leads = ap (λ (x : Cache). (view x.pass).lent) leads
-leads-lent h c d (m ∷ made) (t, one, leads) = leads-lent h t d made leads ∙ call-lent h c t m.call m.answer one
-
-lent-kept :
-    (h : HeapFields) (registers : List (Option Held)) (left : List Op) (outs : List Outcome) (c d : Cache)
-    → AllMade (IsCachedCall h) registers left outs c d → (view d.pass).lent ≡ (view c.pass).lent
-lent-kept h registers left [] c d same = ap (λ (x : Cache). (view x.pass).lent) same
-lent-kept h registers [] (r ∷ outs) c d all = absurd all
-lent-kept h registers (o ∷ left) (r ∷ outs) c d (t, (made, for, leads), all) =
-    lent-kept h (registers_after registers o r) left outs t d all ∙ leads-lent h c t made leads
-
 frees-lent : (h : HeapFields) (blocks : List Block) (p q : Pass) → LeadsBy (HasEndedAt h) p (frees_of blocks) q → (view q).lent ≡ (view p).lent
 frees-lent h [] p q same = ap (λ (x : Pass). (view x).lent) same
 frees-lent h (block ∷ blocks) p q (t, ((steps, called), ends), leads) = frees-lent h blocks t q leads ∙ called.lent
@@ -156,7 +129,9 @@ through-home h depth operations lane outcomes c e =
     let ran = e.through.ran in
     let same : (view c.pass).lent ≡ (view first.pass).lent =
     frees-lent h (leaving (stacks_in ran)) ran.pass c.pass e.through.emptied.frees
-    ∙ lent-kept h (replicate REGISTERS None) operations outcomes first ran e.through.made in
+    ∙ (made-of (IsCachedCall h) (IsCachedCall h) (λ x. x) (λ (x : Cache). (view x.pass).lent ≡ (view first.pass).lent)
+    (λ x y call answer same called. (called, call-lent h x y call answer called ∙ same)) (replicate REGISTERS None) operations outcomes first ran refl
+    e.through.made).1 in
     sym e.through.rests.0.hand.of.counted ∙ ap length same ∙ e.opened.fresh.of.counted ∙ e.opened.fresh.home
 
 pub ended-home :
@@ -188,20 +163,4 @@ have-run trace h depth ps os ns is some_lane all ended =
           (λ n. HasEndedWith h depth (operations_in trace n) n p (get_or (map (λ (o : Vec Outcome Global). o.items) os) lane []) (get_or ns lane 0))
           (omega arith) (ended-at trace h depth 0 ps os ns lane p ended (omega (arith, lt, all)) there);
       rest = λ k p least lt there. absurd (omega (arith, least, lt, all));
-    }
-
--- a trace without a lane has none to run
-pub none-run :
-    (trace : Trace) (h : HeapFields) (depth : ℕ) (ps : List Pass) (os : List (Vec Outcome Global)) (ns : List ℕ) → trace.lanes ≡ [] → os ≡ [] → ns ≡ []
-    → AreFrom h 0 ps → length ps ≡ trace.heap.callers → HaveRunThrough trace h depth ps (map (λ (o : Vec Outcome Global). o.items) os) ns
-none-run trace h depth ps os ns none empty no_hits fresh all =
-    let zero_lanes : length trace.lanes ≡ 0 = ap length none in
-    record {
-      all = all;
-      lists = length-map os (λ (o : Vec Outcome Global). o.items) ∙ ap length empty ∙ sym zero_lanes;
-      counts = ap length no_hits ∙ sym zero_lanes;
-      each = λ lane p lt there. absurd (omega (arith, lt, zero_lanes));
-      rest = λ k p least lt there.
-          let one = from-at h 0 ps k p fresh lt there in
-          (one.0, one.1 ∙ omega arith);
     }

@@ -16,7 +16,7 @@ use Rattle.sound_state.specs.Sums.{callers_sum}
 use Rattle.step_machine.specs.Cores.{CoreFields, errand_at, state_of}
 use Rattle.heap_geometry.specs.declared.geometry.Geometry.{Geometry}
 use Rattle.lane_outcomes.specs.declared.outcome.Outcome.{Outcome}
-use Rattle.lane_outcomes.specs.declared.registers.Held.{Held}
+use Rattle.lane_outcomes.specs.declared.registers.HeldBlock.{HeldBlock}
 use Rattle.lane_outcomes.specs.Fits.{OutcomesFit}
 use Rattle.lane_runner.specs.Orders.{InOrder}
 use Rattle.trace_lane.specs.Begun.{calls_of}
@@ -33,7 +33,7 @@ steppers_of (steps caller ∷ moves) = caller ∷ steppers_of moves
 
 -- a lane of these operations that has begun these calls stands by its rule in this state
 pub record IsOnItsWay (g : Geometry) (operations : List Op) (lane : ℕ) (s : State) (calls : List Call) : Type 0 where
-  pub registers : List (Option Held)
+  pub registers : List (Option HeldBlock)
   pub results : List Outcome
   pub at : OperationStage
   pub rule : IsLane g lane s.history (s.errand lane) operations registers results at calls
@@ -60,7 +60,7 @@ lost_by_all c = callers_sum c.geometry lost_of (errand_at c.errands)
 
 -- a lane of these operations stands by its rule in this state, behind its last operation, with these outcomes, and has begun these calls
 pub record IsAtItsEnd (g : Geometry) (operations : List Op) (lane : ℕ) (s : State) (results : List Outcome) (calls : List Call) : Type 0 where
-  pub registers : List (Option Held)
+  pub registers : List (Option HeldBlock)
   pub rule : IsLane g lane s.history (s.errand lane) operations registers results stage.Between calls
 
 -- lanes of a trace have run on this machine since its opening, in this order: moves of its lanes led to it, and each lane is on its way

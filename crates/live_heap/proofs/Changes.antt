@@ -1,6 +1,7 @@
 -- What a call makes of the blocks of its pass's caller.
 use Rattle.std.proofs.Common.{ℕ, Bool, true, false, suc, ◌≡◌, ◌≢◌, ◌++◌, List, [], ◌∷◌, Option, Some, None, refl, sym, ◌∙◌, ap, subst, inl, inr, append_assoc}
 use Rattle.std.specs.Prelude.{option_map}
+use Rattle.std.proofs.lemmas.List.{same_from_push}
 use Rattle.std.proofs.lemmas.Option.{none-some}
 use Rattle.heap_geometry.specs.declared.geometry.Geometry.{Geometry}
 use Rattle.heap_geometry.specs.declared.need.Need.{Need}
@@ -34,7 +35,7 @@ use Rattle.live_heap.specs.Endings.{ClosedFields, HasTakenIn, IsResting}
 use Rattle.live_heap.specs.Passes.{IsOf, seen}
 use Rattle.live_heap.specs.Whole.{IsWhole, at_once, by_steps}
 use Rattle.live_heap.proofs.Growing.{own-kept, rest-none}
-use Rattle.live_heap.proofs.Last.{called-last, last-same}
+use Rattle.live_heap.proofs.Last.{called-last}
 use Rattle.live_heap.proofs.LawsClosed.{closed-legal}
 use Rattle.live_heap.proofs.LawsKept.{Adds, called-adds, calling-adds}
 use Rattle.live_heap.proofs.Owned.{AllQuiet, IsChange, changes, looks-quiet, quiet-all, quiet-append}
@@ -78,7 +79,7 @@ last-none caller xs ys event hers ends none =
           let z = more.1 in
           let whole : (xs ++ zs) ++ z ∷ [] ≡ ends.0 ++ event ∷ [] =
           append_assoc xs zs (z ∷ []) ∙ ap (λ (l : List Event). xs ++ l) (sym more.2) ∙ ends.1 in
-          let same : z ≡ event = last-same (xs ++ zs) ends.0 z event whole in
+          let same : z ≡ event = (same_from_push (xs ++ zs) ends.0 z event whole).1 in
           let mine : own caller (z ∷ []) ≡ z ∷ [] = subst (λ c. own c (z ∷ []) ≡ z ∷ []) (ap caller_of same ∙ hers) (own-kept z) in
           let parts : own caller zs ++ z ∷ [] ≡ [] =
           ap (λ (l : List Event). own caller zs ++ l) (sym mine) ∙ sym (own-append caller zs (z ∷ [])) ∙ sym (ap (own caller) more.2) ∙ none in

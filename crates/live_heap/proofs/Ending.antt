@@ -10,6 +10,7 @@ use mathlib.Core.Option.{some, some-injective, some-ne-none}
 use mathlib.Core.Logic.{dite}
 use native.Mathlib.Decide.{ℕ_discrete}
 use lib.ListN.{get_elem?}
+use Rattle.atomic_region.specs.Owned.{RegionId}
 use Rattle.heap_geometry.specs.declared.geometry.Geometry.{Geometry}
 use Rattle.pool_model.specs.declared.event.Event.{Event}
 use Rattle.pool_model.specs.Histories.{Begins, caller_of, own}
@@ -218,8 +219,8 @@ module _ {rule : AllowedWords} (g : Geometry) (words : List ℕ) (views : List V
   run_here : Run (errand_at (errands_from v.callers 0 g.callers), v.seen)
   run_here = subst Run (λ i. (sym all_errands i, log_is i)) (h.run, h.opened, refl, refl)
 
-  pub ends : ((k : ℕ) (x : Standing) → get_elem? v.callers k ≡ some x → IsIdle x.errand) → IsResting (closed_with g words v)
-  ends idle = record {
+  pub ends : (z : RegionId) → ((k : ℕ) (x : Standing) → get_elem? v.callers k ≡ some x → IsIdle x.errand) → IsResting (closed_with g z words v)
+  ends z idle = record {
     steps = h.made;
     core = record {
       words = h.whole;
@@ -235,13 +236,13 @@ module _ {rule : AllowedWords} (g : Geometry) (words : List ℕ) (views : List V
 
   -- each pass that the last seat took in has made the steps of its caller
   pub made-steps :
-      (idle : (k : ℕ) (x : Standing) → get_elem? v.callers k ≡ some x → IsIdle x.errand) (p : Pass) → IsIn v p
-      → accesses p ≡ count_by (is_step_of p.errand.caller) (ends idle).core.run.moves
+      (z : RegionId) (idle : (k : ℕ) (x : Standing) → get_elem? v.callers k ≡ some x → IsIdle x.errand) (p : Pass) → IsIn v p
+      → accesses p ≡ count_by (is_step_of p.errand.caller) (ends z idle).core.run.moves
   unfolding ends run_here
-  made-steps idle p i =
+  made-steps z idle p i =
       let y = stands.each i.number i.standing i.at in
       sym i.counted
-      ∙ subst (λ (e : ErrandFields). i.standing.accesses ≡ count_by (is_step_of e.caller) (ends idle).core.run.moves) i.errand
+      ∙ subst (λ (e : ErrandFields). i.standing.accesses ≡ count_by (is_step_of e.caller) (ends z idle).core.run.moves) i.errand
       (y.counted ∙ ap (count_by (is_step_of i.standing.errand.caller)) (sym run_here.3))
 
   -- a caller's errand at the end is the one that the view has for it
@@ -253,8 +254,8 @@ module _ {rule : AllowedWords} (g : Geometry) (words : List ℕ) (views : List V
   below k x is = (stands.each k x is).has
 
   -- the closed heap has what each pass had that the last seat took in
-  pub taken-in : (p : Pass) → IsIn v p → HasTakenIn (closed_with g words v) p
-  taken-in p i =
+  pub taken-in : (z : RegionId) (p : Pass) → IsIn v p → HasTakenIn (closed_with g z words v) p
+  taken-in z p i =
       let y = stands.each i.number i.standing i.at in
       record {
         errand =
@@ -275,20 +276,20 @@ pub record IsLast (rule : AllowedWords) (g : Geometry) (words : List ℕ) (v : V
   pub at : get_elem? views id ≡ some v
   pub all : length v.callers ≡ g.callers
 
-module _ {rule : AllowedWords} (g : Geometry) (words : List ℕ) (v : View) (l : IsLast rule g words v) where
-  pub last-rests : ((k : ℕ) (x : Standing) → get_elem? v.callers k ≡ some x → IsIdle x.errand) → IsResting (closed_with g words v)
-  last-rests idle = ends g words l.views l.id v l.kept l.at l.all idle
+module _ {rule : AllowedWords} (g : Geometry) (z : RegionId) (words : List ℕ) (v : View) (l : IsLast rule g words v) where
+  pub last-rests : ((k : ℕ) (x : Standing) → get_elem? v.callers k ≡ some x → IsIdle x.errand) → IsResting (closed_with g z words v)
+  last-rests idle = ends g words l.views l.id v l.kept l.at l.all z idle
 
   pub last-accesses :
       (idle : (k : ℕ) (x : Standing) → get_elem? v.callers k ≡ some x → IsIdle x.errand) (passes : List Pass) → All (IsIn v) passes
-      → HasAccesses (closed_with g words v) passes
+      → HasAccesses (closed_with g z words v) passes
   last-accesses idle passes all = record {
-    rests = ends g words l.views l.id v l.kept l.at l.all idle;
-    each = λ k d within. made-steps g words l.views l.id v l.kept l.at l.all idle (slice_index_or passes k d) (all k d within);
+    rests = ends g words l.views l.id v l.kept l.at l.all z idle;
+    each = λ k d within. made-steps g words l.views l.id v l.kept l.at l.all z idle (slice_index_or passes k d) (all k d within);
   }
 
-  pub last-taken : (p : Pass) → IsIn v p → HasTakenIn (closed_with g words v) p
-  last-taken p i = taken-in g words l.views l.id v l.kept l.at l.all p i
+  pub last-taken : (p : Pass) → IsIn v p → HasTakenIn (closed_with g z words v) p
+  last-taken p i = taken-in g words l.views l.id v l.kept l.at l.all z p i
 
   -- what the errands weigh is what the standings do
   last-sum : (weight : ErrandFields → ℕ) → callers_sum g weight (errand_at (errands_from v.callers 0 g.callers)) ≡ sum_by (λ (x : Standing). weight x.errand) v.callers
@@ -300,6 +301,6 @@ module _ {rule : AllowedWords} (g : Geometry) (words : List ℕ) (v : View) (l :
 
   pub last-counted :
       (won lost : ℕ) → won ≡ min (sum_by (λ (x : Standing). x.errand.won) v.callers) (2 ^ 64 - 1)
-      → lost ≡ min (sum_by (λ (x : Standing). x.errand.lost) v.callers) (2 ^ 64 - 1) → IsCounted (closed_with g words v) won lost
+      → lost ≡ min (sum_by (λ (x : Standing). x.errand.lost) v.callers) (2 ^ 64 - 1) → IsCounted (closed_with g z words v) won lost
   last-counted won lost is_won is_lost =
       (is_won ∙ ap (λ n. min n (2 ^ 64 - 1)) (sym (last-sum won_of)), is_lost ∙ ap (λ n. min n (2 ^ 64 - 1)) (sym (last-sum lost_of)))

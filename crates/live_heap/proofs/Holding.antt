@@ -225,7 +225,7 @@ same-hand h p q blocks same idle of_new held =
 
 -- the hand behind an allocation: what it was given is in it
 pub alloc-hand :
-    (h : HeapFields) (p q : Pass) (blocks : List Block) (need tries : ℕ) (answer : AllocAnswer) → IsOf h p → IsIdle p.errand → Holds p blocks
+    (h : HeapFields) (p q : Pass) (blocks : List Block) (need tries : ℕ) (answer : AllocAnswer Block) → IsOf h p → IsIdle p.errand → Holds p blocks
     → IsOf h q → AllocTells p need tries answer q → IsHand h q (blocks ++ given_by answer)
 alloc-hand h p q blocks need tries (alloc_answer.Given block) of idle held of_new tells =
     resume-hand h p p q blocks (alloc need) 0 tries (resumed.Given block) of of_new tells tt (alloc-leaves need blocks) held
@@ -262,7 +262,7 @@ put-hand h p q blocks block shelf (Err full) of apart held of_new lies back =
 
 -- the hand behind a take: what it got is in it
 pub take-hand :
-    (h : HeapFields) (p q : Pass) (blocks : List Block) (shelf : ℕ) (answer : Taken) → IsOf h p → Holds p blocks → IsOf h q
+    (h : HeapFields) (p q : Pass) (blocks : List Block) (shelf : ℕ) (answer : Taken Block) → IsOf h p → Holds p blocks → IsOf h q
     → TakeTells p shelf answer q → IsHand h q (blocks ++ taken_by answer)
 take-hand h p q blocks shelf (taken.Got block) of held of_new tells =
     brought-hand h q blocks block tells.0.idle tells.1

@@ -1,5 +1,6 @@
 -- The last event seen is that of the last step, where it has one.
 use Rattle.std.proofs.Common.{ℕ, ◌≡◌, ◌++◌, List, [], ◌∷◌, Some, refl, sym, ap, ◌∙◌, subst}
+use Rattle.std.proofs.lemmas.List.{same_from_push}
 use Rattle.std.proofs.lemmas.Option.{none-some}
 use Rattle.heap_geometry.specs.declared.geometry.Geometry.{Geometry}
 use Rattle.pool_model.specs.declared.event.Event.{Event}
@@ -31,15 +32,6 @@ pub moment-last :
     → event_at m.state e.caller ≡ Some event → EndsWith after event
 moment-last e f before after answer m event is =
     (m.state.history, sym m.now ∙ m.step.history ∙ ap (with_event m.state.history) is)
-
--- lists that end with an element each, and are the same, end with the same one
-pub last-same : (xs ys : List Event) (x y : Event) → xs ++ x ∷ [] ≡ ys ++ y ∷ [] → x ≡ y
-last-same [] [] x y is = let t : x ∷ [] ≡ y ∷ [] = is in cc
-last-same [] (b ∷ []) x y is = absurd (let t : x ∷ [] ≡ b ∷ y ∷ [] = is in cc)
-last-same [] (b ∷ c ∷ ys) x y is = absurd (let t : x ∷ [] ≡ b ∷ c ∷ (ys ++ y ∷ []) = is in cc)
-last-same (a ∷ []) [] x y is = absurd (let t : a ∷ x ∷ [] ≡ y ∷ [] = is in cc)
-last-same (a ∷ c ∷ xs) [] x y is = absurd (let t : a ∷ c ∷ (xs ++ x ∷ []) ≡ y ∷ [] = is in cc)
-last-same (a ∷ xs) (b ∷ ys) x y is = last-same xs ys x y (let t : a ∷ (xs ++ x ∷ []) ≡ b ∷ (ys ++ y ∷ []) = is in cc)
 
 -- where a call and its reply tell the last event, the last step has an event
 answer-tells :
@@ -95,4 +87,4 @@ called-last p q call steps answer event called is =
     let grown : own caller ends.0 ++ told ∷ [] ≡ own caller (seen p) ++ event ∷ [] =
     ap (λ (l : List Event). own caller ends.0 ++ l) (sym own_last) ∙ sym (own-append caller ends.0 (told ∷ [])) ∙ sym (ap (own caller) ends.1)
     ∙ called.events ∙ ap (λ (l : List Event). own caller (seen p) ++ l) (answer-added caller call answer event called.added is called.ended) in
-    subst (EndsWith (seen q)) (last-same (own caller ends.0) (own caller (seen p)) told event grown) ends
+    subst (EndsWith (seen q)) (same_from_push (own caller ends.0) (own caller (seen p)) told event grown).1 ends

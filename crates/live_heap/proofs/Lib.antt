@@ -35,7 +35,6 @@ pub mod LentPlaces
 pub mod LentViews
 mod Lifting
 pub mod Linked
-pub mod MadeLemmas
 pub mod Memories
 pub mod Memory
 pub mod Moves
@@ -66,3 +65,4 @@ pub mod WordCalls
 pub mod WholeLaws
 pub mod WordsKept
 pub mod placement_lemmas
+pub mod laws_for_builders

@@ -76,7 +76,7 @@ ResumeTells first call made p tries resumed.Spent q =
 ResumeTells first call made p tries resumed.Busy q = IsInterrupted first call made p tries q
 
 -- how an allocation that is given so many tries has gone on; where no block has so many words nothing has happened
-abbrev pub AllocTells : Pass → ℕ → ℕ → AllocAnswer → Pass → Type 0
+abbrev pub AllocTells : Pass → ℕ → ℕ → AllocAnswer Block → Pass → Type 0
 AllocTells p words tries (alloc_answer.Given block) q =
     EndsInTime p (alloc words) 0 p tries (reply.Given block.place block.need) q × Owns q block
 AllocTells p words tries alloc_answer.Refused q = EndsInTime p (alloc words) 0 p tries reply.Refused q
@@ -129,7 +129,7 @@ abbrev pub with_lost : ErrandFields → ErrandFields
 with_lost e = record e { lost = one_more e.lost }
 
 -- what a take has come to: the block that it got is the pass's; where it missed, nothing has changed but the count of lost exchanges
-abbrev pub TakeTells : Pass → ℕ → Taken → Pass → Type 0
+abbrev pub TakeTells : Pass → ℕ → Taken Block → Pass → Type 0
 TakeTells p shelf (taken.Got block) q = HasCalled p (take shelf) 1 (reply.Got block.place block.need) q × Owns q block
 TakeTells p shelf taken.Empty q = HasCalled p (take shelf) 1 reply.Empty q
 TakeTells p shelf (taken.Missed expected found) q =
@@ -152,14 +152,14 @@ IsTriedEnding ending.Freed = Unit {0}
 IsTriedEnding told = IsAllocEnding told
 
 -- what an allocation answers that has ended
-abbrev pub alloc_ended : Ending Block → AllocAnswer
+abbrev pub alloc_ended : Ending Block → AllocAnswer Block
 alloc_ended (ending.Given block) = alloc_answer.Given block
 alloc_ended ending.Refused = alloc_answer.Refused
 alloc_ended ending.Spent = alloc_answer.Spent
 alloc_ended told = alloc_answer.Busy
 
 -- what an allocation answers, a free, and a call that was resumed, where the first two may be under way still
-abbrev pub alloc_answer_in : Option (Ending Block) → AllocAnswer
+abbrev pub alloc_answer_in : Option (Ending Block) → AllocAnswer Block
 alloc_answer_in None = alloc_answer.Busy
 alloc_answer_in (Some told) = alloc_ended told
 

@@ -2,6 +2,7 @@
 use Rattle.std.specs.Prelude.{ℕ, zero, suc, ◌≡◌, ◌<◌, ◌-◌, ◌^◌, ◌==◌, if◌then◌else◌, count_by, min, sum_by, List, [], ◌∷◌, All, length}
 use mathlib.Core.Option.{some}
 use lib.ListN.{get_elem?}
+use Rattle.atomic_region.specs.Owned.{RegionId}
 use Rattle.atomic_region.specs.declared.shared.Seat.{Seat}
 use Rattle.heap_geometry.specs.declared.geometry.Geometry.{Geometry}
 use Rattle.pool_model.specs.declared.event.Event.{Event}
@@ -20,9 +21,10 @@ use Rattle.live_heap.specs.declared.view.Standing.{Standing}
 use Rattle.live_heap.specs.declared.view.View.{View}
 use Rattle.live_heap.specs.Passes.{IsOf, accesses, seen}
 
--- the heap's numbers, its words, the errand of each caller, the whole history, and all that callers won from each other
+-- the heap's numbers, the region of memory in which it lay, its words, the errand of each caller, the whole history, and all that callers won from each other
 pub record ClosedFields : Type 0 where
   pub geometry : Geometry
+  pub region : RegionId
   pub words : List ℕ
   pub errands : List ErrandFields
   pub events : List Event
@@ -51,10 +53,10 @@ abbrev pub errands_from : List Standing → ℕ → ℕ → List ErrandFields
 errands_from callers caller zero = []
 errands_from callers caller (suc more) = errand_in callers caller ∷ errands_from callers (suc caller) more
 
--- the closed heap that the words and the view of the last pass make
-abbrev pub closed_with : Geometry → List ℕ → View → ClosedFields
-closed_with g words v =
-    record { geometry = g; words = words; errands = errands_from v.callers 0 g.callers; events = v.seen; wins = v.wins }
+-- the closed heap that the region, its words and the view of the last pass make
+abbrev pub closed_with : Geometry → RegionId → List ℕ → View → ClosedFields
+closed_with g z words v =
+    record { geometry = g; region = z; words = words; errands = errands_from v.callers 0 g.callers; events = v.seen; wins = v.wins }
 
 -- a closed heap has the errand of the pass's caller that the pass had; its history begins with what the pass had seen, and has no other event of that caller
 pub record HasTakenIn (c : ClosedFields) (p : Pass) : Type 0 where
@@ -73,9 +75,10 @@ pub record AreAllIdle (h : HeapFields) (passes : List Pass) : Type 0 where
   pub all : length passes ≡ h.layout.callers
   pub each : All (λ p. IsOf h p × IsIdle p.errand) passes
 
--- the heap was closed with these passes
+-- this very heap was closed, with these passes
 pub record HasClosed (h : HeapFields) (passes : List Pass) (c : ClosedFields) : Type 0 where
   pub heap : c.geometry ≡ h.layout
+  pub table : c.region ≡ h.region
   pub each : All (HasTakenIn c) passes
 
 -- among the moves that led to a closed heap are just as many steps of each pass's caller as the pass counts accesses

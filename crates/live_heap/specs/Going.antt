@@ -57,7 +57,7 @@ pub record HasGone (h : HeapFields) (start : Pass) (tries : ℕ) (told : Option 
       (first : Pass) (call : Call) (made : ℕ) → IsCalling first call made start → GoesOn first call made start tries (reply_in told) q
 
 -- an allocation that stood at `start` has gone on to this answer; and a free has
-abbrev pub HasAllocated : HeapFields → Pass → ℕ → AllocAnswer → Pass → Type 0
+abbrev pub HasAllocated : HeapFields → Pass → ℕ → AllocAnswer Block → Pass → Type 0
 HasAllocated h start tries answer q = (told : Option (Ending Block)) × HasGone h start tries told q × (answer ≡ alloc_answer_in told)
 
 abbrev pub HasFreed : HeapFields → Pass → ℕ → FreeAnswer → Pass → Type 0

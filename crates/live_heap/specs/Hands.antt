@@ -40,7 +40,7 @@ pub record IsHand (h : HeapFields) (p : Pass) (blocks : List Block) : Type 0 whe
   pub waits : IsBusy p.errand → IsWaiting h p blocks
 
 -- the block that an answer brings, if any
-abbrev pub given_by : AllocAnswer → List Block
+abbrev pub given_by : AllocAnswer Block → List Block
 given_by (alloc_answer.Given block) = block ∷ []
 given_by answer = []
 
@@ -48,7 +48,7 @@ abbrev pub resumed_by : Resumed → List Block
 resumed_by (resumed.Given block) = block ∷ []
 resumed_by answer = []
 
-abbrev pub taken_by : Taken → List Block
+abbrev pub taken_by : Taken Block → List Block
 taken_by (taken.Got block) = block ∷ []
 taken_by answer = []
 

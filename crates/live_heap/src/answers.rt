@@ -2,11 +2,11 @@
 
 use crate::block::Block;
 
-/// The answer of `Heap::alloc`.
+/// The answer of `Heap::alloc`, and of a cache in front of a heap, whose blocks are `B`: tokens, or their memory.
 #[derive(Debug, PartialEq, Eq, Drop)]
-pub enum AllocAnswer {
+pub enum AllocAnswer<B = Block> {
     /// The block, which is the pass's.
-    Given(Block),
+    Given(B),
     /// For a small need no frame was left, behind a look in vain for a superblock of its class; for a
     /// large one no run of units was free.
     Refused,
@@ -19,7 +19,7 @@ pub enum AllocAnswer {
     Busy,
 }
 
-/// The answer of `Heap::free`.
+/// The answer of `Heap::free`, which is neither refused nor spent.
 #[derive(Debug, PartialEq, Eq, Drop)]
 pub enum FreeAnswer {
     /// The block is freed.
@@ -29,7 +29,7 @@ pub enum FreeAnswer {
     Busy,
 }
 
-/// The answer of `Heap::resume`.
+/// The answer of `Heap::resume`: the pass alone knows whether an allocation or a free was interrupted.
 #[derive(Debug, PartialEq, Eq, Drop)]
 pub enum Resumed {
     /// The allocation is given this block, which is the pass's.
@@ -54,11 +54,11 @@ pub struct Full {
     pub found: u64,
 }
 
-/// The answer of `Heap::take`.
+/// The answer of `Heap::take`, and of whoever takes for a lane, whose blocks are `B`.
 #[derive(Debug, PartialEq, Eq, Drop)]
-pub enum Taken {
+pub enum Taken<B = Block> {
     /// The block that lay on the shelf, which is the pass's now.
-    Got(Block),
+    Got(B),
     /// Nothing lay there.
     Empty,
     /// Another caller changed the shelf in between: its word was `expected` and is `found`.

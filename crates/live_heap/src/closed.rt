@@ -29,9 +29,8 @@ use std::marker::Model;
 use std::snapshot::Snapshot;
 use word_table::name::WordName;
 
-/// A heap that no thread shares any more. It holds the words; contracts see beside them the errand of
-/// each caller, all idle, the whole history and all that callers won from each other, which take no
-/// memory.
+/// A heap that no thread shares any more. It holds the words; contracts see beside them in which region it lay, the
+/// errand of each caller, all idle, the whole history and all that callers won from each other, which take no memory.
 pub struct Closed {
     room: Room<Global>,
     layout: Placement,
@@ -41,6 +40,7 @@ pub struct Closed {
 }
 
 impl Model for Closed {
+    ghost use Rattle.std.specs.Prelude.{◌≡◌};
     ghost use Rattle.plain_words.specs.Places.{numbers};
     ghost use Rattle.live_heap.specs.placement.Places.{words_at};
     ghost use Rattle.live_heap.specs.Endings.{ClosedFields, IsCounted, IsResting, closed_with};
@@ -48,9 +48,9 @@ impl Model for Closed {
 
     ghost Value = { ClosedFields };
 
-    ghost view = { λ s. closed_with s.layout (words_at s.layout (numbers s.room.plain.places)) s.last.value.me.0 };
+    ghost view = { λ s. closed_with s.layout s.last.value.region (words_at s.layout (numbers s.room.plain.places)) s.last.value.me.0 };
 
-    ghost invariant = { λ s. record { marked : AreMarked s.layout s.room.plain.places; rests : IsResting (closed_with s.layout (words_at s.layout (numbers s.room.plain.places)) s.last.value.me.0); counts : IsCounted (closed_with s.layout (words_at s.layout (numbers s.room.plain.places)) s.last.value.me.0) s.won s.lost } };
+    ghost invariant = { λ s. record { lies : s.room.backing.start.at ≡ s.last.value.region.at; marked : AreMarked s.layout s.room.plain.places; rests : IsResting (closed_with s.layout s.last.value.region (words_at s.layout (numbers s.room.plain.places)) s.last.value.me.0); counts : IsCounted (closed_with s.layout s.last.value.region (words_at s.layout (numbers s.room.plain.places)) s.last.value.me.0) s.won s.lost } };
 }
 
 /// What is refused where a block's words are out with a pass: nothing has changed.

@@ -162,6 +162,7 @@ impl<R: ShelfRule> Heap<R> {
         requires table { seat.region ≡ self.region }
         requires rests { IsAtRest self.layout seat.me.0 }
         ensures layout { result.1 ≡ self.layout }
+        ensures start { result.0.backing.start.at ≡ self.region.at }
         ensures last { Final (Seen (PiecesHold R.allows result.1) seat.id seat.me.0) result.0.plain.places }
     {
         let Self { table, layout } = self;

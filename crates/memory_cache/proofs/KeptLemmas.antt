@@ -1,5 +1,5 @@
 -- The pieces in magazines.
-use Rattle.std.proofs.Common.{ℕ, ◌≡◌, ◌≢◌, ◌≤◌, List, [], ◌∷◌, ◌++◌, sym, subst}
+use Rattle.std.proofs.Common.{ℕ, ◌≡◌, ◌≢◌, List, [], ◌∷◌, ◌++◌, sym, subst}
 use Rattle.std.specs.Prelude.{All}
 use Rattle.std.proofs.lemmas.List.Elements.{All-nil, All-cons, All-head, All-tail}
 use Rattle.live_heap.specs.Heaps.{HeapFields}
@@ -80,7 +80,7 @@ kept-same h p q on ms kept = kept-on h p q (λ m. Unit {0}) (λ m left taken. on
 -- a cache whose pass went on is one still; and one with other magazines
 pub passed : (h : HeapFields) (c : MemoryCache) (q : Pass) → IsCache h c → IsPassFor h q → AreKept h q (kept_in c)
     → IsCache h (record { pass = q; magazines = c.magazines; hits = c.hits })
-passed h c q is pass kept = record { pass = pass; magazines = is.magazines; few = is.few; kept = kept }
+passed h c q is pass kept = record { pass = pass; magazines = is.magazines; kept = kept }
 
 pub refilled : (h : HeapFields) (c : MemoryCache) (p : Pass) (m : Magazines Memory) (hits : ℕ) → IsCache h c → IsPassFor h p → m.depth ≡ c.magazines.depth
     → AreForClasses (λ (memory : Memory). memory.block.need) c.magazines.depth m.stacks.items → AreKept h p (all_in (stacks_of m.stacks.items))
@@ -89,7 +89,6 @@ refilled h c p m hits is pass depth ready kept =
     record {
       pass = pass;
       magazines = subst (λ k. AreForClasses (λ (memory : Memory). memory.block.need) k m.stacks.items) (sym depth) ready;
-      few = subst (λ k. k ≤ 4096) (sym depth) is.few;
       kept = kept;
     }
 

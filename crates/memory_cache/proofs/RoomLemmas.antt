@@ -10,9 +10,7 @@ use Rattle.live_heap.specs.declared.plain.Memory.{Memory}
 use Rattle.live_heap.specs.declared.pass.Pass.{Pass}
 use Rattle.live_heap.specs.Memory.{HasTaken, IsMemoryOf}
 use Rattle.live_heap.specs.Passes.{IsOf}
-use Rattle.live_heap.proofs.Begun.{heap-at}
-use Rattle.live_heap.proofs.Straight.{payload-odd}
-use Rattle.live_heap.proofs.Taking.{taken-owned}
+use Rattle.live_heap.proofs.laws_for_builders.Memory.{owned-in_heap, payload-odd, taken-owned}
 use Rattle.memory_cache.specs.Rooms.{IsRoomOf}
 
 -- words that are laid are here
@@ -36,4 +34,4 @@ enough-small words class n is least =
 pub room-aligned : (h : HeapFields) (p : Pass) (m : Memory) → IsOf h p → HasTaken p m → IsRoomOf h m → m.words.first % 2 ≡ 1
 room-aligned h p m of taken room =
     payload-odd p.errand.geometry m.block.place m.words.first m.block.need
-    (heap-at h p m.block.place m.block.need of (taken-owned h p m.block.place m.block.need of taken)) room.first
+    (owned-in_heap h p m.block.place m.block.need of (taken-owned h p m.block.place m.block.need of taken)) room.first

@@ -30,12 +30,10 @@ use Rattle.live_heap.specs.Holdings.{HoldsExactly}
 use Rattle.live_heap.specs.Memory.{HasTaken, IsLastTaken, all_but, before_taking, writes_from}
 use Rattle.live_heap.specs.Passes.{IsFresh, IsHome, IsOf, Owns, OwnsAt, seen, view}
 use Rattle.live_heap.specs.Words.{CallsOnWord}
-use Rattle.live_heap.proofs.Changes.{called-changes}
-use Rattle.live_heap.proofs.Exact.{fresh-exact}
-use Rattle.live_heap.proofs.Holding.{idle-free}
-use Rattle.live_heap.proofs.LawsKept.{stays-home}
-use Rattle.memory_cache.specs.declared.answers.MemoryAnswer.{MemoryAnswer}
-use Rattle.memory_cache.specs.declared.answers.MemoryAnswer.TheVariants as answer
+use Rattle.live_heap.proofs.laws_for_builders.AllBlocks.{fresh-exact}
+use Rattle.live_heap.proofs.laws_for_builders.Changing.{called-changes}
+use Rattle.live_heap.proofs.laws_for_builders.Hands.{idle-not_busy}
+use Rattle.live_heap.proofs.laws_for_builders.Keeping.{stays-home}
 use Rattle.memory_cache.specs.Asking.{FreesGiven, HasAsked, HasSettled, SendsHome, TakeTells}
 use Rattle.memory_cache.specs.Settled.{HasAllOut, HasAllOutBut, IsPassFor, IsSettled, IsSettledBut, IsUnderWay, StandsBefore}
 
@@ -46,10 +44,10 @@ LentSame p q = (view q).lent ≡ (view p).lent
 -- a cache's pass is settled where it is in no call; in one, that is under way
 pub settled-of : (h : HeapFields) (p : Pass) → IsIdle p.errand → IsPassFor h p → IsSettled h p
 settled-of h p idle (inl settled) = settled
-settled-of h p idle (inr way) = absurd (idle-free p.errand idle way.calling.busy)
+settled-of h p idle (inr way) = absurd (idle-not_busy p.errand idle way.calling.busy)
 
 pub under_way-of : (h : HeapFields) (p : Pass) → IsBusy p.errand → IsPassFor h p → IsUnderWay h p
-under_way-of h p busy (inl settled) = absurd (idle-free p.errand settled.idle busy)
+under_way-of h p busy (inl settled) = absurd (idle-not_busy p.errand settled.idle busy)
 under_way-of h p busy (inr way) = way
 
 pub pass-of : (h : HeapFields) (p : Pass) → IsPassFor h p → IsOf h p
@@ -261,7 +259,7 @@ at-once h p tries settled =
       pass = inl settled;
       idle = settled.idle;
       same = λ idle. refl;
-      resumed = λ busy. absurd (idle-free p.errand settled.idle busy);
+      resumed = λ busy. absurd (idle-not_busy p.errand settled.idle busy);
     }
 
 -- and what has settled is
@@ -273,22 +271,22 @@ pub settles-on : (h : HeapFields) (p : Pass) (tries : ℕ) (q r : Pass) → HasS
 settles-on h p tries q r first then = subst (HasSettled h p tries true) (sym (then.same first.idle)) first
 
 pub asks-on :
-    (h : HeapFields) (p : Pass) (words tries : ℕ) (told : AllocAnswer) (q r : Pass) → HasSettled h p tries true q → HasAsked h q words tries told r
+    (h : HeapFields) (p : Pass) (words tries : ℕ) (told : AllocAnswer Block) (q r : Pass) → HasSettled h p tries true q → HasAsked h q words tries told r
     → HasAsked h p words tries told r
 asks-on h p words tries told q r first asked =
     record { settled = asked.settled; has_settled = settles-on h p tries q asked.settled first asked.has_settled; tells = asked.tells }
 
 pub takes-on :
-    (h : HeapFields) (p : Pass) (words tries : ℕ) (told : MemoryAnswer) (q r : Pass) → HasSettled h p tries true q → TakeTells h q words tries told r
+    (h : HeapFields) (p : Pass) (words tries : ℕ) (told : AllocAnswer Memory) (q r : Pass) → HasSettled h p tries true q → TakeTells h q words tries told r
     → TakeTells h p words tries told r
-takes-on h p words tries (answer.Given memory) q r first tells =
+takes-on h p words tries (alloc_answer.Given memory) q r first tells =
     asks-on h p words tries (alloc_answer.Given memory.block) q (before_taking r memory.block.place) first tells
-takes-on h p words tries answer.Refused q r first tells = asks-on h p words tries alloc_answer.Refused q r first tells
-takes-on h p words tries answer.TooLarge q r first tells = tells
-takes-on h p words tries answer.Spent q r first tells = (asks-on h p words tries alloc_answer.Spent q r first tells.0, tells.1)
-takes-on h p words tries answer.Busy q r first (inl stopped) =
+takes-on h p words tries alloc_answer.Refused q r first tells = asks-on h p words tries alloc_answer.Refused q r first tells
+takes-on h p words tries alloc_answer.TooLarge q r first tells = tells
+takes-on h p words tries alloc_answer.Spent q r first tells = (asks-on h p words tries alloc_answer.Spent q r first tells.0, tells.1)
+takes-on h p words tries alloc_answer.Busy q r first (inl stopped) =
     absurd (true≢false (sym (subst (λ (x : Pass). is_idle x.errand.point ≡ true) (sym (stopped.same first.idle)) first.idle) ∙ stopped.idle))
-takes-on h p words tries answer.Busy q r first (inr asked) = inr (asks-on h p words tries alloc_answer.Busy q r first asked)
+takes-on h p words tries alloc_answer.Busy q r first (inr asked) = inr (asks-on h p words tries alloc_answer.Busy q r first asked)
 
 pub sends-on :
     (h : HeapFields) (p : Pass) (m : Memory) (tries : ℕ) (q r : Pass) → HasSettled h p tries true q → SendsHome h q m tries r → SendsHome h p m tries r

@@ -6,6 +6,7 @@ use Rattle.errand_steps.specs.Calls.{Call}
 use Rattle.errand_steps.specs.Points.{is_idle}
 use Rattle.sound_laws.specs.events.Made.{LeadsBy}
 use Rattle.live_heap.specs.declared.answers.AllocAnswer.{AllocAnswer}
+use Rattle.live_heap.specs.declared.block.Block.{Block}
 use Rattle.live_heap.specs.declared.answers.AllocAnswer.TheVariants as alloc_answer
 use Rattle.live_heap.specs.declared.answers.FreeAnswer.{FreeAnswer}
 use Rattle.live_heap.specs.declared.answers.FreeAnswer.TheVariants as free_answer
@@ -19,8 +20,6 @@ use Rattle.live_heap.specs.Calls.{IsCalling}
 use Rattle.live_heap.specs.Memory.{before_taking, writes_from}
 use Rattle.live_heap.specs.Passes.{IsOf}
 use Rattle.live_heap.specs.Words.{CallsOnWord}
-use Rattle.memory_cache.specs.declared.answers.MemoryAnswer.{MemoryAnswer}
-use Rattle.memory_cache.specs.declared.answers.MemoryAnswer.TheVariants as answer
 use Rattle.memory_cache.specs.Settled.{IsPassFor}
 
 -- the answer of a free that has ended, or not
@@ -47,20 +46,20 @@ pub record HasSettled (h : HeapFields) (p : Pass) (tries : ℕ) (ended : Bool) (
   pub resumed : IsBusy p.errand → (told : Resumed) × (r : Pass) × IsResumed h p tries told r × FreesGiven told r tries ended q
 
 -- once no call was under way, an allocation was asked for, and this was the answer
-pub record HasAsked (h : HeapFields) (p : Pass) (words tries : ℕ) (told : AllocAnswer) (q : Pass) : Type 0 where
+pub record HasAsked (h : HeapFields) (p : Pass) (words tries : ℕ) (told : AllocAnswer Block) (q : Pass) : Type 0 where
   pub settled : Pass
   pub has_settled : HasSettled h p tries true settled
   pub tells : AllocTells settled words tries told q
 
 -- what came of asking the heap for memory: the words of a block went out that was allocated; the allocation was refused; all turns are taken; or a call is under way, the one that was or the allocation. Where no block has so many words the heap isn't asked
-abbrev pub TakeTells : HeapFields → Pass → ℕ → ℕ → MemoryAnswer → Pass → Type 0
-TakeTells h p words tries (answer.Given memory) q =
+abbrev pub TakeTells : HeapFields → Pass → ℕ → ℕ → AllocAnswer Memory → Pass → Type 0
+TakeTells h p words tries (alloc_answer.Given memory) q =
     HasAsked h p words tries (alloc_answer.Given memory.block) (before_taking q memory.block.place)
-TakeTells h p words tries answer.Refused q = HasAsked h p words tries alloc_answer.Refused q
-TakeTells h p words tries answer.TooLarge q = ⊥
-TakeTells h p words tries answer.Spent q =
+TakeTells h p words tries alloc_answer.Refused q = HasAsked h p words tries alloc_answer.Refused q
+TakeTells h p words tries alloc_answer.TooLarge q = ⊥
+TakeTells h p words tries alloc_answer.Spent q =
     HasAsked h p words tries alloc_answer.Spent q × (q.errand.turns ≡ q.errand.geometry.turn_limit)
-TakeTells h p words tries answer.Busy q = HasSettled h p tries false q ⊎ HasAsked h p words tries alloc_answer.Busy q
+TakeTells h p words tries alloc_answer.Busy q = HasSettled h p tries false q ⊎ HasAsked h p words tries alloc_answer.Busy q
 
 -- once no call was under way, memory went home, each word with 0; and then its block was freed, or that is under way
 pub record SendsHome (h : HeapFields) (p : Pass) (m : Memory) (tries : ℕ) (q : Pass) : Type 0 where
@@ -73,6 +72,6 @@ pub record SendsHome (h : HeapFields) (p : Pass) (m : Memory) (tries : ℕ) (q :
   pub frees : FreeTells home m.block tries told q
 
 -- memory that is given lies at another place than this one
-abbrev pub LiesElsewhere : MemoryAnswer → Memory → Type 0
-LiesElsewhere (answer.Given memory) other = other.block.place ≢ memory.block.place
+abbrev pub LiesElsewhere : AllocAnswer Memory → Memory → Type 0
+LiesElsewhere (alloc_answer.Given memory) other = other.block.place ≢ memory.block.place
 LiesElsewhere told other = Unit {0}

@@ -1,5 +1,5 @@
 -- A memory cache in front of a heap.
-use Rattle.std.specs.Prelude.{ℕ, ◌≡◌, ◌≢◌, ◌<◌, ◌≤◌, ◌+◌, ◌-◌, ◌^◌, ◌⊎◌, List, [], ◌∷◌, All, min}
+use Rattle.std.specs.Prelude.{ℕ, ◌≡◌, ◌≢◌, ◌<◌, ◌+◌, ◌-◌, ◌^◌, ◌⊎◌, List, [], ◌∷◌, All, min}
 use Rattle.heap_geometry.specs.declared.need.Need.{Need}
 use Rattle.heap_geometry.specs.declared.need.Need.TheVariants.{Small}
 use Rattle.heap_geometry.specs.Need.{need_of}
@@ -37,7 +37,6 @@ AreKept h p (m ∷ ms) = (IsRoomOf h m × HasTaken p m) × LieApart m ms × AreK
 pub record IsCache (h : HeapFields) (c : MemoryCache) : Type 0 where
   pub pass : IsPassFor h c.pass
   pub magazines : AreForClasses (λ (memory : Memory). memory.block.need) c.magazines.depth c.magazines.stacks.items
-  pub few : c.magazines.depth ≤ 4096
   pub kept : AreKept h c.pass (kept_in c)
 
 -- a cache's caller holds this memory: it is out with the pass, and in no magazine

@@ -15,10 +15,11 @@ ghost use Rattle.memory_cache.specs.Caches.{HasFor, HasKept, HasRoom, HasServed,
 ghost use Rattle.memory_cache.specs.Rooms.{IsRoomOf};
 ghost use Rattle.memory_cache.specs.Settled.{IsSettled};
 
-use crate::answers::{CacheRefused, MemoryAnswer};
 use crate::passes::{ask, send_home, settle};
+use block_cache::cache::CacheRefused;
 use block_cache::magazines::Magazines;
 use heap_geometry::need::{Need, class_of};
+use live_heap::answers::AllocAnswer;
 use live_heap::heap::Heap;
 use live_heap::pass::Pass;
 use live_heap::plain::Memory;
@@ -35,10 +36,9 @@ pub struct MemoryCache {
 }
 
 impl MemoryCache {
-    /// A cache in front of the pass, with empty magazines for so many pieces each, at most 4,096: with 0 none keeps
-    /// any. All memory for them is taken here. A pass that holds no blocks is settled.
+    /// A cache in front of the pass, with empty magazines for so many pieces each: with 0 none keeps any. All memory
+    /// for them is taken here. A pass that holds no blocks is settled.
     pub fn open(alloc: Global, pass: Pass, depth: u16) -> Result<MemoryCache, CacheRefused>
-        requires few { depth ≤ 4096 }
         ensures cache { IfOk result (λ cache. (h : HeapFields) → IsSettled h pass → IsCache h cache) }
         ensures pass { IfOk result (λ cache. cache.pass ≡ pass) }
         ensures empty { IfOk result (λ cache. kept_in cache ≡ []) }
@@ -57,33 +57,34 @@ impl MemoryCache {
     }
 
     /// Memory of at least so many words; some of them may never have been written. Where the magazine for them has
-    /// a piece it is that, the last one, without a step; else a block is allocated for it.
+    /// a piece it is that, the last one, without a step; else a block is allocated for it. Where it is Busy a later
+    /// `take`, `give` or `close` goes on.
     #[inline(always)]
-    pub fn take(&mut self, heap: &Heap, words: u32, tries: u32) -> MemoryAnswer
+    pub fn take(&mut self, heap: &Heap, words: u32, tries: u32) -> AllocAnswer<Memory>
         requires cache { IsCache heap.now self.old }
         requires tries { 0 < tries }
         ensures cache { IsCache heap.now self.new }
         ensures depth { self.new.magazines.depth ≡ self.old.magazines.depth }
         ensures caller { self.new.pass.errand.caller ≡ self.old.pass.errand.caller }
-        ensures given { (memory : Memory) → result ≡ MemoryAnswer.Given memory
+        ensures given { (memory : Memory) → result ≡ AllocAnswer.Given memory
             → IsRoomOf heap.now memory × IsHeld self.new memory × (memory.block.need ≡ need_of words)
             × (words ≤ usable_words memory.block.need) }
-        ensures aligned { (memory : Memory) → result ≡ MemoryAnswer.Given memory → memory.words.first % 2 ≡ 1 }
-        ensures apart { (memory other : Memory) → result ≡ MemoryAnswer.Given memory → IsHeld self.old other
+        ensures aligned { (memory : Memory) → result ≡ AllocAnswer.Given memory → memory.words.first % 2 ≡ 1 }
+        ensures apart { (memory other : Memory) → result ≡ AllocAnswer.Given memory → IsHeld self.old other
             → other.block.place ≢ memory.block.place }
         ensures keeps { (other : Memory) → IsHeld self.old other → IsHeld self.new other }
         ensures only { (other : Memory) → IsHeld self.new other → LiesElsewhere result other → IsHeld self.old other }
         ensures served { HasFor self.old (need_of words)
-            → (memory : Memory) × (result ≡ MemoryAnswer.Given memory) × HasServed self.old words memory self.new }
+            → (memory : Memory) × (result ≡ AllocAnswer.Given memory) × HasServed self.old words memory self.new }
         ensures asked { (¬ HasFor self.old (need_of words)) → words ≤ LARGE_MOST
             → TakeTells heap.now self.old.pass words tries result self.new.pass × KeepsMagazines self.old self.new }
-        ensures too_large { (result ≡ MemoryAnswer.TooLarge) ↔ (LARGE_MOST < words) }
+        ensures too_large { (result ≡ AllocAnswer.TooLarge) ↔ (LARGE_MOST < words) }
         ensures nothing { LARGE_MOST < words → self.new ≡ self.old }
     {
         match class_of(words) {
-            Need::TooLarge => MemoryAnswer::TooLarge,
+            Need::TooLarge => AllocAnswer::TooLarge,
             Need::Small(class) if self.magazines.count(class) > 0 => {
-                MemoryAnswer::Given(self.serve(class))
+                AllocAnswer::Given(self.serve(class))
             }
             _ => ask(heap, &mut self.pass, words, tries),
         }

@@ -2,7 +2,6 @@
 //! pass, and is given again without a step on a shared word.
 #![tactic(auto)]
 
-pub mod answers;
 pub mod cache;
 pub mod laws;
 mod passes;

@@ -13,7 +13,6 @@ ghost use Rattle.memory_cache.specs.Asking.{HasSettled, LiesElsewhere, SendsHome
 ghost use Rattle.memory_cache.specs.Rooms.{IsRoomOf};
 ghost use Rattle.memory_cache.specs.Settled.{IsPassFor, IsSettled, IsSettledBut};
 
-use crate::answers::MemoryAnswer;
 use live_heap::answers::{AllocAnswer, FreeAnswer, Resumed};
 use live_heap::block::Block;
 use live_heap::heap::Heap;
@@ -56,12 +55,12 @@ fn free(heap: &Heap, pass: &mut Pass, block: Block, tries: u32) -> bool
 }
 
 /// Memory of a block that is allocated for it, once the pass is in no call.
-pub(crate) fn ask(heap: &Heap, pass: &mut Pass, words: u32, tries: u32) -> MemoryAnswer
+pub(crate) fn ask(heap: &Heap, pass: &mut Pass, words: u32, tries: u32) -> AllocAnswer<Memory>
     requires pass { IsPassFor heap.now pass.old }
     requires words { words ≤ LARGE_MOST }
     requires tries { 0 < tries }
     ensures pass { IsPassFor heap.now pass.new }
-    ensures given { (memory : Memory) → result ≡ MemoryAnswer.Given memory
+    ensures given { (memory : Memory) → result ≡ AllocAnswer.Given memory
         → IsRoomOf heap.now memory × HasTaken pass.new memory × (memory.block.need ≡ need_of words)
         × (words ≤ usable_words memory.block.need) }
     ensures keeps { (other : Memory) → HasTaken pass.old other → HasTaken pass.new other × LiesElsewhere result other }
@@ -70,18 +69,18 @@ pub(crate) fn ask(heap: &Heap, pass: &mut Pass, words: u32, tries: u32) -> Memor
     ensures tells { TakeTells heap.now pass.old words tries result pass.new }
 {
     if !settle(heap, pass, tries) {
-        return MemoryAnswer::Busy;
+        return AllocAnswer::Busy;
     }
     allocate(heap, pass, words, tries)
 }
 
 /// Memory of a block that is allocated for it.
-fn allocate(heap: &Heap, pass: &mut Pass, words: u32, tries: u32) -> MemoryAnswer
+fn allocate(heap: &Heap, pass: &mut Pass, words: u32, tries: u32) -> AllocAnswer<Memory>
     requires settled { IsSettled heap.now pass.old }
     requires words { words ≤ LARGE_MOST }
     requires tries { 0 < tries }
     ensures pass { IsPassFor heap.now pass.new }
-    ensures given { (memory : Memory) → result ≡ MemoryAnswer.Given memory
+    ensures given { (memory : Memory) → result ≡ AllocAnswer.Given memory
         → IsRoomOf heap.now memory × HasTaken pass.new memory × (memory.block.need ≡ need_of words)
         × (words ≤ usable_words memory.block.need) }
     ensures keeps { (other : Memory) → HasTaken pass.old other → HasTaken pass.new other × LiesElsewhere result other }
@@ -90,10 +89,10 @@ fn allocate(heap: &Heap, pass: &mut Pass, words: u32, tries: u32) -> MemoryAnswe
     ensures tells { TakeTells heap.now pass.old words tries result pass.new }
 {
     match heap.alloc(pass, words, tries) {
-        AllocAnswer::Given(block) => MemoryAnswer::Given(heap.take_out(pass, block)),
-        AllocAnswer::Refused => MemoryAnswer::Refused,
-        AllocAnswer::Spent => MemoryAnswer::Spent,
-        AllocAnswer::Busy => MemoryAnswer::Busy,
+        AllocAnswer::Given(block) => AllocAnswer::Given(heap.take_out(pass, block)),
+        AllocAnswer::Refused => AllocAnswer::Refused,
+        AllocAnswer::Spent => AllocAnswer::Spent,
+        AllocAnswer::Busy => AllocAnswer::Busy,
         AllocAnswer::TooLarge => unreachable!(),
     }
 }

@@ -1,6 +1,6 @@
-//! Tests of the parts below the machine, from the packed words to errands, and of the plain pool: numbers of
-//! words, actions, steps and places, which are worked by hand or come from a model that was written apart from
-//! the code.
+//! Tests of the parts of the machine, from the packed words to errands, of the machine on one thread, and of the
+//! plain pool: numbers of words, actions, steps, events and places, which are worked by hand or come from a model
+//! that was written apart from the code.
 #![tactic(auto)]
 
 #[cfg(test)]
@@ -14,6 +14,8 @@ mod heaps;
 #[cfg(test)]
 mod large_blocks;
 #[cfg(test)]
+mod machine;
+#[cfg(test)]
 mod needs;
 #[cfg(test)]
 mod packing;
@@ -21,6 +23,8 @@ mod packing;
 mod partials;
 #[cfg(test)]
 mod plain_calls;
+#[cfg(test)]
+mod script;
 #[cfg(test)]
 mod stacks;
 #[cfg(test)]

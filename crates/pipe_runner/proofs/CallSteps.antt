@@ -34,10 +34,10 @@ use Rattle.live_heap.specs.Contents.{OwnsSame, owned_in}
 use Rattle.live_heap.specs.Holdings.{ChangesHand}
 use Rattle.live_heap.specs.Passes.{IsHome, IsOf, Owns, seen, view}
 use Rattle.live_heap.specs.Whole.{IsAtRest, IsWhole, MadeByPass, OwnsFor, at_once, by_steps}
-use Rattle.live_heap.proofs.Changes.{called-changes, whole-changes}
-use Rattle.live_heap.proofs.Exact.{whole-exact}
-use Rattle.live_heap.proofs.LawsKept.{given-home, stays-home}
-use Rattle.live_heap.proofs.WholeLaws.{pass-hands, pass-serves, whole-keeps}
+use Rattle.live_heap.proofs.laws_for_builders.AllBlocks.{whole-exact}
+use Rattle.live_heap.proofs.laws_for_builders.Changing.{called-changes, whole-changes}
+use Rattle.live_heap.proofs.laws_for_builders.Giving.{given-home, pass-hands, pass-serves}
+use Rattle.live_heap.proofs.laws_for_builders.Keeping.{stays-home, whole-keeps}
 use Rattle.pipe_runner.specs.Messages.{HasThreeWords, three_from, with_word, with_words}
 use Rattle.block_pipe.specs.declared.pipe.Pipe.{Pipe}
 use Rattle.block_pipe.specs.declared.sender.Sender.{Sender}

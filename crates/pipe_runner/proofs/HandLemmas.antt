@@ -1,6 +1,6 @@
 -- Where a put and a take stand in what a pass has seen.
 use Rattle.std.proofs.Common.{ℕ, ◌≡◌, ◌+◌, ◌++◌, List, [], ◌∷◌, Some, length, refl, sym, ap, ◌∙◌, subst, inl, inr, arith, append_assoc, eq-eqb}
-use Rattle.std.proofs.lemmas.List.{append_cancel_right, append-nil, length-append, nil_from_length}
+use Rattle.std.proofs.lemmas.List.{append-nil, length-append, nil_from_length, same_from_push}
 use Rattle.heap_geometry.specs.declared.need.Need.{Need}
 use Rattle.pool_model.specs.declared.event.Event.{Event}
 use Rattle.pool_model.specs.declared.event.Event.TheVariants.{Put, Take}
@@ -20,9 +20,8 @@ use Rattle.live_heap.specs.declared.pass.Pass.{Pass}
 use Rattle.live_heap.specs.Calls.{HasCalled}
 use Rattle.live_heap.specs.Contents.{owned_in}
 use Rattle.live_heap.specs.Passes.{IsOf, seen}
-use Rattle.live_heap.proofs.Changes.{called-changes}
-use Rattle.live_heap.proofs.Last.{last-same}
-use Rattle.live_heap.proofs.LawsKept.{called-grows}
+use Rattle.live_heap.proofs.laws_for_builders.Changing.{called-changes}
+use Rattle.live_heap.proofs.laws_for_builders.Events.{called-grows}
 
 hers : (c : ℕ) (event : Event) → caller_of event ≡ c → own c (event ∷ []) ≡ event ∷ []
 hers c event is = rw (eq-eqb (caller_of event) c is) refl
@@ -42,9 +41,9 @@ one-more c h rest before event is whole owned =
       | inr (more, last, ends) ↦
           let split : h ++ rest ≡ (h ++ more) ++ last ∷ [] = ap (λ (l : List Event). h ++ l) ends ∙ sym (append_assoc h more (last ∷ [])) in
           let both : (h ++ more) ++ last ∷ [] ≡ before ++ event ∷ [] = sym split ∙ whole in
-          let same : last ≡ event = last-same (h ++ more) before last event both in
-          let front : h ++ more ≡ before =
-          append_cancel_right (h ++ more) before (event ∷ []) (ap (λ (e : Event). (h ++ more) ++ e ∷ []) (sym same) ∙ both) in
+          let pushed = same_from_push (h ++ more) before last event both in
+          let same : last ≡ event = pushed.1 in
+          let front : h ++ more ≡ before = pushed.0 in
           let parts : own c (h ++ rest) ≡ (own c h ++ own c more) ++ own c (last ∷ []) =
           ap (own c) split ∙ own-append c (h ++ more) (last ∷ []) ∙ ap (λ (l : List Event). l ++ own c (last ∷ [])) (own-append c h more) in
           let one : length (own c (last ∷ [])) ≡ 1 = ap (λ (e : Event). length (own c (e ∷ []))) same ∙ ap (λ (l : List Event). length l) (hers c event is) in

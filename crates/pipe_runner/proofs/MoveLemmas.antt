@@ -20,7 +20,7 @@ use Rattle.live_heap.specs.declared.pass.Pass.{Pass}
 use Rattle.live_heap.specs.Calls.{HasCalled}
 use Rattle.live_heap.specs.Passes.{seen}
 use Rattle.live_heap.specs.Whole.{IsWhole, by_steps, at_once}
-use Rattle.live_heap.proofs.LawsKept.{called-grows}
+use Rattle.live_heap.proofs.laws_for_builders.Events.{called-grows}
 use Rattle.pipe_runner.specs.Moves.{PassGoesOn, StaysHome}
 
 -- an event that is outside of each pipe stays home, and so does each of a list

@@ -13,7 +13,7 @@ use Rattle.live_heap.specs.Heaps.{HeapFields}
 use Rattle.live_heap.specs.declared.pass.Pass.{Pass}
 use Rattle.live_heap.specs.Passes.{AreFrom, IsFresh, seen}
 use Rattle.live_heap.specs.Whole.{IsAtRest}
-use Rattle.live_heap.proofs.Exact.{fresh-exact}
+use Rattle.live_heap.proofs.laws_for_builders.AllBlocks.{fresh-exact}
 use Rattle.block_pipe.specs.declared.pipe.Pipe.{Pipe}
 use Rattle.block_pipe.specs.declared.sender.Sender.{Sender}
 use Rattle.block_pipe.specs.Ends.{AreNewFrom, IsSender, pushed_by}

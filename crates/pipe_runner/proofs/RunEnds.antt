@@ -10,7 +10,7 @@ use Rattle.live_heap.specs.Heaps.{HeapFields}
 use Rattle.live_heap.specs.declared.pass.Pass.{Pass}
 use Rattle.live_heap.specs.Endings.{AreAllIdle, HasAccesses, HasClosed, HasTakenIn, IsResting}
 use Rattle.live_heap.specs.Passes.{AreFrom, IsFresh, IsOf}
-use Rattle.live_heap.proofs.LawsClosed.{closed-legal}
+use Rattle.live_heap.proofs.laws_for_builders.Events.{closed-legal}
 use Rattle.block_pipe.specs.declared.note.Note.{Note}
 use Rattle.block_pipe.specs.declared.pipe.Pipe.{Pipe}
 use Rattle.block_pipe.specs.declared.sender.Sender.{Sender}

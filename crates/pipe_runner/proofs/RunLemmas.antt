@@ -15,8 +15,8 @@ use Rattle.live_heap.specs.declared.pass.Pass.{Pass}
 use Rattle.live_heap.specs.Contents.{owned_after}
 use Rattle.live_heap.specs.Endings.{ClosedFields, HasTakenIn, IsResting}
 use Rattle.live_heap.specs.Passes.{IsOf, seen}
-use Rattle.live_heap.proofs.Changes.{closed-owned}
-use Rattle.live_heap.proofs.Growing.{rest-none}
+use Rattle.live_heap.proofs.laws_for_builders.Changing.{closed-owned}
+use Rattle.live_heap.proofs.laws_for_builders.Events.{rest-of_others}
 use Rattle.block_pipe.specs.declared.pipe.Pipe.{Pipe}
 use Rattle.block_pipe.specs.declared.sender.Sender.{Sender}
 use Rattle.block_pipe.specs.Ends.{AreDistinct, IsSender}
@@ -33,7 +33,7 @@ own-closed : (c : ClosedFields) (p : Pass) (k : ℕ) → p.errand.caller ≡ k �
 own-closed c p k caller t = subst (λ (j : ℕ). own j c.events ≡ own j (seen p)) caller t.events
 
 rest-of : (c : ClosedFields) (p : Pass) (k : ℕ) → p.errand.caller ≡ k → (t : HasTakenIn c p) → own k t.seen_before.0 ≡ []
-rest-of c p k caller t = rest-none k (seen p) t.seen_before.0 (sym (own-closed c p k caller t) ∙ ap (own k) t.seen_before.1)
+rest-of c p k caller t = rest-of_others k (seen p) t.seen_before.0 (sym (own-closed c p k caller t) ∙ ap (own k) t.seen_before.1)
 
 sent-closed : (c : ClosedFields) (p : Pass) (k : ℕ) → p.errand.caller ≡ k → HasTakenIn c p → sent 8 k c.events ≡ sent 8 k (seen p)
 sent-closed c p k caller t =

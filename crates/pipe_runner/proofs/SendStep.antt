@@ -13,7 +13,7 @@ use Rattle.live_heap.specs.declared.pass.Pass.{Pass}
 use Rattle.live_heap.specs.Contents.{owned_in}
 use Rattle.live_heap.specs.Holdings.{HoldsExactly}
 use Rattle.live_heap.specs.Passes.{seen}
-use Rattle.live_heap.proofs.Exact.{called-exact}
+use Rattle.live_heap.proofs.laws_for_builders.AllBlocks.{called-exact}
 use Rattle.pipe_runner.specs.Messages.{first_word, three_from}
 use Rattle.pipe_runner.specs.Moves.{HasAllocated, HasHandedOver, KeepsBlocks}
 use Rattle.pipe_runner.specs.Senders.{HasSent, IsBetween, PutsWithin}

@@ -20,7 +20,7 @@ use Rattle.live_heap.specs.Contents.{owned_in}
 use Rattle.live_heap.specs.Holdings.{HoldsExactly}
 use Rattle.live_heap.specs.Passes.{seen}
 use Rattle.live_heap.specs.Whole.{IsWhole}
-use Rattle.live_heap.proofs.Exact.{called-exact, whole-exact}
+use Rattle.live_heap.proofs.laws_for_builders.AllBlocks.{called-exact, whole-exact}
 use Rattle.pipe_runner.specs.Messages.{HasThreeWords, HaveThreeWords, with_words}
 use Rattle.pipe_runner.specs.Moves.{HasTakenOff, KeepsBlocks}
 use Rattle.pipe_runner.specs.Receivers.{HasTaken}

@@ -1,6 +1,6 @@
 //! The receiver at work.
 
-ghost use Rattle.std.specs.Prelude.{ℕ, ◌≡◌, ◌<◌, ◌≤◌, ◌++◌, None, true, IfSome, slice_index};
+ghost use Rattle.std.specs.Prelude.{ℕ, ◌≡◌, ◌<◌, ◌≤◌, None, true, IfSome, slice_index};
 ghost use Rattle.live_heap.specs.Whole.{IsAtRest};
 ghost use Rattle.block_pipe.specs.Ends.{IsReceiver, popped_by};
 ghost use Rattle.pipe_runner.specs.Moves.{HasTakenOff};

@@ -1,5 +1,6 @@
 pub mod Fills
 pub mod Rows
+pub mod Blocks
 pub mod Runs
 pub mod Made
 pub mod Names

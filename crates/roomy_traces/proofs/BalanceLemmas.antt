@@ -7,7 +7,7 @@ use Rattle.trace_text.specs.declared.limits.TheConstants.{REGISTERS}
 use Rattle.trace_text.specs.Traces.{IsOp}
 use Rattle.trace_text.specs.declared.trace.Op.{Op}
 use Rattle.trace_text.specs.declared.trace.Op.TheVariants as op
-use Rattle.lane_outcomes.specs.declared.registers.Held.{Held}
+use Rattle.lane_outcomes.specs.declared.registers.HeldBlock.{HeldBlock}
 use Rattle.lane_outcomes.specs.declared.outcome.Outcome.{Outcome}
 use Rattle.lane_outcomes.specs.declared.outcome.Outcome.TheVariants as outcome
 use Rattle.lane_outcomes.specs.Lane.{Position, held_in, registers_after}
@@ -18,11 +18,11 @@ use Rattle.roomy_traces.specs.Roomy.{Filled, IsPlain, filled_in, moves}
 use Rattle.roomy_traces.proofs.RegisterLemmas.{IsAlike, words_held, own_by, words_filled, need_held, need_filled, alike-at, need-at, mismatch, moves-on}
 
 -- what the block in a register counts, if it holds one
-abbrev weigh : (ℕ → ℕ) → Option Held → ℕ
+abbrev weigh : (ℕ → ℕ) → Option HeldBlock → ℕ
 weigh f held = count_with f (words_held held)
 
 set-balance :
-    (f : ℕ → ℕ) (registers : List (Option Held)) (r : ℕ) (held now : Option Held) → r < length registers → held_in registers r ≡ held
+    (f : ℕ → ℕ) (registers : List (Option HeldBlock)) (r : ℕ) (held now : Option HeldBlock) → r < length registers → held_in registers r ≡ held
     → weigh f now + own_by f registers ≡ weigh f held + own_by f (set registers r now)
 set-balance f registers r held now within full =
     let sums = sum_by-set (weigh f) registers r now None within in
@@ -30,7 +30,7 @@ set-balance f registers r held now within full =
     omega arith
 
 alloc-balance :
-    (f : ℕ → ℕ) (setting : Setting) (position : Position) (r need v : ℕ) (held : Option Held) (result : Outcome) (piece : List Event)
+    (f : ℕ → ℕ) (setting : Setting) (position : Position) (r need v : ℕ) (held : Option HeldBlock) (result : Outcome) (piece : List Event)
     → r < length position.registers → held_in position.registers r ≡ held → AllocRow setting position need v held result piece
     → count_with f (words_given (op.Alloc r need v) result) + own_by f position.registers
     ≡ 0 + own_by f (registers_after position.registers (op.Alloc r need v) result)
@@ -42,7 +42,7 @@ alloc-balance f setting position r need v None outcome.Spent piece within full r
 alloc-balance f setting position r need v held result piece within full row = absurd row
 
 free-balance :
-    (f : ℕ → ℕ) (setting : Setting) (position : Position) (r : ℕ) (held : Option Held) (result : Outcome) (piece : List Event)
+    (f : ℕ → ℕ) (setting : Setting) (position : Position) (r : ℕ) (held : Option HeldBlock) (result : Outcome) (piece : List Event)
     → held_in position.registers r ≡ held → FreeRow setting held result piece
     → 0 + own_by f position.registers
     ≡ count_with f (words_freed position.registers (op.Free r) result) + own_by f (registers_after position.registers (op.Free r) result)
@@ -52,7 +52,7 @@ free-balance f setting position r (Some held) outcome.Freed piece full row =
 free-balance f setting position r held result piece full row = absurd row
 
 resize-balance :
-    (f : ℕ → ℕ) (setting : Setting) (position : Position) (r need : ℕ) (held : Option Held) (result : Outcome) (piece : List Event)
+    (f : ℕ → ℕ) (setting : Setting) (position : Position) (r need : ℕ) (held : Option HeldBlock) (result : Outcome) (piece : List Event)
     → held_in position.registers r ≡ held → ResizeRow setting position need held result piece
     → count_with f (words_given (op.Resize r need) result) + own_by f position.registers
     ≡ count_with f (words_freed position.registers (op.Resize r need) result) + own_by f (registers_after position.registers (op.Resize r need) result)
@@ -84,13 +84,13 @@ row-balance f setting position (op.Put r shelf) result piece plain ranges many r
 row-balance f setting position (op.Take r shelf) result piece plain ranges many row = absurd plain
 
 -- an operation gives no block, or frees none, or moves one
-abbrev pub IsOneSided : List (Option Held) → Option Filled → Op → Outcome → Type 0
+abbrev pub IsOneSided : List (Option HeldBlock) → Option Filled → Op → Outcome → Type 0
 IsOneSided registers now operation result =
     (count_with as_one (words_given operation result) ≡ 0)
     ⊎ ((count_with as_one (words_freed registers operation result) ≡ 0) ⊎ (moves now operation ≡ true))
 
 resize-sided :
-    (setting : Setting) (position : Position) (r need : ℕ) (held : Option Held) (result : Outcome) (now : Option Filled) (piece : List Event)
+    (setting : Setting) (position : Position) (r need : ℕ) (held : Option HeldBlock) (result : Outcome) (now : Option Filled) (piece : List Event)
     → words_held held ≡ words_filled now → need_held held ≡ need_filled now → ResizeRow setting position need held result piece
     → IsOneSided position.registers now (op.Resize r need) result
 resize-sided setting position r need (Some held) (outcome.Resized words place) (Some now) piece same same_need row =

@@ -152,7 +152,7 @@ abbrev pub with_numbers : List ℕ → List (Option ℕ)
 with_numbers numbers = map (λ n. Some n) numbers
 
 -- a write of each word puts its value there, whatever the block contained
-at-writing :
+pub at-writing :
     (g : Geometry) (history : List Event) (caller place words : ℕ) (value : ℕ → ℕ) (done : List Event) (contents : List (Option ℕ))
     → IsLegalWithoutCounts g history → length contents ≡ words → AtMoments history caller done (HasContents caller place contents)
     → AtMoments history caller (done ++ writing caller place words value) (HasContents caller place (with_numbers (map value (range_with_len 0 words))))

@@ -135,7 +135,7 @@ pub own-begins : (caller : ℕ) (before history : List Event) → Begins before 
 own-begins caller before history (rest, is) = (own caller rest, ap (own caller) is ∙ own-append caller before rest)
 
 -- a list of events is a caller's own at some moment of a history
-abbrev HasMoment : ℕ → List Event → List Event → Type 0
+abbrev pub HasMoment : ℕ → List Event → List Event → Type 0
 HasMoment caller history part = (before : List Event) × Begins before history × (own caller before ≡ part)
 
 moment-hers :

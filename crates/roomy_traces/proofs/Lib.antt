@@ -11,3 +11,4 @@ pub mod FilledLemmas
 pub mod SerialLemmas
 pub mod ReportLemmas
 pub mod generated_lemmas
+pub mod through_lemmas

@@ -12,7 +12,7 @@ use Rattle.pool_model.specs.Calls.{IsGiving, IsRefusing, IsSpending, looks}
 use Rattle.pool_model.specs.Counts.{is_alloc, is_free}
 use Rattle.trace_text.specs.declared.trace.Op.{Op}
 use Rattle.trace_text.specs.declared.trace.Op.TheVariants as op
-use Rattle.lane_outcomes.specs.declared.registers.Held.{Held}
+use Rattle.lane_outcomes.specs.declared.registers.HeldBlock.{HeldBlock}
 use Rattle.lane_outcomes.specs.declared.outcome.Outcome.{Outcome}
 use Rattle.lane_outcomes.specs.declared.outcome.Outcome.TheVariants as outcome
 use Rattle.lane_outcomes.specs.Lane.{Position, held_in, filling, writing}
@@ -121,10 +121,10 @@ quiet-none piece none = rw none tt
 quiet-looks : (caller : ℕ) (events : List Event) → AllByRecursion (IsLook caller) events → AllByRecursion IsQuiet events
 quiet-looks caller events look = all-looks IsQuiet caller events (λ class. (refl, refl)) look
 
-quiet-writing : (caller place words : ℕ) (value : ℕ → ℕ) → AllByRecursion IsQuiet (writing caller place words value)
+pub quiet-writing : (caller place words : ℕ) (value : ℕ → ℕ) → AllByRecursion IsQuiet (writing caller place words value)
 quiet-writing caller place words value = all-writing IsQuiet caller place words value (λ i n. (refl, refl))
 
-given-counts :
+pub given-counts :
     (caller need place words : ℕ) (value : ℕ → ℕ) (calls piece : List Event) → IsGivenBy caller need place calls
     → piece ≡ calls ++ writing caller place words value → Counts piece 1 0
 given-counts caller need place words value calls piece given is =
@@ -136,7 +136,7 @@ given-counts caller need place words value calls piece given is =
     subst (λ xs. Counts xs 1 0) (sym is) (counts-append calls (writing caller place words value) 1 0 0 0 called filled)
 
 alloc-counts :
-    (setting : Setting) (position : Position) (r need v : ℕ) (held : Option Held) (result : Outcome) (piece : List Event)
+    (setting : Setting) (position : Position) (r need v : ℕ) (held : Option HeldBlock) (result : Outcome) (piece : List Event)
     → AllocRow setting position need v held result piece → Counts piece (count_with as_one (words_given (op.Alloc r need v) result)) 0
 alloc-counts setting position r need v (Some held) outcome.Skipped piece row = quiet-counts piece (quiet-none piece row)
 alloc-counts setting position r need v None (outcome.Given words place) piece row =
@@ -151,7 +151,7 @@ alloc-counts setting position r need v None outcome.Spent piece row =
 alloc-counts setting position r need v held result piece row = absurd row
 
 free-counts :
-    (setting : Setting) (registers : List (Option Held)) (r : ℕ) (held : Option Held) (result : Outcome) (piece : List Event)
+    (setting : Setting) (registers : List (Option HeldBlock)) (r : ℕ) (held : Option HeldBlock) (result : Outcome) (piece : List Event)
     → held_in registers r ≡ held → FreeRow setting held result piece
     → Counts piece 0 (count_with as_one (words_freed registers (op.Free r) result))
 free-counts setting registers r None outcome.Skipped piece full row = quiet-counts piece (quiet-none piece row)
@@ -159,14 +159,14 @@ free-counts setting registers r (Some held) outcome.Freed piece full row = rw (f
 free-counts setting registers r held result piece full row = absurd row
 
 fill-counts :
-    (setting : Setting) (v : ℕ) (held : Option Held) (result : Outcome) (piece : List Event) → FillRow setting v held result piece → Counts piece 0 0
+    (setting : Setting) (v : ℕ) (held : Option HeldBlock) (result : Outcome) (piece : List Event) → FillRow setting v held result piece → Counts piece 0 0
 fill-counts setting v None outcome.Skipped piece row = quiet-counts piece (quiet-none piece row)
 fill-counts setting v (Some held) outcome.Filled piece row =
     quiet-counts piece (rw row (quiet-writing setting.caller held.place held.words (λ i. (v + i) % 2 ^ 64)))
 fill-counts setting v held result piece row = absurd row
 
 check-counts :
-    (setting : Setting) (position : Position) (held : Option Held) (result : Outcome) (piece : List Event) → CheckRow setting position held result piece
+    (setting : Setting) (position : Position) (held : Option HeldBlock) (result : Outcome) (piece : List Event) → CheckRow setting position held result piece
     → Counts piece 0 0
 check-counts setting position None outcome.Skipped piece row = quiet-counts piece (quiet-none piece row)
 check-counts setting position (Some held) (outcome.Sum total) piece row = quiet-counts piece (quiet-none piece row.0)
@@ -183,7 +183,7 @@ resized-counts caller need place old words value calls piece given is =
     (counts-append made (Free caller old ∷ []) 1 0 0 1 (given-counts caller need place words value calls made given refl) freed)
 
 resize-counts :
-    (setting : Setting) (position : Position) (r need : ℕ) (held : Option Held) (result : Outcome) (piece : List Event)
+    (setting : Setting) (position : Position) (r need : ℕ) (held : Option HeldBlock) (result : Outcome) (piece : List Event)
     → held_in position.registers r ≡ held → ResizeRow setting position need held result piece
     → Counts piece (count_with as_one (words_given (op.Resize r need) result)) (count_with as_one (words_freed position.registers (op.Resize r need) result))
 resize-counts setting position r need None outcome.Skipped piece full row = quiet-counts piece (quiet-none piece row)
@@ -220,7 +220,7 @@ abbrev pub IsTame : Event → Type 0
 IsTame (Refuse by need) = need ≤ SMALL_MOST
 IsTame event = Unit {0}
 
-tame-made :
+pub tame-made :
     (caller need place words : ℕ) (value : ℕ → ℕ) (calls : List Event) → IsGivenBy caller need place calls
     → AllByRecursion IsTame (calls ++ writing caller place words value)
 tame-made caller need place words value calls given =
@@ -230,7 +230,7 @@ tame-made caller need place words value calls given =
     all-append IsTame calls (writing caller place words value) called (all-writing IsTame caller place words value (λ i n. tt))
 
 tame-alloc :
-    (setting : Setting) (position : Position) (need v : ℕ) (held : Option Held) (result : Outcome) (piece : List Event) → need ≤ SMALL_MOST
+    (setting : Setting) (position : Position) (need v : ℕ) (held : Option HeldBlock) (result : Outcome) (piece : List Event) → need ≤ SMALL_MOST
     → AllocRow setting position need v held result piece → AllByRecursion IsTame piece
 tame-alloc setting position need v (Some held) outcome.Skipped piece small row = rw row tt
 tame-alloc setting position need v None (outcome.Given words place) piece small row =
@@ -245,27 +245,27 @@ tame-alloc setting position need v None outcome.Spent piece small row =
 tame-alloc setting position need v held result piece small row = absurd row
 
 tame-free :
-    (setting : Setting) (held : Option Held) (result : Outcome) (piece : List Event) → FreeRow setting held result piece → AllByRecursion IsTame piece
+    (setting : Setting) (held : Option HeldBlock) (result : Outcome) (piece : List Event) → FreeRow setting held result piece → AllByRecursion IsTame piece
 tame-free setting None outcome.Skipped piece row = rw row tt
 tame-free setting (Some held) outcome.Freed piece row = rw row (tt, tt)
 tame-free setting held result piece row = absurd row
 
 tame-fill :
-    (setting : Setting) (v : ℕ) (held : Option Held) (result : Outcome) (piece : List Event) → FillRow setting v held result piece
+    (setting : Setting) (v : ℕ) (held : Option HeldBlock) (result : Outcome) (piece : List Event) → FillRow setting v held result piece
     → AllByRecursion IsTame piece
 tame-fill setting v None outcome.Skipped piece row = rw row tt
 tame-fill setting v (Some held) outcome.Filled piece row = rw row (all-filling IsTame setting.caller held.place held.words v (λ i n. tt))
 tame-fill setting v held result piece row = absurd row
 
 tame-check :
-    (setting : Setting) (position : Position) (held : Option Held) (result : Outcome) (piece : List Event) → CheckRow setting position held result piece
+    (setting : Setting) (position : Position) (held : Option HeldBlock) (result : Outcome) (piece : List Event) → CheckRow setting position held result piece
     → AllByRecursion IsTame piece
 tame-check setting position None outcome.Skipped piece row = rw row tt
 tame-check setting position (Some held) (outcome.Sum total) piece row = rw row.0 tt
 tame-check setting position held result piece row = absurd row
 
 tame-resize :
-    (setting : Setting) (position : Position) (need : ℕ) (held : Option Held) (result : Outcome) (piece : List Event) → need ≤ SMALL_MOST
+    (setting : Setting) (position : Position) (need : ℕ) (held : Option HeldBlock) (result : Outcome) (piece : List Event) → need ≤ SMALL_MOST
     → ResizeRow setting position need held result piece → AllByRecursion IsTame piece
 tame-resize setting position need None outcome.Skipped piece small row = rw row tt
 tame-resize setting position need (Some held) (outcome.Kept words place) piece small row = rw row.0 tt

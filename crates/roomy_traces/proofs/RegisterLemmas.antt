@@ -11,7 +11,7 @@ use Rattle.pool_model.specs.declared.event.Event.{Event}
 use Rattle.trace_text.specs.declared.limits.TheConstants.{REGISTERS}
 use Rattle.trace_text.specs.declared.trace.Op.{Op}
 use Rattle.trace_text.specs.declared.trace.Op.TheVariants as op
-use Rattle.lane_outcomes.specs.declared.registers.Held.{Held}
+use Rattle.lane_outcomes.specs.declared.registers.HeldBlock.{HeldBlock}
 use Rattle.lane_outcomes.specs.declared.outcome.Outcome.{Outcome}
 use Rattle.lane_outcomes.specs.declared.outcome.Outcome.TheVariants as outcome
 use Rattle.lane_outcomes.specs.Lane.{Position, held_in, registers_after}
@@ -21,15 +21,15 @@ use Rattle.roomy_traces.specs.Roomy.{Filled, IsPlain, copied, is_same, moved_to,
 use Rattle.roomy_traces.specs.Serial.{serial_outcome, without_place}
 
 -- the words of a block in a register
-abbrev pub words_held : Option Held → Option ℕ
-words_held held = option_map (λ (h : Held). h.words) held
+abbrev pub words_held : Option HeldBlock → Option ℕ
+words_held held = option_map (λ (h : HeldBlock). h.words) held
 
 abbrev pub words_filled : Option Filled → Option ℕ
 words_filled filled = option_map (λ (b : Filled). length b.numbers) filled
 
 -- the need that the block in a register serves
-abbrev pub need_held : Option Held → Option Need
-need_held held = option_map (λ (h : Held). h.need) held
+abbrev pub need_held : Option HeldBlock → Option Need
+need_held held = option_map (λ (h : HeldBlock). h.need) held
 
 abbrev pub need_filled : Option Filled → Option Need
 need_filled filled = option_map (λ (b : Filled). b.need) filled
@@ -65,31 +65,31 @@ other-need TooLarge (Small other) differ = refl
 other-need TooLarge (Large other) differ = refl
 
 -- the registers hold blocks of the same words and needs, and there are as many as a lane has
-pub record IsAlike (registers : List (Option Held)) (filled : List (Option Filled)) : Type 0 where
+pub record IsAlike (registers : List (Option HeldBlock)) (filled : List (Option Filled)) : Type 0 where
   pub words : map words_held registers ≡ map words_filled filled
   pub needs : map need_held registers ≡ map need_filled filled
   pub many : length registers ≡ REGISTERS
 
-get-map : {X Y : Type 0} (h : X → Y) (xs : List X) (r : ℕ) (d : X) → get_or (map h xs) r (h d) ≡ h (get_or xs r d)
+pub get-map : {X Y : Type 0} (h : X → Y) (xs : List X) (r : ℕ) (d : X) → get_or (map h xs) r (h d) ≡ h (get_or xs r d)
 get-map h [] r d = refl
 get-map h (x ∷ xs) zero d = refl
 get-map h (x ∷ xs) (suc r) d = get-map h xs r d
 
 -- each of the alike registers holds a block of the same words on both sides, or none
 pub alike-at :
-    (registers : List (Option Held)) (filled : List (Option Filled)) (r : ℕ) → IsAlike registers filled
+    (registers : List (Option HeldBlock)) (filled : List (Option Filled)) (r : ℕ) → IsAlike registers filled
     → words_held (held_in registers r) ≡ words_filled (slice_index_or filled r None)
 alike-at registers filled r alike =
     sym (get-map words_held registers r None) ∙ ap (λ ws. get_or ws r None) alike.words ∙ get-map words_filled filled r None
 
 pub need-at :
-    (registers : List (Option Held)) (filled : List (Option Filled)) (r : ℕ) → IsAlike registers filled
+    (registers : List (Option HeldBlock)) (filled : List (Option Filled)) (r : ℕ) → IsAlike registers filled
     → need_held (held_in registers r) ≡ need_filled (slice_index_or filled r None)
 need-at registers filled r alike =
     sym (get-map need_held registers r None) ∙ ap (λ ns. get_or ns r None) alike.needs ∙ get-map need_filled filled r None
 
 alike-set :
-    (registers : List (Option Held)) (filled : List (Option Filled)) (r : ℕ) (held : Option Held) (now : Option Filled)
+    (registers : List (Option HeldBlock)) (filled : List (Option Filled)) (r : ℕ) (held : Option HeldBlock) (now : Option Filled)
     → words_held held ≡ words_filled now → need_held held ≡ need_filled now → IsAlike registers filled
     → IsAlike (slice_set registers r held) (slice_set filled r now)
 alike-set registers filled r held now same same_need alike =
@@ -104,7 +104,7 @@ alike-set registers filled r held now same same_need alike =
     }
 
 -- what the held blocks count
-abbrev pub own_by : (ℕ → ℕ) → List (Option Held) → ℕ
+abbrev pub own_by : (ℕ → ℕ) → List (Option HeldBlock) → ℕ
 own_by f registers = sum_by (λ held. count_with f (words_held held)) registers
 
 sum_by-map : {X Y : Type 0} (f : Y → ℕ) (h : X → Y) (xs : List X) → sum_by f (map h xs) ≡ sum_by (λ x. f (h x)) xs
@@ -113,12 +113,12 @@ sum_by-map f h (x ∷ xs) =
     omega (arith, sum_by-cons f (h x) (map h xs), sum_by-cons (λ y. f (h y)) x xs, sum_by-map f h xs)
 
 pub alike-count :
-    (f : ℕ → ℕ) (registers : List (Option Held)) (filled : List (Option Filled)) → IsAlike registers filled → own_by f registers ≡ held_by f filled
+    (f : ℕ → ℕ) (registers : List (Option HeldBlock)) (filled : List (Option Filled)) → IsAlike registers filled → own_by f registers ≡ held_by f filled
 alike-count f registers filled alike =
     sym (sum_by-map (count_with f) words_held registers) ∙ ap (sum_by (count_with f)) alike.words ∙ sum_by-map (count_with f) words_filled filled
 
 -- a full register isn't an empty one
-pub mismatch : (held : Held) (A : Type 0) → words_held (Some held) ≡ words_filled None → A
+pub mismatch : (held : HeldBlock) (A : Type 0) → words_held (Some held) ≡ words_filled None → A
 mismatch held A same = absurd (let e : Some held.words ≡ None = same in cc)
 
 pub mismatch_too : (filled : Filled) (A : Type 0) → words_held None ≡ words_filled (Some filled) → A
@@ -141,12 +141,12 @@ IsSummedAt filled (op.Check r) result = IsSummed (slice_index_or filled r None) 
 IsSummedAt filled operation result = Unit {0}
 
 -- an operation does what it does where the lane is computed on its own
-pub record IsSerialRow (registers : List (Option Held)) (filled : List (Option Filled)) (now : Option Filled) (operation : Op) (result : Outcome) : Type 0 where
+pub record IsSerialRow (registers : List (Option HeldBlock)) (filled : List (Option Filled)) (now : Option Filled) (operation : Op) (result : Outcome) : Type 0 where
   pub alike : IsAlike (registers_after registers operation result) (serial_step filled now operation)
   pub outcome_is : without_place result ≡ serial_outcome now operation
 
 alloc-serial :
-    (setting : Setting) (position : Position) (filled : List (Option Filled)) (r need v : ℕ) (held : Option Held) (result : Outcome) (now : Option Filled)
+    (setting : Setting) (position : Position) (filled : List (Option Filled)) (r need v : ℕ) (held : Option HeldBlock) (result : Outcome) (now : Option Filled)
     (piece : List Event) → words_held held ≡ words_filled now → IsAlike position.registers filled → IsAnswered result
     → AllocRow setting position need v held result piece → IsSerialRow position.registers filled now (op.Alloc r need v) result
 alloc-serial setting position filled r need v (Some held) outcome.Skipped (Some now) piece same alike answered row = record { alike = alike; outcome_is = refl }
@@ -165,7 +165,7 @@ alloc-serial setting position filled r need v None outcome.Spent now piece same 
 alloc-serial setting position filled r need v held result now piece same alike answered row = absurd row
 
 free-serial :
-    (setting : Setting) (position : Position) (filled : List (Option Filled)) (r : ℕ) (held : Option Held) (result : Outcome) (now : Option Filled)
+    (setting : Setting) (position : Position) (filled : List (Option Filled)) (r : ℕ) (held : Option HeldBlock) (result : Outcome) (now : Option Filled)
     (piece : List Event) → words_held held ≡ words_filled now → IsAlike position.registers filled → FreeRow setting held result piece
     → IsSerialRow position.registers filled now (op.Free r) result
 free-serial setting position filled r None outcome.Skipped None piece same alike row = record { alike = alike; outcome_is = refl }
@@ -177,7 +177,7 @@ free-serial setting position filled r held result now piece same alike row = abs
 
 -- a register that is set to what it holds already
 alike-same :
-    (registers : List (Option Held)) (filled : List (Option Filled)) (r v : ℕ) (now : Filled) → slice_index_or filled r None ≡ Some now
+    (registers : List (Option HeldBlock)) (filled : List (Option Filled)) (r v : ℕ) (now : Filled) → slice_index_or filled r None ≡ Some now
     → IsAlike registers filled → IsAlike registers (slice_set filled r (Some (record { need = now.need; numbers = numbers_from v (length now.numbers) })))
 alike-same registers filled r v now there alike =
     let next : Filled = record { need = now.need; numbers = numbers_from v (length now.numbers) } in
@@ -193,7 +193,7 @@ alike-same registers filled r v now there alike =
     }
 
 fill-serial :
-    (setting : Setting) (position : Position) (filled : List (Option Filled)) (r v : ℕ) (held : Option Held) (result : Outcome) (now : Option Filled)
+    (setting : Setting) (position : Position) (filled : List (Option Filled)) (r v : ℕ) (held : Option HeldBlock) (result : Outcome) (now : Option Filled)
     (piece : List Event) → words_held held ≡ words_filled now → slice_index_or filled r None ≡ now → IsAlike position.registers filled
     → FillRow setting v held result piece → IsSerialRow position.registers filled now (op.Fill r v) result
 fill-serial setting position filled r v None outcome.Skipped None piece same there alike row = record { alike = alike; outcome_is = refl }
@@ -204,7 +204,7 @@ fill-serial setting position filled r v (Some held) outcome.Filled None piece sa
 fill-serial setting position filled r v held result now piece same there alike row = absurd row
 
 check-serial :
-    (setting : Setting) (position : Position) (filled : List (Option Filled)) (r : ℕ) (held : Option Held) (result : Outcome) (now : Option Filled)
+    (setting : Setting) (position : Position) (filled : List (Option Filled)) (r : ℕ) (held : Option HeldBlock) (result : Outcome) (now : Option Filled)
     (piece : List Event) → words_held held ≡ words_filled now → IsAlike position.registers filled → IsSummed now result
     → CheckRow setting position held result piece → IsSerialRow position.registers filled now (op.Check r) result
 check-serial setting position filled r None outcome.Skipped None piece same alike summed row = record { alike = alike; outcome_is = refl }
@@ -216,20 +216,20 @@ check-serial setting position filled r held result now piece same alike summed r
 
 -- whether the block of a resize moves, where the lane is computed on its own
 pub moves-not :
-    (need : ℕ) (held : Held) (now : Filled) → need_held (Some held) ≡ need_filled (Some now) → need_of need ≡ held.need
+    (need : ℕ) (held : HeldBlock) (now : Filled) → need_held (Some held) ≡ need_filled (Some now) → need_of need ≡ held.need
     → is_same (need_of need) now.need ≡ true
 moves-not need held now same is =
     same-need (need_of need) now.need (is ∙ (let e : Some held.need ≡ Some now.need = same in cc))
 
 pub moves-on :
-    (need : ℕ) (held : Held) (now : Filled) → need_held (Some held) ≡ need_filled (Some now) → need_of need ≢ held.need
+    (need : ℕ) (held : HeldBlock) (now : Filled) → need_held (Some held) ≡ need_filled (Some now) → need_of need ≢ held.need
     → is_same (need_of need) now.need ≡ false
 moves-on need held now same differ =
     let needs : held.need ≡ now.need = let e : Some held.need ≡ Some now.need = same in cc in
     other-need (need_of need) now.need (λ e. differ (e ∙ sym needs))
 
 resize-serial :
-    (setting : Setting) (position : Position) (filled : List (Option Filled)) (r need : ℕ) (held : Option Held) (result : Outcome) (now : Option Filled)
+    (setting : Setting) (position : Position) (filled : List (Option Filled)) (r need : ℕ) (held : Option HeldBlock) (result : Outcome) (now : Option Filled)
     (piece : List Event) → words_held held ≡ words_filled now → need_held held ≡ need_filled now → IsAlike position.registers filled → IsAnswered result
     → ResizeRow setting position need held result piece → IsSerialRow position.registers filled now (op.Resize r need) result
 resize-serial setting position filled r need None outcome.Skipped None piece same same_need alike answered row = record { alike = alike; outcome_is = refl }

@@ -1,29 +1,21 @@
--- The report of a roomy trace is the one that is computed lane by lane.
+-- The report of outcomes that are those of the lanes computed on their own.
 use Rattle.std.proofs.Common.{ℕ, zero, suc, get_or, replicate, codes, decimal, ◌≡◌, ◌+◌, ◌<◌, List, [], ◌∷◌, ◌++◌, Option, None, map, length, refl, sym, ◌∙◌, ap, arith}
 use Rattle.std.specs.List.{flat_map}
 use Rattle.std.proofs.lemmas.List.Sums.{sum_by-cons}
 use Rattle.pool_model.specs.declared.event.Event.{Event}
 use Rattle.pool_model.specs.Pool.{pool_of, live_words}
-use Rattle.pool_model.specs.Legal.{IsLegal}
-use Rattle.pool_model.proofs.HistoryLemmas.{legal-weaker}
 use Rattle.trace_text.specs.declared.limits.TheConstants.{REGISTERS}
 use Rattle.trace_text.specs.Text.{line, heap_fields}
-use Rattle.trace_text.specs.Traces.{IsTrace}
 use Rattle.trace_text.specs.declared.trace.Op.{Op}
 use Rattle.trace_text.specs.declared.trace.Trace.{Trace}
-use Rattle.lane_outcomes.specs.declared.registers.Held.{Held}
+use Rattle.lane_outcomes.specs.declared.registers.HeldBlock.{HeldBlock}
 use Rattle.lane_outcomes.specs.declared.outcome.Outcome.{Outcome}
 use Rattle.lane_outcomes.specs.declared.outcome.Outcome.TheVariants as outcome
-use Rattle.lane_outcomes.specs.Fits.{OutcomesFit}
 use Rattle.lane_outcomes.specs.LaneCounts.{count_with, as_one, as_words, lane_given, lane_freed, lanes_given, lanes_freed}
 use Rattle.lane_outcomes.specs.Report.{outcome_fields, lane_report, lanes_report, report_with, report_of}
-use Rattle.lane_outcomes.proofs.LiveLemmas.{live-total}
-use Rattle.lane_outcomes.proofs.MeasureLemmas.{measure, measure-blocks, measure-words}
-use Rattle.roomy_traces.specs.Roomy.{IsRoomy, held_by, no_blocks}
+use Rattle.roomy_traces.specs.Roomy.{held_by, no_blocks}
 use Rattle.roomy_traces.specs.Serial.{serial_outcomes, serial_end, left_by, without_place, serial_report_of}
-use Rattle.lane_outcomes.proofs.LanesLemmas.{lanes-many}
-use Rattle.roomy_traces.proofs.RegisterLemmas.{words_held, own_by, alike-count}
-use Rattle.roomy_traces.proofs.SerialLemmas.{lane-serial, outcomes-serial}
+use Rattle.roomy_traces.proofs.RegisterLemmas.{words_held, own_by}
 
 -- places aren't printed
 fields-same : (result : Outcome) → outcome_fields (without_place result) ≡ outcome_fields result
@@ -58,25 +50,17 @@ report-lanes trace one other live words same =
     ++ line (codes "live" ∷ decimal live ∷ codes "words" ∷ decimal words ∷ [])) same
 
 -- empty registers hold nothing
-nothing-counts : (f : ℕ → ℕ) (n : ℕ) → own_by f (replicate n None) ≡ 0
+pub nothing-counts : (f : ℕ → ℕ) (n : ℕ) → own_by f (replicate n None) ≡ 0
 nothing-counts f zero = refl
 nothing-counts f (suc n) =
-    omega (arith, sum_by-cons (λ (held : Option Held). count_with f (words_held held)) None (replicate n None), nothing-counts f n)
+    omega (arith, sum_by-cons (λ (held : Option HeldBlock). count_with f (words_held held)) None (replicate n None), nothing-counts f n)
 
 -- what a lane was given is what it freed and what it holds at its end
-abbrev IsEven : (ℕ → ℕ) → List Op → List Outcome → Type 0
+abbrev pub IsEven : (ℕ → ℕ) → List Op → List Outcome → Type 0
 IsEven f operations results =
     lane_given f operations results ≡ lane_freed f (replicate REGISTERS None) operations results + held_by f (serial_end no_blocks operations)
 
-lane-even :
-    (f : ℕ → ℕ) (trace : Trace) (history : List Event) (lost : ℕ) (outcomes : List (List Outcome)) → IsTrace trace → IsRoomy trace
-    → IsLegal trace.heap history → OutcomesFit trace.heap history lost trace.lanes outcomes → (k : ℕ) → k < length trace.lanes
-    → IsEven f (get_or trace.lanes k []) (get_or outcomes k [])
-lane-even f trace history lost outcomes named roomy legal fit k below =
-    let serial = lane-serial trace history lost outcomes named roomy legal fit k below in
-    omega (arith, serial.balance f, nothing-counts f REGISTERS, alike-count f _ _ serial.alike)
-
-lanes-even :
+pub lanes-even :
     (f : ℕ → ℕ) (lanes : List (List Op)) (outcomes : List (List Outcome)) → length outcomes ≡ length lanes
     → ((k : ℕ) → k < length lanes → IsEven f (get_or lanes k []) (get_or outcomes k []))
     → lanes_given f lanes outcomes ≡ lanes_freed f lanes outcomes + left_by f lanes
@@ -91,37 +75,13 @@ lanes-even f (operations ∷ lanes) (results ∷ outcomes) many each =
       sum_by-cons (λ (ops : List Op). held_by f (serial_end no_blocks ops)) operations lanes,
     )
 
--- what is live at the end is what the lanes hold there
-left-live :
-    (f : ℕ → ℕ) (trace : Trace) (history : List Event) (lost : ℕ) (outcomes : List (List Outcome)) → IsTrace trace → IsRoomy trace
-    → IsLegal trace.heap history → OutcomesFit trace.heap history lost trace.lanes outcomes
-    → measure f (pool_of history) ≡ left_by f trace.lanes
-left-live f trace history lost outcomes named roomy legal fit =
-    omega (
-      arith,
-      live-total f trace.heap history lost trace.lanes outcomes (legal-weaker trace.heap history legal) fit,
-      lanes-even f trace.lanes outcomes (lanes-many trace.heap history lost 0 trace.lanes outcomes fit.lanes_fit)
-          (lane-even f trace history lost outcomes named roomy legal fit),
-    )
-
--- as many blocks and words are live at the end as the lanes hold there
-pub live-left :
-    (trace : Trace) (history : List Event) (lost : ℕ) (outcomes : List (List Outcome)) → IsTrace trace → IsRoomy trace
-    → IsLegal trace.heap history → OutcomesFit trace.heap history lost trace.lanes outcomes
-    → (length (pool_of history) ≡ left_by as_one trace.lanes) × (live_words (pool_of history) ≡ left_by as_words trace.lanes)
-live-left trace history lost outcomes named roomy legal fit = (
-  sym (measure-blocks (pool_of history)) ∙ left-live as_one trace history lost outcomes named roomy legal fit,
-  sym (measure-words (pool_of history)) ∙ left-live as_words trace history lost outcomes named roomy legal fit,
-)
-
--- the report of a roomy trace is the one computed lane by lane
-pub one-report :
-    (trace : Trace) (history : List Event) (lost : ℕ) (outcomes : List (List Outcome)) → IsTrace trace → IsRoomy trace
-    → IsLegal trace.heap history → OutcomesFit trace.heap history lost trace.lanes outcomes
+-- the report of outcomes that are those of the lanes computed on their own, and of a history that leaves what these hold
+pub report-serial :
+    (trace : Trace) (outcomes : List (List Outcome)) (history : List Event) → map (map without_place) outcomes ≡ map serial_outcomes trace.lanes
+    → length (pool_of history) ≡ left_by as_one trace.lanes → live_words (pool_of history) ≡ left_by as_words trace.lanes
     → report_of trace outcomes history ≡ serial_report_of trace
-one-report trace history lost outcomes named roomy legal fit =
-    let left = live-left trace history lost outcomes named roomy legal fit in
+report-serial trace outcomes history serial blocks words =
     report-lanes trace outcomes (map serial_outcomes trace.lanes) (length (pool_of history)) (live_words (pool_of history))
-    (sym (reports-same 0 outcomes) ∙ ap (lanes_report 0) (outcomes-serial trace history lost outcomes named roomy legal fit))
-    ∙ ap (λ n. report_with trace (map serial_outcomes trace.lanes) n (live_words (pool_of history))) left.0
-    ∙ ap (report_with trace (map serial_outcomes trace.lanes) (left_by as_one trace.lanes)) left.1
+    (sym (reports-same 0 outcomes) ∙ ap (lanes_report 0) serial)
+    ∙ ap (λ n. report_with trace (map serial_outcomes trace.lanes) n (live_words (pool_of history))) blocks
+    ∙ ap (report_with trace (map serial_outcomes trace.lanes) (left_by as_one trace.lanes)) words

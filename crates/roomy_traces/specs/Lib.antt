@@ -1,2 +1,3 @@
 pub mod Roomy
 pub mod Serial
+pub mod Through

@@ -1,5 +1,5 @@
 -- What the calls of the script count.
-use Rattle.std.proofs.Common.{ℕ, true, false, Option, Some, None, length, eqb, ◌≡◌, ◌≢◌, ◌<◌, ◌+◌, List, [], ◌∷◌, ◌++◌, refl, sym, ◌∙◌, ap, subst, inl, inr, arith}
+use Rattle.std.proofs.Common.{ℕ, true, false, Option, Some, None, length, eqb, ◌≡◌, ◌≢◌, ◌<◌, ◌+◌, List, [], ◌∷◌, ◌++◌, refl, ◌∙◌, ap, inl, inr, arith}
 use Rattle.heap_geometry.specs.declared.need.Need.{Need}
 use Rattle.pool_model.specs.Counts.{is_alloc, is_free}
 use Rattle.errand_steps.specs.declared.reply.Reply.TheVariants as reply
@@ -14,7 +14,7 @@ use Rattle.live_heap.specs.Whole.{MadeByPass, at_once, by_steps}
 use Rattle.sound_laws.specs.events.Made.{LeadsBy, Made, answered}
 use Rattle.live_heap.specs.Passes.{seen}
 use Rattle.pool_model.specs.Histories.{Begins}
-use Rattle.live_heap.proofs.LawsKept.{called-grows}
+use Rattle.live_heap.proofs.laws_for_builders.Events.{called-grows}
 use Rattle.errand_steps.specs.declared.reply.Reply.{Reply}
 use Rattle.errand_steps.specs.Calls.{Call}
 use Rattle.live_heap.specs.Calls.{HasCalled}

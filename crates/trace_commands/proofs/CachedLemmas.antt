@@ -7,6 +7,7 @@ use Rattle.pool_model.specs.declared.event.Event.{Event}
 use Rattle.pool_model.specs.Legal.{IsLegal}
 use Rattle.pool_model.specs.Pool.{live_words, pool_of}
 use Rattle.trace_text.specs.declared.trace.Trace.{Trace}
+use Rattle.trace_text.specs.Traces.{IsTrace}
 use Rattle.step_machine.specs.Cores.{errand_at}
 use Rattle.step_machine.proofs.CoreLemmas.{core-sound}
 use Rattle.live_heap.specs.Endings.{ClosedFields, machine_of}
@@ -21,6 +22,10 @@ use Rattle.live_heap.specs.declared.pass.Pass.{Pass}
 use Rattle.lane_runner.specs.Passes.{HaveRun}
 use Rattle.lane_runner.specs.Shared.{IsSharedThrough}
 use Rattle.lane_runner.specs.Threads.{HaveRunThrough}
+use Rattle.roomy_traces.specs.Serial.{serial_report_of}
+use Rattle.roomy_traces.specs.Through.{serial_hits}
+use Rattle.roomy_traces.proofs.through_lemmas.ReportLemmas.{one-report_through}
+use Rattle.roomy_traces.proofs.through_lemmas.SerialLemmas.{hits-serial_through}
 use Rattle.trace_commands.specs.Answers.{IsCachedRun, IsCacheTold, IsRun, hits_line}
 use Rattle.trace_commands.specs.Closings.{IsSharedIn, lost_by_threads}
 use Rattle.trace_commands.specs.declared.closing.Closing.TheVariants.{Ran}
@@ -85,18 +90,24 @@ report-counted trace outcomes history live words text live_is words_is is =
 pub cache-told :
     (passed : ℕ → ℕ → Type 0) (trace : Trace) (depth : ℕ) (closed : ClosedFields) (outcomes : List (List Outcome)) (hits : List ℕ)
     (told lines text : List ℕ)
-    → IsCachedRun passed trace depth hits (Ran closed) outcomes
+    → IsTrace trace → IsCachedRun passed trace depth hits (Ran closed) outcomes
     → ((history : List Event) (lost depth hits : ℕ) → IsLegal trace.heap history → CachedOutcomesFit trace.heap history lost depth trace.lanes outcomes hits
     → told ≡ report_of trace outcomes history)
-    → lines ≡ hits_line hits → text ≡ told ++ lines → IsCacheTold passed trace depth (Some (Ran closed)) text
-cache-told passed trace depth closed outcomes hits told lines text run reports lines_are text_is =
-    let is = reports closed.events (lost_by_threads closed) depth (sum hits) run.legal run.fit in
+    → lines ≡ hits_line (sum hits) → text ≡ told ++ lines → IsCacheTold passed trace depth (Some (Ran closed)) text
+cache-told passed trace depth closed outcomes hits told lines text named run reports lines_are text_is =
+    let lost : ℕ = lost_by_threads closed in
+    let is = reports closed.events lost depth (sum hits) run.legal run.fit in
+    let behind : (report more : List ℕ) → told ≡ report → lines ≡ more → text ≡ report ++ more =
+    λ report more same same_lines. text_is ∙ (ap (λ (l : List ℕ). l ++ lines) same ∙ ap (λ (l : List ℕ). report ++ l) same_lines) in
     record {
       outcomes = outcomes;
       hits = hits;
       closing = Ran closed;
       closed_is = refl;
       run = run;
-      text_is =
-          text_is ∙ (ap (λ (l : List ℕ). l ++ lines) is ∙ ap (λ (l : List ℕ). report_of trace outcomes closed.events ++ l) lines_are);
+      text_is = behind (report_of trace outcomes closed.events) (hits_line (sum hits)) is lines_are;
+      roomy =
+          λ roomy. behind (serial_report_of trace) (hits_line (serial_hits depth trace.lanes))
+          (is ∙ one-report_through trace closed.events lost depth outcomes (sum hits) named roomy run.legal run.fit)
+          (lines_are ∙ ap hits_line (hits-serial_through trace closed.events lost depth outcomes (sum hits) named roomy run.legal run.fit));
     }

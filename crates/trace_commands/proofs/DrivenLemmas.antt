@@ -20,8 +20,7 @@ use Rattle.lane_runner.proofs.ClosedFits.{driven-taken}
 use Rattle.live_heap.specs.Endings.{ClosedFields}
 use Rattle.lane_outcomes.specs.LaneCounts.{as_one}
 use Rattle.roomy_traces.specs.Serial.{left_by, serial_outcomes, serial_report_of}
-use Rattle.roomy_traces.proofs.ReportLemmas.{live-left, one-report}
-use Rattle.roomy_traces.proofs.SerialLemmas.{outcomes-serial}
+use Rattle.roomy_traces.proofs.SerialLemmas.{live-left, one-report, outcomes-serial}
 use Rattle.trace_commands.specs.Answers.{IsRun, IsTold, make_text, replay_text, serial_make, serial_replay}
 use Rattle.command_line.specs.Summaries.{summary_with, trace_of}
 use Rattle.trace_commands.specs.Closings.{IsDrivenIn, IsSharedIn, history_of, lost_by_threads, lost_of}

@@ -15,6 +15,7 @@ use Rattle.lane_outcomes.specs.Report.{report_of}
 use Rattle.lane_outcomes.specs.Cached.{CachedOutcomesFit}
 use Rattle.roomy_traces.specs.Roomy.{IsRoomy}
 use Rattle.roomy_traces.specs.Serial.{serial_report_of}
+use Rattle.roomy_traces.specs.Through.{IsRoomyThrough, serial_hits}
 use Rattle.heap_census.specs.declared.census.Census.{Census as Counts}
 use Rattle.workloads.specs.declared.kind.Kind.TheVariants.{Pipeline}
 use Rattle.trace_commands.specs.Censuses.{IsCensusOf, census_text}
@@ -93,13 +94,18 @@ abbrev pub HasOneSummary : Workload → List ℕ → Type 0
 HasOneSummary workload text = workload.kind ≢ Pipeline → text ≡ serial_summary_of workload
 
 -- the line of how many allocations caches have served, and what `cache` tells: that line behind the report
-abbrev pub hits_line : List ℕ → List ℕ
-hits_line hits = line (codes "hits" ∷ decimal (sum hits) ∷ [])
+abbrev pub hits_line : ℕ → List ℕ
+hits_line hits = line (codes "hits" ∷ decimal hits ∷ [])
 
 abbrev pub cache_text : Trace → List (List Outcome) → List ℕ → Closing → List ℕ
-cache_text trace outcomes hits closing = report_of trace outcomes (history_of closing) ++ hits_line hits
+cache_text trace outcomes hits closing = report_of trace outcomes (history_of closing) ++ hits_line (sum hits)
 
--- a trace was run through caches of this depth, and the text tells this of its outcomes and of what the caches served
+-- the text of a trace that is roomy through caches of this depth, lane by lane
+abbrev pub serial_cache : Trace → ℕ → List ℕ
+serial_cache trace depth = serial_report_of trace ++ hits_line (serial_hits depth trace.lanes)
+
+-- a trace was run through caches of this depth, and the text tells this of its outcomes and of what the caches served; where the
+-- trace is roomy through them, the text is the one that is computed lane by lane, whatever the order of the steps was
 pub record IsCacheTold (passed : ℕ → ℕ → Type 0) (trace : Trace) (depth : ℕ) (closed : Option Closing) (text : List ℕ) : Type 0 where
   pub outcomes : List (List Outcome)
   pub hits : List ℕ
@@ -107,6 +113,7 @@ pub record IsCacheTold (passed : ℕ → ℕ → Type 0) (trace : Trace) (depth 
   pub closed_is : closed ≡ Some closing
   pub run : IsCachedRun passed trace depth hits closing outcomes
   pub text_is : text ≡ cache_text trace outcomes hits closing
+  pub roomy : IsRoomyThrough depth trace → text ≡ serial_cache trace depth
 
 -- what each command writes where nothing is refused: `replay` runs the trace that the bytes are read as on threads,
 -- `schedule` on a machine in the order of its order runs, `census` on threads and counts the closed heap, `cache` on threads

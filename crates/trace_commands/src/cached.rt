@@ -29,7 +29,7 @@ fn total(hits: &[u64]) -> u128
 
 /// The line of how many they are.
 fn hits_line(alloc: Global, hits: &[u64]) -> Result<Vec<u8>, AllocError>
-    ensures { IfOk result (λ text. text.items ≡ hits_line hits.now) }
+    ensures { IfOk result (λ text. text.items ≡ hits_line (sum hits.now)) }
 {
     let mut text = Text::new(alloc);
     text.begin("hits")?;

@@ -30,7 +30,7 @@ use Rattle.lane_engine.specs.Callers.{Caller, IsAtRest, IsCall, MadeBy, OwnsFor,
 use Rattle.lane_engine.specs.Told.{HasStepped}
 use Rattle.lane_outcomes.specs.Rows.{IsFullShelf, IsWord}
 use Rattle.trace_lane.specs.Made.{AreMisses}
-use Rattle.trace_lane.proofs.AnswerLemmas.{EndsFull, EndsGot, EndsRead, HasMovedOn, told-of_put, told-of_read, told-of_take}
+use Rattle.trace_lane.proofs.AnswerLemmas.{EndsGot, HasMovedOn, ends-full, ends-read, told-of_take}
 use Rattle.trace_lane.proofs.CallerLemmas.{HasCalled, ends-called, moved-none, moved-then}
 use Rattle.trace_lane.proofs.HoldsLemmas.{leads-split}
 use Rattle.trace_lane.proofs.QuietLemmas.{AllQuiet, quiet-keeps}
@@ -127,11 +127,8 @@ full-added g c d place need shelf found one =
     let call = put place need shelf in
     let answer : Reply = reply.Full found in
     let h = steps-called g c d call answer one (λ words is spent. cc) in
-    let block : Offer = record { place = place; need = need } in
-    let step : HasStepped place_in need_in h.last.errand d.errand h.last.seen d.seen (stepped.Done (ending.Full block found)) =
-    record { moment = h.moment; back = put-offers h.last.errand.caller place need shelf h.last.errand.point h.way.added h.way.under_way } in
-    let told : EndsFull h.last.errand d.errand place need shelf place need h.last.seen d.seen h.way.added =
-    told-of_put place_in need_in h.last.errand d.errand h.last.seen d.seen h.way.added place need shelf (ending.Full block found) step h.way.under_way in
+    let told = ends-full h.last.errand d.errand h.last.seen d.seen h.way.added place need shelf found place need h.moment
+    (put-offers h.last.errand.caller place need shelf h.last.errand.point h.way.added h.way.under_way) h.way.under_way in
     (whole-added g c d call answer event_end.put_full [] one (λ words is spent. cc) refl (λ added is. is), told.full)
 
 -- the last event that a caller sees is its take of this block, which lay on the shelf just before
@@ -214,10 +211,7 @@ module _ (g : Geometry) (c : Caller) (at : ℕ) (block : Block) (mine : block.ow
       let h = steps-called g t u call answer one (λ words is spent. cc) in
       let a = whole-added g t u call answer event_end.read [] one (λ words is spent. cc) refl (λ more is. is) in
       let kept : HasKept u added = subst (HasKept u) (append-nil added) (kept-on t u added [] k a tt) in
-      let step : HasStepped place_in need_in h.last.errand u.errand h.last.seen u.seen (stepped.Done (ending.Word word)) =
-      record { moment = h.moment; back = tt } in
-      let found : EndsRead h.last.errand u.errand at i word h.last.seen u.seen h.way.added =
-      told-of_read place_in need_in h.last.errand u.errand h.last.seen u.seen h.way.added at need i (ending.Word word) step h.way.under_way in
+      let found = ends-read h.last.errand u.errand h.last.seen u.seen h.way.added at need i word h.moment h.way.under_way in
       let same : found.block ≡ block = let both : Some found.block ≡ Some block = sym found.live ∙ kept.still in cc in
       (kept, subst (λ (b : Block). IsWord (slice_index_or b.contents i None) word) same found.is_word)
 

@@ -1,25 +1,36 @@
--- An advance of a lane from its parts.
-use Rattle.std.proofs.Common.{ℕ, Bool, true, false, eqb, ◌≡◌, ◌<◌, ◌+◌, ◌∷◌, ◌++◌, List, [], refl, sym, ap, ◌∙◌, subst, inl, inr, arith, append_assoc}
-use Rattle.std.specs.Prelude.{◌⊎◌, count_by, if◌then◌else◌}
+-- An advance of a lane from its parts, and what its caller's moves leave of the machine.
+use Rattle.std.proofs.Common.{ℕ, Bool, true, false, eqb, ◌≡◌, ◌<◌, ◌+◌, ◌∷◌, ◌++◌, List, [], refl, sym, ap, ◌∙◌, subst, inl, inr, arith, append_assoc, ◌≢◌, Option, Some, None}
+use Rattle.std.specs.Prelude.{◌⊎◌, All, count_by, if◌then◌else◌}
 use Rattle.std.proofs.lemmas.List.Sums.{sum_by-append}
 use Rattle.std.proofs.lemmas.Bool.{cases_Bool, eq-eqb}
 use Rattle.std.proofs.lemmas.List.Elements.{All-nil, All-cons, All-append}
 use Rattle.std.proofs.lemmas.List.{append-nil}
-use Rattle.errand_steps.specs.Calls.{Call, take as take_call}
-use Rattle.pool_model.specs.Histories.{own}
+use Rattle.errand_steps.specs.Calls.{Call, take as take_call, alloc, begun_by}
 use Rattle.sound_state.specs.Moves.{is_step}
 use Rattle.sound_state.specs.Runs.{Move, begins, steps}
 use Rattle.step_machine.specs.Cores.{CoreFields, errand_at}
 use Rattle.trace_text.specs.declared.trace.Op.{Op}
 use Rattle.lane_engine.specs.Machines.{MovesCore}
 use Rattle.trace_lane.specs.Begun.{calls_of}
-use Rattle.trace_lane.specs.Advances.{HasAdvanced, StaysInCall}
+use Rattle.trace_lane.specs.Advances.{HasAdvanced, StaysInCall, BeganAtMost, LaneGoesOn, IsAgain, HasGoneOn}
 use Rattle.trace_lane.specs.Paths.{IsBy, MovesLead}
-use Rattle.trace_lane.specs.States.{IsLaneOn}
+use Rattle.trace_lane.specs.States.{IsLaneOn, IsLaneOf}
 use Rattle.trace_lane.specs.declared.lane.LaneState.{LaneState}
 use Rattle.lane_engine.specs.declared.grip.Grip.{Grip}
 use Rattle.trace_lane.specs.Scripts.{script_left}
-use Rattle.sound_laws.specs.events.UnderWay.{IsUnderWay}
+use Rattle.pool_model.specs.declared.event.Event.{Event}
+use Rattle.errand_steps.specs.Steps.{State}
+use Rattle.trace_lane.specs.Made.{calls_in}
+use Rattle.lane_engine.specs.Engines.{machine_at}
+use Rattle.errand_steps.specs.Errands.{ErrandFields, is_spent}
+use Rattle.heap_geometry.specs.declared.need.Need.{Need}
+use Rattle.heap_geometry.specs.declared.need.Need.TheVariants.{Small, Large, TooLarge}
+use Rattle.heap_geometry.specs.Need.{need_of}
+use Rattle.errand_steps.specs.Begins.{begins_with}
+use Rattle.lane_engine.specs.Begins.{begin_answer}
+use Rattle.lane_engine.specs.Callers.{FitsCall}
+use Rattle.lane_outcomes.proofs.NeedLemmas.{need-fits}
+use Rattle.errand_steps.specs.declared.reply.Begun.TheVariants as begun
 
 -- moves one after the other, and their calls and steps
 pub leads-append :
@@ -77,77 +88,74 @@ advance-none s caller operations p =
       goes_on = inr (refl, refl, inr refl);
     }
 
--- an operation has its outcome at once, without a call
-pub advance-skips :
-    (s : CoreFields) (caller : ℕ) (operations : List Op) (old new : LaneState Grip) → OnScriptWith operations s s old new [] → Falls operations old new
-    → HasAdvanced s s caller operations old new false
-advance-skips s caller operations old new script falls =
-    record { moves = []; leads = refl; by_caller = All-nil (IsBy caller); one_step = refl; script = script; goes_on = inl falls }
+-- the moves of an advance: a step, if it makes one, and the call that begins behind it, if one does
+abbrev moves_by : ℕ → Bool → Option Call → List Move
+moves_by caller false None = []
+moves_by caller false (Some call) = begins caller call ∷ []
+moves_by caller true None = steps caller ∷ []
+moves_by caller true (Some call) = steps caller ∷ begins caller call ∷ []
 
--- a call begins
-pub advance-begins :
-    (before after : CoreFields) (caller : ℕ) (call : Call) (operations : List Op) (old new : LaneState Grip) → MovesCore before (begins caller call) after
-    → OnScriptWith operations before after old new (call ∷ []) → Falls operations old new
-    → HasAdvanced before after caller operations old new false
-advance-begins before after caller call operations old new move script falls =
-    record {
-      moves = begins caller call ∷ [];
-      leads = (after, move, refl);
-      by_caller = All-cons (IsBy caller) (begins caller call) [] refl (All-nil (IsBy caller));
-      one_step = refl;
-      script = λ calls on.
-          subst (λ more. IsLaneOn after operations new (calls ++ more)) (sym (calls-one caller call)) (script calls on);
-      goes_on = inl falls;
-    }
+abbrev StepsAtMost : ℕ → Bool → CoreFields → CoreFields → Type 0
+StepsAtMost caller false old new = new ≡ old
+StepsAtMost caller true old new = MovesCore old (steps caller) new
 
--- an advance by the step of the call under way, behind which nothing begins
-pub advance-steps :
-    (before after : CoreFields) (caller : ℕ) (operations : List Op) (old new : LaneState Grip) → MovesCore before (steps caller) after
-    → OnScriptWith operations before after old new [] → Falls operations old new ⊎ Stays old new
-    → HasAdvanced before after caller operations old new true
-advance-steps before after caller operations old new move script goes =
-    record {
-      moves = steps caller ∷ [];
-      leads = (after, move, refl);
-      by_caller = All-cons (IsBy caller) (steps caller) [] refl (All-nil (IsBy caller));
-      one_step = refl;
-      script = script;
-      goes_on = elim goes [
-        | inl falls ↦ inl falls
-        | inr stays ↦ inr (stays.0, stays.1, inl (inl refl))
-      ];
-    }
+leads-by :
+    (caller : ℕ) (made : Bool) (begun : Option Call) (r s t : CoreFields) → StepsAtMost caller made r s → BeganAtMost caller begun s t
+    → MovesLead r (moves_by caller made begun) t
+leads-by caller false None r s t stepped began = began ∙ stepped
+leads-by caller false (Some call) r s t stepped began = (t, subst (λ x. MovesCore x (begins caller call) t) stepped began, refl)
+leads-by caller true None r s t stepped began = (s, stepped, began)
+leads-by caller true (Some call) r s t stepped began = (s, stepped, (t, began, refl))
 
--- a take that begins again, where no event of the caller was added; and an advance by a step and a call behind it
-abbrev pub IsTakenAgain : ℕ → Call → CoreFields → CoreFields → Type 0
-IsTakenAgain caller call before after =
-    (shelf : ℕ) × (call ≡ take_call shelf) × (own caller after.events ≡ own caller before.events)
-    × IsUnderWay caller (take_call shelf) (errand_at before.errands caller).point []
+by-caller : (caller : ℕ) (made : Bool) (begun : Option Call) → All (IsBy caller) (moves_by caller made begun)
+by-caller caller false None = All-nil (IsBy caller)
+by-caller caller false (Some call) = All-cons (IsBy caller) (begins caller call) [] refl (All-nil (IsBy caller))
+by-caller caller true None = All-cons (IsBy caller) (steps caller) [] refl (All-nil (IsBy caller))
+by-caller caller true (Some call) =
+    All-cons (IsBy caller) (steps caller) (begins caller call ∷ []) refl (All-cons (IsBy caller) (begins caller call) [] refl (All-nil (IsBy caller)))
 
-pub advance-steps_begins :
-    (before middle after : CoreFields) (caller : ℕ) (call : Call) (operations : List Op) (old new : LaneState Grip) → MovesCore before (steps caller) middle
-    → MovesCore middle (begins caller call) after → OnScriptWith operations before after old new (call ∷ [])
-    → Falls operations old new ⊎ (Stays old new × IsTakenAgain caller call before after)
-    → HasAdvanced before after caller operations old new true
-advance-steps_begins before middle after caller call operations old new step begin script goes =
-    record {
-      moves = steps caller ∷ begins caller call ∷ [];
-      leads = (middle, step, (after, begin, refl));
-      by_caller =
-          All-cons (IsBy caller) (steps caller) (begins caller call ∷ []) refl
-          (All-cons (IsBy caller) (begins caller call) [] refl (All-nil (IsBy caller)));
-      one_step = refl;
-      script = λ calls on.
-          subst (λ more. IsLaneOn after operations new (calls ++ more)) (sym (calls-one caller call)) (script calls on);
-      goes_on = elim goes [
-        | inl falls ↦ inl falls
-        | inr stays ↦ inr (
-          stays.0.0,
-          stays.0.1,
-          inl (inr (stays.1.0, ap (λ (c : Call). steps caller ∷ begins caller c ∷ []) stays.1.1, stays.1.2, stays.1.3)),
-        )
-      ];
-    }
+steps-by : (caller : ℕ) (made : Bool) (begun : Option Call) → count_by is_step (moves_by caller made begun) ≡ (if made then 1 else 0)
+steps-by caller false None = refl
+steps-by caller false (Some call) = refl
+steps-by caller true None = refl
+steps-by caller true (Some call) = refl
+
+calls-by : (caller : ℕ) (made : Bool) (begun : Option Call) → calls_of caller (moves_by caller made begun) ≡ calls_in begun
+calls-by caller false None = refl
+calls-by caller false (Some call) = calls-one caller call
+calls-by caller true None = refl
+calls-by caller true (Some call) = calls-one caller call
+
+stays-by :
+    (caller : ℕ) (made : Bool) (begun : Option Call) (r t : CoreFields) → made ≡ true → IsAgain caller r.events (errand_at r.errands caller) t.events begun
+    → StaysInCall caller r t (moves_by caller made begun)
+stays-by caller false begun r t is again = absurd (cc)
+stays-by caller true None r t is again = inl refl
+stays-by caller true (Some call) r t is again =
+    elim again [
+      | inl none ↦ absurd (let e : Some call ≡ None = none in cc)
+      | inr more ↦
+          let same : call ≡ take_call more.0 = let e : Some call ≡ Some (take_call more.0) = more.1 in cc in
+          inr (more.0, ap (λ (c : Call). steps caller ∷ begins caller c ∷ []) same, more.2, more.3)
+    ]
+
+-- an advance by a step or none, and a call or none behind it
+advance-by :
+    (caller : ℕ) (made : Bool) (begun : Option Call) (r s t : CoreFields) (operations : List Op) (old new : LaneState Grip) → StepsAtMost caller made r s
+    → BeganAtMost caller begun s t → OnScriptWith operations r t old new (calls_in begun)
+    → Falls operations old new ⊎ (Stays old new × (made ≡ true) × IsAgain caller r.events (errand_at r.errands caller) t.events begun)
+    → HasAdvanced r t caller operations old new made
+advance-by caller made begun r s t operations old new stepped began script goes = record {
+  moves = moves_by caller made begun;
+  leads = leads-by caller made begun r s t stepped began;
+  by_caller = by-caller caller made begun;
+  one_step = steps-by caller made begun;
+  script = λ calls on. subst (λ more. IsLaneOn t operations new (calls ++ more)) (sym (calls-by caller made begun)) (script calls on);
+  goes_on = elim goes [
+    | inl falls ↦ inl falls
+    | inr stays ↦ inr (stays.0.0, stays.0.1, inl (stays-by caller made begun r t stays.1 stays.2))
+  ];
+}
 
 -- moves without a step are none of those that stay in a call
 no-step :
@@ -207,3 +215,95 @@ advance-then before middle after caller operations old between new made first se
         ]
       ];
     }
+
+-- a caller that began a call or none left all else as it was
+pub record HasKept (caller : ℕ) (old new : CoreFields) : Type 0 where
+  pub geometry : new.geometry ≡ old.geometry
+  pub no_event : new.events ≡ old.events
+  pub others : (other : ℕ) → other ≢ caller → errand_at new.errands other ≡ errand_at old.errands other
+
+kept-same : (caller : ℕ) (c : CoreFields) → HasKept caller c c
+kept-same caller c = record { geometry = refl; no_event = refl; others = λ other apart. refl }
+
+pub calls-kept : (caller : ℕ) (begun : Option Call) (old new : CoreFields) → BeganAtMost caller begun old new → HasKept caller old new
+calls-kept caller None old new same = subst (HasKept caller old) (sym same) (kept-same caller old)
+calls-kept caller (Some call) old new called =
+    let begun = called.moved.1 in
+    record {
+      geometry = called.heap;
+      no_event = ap (λ (s : State). s.history) begun.after;
+      others = λ other apart. ap (λ (s : State). s.errand other) begun.after ∙ begun.moves.elsewhere other apart;
+    }
+
+module _ (s t : CoreFields) (lane after : LaneState Grip) where
+  -- the lane behind it stands as the caller of its own number
+  as-after :
+      (operations : List Op) (calls : List Call) → after.caller ≡ lane.caller → IsLaneOf (machine_at t lane.caller) operations after calls
+      → IsLaneOn t operations after calls
+  as-after operations calls same stands = subst (λ k. IsLaneOf (machine_at t k) operations after calls) (sym same) stands
+
+  -- an operation begins, or has its outcome at once
+  pub part-begins :
+      (ready : List Event → ErrandFields → List Op → List Call → LaneState Grip → Type 0)
+      → LaneGoesOn (λ seen e begun. ⊥) ready s t lane after
+      → (seen : List Event) (e : ErrandFields) (operations : List Op) (some : List Call) → ready seen e operations some lane
+      → ((calls : List Call) → IsLaneOn s operations lane calls → ready seen e operations calls lane)
+      → HasAdvanced s t lane.caller operations lane after false
+  part-begins ready goes seen e operations some is all =
+      advance-by lane.caller false goes.begun s s t operations lane after refl goes.called
+      (λ calls on.
+      as-after operations (calls ++ calls_in goes.begun) goes.same_caller (goes.gone_on seen e operations calls (all calls on)).stands)
+      (elim (goes.gone_on seen e operations some is).falls [
+        | inl falls ↦ inl falls
+        | inr stays ↦ absurd stays.2
+      ])
+
+  -- a step was made, and is answered
+  pub part-steps :
+      (r : CoreFields) (ready : List Event → ErrandFields → List Op → List Call → LaneState Grip → Type 0) → MovesCore r (steps lane.caller) s
+      → LaneGoesOn (λ seen e. IsAgain lane.caller seen e t.events) ready s t lane after
+      → (operations : List Op) (some : List Call) → ready r.events (errand_at r.errands lane.caller) operations some lane
+      → ((calls : List Call) → IsLaneOn r operations lane calls → ready r.events (errand_at r.errands lane.caller) operations calls lane)
+      → HasAdvanced r t lane.caller operations lane after true
+  part-steps r ready step goes operations some is all =
+      let e = errand_at r.errands lane.caller in
+      advance-by lane.caller true goes.begun r s t operations lane after step goes.called
+      (λ calls on.
+      as-after operations (calls ++ calls_in goes.begun) goes.same_caller (goes.gone_on r.events e operations calls (all calls on)).stands)
+      (elim (goes.gone_on r.events e operations some is).falls [
+        | inl falls ↦ inl falls
+        | inr stays ↦ inr ((stays.0, stays.1), refl, stays.2)
+      ])
+
+-- over a machine after the call began
+pub begins-on :
+    (caller : ℕ) (call : Call) (old new : CoreFields) → MovesCore old (begins caller call) new → (begun : Option Call)
+    (again : Option Call → Type 0) (operations : List Op) (calls : List Call) (lane after : LaneState Grip)
+    → HasGoneOn (record (machine_at old caller) { errand = begun_by (errand_at old.errands caller) call }) begun again operations calls lane after
+    → HasGoneOn (machine_at new caller) begun again operations calls lane after
+begins-on caller call old new called begun again operations calls lane after gone =
+    let to = called.moved.1 in
+    let here : errand_at new.errands caller ≡ begun_by (errand_at old.errands caller) call =
+    ap (λ (s : State). s.errand caller) to.after ∙ to.moves.here in
+    subst (λ g. HasGoneOn (record (machine_at new caller) { geometry = g }) begun again operations calls lane after) (sym called.heap)
+    (subst (λ h. HasGoneOn (record (machine_at old caller) { events = h; errand = errand_at new.errands caller }) begun again operations calls lane after)
+    (sym (ap (λ (s : State). s.history) to.after))
+    (subst (λ e. HasGoneOn (record (machine_at old caller) { errand = e }) begun again operations calls lane after) (sym here) gone))
+
+-- and added no event
+pub begins-events : (caller : ℕ) (call : Call) (old new : CoreFields) → MovesCore old (begins caller call) new → new.events ≡ old.events
+begins-events caller call old new called = ap (λ (s : State). s.history) called.moved.1.after
+
+too-large : (e : ErrandFields) (n : Need) → begins_with e n ≡ begun.TooLarge → n ≡ TooLarge
+too-large e (Small class) answer =
+    elim (cases_Bool (is_spent e)) [
+      | inl spent ↦ absurd (let a : begun.Spent ≡ begun.TooLarge = rw spent at answer in cc)
+      | inr turns ↦ absurd (let a : begun.Started ≡ begun.TooLarge = rw turns at answer in cc)
+    ]
+too-large e (Large units) answer = absurd (cc)
+too-large e TooLarge answer = refl
+
+-- no operation of a trace asks for more words than blocks have
+pub large-need : (e : ErrandFields) (call : Call) → FitsCall call → begin_answer e call ≡ begun.TooLarge → ⊥
+large-need e (alloc words) most answer = need-fits words most (too-large e (need_of words) answer)
+large-need e call fits answer = cc

@@ -19,7 +19,7 @@ use Rattle.pool_model.proofs.HistoryLemmas.{EachAfter-cut, legal-weaker}
 use Rattle.pool_model.proofs.OwnerLemmas.{free-elsewhere, owner-one}
 use Rattle.errand_steps.specs.declared.reply.Reply.{Reply}
 use Rattle.errand_steps.specs.declared.reply.Reply.TheVariants as reply
-use Rattle.errand_steps.specs.Calls.{Call, alloc, free, write, read, put, take}
+use Rattle.errand_steps.specs.Calls.{Call, alloc, free, put, take}
 use Rattle.sound_laws.specs.events.Ends.{HasEnded, end_of}
 use Rattle.step_machine.specs.Cores.{OwnsAfter}
 use Rattle.step_machine.specs.Keeping.{AllSpare, LeavesPlace, LeavesAtEnd}
@@ -41,17 +41,9 @@ owns-on g caller place need before after added legal adds spares owns =
 
 -- a call that gives no block away at a place has an end that gives none away there
 leaves-some : (call : Call) (answer : Reply) (place : ℕ) → LeavesPlace call place → IfSome (end_of call answer) (λ end. LeavesAtEnd end place)
-leaves-some (alloc words) (reply.Given at need) place leaves = tt
-leaves-some (alloc words) reply.Refused place leaves = tt
-leaves-some (alloc words) reply.Spent place leaves = tt
 leaves-some (free at need) reply.Freed place leaves = leaves
-leaves-some (write at need i value) reply.Wrote place leaves = tt
-leaves-some (read at need i) (reply.Word value) place leaves = tt
 leaves-some (put at need shelf) reply.Put place leaves = leaves
-leaves-some (put at need shelf) (reply.Full found) place leaves = tt
-leaves-some (take shelf) (reply.Got at need) place leaves = tt
-leaves-some (take shelf) reply.Empty place leaves = tt
-leaves-some (take shelf) (reply.Missed expected found) place leaves = tt
+leaves-some call reply.Refused place leaves = tt
 leaves-some call answer place leaves = tt
 
 pub ended-spares :
@@ -153,11 +145,7 @@ given-apart g caller place at need n (alloc words) before after added legal adds
     let t =
     owns-at g caller at need before after split.0 (Alloc caller words place) legal (subst (Adds caller before after) split.1 adds) split.2 owns in
     λ same. free-elsewhere g (pool_of t.0) caller words place at t.2.0 t.1 t.2.1 (sym same)
-given-apart g caller place at need n (free q m) before after added legal adds h owns = absurd (none-some h.ended.0 h.ended.1)
-given-apart g caller place at need n (write q m i value) before after added legal adds h owns = absurd (none-some h.ended.0 h.ended.1)
-given-apart g caller place at need n (read q m i) before after added legal adds h owns = absurd (none-some h.ended.0 h.ended.1)
-given-apart g caller place at need n (put q m shelf) before after added legal adds h owns = absurd (none-some h.ended.0 h.ended.1)
-given-apart g caller place at need n (take shelf) before after added legal adds h owns = absurd (none-some h.ended.0 h.ended.1)
+given-apart g caller place at need n call before after added legal adds h owns = absurd (none-some h.ended.0 h.ended.1)
 
 -- a block that a caller takes from a shelf is none that it owned
 pub got-apart :
@@ -169,8 +157,4 @@ got-apart g caller place at need n (take shelf) before after added legal adds h 
     let taking : added ≡ Take caller shelf place ∷ [] = subst (λ x. EventsOf caller x added) (sym end) h.ended.2 in
     let t = owns-at g caller at need before after [] (Take caller shelf place) legal (subst (Adds caller before after) taking adds) tt owns in
     owner-one (pool_of t.0) (Caller caller) (Shelf shelf) place at t.2.0 t.1.0 t.2.1 t.2.2 (λ e. let s : Shelf shelf ≡ Caller caller = e in cc)
-got-apart g caller place at need n (alloc words) before after added legal adds h owns = absurd (none-some h.ended.0 h.ended.1)
-got-apart g caller place at need n (free q m) before after added legal adds h owns = absurd (none-some h.ended.0 h.ended.1)
-got-apart g caller place at need n (write q m i value) before after added legal adds h owns = absurd (none-some h.ended.0 h.ended.1)
-got-apart g caller place at need n (read q m i) before after added legal adds h owns = absurd (none-some h.ended.0 h.ended.1)
-got-apart g caller place at need n (put q m shelf) before after added legal adds h owns = absurd (none-some h.ended.0 h.ended.1)
+got-apart g caller place at need n call before after added legal adds h owns = absurd (none-some h.ended.0 h.ended.1)

@@ -1,5 +1,5 @@
 -- What the whole calls of a caller add to its events, and what they leave it.
-use Rattle.std.proofs.Common.{ℕ, zero, suc, true, false, ◌≡◌, ◌≢◌, ◌<◌, ◌∷◌, ◌++◌, List, [], Option, Some, None, refl, sym, ap, ◌∙◌, subst, arith, append_assoc, append-nil}
+use Rattle.std.proofs.Common.{ℕ, zero, suc, true, false, ◌≡◌, ◌≢◌, ◌<◌, ◌∷◌, ◌++◌, List, [], refl, sym, ap, ◌∙◌, subst, arith, append_assoc, append-nil}
 use Rattle.heap_geometry.specs.declared.geometry.Geometry.{Geometry}
 use Rattle.heap_geometry.specs.declared.need.Need.{Need}
 use Rattle.heap_geometry.specs.Need.{usable_words}
@@ -10,6 +10,7 @@ use Rattle.pool_model.proofs.HistoryLemmas.{own-append}
 use Rattle.errand_steps.specs.Begins.{IsBusy, IsIdle, alloc_answer}
 use Rattle.errand_steps.specs.Calls.{Call, alloc, free, write, read, put, take, begun_by}
 use Rattle.errand_steps.specs.Errands.{ErrandFields}
+use Rattle.errand_steps.specs.Told.{ended_as}
 use Rattle.errand_steps.specs.declared.reply.Begun.{Begun}
 use Rattle.errand_steps.specs.declared.reply.Begun.TheVariants as begun
 use Rattle.errand_steps.specs.declared.reply.Progress.{Progress}
@@ -29,13 +30,12 @@ use Rattle.errand_steps.specs.Steps.{with_event}
 use Rattle.step_machine.specs.Cores.{OwnsAfter}
 use Rattle.step_machine.specs.Keeping.{Hands, LeavesPlace}
 use Rattle.step_machine.specs.Moments.{HasSeenMore, IsMoment}
-use Rattle.step_machine.proofs.MomentAnswers.{moment-meant, moment-owns}
+use Rattle.step_machine.proofs.MomentAnswers.{moment-given, moment-got}
 use Rattle.lane_engine.specs.Callers.{Caller, EndsCall, FitsCall, IsAtRest, IsCall, IsIn, MadeBy, OwnsFor, StepsOn, at_once, begun_at, by_steps}
 use Rattle.lane_engine.specs.Told.{HasStepped}
 use Rattle.trace_lane.specs.Advances.{AnswersCall}
-use Rattle.trace_lane.proofs.AnswerLemmas.{HasBegun, HasMovedOn, MayCall, ToldOfAlloc, ToldOfFree, ToldOfPut, ToldOfRead, ToldOfTake, ToldOfWrite}
-use Rattle.trace_lane.proofs.AnswerLemmas.{call-begun, goes-on as call-goes_on, has-ended, heap-block, moved-on, settled-of}
-use Rattle.trace_lane.proofs.AnswerLemmas.{told-of_alloc, told-of_free, told-of_put, told-of_read, told-of_take, told-of_write}
+use Rattle.trace_lane.proofs.AnswerLemmas.{HasBegun, HasMovedOn, MayCall, ends-full, ends-given, ends-not}
+use Rattle.trace_lane.proofs.AnswerLemmas.{behind, call-begun, goes-on as call-goes_on, has-ended, heap-block, moved-on, settled-of}
 use Rattle.trace_lane.proofs.ApartLemmas.{ended-spares, given-apart, got-apart, owns-on}
 use Rattle.trace_lane.proofs.NeedLemmas.{need-some}
 
@@ -172,11 +172,8 @@ alloc-started e words idle busy =
 may-call :
     (e : ErrandFields) (events : List Event) (call : Call) → IsIdle e → OwnsFor events e.caller call → IsBusy (begun_by e call) → MayCall e events call
 may-call e events (alloc words) idle owned busy = alloc-started e words idle busy
-may-call e events (free place need) idle owned busy = owned
-may-call e events (write place need i value) idle owned busy = owned
-may-call e events (read place need i) idle owned busy = owned
-may-call e events (put place need shelf) idle owned busy = owned
 may-call e events (take shelf) idle owned busy = tt
+may-call e events call idle owned busy = owned
 
 pub rest-begun :
     (g : Geometry) (c : Caller) (call : Call) → IsAtRest g c → OwnsFor c.seen c.errand.caller call → IsBusy (begun_by c.errand call)
@@ -188,11 +185,6 @@ pub in-begun :
     (g : Geometry) (c d : Caller) (call : Call) → IsAtRest g c → OwnsFor c.seen c.errand.caller call → IsIn c call d
     → HasBegun c.errand (begun_by c.errand call) call
 in-begun g c d call rests owned is = rest-begun g c call rests owned (steps-busy is.steps (begun_at c call) d is.on is.busy)
-
--- an event behind a list
-with-behind : (events : List Event) (event : Option Event) → with_event events event ≡ events ++ with_event [] event
-with-behind events None = sym (append-nil events)
-with-behind events (Some event) = refl
 
 -- a call of a caller has ended, and these are the caller's events since it stood before the call
 pub record HasCalled (c : Caller) (call : Call) (answer : Reply) (d : Caller) : Type 0 where
@@ -213,7 +205,7 @@ ends-called g c d call answer rests owned ends =
     let event = event_of last.errand.caller last.errand.point s.x in
     let more = moved-on last.errand d.errand last.seen d.seen (progress.Done answer) s in
     let ended = has-ended last.errand d.errand call last.seen d.seen w.added answer s w.under_way in
-    let whole : with_event w.added event ≡ w.added ++ with_event [] event = with-behind w.added event in
+    let whole : with_event w.added event ≡ w.added ++ with_event [] event = behind w.added event in
     record {
       added = w.added ++ with_event [] event;
       moved = moved-then c.errand last.errand d.errand c.seen last.seen d.seen w.added (with_event [] event) w.moved more;
@@ -228,63 +220,29 @@ ends-called g c d call answer rests owned ends =
 -- what a call that ends answers a lane
 module _ {B : Type 0} (place_of : B → ℕ) (block_need : B → Need) (g : Geometry) (e f : ErrandFields) (before after added : List Event)
     (legal : IsLegal g after) where
-  abbrev Answers : Call → Ending B → Type 0
-  Answers call ended = AnswersCall place_of block_need call ended
-
-  answers-alloc : (words : ℕ) (ended : Ending B) → ToldOfAlloc place_of block_need e f before after added words ended → Answers (alloc words) ended
-  answers-alloc words (ending.Given b) told = (
-    told.serves,
-    subst (λ n. 0 < usable_words n) told.serves
-        (need-some g (place_of b) (block_need b) (heap-block g after e.caller (place_of b) (block_need b) legal told.owned)),
-  )
-  answers-alloc words ending.Refused told = tt
-  answers-alloc words ending.Spent told = tt
-  answers-alloc words ended told = absurd told
-
-  answers-free : (place : ℕ) (need : Need) (ended : Ending B) → ToldOfFree place_of block_need e f before after added place need ended → Answers (free place need) ended
-  answers-free place need ending.Freed told = tt
-  answers-free place need ended told = absurd told
-
-  answers-write :
-      (place : ℕ) (need : Need) (i v : ℕ) (ended : Ending B) → i < usable_words need → ToldOfWrite place_of block_need e f before after added place need i v ended
-      → Answers (write place need i v) ended
-  answers-write place need i v ending.Wrote inside told = inside
-  answers-write place need i v ended inside told = absurd told
-
-  answers-read :
-      (place : ℕ) (need : Need) (i : ℕ) (ended : Ending B) → i < usable_words need → ToldOfRead place_of block_need e f before after added place need i ended
-      → Answers (read place need i) ended
-  answers-read place need i (ending.Word word) inside told = inside
-  answers-read place need i ended inside told = absurd told
-
-  answers-put :
-      (place : ℕ) (need : Need) (shelf : ℕ) (ended : Ending B) → ToldOfPut place_of block_need e f before after added place need shelf ended
-      → Answers (put place need shelf) ended
-  answers-put place need shelf ending.Put told = tt
-  answers-put place need shelf (ending.Full b found) told = (told.same_place, told.same_need)
-  answers-put place need shelf ended told = absurd told
-
-  answers-take : (shelf : ℕ) (ended : Ending B) → ToldOfTake place_of block_need e f before after added shelf ended → Answers (take shelf) ended
-  answers-take shelf (ending.Got b) told = tt
-  answers-take shelf ending.Empty told = tt
-  answers-take shelf (ending.Missed expected found) told = tt
-  answers-take shelf ended told = absurd told
-
   pub answers-so :
       (call : Call) (ended : Ending B) → FitsCall call → IsUnderWay e.caller call e.point added
-      → HasStepped place_of block_need e f before after (stepped.Done ended) → Answers call ended
-  answers-so (alloc words) ended fits way step =
-      answers-alloc words ended (told-of_alloc place_of block_need e f before after added words ended step way)
-  answers-so (free place need) ended fits way step =
-      answers-free place need ended (told-of_free place_of block_need e f before after added place need ended step way)
-  answers-so (write place need i v) ended fits way step =
-      answers-write place need i v ended fits (told-of_write place_of block_need e f before after added place need i v ended step way)
-  answers-so (read place need i) ended fits way step =
-      answers-read place need i ended fits (told-of_read place_of block_need e f before after added place need i ended step way)
-  answers-so (put place need shelf) ended fits way step =
-      answers-put place need shelf ended (told-of_put place_of block_need e f before after added place need shelf ended step way)
-  answers-so (take shelf) ended fits way step =
-      answers-take shelf ended (told-of_take place_of block_need e f before after added shelf ended step way)
+      → HasStepped place_of block_need e f before after (stepped.Done ended) → AnswersCall place_of block_need call ended
+  answers-so (alloc words) (ending.Given b) fits way step =
+      let told = ends-given e f before after added words (place_of b) (block_need b) step.moment way in (
+        told.serves,
+        subst (λ n. 0 < usable_words n) told.serves
+            (need-some g (place_of b) (block_need b) (heap-block g after e.caller (place_of b) (block_need b) legal told.owned)),
+      )
+  answers-so (alloc words) ending.Refused fits way step = tt
+  answers-so (alloc words) ending.Spent fits way step = tt
+  answers-so (free place need) ending.Freed fits way step = tt
+  answers-so (write place need i v) ending.Wrote fits way step = fits
+  answers-so (read place need i) (ending.Word word) fits way step = fits
+  answers-so (put place need shelf) ending.Put fits way step = tt
+  answers-so (put place need shelf) (ending.Full b found) fits way step =
+      let told = ends-full e f before after added place need shelf found (place_of b) (block_need b) step.moment step.back way in
+      (told.same_place, told.same_need)
+  answers-so (take shelf) (ending.Got b) fits way step = tt
+  answers-so (take shelf) ending.Empty fits way step = tt
+  answers-so (take shelf) (ending.Missed expected found) fits way step = tt
+  answers-so call ended fits way step =
+      absurd (ends-not e f call before after added (ended_as place_of block_need ended) refl step.moment way)
 
 -- what a caller owns
 abbrev pub Owns : Caller → ℕ → Need → Type 0
@@ -306,21 +264,13 @@ module _ (g : Geometry) where
   hands-by :
       (c d : Caller) (call : Call) (answer : Reply) (place : ℕ) (need : Need) → MadeBy c call answer d → Hands answer place need → Owns d place need
   hands-by c d call (reply.Given at n) place need (by_steps ends) hands =
-      let r : Reply = reply.Given at n in
-      let last = ends.last in
-      subst (λ m. Owns d place m) hands.1 (subst (λ k. Owns d k n) hands.0
-      (moment-owns last.errand d.errand last.seen d.seen (progress.Done r) ends.moment at n
-      (moment-meant last.errand d.errand last.seen d.seen (progress.Done r) ends.moment r refl).3))
+      let owned = moment-given ends.last.errand d.errand ends.last.seen d.seen _ ends.moment at n refl in
+      subst (λ m. Owns d place m) hands.1 (subst (λ k. Owns d k n) hands.0 owned)
   hands-by c d call (reply.Got at n) place need (by_steps ends) hands =
-      let r : Reply = reply.Got at n in
-      let last = ends.last in
-      subst (λ m. Owns d place m) hands.1 (subst (λ k. Owns d k n) hands.0
-      (moment-owns last.errand d.errand last.seen d.seen (progress.Done r) ends.moment at n
-      (moment-meant last.errand d.errand last.seen d.seen (progress.Done r) ends.moment r refl).2))
+      let owned = moment-got ends.last.errand d.errand ends.last.seen d.seen _ ends.moment at n refl in
+      subst (λ m. Owns d place m) hands.1 (subst (λ k. Owns d k n) hands.0 owned)
   hands-by c d call answer place need (by_steps ends) hands = absurd hands
-  hands-by c d call (reply.Given at n) place need (at_once words is_alloc is_spent spent same) hands = absurd (cc)
-  hands-by c d call (reply.Got at n) place need (at_once words is_alloc is_spent spent same) hands = absurd (cc)
-  hands-by c d call answer place need (at_once words is_alloc is_spent spent same) hands = absurd hands
+  hands-by c d call answer place need (at_once words is_alloc is_spent spent same) hands = absurd (subst (λ r. Hands r place need) is_spent hands)
 
   apart-by :
       (c d : Caller) (call : Call) (answer : Reply) (place other : ℕ) (need had : Need) → IsAtRest g c → IsAtRest g d
@@ -334,9 +284,8 @@ module _ (g : Geometry) where
       subst (λ k. other ≢ k) hands.0 (got-apart g c.errand.caller at other had n call c.seen d.seen h.added after.served.legal
       (h.moved.rest, h.moved.seen, h.moved.own_rest) h.ended owns)
   apart-by c d call answer place other need had rests after owned (by_steps ends) hands owns = absurd hands
-  apart-by c d call (reply.Given at n) place other need had rests after owned (at_once words is_alloc is_spent spent same) hands owns = absurd (cc)
-  apart-by c d call (reply.Got at n) place other need had rests after owned (at_once words is_alloc is_spent spent same) hands owns = absurd (cc)
-  apart-by c d call answer place other need had rests after owned (at_once words is_alloc is_spent spent same) hands owns = absurd hands
+  apart-by c d call answer place other need had rests after owned (at_once words is_alloc is_spent spent same) hands owns =
+      absurd (subst (λ r. Hands r place need) is_spent hands)
 
   pub caller-keeps :
       (c d : Caller) (call : Call) (answer : Reply) (place : ℕ) (need : Need) → IsCall g c call answer d → LeavesPlace call place → Owns c place need

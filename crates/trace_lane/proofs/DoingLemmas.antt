@@ -1,7 +1,7 @@
 -- Where the answer of its call leads an operation: to its next call, or to its outcome.
-use Rattle.std.proofs.Common.{ℕ, zero, ◌≡◌, ◌<◌, ◌≤◌, ◌+◌, ◌%◌, ◌^◌, ◌∷◌, ◌++◌, List, [], Option, Some, None, length, min, refl, sym, ap, ◌∙◌, subst, inl, inr}
+use Rattle.std.proofs.Common.{ℕ, ◌≡◌, ◌<◌, ◌≤◌, ◌+◌, ◌∷◌, ◌++◌, List, [], Option, Some, None, length, min, refl, sym, ap, ◌∙◌, subst, inl, inr}
 use Rattle.std.proofs.Common.{arith, append_assoc, append-nil, nat_lt, true, get_or-set_same}
-use Rattle.std.specs.Prelude.{slice_set, sum}
+use Rattle.std.specs.Prelude.{slice_set}
 use Rattle.std.proofs.lemmas.Bool.{cases_lt, cases_Bool, ltb-true, lt-ltb}
 use Rattle.std.proofs.lemmas.List.{length-append, length-set, set-get_or, set-set}
 use Rattle.std.proofs.Math.Nat.{min-eq_left, min-eq_right}
@@ -11,18 +11,18 @@ use Rattle.errand_steps.specs.declared.reply.Reply.{Reply}
 use Rattle.errand_steps.specs.declared.reply.Reply.TheVariants as reply
 use Rattle.errand_steps.specs.declared.told.Ending.{Ending}
 use Rattle.errand_steps.specs.declared.told.Ending.TheVariants as ending
-use Rattle.errand_steps.specs.Calls.{Call, alloc, free, write, read, put, take}
+use Rattle.errand_steps.specs.Calls.{Call, alloc, free, write, put}
 use Rattle.sound_laws.specs.events.Made.{Made, answered, copied, found_from, wrote}
 use Rattle.sound_laws.proofs.events_lemmas.MadeLemmas.{found-more, sum-one, wrote-more}
 use Rattle.sound_laws.proofs.events_lemmas.CopyLemmas.{copied-more, copied-one, copied-past}
 use Rattle.trace_text.specs.declared.trace.Op.TheVariants as op
-use Rattle.lane_outcomes.specs.declared.registers.Held.{Held}
+use Rattle.lane_outcomes.specs.declared.registers.HeldBlock.{HeldBlock}
 use Rattle.lane_outcomes.specs.declared.outcome.Outcome.TheVariants as outcome
 use Rattle.lane_outcomes.specs.Lane.{held_in, registers_after}
 use Rattle.trace_lane.specs.Advances.{AnswersCall, IsShort, behind, total_with, word_behind}
 use Rattle.trace_lane.specs.declared.stage.OperationStage.{OperationStage}
 use Rattle.trace_lane.specs.declared.stage.OperationStage.TheVariants as stage
-use Rattle.trace_lane.specs.Doing.{DoingOf, IsInside, IsReadFor, IsReplacing, call_at, fills, frees, held_of, held_there, reads, replacing}
+use Rattle.trace_lane.specs.Doing.{DoingOf, IsReadFor, IsReplacing, call_at, fills, frees, held_of, held_there, reads, replacing}
 use Rattle.trace_lane.specs.Made.{MadeFor, OnBlock}
 use Rattle.trace_lane.specs.Paths.{held_by}
 use Rattle.trace_lane.specs.Scripts.{stage_begun}
@@ -44,19 +44,19 @@ behind-none i words is =
     ]
 
 -- the block of a full register
-pub record IsOn (slot : Option Held) (P : Held → Need → Type 0) : Type 0 where
-  pub held : Held
+pub record IsOn (slot : Option HeldBlock) (P : HeldBlock → Need → Type 0) : Type 0 where
+  pub held : HeldBlock
   pub full : slot ≡ Some held
   pub words : held.words ≡ usable_words held.need
   pub so : P held held.need
 
-pub on-block : (slot : Option Held) (P : Held → Need → Type 0) → OnBlock slot P → IsOn slot P
+pub on-block : (slot : Option HeldBlock) (P : HeldBlock → Need → Type 0) → OnBlock slot P → IsOn slot P
 on-block None P on = absurd on
 on-block (Some held) P on = record { held = held; full = refl; words = on.0; so = on.1 }
 
 -- a register that was set
 pub set-there :
-    (before registers : List (Option Held)) (r : ℕ) (held : Held) → r < length registers → registers ≡ slice_set before r (Some held)
+    (before registers : List (Option HeldBlock)) (r : ℕ) (held : HeldBlock) → r < length registers → registers ≡ slice_set before r (Some held)
     → held_in registers r ≡ Some held
 set-there before registers r held within is =
     let same : length registers ≡ length before = ap length is ∙ length-set before r (Some held) in
@@ -67,8 +67,8 @@ set-there before registers r held within is =
 abbrev pub with_answer : List Made → Call → Reply → List Made
 with_answer made call answer = made ++ answered call answer ∷ []
 
-module _ {B : Type 0} (place_of : B → ℕ) (block_need : B → Need) (before registers : List (Option Held)) where
-  abbrev pub By : B → Held
+module _ {B : Type 0} (place_of : B → ℕ) (block_need : B → Need) (before registers : List (Option HeldBlock)) where
+  abbrev pub By : B → HeldBlock
   By block = held_by place_of block_need block
 
   abbrev pub Answers : Call → Ending B → Type 0
@@ -93,53 +93,18 @@ module _ {B : Type 0} (place_of : B → ℕ) (block_need : B → Need) (before r
     refl,
   )
   alloc-given r need v block (stage.Filling i) made doing a = absurd a
-  alloc-given r need v block stage.Between made doing a = absurd doing
-  alloc-given r need v block (stage.Summing i total) made doing a = absurd doing
-  alloc-given r need v block (stage.Copying old i w) made doing a = absurd doing
-  alloc-given r need v block stage.Releasing made doing a = absurd doing
-
-  pub alloc-refused :
-      (r need v : ℕ) (at : OperationStage) (made : List Made) → DoingOf before registers (op.Alloc r need v) at made
-      → Answers (call_at before registers (op.Alloc r need v) at) ending.Refused
-      → MadeFor (held_in before r) (op.Alloc r need v) outcome.Refused
-      (with_answer made (call_at before registers (op.Alloc r need v) at) reply.Refused) × (registers ≡ before)
-  alloc-refused r need v stage.Calling made (same, none, nil) a = (
-    subst (λ slot. MadeFor slot (op.Alloc r need v) outcome.Refused (with_answer made (alloc need) reply.Refused)) (sym none)
-        (ap (λ ms. with_answer ms (alloc need) reply.Refused) nil),
-    same,
-  )
-  alloc-refused r need v (stage.Filling i) made doing a = absurd a
-  alloc-refused r need v stage.Between made doing a = absurd doing
-  alloc-refused r need v (stage.Summing i total) made doing a = absurd doing
-  alloc-refused r need v (stage.Copying old i w) made doing a = absurd doing
-  alloc-refused r need v stage.Releasing made doing a = absurd doing
-
-  pub alloc-spent :
-      (r need v : ℕ) (at : OperationStage) (made : List Made) → DoingOf before registers (op.Alloc r need v) at made
-      → Answers (call_at before registers (op.Alloc r need v) at) ending.Spent
-      → MadeFor (held_in before r) (op.Alloc r need v) outcome.Spent
-      (with_answer made (call_at before registers (op.Alloc r need v) at) reply.Spent) × (registers ≡ before)
-  alloc-spent r need v stage.Calling made (same, none, nil) a = (
-    subst (λ slot. MadeFor slot (op.Alloc r need v) outcome.Spent (with_answer made (alloc need) reply.Spent)) (sym none)
-        (ap (λ ms. with_answer ms (alloc need) reply.Spent) nil),
-    same,
-  )
-  alloc-spent r need v (stage.Filling i) made doing a = absurd a
-  alloc-spent r need v stage.Between made doing a = absurd doing
-  alloc-spent r need v (stage.Summing i total) made doing a = absurd doing
-  alloc-spent r need v (stage.Copying old i w) made doing a = absurd doing
-  alloc-spent r need v stage.Releasing made doing a = absurd doing
+  alloc-given r need v block at made doing a = absurd doing
 
   -- the calls of an allocation with the write of one word more
   given-more :
-      (need v place i : ℕ) (made : List Made) (held : Held)
+      (need v place i : ℕ) (made : List Made) (held : HeldBlock)
       → held ≡ held_of place (need_of need) → made ≡ answered (alloc need) (reply.Given place (need_of need)) ∷ wrote place (need_of need) v i
       → with_answer made (fills held v i) reply.Wrote
       ≡ answered (alloc need) (reply.Given place (need_of need)) ∷ wrote place (need_of need) v (i + 1)
   given-more need v place i made held is made_is =
       ap (λ ms. with_answer ms (fills held v i) reply.Wrote) made_is
       ∙ ap
-      (λ (h : Held).
+      (λ (h : HeldBlock).
       with_answer (answered (alloc need) (reply.Given place (need_of need)) ∷ wrote place (need_of need) v i) (fills h v i) reply.Wrote) is
       ∙ ap (λ ms. answered (alloc need) (reply.Given place (need_of need)) ∷ ms) (sym (wrote-more place (need_of need) v i))
 
@@ -153,7 +118,7 @@ module _ {B : Type 0} (place_of : B → ℕ) (block_need : B → Need) (before r
   alloc-on r need v next (stage.Filling i) made within (place, none, set, inside, made_is) a found =
       let there = ap held_there (set-there before registers r (held_of place (need_of need)) within set) in
       let is = behind-some i (held_there (held_in registers r)).words next found in
-      let words : (held_there (held_in registers r)).words ≡ usable_words (need_of need) = ap (λ (h : Held). h.words) there in (
+      let words : (held_there (held_in registers r)).words ≡ usable_words (need_of need) = ap (λ (h : HeldBlock). h.words) there in (
         (
           place,
           none,
@@ -165,10 +130,7 @@ module _ {B : Type 0} (place_of : B → ℕ) (block_need : B → Need) (before r
         omega (arith, is.0),
       )
   alloc-on r need v next stage.Calling made within doing a found = absurd a
-  alloc-on r need v next stage.Between made within doing a found = absurd doing
-  alloc-on r need v next (stage.Summing i total) made within doing a found = absurd doing
-  alloc-on r need v next (stage.Copying old i w) made within doing a found = absurd doing
-  alloc-on r need v next stage.Releasing made within doing a found = absurd doing
+  alloc-on r need v next at made within doing a found = absurd doing
 
   pub alloc-ends :
       (r need v words place : ℕ) (at : OperationStage) (made : List Made) → r < length registers
@@ -179,9 +141,9 @@ module _ {B : Type 0} (place_of : B → ℕ) (block_need : B → Need) (before r
       × (registers ≡ registers_after before (op.Alloc r need v) (outcome.Given words place))
   alloc-ends r need v words place (stage.Filling i) made within (lies, none, set, inside, made_is) a found words_are place_is =
       let there = ap held_there (set-there before registers r (held_of lies (need_of need)) within set) in
-      let words_so : words ≡ usable_words (need_of need) = words_are ∙ ap (λ (h : Held). h.words) there in
-      let place_so : place ≡ lies = place_is ∙ ap (λ (h : Held). h.place) there in
-      let a_so : i < usable_words (need_of need) = subst (λ (h : Held). i < usable_words h.need) there a in
+      let words_so : words ≡ usable_words (need_of need) = words_are ∙ ap (λ (h : HeldBlock). h.words) there in
+      let place_so : place ≡ lies = place_is ∙ ap (λ (h : HeldBlock). h.place) there in
+      let a_so : i < usable_words (need_of need) = subst (λ (h : HeldBlock). i < usable_words h.need) there a in
       let last : i + 1 ≡ words = let most = behind-none i words found in omega (arith, most, a_so, words_so) in
       let calls = with_answer made (fills (held_there (held_in registers r)) v i) reply.Wrote in
       let calls_so : calls ≡ answered (alloc need) (reply.Given place (need_of need)) ∷ wrote place (need_of need) v words =
@@ -189,32 +151,12 @@ module _ {B : Type 0} (place_of : B → ℕ) (block_need : B → Need) (before r
       ∙ ap (λ n. answered (alloc need) (reply.Given lies (need_of need)) ∷ wrote lies (need_of need) v n) last
       ∙ ap (λ p. answered (alloc need) (reply.Given p (need_of need)) ∷ wrote p (need_of need) v words) (sym place_so) in (
         subst (λ slot. MadeFor slot (op.Alloc r need v) (outcome.Given words place) calls) (sym none) (words_so, calls_so),
-        set ∙ ap (λ (h : Held). slice_set before r (Some h))
+        set ∙ ap (λ (h : HeldBlock). slice_set before r (Some h))
             (ap (λ p. held_of p (need_of need)) (sym place_so)
-            ∙ ap (λ (n : ℕ). let h : Held = record { place = place; words = n; need = need_of need } in h) (sym words_so)),
+            ∙ ap (λ (n : ℕ). let h : HeldBlock = record { place = place; words = n; need = need_of need } in h) (sym words_so)),
       )
   alloc-ends r need v words place stage.Calling made within doing a found words_are place_is = absurd a
-  alloc-ends r need v words place stage.Between made within doing a found words_are place_is = absurd doing
-  alloc-ends r need v words place (stage.Summing i total) made within doing a found words_are place_is = absurd doing
-  alloc-ends r need v words place (stage.Copying old i w) made within doing a found words_are place_is = absurd doing
-  alloc-ends r need v words place stage.Releasing made within doing a found words_are place_is = absurd doing
-
-  -- a free
-  pub free-ends :
-      (r : ℕ) (at : OperationStage) (made : List Made) → DoingOf before registers (op.Free r) at made
-      → MadeFor (held_in before r) (op.Free r) outcome.Freed (with_answer made (call_at before registers (op.Free r) at) reply.Freed)
-      × (registers ≡ slice_set before r None)
-  free-ends r stage.Calling made doing =
-      let on = on-block (held_in before r) _ doing in (
-        subst (λ slot. MadeFor slot (op.Free r) outcome.Freed (with_answer made (frees (held_there slot)) reply.Freed)) (sym on.full)
-            (on.words, ap (λ ms. with_answer ms (frees on.held) reply.Freed) on.so.1),
-        on.so.0,
-      )
-  free-ends r (stage.Filling i) made doing = absurd doing
-  free-ends r stage.Between made doing = absurd doing
-  free-ends r (stage.Summing i total) made doing = absurd doing
-  free-ends r (stage.Copying old i w) made doing = absurd doing
-  free-ends r stage.Releasing made doing = absurd doing
+  alloc-ends r need v words place at made within doing a found words_are place_is = absurd doing
 
   -- a fill
   pub fill-on :
@@ -226,23 +168,15 @@ module _ {B : Type 0} (place_of : B → ℕ) (block_need : B → Need) (before r
       let on = on-block (held_in before r) _ doing in
       let there : held_there (held_in registers r) ≡ on.held = ap (λ rs. held_there (held_in rs r)) on.so.0 ∙ ap held_there on.full in
       let is = behind-some i (held_there (held_in registers r)).words next found in
-      let words : (held_there (held_in registers r)).words ≡ on.held.words = ap (λ (h : Held). h.words) there in
-      let calls = with_answer made (fills (held_there (held_in registers r)) v i) reply.Wrote in
-      let calls_so : calls ≡ wrote on.held.place on.held.need v next =
-      ap (λ (h : Held). with_answer made (fills h v i) reply.Wrote) there
+      let words : (held_there (held_in registers r)).words ≡ on.held.words = ap (λ (h : HeldBlock). h.words) there in
+      let calls_so : with_answer made (fills (held_there (held_in registers r)) v i) reply.Wrote ≡ wrote on.held.place on.held.need v next =
+      ap (λ (h : HeldBlock). with_answer made (fills h v i) reply.Wrote) there
       ∙ ap (λ ms. with_answer ms (fills on.held v i) reply.Wrote) on.so.2
       ∙ sym (wrote-more on.held.place on.held.need v i) ∙ ap (λ n. wrote on.held.place on.held.need v n) (sym is.0) in (
-        subst
-            (λ slot.
-            OnBlock slot (λ held need. (registers ≡ before) × IsInside next held.words × (calls ≡ wrote held.place need v next)))
-            (sym on.full) (on.words, (on.so.0, λ positive. omega (arith, is.0, is.1, words), calls_so)),
+        rw on.full (on.words, (on.so.0, λ positive. omega (arith, is.0, is.1, words), calls_so)),
         omega (arith, is.0),
       )
-  fill-on r v next stage.Calling made doing found = absurd doing
-  fill-on r v next stage.Between made doing found = absurd doing
-  fill-on r v next (stage.Summing i total) made doing found = absurd doing
-  fill-on r v next (stage.Copying old i w) made doing found = absurd doing
-  fill-on r v next stage.Releasing made doing found = absurd doing
+  fill-on r v next at made doing found = absurd doing
 
   pub fill-ends :
       (r v : ℕ) (at : OperationStage) (made : List Made) → DoingOf before registers (op.Fill r v) at made
@@ -253,22 +187,18 @@ module _ {B : Type 0} (place_of : B → ℕ) (block_need : B → Need) (before r
       let on = on-block (held_in before r) _ doing in
       let there : held_there (held_in registers r) ≡ on.held = ap (λ rs. held_there (held_in rs r)) on.so.0 ∙ ap held_there on.full in
       let most = behind-none i (held_there (held_in registers r)).words found in
-      let words : (held_there (held_in registers r)).words ≡ on.held.words = ap (λ (h : Held). h.words) there in
-      let inside : i < usable_words on.held.need = subst (λ (h : Held). i < usable_words h.need) there a in
+      let words : (held_there (held_in registers r)).words ≡ on.held.words = ap (λ (h : HeldBlock). h.words) there in
+      let inside : i < usable_words on.held.need = subst (λ (h : HeldBlock). i < usable_words h.need) there a in
       let last : i + 1 ≡ on.held.words = let w = on.words in omega (arith, most, inside, words, w) in
       let calls = with_answer made (fills (held_there (held_in registers r)) v i) reply.Wrote in
       let calls_so : calls ≡ wrote on.held.place on.held.need v on.held.words =
-      ap (λ (h : Held). with_answer made (fills h v i) reply.Wrote) there
+      ap (λ (h : HeldBlock). with_answer made (fills h v i) reply.Wrote) there
       ∙ ap (λ ms. with_answer ms (fills on.held v i) reply.Wrote) on.so.2
       ∙ sym (wrote-more on.held.place on.held.need v i) ∙ ap (λ n. wrote on.held.place on.held.need v n) last in (
         subst (λ slot. MadeFor slot (op.Fill r v) outcome.Filled calls) (sym on.full) (on.words, calls_so),
         on.so.0,
       )
-  fill-ends r v stage.Calling made doing a found = absurd doing
-  fill-ends r v stage.Between made doing a found = absurd doing
-  fill-ends r v (stage.Summing i total) made doing a found = absurd doing
-  fill-ends r v (stage.Copying old i w) made doing a found = absurd doing
-  fill-ends r v stage.Releasing made doing a found = absurd doing
+  fill-ends r v at made doing a found = absurd doing
 
   -- a check
   pub check-on :
@@ -281,37 +211,27 @@ module _ {B : Type 0} (place_of : B → ℕ) (block_need : B → Need) (before r
       let on = on-block (held_in before r) _ doing in
       let there : held_there (held_in registers r) ≡ on.held = ap (λ rs. held_there (held_in rs r)) on.so.0 ∙ ap held_there on.full in
       let is = behind-some i (held_there (held_in registers r)).words next found in
-      let words_are : (held_there (held_in registers r)).words ≡ on.held.words = ap (λ (h : Held). h.words) there in
+      let words_are : (held_there (held_in registers r)).words ≡ on.held.words = ap (λ (h : HeldBlock). h.words) there in
       let (same, inside, words, all, total_is, made_is) = on.so in
       let calls = with_answer made (reads (held_there (held_in registers r)) i) (reply.Word word) in
       let calls_so : calls ≡ found_from on.held.place on.held.need 0 (words ++ word ∷ []) =
-      ap (λ (h : Held). with_answer made (reads h i) (reply.Word word)) there
+      ap (λ (h : HeldBlock). with_answer made (reads h i) (reply.Word word)) there
       ∙ ap (λ ms. with_answer ms (reads on.held i) (reply.Word word)) made_is
       ∙ sym (found-more on.held.place on.held.need 0 words word i (omega (arith, all))) in (
-        subst
-            (λ slot.
-            OnBlock slot
-            (λ held need.
-            (registers ≡ before) × IsInside next held.words × (words : List ℕ) × (length words ≡ next) × (sum_now ≡ sum words % 2 ^ 64)
-            × (calls ≡ found_from held.place need 0 words)))
-            (sym on.full) (
-              on.words,
-              (
-                same,
-                λ positive. omega (arith, is.0, is.1, words_are),
-                words ++ word ∷ [],
-                (let longer = length-append words (word ∷ []) in omega (arith, longer, all, is.0)),
-                sum_is ∙ sum-one words total word total_is,
-                calls_so,
-              ),
-            ),
+        rw on.full (
+          on.words,
+          (
+            same,
+            λ positive. omega (arith, is.0, is.1, words_are),
+            words ++ word ∷ [],
+            (let longer = length-append words (word ∷ []) in omega (arith, longer, all, is.0)),
+            sum_is ∙ sum-one words total word total_is,
+            calls_so,
+          ),
+        ),
         omega (arith, is.0),
       )
-  check-on r word next sum_now stage.Calling made doing found sum_is = absurd doing
-  check-on r word next sum_now stage.Between made doing found sum_is = absurd doing
-  check-on r word next sum_now (stage.Filling i) made doing found sum_is = absurd doing
-  check-on r word next sum_now (stage.Copying old i w) made doing found sum_is = absurd doing
-  check-on r word next sum_now stage.Releasing made doing found sum_is = absurd doing
+  check-on r word next sum_now at made doing found sum_is = absurd doing
 
   pub check-ends :
       (r word sum_now : ℕ) (at : OperationStage) (made : List Made) → DoingOf before registers (op.Check r) at made
@@ -323,13 +243,13 @@ module _ {B : Type 0} (place_of : B → ℕ) (block_need : B → Need) (before r
       let on = on-block (held_in before r) _ doing in
       let there : held_there (held_in registers r) ≡ on.held = ap (λ rs. held_there (held_in rs r)) on.so.0 ∙ ap held_there on.full in
       let most = behind-none i (held_there (held_in registers r)).words found in
-      let words_are : (held_there (held_in registers r)).words ≡ on.held.words = ap (λ (h : Held). h.words) there in
-      let within : i < usable_words on.held.need = subst (λ (h : Held). i < usable_words h.need) there a in
+      let words_are : (held_there (held_in registers r)).words ≡ on.held.words = ap (λ (h : HeldBlock). h.words) there in
+      let within : i < usable_words on.held.need = subst (λ (h : HeldBlock). i < usable_words h.need) there a in
       let last : i + 1 ≡ on.held.words = let w = on.words in omega (arith, most, within, words_are, w) in
       let (same, inside, words, all, total_is, made_is) = on.so in
       let calls = with_answer made (reads (held_there (held_in registers r)) i) (reply.Word word) in
       let calls_so : calls ≡ found_from on.held.place on.held.need 0 (words ++ word ∷ []) =
-      ap (λ (h : Held). with_answer made (reads h i) (reply.Word word)) there
+      ap (λ (h : HeldBlock). with_answer made (reads h i) (reply.Word word)) there
       ∙ ap (λ ms. with_answer ms (reads on.held i) (reply.Word word)) made_is
       ∙ sym (found-more on.held.place on.held.need 0 words word i (omega (arith, all))) in (
         subst (λ slot. MadeFor slot (op.Check r) (outcome.Sum sum_now) calls) (sym on.full) (
@@ -343,29 +263,7 @@ module _ {B : Type 0} (place_of : B → ℕ) (block_need : B → Need) (before r
         ),
         same,
       )
-  check-ends r word sum_now stage.Calling made doing a found sum_is = absurd doing
-  check-ends r word sum_now stage.Between made doing a found sum_is = absurd doing
-  check-ends r word sum_now (stage.Filling i) made doing a found sum_is = absurd doing
-  check-ends r word sum_now (stage.Copying old i w) made doing a found sum_is = absurd doing
-  check-ends r word sum_now stage.Releasing made doing a found sum_is = absurd doing
-
-  -- a put
-  pub put-ends :
-      (r shelf : ℕ) (at : OperationStage) (made : List Made) → DoingOf before registers (op.Put r shelf) at made
-      → MadeFor (held_in before r) (op.Put r shelf) outcome.Put (with_answer made (call_at before registers (op.Put r shelf) at) reply.Put)
-      × (registers ≡ slice_set before r None)
-  put-ends r shelf stage.Calling made doing =
-      let on = on-block (held_in before r) _ doing in (
-        subst
-            (λ slot. MadeFor slot (op.Put r shelf) outcome.Put (with_answer made (put (held_there slot).place (held_there slot).need shelf) reply.Put))
-            (sym on.full) (on.words, ap (λ ms. with_answer ms (put on.held.place on.held.need shelf) reply.Put) on.so.1),
-        on.so.0,
-      )
-  put-ends r shelf (stage.Filling i) made doing = absurd doing
-  put-ends r shelf stage.Between made doing = absurd doing
-  put-ends r shelf (stage.Summing i total) made doing = absurd doing
-  put-ends r shelf (stage.Copying old i w) made doing = absurd doing
-  put-ends r shelf stage.Releasing made doing = absurd doing
+  check-ends r word sum_now at made doing a found sum_is = absurd doing
 
   pub put-full :
       (r shelf found : ℕ) (block : B) (at : OperationStage) (made : List Made) → DoingOf before registers (op.Put r shelf) at made
@@ -376,24 +274,16 @@ module _ {B : Type 0} (place_of : B → ℕ) (block_need : B → Need) (before r
   put-full r shelf found block stage.Calling made doing a =
       let on = on-block (held_in before r) _ doing in
       let there : held_there (held_in before r) ≡ on.held = ap held_there on.full in
-      let place : place_of block ≡ on.held.place = a.0 ∙ ap (λ (h : Held). h.place) there in
-      let need : block_need block ≡ on.held.need = a.1 ∙ ap (λ (h : Held). h.need) there in
+      let place : place_of block ≡ on.held.place = a.0 ∙ ap (λ (h : HeldBlock). h.place) there in
+      let need : block_need block ≡ on.held.need = a.1 ∙ ap (λ (h : HeldBlock). h.need) there in
       let same : By block ≡ on.held =
       ap (λ p. held_of p (block_need block)) place ∙ ap (λ n. held_of on.held.place n) need
-      ∙ ap (λ (n : ℕ). let h : Held = record { place = on.held.place; words = n; need = on.held.need } in h) (sym on.words) in (
-        subst
-            (λ slot.
-            MadeFor slot (op.Put r shelf) outcome.ShelfFull
-            (with_answer made (put (held_there slot).place (held_there slot).need shelf) (reply.Full found)))
-            (sym on.full) (on.words, (found, ap (λ ms. with_answer ms (put on.held.place on.held.need shelf) (reply.Full found)) on.so.1)),
+      ∙ ap (λ (n : ℕ). let h : HeldBlock = record { place = on.held.place; words = n; need = on.held.need } in h) (sym on.words) in (
+        rw on.full (on.words, (found, ap (λ ms. with_answer ms (put on.held.place on.held.need shelf) (reply.Full found)) on.so.1)),
         ap (λ rs. slice_set rs r (Some (By block))) on.so.0 ∙ set-set before r None (Some (By block))
-            ∙ ap (λ (h : Held). slice_set before r (Some h)) same ∙ ap (λ slot. slice_set before r slot) (sym on.full) ∙ set-get_or before r None,
+            ∙ ap (λ (h : HeldBlock). slice_set before r (Some h)) same ∙ ap (λ slot. slice_set before r slot) (sym on.full) ∙ set-get_or before r None,
       )
-  put-full r shelf found block (stage.Filling i) made doing a = absurd doing
-  put-full r shelf found block stage.Between made doing a = absurd doing
-  put-full r shelf found block (stage.Summing i total) made doing a = absurd doing
-  put-full r shelf found block (stage.Copying old i w) made doing a = absurd doing
-  put-full r shelf found block stage.Releasing made doing a = absurd doing
+  put-full r shelf found block at made doing a = absurd doing
 
   -- a take
   pub take-got :
@@ -402,31 +292,10 @@ module _ {B : Type 0} (place_of : B → ℕ) (block_need : B → Need) (before r
       (with_answer made (call_at before registers (op.Take r shelf) at) (reply.Got place need))
       × (slice_set registers r (Some (held_of place need)) ≡ slice_set before r (Some (held_of place need)))
   take-got r shelf place need stage.Calling made (same, none, are) = (
-    subst
-        (λ slot.
-        MadeFor slot (op.Take r shelf) (outcome.Took (usable_words need) place need) (with_answer made (take shelf) (reply.Got place need))) (sym none)
-        (made, are, refl, refl),
+    rw none (made, are, refl, refl),
     ap (λ rs. slice_set rs r (Some (held_of place need))) same,
   )
-  take-got r shelf place need (stage.Filling i) made doing = absurd doing
-  take-got r shelf place need stage.Between made doing = absurd doing
-  take-got r shelf place need (stage.Summing i total) made doing = absurd doing
-  take-got r shelf place need (stage.Copying old i w) made doing = absurd doing
-  take-got r shelf place need stage.Releasing made doing = absurd doing
-
-  pub take-empty :
-      (r shelf : ℕ) (at : OperationStage) (made : List Made) → DoingOf before registers (op.Take r shelf) at made
-      → MadeFor (held_in before r) (op.Take r shelf) outcome.ShelfEmpty
-      (with_answer made (call_at before registers (op.Take r shelf) at) reply.Empty) × (registers ≡ before)
-  take-empty r shelf stage.Calling made (same, none, are) = (
-    subst (λ slot. MadeFor slot (op.Take r shelf) outcome.ShelfEmpty (with_answer made (take shelf) reply.Empty)) (sym none) (made, are, refl),
-    same,
-  )
-  take-empty r shelf (stage.Filling i) made doing = absurd doing
-  take-empty r shelf stage.Between made doing = absurd doing
-  take-empty r shelf (stage.Summing i total) made doing = absurd doing
-  take-empty r shelf (stage.Copying old i w) made doing = absurd doing
-  take-empty r shelf stage.Releasing made doing = absurd doing
+  take-got r shelf place need at made doing = absurd doing
 
   pub take-missed :
       (r shelf expected found : ℕ) (at : OperationStage) (made : List Made) → DoingOf before registers (op.Take r shelf) at made
@@ -434,11 +303,7 @@ module _ {B : Type 0} (place_of : B → ℕ) (block_need : B → Need) (before r
       (with_answer made (call_at before registers (op.Take r shelf) at) (reply.Missed expected found)) × (at ≡ stage.Calling)
   take-missed r shelf expected found stage.Calling made (same, none, are) =
       ((same, none, misses-more shelf made expected found are), refl)
-  take-missed r shelf expected found (stage.Filling i) made doing = absurd doing
-  take-missed r shelf expected found stage.Between made doing = absurd doing
-  take-missed r shelf expected found (stage.Summing i total) made doing = absurd doing
-  take-missed r shelf expected found (stage.Copying old i w) made doing = absurd doing
-  take-missed r shelf expected found stage.Releasing made doing = absurd doing
+  take-missed r shelf expected found at made doing = absurd doing
 
   -- a resize: its new block is given, or none is
   pub resize-given :
@@ -457,7 +322,7 @@ module _ {B : Type 0} (place_of : B → ℕ) (block_need : B → Need) (before r
       ap (λ ms. with_answer ms (alloc need) (reply.Given (place_of block) (block_need block))) on.so.2
       ∙ ap (λ n. answered (alloc need) (reply.Given (place_of block) n) ∷ []) serves in (
         subst
-            (λ (h : Held). DoingOf before (slice_set registers r (Some (By block))) (op.Resize r need) (stage.Copying h 0 None) calls) (sym there) (
+            (λ (h : HeldBlock). DoingOf before (slice_set registers r (Some (By block))) (op.Resize r need) (stage.Copying h 0 None) calls) (sym there) (
               place_of block,
               record { was = on.full; serves = on.words; other_need = on.so.1; replaced = set },
               λ positive. positive,
@@ -471,79 +336,10 @@ module _ {B : Type 0} (place_of : B → ℕ) (block_need : B → Need) (before r
   resize-given r need block (stage.Copying old i None) made doing a = absurd a
   resize-given r need block (stage.Copying old i (Some w)) made doing a = absurd a
   resize-given r need block stage.Releasing made doing a = absurd a
-  resize-given r need block stage.Between made doing a = absurd doing
-  resize-given r need block (stage.Filling i) made doing a = absurd doing
-  resize-given r need block (stage.Summing i total) made doing a = absurd doing
-
-  pub resize-refused :
-      (r need : ℕ) (at : OperationStage) (made : List Made) → DoingOf before registers (op.Resize r need) at made
-      → Answers (call_at before registers (op.Resize r need) at) ending.Refused
-      → MadeFor (held_in before r) (op.Resize r need) outcome.Refused
-      (with_answer made (call_at before registers (op.Resize r need) at) reply.Refused) × (registers ≡ before)
-  resize-refused r need stage.Calling made doing a =
-      let on = on-block (held_in before r) _ doing in (
-        subst (λ slot. MadeFor slot (op.Resize r need) outcome.Refused (with_answer made (alloc need) reply.Refused)) (sym on.full)
-            (on.so.1, ap (λ ms. with_answer ms (alloc need) reply.Refused) on.so.2),
-        on.so.0,
-      )
-  resize-refused r need (stage.Copying old i None) made doing a = absurd a
-  resize-refused r need (stage.Copying old i (Some w)) made doing a = absurd a
-  resize-refused r need stage.Releasing made doing a = absurd a
-  resize-refused r need stage.Between made doing a = absurd doing
-  resize-refused r need (stage.Filling i) made doing a = absurd doing
-  resize-refused r need (stage.Summing i total) made doing a = absurd doing
-
-  pub resize-spent :
-      (r need : ℕ) (at : OperationStage) (made : List Made) → DoingOf before registers (op.Resize r need) at made
-      → Answers (call_at before registers (op.Resize r need) at) ending.Spent
-      → MadeFor (held_in before r) (op.Resize r need) outcome.Spent
-      (with_answer made (call_at before registers (op.Resize r need) at) reply.Spent) × (registers ≡ before)
-  resize-spent r need stage.Calling made doing a =
-      let on = on-block (held_in before r) _ doing in (
-        subst (λ slot. MadeFor slot (op.Resize r need) outcome.Spent (with_answer made (alloc need) reply.Spent)) (sym on.full)
-            (on.so.1, ap (λ ms. with_answer ms (alloc need) reply.Spent) on.so.2),
-        on.so.0,
-      )
-  resize-spent r need (stage.Copying old i None) made doing a = absurd a
-  resize-spent r need (stage.Copying old i (Some w)) made doing a = absurd a
-  resize-spent r need stage.Releasing made doing a = absurd a
-  resize-spent r need stage.Between made doing a = absurd doing
-  resize-spent r need (stage.Filling i) made doing a = absurd doing
-  resize-spent r need (stage.Summing i total) made doing a = absurd doing
-
-  -- a word of the old block was read
-  pub resize-read :
-      (r need word i : ℕ) (old : Held) (w : Option ℕ) (at : OperationStage) (made : List Made) → at ≡ stage.Copying old i w
-      → DoingOf before registers (op.Resize r need) at made → Answers (call_at before registers (op.Resize r need) at) (ending.Word word)
-      → DoingOf before registers (op.Resize r need) (stage.Copying old i (Some word))
-      (with_answer made (call_at before registers (op.Resize r need) at) (reply.Word word))
-      × (stage_begun at < stage_begun (stage.Copying old i (Some word)))
-  resize-read r need word i old None at made is doing a =
-      let P = λ (k : OperationStage).
-      DoingOf before registers (op.Resize r need) (stage.Copying old i (Some word))
-      (with_answer made (call_at before registers (op.Resize r need) k) (reply.Word word))
-      × (stage_begun k < stage_begun (stage.Copying old i (Some word))) in
-      let (place, rep, inside, within, words, all, made_is) = subst (λ k. DoingOf before registers (op.Resize r need) k made) is doing in
-      let below : i < usable_words old.need = subst (λ k. Answers (call_at before registers (op.Resize r need) k) (ending.Word word)) is a in
-      let few : i ≤ old.words = let s = rep.serves in omega (arith, s, below) in
-      subst P (sym is) (
-        (
-          place,
-          rep,
-          within,
-          words,
-          all ∙ sym (min-eq_right few),
-          answered (reads old i) (reply.Word word) ∷ [],
-          inl ((let s = rep.serves in omega (arith, s, below)), refl),
-          ap (λ ms. with_answer ms (reads old i) (reply.Word word)) made_is,
-        ),
-        omega arith,
-      )
-  resize-read r need word i old (Some w) at made is doing a =
-      absurd (subst (λ k. Answers (call_at before registers (op.Resize r need) k) (ending.Word word)) is a)
+  resize-given r need block at made doing a = absurd doing
 
   -- a word was copied: these are the words that were read so far
-  pub record HasCopied (r need : ℕ) (old : Held) (i : ℕ) (calls : List Made) : Type 0 where
+  pub record HasCopied (r need : ℕ) (old : HeldBlock) (i : ℕ) (calls : List Made) : Type 0 where
     pub place : ℕ
     pub rep : IsReplacing before registers r need old place
     pub below : i < usable_words (need_of need)
@@ -553,7 +349,7 @@ module _ {B : Type 0} (place_of : B → ℕ) (block_need : B → Need) (before r
     pub there : held_there (held_in registers r) ≡ held_of place (need_of need)
 
   copied-so :
-      (need place i word : ℕ) (old : Held) (words : List ℕ) (got : List Made) → length words ≡ min old.words i → IsReadFor old i word got
+      (need place i word : ℕ) (old : HeldBlock) (words : List ℕ) (got : List Made) → length words ≡ min old.words i → IsReadFor old i word got
       → (more : List ℕ) × (length more ≡ min old.words (i + 1))
       × (replacing old place need more (i + 1)
       ≡ replacing old place need words i ++ (got ++ answered (write place (need_of need) i word) reply.Wrote ∷ []))
@@ -587,7 +383,7 @@ module _ {B : Type 0} (place_of : B → ℕ) (block_need : B → Need) (before r
       )
 
   pub resize-copied :
-      (r need i : ℕ) (old : Held) (w : Option ℕ) (at : OperationStage) (made : List Made) → r < length registers → at ≡ stage.Copying old i w
+      (r need i : ℕ) (old : HeldBlock) (w : Option ℕ) (at : OperationStage) (made : List Made) → r < length registers → at ≡ stage.Copying old i w
       → DoingOf before registers (op.Resize r need) at made → Answers (call_at before registers (op.Resize r need) at) ending.Wrote
       → HasCopied r need old i (with_answer made (call_at before registers (op.Resize r need) at) reply.Wrote)
   resize-copied r need i old (Some word) at made within is doing a =
@@ -600,11 +396,11 @@ module _ {B : Type 0} (place_of : B → ℕ) (block_need : B → Need) (before r
       (record {
         place = place;
         rep = rep;
-        below = subst (λ (h : Held). i < usable_words h.need) there so;
+        below = subst (λ (h : HeldBlock). i < usable_words h.need) there so;
         words = more.0;
         all = more.1;
         calls_are =
-            ap (λ (h : Held). with_answer made (write h.place h.need i word) reply.Wrote) there
+            ap (λ (h : HeldBlock). with_answer made (write h.place h.need i word) reply.Wrote) there
             ∙ ap (λ ms. ms ++ last ∷ []) made_is ∙ append_assoc (replacing old place need words i) got (last ∷ []) ∙ sym more.2;
         there = there;
       })
@@ -612,12 +408,12 @@ module _ {B : Type 0} (place_of : B → ℕ) (block_need : B → Need) (before r
       absurd (subst (λ k. Answers (call_at before registers (op.Resize r need) k) ending.Wrote) is a)
 
   pub resize-reads :
-      (r need i next : ℕ) (old : Held) (calls : List Made) → HasCopied r need old i calls
+      (r need i next : ℕ) (old : HeldBlock) (calls : List Made) → HasCopied r need old i calls
       → Some next ≡ behind i (held_there (held_in registers r)).words → next < old.words
       → DoingOf before registers (op.Resize r need) (stage.Copying old next None) calls
   resize-reads r need i next old calls c found inside =
       let is = behind-some i (held_there (held_in registers r)).words next found in
-      let words : (held_there (held_in registers r)).words ≡ usable_words (need_of need) = ap (λ (h : Held). h.words) c.there in (
+      let words : (held_there (held_in registers r)).words ≡ usable_words (need_of need) = ap (λ (h : HeldBlock). h.words) c.there in (
         c.place,
         c.rep,
         λ positive. inside,
@@ -628,12 +424,12 @@ module _ {B : Type 0} (place_of : B → ℕ) (block_need : B → Need) (before r
       )
 
   pub resize-clears :
-      (r need i next : ℕ) (old : Held) (calls : List Made) → HasCopied r need old i calls
+      (r need i next : ℕ) (old : HeldBlock) (calls : List Made) → HasCopied r need old i calls
       → Some next ≡ behind i (held_there (held_in registers r)).words → old.words ≤ next
       → DoingOf before registers (op.Resize r need) (stage.Copying old next (Some 0)) calls
   resize-clears r need i next old calls c found past =
       let is = behind-some i (held_there (held_in registers r)).words next found in
-      let words : (held_there (held_in registers r)).words ≡ usable_words (need_of need) = ap (λ (h : Held). h.words) c.there in (
+      let words : (held_there (held_in registers r)).words ≡ usable_words (need_of need) = ap (λ (h : HeldBlock). h.words) c.there in (
         c.place,
         c.rep,
         λ positive. omega (arith, is.0, is.1, words),
@@ -645,11 +441,11 @@ module _ {B : Type 0} (place_of : B → ℕ) (block_need : B → Need) (before r
       )
 
   pub resize-releases :
-      (r need i : ℕ) (old : Held) (calls : List Made) → HasCopied r need old i calls
+      (r need i : ℕ) (old : HeldBlock) (calls : List Made) → HasCopied r need old i calls
       → None ≡ behind i (held_there (held_in registers r)).words → DoingOf before registers (op.Resize r need) stage.Releasing calls
   resize-releases r need i old calls c found =
       let most = behind-none i (held_there (held_in registers r)).words found in
-      let words : (held_there (held_in registers r)).words ≡ usable_words (need_of need) = ap (λ (h : Held). h.words) c.there in
+      let words : (held_there (held_in registers r)).words ≡ usable_words (need_of need) = ap (λ (h : HeldBlock). h.words) c.there in
       let last : i + 1 ≡ usable_words (need_of need) = let b = c.below in omega (arith, most, words, b) in (
         old,
         c.place,
@@ -669,31 +465,27 @@ module _ {B : Type 0} (place_of : B → ℕ) (block_need : B → Need) (before r
   resize-ends r need words place stage.Releasing made within (old, lies, rep, found, all, made_is) a words_are place_is =
       let n = need_of need in
       let there = ap held_there (set-there before registers r (held_of lies n) within rep.replaced) in
-      let words_so : words ≡ usable_words n = words_are ∙ ap (λ (h : Held). h.words) there in
-      let place_so : place ≡ lies = place_is ∙ ap (λ (h : Held). h.place) there in
+      let words_so : words ≡ usable_words n = words_are ∙ ap (λ (h : HeldBlock). h.words) there in
+      let place_so : place ≡ lies = place_is ∙ ap (λ (h : HeldBlock). h.place) there in
       let calls_so : with_answer made (frees old) reply.Freed
       ≡ answered (alloc need) (reply.Given place n)
       ∷ copied old.place old.need place n found words ++ answered (free old.place old.need) reply.Freed ∷ [] =
       ap (λ ms. with_answer ms (frees old) reply.Freed) made_is
       ∙ ap (λ k. with_answer (replacing old lies need found k) (frees old) reply.Freed) (sym words_so)
       ∙ ap (λ p. with_answer (replacing old p need found words) (frees old) reply.Freed) (sym place_so) in (
-        subst
-            (λ slot. MadeFor slot (op.Resize r need) (outcome.Resized words place) (with_answer made (frees (held_there slot)) reply.Freed))
-            (sym rep.was) (rep.other_need, words_so, rep.serves, found, all ∙ ap (λ k. min old.words k) (sym words_so), calls_so),
-        rep.replaced ∙ ap (λ (h : Held). slice_set before r (Some h))
+        rw rep.was (rep.other_need, words_so, rep.serves, found, all ∙ ap (λ k. min old.words k) (sym words_so), calls_so),
+        rep.replaced ∙ ap (λ (h : HeldBlock). slice_set before r (Some h))
             (ap (λ p. held_of p n) (sym place_so)
-            ∙ ap (λ (k : ℕ). let h : Held = record { place = place; words = k; need = n } in h) (sym words_so)),
+            ∙ ap (λ (k : ℕ). let h : HeldBlock = record { place = place; words = k; need = n } in h) (sym words_so)),
       )
   resize-ends r need words place (stage.Copying old i None) made within doing a words_are place_is = absurd a
   resize-ends r need words place (stage.Copying old i (Some w)) made within doing a words_are place_is = absurd a
   resize-ends r need words place stage.Calling made within doing a words_are place_is = absurd a
-  resize-ends r need words place stage.Between made within doing a words_are place_is = absurd doing
-  resize-ends r need words place (stage.Filling i) made within doing a words_are place_is = absurd doing
-  resize-ends r need words place (stage.Summing i total) made within doing a words_are place_is = absurd doing
+  resize-ends r need words place at made within doing a words_are place_is = absurd doing
 
   -- a copy that has written its last word has begun few calls
   pub copying-few :
-      (r need i : ℕ) (old : Held) (w : Option ℕ) (at : OperationStage) (made : List Made) → r < length registers → at ≡ stage.Copying old i w
+      (r need i : ℕ) (old : HeldBlock) (w : Option ℕ) (at : OperationStage) (made : List Made) → r < length registers → at ≡ stage.Copying old i w
       → Answers (call_at before registers (op.Resize r need) at) ending.Wrote → IsShort place_of block_need (call_at before registers (op.Resize r need) at)
       → stage_begun at < stage_begun stage.Releasing
   copying-few r need i old (Some word) at made within is a short =
@@ -704,7 +496,7 @@ module _ {B : Type 0} (place_of : B → ℕ) (block_need : B → Need) (before r
 
 -- the stages of a copy rise
 pub rises-past :
-    {at : OperationStage} {old : Held} {i next : ℕ} {w : Option ℕ} → at ≡ stage.Copying old i w → next ≡ i + 1
+    {at : OperationStage} {old : HeldBlock} {i next : ℕ} {w : Option ℕ} → at ≡ stage.Copying old i w → next ≡ i + 1
     → stage_begun at < stage_begun (stage.Copying old next None)
 rises-past {at = at} {old = old} {i = i} {next = next} {w = None} is more =
     subst (λ k. stage_begun k < stage_begun (stage.Copying old next None)) (sym is) (omega (arith, more))
@@ -712,7 +504,7 @@ rises-past {at = at} {old = old} {i = i} {next = next} {w = Some word} is more =
     subst (λ k. stage_begun k < stage_begun (stage.Copying old next None)) (sym is) (omega (arith, more))
 
 pub rises-over :
-    {at : OperationStage} {old : Held} {i next : ℕ} {w : Option ℕ} → at ≡ stage.Copying old i w → next ≡ i + 1
+    {at : OperationStage} {old : HeldBlock} {i next : ℕ} {w : Option ℕ} → at ≡ stage.Copying old i w → next ≡ i + 1
     → stage_begun at < stage_begun (stage.Copying old next (Some 0))
 rises-over {at = at} {old = old} {i = i} {next = next} {w = None} is more =
     subst (λ k. stage_begun k < stage_begun (stage.Copying old next (Some 0))) (sym is) (omega (arith, more))

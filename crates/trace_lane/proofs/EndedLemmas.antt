@@ -14,7 +14,7 @@ use Rattle.trace_text.specs.declared.limits.TheConstants.{REGISTERS}
 use Rattle.trace_text.specs.declared.trace.Op.{Op}
 use Rattle.lane_engine.specs.Callers.{Caller, IsAtRest, IsCall, new_caller}
 use Rattle.lane_engine.specs.Engines.{Engine}
-use Rattle.lane_outcomes.specs.declared.registers.Held.{Held}
+use Rattle.lane_outcomes.specs.declared.registers.HeldBlock.{HeldBlock}
 use Rattle.lane_outcomes.specs.declared.outcome.Outcome.{Outcome}
 use Rattle.trace_lane.specs.declared.lane.LaneState.{LaneState}
 use Rattle.trace_lane.specs.declared.stage.OperationStage.{OperationStage}
@@ -27,7 +27,7 @@ use Rattle.trace_lane.specs.States.{IsLaneOf, IsNew, registers_at}
 use Rattle.trace_lane.proofs.CallerLemmas.{Owns, leads-first}
 use Rattle.trace_lane.proofs.MakingLemmas.{empty, making-between}
 use Rattle.trace_lane.proofs.OwnLemmas.{blocks-none, empty-holds}
-use Rattle.trace_lane.proofs.ScriptLemmas.{all-script}
+use Rattle.trace_lane.proofs.ScriptLemmas.{caller-script}
 
 -- a lane has made nothing before its first operation
 pub making-none : (operations : List Op) → IsMaking operations empty [] stage.Between [] None
@@ -80,7 +80,7 @@ lane-new {B = B} engine operations lane new opened none served =
 
 -- a lane stands as it stood, whatever others did
 pub lane-beside :
-    (g : Geometry) (caller : ℕ) (before after : List Event) (e : ErrandFields) (operations : List Op) (registers : List (Option Held))
+    (g : Geometry) (caller : ℕ) (before after : List Event) (e : ErrandFields) (operations : List Op) (registers : List (Option HeldBlock))
     (results : List Outcome) (at : OperationStage) (calls : List Call) → IsLane g caller before e operations registers results at calls
     → HasSeenMore caller before after → IsLane g caller after e operations registers results at calls
 lane-beside g caller before after e operations registers results at calls lane more = record {
@@ -109,7 +109,7 @@ lane_of-beside engine after operations lane calls is more = record {
 }
 
 -- what a lane between two operations has made
-pub record IsResting (g : Geometry) (caller : ℕ) (events : List Event) (e : ErrandFields) (operations : List Op) (registers : List (Option Held)) (results : List Outcome)
+pub record IsResting (g : Geometry) (caller : ℕ) (events : List Event) (e : ErrandFields) (operations : List Op) (registers : List (Option HeldBlock)) (results : List Outcome)
     (calls : List Call) : Type 0 where
   pub made : List Made
   pub sight : List Event
@@ -121,7 +121,7 @@ pub record IsResting (g : Geometry) (caller : ℕ) (events : List Event) (e : Er
   pub others : HasSeenMore caller sight events
 
 resting-by :
-    (g : Geometry) (caller : ℕ) (events : List Event) (e : ErrandFields) (operations : List Op) (registers : List (Option Held)) (results : List Outcome)
+    (g : Geometry) (caller : ℕ) (events : List Event) (e : ErrandFields) (operations : List Op) (registers : List (Option HeldBlock)) (results : List Outcome)
     (at : OperationStage) (calls : List Call) (lane : IsLane g caller events e operations registers results at calls) (under : Option Call)
     → under ≡ None → calls ≡ calls_made lane.made ++ calls_in under → StandsBy g caller lane.made under (record { errand = e; seen = lane.sight })
     → registers ≡ registers_from empty operations results → AllMadeFor empty operations results lane.made
@@ -139,7 +139,7 @@ resting-by g caller events e operations registers results at calls lane None is 
 resting-by g caller events e operations registers results at calls lane (Some call) is are so registers_are all = absurd (cc)
 
 pub lane-resting :
-    (g : Geometry) (caller : ℕ) (events : List Event) (e : ErrandFields) (operations : List Op) (registers : List (Option Held)) (results : List Outcome)
+    (g : Geometry) (caller : ℕ) (events : List Event) (e : ErrandFields) (operations : List Op) (registers : List (Option HeldBlock)) (results : List Outcome)
     (at : OperationStage) (calls : List Call) → at ≡ stage.Between → IsLane g caller events e operations registers results at calls
     → IsResting g caller events e operations registers results calls
 lane-resting g caller events e operations registers results at calls between lane =
@@ -148,12 +148,12 @@ lane-resting g caller events e operations registers results at calls between lan
 
 -- the calls of a lane that rests are those of its operations with their outcomes
 pub lane-script :
-    (g : Geometry) (caller : ℕ) (events : List Event) (e : ErrandFields) (operations : List Op) (registers : List (Option Held)) (results : List Outcome)
+    (g : Geometry) (caller : ℕ) (events : List Event) (e : ErrandFields) (operations : List Op) (registers : List (Option HeldBlock)) (results : List Outcome)
     (calls : List Call) → IsLane g caller events e operations registers results stage.Between calls → Scripts empty operations results calls
 lane-script g caller events e operations registers results calls lane =
     let r = lane-resting g caller events e operations registers results stage.Between calls refl lane in
     let now : Caller = record { errand = e; seen = r.sight } in
     let first = leads-first g (new_caller caller g) now r.made r.rests r.leads in
     subst (Scripts empty operations results) (sym r.calls_are)
-    (all-script g operations results empty r.made (new_caller caller g) now first
+    (caller-script g operations results empty r.made (new_caller caller g) now first
     (empty-holds (Owns (new_caller caller g))) r.all r.leads)

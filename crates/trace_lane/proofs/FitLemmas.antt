@@ -1,5 +1,5 @@
 -- The outcomes of a lane so far fit the events that are seen.
-use Rattle.std.proofs.Common.{ℕ, zero, suc, Bool, true, false, ◌≡◌, ◌<◌, ◌≤◌, ◌∷◌, ◌++◌, List, [], Option, Some, None, length, take, refl, sym, ap, ◌∙◌, subst, arith, append_assoc, append-nil}
+use Rattle.std.proofs.Common.{ℕ, true, false, ◌≡◌, ◌<◌, ◌≤◌, ◌∷◌, ◌++◌, List, [], Option, Some, None, length, take, refl, sym, ap, ◌∙◌, subst, arith, append_assoc, append-nil}
 use Rattle.std.specs.List.{slice_index_or}
 use Rattle.std.proofs.lemmas.Bool.{true≢false}
 use Rattle.heap_geometry.specs.declared.geometry.Geometry.{Geometry}
@@ -12,14 +12,15 @@ use Rattle.errand_steps.specs.declared.reply.Reply.{Reply}
 use Rattle.sound_laws.specs.events.Made.{LeadsBy, Made}
 use Rattle.trace_text.specs.declared.trace.Op.{Op}
 use Rattle.lane_engine.specs.Callers.{Caller, IsAtRest, IsCall, MadeBy, OwnsFor, at_once, by_steps, new_caller}
-use Rattle.lane_outcomes.specs.declared.registers.Held.{Held}
+use Rattle.lane_outcomes.specs.declared.registers.HeldBlock.{HeldBlock}
 use Rattle.lane_outcomes.specs.declared.outcome.Outcome.{Outcome}
 use Rattle.lane_outcomes.specs.declared.outcome.Outcome.TheVariants as outcome
 use Rattle.lane_outcomes.specs.Fits.{Fits, Walks}
-use Rattle.lane_outcomes.specs.Lane.{Position, position_after, spent_after, start}
+use Rattle.lane_outcomes.specs.Lane.{Position, position_after, start}
 use Rattle.lane_outcomes.specs.Rows.{Setting}
 use Rattle.lane_outcomes.specs.Standing.{setting_in}
 use Rattle.lane_outcomes.proofs.FitLemmas.{walks-later}
+use Rattle.lane_outcomes.proofs.SpentLemmas.{told-spent}
 use Rattle.trace_lane.specs.declared.stage.OperationStage.{OperationStage}
 use Rattle.trace_lane.specs.declared.stage.OperationStage.TheVariants as stage
 use Rattle.trace_lane.specs.Doing.{AllMadeFor}
@@ -57,10 +58,9 @@ used-first :
     (setting : Setting) (from to : Position) (used rest : List Op) (results : List Outcome) → Walks setting from used results to
     → take (length results) (used ++ rest) ≡ used
 used-first setting from to [] rest [] walks = refl
-used-first setting from to [] rest (result ∷ results) walks = absurd walks
-used-first setting from to (operation ∷ used) rest [] walks = absurd walks
 used-first setting from to (operation ∷ used) rest (result ∷ results) (piece, row, walks) =
     ap (λ xs. operation ∷ xs) (used-first setting (position_after from operation result piece) to used rest results walks)
+used-first setting from to used rest results walks = absurd walks
 
 -- a new lane is before its first operation
 new-between : (g : Geometry) (caller : ℕ) → IsAtRest g (new_caller caller g) → IsBetween g (new_caller caller g) start
@@ -119,7 +119,7 @@ stands-come g caller events e operations results past present (Some call) sight 
     come-by g caller events e operations results past present last sight others seen rests all leads way.added way.moved
 
 pub lane-come :
-    (g : Geometry) (caller : ℕ) (events : List Event) (e : ErrandFields) (operations : List Op) (registers : List (Option Held)) (results : List Outcome)
+    (g : Geometry) (caller : ℕ) (events : List Event) (e : ErrandFields) (operations : List Op) (registers : List (Option HeldBlock)) (results : List Outcome)
     (at : OperationStage) (calls : List Call) → IsLane g caller events e operations registers results at calls → HasCome g caller events e operations results
 lane-come g caller events e operations registers results at calls lane =
     let m = lane.making in
@@ -150,7 +150,7 @@ pub record HasEndedSo (g : Geometry) (caller : ℕ) (events : List Event) (e : E
   pub turns : come.walked.end.spent ≡ true → e.turns ≡ g.turn_limit
 
 pub lane-ended :
-    (g : Geometry) (caller : ℕ) (events : List Event) (e : ErrandFields) (operations : List Op) (registers : List (Option Held)) (results : List Outcome)
+    (g : Geometry) (caller : ℕ) (events : List Event) (e : ErrandFields) (operations : List Op) (registers : List (Option HeldBlock)) (results : List Outcome)
     (calls : List Call) → IsLane g caller events e operations registers results stage.Between calls
     → HasEndedSo g caller events e operations results
 lane-ended g caller events e operations registers results calls lane =
@@ -180,7 +180,7 @@ lane-ended g caller events e operations registers results calls lane =
 
 -- the outcomes of a lane that has all of them fit
 pub lane-fits :
-    (g : Geometry) (caller : ℕ) (events : List Event) (e : ErrandFields) (operations : List Op) (registers : List (Option Held)) (results : List Outcome)
+    (g : Geometry) (caller : ℕ) (events : List Event) (e : ErrandFields) (operations : List Op) (registers : List (Option HeldBlock)) (results : List Outcome)
     (calls : List Call) (lost : ℕ) → IsLane g caller events e operations registers results stage.Between calls → length results ≡ length operations
     → e.lost ≤ lost → Fits (setting_in events caller g.turn_limit lost) operations results
 lane-fits g caller events e operations registers results calls lost lane whole more =
@@ -194,33 +194,9 @@ lane-fits g caller events e operations registers results calls lost lane whole m
       all_used = ended.done;
     }
 
-pub spent-on : (spent : Bool) (result : Outcome) → spent ≡ true → spent_after spent result ≡ true
-spent-on spent outcome.Spent is = refl
-spent-on spent result is = is
-
--- a lane that was told to have no turn left has none
-stays-spent :
-    (setting : Setting) (from to : Position) (operations : List Op) (results : List Outcome) → Walks setting from operations results to → from.spent ≡ true
-    → to.spent ≡ true
-stays-spent setting from to [] [] walks is = ap (λ (p : Position). p.spent) walks ∙ is
-stays-spent setting from to [] (result ∷ results) walks is = absurd walks
-stays-spent setting from to (operation ∷ operations) [] walks is = absurd walks
-stays-spent setting from to (operation ∷ operations) (result ∷ results) (piece, row, walks) is =
-    stays-spent setting (position_after from operation result piece) to operations results walks (spent-on from.spent result is)
-
-told-spent :
-    (setting : Setting) (from to : Position) (operations : List Op) (results : List Outcome) (k : ℕ) → Walks setting from operations results to
-    → k < length results → slice_index_or results k outcome.Spent ≡ outcome.Spent → to.spent ≡ true
-told-spent setting from to operations [] k walks lt is = absurd (omega (arith, lt))
-told-spent setting from to [] (result ∷ results) k walks lt is = absurd walks
-told-spent setting from to (operation ∷ operations) (result ∷ results) zero (piece, row, walks) lt is =
-    stays-spent setting (position_after from operation result piece) to operations results walks
-    (subst (λ r. spent_after from.spent r ≡ true) (sym is) refl)
-told-spent setting from to (operation ∷ operations) (result ∷ results) (suc k) (piece, row, walks) lt is =
-    told-spent setting (position_after from operation result piece) to operations results k walks (omega (arith, lt)) is
-
+-- a lane that was told to have no turn left has taken them all
 pub lane-spent :
-    (g : Geometry) (caller : ℕ) (events : List Event) (e : ErrandFields) (operations : List Op) (registers : List (Option Held)) (results : List Outcome)
+    (g : Geometry) (caller : ℕ) (events : List Event) (e : ErrandFields) (operations : List Op) (registers : List (Option HeldBlock)) (results : List Outcome)
     (calls : List Call) (k : ℕ) → IsLane g caller events e operations registers results stage.Between calls → k < length results
     → slice_index_or results k outcome.Spent ≡ outcome.Spent → e.turns ≡ g.turn_limit
 lane-spent g caller events e operations registers results calls k lane below is =

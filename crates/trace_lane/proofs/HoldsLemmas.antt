@@ -1,5 +1,5 @@
 -- The blocks that registers hold stay their caller's, through whole calls of whoever makes them.
-use Rattle.std.proofs.Common.{ℕ, ◌≡◌, ◌≢◌, ◌∷◌, ◌++◌, List, [], Option, Some, None, refl, sym, subst}
+use Rattle.std.proofs.Common.{ℕ, ◌≡◌, ◌≢◌, ◌∷◌, ◌++◌, List, [], Option, Some, None, refl, sym, ap, subst}
 use Rattle.std.specs.Prelude.{slice_set}
 use Rattle.std.proofs.lemmas.List.{set-set}
 use Rattle.heap_geometry.specs.declared.need.Need.{Need}
@@ -11,7 +11,7 @@ use Rattle.sound_laws.specs.events.Made.{LeadsBy, Made, answered, copied, wrote}
 use Rattle.step_machine.specs.Keeping.{Hands, LeavesPlace}
 use Rattle.trace_text.specs.declared.trace.Op.{Op}
 use Rattle.trace_text.specs.declared.trace.Op.TheVariants as op
-use Rattle.lane_outcomes.specs.declared.registers.Held.{Held}
+use Rattle.lane_outcomes.specs.declared.registers.HeldBlock.{HeldBlock}
 use Rattle.lane_outcomes.specs.declared.outcome.Outcome.{Outcome}
 use Rattle.lane_outcomes.specs.declared.outcome.Outcome.TheVariants as outcome
 use Rattle.lane_outcomes.specs.Lane.{held_in, registers_after}
@@ -19,10 +19,10 @@ use Rattle.trace_lane.specs.Made.{AllMade, AreMisses, HoldsBlocks, MadeFor, regi
 use Rattle.trace_lane.specs.Scripts.{registers_from}
 use Rattle.trace_lane.proofs.MadeLemmas.{AllLeave, holds-emptied, holds-filled, holds-still, leads-keep, leave-copied, leave-found, leave-misses, leave-takes, leave-wrote, skip-leaves}
 
-abbrev pub held_place : Held → ℕ
+abbrev pub held_place : HeldBlock → ℕ
 held_place held = held.place
 
-abbrev pub held_need : Held → Need
+abbrev pub held_need : HeldBlock → Need
 held_need held = held.need
 
 -- whole calls leave their caller its blocks, but for the one that each gives away, which a full shelf doesn't take; and a block that one hands out is the caller's, and none of those that it had
@@ -46,29 +46,48 @@ leads-split called s u [] more leads = (s, refl, leads)
 leads-split called s u (m ∷ made) more (t, one, leads) =
     let rest = leads-split called t u made more leads in (rest.0, (t, one, rest.1), rest.2)
 
+-- calls of one kind that are calls of another one, on what their states stand for, as long as something holds of these
+module _ {S T : Type 0} (one : S → Call → Reply → S → Type 0) (other : T → Call → Reply → T → Type 0) (of : S → T) (P : S → Type 0) (step : (s t : S) (call : Call) (answer : Reply) → P s → one s call answer t → other (of s) call answer (of t) × P t) where
+  pub leads-of : (made : List Made) (s t : S) → P s → LeadsBy one s made t → LeadsBy other (of s) made (of t) × P t
+  leads-of [] s t is same = (ap of same, subst P (sym same) is)
+  leads-of (m ∷ made) s t is (u, called, leads) =
+      let first = step s u m.call m.answer is called in
+      let rest = leads-of made u t first.1 leads in
+      ((of u, first.0, rest.0), rest.1)
+
+  pub made-of :
+      (registers : List (Option HeldBlock)) (operations : List Op) (results : List Outcome) (s t : S) → P s → AllMade one registers operations results s t
+      → AllMade other registers operations results (of s) (of t) × P t
+  made-of registers operations [] s t is same = (ap of same, subst P (sym same) is)
+  made-of registers [] (result ∷ results) s t is all = absurd all
+  made-of registers (operation ∷ operations) (result ∷ results) s t is (u, (made, for, leads), all) =
+      let first = leads-of made s u is leads in
+      let rest = made-of (registers_after registers operation result) operations results u t first.1 all in
+      ((of u, (made, for, first.0), rest.0), rest.1)
+
 module _ {S : Type 0} (called : S → Call → Reply → S → Type 0) (owns : S → ℕ → Need → Type 0) (laws : KeepsAll called owns) where
   -- the registers hold blocks of the caller's, and no two the same one
-  abbrev pub HoldsAll : S → List (Option Held) → Type 0
+  abbrev pub HoldsAll : S → List (Option HeldBlock) → Type 0
   HoldsAll c registers = HoldsBlocks held_place held_need (owns c) registers
 
   pub lead-keep :
       (c d : S) (made : List Made) (place : ℕ) (need : Need) → LeadsBy called c made d → AllLeave place made → owns c place need → owns d place need
   lead-keep = leads-keep called owns laws.keeps
 
-  module _ (c d : S) (registers : List (Option Held)) (holds : HoldsAll c registers) where
+  module _ (c d : S) (registers : List (Option HeldBlock)) (holds : HoldsAll c registers) where
     still : (made : List Made) → LeadsBy called c made d → ((place : ℕ) → AllLeave place made) → HoldsAll d registers
     still made leads leave =
         holds-still held_place held_need (owns c) (owns d) registers holds (λ place need. lead-keep c d made place need leads (leave place))
 
     emptied :
-        (r : ℕ) (held : Held) (call : Call) (answer : Reply) → held_in registers r ≡ Some held → LeadsBy called c (answered call answer ∷ []) d
+        (r : ℕ) (held : HeldBlock) (call : Call) (answer : Reply) → held_in registers r ≡ Some held → LeadsBy called c (answered call answer ∷ []) d
         → ((place : ℕ) → place ≢ held.place → LeavesPlace call place) → HoldsAll d (slice_set registers r None)
     emptied r held call answer full leads leave =
         holds-emptied held_place held_need (owns c) (owns d) registers r held full holds
         (λ place need differ. lead-keep c d (answered call answer ∷ []) place need leads (leave place differ, tt))
 
     given :
-        (r need v : ℕ) (held : Held) → held.need ≡ need_of need
+        (r need v : ℕ) (held : HeldBlock) → held.need ≡ need_of need
         → LeadsBy called c (answered (alloc need) (reply.Given held.place held.need) ∷ wrote held.place held.need v held.words) d
         → HoldsAll d (slice_set registers r (Some held))
     given r need v held serves (t, one, leads) =
@@ -82,7 +101,7 @@ module _ {S : Type 0} (called : S → Call → Reply → S → Type 0) (owns : S
         laws.apart c t (alloc need) answer held.place other.place held.need other.need one (refl, refl) (holds.owned q other there))
 
     took :
-        (r shelf : ℕ) (held : Held) (misses : List Made) → AreMisses shelf misses
+        (r shelf : ℕ) (held : HeldBlock) (misses : List Made) → AreMisses shelf misses
         → LeadsBy called c (misses ++ answered (take shelf) (reply.Got held.place held.need) ∷ []) d
         → HoldsAll d (slice_set registers r (Some held))
     took r shelf held misses are leads =
@@ -98,7 +117,7 @@ module _ {S : Type 0} (called : S → Call → Reply → S → Type 0) (owns : S
         (lead-keep c t misses other.place other.need parts.1 (leave-misses other.place shelf misses are) (holds.owned q other there)))
 
     resized :
-        (r need : ℕ) (old new : Held) (found : List ℕ) → held_in registers r ≡ Some old → new.need ≡ need_of need
+        (r need : ℕ) (old new : HeldBlock) (found : List ℕ) → held_in registers r ≡ Some old → new.need ≡ need_of need
         → LeadsBy called c
         (answered (alloc need) (reply.Given new.place new.need)
         ∷ copied old.place old.need new.place new.need found new.words ++ answered (free old.place old.need) reply.Freed ∷ []) d
@@ -125,7 +144,7 @@ module _ {S : Type 0} (called : S → Call → Reply → S → Type 0) (owns : S
 
   -- an operation that was made leaves blocks of the caller's in the registers
   pub op-holds :
-      (c d : S) (registers : List (Option Held)) (operation : Op) (result : Outcome) (slot : Option Held) (made : List Made) → HoldsAll c registers
+      (c d : S) (registers : List (Option HeldBlock)) (operation : Op) (result : Outcome) (slot : Option HeldBlock) (made : List Made) → HoldsAll c registers
       → held_in registers (register_of operation) ≡ slot → MadeFor slot operation result made → LeadsBy called c made d
       → HoldsAll d (registers_after registers operation result)
   op-holds c d registers operation outcome.Skipped slot made holds is (skip, none) leads =
@@ -183,7 +202,7 @@ module _ {S : Type 0} (called : S → Call → Reply → S → Type 0) (owns : S
 
   -- so do operations
   pub all-hold :
-      (c d : S) (registers : List (Option Held)) (operations : List Op) (results : List Outcome) → HoldsAll c registers
+      (c d : S) (registers : List (Option HeldBlock)) (operations : List Op) (results : List Outcome) → HoldsAll c registers
       → AllMade called registers operations results c d → HoldsAll d (registers_from registers operations results)
   all-hold c d registers operations [] holds same = subst (λ x. HoldsAll x registers) (sym same) holds
   all-hold c d registers [] (result ∷ results) holds all = absurd all

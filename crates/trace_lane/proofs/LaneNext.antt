@@ -17,7 +17,7 @@ use Rattle.lane_engine.specs.declared.grip.Grip.{Grip}
 use Rattle.lane_engine.specs.Machines.{MovesCore, grip_need, grip_place}
 use Rattle.lane_engine.specs.Told.{HasStepped}
 use Rattle.step_machine.proofs.MomentLemmas.{core-served, same-seen}
-use Rattle.lane_outcomes.specs.declared.registers.Held.{Held}
+use Rattle.lane_outcomes.specs.declared.registers.HeldBlock.{HeldBlock}
 use Rattle.lane_outcomes.specs.declared.outcome.Outcome.{Outcome}
 use Rattle.trace_lane.specs.Advances.{AdvancesOn, BeginsOperation, GoesOnBy, HasAdvanced, IsAtHand, MayBeginOperation, MayGoOn}
 use Rattle.trace_lane.specs.declared.lane.LaneState.{LaneState}
@@ -27,19 +27,15 @@ use Rattle.trace_lane.specs.Doing.{DoingIn}
 use Rattle.trace_lane.specs.Lanes.{StandsBy}
 use Rattle.trace_lane.specs.Paths.{FirstPassed, begun_count}
 use Rattle.trace_lane.specs.States.{IsLaneOf, IsLaneOn, StandsOn}
-use Rattle.trace_lane.proofs.AdvanceLemmas.{advance-none, advance-then}
+use Rattle.trace_lane.proofs.AdvanceLemmas.{advance-none, advance-then, calls-kept, part-begins, part-steps}
 use Rattle.trace_lane.proofs.NeedLemmas.{here-below}
-use Rattle.trace_lane.proofs.PartAdvances.{calls-kept, part-begins, part-steps}
 
 -- an operation that is under way counts as begun
 pub count-under : (results : List Outcome) (at : OperationStage) → at ≢ stage.Between → begun_count results at ≡ length results + 1
 count-under results stage.Between not = absurd (not refl)
-count-under results stage.Calling not = omega arith
-count-under results (stage.Filling i) not = omega arith
-count-under results (stage.Summing i total) not = omega arith
 count-under results (stage.Copying old i None) not = omega arith
 count-under results (stage.Copying old i (Some word)) not = omega arith
-count-under results stage.Releasing not = omega arith
+count-under results at not = omega arith
 
 -- a list from one of its elements on
 pub next-op :
@@ -63,14 +59,10 @@ pub record IsUnder (e : ErrandFields) (operations : List Op) : Type 0 where
 
 -- a lane that is not between two operations
 in-some :
-    (before registers : List (Option Held)) (left : List Op) (at : OperationStage) (present : List Made) (under : Option Call) → at ≢ stage.Between
+    (before registers : List (Option HeldBlock)) (left : List Op) (at : OperationStage) (present : List Made) (under : Option Call) → at ≢ stage.Between
     → DoingIn before registers left at present under → (operation : Op) × (rest : List Op) × (left ≡ operation ∷ rest) × (under ≢ None)
 in-some before registers left stage.Between present under not doing = absurd (not refl)
-in-some before registers left stage.Calling present under not (o, rest, next, doing, is) = (o, rest, next, λ none. cc)
-in-some before registers left (stage.Filling i) present under not (o, rest, next, doing, is) = (o, rest, next, λ none. cc)
-in-some before registers left (stage.Summing i total) present under not (o, rest, next, doing, is) = (o, rest, next, λ none. cc)
-in-some before registers left (stage.Copying old i w) present under not (o, rest, next, doing, is) = (o, rest, next, λ none. cc)
-in-some before registers left stage.Releasing present under not (o, rest, next, doing, is) = (o, rest, next, λ none. cc)
+in-some before registers left at present under not (o, rest, next, doing, is) = (o, rest, next, λ none. cc)
 
 by-busy : (g : Geometry) (caller : ℕ) (made : List Made) (under : Option Call) (now : Caller) → under ≢ None → StandsBy g caller made under now → IsBusy now.errand
 by-busy g caller made None now some stands = absurd (some refl)

@@ -8,13 +8,10 @@ pub mod EndedLemmas
 pub mod FitLemmas
 pub mod HoldsLemmas
 pub mod LaneNext
-pub mod LaneParts
-pub mod MachineLemmas
 pub mod MadeLemmas
 pub mod MakingLemmas
 pub mod NeedLemmas
 pub mod OwnLemmas
-pub mod PartAdvances
 pub mod PartLemmas
 pub mod QuietLemmas
 pub mod RowLemmas

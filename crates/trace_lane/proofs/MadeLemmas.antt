@@ -1,6 +1,6 @@
 -- Whole calls one after the other, and what they leave in the registers of their lane.
 use Rattle.std.proofs.Common.{ℕ, zero, suc, ◌≡◌, ◌≢◌, ◌<◌, ◌+◌, ◌%◌, ◌^◌, ◌∷◌, ◌++◌, List, [], Option, Some, None, length, map, drop, refl, sym, ap, ◌∙◌}
-use Rattle.std.proofs.Common.{subst, inl, inr, arith, append_assoc, append-nil, vec_capacity}
+use Rattle.std.proofs.Common.{subst, inl, inr, arith, append_assoc, vec_capacity}
 use Rattle.std.specs.Prelude.{min, slice_set}
 use Rattle.std.specs.List.{flat_map, range_with_len, slice_index_or}
 use Rattle.std.specs.Option.{option_map}
@@ -15,20 +15,20 @@ use Rattle.errand_steps.specs.Calls.{Call, alloc, free, write, put, take}
 use Rattle.step_machine.specs.Keeping.{LeavesPlace}
 use Rattle.trace_text.specs.declared.trace.Op.{Op}
 use Rattle.trace_text.specs.declared.trace.Op.TheVariants as op
-use Rattle.sound_laws.specs.events.Made.{Copies, LeadsBy, Made, Sums, answered, copied, copied_word, found_from, wrote}
+use Rattle.sound_laws.specs.events.Made.{Copies, LeadsBy, Made, answered, copied, copied_word, found_from, wrote}
 use Rattle.lane_engine.specs.Whole.{KeepBlocks, Maker}
 use Rattle.sound_laws.proofs.events_lemmas.CopyLemmas.{copied-past, copied-read}
-use Rattle.lane_outcomes.specs.declared.registers.Held.{Held}
+use Rattle.lane_outcomes.specs.declared.registers.HeldBlock.{HeldBlock}
 use Rattle.lane_outcomes.specs.declared.outcome.Outcome.{Outcome}
 use Rattle.lane_outcomes.specs.declared.outcome.Outcome.TheVariants as outcome
-use Rattle.lane_outcomes.specs.Lane.{held_in, registers_after}
+use Rattle.lane_outcomes.specs.Lane.{registers_after}
 use Rattle.trace_lane.specs.declared.lane.LaneState.{LaneState}
 use Rattle.trace_lane.specs.Advances.{IsAtHand}
-use Rattle.trace_lane.specs.Made.{AllMade, AreMisses, HasRun, HoldsBlocks, IsUnasked, MadeFor, Makes, OneMade, Skips, Takes, register_of}
+use Rattle.trace_lane.specs.Made.{AllMade, AreMisses, HasRun, HoldsBlocks, IsUnasked, MadeFor, Makes, OneMade, Takes, register_of}
 use Rattle.trace_lane.specs.declared.stage.OperationStage.TheVariants as stage
 use Rattle.trace_lane.specs.Paths.{held_by, held_blocks}
 use Rattle.trace_lane.specs.Scripts.{registers_from}
-use Rattle.trace_lane.proofs.LaneParts.{set-held, slot-empty, slot-full}
+use Rattle.trace_lane.proofs.PartLemmas.{set-held, slot-empty, slot-full, slot-held}
 
 -- takes that missed, with one more
 pub misses-more :
@@ -46,7 +46,7 @@ module _ {S : Type 0} (called : S → Call → Reply → S → Type 0) where
 
   -- operations that were made, with one more
   pub all-more :
-      (registers : List (Option Held)) (operations : List Op) (results : List Outcome) (s t u : S) (operation : Op) (result : Outcome) (rest : List Op)
+      (registers : List (Option HeldBlock)) (operations : List Op) (results : List Outcome) (s t u : S) (operation : Op) (result : Outcome) (rest : List Op)
       → drop (length results) operations ≡ operation ∷ rest → AllMade called registers operations results s t
       → OneMade called (registers_from registers operations results) operation result t u
       → AllMade called registers operations (results ++ result ∷ []) s u
@@ -60,7 +60,7 @@ module _ {S : Type 0} (called : S → Call → Reply → S → Type 0) where
 
 -- the registers behind one operation more
 pub from-more :
-    (registers : List (Option Held)) (operations : List Op) (results : List Outcome) (operation : Op) (result : Outcome) (rest : List Op)
+    (registers : List (Option HeldBlock)) (operations : List Op) (results : List Outcome) (operation : Op) (result : Outcome) (rest : List Op)
     → drop (length results) operations ≡ operation ∷ rest
     → registers_from registers operations (results ++ result ∷ []) ≡ registers_after (registers_from registers operations results) operation result
 from-more registers [] [] operation result rest next = absurd (cc)
@@ -146,12 +146,6 @@ module _ {B : Type 0} (place_of : B → ℕ) (need_of : B → Need) where
     owned = λ r block full. keep (place_of block) (need_of block) (holds.owned r block full);
     once = holds.once;
   }
-
-  -- a register that holds a block is one of those that there are
-  full-inside : (blocks : List (Option B)) (r : ℕ) (block : B) → slice_index_or blocks r None ≡ Some block → r < length blocks
-  full-inside [] r block full = absurd (cc)
-  full-inside (b ∷ blocks) zero block full = omega arith
-  full-inside (b ∷ blocks) (suc r) block full = let rest = full-inside blocks r block full in omega (arith, rest)
 
   set-other : (blocks : List (Option B)) (r q : ℕ) (slot : Option B) → q ≢ r → slice_index_or (slice_set blocks r slot) q None ≡ slice_index_or blocks q None
   set-other [] r q slot differ = refl
@@ -247,74 +241,73 @@ module _ {B : Type 0} (place_of : B → ℕ) (need_of : B → Need) where
       room = finished.room;
     }
 
--- a skipped operation has no call, and leaves the registers
-skip-for : (held : Option Held) (operation : Op) → Skips held operation → MadeFor held operation outcome.Skipped []
-skip-for (Some held) (op.Alloc r need v) is = (tt, refl)
-skip-for (Some held) (op.Take r shelf) is = (tt, refl)
-skip-for (Some held) (op.Free r) is = absurd is
-skip-for (Some held) (op.Fill r v) is = absurd is
-skip-for (Some held) (op.Check r) is = absurd is
-skip-for (Some held) (op.Put r shelf) is = absurd is
-skip-for (Some held) (op.Resize r need) is = absurd is
-skip-for None (op.Free r) is = (tt, refl)
-skip-for None (op.Fill r v) is = (tt, refl)
-skip-for None (op.Check r) is = (tt, refl)
-skip-for None (op.Put r shelf) is = (tt, refl)
-skip-for None (op.Resize r need) is = (tt, refl)
-skip-for None (op.Alloc r need v) is = absurd is
-skip-for None (op.Take r shelf) is = absurd is
-
-pub skip-leaves : (registers : List (Option Held)) (operation : Op) → registers ≡ registers_after registers operation outcome.Skipped
+-- a skipped operation leaves the registers
+pub skip-leaves : (registers : List (Option HeldBlock)) (operation : Op) → registers ≡ registers_after registers operation outcome.Skipped
 skip-leaves registers (op.Alloc r need v) = refl
-skip-leaves registers (op.Free r) = refl
-skip-leaves registers (op.Fill r v) = refl
-skip-leaves registers (op.Check r) = refl
-skip-leaves registers (op.Put r shelf) = refl
-skip-leaves registers (op.Take r shelf) = refl
-skip-leaves registers (op.Resize r need) = refl
+skip-leaves registers operation = refl
 
 -- an operation that was made, by what its code did
 module _ {B S : Type 0} (place_of : B → ℕ) (need_of_block : B → Need) (maker : Maker S) (laws : KeepBlocks maker)
     (s t : S) (old new : LaneState B) (holds : HoldsBlocks place_of need_of_block (maker.owns s) old.registers.items) where
-  abbrev rs : List (Option Held)
+  abbrev rs : List (Option HeldBlock)
   rs = held_blocks place_of need_of_block old.registers.items
 
   abbrev Done : List (Option B) → Outcome → Type 0
   Done blocks result = IsFinished place_of need_of_block old new blocks result
 
-  pub made-free :
-      (r : ℕ) (block : B) → slice_index_or old.registers.items r None ≡ Some block
-      → Done (slice_set old.registers.items r None) outcome.Freed → maker.called s (free (place_of block) (need_of_block block)) reply.Freed t
-      → Makes place_of need_of_block maker (op.Free r) s t old new
-  made-free r block full done one =
-      let call = free (place_of block) (need_of_block block) in
-      let made : List Made = answered call reply.Freed ∷ [] in
-      makes-of place_of need_of_block maker s t old new (op.Free r) outcome.Freed (slice_set old.registers.items r None) done (
+  -- it leaves the registers as they were
+  pub made-still :
+      (operation : Op) (result : Outcome) (slot : Option B) (made : List Made) → slice_index_or old.registers.items (register_of operation) None ≡ slot
+      → Done old.registers.items result → MadeFor (option_map (held_by place_of need_of_block) slot) operation result made
+      → LeadsBy maker.called s made t → ((place : ℕ) → AllLeave place made) → rs ≡ registers_after rs operation result
+      → Makes place_of need_of_block maker operation s t old new
+  made-still operation result slot made is done for leads leave same =
+      makes-of place_of need_of_block maker s t old new operation result old.registers.items done (
         made,
-        subst (λ h. MadeFor h (op.Free r) outcome.Freed made) (sym (slot-full place_of need_of_block old.registers.items r block full))
-            (refl, refl),
-        (t, one, refl),
-      )
-      (set-held place_of need_of_block old.registers.items r None)
-      (holds-emptied place_of need_of_block (maker.owns s) (maker.owns t) old.registers.items r block full holds
-      (λ place need differ owned. laws.keeps s t call reply.Freed place need one differ owned))
+        subst (λ h. MadeFor h operation result made)
+            (sym (slot-held place_of need_of_block old.registers.items (register_of operation) ∙ ap (option_map (held_by place_of need_of_block)) is)) for,
+        leads,
+      ) same
+      (holds-still place_of need_of_block (maker.owns s) (maker.owns t) old.registers.items holds
+      (λ place need. leads-keep maker.called maker.owns laws.keeps s t made place need leads (leave place)))
 
-  pub made-put :
-      (r shelf : ℕ) (block : B) → slice_index_or old.registers.items r None ≡ Some block
-      → Done (slice_set old.registers.items r None) outcome.Put → maker.called s (put (place_of block) (need_of_block block) shelf) reply.Put t
-      → Makes place_of need_of_block maker (op.Put r shelf) s t old new
-  made-put r shelf block full done one =
-      let call = put (place_of block) (need_of_block block) shelf in
-      let made : List Made = answered call reply.Put ∷ [] in
-      makes-of place_of need_of_block maker s t old new (op.Put r shelf) outcome.Put (slice_set old.registers.items r None) done (
-        made,
-        subst (λ h. MadeFor h (op.Put r shelf) outcome.Put made) (sym (slot-full place_of need_of_block old.registers.items r block full))
-            (refl, refl),
+  -- it gives the register's block away
+  pub made-gone :
+      (operation : Op) (result : Outcome) (block : B) (call : Call) (answer : Reply) → slice_index_or old.registers.items (register_of operation) None ≡ Some block
+      → Done (slice_set old.registers.items (register_of operation) None) result
+      → MadeFor (Some (held_by place_of need_of_block block)) operation result (answered call answer ∷ []) → maker.called s call answer t
+      → ((place : ℕ) → place ≢ place_of block → LeavesPlace call place) → slice_set rs (register_of operation) None ≡ registers_after rs operation result
+      → Makes place_of need_of_block maker operation s t old new
+  made-gone operation result block call answer full done for one leave same =
+      let r = register_of operation in
+      makes-of place_of need_of_block maker s t old new operation result (slice_set old.registers.items r None) done (
+        answered call answer ∷ [],
+        subst (λ h. MadeFor h operation result (answered call answer ∷ [])) (sym (slot-full place_of need_of_block old.registers.items r block full)) for,
         (t, one, refl),
       )
-      (set-held place_of need_of_block old.registers.items r None)
+      (set-held place_of need_of_block old.registers.items r None ∙ same)
       (holds-emptied place_of need_of_block (maker.owns s) (maker.owns t) old.registers.items r block full holds
-      (λ place need differ owned. laws.keeps s t call reply.Put place need one differ owned))
+      (λ place need differ owned. laws.keeps s t call answer place need one (leave place differ) owned))
+
+  -- it puts a block into the empty register
+  pub made-filled :
+      (operation : Op) (result : Outcome) (block : B) (made : List Made) → slice_index_or old.registers.items (register_of operation) None ≡ None
+      → Done (slice_set old.registers.items (register_of operation) (Some block)) result → MadeFor None operation result made
+      → LeadsBy maker.called s made t → ((place : ℕ) → AllLeave place made)
+      → slice_set rs (register_of operation) (Some (held_by place_of need_of_block block)) ≡ registers_after rs operation result
+      → maker.owns t (place_of block) (need_of_block block) → ((other : ℕ) (had : Need) → maker.owns s other had → other ≢ place_of block)
+      → Makes place_of need_of_block maker operation s t old new
+  made-filled operation result block made empty done for leads leave same mine apart =
+      let r = register_of operation in
+      makes-of place_of need_of_block maker s t old new operation result (slice_set old.registers.items r (Some block)) done (
+        made,
+        subst (λ h. MadeFor h operation result made) (sym (slot-empty place_of need_of_block old.registers.items r empty)) for,
+        leads,
+      )
+      (set-held place_of need_of_block old.registers.items r (Some block) ∙ same)
+      (holds-filled place_of need_of_block (maker.owns s) (maker.owns t) old.registers.items r block holds
+      (λ place need. leads-keep maker.called maker.owns laws.keeps s t made place need leads (leave place)) mine
+      (λ q other differ there. apart (place_of other) (need_of_block other) (holds.owned q other there)))
 
   -- a register that is set twice holds what it was set to last
   set-twice : (blocks : List (Option B)) (r : ℕ) (a b : Option B) → slice_set (slice_set blocks r a) r b ≡ slice_set blocks r b
@@ -363,119 +356,32 @@ module _ {B S : Type 0} (place_of : B → ℕ) (need_of_block : B → Need) (mak
       subst (λ p. place_of other ≢ p) (sym same_place)
       (holds.once q r other block (sym (set-other place_of need_of_block blocks r q None differ) ∙ there) full differ)))
 
-  -- the block's words are written, or read
-  pub made-fill :
-      (r v : ℕ) (block : B) → slice_index_or old.registers.items r None ≡ Some block → Done old.registers.items outcome.Filled
-      → LeadsBy maker.called s (wrote (place_of block) (need_of_block block) v (usable_words (need_of_block block))) t
-      → Makes place_of need_of_block maker (op.Fill r v) s t old new
-  made-fill r v block full done leads =
-      let made = wrote (place_of block) (need_of_block block) v (usable_words (need_of_block block)) in
-      makes-of place_of need_of_block maker s t old new (op.Fill r v) outcome.Filled old.registers.items done (
-        made,
-        subst (λ h. MadeFor h (op.Fill r v) outcome.Filled made) (sym (slot-full place_of need_of_block old.registers.items r block full))
-            (refl, refl),
-        leads,
-      ) refl
-      (holds-still place_of need_of_block (maker.owns s) (maker.owns t) old.registers.items holds
-      (λ place need. leads-keep maker.called maker.owns laws.keeps s t made place need leads
-      (leave-wrote place (place_of block) (need_of_block block) v (usable_words (need_of_block block)))))
-
-  pub made-check :
-      (r total : ℕ) (block : B) → slice_index_or old.registers.items r None ≡ Some block → Done old.registers.items (outcome.Sum total)
-      → Sums maker.called s (place_of block) (need_of_block block) total t → Makes place_of need_of_block maker (op.Check r) s t old new
-  made-check r total block full done (words, all, total_is, leads) =
-      let made = found_from (place_of block) (need_of_block block) 0 words in
-      makes-of place_of need_of_block maker s t old new (op.Check r) (outcome.Sum total) old.registers.items done (
-        made,
-        subst (λ h. MadeFor h (op.Check r) (outcome.Sum total) made) (sym (slot-full place_of need_of_block old.registers.items r block full))
-            (refl, (words, all, total_is, refl)),
-        leads,
-      ) refl
-      (holds-still place_of need_of_block (maker.owns s) (maker.owns t) old.registers.items holds
-      (λ place need. leads-keep maker.called maker.owns laws.keeps s t made place need leads
-      (leave-found place (place_of block) (need_of_block block) 0 words)))
-
-  -- an allocation
-  pub made-refused :
-      (r need v : ℕ) → slice_index_or old.registers.items r None ≡ None → Done old.registers.items outcome.Refused
-      → maker.called s (alloc need) reply.Refused t → Makes place_of need_of_block maker (op.Alloc r need v) s t old new
-  made-refused r need v empty done one =
-      let made : List Made = answered (alloc need) reply.Refused ∷ [] in
-      makes-of place_of need_of_block maker s t old new (op.Alloc r need v) outcome.Refused old.registers.items done (
-        made,
-        subst (λ h. MadeFor h (op.Alloc r need v) outcome.Refused made) (sym (slot-empty place_of need_of_block old.registers.items r empty))
-            refl,
-        (t, one, refl),
-      ) refl
-      (holds-still place_of need_of_block (maker.owns s) (maker.owns t) old.registers.items holds
-      (λ place n owned. laws.keeps s t (alloc need) reply.Refused place n one tt owned))
-
-  pub made-spent :
-      (r need v : ℕ) → slice_index_or old.registers.items r None ≡ None → Done old.registers.items outcome.Spent
-      → maker.called s (alloc need) reply.Spent t → Makes place_of need_of_block maker (op.Alloc r need v) s t old new
-  made-spent r need v empty done one =
-      let made : List Made = answered (alloc need) reply.Spent ∷ [] in
-      makes-of place_of need_of_block maker s t old new (op.Alloc r need v) outcome.Spent old.registers.items done (
-        made,
-        subst (λ h. MadeFor h (op.Alloc r need v) outcome.Spent made) (sym (slot-empty place_of need_of_block old.registers.items r empty))
-            refl,
-        (t, one, refl),
-      ) refl
-      (holds-still place_of need_of_block (maker.owns s) (maker.owns t) old.registers.items holds
-      (λ place n owned. laws.keeps s t (alloc need) reply.Spent place n one tt owned))
-
+  -- an allocation that is given its block, and fills it
   pub made-given :
       (r need v words place : ℕ) (block : B) (m : S) → slice_index_or old.registers.items r None ≡ None
       → Done (slice_set old.registers.items r (Some block)) (outcome.Given words place) → words ≡ usable_words (need_of_block block) → place ≡ place_of block
-      → maker.called s (alloc need) (reply.Given (place_of block) (need_of_block block)) m → need_of_block block ≡ need_of need
-      → maker.owns m (place_of block) (need_of_block block)
-      → ((other : ℕ) (had : Need) → maker.owns s other had → other ≢ place_of block)
+      → maker.called s (alloc need) (reply.Given (place_of block) (need_of_block block)) m
       → LeadsBy maker.called m (wrote (place_of block) (need_of_block block) v (usable_words (need_of_block block))) t
       → Makes place_of need_of_block maker (op.Alloc r need v) s t old new
-  made-given r need v words place block m empty done words_are place_is one serves mine apart leads =
-      let held : Held = held_by place_of need_of_block block in
+  made-given r need v words place block m empty done words_are place_is one leads =
+      let at = place_of block in
       let n = need_of_block block in
-      let done_so : Done (slice_set old.registers.items r (Some block)) (outcome.Given held.words held.place) =
-      subst (λ w. Done (slice_set old.registers.items r (Some block)) (outcome.Given w held.place)) words_are
-      (subst (λ p. Done (slice_set old.registers.items r (Some block)) (outcome.Given words p)) place_is done) in
-      let made : List Made = answered (alloc need) (reply.Given (place_of block) n) ∷ wrote (place_of block) n v (usable_words n) in
-      let later : (q : ℕ) (k : Need) → maker.owns m q k → maker.owns t q k =
-      λ q k. leads-keep maker.called maker.owns laws.keeps m t (wrote (place_of block) n v (usable_words n)) q k leads
-      (leave-wrote q (place_of block) n v (usable_words n)) in
-      let so : MadeFor None (op.Alloc r need v) (outcome.Given held.words held.place) made =
-      subst
-      (λ (k : Need). MadeFor None (op.Alloc r need v) (outcome.Given (usable_words k) (place_of block))
-      (answered (alloc need) (reply.Given (place_of block) k) ∷ wrote (place_of block) k v (usable_words k))) (sym serves) (refl, refl) in
-      makes-of place_of need_of_block maker s t old new (op.Alloc r need v) (outcome.Given held.words held.place)
-      (slice_set old.registers.items r (Some block)) done_so (
-        made,
-        subst (λ h. MadeFor h (op.Alloc r need v) (outcome.Given held.words held.place) made)
-            (sym (slot-empty place_of need_of_block old.registers.items r empty)) so,
-        (m, one, leads),
-      )
-      (set-held place_of need_of_block old.registers.items r (Some block)
-      ∙ ap (λ (k : Need). slice_set (held_blocks place_of need_of_block old.registers.items) r
-      (Some (record { place = place_of block; words = usable_words n; need = k })))
-      serves)
-      (holds-filled place_of need_of_block (maker.owns s) (maker.owns t) old.registers.items r block holds
-      (λ q k owned. later q k (laws.keeps s m (alloc need) (reply.Given (place_of block) n) q k one tt owned)) (later (place_of block) n mine)
-      (λ q other differ there. apart (place_of other) (need_of_block other) (holds.owned q other there)))
+      let answer : Reply = reply.Given at n in
+      let fills = wrote at n v (usable_words n) in
+      let serves = laws.serves s m need at n one in
+      let same : outcome.Given words place ≡ outcome.Given (usable_words n) at = cc in
+      made-filled (op.Alloc r need v) (outcome.Given (usable_words n) at) block (answered (alloc need) answer ∷ fills) empty
+      (subst (Done (slice_set old.registers.items r (Some block))) same done)
+      (subst
+      (λ (k : Need). MadeFor None (op.Alloc r need v) (outcome.Given (usable_words k) at)
+      (answered (alloc need) (reply.Given at k) ∷ wrote at k v (usable_words k))) (sym serves) (refl, refl))
+      (m, one, leads) (λ q. (tt, leave-wrote q at n v (usable_words n)))
+      (ap (λ (k : Need). slice_set rs r (Some (record { place = at; words = usable_words n; need = k }))) serves)
+      (leads-keep maker.called maker.owns laws.keeps m t fills at n leads (leave-wrote at at n v (usable_words n))
+      (laws.hands s m (alloc need) answer at n one (refl, refl)))
+      (λ other had. laws.apart s m (alloc need) answer at other n had one (refl, refl))
 
-  -- a take
-  pub made-empty :
-      (r shelf : ℕ) → slice_index_or old.registers.items r None ≡ None → Done old.registers.items outcome.ShelfEmpty
-      → Takes place_of need_of_block maker.called s shelf None t → Makes place_of need_of_block maker (op.Take r shelf) s t old new
-  made-empty r shelf empty done (misses, are, leads) =
-      let made : List Made = misses ++ answered (take shelf) reply.Empty ∷ [] in
-      makes-of place_of need_of_block maker s t old new (op.Take r shelf) outcome.ShelfEmpty old.registers.items done (
-        made,
-        subst (λ h. MadeFor h (op.Take r shelf) outcome.ShelfEmpty made) (sym (slot-empty place_of need_of_block old.registers.items r empty))
-            (misses, are, refl),
-        leads,
-      ) refl
-      (holds-still place_of need_of_block (maker.owns s) (maker.owns t) old.registers.items holds
-      (λ place need. leads-keep maker.called maker.owns laws.keeps s t made place need leads (leave-takes place shelf misses reply.Empty are)))
-
+  -- a take that got a block
   pub made-got :
       (r shelf words place : ℕ) (need : Need) (block : B) → slice_index_or old.registers.items r None ≡ None
       → Done (slice_set old.registers.items r (Some block)) (outcome.Took words place need) → words ≡ usable_words (need_of_block block)
@@ -483,79 +389,14 @@ module _ {B S : Type 0} (place_of : B → ℕ) (need_of_block : B → Need) (mak
       → Takes place_of need_of_block maker.called s shelf (Some block) t → maker.owns t (place_of block) (need_of_block block)
       → ((other : ℕ) (had : Need) → maker.owns s other had → other ≢ place_of block)
       → Makes place_of need_of_block maker (op.Take r shelf) s t old new
-  made-got r shelf words place need block empty done words_are place_is need_is (misses, are, leads) mine apart =
-      let held : Held = held_by place_of need_of_block block in
+  made-got r shelf words place need block empty done words_are place_is need_is (misses, are, leads) =
+      let at = place_of block in
       let n = need_of_block block in
-      let done_so : Done (slice_set old.registers.items r (Some block)) (outcome.Took held.words held.place n) =
-      subst (λ w. Done (slice_set old.registers.items r (Some block)) (outcome.Took w held.place n)) words_are
-      (subst (λ p. Done (slice_set old.registers.items r (Some block)) (outcome.Took words p n)) place_is
-      (subst (λ k. Done (slice_set old.registers.items r (Some block)) (outcome.Took words place k)) need_is done)) in
-      let answer : Reply = reply.Got (place_of block) n in
-      let made : List Made = misses ++ answered (take shelf) answer ∷ [] in
-      makes-of place_of need_of_block maker s t old new (op.Take r shelf) (outcome.Took held.words held.place n)
-      (slice_set old.registers.items r (Some block)) done_so (
-        made,
-        subst (λ h. MadeFor h (op.Take r shelf) (outcome.Took held.words held.place n) made)
-            (sym (slot-empty place_of need_of_block old.registers.items r empty)) (misses, are, refl, refl),
-        leads,
-      )
-      (set-held place_of need_of_block old.registers.items r (Some block))
-      (holds-filled place_of need_of_block (maker.owns s) (maker.owns t) old.registers.items r block holds
-      (λ q k owned. leads-keep maker.called maker.owns laws.keeps s t made q k leads (leave-takes q shelf misses answer are) owned) mine
-      (λ q other differ there. apart (place_of other) (need_of_block other) (holds.owned q other there)))
-
-  -- a resize that finds no block, or gives none
-  pub made-unasked :
-      (r need : ℕ) (slot : Option B) (result : Outcome) → slice_index_or old.registers.items r None ≡ slot
-      → IsUnasked (option_map (held_by place_of need_of_block) slot) need (Some result) → Done old.registers.items result → s ≡ t
-      → Makes place_of need_of_block maker (op.Resize r need) s t old new
-  made-unasked r need None result is unasked done same =
-      let skipped : result ≡ outcome.Skipped = let e : Some result ≡ Some outcome.Skipped = unasked in cc in
-      makes-of place_of need_of_block maker s t old new (op.Resize r need) outcome.Skipped old.registers.items
-      (subst (Done old.registers.items) skipped done) (
-        [],
-        subst (λ h. MadeFor h (op.Resize r need) outcome.Skipped []) (sym (slot-empty place_of need_of_block old.registers.items r is)) (tt, refl),
-        sym same,
-      ) refl (subst (λ x. HoldsBlocks place_of need_of_block (maker.owns x) old.registers.items) same holds)
-  made-unasked r need (Some block) result is (serves, kept) done same =
-      let held : Held = held_by place_of need_of_block block in
-      makes-of place_of need_of_block maker s t old new (op.Resize r need) (outcome.Kept held.words held.place) old.registers.items
-      (subst (Done old.registers.items) kept done) (
-        [],
-        subst (λ h. MadeFor h (op.Resize r need) (outcome.Kept held.words held.place) [])
-            (sym (slot-full place_of need_of_block old.registers.items r block is)) (serves, refl, refl, refl),
-        sym same,
-      ) refl (subst (λ x. HoldsBlocks place_of need_of_block (maker.owns x) old.registers.items) same holds)
-
-  pub made-unresized :
-      (r need : ℕ) (block : B) → slice_index_or old.registers.items r None ≡ Some block → need_of need ≢ need_of_block block
-      → Done old.registers.items outcome.Refused → maker.called s (alloc need) reply.Refused t
-      → Makes place_of need_of_block maker (op.Resize r need) s t old new
-  made-unresized r need block full other done one =
-      let made : List Made = answered (alloc need) reply.Refused ∷ [] in
-      makes-of place_of need_of_block maker s t old new (op.Resize r need) outcome.Refused old.registers.items done (
-        made,
-        subst (λ h. MadeFor h (op.Resize r need) outcome.Refused made) (sym (slot-full place_of need_of_block old.registers.items r block full))
-            (other, refl),
-        (t, one, refl),
-      ) refl
-      (holds-still place_of need_of_block (maker.owns s) (maker.owns t) old.registers.items holds
-      (λ place n owned. laws.keeps s t (alloc need) reply.Refused place n one tt owned))
-
-  pub made-respent :
-      (r need : ℕ) (block : B) → slice_index_or old.registers.items r None ≡ Some block → need_of need ≢ need_of_block block
-      → Done old.registers.items outcome.Spent → maker.called s (alloc need) reply.Spent t
-      → Makes place_of need_of_block maker (op.Resize r need) s t old new
-  made-respent r need block full other done one =
-      let made : List Made = answered (alloc need) reply.Spent ∷ [] in
-      makes-of place_of need_of_block maker s t old new (op.Resize r need) outcome.Spent old.registers.items done (
-        made,
-        subst (λ h. MadeFor h (op.Resize r need) outcome.Spent made) (sym (slot-full place_of need_of_block old.registers.items r block full))
-            (other, refl),
-        (t, one, refl),
-      ) refl
-      (holds-still place_of need_of_block (maker.owns s) (maker.owns t) old.registers.items holds
-      (λ place n owned. laws.keeps s t (alloc need) reply.Spent place n one tt owned))
+      let answer : Reply = reply.Got at n in
+      let same : outcome.Took words place need ≡ outcome.Took (usable_words n) at n = cc in
+      made-filled (op.Take r shelf) (outcome.Took (usable_words n) at n) block (misses ++ answered (take shelf) answer ∷ []) empty
+      (subst (Done (slice_set old.registers.items r (Some block))) same done) (misses, are, refl, refl) leads
+      (λ q. leave-takes q shelf misses answer are) refl
 
   -- the block's words are in the one that was given, and it is freed
   pub made-resized :
@@ -569,8 +410,8 @@ module _ {B S : Type 0} (place_of : B → ℕ) (need_of_block : B → Need) (mak
       → Makes place_of need_of_block maker (op.Resize r need) s t old new
   made-resized r need words place was block m u full done words_are place_is other one serves mine apart (found, all, leads) freed =
       let blocks = old.registers.items in
-      let from : Held = held_by place_of need_of_block was in
-      let to : Held = held_by place_of need_of_block block in
+      let from : HeldBlock = held_by place_of need_of_block was in
+      let to : HeldBlock = held_by place_of need_of_block block in
       let n = need_of_block block in
       let result : Outcome = outcome.Resized to.words to.place in
       let now = slice_set (slice_set blocks r None) r (Some block) in
@@ -615,17 +456,6 @@ asked-full place_of need_of_block None need result none unasked =
 asked-full place_of need_of_block (Some block) need None none unasked = (block, refl, unasked)
 asked-full place_of need_of_block (Some block) need (Some result) none unasked = absurd (cc)
 
--- an operation that is skipped
-pub made-skip :
-    {B S : Type 0} (place_of : B → ℕ) (need_of_block : B → Need) (maker : Maker S)
-    (s : S) (old new : LaneState B) (operation : Op) → HoldsBlocks place_of need_of_block (maker.owns s) old.registers.items
-    → Skips (held_in (held_blocks place_of need_of_block old.registers.items) (register_of operation)) operation
-    → IsFinished place_of need_of_block old new old.registers.items outcome.Skipped
-    → Makes place_of need_of_block maker operation s s old new
-made-skip place_of need_of_block maker s old new operation holds skips done =
-    makes-of place_of need_of_block maker s s old new operation outcome.Skipped old.registers.items done
-    ([], skip-for _ operation skips, refl) (skip-leaves _ operation) holds
-
 -- what the code reads in a register
 pub slot-read :
     {B : Type 0} (blocks : List (Option B)) (r from : ℕ) (found slot : Option B) → from ≡ r → found ≡ slice_index_or blocks from found → found ≡ slot
@@ -639,19 +469,6 @@ drop-drop zero b xs = let none : 0 + b ≡ b = omega arith in ap (λ n. drop n x
 drop-drop (suc a) b [] = drop-nil b ∙ sym (drop-nil (suc a + b))
 drop-drop (suc a) b (x ∷ xs) =
     let more : suc a + b ≡ suc (a + b) = omega arith in drop-drop a b xs ∙ ap (λ n. drop n (x ∷ xs)) (sym more)
-
-pub run-none :
-    {B S : Type 0} (place_of : B → ℕ) (need_of_block : B → Need) (called : S → Call → Reply → S → Type 0) (operations : List Op) (s : S)
-    (lane : LaneState B) → HasRun place_of need_of_block called operations s s lane lane
-run-none place_of need_of_block called operations s lane = record {
-  results = [];
-  made = refl;
-  registers = refl;
-  outcomes = sym (append-nil lane.outcomes.items);
-  same_caller = refl;
-  between = λ is. is;
-  room = refl;
-}
 
 pub run-more :
     {B S : Type 0} (place_of : B → ℕ) (need_of_block : B → Need) (maker : Maker S)

@@ -14,7 +14,7 @@ use Rattle.trace_text.specs.Traces.{IsOp}
 use Rattle.lane_engine.specs.declared.begins.NextCall.{NextCall}
 use Rattle.lane_engine.specs.Begins.{call_of}
 use Rattle.lane_engine.specs.Callers.{FitsCall}
-use Rattle.lane_outcomes.specs.declared.registers.Held.{Held}
+use Rattle.lane_outcomes.specs.declared.registers.HeldBlock.{HeldBlock}
 use Rattle.lane_outcomes.specs.declared.outcome.Outcome.{Outcome}
 use Rattle.lane_outcomes.specs.Lane.{held_in, registers_after}
 use Rattle.trace_lane.specs.Advances.{ComesTo, IsAtHand, blocks_of}
@@ -29,12 +29,12 @@ use Rattle.trace_lane.proofs.MadeLemmas.{from-more}
 use Rattle.trace_lane.proofs.NeedLemmas.{here-below, need-words}
 
 -- registers that hold nothing
-abbrev pub empty : List (Option Held)
+abbrev pub empty : List (Option HeldBlock)
 empty = replicate REGISTERS None
 
 -- one operation more was made
 all-for-more :
-    (registers : List (Option Held)) (operations : List Op) (results : List Outcome) (made more : List Made) (operation : Op) (result : Outcome) (rest : List Op)
+    (registers : List (Option HeldBlock)) (operations : List Op) (results : List Outcome) (made more : List Made) (operation : Op) (result : Outcome) (rest : List Op)
     → drop (length results) operations ≡ operation ∷ rest → AllMadeFor registers operations results made
     → MadeFor (held_in (registers_from registers operations results) (register_of operation)) operation result more
     → AllMadeFor registers operations (results ++ result ∷ []) (made ++ more)
@@ -57,7 +57,7 @@ all-for-more registers (o ∷ operations) (r ∷ results) made more operation re
 )
 
 -- the operation at hand is under way
-pub record IsAtWork (operations : List Op) (registers : List (Option Held)) (results : List Outcome) (operation : Op) (at : OperationStage) (made : List Made)
+pub record IsAtWork (operations : List Op) (registers : List (Option HeldBlock)) (results : List Outcome) (operation : Op) (at : OperationStage) (made : List Made)
     (under : Option Call) : Type 0 where
   pub past : List Made
   pub present : List Made
@@ -66,33 +66,19 @@ pub record IsAtWork (operations : List Op) (registers : List (Option Held)) (res
   pub doing : DoingOf (registers_from empty operations results) registers operation at present
   pub call : under ≡ Some (call_at (registers_from empty operations results) registers operation at)
 
-same-work :
-    (before registers : List (Option Held)) (operation other : Op) (at : OperationStage) (present : List Made) (under : Option Call) → other ≡ operation
-    → DoingOf before registers other at present → under ≡ Some (call_at before registers other at)
-    → DoingOf before registers operation at present × (under ≡ Some (call_at before registers operation at))
-same-work before registers operation other at present under same doing call = (
-  subst (λ o. DoingOf before registers o at present) same doing,
-  subst (λ o. under ≡ Some (call_at before registers o at)) same call,
-)
-
 work-in :
-    (before registers : List (Option Held)) (left : List Op) (operation : Op) (rest : List Op) (at : OperationStage) (present : List Made) (under : Option Call)
+    (before registers : List (Option HeldBlock)) (left : List Op) (operation : Op) (rest : List Op) (at : OperationStage) (present : List Made) (under : Option Call)
     → left ≡ operation ∷ rest → under ≢ None → DoingIn before registers left at present under
     → DoingOf before registers operation at present × (under ≡ Some (call_at before registers operation at))
 work-in before registers left operation rest stage.Between present under next some doing = absurd (some doing.2)
-work-in before registers left operation rest stage.Calling present under next some (o, others, is, doing, call) =
-    same-work before registers operation o stage.Calling present under (let e = is in let f = next in cc) doing call
-work-in before registers left operation rest (stage.Filling i) present under next some (o, others, is, doing, call) =
-    same-work before registers operation o (stage.Filling i) present under (let e = is in let f = next in cc) doing call
-work-in before registers left operation rest (stage.Summing i total) present under next some (o, others, is, doing, call) =
-    same-work before registers operation o (stage.Summing i total) present under (let e = is in let f = next in cc) doing call
-work-in before registers left operation rest (stage.Copying old i w) present under next some (o, others, is, doing, call) =
-    same-work before registers operation o (stage.Copying old i w) present under (let e = is in let f = next in cc) doing call
-work-in before registers left operation rest stage.Releasing present under next some (o, others, is, doing, call) =
-    same-work before registers operation o stage.Releasing present under (let e = is in let f = next in cc) doing call
+work-in before registers left operation rest at present under next some (o, others, is, doing, call) =
+    let same : o ≡ operation = let e = is in let f = next in cc in (
+      subst (λ o. DoingOf before registers o at present) same doing,
+      subst (λ o. under ≡ Some (call_at before registers o at)) same call,
+    )
 
 pub making-work :
-    (operations : List Op) (registers : List (Option Held)) (results : List Outcome) (at : OperationStage) (made : List Made) (under : Option Call)
+    (operations : List Op) (registers : List (Option HeldBlock)) (results : List Outcome) (at : OperationStage) (made : List Made) (under : Option Call)
     (operation : Op) → IsAtHand operations results operation → under ≢ None → IsMaking operations registers results at made under
     → IsAtWork operations registers results operation at made under
 making-work operations registers results at made under operation (rest, next) some m =
@@ -102,7 +88,7 @@ making-work operations registers results at made under operation (rest, next) so
 
 -- between two operations nothing is under way
 pub making-between :
-    (operations : List Op) (registers : List (Option Held)) (results : List Outcome) (at : OperationStage) (made : List Made) (under : Option Call)
+    (operations : List Op) (registers : List (Option HeldBlock)) (results : List Outcome) (at : OperationStage) (made : List Made) (under : Option Call)
     → at ≡ stage.Between → IsMaking operations registers results at made under
     → (registers ≡ registers_from empty operations results) × AllMadeFor empty operations results made × (under ≡ None)
 making-between operations registers results at made under between m =
@@ -115,34 +101,22 @@ making-between operations registers results at made under between m =
 
 -- an operation that is under way has begun
 pub doing-begun :
-    (before registers : List (Option Held)) (operation : Op) (at : OperationStage) (made : List Made) → DoingOf before registers operation at made
+    (before registers : List (Option HeldBlock)) (operation : Op) (at : OperationStage) (made : List Made) → DoingOf before registers operation at made
     → 0 < stage_begun at
 doing-begun before registers (op.Alloc r need v) stage.Between made doing = absurd doing
-doing-begun before registers (op.Free r) stage.Between made doing = absurd doing
-doing-begun before registers (op.Fill r v) stage.Between made doing = absurd doing
-doing-begun before registers (op.Check r) stage.Between made doing = absurd doing
-doing-begun before registers (op.Put r shelf) stage.Between made doing = absurd doing
-doing-begun before registers (op.Take r shelf) stage.Between made doing = absurd doing
-doing-begun before registers (op.Resize r need) stage.Between made doing = absurd doing
-doing-begun before registers operation stage.Calling made doing = omega arith
-doing-begun before registers operation (stage.Filling i) made doing = omega arith
-doing-begun before registers operation (stage.Summing i total) made doing = omega arith
+doing-begun before registers operation stage.Between made doing = absurd doing
 doing-begun before registers operation (stage.Copying old i None) made doing = omega arith
 doing-begun before registers operation (stage.Copying old i (Some w)) made doing = omega arith
-doing-begun before registers operation stage.Releasing made doing = omega arith
+doing-begun before registers operation at made doing = omega arith
 
 -- what is under way is the first of the operations that are left
 doing-in :
-    (before registers : List (Option Held)) (left : List Op) (operation : Op) (rest : List Op) (at : OperationStage) (present : List Made)
+    (before registers : List (Option HeldBlock)) (left : List Op) (operation : Op) (rest : List Op) (at : OperationStage) (present : List Made)
     → left ≡ operation ∷ rest → DoingOf before registers operation at present
     → DoingIn before registers left at present (Some (call_at before registers operation at))
 doing-in before registers left operation rest stage.Between present next doing =
     let none : 0 < 0 = doing-begun before registers operation stage.Between present doing in absurd (omega (arith, none))
-doing-in before registers left operation rest stage.Calling present next doing = (operation, rest, next, doing, refl)
-doing-in before registers left operation rest (stage.Filling i) present next doing = (operation, rest, next, doing, refl)
-doing-in before registers left operation rest (stage.Summing i total) present next doing = (operation, rest, next, doing, refl)
-doing-in before registers left operation rest (stage.Copying old i w) present next doing = (operation, rest, next, doing, refl)
-doing-in before registers left operation rest stage.Releasing present next doing = (operation, rest, next, doing, refl)
+doing-in before registers left operation rest at present next doing = (operation, rest, next, doing, refl)
 
 -- an operation comes to its next call, or to its outcome
 module _ {B : Type 0} (place_of : B → ℕ) (block_need : B → Need) where
@@ -190,7 +164,7 @@ HasNeed call = Unit {0}
 
 -- an operation has so few calls
 pub doing-few :
-    (before registers : List (Option Held)) (operation : Op) (at : OperationStage) (made : List Made) → DoingOf before registers operation at made
+    (before registers : List (Option HeldBlock)) (operation : Op) (at : OperationStage) (made : List Made) → DoingOf before registers operation at made
     → FitsCall (call_at before registers operation at) → HasNeed (call_at before registers operation at) → stage_begun at < begun_bound
 doing-few before registers operation stage.Between made doing fits has = omega arith
 doing-few before registers operation stage.Calling made doing fits has = omega arith
@@ -205,23 +179,7 @@ doing-few before registers (op.Resize r need) (stage.Copying old i None) made do
     let most = need-words old.need has in omega (arith, most, fits)
 doing-few before registers (op.Resize r need) (stage.Copying old i (Some w)) made doing fits has =
     let most = need-words (held_there (held_in registers r)).need has in omega (arith, most, fits)
-doing-few before registers (op.Free r) (stage.Filling i) made doing fits has = absurd doing
-doing-few before registers (op.Check r) (stage.Filling i) made doing fits has = absurd doing
-doing-few before registers (op.Put r shelf) (stage.Filling i) made doing fits has = absurd doing
-doing-few before registers (op.Take r shelf) (stage.Filling i) made doing fits has = absurd doing
-doing-few before registers (op.Resize r need) (stage.Filling i) made doing fits has = absurd doing
-doing-few before registers (op.Alloc r need v) (stage.Summing i total) made doing fits has = absurd doing
-doing-few before registers (op.Free r) (stage.Summing i total) made doing fits has = absurd doing
-doing-few before registers (op.Fill r v) (stage.Summing i total) made doing fits has = absurd doing
-doing-few before registers (op.Put r shelf) (stage.Summing i total) made doing fits has = absurd doing
-doing-few before registers (op.Take r shelf) (stage.Summing i total) made doing fits has = absurd doing
-doing-few before registers (op.Resize r need) (stage.Summing i total) made doing fits has = absurd doing
-doing-few before registers (op.Alloc r need v) (stage.Copying old i w) made doing fits has = absurd doing
-doing-few before registers (op.Free r) (stage.Copying old i w) made doing fits has = absurd doing
-doing-few before registers (op.Fill r v) (stage.Copying old i w) made doing fits has = absurd doing
-doing-few before registers (op.Check r) (stage.Copying old i w) made doing fits has = absurd doing
-doing-few before registers (op.Put r shelf) (stage.Copying old i w) made doing fits has = absurd doing
-doing-few before registers (op.Take r shelf) (stage.Copying old i w) made doing fits has = absurd doing
+doing-few before registers operation at made doing fits has = absurd doing
 
 -- the call's block has words
 abbrev pub HasWords : Call → Type 0
@@ -231,19 +189,19 @@ HasWords call = Unit {0}
 
 -- the numbers of the call under way are in their ranges
 pub doing-fits :
-    (before registers : List (Option Held)) (operation : Op) (at : OperationStage) (made : List Made) → length registers ≡ REGISTERS → IsOp operation
+    (before registers : List (Option HeldBlock)) (operation : Op) (at : OperationStage) (made : List Made) → length registers ≡ REGISTERS → IsOp operation
     → DoingOf before registers operation at made → HasWords (call_at before registers operation at) → FitsCall (call_at before registers operation at)
 doing-fits before registers (op.Alloc r need v) stage.Calling made size is doing some = is.1
 doing-fits before registers (op.Alloc r need v) (stage.Filling i) made size is (place, none, set, inside, made_is) some =
     let there : held_there (held_in registers r) ≡ held_of place (need_of need) =
     ap held_there (set-there before registers r (held_of place (need_of need)) (omega (arith, size, is.0)) set) in
-    let needs : (held_there (held_in registers r)).need ≡ need_of need = ap (λ (h : Held). h.need) there in
+    let needs : (held_there (held_in registers r)).need ≡ need_of need = ap (λ (h : HeldBlock). h.need) there in
     subst (λ n. i < usable_words n) (sym needs) (inside (subst (λ n. 0 < usable_words n) needs some))
 doing-fits before registers (op.Free r) stage.Calling made size is doing some = tt
 doing-fits before registers (op.Fill r v) (stage.Filling i) made size is doing some =
     let on = on-block (held_in before r) _ doing in
     let there : held_there (held_in registers r) ≡ on.held = ap (λ rs. held_there (held_in rs r)) on.so.0 ∙ ap held_there on.full in
-    let needs : (held_there (held_in registers r)).need ≡ on.held.need = ap (λ (h : Held). h.need) there in
+    let needs : (held_there (held_in registers r)).need ≡ on.held.need = ap (λ (h : HeldBlock). h.need) there in
     let words = on.words in
     let positive : 0 < on.held.words = let s = subst (λ n. 0 < usable_words n) needs some in omega (arith, s, words) in
     let below = on.so.1 positive in
@@ -251,7 +209,7 @@ doing-fits before registers (op.Fill r v) (stage.Filling i) made size is doing s
 doing-fits before registers (op.Check r) (stage.Summing i total) made size is doing some =
     let on = on-block (held_in before r) _ doing in
     let there : held_there (held_in registers r) ≡ on.held = ap (λ rs. held_there (held_in rs r)) on.so.0 ∙ ap held_there on.full in
-    let needs : (held_there (held_in registers r)).need ≡ on.held.need = ap (λ (h : Held). h.need) there in
+    let needs : (held_there (held_in registers r)).need ≡ on.held.need = ap (λ (h : HeldBlock). h.need) there in
     let words = on.words in
     let positive : 0 < on.held.words = let s = subst (λ n. 0 < usable_words n) needs some in omega (arith, s, words) in
     let below = on.so.1 positive in
@@ -266,38 +224,7 @@ doing-fits before registers (op.Resize r need) (stage.Copying old i None) made s
 doing-fits before registers (op.Resize r need) (stage.Copying old i (Some w)) made size is (place, rep, inside, words, all, got, got_is, made_is) some =
     let there : held_there (held_in registers r) ≡ held_of place (need_of need) =
     ap held_there (set-there before registers r (held_of place (need_of need)) (omega (arith, size, is.0)) rep.replaced) in
-    let needs : (held_there (held_in registers r)).need ≡ need_of need = ap (λ (h : Held). h.need) there in
+    let needs : (held_there (held_in registers r)).need ≡ need_of need = ap (λ (h : HeldBlock). h.need) there in
     subst (λ n. i < usable_words n) (sym needs) (inside (subst (λ n. 0 < usable_words n) needs some))
 doing-fits before registers (op.Resize r need) stage.Releasing made size is doing some = tt
-doing-fits before registers (op.Alloc r need v) stage.Between made size is doing some = absurd doing
-doing-fits before registers (op.Alloc r need v) (stage.Summing i total) made size is doing some = absurd doing
-doing-fits before registers (op.Alloc r need v) (stage.Copying old i w) made size is doing some = absurd doing
-doing-fits before registers (op.Alloc r need v) stage.Releasing made size is doing some = absurd doing
-doing-fits before registers (op.Free r) stage.Between made size is doing some = absurd doing
-doing-fits before registers (op.Free r) (stage.Filling i) made size is doing some = absurd doing
-doing-fits before registers (op.Free r) (stage.Summing i total) made size is doing some = absurd doing
-doing-fits before registers (op.Free r) (stage.Copying old i w) made size is doing some = absurd doing
-doing-fits before registers (op.Free r) stage.Releasing made size is doing some = absurd doing
-doing-fits before registers (op.Fill r v) stage.Between made size is doing some = absurd doing
-doing-fits before registers (op.Fill r v) stage.Calling made size is doing some = absurd doing
-doing-fits before registers (op.Fill r v) (stage.Summing i total) made size is doing some = absurd doing
-doing-fits before registers (op.Fill r v) (stage.Copying old i w) made size is doing some = absurd doing
-doing-fits before registers (op.Fill r v) stage.Releasing made size is doing some = absurd doing
-doing-fits before registers (op.Check r) stage.Between made size is doing some = absurd doing
-doing-fits before registers (op.Check r) stage.Calling made size is doing some = absurd doing
-doing-fits before registers (op.Check r) (stage.Filling i) made size is doing some = absurd doing
-doing-fits before registers (op.Check r) (stage.Copying old i w) made size is doing some = absurd doing
-doing-fits before registers (op.Check r) stage.Releasing made size is doing some = absurd doing
-doing-fits before registers (op.Put r shelf) stage.Between made size is doing some = absurd doing
-doing-fits before registers (op.Put r shelf) (stage.Filling i) made size is doing some = absurd doing
-doing-fits before registers (op.Put r shelf) (stage.Summing i total) made size is doing some = absurd doing
-doing-fits before registers (op.Put r shelf) (stage.Copying old i w) made size is doing some = absurd doing
-doing-fits before registers (op.Put r shelf) stage.Releasing made size is doing some = absurd doing
-doing-fits before registers (op.Take r shelf) stage.Between made size is doing some = absurd doing
-doing-fits before registers (op.Take r shelf) (stage.Filling i) made size is doing some = absurd doing
-doing-fits before registers (op.Take r shelf) (stage.Summing i total) made size is doing some = absurd doing
-doing-fits before registers (op.Take r shelf) (stage.Copying old i w) made size is doing some = absurd doing
-doing-fits before registers (op.Take r shelf) stage.Releasing made size is doing some = absurd doing
-doing-fits before registers (op.Resize r need) stage.Between made size is doing some = absurd doing
-doing-fits before registers (op.Resize r need) (stage.Filling i) made size is doing some = absurd doing
-doing-fits before registers (op.Resize r need) (stage.Summing i total) made size is doing some = absurd doing
+doing-fits before registers operation at made size is doing some = absurd doing

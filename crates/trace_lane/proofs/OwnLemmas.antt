@@ -4,22 +4,25 @@ use Rattle.std.proofs.Math.ListN.{length-replicate}
 use Rattle.std.specs.List.{slice_index_or}
 use Rattle.heap_geometry.specs.declared.need.Need.{Need}
 use Rattle.trace_text.specs.declared.limits.TheConstants.{REGISTERS}
-use Rattle.lane_outcomes.specs.declared.registers.Held.{Held}
 use Rattle.trace_lane.specs.Made.{HoldsBlocks}
 use Rattle.trace_lane.specs.Paths.{held_blocks}
 use Rattle.trace_lane.proofs.HoldsLemmas.{held_need, held_place}
 
-pub none-at : {B : Type 0} (n r : ℕ) → slice_index_or (replicate {A = Option B} n None) r None ≡ None
+none-at : {B : Type 0} (n r : ℕ) → slice_index_or (replicate {A = Option B} n None) r None ≡ None
 none-at zero r = refl
 none-at (suc n) zero = refl
 none-at (suc n) (suc r) = none-at n r
 
-pub empty-holds : (owns : ℕ → Need → Type 0) → HoldsBlocks held_place held_need owns (replicate REGISTERS None)
-empty-holds owns = record {
-  size = length-replicate {A = Option Held} REGISTERS None;
-  owned = λ r block full. absurd (let e : None ≡ Some block = sym (none-at {B = Held} REGISTERS r) ∙ full in cc);
-  once = λ r q block other one two differ. absurd (let e : None ≡ Some block = sym (none-at {B = Held} REGISTERS r) ∙ one in cc);
+pub none-hold :
+    {B : Type 0} (place_of : B → ℕ) (need_of : B → Need) (owns : ℕ → Need → Type 0) → HoldsBlocks place_of need_of owns (replicate REGISTERS None)
+none-hold {B = B} place_of need_of owns = record {
+  size = length-replicate {A = Option B} REGISTERS None;
+  owned = λ r block full. absurd (let e : None ≡ Some block = sym (none-at {B = B} REGISTERS r) ∙ full in cc);
+  once = λ r q block other one two differ. absurd (let e : None ≡ Some block = sym (none-at {B = B} REGISTERS r) ∙ one in cc);
 }
+
+pub empty-holds : (owns : ℕ → Need → Type 0) → HoldsBlocks held_place held_need owns (replicate REGISTERS None)
+empty-holds = none-hold held_place held_need
 
 -- registers that hold nothing hold no block
 pub blocks-none :

@@ -1,29 +1,72 @@
--- What a part of the code makes of a lane, by its registers, its outcomes and its stage.
-use Rattle.std.proofs.Common.{ℕ, ◌≡◌, ◌≢◌, ◌<◌, ◌∷◌, ◌++◌, List, [], Option, Some, None, length, sym, ap, ◌∙◌, subst, inl, inr, vec_capacity}
-use Rattle.std.specs.Prelude.{◌⊎◌, slice_set}
+-- What registers hold, of blocks in hand; and what a part of the code makes of a lane, by its registers, its outcomes and its stage.
+use Rattle.std.proofs.Common.{ℕ, ◌≡◌, ◌≢◌, ◌<◌, ◌∷◌, ◌++◌, List, [], Option, Some, None, length, sym, ap, ◌∙◌, subst, inl, inr, vec_capacity, zero, suc, Bool, true, false, refl}
+use Rattle.std.specs.Prelude.{◌⊎◌, slice_set, ◌↔◌, IsSome, IsTrue}
 use Rattle.std.specs.Option.{option_map}
 use Rattle.std.specs.List.{slice_index_or}
 use Rattle.heap_geometry.specs.declared.need.Need.{Need}
 use Rattle.errand_steps.specs.declared.told.Ending.{Ending}
-use Rattle.errand_steps.specs.declared.told.Ending.TheVariants as ending
 use Rattle.errand_steps.specs.Calls.{Call, take}
 use Rattle.errand_steps.specs.Told.{ended_as}
 use Rattle.sound_laws.specs.events.Made.{Made, answered}
 use Rattle.trace_text.specs.declared.trace.Op.{Op}
 use Rattle.lane_engine.specs.declared.begins.NextCall.{NextCall}
 use Rattle.lane_engine.specs.Begins.{call_of}
-use Rattle.lane_outcomes.specs.declared.registers.Held.{Held}
+use Rattle.lane_outcomes.specs.declared.registers.HeldBlock.{HeldBlock}
 use Rattle.lane_outcomes.specs.declared.outcome.Outcome.{Outcome}
 use Rattle.lane_outcomes.specs.Lane.{held_in, registers_after}
 use Rattle.trace_lane.specs.Advances.{AnswersCall, ComesTo, HasAnswered, HasBegun, Rises}
 use Rattle.trace_lane.specs.declared.lane.LaneState.{LaneState}
 use Rattle.trace_lane.specs.declared.stage.OperationStage.{OperationStage}
-use Rattle.trace_lane.specs.declared.stage.OperationStage.TheVariants as stage
 use Rattle.trace_lane.specs.Doing.{DoingOf, call_at, held_there}
 use Rattle.trace_lane.specs.Made.{MadeFor, register_of}
 use Rattle.trace_lane.specs.Paths.{held_blocks, held_by}
 use Rattle.trace_lane.specs.Scripts.{stage_begun}
-use Rattle.trace_lane.proofs.LaneParts.{set-held, slot-held}
+use Rattle.std.proofs.lemmas.List.{length-map, set-get_or}
+use Rattle.errand_steps.specs.declared.told.Ending.TheVariants as ending
+use Rattle.trace_lane.specs.declared.stage.OperationStage.TheVariants as stage
+
+module _ {B : Type 0} (place_of : B → ℕ) (need_of : B → Need) where
+  -- what a register holds, of a block in hand
+  pub slot-held :
+      (blocks : List (Option B)) (r : ℕ)
+      → held_in (held_blocks place_of need_of blocks) r ≡ option_map (held_by place_of need_of) (slice_index_or blocks r None)
+  slot-held [] r = refl
+  slot-held (block ∷ blocks) zero = refl
+  slot-held (block ∷ blocks) (suc r) = slot-held blocks r
+
+  pub slot-full :
+      (blocks : List (Option B)) (r : ℕ) (block : B) → slice_index_or blocks r None ≡ Some block
+      → held_in (held_blocks place_of need_of blocks) r ≡ Some (held_by place_of need_of block)
+  slot-full blocks r block full = slot-held blocks r ∙ ap (option_map (held_by place_of need_of)) full
+
+  pub slot-empty :
+      (blocks : List (Option B)) (r : ℕ) → slice_index_or blocks r None ≡ None → held_in (held_blocks place_of need_of blocks) r ≡ None
+  slot-empty blocks r empty = slot-held blocks r ∙ ap (option_map (held_by place_of need_of)) empty
+
+  -- a register that is set
+  pub set-held :
+      (blocks : List (Option B)) (r : ℕ) (slot : Option B)
+      → held_blocks place_of need_of (slice_set blocks r slot) ≡ slice_set (held_blocks place_of need_of blocks) r (option_map (held_by place_of need_of) slot)
+  set-held [] r slot = refl
+  set-held (block ∷ blocks) zero slot = refl
+  set-held (block ∷ blocks) (suc r) slot =
+      ap (λ rs. option_map (held_by place_of need_of) block ∷ rs) (set-held blocks r slot)
+
+  pub blocks-size : (blocks : List (Option B)) → length (held_blocks place_of need_of blocks) ≡ length blocks
+  blocks-size blocks = length-map blocks (λ register. option_map (held_by place_of need_of) register)
+
+-- whether a register is full
+pub slot-none : {B : Type 0} (found : Bool) (slot : Option B) → (IsTrue found ↔ IsSome slot) → found ≡ false → slot ≡ None
+slot-none found None h is = refl
+slot-none found (Some block) h is = absurd (let full : found ≡ true = h.1 refl in cc)
+
+pub slot-some : {B : Type 0} (found : Bool) (slot : Option B) → (IsTrue found ↔ IsSome slot) → found ≡ true → (block : B) × (slot ≡ Some block)
+slot-some found None h is = absurd (let e : false ≡ true = h.0 is in cc)
+slot-some found (Some block) h is = (block, refl)
+
+-- an empty register that is emptied
+pub emptied-empty : {B : Type 0} (blocks : List (Option B)) (r : ℕ) → slice_index_or blocks r None ≡ None → slice_set blocks r None ≡ blocks
+emptied-empty blocks r empty = ap (λ slot. slice_set blocks r slot) (sym empty) ∙ set-get_or blocks r None
 
 module _ {B : Type 0} (place_of : B → ℕ) (block_need : B → Need) (old new : LaneState B) (next : Option NextCall) where
   -- the operation has its outcome
@@ -44,11 +87,11 @@ module _ {B : Type 0} (place_of : B → ℕ) (block_need : B → Need) (old new 
     pub room : vec_capacity new.outcomes ≡ vec_capacity old.outcomes
     pub at_is : new.stage ≡ at
 
-  abbrev held : List (Option B) → List (Option Held)
+  abbrev held : List (Option B) → List (Option HeldBlock)
   held blocks = held_blocks place_of block_need blocks
 
   ended-comes :
-      (operation : Op) (before : List (Option Held)) (made : List Made) (blocks : List (Option B)) (result : Outcome) → IsEnded blocks result
+      (operation : Op) (before : List (Option HeldBlock)) (made : List Made) (blocks : List (Option B)) (result : Outcome) → IsEnded blocks result
       → MadeFor (held_in before (register_of operation)) operation result made → held blocks ≡ registers_after before operation result
       → ComesTo place_of block_need operation before old.outcomes.items made next new
   ended-comes operation before made blocks result e for registers =
@@ -56,11 +99,11 @@ module _ {B : Type 0} (place_of : B → ℕ) (block_need : B → Need) (old new 
       (result, e.outcomes, e.between, for, ap held e.blocks_are ∙ registers)
 
   gone-comes :
-      (operation : Op) (before : List (Option Held)) (made : List Made) (blocks : List (Option B)) (at : OperationStage) (call : Call) → IsGone blocks at call
+      (operation : Op) (before : List (Option HeldBlock)) (made : List Made) (blocks : List (Option B)) (at : OperationStage) (call : Call) → IsGone blocks at call
       → DoingOf before (held blocks) operation at made → call ≡ call_at before (held blocks) operation at
       → ComesTo place_of block_need operation before old.outcomes.items made next new
   gone-comes operation before made blocks at call e doing is =
-      let P = λ (rs : List (Option Held)) (a : OperationStage).
+      let P = λ (rs : List (Option HeldBlock)) (a : OperationStage).
       DoingOf before rs operation a made × (call_of e.some.0 ≡ call_at before rs operation a) in
       let here : P (held blocks) at = (doing, e.some.2 ∙ is) in
       let there : P (held new.registers.items) new.stage =
@@ -78,7 +121,7 @@ module _ {B : Type 0} (place_of : B → ℕ) (block_need : B → Need) (old new 
 
   pub answer-ends :
       (operation : Op) (ended : Ending B) (blocks : List (Option B)) (result : Outcome) → IsEnded blocks result → length blocks ≡ length old.registers.items
-      → ((before : List (Option Held)) (made : List Made) → DoingOf before (held old.registers.items) operation old.stage made
+      → ((before : List (Option HeldBlock)) (made : List Made) → DoingOf before (held old.registers.items) operation old.stage made
       → AnswersCall place_of block_need (call_at before (held old.registers.items) operation old.stage) ended
       → MadeFor (held_in before (register_of operation)) operation result
       (made ++ answered (call_at before (held old.registers.items) operation old.stage) (ended_as place_of block_need ended) ∷ [])
@@ -97,7 +140,7 @@ module _ {B : Type 0} (place_of : B → ℕ) (block_need : B → Need) (old new 
       (operation : Op) (ended : Ending B) (blocks : List (Option B)) (at : OperationStage) (call : Call) → IsGone blocks at call
       → length blocks ≡ length old.registers.items → ended ≢ ending.Spent
       → (stage_begun old.stage < stage_begun at) ⊎ ((shelf : ℕ) × (call ≡ take shelf) × (old.stage ≡ stage.Calling) × (at ≡ stage.Calling))
-      → ((before : List (Option Held)) (made : List Made) → DoingOf before (held old.registers.items) operation old.stage made
+      → ((before : List (Option HeldBlock)) (made : List Made) → DoingOf before (held old.registers.items) operation old.stage made
       → AnswersCall place_of block_need (call_at before (held old.registers.items) operation old.stage) ended
       → DoingOf before (held blocks) operation at
       (made ++ answered (call_at before (held old.registers.items) operation old.stage) (ended_as place_of block_need ended) ∷ [])
@@ -133,7 +176,7 @@ module _ {B : Type 0} (place_of : B → ℕ) (block_need : B → Need) (old new 
 
 -- the block of a register, as the code reads it
 pub read-held :
-    {B : Type 0} (place_of : B → ℕ) (block_need : B → Need) (blocks : List (Option B)) (r : ℕ) (held : Held)
+    {B : Type 0} (place_of : B → ℕ) (block_need : B → Need) (blocks : List (Option B)) (r : ℕ) (held : HeldBlock)
     → held ≡ held_there (option_map (held_by place_of block_need) (slice_index_or blocks r None))
     → held ≡ held_there (held_in (held_blocks place_of block_need blocks) r)
 read-held place_of block_need blocks r held is = is ∙ ap held_there (sym (slot-held place_of block_need blocks r))

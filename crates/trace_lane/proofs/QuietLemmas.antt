@@ -26,10 +26,6 @@ abbrev pub AllQuiet : ℕ → List Event → Type 0
 AllQuiet place [] = Unit {0}
 AllQuiet place (event ∷ events) = Quiet place event × AllQuiet place events
 
-pub quiet-append : (place : ℕ) (events more : List Event) → AllQuiet place (events ++ more) → AllQuiet place more
-quiet-append place [] more h = h
-quiet-append place (event ∷ events) more h = quiet-append place events more h.1
-
 -- an event that is quiet at a place leaves the block that a caller owns there as it is
 own-quiet :
     (g : Geometry) (before : List Event) (event : Event) (caller place : ℕ) (block : Block) → IsAllowed g before event → Quiet place event

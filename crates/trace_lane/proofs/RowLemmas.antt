@@ -1,6 +1,6 @@
 -- What one operation of a lane makes, by the whole calls that were made for it.
 use Rattle.std.proofs.Common.{ℕ, true, suc, ◌≡◌, ◌≢◌, ◌<◌, ◌≤◌, ◌+◌, ◌%◌, ◌^◌, ◌∷◌, ◌++◌, List, [], Option, Some, None, length, append-nil, refl, sym, ap, ◌∙◌, subst, inl, inr, arith, zero-add}
-use Rattle.std.specs.Prelude.{min, sum}
+use Rattle.std.specs.Prelude.{min}
 use Rattle.std.specs.List.{AllZip, slice_index_or}
 use Rattle.std.proofs.lemmas.Bool.{cases_lt}
 use Rattle.std.proofs.lemmas.List.{get_or_default, get_or_past}
@@ -11,7 +11,7 @@ use Rattle.heap_geometry.specs.Need.{need_of, usable_words}
 use Rattle.pool_model.specs.declared.event.Event.{Event}
 use Rattle.pool_model.specs.declared.event.Event.TheVariants.{Free, Put, Take, TakeNone}
 use Rattle.pool_model.specs.declared.owner.Owner.TheVariants.{Caller as CallerOf}
-use Rattle.pool_model.specs.Calls.{EventsOf, alloc_given, alloc_refused, alloc_spent}
+use Rattle.pool_model.specs.Calls.{Ended, EventsOf, alloc_given, alloc_refused, alloc_spent}
 use Rattle.pool_model.specs.Calls as event_end
 use Rattle.pool_model.specs.Histories.{Begins, own}
 use Rattle.pool_model.specs.Legal.{IsLegal}
@@ -23,34 +23,32 @@ use Rattle.pool_model.proofs.WellFormedLemmas.{sound-of}
 use Rattle.errand_steps.specs.declared.reply.Begun.TheVariants as begun
 use Rattle.errand_steps.specs.declared.reply.Reply.{Reply}
 use Rattle.errand_steps.specs.declared.reply.Reply.TheVariants as reply
-use Rattle.errand_steps.specs.declared.told.Ending.TheVariants as ending
-use Rattle.errand_steps.specs.declared.told.Stepped.TheVariants as stepped
 use Rattle.errand_steps.specs.Begins.{alloc_answer}
 use Rattle.errand_steps.specs.Calls.{Call, alloc, free, put, take}
 use Rattle.step_machine.specs.Moments.{IsServed}
-use Rattle.sound_laws.specs.events.Made.{LeadsBy, Made, answered, copied, found_from, wrote}
+use Rattle.sound_laws.specs.events.Ends.{end_of}
+use Rattle.sound_laws.specs.events.Made.{LeadsBy, Made, answered, copied}
 use Rattle.trace_text.specs.declared.trace.Op.{Op}
 use Rattle.trace_text.specs.declared.trace.Op.TheVariants as op
 use Rattle.lane_engine.specs.Callers.{Caller, EndsCall, IsAtRest, IsCall, MadeBy, OwnsFor, at_once, begun_at, by_steps}
-use Rattle.lane_engine.specs.Told.{HasStepped}
-use Rattle.lane_outcomes.specs.declared.registers.Held.{Held}
+use Rattle.lane_outcomes.specs.declared.registers.HeldBlock.{HeldBlock}
 use Rattle.lane_outcomes.specs.declared.outcome.Outcome.{Outcome}
 use Rattle.lane_outcomes.specs.declared.outcome.Outcome.TheVariants as outcome
 use Rattle.lane_outcomes.specs.Lane.{Position, filling, held_in, writing}
 use Rattle.lane_outcomes.specs.Rows.{AllocRow, CheckRow, FillRow, FitsRow, FreeRow, IsCopy, IsSpent, IsWord, MayAsk, Moment, PutRow, ResizeRow, Setting, TakeRow}
 use Rattle.lane_outcomes.specs.Standing.{setting_in}
-use Rattle.trace_lane.specs.Made.{AreMisses, Skips, register_of}
-use Rattle.trace_lane.proofs.AddedLemmas.{HasAdded, HasKept, HasTakenOff, added-none, added-then, called-added, copy-walk, ended-as, full-added, got-added, kept-on, need_in, place_in, reads-kept, steps-called, takes-added, value_of, whole-added, writes-added}
-use Rattle.trace_lane.proofs.AnswerLemmas.{EndsSpent, alloc-not_begun, told-of_alloc}
+use Rattle.trace_lane.specs.Made.{MadeFor, Skips, register_of}
+use Rattle.trace_lane.proofs.AddedLemmas.{HasAdded, HasKept, HasTakenOff, added-none, added-then, called-added, copy-walk, ended-as, full-added, got-added, kept-on, reads-kept, steps-called, takes-added, value_of, whole-added, writes-added}
+use Rattle.trace_lane.proofs.AnswerLemmas.{alloc-not_begun, ends-spent_call}
 use Rattle.trace_lane.proofs.CallerLemmas.{Owns, alloc-started, caller-apart, ends-called, steps-busy}
 use Rattle.trace_lane.proofs.HoldsLemmas.{HoldsAll, leads-split}
-use Rattle.trace_lane.proofs.QuietLemmas.{quiet-giving}
+use Rattle.trace_lane.proofs.QuietLemmas.{AllQuiet, quiet-giving}
 use Rattle.trace_lane.proofs.TurnLemmas.{answered_in, asked-unspent, is-spent, may-ask}
 use Rattle.trace_lane.proofs.WorkLemmas.{caller-laws}
 
 -- a skipped operation's row
 skip-row :
-    (setting : Setting) (position : Position) (operation : Op) (slot : Option Held) → held_in position.registers (register_of operation) ≡ slot
+    (setting : Setting) (position : Position) (operation : Op) (slot : Option HeldBlock) → held_in position.registers (register_of operation) ≡ slot
     → Skips slot operation → FitsRow setting position operation outcome.Skipped []
 skip-row setting position (op.Alloc r need v) (Some held) is skips = subst (λ h. AllocRow setting position need v h outcome.Skipped []) (sym is) refl
 skip-row setting position (op.Take r shelf) (Some held) is skips = subst (λ h. TakeRow setting position shelf h outcome.Skipped []) (sym is) refl
@@ -59,13 +57,8 @@ skip-row setting position (op.Fill r v) None is skips = subst (λ h. FillRow set
 skip-row setting position (op.Check r) None is skips = subst (λ h. CheckRow setting position h outcome.Skipped []) (sym is) refl
 skip-row setting position (op.Put r shelf) None is skips = subst (λ h. PutRow setting position shelf h outcome.Skipped []) (sym is) refl
 skip-row setting position (op.Resize r need) None is skips = subst (λ h. ResizeRow setting position need h outcome.Skipped []) (sym is) refl
-skip-row setting position (op.Alloc r need v) None is skips = absurd skips
-skip-row setting position (op.Take r shelf) None is skips = absurd skips
-skip-row setting position (op.Free r) (Some held) is skips = absurd skips
-skip-row setting position (op.Fill r v) (Some held) is skips = absurd skips
-skip-row setting position (op.Check r) (Some held) is skips = absurd skips
-skip-row setting position (op.Put r shelf) (Some held) is skips = absurd skips
-skip-row setting position (op.Resize r need) (Some held) is skips = absurd skips
+skip-row setting position operation None is skips = absurd skips
+skip-row setting position operation (Some held) is skips = absurd skips
 
 -- a live block has all its words
 contents-long :
@@ -89,7 +82,7 @@ below-both i a b one two = omega (arith, one, two)
 
 -- words of a held block as it was at a moment, and 0 behind them
 copy-of :
-    (setting : Setting) (position : Position) (held : Held) (block : Block) (words : ℕ) (found : List ℕ) (moment : Moment setting position.done)
+    (setting : Setting) (position : Position) (held : HeldBlock) (block : Block) (words : ℕ) (found : List ℕ) (moment : Moment setting position.done)
     → block_at held.place (pool_of moment.before) ≡ Some block → length block.contents ≡ held.words → length found ≡ min held.words words
     → ((j : ℕ) → 0 ≤ j → j < 0 + words → j < length found → IsWord (slice_index_or block.contents j None) (value_of found j))
     → IsCopy setting position held words (value_of found)
@@ -161,29 +154,24 @@ module _ (g : Geometry) (c d : Caller) (base : Position) (st : IsBetween g c bas
   none-added : d ≡ c → HasAdded g c d []
   none-added same = subst (λ x. HasAdded g c x []) (sym same) (added-none g c st.rests)
 
-  one-call : (call : Call) (answer : Reply) → Leads (answered call answer ∷ []) → IsCall g c call answer d
-  one-call call answer leads = subst (λ x. IsCall g c call answer x) (sym leads.2) leads.1
+  one-call : (made : List Made) (call : Call) (answer : Reply) → made ≡ answered call answer ∷ [] → Leads made → IsCall g c call answer d
+  one-call made call answer is leads =
+      let one = subst Leads is leads in subst (λ x. IsCall g c call answer x) (sym one.2) one.1
 
-  pub skipped :
-      (operation : Op) (slot : Option Held) → held_in base.registers (register_of operation) ≡ slot → Skips slot operation → d ≡ c
-      → HasGone g c d base operation outcome.Skipped
-  skipped operation slot is skips same =
-      gone operation outcome.Skipped [] (none-added same) (skip-row setting base operation slot is skips) (λ is. absurd (cc))
-
-  -- a fill
-  pub filled : (r v : ℕ) (held : Held) → held_in base.registers r ≡ Some held → Leads (wrote held.place held.need v held.words) → HasGone g c d base (op.Fill r v) outcome.Filled
-  filled r v held full leads =
-      let piece = filling caller held.place held.words v in
-      let added : HasAdded g c d piece = writes-added g held.place held.need (λ (i : ℕ). (v + i) % 2 ^ 64) held.words 0 c d st.rests leads in
-      gone (op.Fill r v) outcome.Filled piece added (subst (λ slot. FillRow setting v slot outcome.Filled piece) (sym full) refl) (λ is. absurd (cc))
+  -- one call, whose events are known
+  one-added :
+      (made : List Made) (call : Call) (answer : Reply) (end : Ended) (piece : List Event) → made ≡ answered call answer ∷ [] → Leads made
+      → ((words : ℕ) → call ≡ alloc words → answer ≡ reply.Spent → ⊥) → end_of call answer ≡ Some end
+      → ((added : List Event) → EventsOf caller end added → added ≡ piece) → HasAdded g c d piece
+  one-added made call answer end piece is leads = whole-added g c d call answer end piece (one-call made call answer is leads)
 
   -- the block that a register holds, as the caller owns it
-  abbrev pub OwnsIt : Held → Type 0
+  abbrev pub OwnsIt : HeldBlock → Type 0
   OwnsIt held =
       (block : Block) × (block_at held.place (pool_of c.seen) ≡ Some block) × (block.owner ≡ CallerOf caller)
       × (length block.contents ≡ usable_words held.need)
 
-  owns-it : (r : ℕ) (held : Held) → held_in base.registers r ≡ Some held → OwnsIt held
+  owns-it : (r : ℕ) (held : HeldBlock) → held_in base.registers r ≡ Some held → OwnsIt held
   owns-it r held full =
       let owned = st.holds.owned r held full in (
         owned.0,
@@ -192,114 +180,21 @@ module _ (g : Geometry) (c d : Caller) (base : Position) (st : IsBetween g c bas
         contents-long g c.seen held.place owned.0 st.rests.served.legal owned.1 ∙ ap usable_words owned.3,
       )
 
-  -- a check
-  pub checked :
-      (r total : ℕ) (held : Held) (words : List ℕ) → held_in base.registers r ≡ Some held → held.words ≡ usable_words held.need
-      → length words ≡ held.words → total ≡ sum words % 2 ^ 64 → Leads (found_from held.place held.need 0 words)
-      → HasGone g c d base (op.Check r) (outcome.Sum total)
-  checked r total held words full words_are all total_is leads =
-      let (block, live, mine, long) = owns-it r held full in
-      let first : HasKept g c held.place block mine c [] = record { has = added-none g c st.rests; still = live } in
-      let read = reads-kept g c held.place block mine held.need words 0 c d first leads in
-      let added : HasAdded g c d [] = read.0.has in
-      let summed : CheckRow setting base (Some held) (outcome.Sum total) [] = (
-        refl,
-        moment-first [] added,
-        block,
-        live,
-        record {
-          words = words;
-          each = zip-of block.contents words (long ∙ sym words_are ∙ sym all)
-              (λ i below. subst (λ k. IsWord (slice_index_or block.contents k None) (slice_index_or words i 0)) (zero-add i) (read.1 i below));
-          total_is = total_is;
-        },
-      ) in
-      gone (op.Check r) (outcome.Sum total) [] added (subst (λ slot. CheckRow setting base slot (outcome.Sum total) []) (sym full) summed) (λ is. absurd (cc))
-
-  -- a free and a put
-  pub freed : (r : ℕ) (held : Held) → held_in base.registers r ≡ Some held → Leads (answered (free held.place held.need) reply.Freed ∷ []) → HasGone g c d base (op.Free r) outcome.Freed
-  freed r held full leads =
-      let call = free held.place held.need in
-      let piece : List Event = Free caller held.place ∷ [] in
-      let added =
-      whole-added g c d call reply.Freed (event_end.freed held.place) piece (one-call call reply.Freed leads) (λ words is spent. cc) refl (λ more is. is) in
-      gone (op.Free r) outcome.Freed piece added (subst (λ slot. FreeRow setting slot outcome.Freed piece) (sym full) refl) (λ is. absurd (cc))
-
-  pub put_down :
-      (r shelf : ℕ) (held : Held) → held_in base.registers r ≡ Some held → Leads (answered (put held.place held.need shelf) reply.Put ∷ [])
-      → HasGone g c d base (op.Put r shelf) outcome.Put
-  put_down r shelf held full leads =
-      let call = put held.place held.need shelf in
-      let piece : List Event = Put caller held.place shelf ∷ [] in
-      let added =
-      whole-added g c d call reply.Put (event_end.put_done held.place shelf) piece (one-call call reply.Put leads) (λ words is spent. cc) refl (λ more is. is) in
-      gone (op.Put r shelf) outcome.Put piece added (subst (λ slot. PutRow setting base shelf slot outcome.Put piece) (sym full) refl) (λ is. absurd (cc))
-
-  pub put_back :
-      (r shelf found : ℕ) (held : Held) → held_in base.registers r ≡ Some held → Leads (answered (put held.place held.need shelf) (reply.Full found) ∷ [])
-      → HasGone g c d base (op.Put r shelf) outcome.ShelfFull
-  put_back r shelf found held full leads =
-      let (added, lies) = full-added g c d held.place held.need shelf found (one-call (put held.place held.need shelf) (reply.Full found) leads) in
-      gone (op.Put r shelf) outcome.ShelfFull [] added
-      (subst (λ slot. PutRow setting base shelf slot outcome.ShelfFull []) (sym full) (refl, moment-last added, lies)) (λ is. absurd (cc))
-
-  -- a take
-  pub took :
-      (r shelf words place : ℕ) (need : Need) (misses : List Made) → held_in base.registers r ≡ None → AreMisses shelf misses
-      → words ≡ usable_words need → Leads (misses ++ answered (take shelf) (reply.Got place need) ∷ [])
-      → HasGone g c d base (op.Take r shelf) (outcome.Took words place need)
-  took r shelf words place need misses empty are words_are leads =
-      let (t, first, last) = takes-added g shelf (reply.Got place need) misses c d are st.rests leads in
-      let got = got-added g t d shelf place need last in
-      let off : HasTakenOff t d shelf place need = got.1 in
-      let same : t.errand.caller ≡ caller = first.moved.same_caller in
-      let piece : List Event = Take caller shelf place ∷ [] in
-      let one : HasAdded g t d piece = subst (λ k. HasAdded g t d (Take k shelf place ∷ [])) same got.0 in
-      let whole : d.seen ≡ off.before ++ piece = subst (λ k. d.seen ≡ off.before ++ Take k shelf place ∷ []) same off.last in
-      let own_before : own caller off.before ≡ base.done =
-      subst (λ k. own k off.before ≡ own k t.seen) same off.own_before ∙ first.moved.own_events ∙ append-nil (own caller c.seen) ∙ st.done in
-      let begins : Begins (off.before ++ piece) setting.history = ([], whole ∙ sym (append-nil (off.before ++ piece))) in
-      let row = subst (λ slot. TakeRow setting base shelf slot (outcome.Took words place need) piece) (sym empty) (
-        refl,
-        record { before = off.before; begins = (piece, whole); own_done = own_before },
-        off.block,
-        begins,
-        off.lay,
-        words_are ∙ ap usable_words off.need_is,
-        off.need_is,
-      ) in
-      gone (op.Take r shelf) (outcome.Took words place need) piece (added-then g c t d [] piece first one) row (λ is. absurd (cc))
-
-  pub none_there :
-      (r shelf : ℕ) (misses : List Made) → held_in base.registers r ≡ None → AreMisses shelf misses
-      → Leads (misses ++ answered (take shelf) reply.Empty ∷ []) → HasGone g c d base (op.Take r shelf) outcome.ShelfEmpty
-  none_there r shelf misses empty are leads =
-      let last = takes-added g shelf reply.Empty misses c d are st.rests leads in
-      let t = last.0 in
-      let piece : List Event = TakeNone caller shelf ∷ [] in
-      let one : HasAdded g t d piece =
-      whole-added g t d (take shelf) reply.Empty (event_end.take_empty shelf) piece last.2 (λ words is spent. cc) refl
-      (λ more is. is ∙ ap (λ k. TakeNone k shelf ∷ []) last.1.moved.same_caller) in
-      gone (op.Take r shelf) outcome.ShelfEmpty piece (added-then g c t d [] piece last.1 one)
-      (subst (λ slot. TakeRow setting base shelf slot outcome.ShelfEmpty piece) (sym empty) refl) (λ is. absurd (cc))
-
   -- an allocation that made steps had turns left
-  asks-by : (need : ℕ) (answer : Reply) (t : Caller) → MadeBy c (alloc need) answer t → answer ≢ reply.Spent → MayAsk base need
-  asks-by need answer t (by_steps ends) not =
-      let busy = steps-busy ends.in_call.steps (begun_at c (alloc need)) ends.last ends.in_call.on ends.in_call.busy in
-      may-ask c.errand base need (λ is. st.spent is ∙ ap (λ (h : Geometry). h.turn_limit) (sym heap)) (alloc-started c.errand need st.rests.idle busy)
-  asks-by need answer t (at_once words is_alloc is_spent spent same) not = absurd (not is_spent)
-
   asks-made : (need : ℕ) (answer : Reply) (t : Caller) → EndsCall c (alloc need) answer t → MayAsk base need
   asks-made need answer t ends =
       let busy = steps-busy ends.in_call.steps (begun_at c (alloc need)) ends.last ends.in_call.on ends.in_call.busy in
       may-ask c.errand base need (λ is. st.spent is ∙ ap (λ (h : Geometry). h.turn_limit) (sym heap)) (alloc-started c.errand need st.rests.idle busy)
 
+  asks-by : (need : ℕ) (answer : Reply) (t : Caller) → MadeBy c (alloc need) answer t → answer ≢ reply.Spent → MayAsk base need
+  asks-by need answer t (by_steps ends) not = asks-made need answer t ends
+  asks-by need answer t (at_once words is_alloc is_spent spent same) not = absurd (not is_spent)
+
   refusal :
-      (need : ℕ) → Leads (answered (alloc need) reply.Refused ∷ [])
+      (need : ℕ) (made : List Made) → made ≡ answered (alloc need) reply.Refused ∷ [] → Leads made
       → (piece : List Event) × HasAdded g c d piece × MayAsk base need × EventsOf caller (alloc_refused need) piece
-  refusal need leads =
-      let one = one-call (alloc need) reply.Refused leads in
+  refusal need made is leads =
+      let one = one-call made (alloc need) reply.Refused is leads in
       let h = steps-called g c d (alloc need) reply.Refused one (λ words is spent. cc) in (
         h.added,
         called-added g c d (alloc need) reply.Refused one.rests h,
@@ -321,10 +216,7 @@ module _ (g : Geometry) (c d : Caller) (base : Position) (st : IsBetween g c bas
   spending-by need owned rests (by_steps ends) =
       let call = alloc need in
       let h = ends-called g c d call reply.Spent st.rests owned ends in
-      let step : HasStepped place_in need_in h.last.errand d.errand h.last.seen d.seen (stepped.Done ending.Spent) =
-      record { moment = h.moment; back = tt } in
-      let told : EndsSpent h.last.errand d.errand need h.last.seen d.seen h.way.added =
-      told-of_alloc place_in need_in h.last.errand d.errand h.last.seen d.seen h.way.added need ending.Spent step h.way.under_way in
+      let told = ends-spent_call h.last.errand d.errand h.last.seen d.seen h.way.added need h.moment h.way.under_way in
       let added = called-added g c d call reply.Spent rests h in
       let limit : d.errand.turns ≡ g.turn_limit =
       told.limit ∙ ap (λ (x : Geometry). x.turn_limit) (h.way.moved.same_geometry ∙ heap) in
@@ -343,56 +235,19 @@ module _ (g : Geometry) (c d : Caller) (base : Position) (st : IsBetween g c bas
       ([], added, spent-so need [] added limit none.all (λ is. refl), limit)
 
   spending :
-      (need : ℕ) → Leads (answered (alloc need) reply.Spent ∷ [])
+      (need : ℕ) (made : List Made) → made ≡ answered (alloc need) reply.Spent ∷ [] → Leads made
       → (piece : List Event) × HasAdded g c d piece × IsSpent setting base need piece base.spent × (d.errand.turns ≡ g.turn_limit)
-  spending need leads =
-      let one = one-call (alloc need) reply.Spent leads in spending-by need one.owned one.rests one.made
-
-  pub refused :
-      (r need v : ℕ) → held_in base.registers r ≡ None → Leads (answered (alloc need) reply.Refused ∷ [])
-      → HasGone g c d base (op.Alloc r need v) outcome.Refused
-  refused r need v empty leads =
-      let (piece, added, may, events) = refusal need leads in
-      gone (op.Alloc r need v) outcome.Refused piece added (subst (λ slot. AllocRow setting base need v slot outcome.Refused piece) (sym empty) (may, events))
-      (λ is. absurd (cc))
-
-  pub unresized :
-      (r need : ℕ) (held : Held) → held_in base.registers r ≡ Some held → need_of need ≢ held.need → Leads (answered (alloc need) reply.Refused ∷ [])
-      → HasGone g c d base (op.Resize r need) outcome.Refused
-  unresized r need held full differ leads =
-      let (piece, added, may, events) = refusal need leads in
-      gone (op.Resize r need) outcome.Refused piece added
-      (subst (λ slot. ResizeRow setting base need slot outcome.Refused piece) (sym full) (differ, may, events)) (λ is. absurd (cc))
-
-  pub spent :
-      (r need v : ℕ) → held_in base.registers r ≡ None → Leads (answered (alloc need) reply.Spent ∷ []) → HasGone g c d base (op.Alloc r need v) outcome.Spent
-  spent r need v empty leads =
-      let (piece, added, row, limit) = spending need leads in
-      gone (op.Alloc r need v) outcome.Spent piece added (subst (λ slot. AllocRow setting base need v slot outcome.Spent piece) (sym empty) row) (λ is. limit)
-
-  pub respent :
-      (r need : ℕ) (held : Held) → held_in base.registers r ≡ Some held → need_of need ≢ held.need → Leads (answered (alloc need) reply.Spent ∷ [])
-      → HasGone g c d base (op.Resize r need) outcome.Spent
-  respent r need held full differ leads =
-      let (piece, added, row, limit) = spending need leads in
-      gone (op.Resize r need) outcome.Spent piece added (subst (λ slot. ResizeRow setting base need slot outcome.Spent piece) (sym full) (differ, row)) (λ is. limit)
-
-  -- the block serves the need of a resize
-  pub kept :
-      (r need words place : ℕ) (held : Held) → held_in base.registers r ≡ Some held → need_of need ≡ held.need → words ≡ held.words
-      → place ≡ held.place → d ≡ c → HasGone g c d base (op.Resize r need) (outcome.Kept words place)
-  kept r need words place held full serves words_are place_is same =
-      gone (op.Resize r need) (outcome.Kept words place) [] (none-added same)
-      (subst (λ slot. ResizeRow setting base need slot (outcome.Kept words place) []) (sym full) (refl, serves, words_are, place_is)) (λ is. absurd (cc))
+  spending need made is leads =
+      let one = one-call made (alloc need) reply.Spent is leads in spending-by need one.owned one.rests one.made
 
   -- an allocation that was given a block
-  record IsGiven (need place : ℕ) (t : Caller) : Type 0 where
+  pub record IsGiven (need place : ℕ) (t : Caller) : Type 0 where
     pub calls : List Event
     pub added : HasAdded g c t calls
     pub asks : MayAsk base need
     pub events : EventsOf caller (alloc_given need place) calls
 
-  gives : (need place : ℕ) (t : Caller) → IsCall g c (alloc need) (reply.Given place (need_of need)) t → IsGiven need place t
+  pub gives : (need place : ℕ) (t : Caller) → IsCall g c (alloc need) (reply.Given place (need_of need)) t → IsGiven need place t
   gives need place t one =
       let answer : Reply = reply.Given place (need_of need) in
       let h = steps-called g c t (alloc need) answer one (λ words is spent. cc) in
@@ -403,50 +258,153 @@ module _ (g : Geometry) (c d : Caller) (base : Position) (st : IsBetween g c bas
         events = ended-as caller (alloc need) answer h.added (alloc_given need place) h.ended refl;
       }
 
-  pub given :
-      (r need v words place : ℕ) → held_in base.registers r ≡ None → words ≡ usable_words (need_of need)
-      → Leads (answered (alloc need) (reply.Given place (need_of need)) ∷ wrote place (need_of need) v words)
-      → HasGone g c d base (op.Alloc r need v) (outcome.Given words place)
-  given r need v words place empty words_are (t, one, leads) =
+  -- the words of a register's block are copied into a new one, which these events gave
+  pub copies :
+      (r words place : ℕ) (held : HeldBlock) (need : Need) (found : List ℕ) (t u : Caller) (calls : List Event) → held_in base.registers r ≡ Some held
+      → held.words ≡ usable_words held.need → length found ≡ min held.words words → held.place ≢ place → HasAdded g c t calls
+      → AllQuiet held.place calls → LeadsBy (IsCall g) t (copied held.place held.need place need found words) u
+      → HasAdded g c u (calls ++ writing caller place words (value_of found))
+      × ((piece : List Event) → HasAdded g c d piece → IsCopy setting base held words (value_of found))
+  copies r words place held need found t u calls full has all apart added quiet leads =
+      let (block, live, mine, long) = owns-it r held full in
+      let first : HasKept g c held.place block mine c [] = record { has = added-none g c st.rests; still = live } in
+      let before : HasKept g c held.place block mine t calls = kept-on g c held.place block mine c t [] calls first added quiet in
+      let walk = copy-walk g c held.place block mine held.need place need apart found words 0 t u calls before leads in
+      (walk.0.has, λ piece more. copy-of setting base held block words found (moment-first piece more) live (long ∙ sym has) all walk.1)
+
+  -- an operation that was made
+  pub op-gone :
+      (operation : Op) (result : Outcome) (slot : Option HeldBlock) (made : List Made) → held_in base.registers (register_of operation) ≡ slot
+      → MadeFor slot operation result made → Leads made → HasGone g c d base operation result
+  op-gone operation outcome.Skipped slot made is (skip, none) leads =
+      gone operation outcome.Skipped [] (none-added (subst Leads none leads)) (skip-row setting base operation slot is skip) (λ is. absurd (cc))
+  op-gone (op.Alloc r need v) (outcome.Given words place) None made empty (words_are, calls) leads =
+      let (t, one, more) = subst Leads calls leads in
       let x = gives need place t one in
       let fills = filling caller place words v in
       let wrote_so : HasAdded g t d fills =
       subst (λ k. HasAdded g t d (filling k place words v)) x.added.moved.same_caller
-      (writes-added g place (need_of need) (λ (i : ℕ). (v + i) % 2 ^ 64) words 0 t d x.added.rests leads) in
+      (writes-added g place (need_of need) (λ (i : ℕ). (v + i) % 2 ^ 64) words 0 t d x.added.rests more) in
       gone (op.Alloc r need v) (outcome.Given words place) (x.calls ++ fills) (added-then g c t d x.calls fills x.added wrote_so)
       (subst (λ slot. AllocRow setting base need v slot (outcome.Given words place) (x.calls ++ fills)) (sym empty)
       (x.asks, words_are, x.calls, x.events, refl)) (λ is. absurd (cc))
-
-  pub resized :
-      (r need words place : ℕ) (held : Held) (found : List ℕ) → held_in base.registers r ≡ Some held → need_of need ≢ held.need
-      → words ≡ usable_words (need_of need) → held.words ≡ usable_words held.need → length found ≡ min held.words words
-      → Leads
-      (answered (alloc need) (reply.Given place (need_of need))
-      ∷ copied held.place held.need place (need_of need) found words ++ answered (free held.place held.need) reply.Freed ∷ [])
-      → HasGone g c d base (op.Resize r need) (outcome.Resized words place)
-  resized r need words place held found full differ words_are has all (t, one, leads) =
+  op-gone (op.Alloc r need v) outcome.Refused None made empty calls leads =
+      let (piece, added, may, events) = refusal need made calls leads in
+      gone (op.Alloc r need v) outcome.Refused piece added (subst (λ slot. AllocRow setting base need v slot outcome.Refused piece) (sym empty) (may, events))
+      (λ is. absurd (cc))
+  op-gone (op.Alloc r need v) outcome.Spent None made empty calls leads =
+      let (piece, added, row, limit) = spending need made calls leads in
+      gone (op.Alloc r need v) outcome.Spent piece added (subst (λ slot. AllocRow setting base need v slot outcome.Spent piece) (sym empty) row) (λ is. limit)
+  op-gone (op.Free r) outcome.Freed (Some held) made full (words, calls) leads =
+      let piece : List Event = Free caller held.place ∷ [] in
+      gone (op.Free r) outcome.Freed piece
+      (one-added made (free held.place held.need) reply.Freed (event_end.freed held.place) piece calls leads (λ words is spent. cc) refl (λ more is. is))
+      (subst (λ slot. FreeRow setting slot outcome.Freed piece) (sym full) refl) (λ is. absurd (cc))
+  op-gone (op.Fill r v) outcome.Filled (Some held) made full (words, calls) leads =
+      let piece = filling caller held.place held.words v in
+      gone (op.Fill r v) outcome.Filled piece
+      (writes-added g held.place held.need (λ (i : ℕ). (v + i) % 2 ^ 64) held.words 0 c d st.rests (subst Leads calls leads))
+      (subst (λ slot. FillRow setting v slot outcome.Filled piece) (sym full) refl) (λ is. absurd (cc))
+  op-gone (op.Check r) (outcome.Sum total) (Some held) made full (words_are, (words, all, total_is, calls)) leads =
+      let (block, live, mine, long) = owns-it r held full in
+      let first : HasKept g c held.place block mine c [] = record { has = added-none g c st.rests; still = live } in
+      let read = reads-kept g c held.place block mine held.need words 0 c d first (subst Leads calls leads) in
+      let summed : CheckRow setting base (Some held) (outcome.Sum total) [] = (
+        refl,
+        moment-first [] read.0.has,
+        block,
+        live,
+        record {
+          words = words;
+          each = zip-of block.contents words (long ∙ sym words_are ∙ sym all)
+              (λ i below. subst (λ k. IsWord (slice_index_or block.contents k None) (slice_index_or words i 0)) (zero-add i) (read.1 i below));
+          total_is = total_is;
+        },
+      ) in
+      gone (op.Check r) (outcome.Sum total) [] read.0.has (subst (λ slot. CheckRow setting base slot (outcome.Sum total) []) (sym full) summed)
+      (λ is. absurd (cc))
+  op-gone (op.Put r shelf) outcome.Put (Some held) made full (words, calls) leads =
+      let piece : List Event = Put caller held.place shelf ∷ [] in
+      gone (op.Put r shelf) outcome.Put piece
+      (one-added made (put held.place held.need shelf) reply.Put (event_end.put_done held.place shelf) piece calls leads (λ words is spent. cc) refl
+      (λ more is. is))
+      (subst (λ slot. PutRow setting base shelf slot outcome.Put piece) (sym full) refl) (λ is. absurd (cc))
+  op-gone (op.Put r shelf) outcome.ShelfFull (Some held) made full (words, (found, calls)) leads =
+      let (added, lies) =
+      full-added g c d held.place held.need shelf found (one-call made (put held.place held.need shelf) (reply.Full found) calls leads) in
+      gone (op.Put r shelf) outcome.ShelfFull [] added
+      (subst (λ slot. PutRow setting base shelf slot outcome.ShelfFull []) (sym full) (refl, moment-last added, lies)) (λ is. absurd (cc))
+  op-gone (op.Take r shelf) (outcome.Took words place need) None made empty (misses, are, words_are, calls) leads =
+      let (t, first, last) = takes-added g shelf (reply.Got place need) misses c d are st.rests (subst Leads calls leads) in
+      let got = got-added g t d shelf place need last in
+      let off : HasTakenOff t d shelf place need = got.1 in
+      let same : t.errand.caller ≡ caller = first.moved.same_caller in
+      let piece : List Event = Take caller shelf place ∷ [] in
+      let one : HasAdded g t d piece = subst (λ k. HasAdded g t d (Take k shelf place ∷ [])) same got.0 in
+      let whole : d.seen ≡ off.before ++ piece = subst (λ k. d.seen ≡ off.before ++ Take k shelf place ∷ []) same off.last in
+      let own_before : own caller off.before ≡ base.done =
+      subst (λ k. own k off.before ≡ own k t.seen) same off.own_before ∙ first.moved.own_events ∙ append-nil (own caller c.seen) ∙ st.done in
+      let begins : Begins (off.before ++ piece) setting.history = ([], whole ∙ sym (append-nil (off.before ++ piece))) in
+      let row = subst (λ slot. TakeRow setting base shelf slot (outcome.Took words place need) piece) (sym empty) (
+        refl,
+        record { before = off.before; begins = (piece, whole); own_done = own_before },
+        off.block,
+        begins,
+        off.lay,
+        words_are ∙ ap usable_words off.need_is,
+        off.need_is,
+      ) in
+      gone (op.Take r shelf) (outcome.Took words place need) piece (added-then g c t d [] piece first one) row (λ is. absurd (cc))
+  op-gone (op.Take r shelf) outcome.ShelfEmpty None made empty (misses, are, calls) leads =
+      let (t, first, last) = takes-added g shelf reply.Empty misses c d are st.rests (subst Leads calls leads) in
+      let piece : List Event = TakeNone caller shelf ∷ [] in
+      let one : HasAdded g t d piece =
+      whole-added g t d (take shelf) reply.Empty (event_end.take_empty shelf) piece last (λ words is spent. cc) refl
+      (λ more is. is ∙ ap (λ k. TakeNone k shelf ∷ []) first.moved.same_caller) in
+      gone (op.Take r shelf) outcome.ShelfEmpty piece (added-then g c t d [] piece first one)
+      (subst (λ slot. TakeRow setting base shelf slot outcome.ShelfEmpty piece) (sym empty) refl) (λ is. absurd (cc))
+  op-gone (op.Resize r need) (outcome.Kept words place) (Some held) made full (serves, words_are, place_is, calls) leads =
+      gone (op.Resize r need) (outcome.Kept words place) [] (none-added (subst Leads calls leads))
+      (subst (λ slot. ResizeRow setting base need slot (outcome.Kept words place) []) (sym full) (refl, serves, words_are, place_is)) (λ is. absurd (cc))
+  op-gone (op.Resize r need) (outcome.Resized words place) (Some held) made full (differ, words_are, has, found, all, calls) leads =
+      let (t, one, more) = subst Leads calls leads in
       let n = need_of need in
       let x = gives need place t one in
       let release = free held.place held.need in
-      let (block, live, mine, long) = owns-it r held full in
       let apart : held.place ≢ place =
       caller-apart g c t (alloc need) (reply.Given place n) place held.place n held.need one (refl, refl) (st.holds.owned r held full) in
-      let first : HasKept g c held.place block mine c [] = record { has = added-none g c st.rests; still = live } in
-      let before : HasKept g c held.place block mine t x.calls =
-      kept-on g c held.place block mine c t [] x.calls first x.added (quiet-giving held.place caller need place n x.calls x.events) in
-      let parts = leads-split (IsCall g) t d (copied held.place held.need place n found words) (answered release reply.Freed ∷ []) leads in
+      let parts = leads-split (IsCall g) t d (copied held.place held.need place n found words) (answered release reply.Freed ∷ []) more in
       let u = parts.0 in
-      let walk = copy-walk g c held.place block mine held.need place n apart found words 0 t u x.calls before parts.1 in
-      let copies = writing caller place words (value_of found) in
+      let writes = writing caller place words (value_of found) in
+      let (copied_so, copy) = copies r words place held n found t u x.calls full has all apart x.added
+      (quiet-giving held.place caller need place n x.calls x.events) parts.1 in
       let freed_one : IsCall g u release reply.Freed d = subst (λ y. IsCall g u release reply.Freed y) (sym parts.2.2) parts.2.1 in
-      let gone_free : HasAdded g u d (Free caller held.place ∷ []) =
+      let frees : HasAdded g u d (Free caller held.place ∷ []) =
       whole-added g u d release reply.Freed (event_end.freed held.place) (Free caller held.place ∷ []) freed_one (λ words is spent. cc) refl
-      (λ more is. is ∙ ap (λ k. Free k held.place ∷ []) walk.0.has.moved.same_caller) in
-      let piece = x.calls ++ copies ++ Free caller held.place ∷ [] in
-      let added : HasAdded g c d piece =
-      added-then g c u d (x.calls ++ copies) (Free caller held.place ∷ []) walk.0.has gone_free in
-      let copy : IsCopy setting base held words (value_of found) =
-      copy-of setting base held block words found (moment-first piece added) live (long ∙ sym has) all walk.1 in
+      (λ more is. is ∙ ap (λ k. Free k held.place ∷ []) copied_so.moved.same_caller) in
+      let piece = x.calls ++ writes ++ Free caller held.place ∷ [] in
+      let added : HasAdded g c d piece = added-then g c u d (x.calls ++ writes) (Free caller held.place ∷ []) copied_so frees in
       gone (op.Resize r need) (outcome.Resized words place) piece added
       (subst (λ slot. ResizeRow setting base need slot (outcome.Resized words place) piece) (sym full)
-      (differ, x.asks, words_are, x.calls, x.events, value_of found, copy, refl)) (λ is. absurd (cc))
+      (differ, x.asks, words_are, x.calls, x.events, value_of found, copy piece added, refl)) (λ is. absurd (cc))
+  op-gone (op.Resize r need) outcome.Refused (Some held) made full (differ, calls) leads =
+      let (piece, added, may, events) = refusal need made calls leads in
+      gone (op.Resize r need) outcome.Refused piece added
+      (subst (λ slot. ResizeRow setting base need slot outcome.Refused piece) (sym full) (differ, may, events)) (λ is. absurd (cc))
+  op-gone (op.Resize r need) outcome.Spent (Some held) made full (differ, calls) leads =
+      let (piece, added, row, limit) = spending need made calls leads in
+      gone (op.Resize r need) outcome.Spent piece added (subst (λ slot. ResizeRow setting base need slot outcome.Spent piece) (sym full) (differ, row)) (λ is. limit)
+  op-gone (op.Alloc r need v) result None made is calls leads = absurd calls
+  op-gone (op.Alloc r need v) result (Some held) made is calls leads = absurd calls
+  op-gone (op.Free r) result None made is calls leads = absurd calls
+  op-gone (op.Free r) result (Some held) made is calls leads = absurd calls
+  op-gone (op.Fill r v) result None made is calls leads = absurd calls
+  op-gone (op.Fill r v) result (Some held) made is calls leads = absurd calls
+  op-gone (op.Check r) result None made is calls leads = absurd calls
+  op-gone (op.Check r) result (Some held) made is calls leads = absurd calls
+  op-gone (op.Put r shelf) result None made is calls leads = absurd calls
+  op-gone (op.Put r shelf) result (Some held) made is calls leads = absurd calls
+  op-gone (op.Take r shelf) result None made is calls leads = absurd calls
+  op-gone (op.Take r shelf) result (Some held) made is calls leads = absurd calls
+  op-gone (op.Resize r need) result None made is calls leads = absurd calls
+  op-gone (op.Resize r need) result (Some held) made is calls leads = absurd calls

@@ -6,7 +6,7 @@ use Rattle.std.proofs.lemmas.Bool.{cases_Bool}
 use Rattle.std.proofs.lemmas.List.{map-append}
 use Rattle.heap_geometry.specs.declared.geometry.Geometry.{Geometry}
 use Rattle.heap_geometry.specs.declared.need.Need.{Need}
-use Rattle.heap_geometry.specs.Need.{need_of, usable_words}
+use Rattle.heap_geometry.specs.Need.{IsNeed, need_of, usable_words}
 use Rattle.errand_steps.specs.Calls.{Call, alloc, free, write, read, put, take}
 use Rattle.errand_steps.specs.declared.reply.Reply.{Reply}
 use Rattle.errand_steps.specs.declared.reply.Reply.TheVariants as reply
@@ -14,7 +14,7 @@ use Rattle.trace_text.specs.declared.trace.Op.{Op}
 use Rattle.trace_text.specs.declared.trace.Op.TheVariants as op
 use Rattle.sound_laws.specs.events.Made.{LeadsBy, Made, answered, copied, copied_word, found_from, wrote}
 use Rattle.lane_engine.specs.Callers.{Caller, IsAtRest, IsCall}
-use Rattle.lane_outcomes.specs.declared.registers.Held.{Held}
+use Rattle.lane_outcomes.specs.declared.registers.HeldBlock.{HeldBlock}
 use Rattle.lane_outcomes.specs.declared.outcome.Outcome.{Outcome}
 use Rattle.lane_outcomes.specs.declared.outcome.Outcome.TheVariants as outcome
 use Rattle.lane_outcomes.specs.Lane.{held_in, registers_after}
@@ -22,19 +22,19 @@ use Rattle.trace_lane.specs.Doing.{AllMadeFor}
 use Rattle.trace_lane.specs.Made.{AreMisses, MadeFor, calls_made, register_of}
 use Rattle.trace_lane.specs.Scripts.{CallsOf, IsOfNeed, OnHeld, Replaces, Scripts, copying, copying_word, reads_of, writes_of}
 use Rattle.trace_lane.proofs.AnswerLemmas.{owned-need}
-use Rattle.trace_lane.proofs.CallerLemmas.{Owns, leads-rest}
-use Rattle.trace_lane.proofs.HoldsLemmas.{HoldsAll, leads-split, op-holds}
+use Rattle.trace_lane.proofs.CallerLemmas.{Owns}
+use Rattle.trace_lane.proofs.HoldsLemmas.{HoldsAll, KeepsAll, leads-split, op-holds}
 use Rattle.trace_lane.proofs.WorkLemmas.{caller-laws}
 
 -- writes, reads and takes without their answers
 wrote-calls :
-    (held : Held) (need : Need) (v : ℕ) (is : List ℕ)
+    (held : HeldBlock) (need : Need) (v : ℕ) (is : List ℕ)
     → calls_made (map (λ i. answered (write held.place need i ((v + i) % 2 ^ 64)) reply.Wrote) is)
     ≡ map (λ i. write held.place need i ((v + i) % 2 ^ 64)) is
 wrote-calls held need v [] = refl
 wrote-calls held need v (i ∷ is) = ap (λ calls. write held.place need i ((v + i) % 2 ^ 64) ∷ calls) (wrote-calls held need v is)
 
-wrote-script : (held : Held) (need : Need) (v : ℕ) → calls_made (wrote held.place need v held.words) ≡ writes_of held need v
+wrote-script : (held : HeldBlock) (need : Need) (v : ℕ) → calls_made (wrote held.place need v held.words) ≡ writes_of held need v
 wrote-script held need v = wrote-calls held need v (range_with_len 0 held.words)
 
 found-calls :
@@ -79,15 +79,15 @@ misses-script shelf (m ∷ misses) answer are =
     ∙ ap (λ calls. take shelf ∷ calls) (misses-script shelf misses answer are.3)
 
 -- the calls of an operation that was made are those of its script, where the blocks in registers are of their needs
-module _ (registers : List (Option Held)) (serves : (r : ℕ) (held : Held) → held_in registers r ≡ Some held → held.words ≡ usable_words held.need → IsOfNeed held held.need) where
+module _ (registers : List (Option HeldBlock)) (serves : (r : ℕ) (held : HeldBlock) → held_in registers r ≡ Some held → held.words ≡ usable_words held.need → IsOfNeed held held.need) where
   on-held :
-      (r : ℕ) (held : Held) (calls_on : Held → Need → List Call) (made : List Made) → held_in registers r ≡ Some held
+      (r : ℕ) (held : HeldBlock) (calls_on : HeldBlock → Need → List Call) (made : List Made) → held_in registers r ≡ Some held
       → held.words ≡ usable_words held.need → calls_made made ≡ calls_on held held.need → OnHeld (held_in registers r) calls_on (calls_made made)
   on-held r held calls_on made is words calls =
       subst (λ slot. OnHeld slot calls_on (calls_made made)) (sym is) (serves r held is words, calls)
 
   resized-script :
-      (r need words place : ℕ) (held : Held) (found : List ℕ) (made : List Made) → held_in registers r ≡ Some held
+      (r need words place : ℕ) (held : HeldBlock) (found : List ℕ) (made : List Made) → held_in registers r ≡ Some held
       → held.words ≡ usable_words held.need → length found ≡ min held.words words
       → made
       ≡ answered (alloc need) (reply.Given place (need_of need))
@@ -107,7 +107,7 @@ module _ (registers : List (Option Held)) (serves : (r : ℕ) (held : Held) → 
       )
 
   pub op-script :
-      (operation : Op) (result : Outcome) (slot : Option Held) (made : List Made) → held_in registers (register_of operation) ≡ slot
+      (operation : Op) (result : Outcome) (slot : Option HeldBlock) (made : List Made) → held_in registers (register_of operation) ≡ slot
       → MadeFor slot operation result made → CallsOf registers operation result (calls_made made)
   op-script operation outcome.Skipped slot made is (skip, none) = ap calls_made none
   op-script (op.Alloc r need v) (outcome.Given words place) None made is (words_are, calls) =
@@ -134,37 +134,38 @@ module _ (registers : List (Option Held)) (serves : (r : ℕ) (held : Held) → 
   op-script (op.Resize r need) outcome.Refused (Some held) made is (differ, calls) = ap calls_made calls
   op-script (op.Resize r need) outcome.Spent (Some held) made is (differ, calls) = ap calls_made calls
   op-script (op.Alloc r need v) result None made is calls = absurd calls
-  op-script (op.Alloc r need v) result (Some held) made is calls = absurd calls
-  op-script (op.Free r) result None made is calls = absurd calls
-  op-script (op.Free r) result (Some held) made is calls = absurd calls
-  op-script (op.Fill r v) result None made is calls = absurd calls
-  op-script (op.Fill r v) result (Some held) made is calls = absurd calls
-  op-script (op.Check r) result None made is calls = absurd calls
-  op-script (op.Check r) result (Some held) made is calls = absurd calls
-  op-script (op.Put r shelf) result None made is calls = absurd calls
-  op-script (op.Put r shelf) result (Some held) made is calls = absurd calls
-  op-script (op.Take r shelf) result None made is calls = absurd calls
-  op-script (op.Take r shelf) result (Some held) made is calls = absurd calls
-  op-script (op.Resize r need) result None made is calls = absurd calls
-  op-script (op.Resize r need) result (Some held) made is calls = absurd calls
+  op-script operation result None made is calls = absurd calls
+  op-script operation result (Some held) made is calls = absurd calls
 
--- the calls of operations are those of their script
-pub all-script :
-    (g : Geometry) (operations : List Op) (results : List Outcome) (registers : List (Option Held)) (made : List Made) (c d : Caller) → IsAtRest g c
+-- the calls of operations are those of their script, where who makes them owns blocks of needs that there are
+module _ {S : Type 0} (called : S → Call → Reply → S → Type 0) (owns : S → ℕ → Need → Type 0) (laws : KeepsAll called owns) (stands : S → Type 0) (next : (s t : S) (call : Call) (answer : Reply) → called s call answer t → stands t) (real : (s : S) (place : ℕ) (need : Need) → stands s → owns s place need → IsNeed need) where
+  leads-stand : (made : List Made) (s t : S) → stands s → LeadsBy called s made t → stands t
+  leads-stand [] s t is same = subst stands (sym same) is
+  leads-stand (m ∷ made) s t is (u, one, leads) = leads-stand made u t (next s u m.call m.answer one) leads
+
+  pub all-script :
+      (operations : List Op) (results : List Outcome) (registers : List (Option HeldBlock)) (made : List Made) (s t : S) → stands s
+      → HoldsAll called owns laws s registers → AllMadeFor registers operations results made → LeadsBy called s made t
+      → Scripts registers operations results (calls_made made)
+  all-script operations [] registers made s t is holds all leads = ap calls_made all
+  all-script [] (result ∷ results) registers made s t is holds all leads = absurd all
+  all-script (operation ∷ operations) (result ∷ results) registers made s t is holds (first, rest, cut, for, all) leads =
+      let slot = held_in registers (register_of operation) in
+      let parts = leads-split called s t first rest (subst (λ ms. LeadsBy called s ms t) cut leads) in
+      let u = parts.0 in
+      let held = op-holds called owns laws s u registers operation result slot first holds refl for parts.1 in (
+        calls_made first,
+        calls_made rest,
+        ap calls_made cut ∙ map-append (λ (m : Made). m.call) first rest,
+        op-script registers (λ r held full words. (real s held.place held.need is (holds.owned r held full), words, refl)) operation result slot first refl for,
+        all-script operations results (registers_after registers operation result) rest u t (leads-stand first s u is parts.1) held all parts.2,
+      )
+
+-- so it is of a caller
+pub caller-script :
+    (g : Geometry) (operations : List Op) (results : List Outcome) (registers : List (Option HeldBlock)) (made : List Made) (c d : Caller) → IsAtRest g c
     → HoldsAll (IsCall g) Owns (caller-laws g) c registers → AllMadeFor registers operations results made → LeadsBy (IsCall g) c made d
     → Scripts registers operations results (calls_made made)
-all-script g operations [] registers made c d rests holds all leads = ap calls_made all
-all-script g [] (result ∷ results) registers made c d rests holds all leads = absurd all
-all-script g (operation ∷ operations) (result ∷ results) registers made c d rests holds (first, rest, is, for, all) leads =
-    let slot = held_in registers (register_of operation) in
-    let parts = leads-split (IsCall g) c d first rest (subst (λ ms. LeadsBy (IsCall g) c ms d) is leads) in
-    let t = parts.0 in
-    let next = op-holds (IsCall g) Owns (caller-laws g) c t registers operation result slot first holds refl for parts.1 in (
-      calls_made first,
-      calls_made rest,
-      ap calls_made is ∙ map-append (λ (m : Made). m.call) first rest,
-      op-script registers
-          (λ r held full words. (owned-need g c.seen c.errand.caller held.place held.need rests.served.legal (holds.owned r held full), words, refl))
-          operation result slot first refl for,
-      all-script g operations results (registers_after registers operation result) rest t d (leads-rest g c t first rests parts.1) next all parts.2,
-    )
+caller-script g =
+    all-script (IsCall g) Owns (caller-laws g) (IsAtRest g) (λ c d call answer one. one.rests)
+    (λ c place need rests owned. owned-need g c.seen c.errand.caller place need rests.served.legal owned)

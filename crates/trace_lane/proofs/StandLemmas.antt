@@ -41,7 +41,7 @@ use Rattle.lane_engine.specs.Begins.{begin_answer, call_of}
 use Rattle.lane_engine.specs.Callers.{Caller, FitsCall, IsAtRest, IsCall, IsIn, OwnsFor, at_once, by_steps, new_caller}
 use Rattle.lane_engine.specs.Engines.{Engine}
 use Rattle.lane_engine.specs.Told.{HasStepped}
-use Rattle.lane_outcomes.specs.declared.registers.Held.{Held}
+use Rattle.lane_outcomes.specs.declared.registers.HeldBlock.{HeldBlock}
 use Rattle.lane_outcomes.specs.declared.outcome.Outcome.{Outcome}
 use Rattle.lane_outcomes.specs.Lane.{held_in}
 use Rattle.trace_lane.specs.Advances.{AnswersCall, ComesTo, HasAnswered, HasBegun, HasGoneOn, IsAgain, IsAtHand, IsBefore, IsShort, IsTold, KeepsLane, MayAnswer}
@@ -58,9 +58,10 @@ use Rattle.trace_lane.proofs.AnswerLemmas.{MayCall, alloc-not_begun, call-begun,
 use Rattle.trace_lane.proofs.ApartLemmas.{owns-on}
 use Rattle.trace_lane.proofs.CallerLemmas.{IsWay, Owns, answers-so, ends-called, in-begun, in-way, moment-from}
 use Rattle.trace_lane.proofs.DoingLemmas.{on-block}
+use Rattle.trace_lane.proofs.EndedLemmas.{IsResting, lane-resting}
 use Rattle.trace_lane.proofs.HoldsLemmas.{HoldsAll, all-hold, leads-split}
-use Rattle.trace_lane.proofs.LaneParts.{blocks-size}
-use Rattle.trace_lane.proofs.MakingLemmas.{HasNeed, IsAtWork, comes-making, doing-begun, doing-few, doing-fits, empty, making-between, making-work}
+use Rattle.trace_lane.proofs.PartLemmas.{blocks-size}
+use Rattle.trace_lane.proofs.MakingLemmas.{HasNeed, IsAtWork, comes-making, doing-begun, doing-few, doing-fits, empty, making-work}
 use Rattle.trace_lane.proofs.NeedLemmas.{left-ends, left-rises, need-words}
 use Rattle.trace_lane.proofs.OwnLemmas.{empty-holds}
 use Rattle.trace_lane.proofs.WorkLemmas.{all-made, caller-laws, doing-owns, owned-has}
@@ -69,7 +70,6 @@ use Rattle.trace_lane.proofs.WorkLemmas.{all-made, caller-laws, doing-owns, owne
 pub owns-beside :
     (g : Geometry) (caller : ℕ) (before after : List Event) (call : Call) → HasSeenMore caller before after → IsLegal g after
     → OwnsFor before caller call → OwnsFor after caller call
-owns-beside g caller before after (alloc words) seen legal owned = tt
 owns-beside g caller before after (free place need) seen legal owned =
     owns-on g caller place need before after [] legal (seen.more, seen.seen, seen.not_own) tt owned
 owns-beside g caller before after (write place need i v) seen legal owned =
@@ -78,30 +78,23 @@ owns-beside g caller before after (read place need i) seen legal owned =
     owns-on g caller place need before after [] legal (seen.more, seen.seen, seen.not_own) tt owned
 owns-beside g caller before after (put place need shelf) seen legal owned =
     owns-on g caller place need before after [] legal (seen.more, seen.seen, seen.not_own) tt owned
-owns-beside g caller before after (take shelf) seen legal owned = tt
+owns-beside g caller before after call seen legal owned = tt
 
 -- a call that begins started
 may-begin :
     (e : ErrandFields) (events : List Event) (call : Call) → begin_answer e call ≡ begun.Started → OwnsFor events e.caller call → MayCall e events call
 may-begin e events (alloc words) started owned = started
-may-begin e events (free place need) started owned = owned
-may-begin e events (write place need i v) started owned = owned
-may-begin e events (read place need i) started owned = owned
-may-begin e events (put place need shelf) started owned = owned
 may-begin e events (take shelf) started owned = tt
+may-begin e events call started owned = owned
 
 -- only an allocation finds no turn left
 spent-alloc :
     (e : ErrandFields) (call : Call) → begin_answer e call ≡ begun.Spent → (words : ℕ) × (call ≡ alloc words) × (alloc_answer e words ≡ begun.Spent)
 spent-alloc e (alloc words) spent = (words, refl, spent)
-spent-alloc e (free place need) spent = absurd (cc)
-spent-alloc e (write place need i v) spent = absurd (cc)
-spent-alloc e (read place need i) spent = absurd (cc)
-spent-alloc e (put place need shelf) spent = absurd (cc)
-spent-alloc e (take shelf) spent = absurd (cc)
+spent-alloc e call spent = absurd (cc)
 
 resize-none :
-    (before registers : List (Option Held)) (r need : ℕ) (made : List Made) → DoingOf before registers (op.Resize r need) stage.Calling made → made ≡ []
+    (before registers : List (Option HeldBlock)) (r need : ℕ) (made : List Made) → DoingOf before registers (op.Resize r need) stage.Calling made → made ≡ []
 resize-none before registers r need made doing = (on-block (held_in before r) _ doing).so.2
 
 -- an operation that has ended a call has no allocation under way
@@ -109,7 +102,7 @@ longer-not : (made : List Made) (m : Made) → made ++ m ∷ [] ≡ [] → ⊥
 longer-not made m none = let long = length-append made (m ∷ []) in let zero_long = ap length none in omega (arith, long, zero_long)
 
 next-started :
-    (e : ErrandFields) (before registers : List (Option Held)) (operation : Op) (at : OperationStage) (made : List Made) (m : Made)
+    (e : ErrandFields) (before registers : List (Option HeldBlock)) (operation : Op) (at : OperationStage) (made : List Made) (m : Made)
     → DoingOf before registers operation at (made ++ m ∷ []) → begin_answer e (call_at before registers operation at) ≡ begun.Started
 next-started e before registers (op.Alloc r need v) stage.Calling made m doing = absurd (longer-not made m doing.2)
 next-started e before registers (op.Alloc r need v) (stage.Filling i) made m doing = refl
@@ -123,38 +116,7 @@ next-started e before registers (op.Resize r need) stage.Calling made m doing =
 next-started e before registers (op.Resize r need) (stage.Copying old i None) made m doing = refl
 next-started e before registers (op.Resize r need) (stage.Copying old i (Some w)) made m doing = refl
 next-started e before registers (op.Resize r need) stage.Releasing made m doing = refl
-next-started e before registers (op.Alloc r need v) stage.Between made m doing = absurd doing
-next-started e before registers (op.Alloc r need v) (stage.Summing i total) made m doing = absurd doing
-next-started e before registers (op.Alloc r need v) (stage.Copying old i w) made m doing = absurd doing
-next-started e before registers (op.Alloc r need v) stage.Releasing made m doing = absurd doing
-next-started e before registers (op.Free r) stage.Between made m doing = absurd doing
-next-started e before registers (op.Free r) (stage.Filling i) made m doing = absurd doing
-next-started e before registers (op.Free r) (stage.Summing i total) made m doing = absurd doing
-next-started e before registers (op.Free r) (stage.Copying old i w) made m doing = absurd doing
-next-started e before registers (op.Free r) stage.Releasing made m doing = absurd doing
-next-started e before registers (op.Fill r v) stage.Between made m doing = absurd doing
-next-started e before registers (op.Fill r v) stage.Calling made m doing = absurd doing
-next-started e before registers (op.Fill r v) (stage.Summing i total) made m doing = absurd doing
-next-started e before registers (op.Fill r v) (stage.Copying old i w) made m doing = absurd doing
-next-started e before registers (op.Fill r v) stage.Releasing made m doing = absurd doing
-next-started e before registers (op.Check r) stage.Between made m doing = absurd doing
-next-started e before registers (op.Check r) stage.Calling made m doing = absurd doing
-next-started e before registers (op.Check r) (stage.Filling i) made m doing = absurd doing
-next-started e before registers (op.Check r) (stage.Copying old i w) made m doing = absurd doing
-next-started e before registers (op.Check r) stage.Releasing made m doing = absurd doing
-next-started e before registers (op.Put r shelf) stage.Between made m doing = absurd doing
-next-started e before registers (op.Put r shelf) (stage.Filling i) made m doing = absurd doing
-next-started e before registers (op.Put r shelf) (stage.Summing i total) made m doing = absurd doing
-next-started e before registers (op.Put r shelf) (stage.Copying old i w) made m doing = absurd doing
-next-started e before registers (op.Put r shelf) stage.Releasing made m doing = absurd doing
-next-started e before registers (op.Take r shelf) stage.Between made m doing = absurd doing
-next-started e before registers (op.Take r shelf) (stage.Filling i) made m doing = absurd doing
-next-started e before registers (op.Take r shelf) (stage.Summing i total) made m doing = absurd doing
-next-started e before registers (op.Take r shelf) (stage.Copying old i w) made m doing = absurd doing
-next-started e before registers (op.Take r shelf) stage.Releasing made m doing = absurd doing
-next-started e before registers (op.Resize r need) stage.Between made m doing = absurd doing
-next-started e before registers (op.Resize r need) (stage.Filling i) made m doing = absurd doing
-next-started e before registers (op.Resize r need) (stage.Summing i total) made m doing = absurd doing
+next-started e before registers operation at made m doing = absurd doing
 
 -- a take that begins again had been missed
 misses-last :
@@ -163,17 +125,12 @@ misses-last shelf [] m (expected, found, is, rest) = (expected, found, ap (λ (x
 misses-last shelf (x ∷ made) m (expected, found, is, rest) = misses-last shelf made m rest
 
 again-so :
-    (before registers now : List (Option Held)) (operation : Op) (made : List Made) (m : Made) (shelf : ℕ)
+    (before registers now : List (Option HeldBlock)) (operation : Op) (made : List Made) (m : Made) (shelf : ℕ)
     → DoingOf before now operation stage.Calling (made ++ m ∷ []) → call_at before now operation stage.Calling ≡ take shelf
     → (call_at before registers operation stage.Calling ≡ take shelf) × (expected : ℕ) × (found : ℕ) × (m.answer ≡ reply.Missed expected found)
 again-so before registers now (op.Take r k) made m shelf doing is =
     let missed = misses-last k made m doing.2 in (is, missed.0, missed.1, missed.2)
-again-so before registers now (op.Alloc r need v) made m shelf doing is = absurd (cc)
-again-so before registers now (op.Free r) made m shelf doing is = absurd (cc)
-again-so before registers now (op.Fill r v) made m shelf doing is = absurd (cc)
-again-so before registers now (op.Check r) made m shelf doing is = absurd (cc)
-again-so before registers now (op.Put r k) made m shelf doing is = absurd (cc)
-again-so before registers now (op.Resize r need) made m shelf doing is = absurd (cc)
+again-so before registers now operation made m shelf doing is = absurd (cc)
 
 missed-none :
     (caller shelf expected found : ℕ) (added : List Event) → HasEnded caller (take shelf) (reply.Missed expected found) added → added ≡ []
@@ -185,27 +142,20 @@ missed-none caller shelf expected found added h =
 -- the word of a write is one of those that the largest block has
 short-by : {B : Type 0} (place_of : B → ℕ) (block_need : B → Need) (call : Call) → FitsCall call → HasNeed call → IsShort place_of block_need call
 short-by place_of block_need (write place need i v) fits has = let most = need-words need has in omega (arith, fits, most)
-short-by place_of block_need (alloc words) fits has = tt
-short-by place_of block_need (free place need) fits has = tt
-short-by place_of block_need (read place need i) fits has = tt
-short-by place_of block_need (put place need shelf) fits has = tt
-short-by place_of block_need (take shelf) fits has = tt
+short-by place_of block_need call fits has = tt
 
 -- a step that ended no call
 undone-so :
     {B : Type 0} (place_of : B → ℕ) (block_need : B → Need) (told : Stepped B) → ((ended : Ending B) → told ≡ stepped.Done ended → ⊥) → (r : Reply)
     → stepped_as place_of block_need told ≡ progress.Done r → ⊥
 undone-so place_of block_need (stepped.Done ended) undone r is = undone ended refl
-undone-so place_of block_need stepped.Idle undone r is = cc
-undone-so place_of block_need stepped.More undone r is = cc
-undone-so place_of block_need stepped.Lost undone r is = cc
-undone-so place_of block_need stepped.Cleared undone r is = cc
+undone-so place_of block_need told undone r is = cc
 
 module _ {B : Type 0} (engine : Engine B) where
   abbrev pub g : Geometry
   g = engine.geometry
 
-  abbrev pub blocks : LaneState B → List (Option Held)
+  abbrev pub blocks : LaneState B → List (Option HeldBlock)
   blocks lane = registers_at engine lane.registers.items
 
   -- a lane that has kept its room, with what it has made and where its caller stands
@@ -231,7 +181,7 @@ module _ {B : Type 0} (engine : Engine B) where
 
   -- one operation more has begun
   count-so :
-      (operation : Op) (before : List (Option Held)) (results : List Outcome) (made : List Made) (next : Option NextCall) (new : LaneState B)
+      (operation : Op) (before : List (Option HeldBlock)) (results : List Outcome) (made : List Made) (next : Option NextCall) (new : LaneState B)
       → ComesTo engine.place_of engine.need_of operation before results made next new → begun_count new.outcomes.items new.stage ≡ length results + 1
   count-so operation before results made (Some call) new (same, doing, is) =
       let some = doing-begun before (blocks new) operation new.stage made doing in
@@ -242,7 +192,7 @@ module _ {B : Type 0} (engine : Engine B) where
 
   -- less is left of the script
   falls-so :
-      (operations : List Op) (operation : Op) (before : List (Option Held)) (results : List Outcome) (made : List Made) (next : Option NextCall) (new : LaneState B)
+      (operations : List Op) (operation : Op) (before : List (Option HeldBlock)) (results : List Outcome) (made : List Made) (next : Option NextCall) (new : LaneState B)
       (at : OperationStage) → IsAtHand operations results operation → stage_begun at < begun_bound
       → ComesTo engine.place_of engine.need_of operation before results made next new
       → ((call : NextCall) → next ≡ Some call → stage_begun at < stage_begun new.stage)
@@ -265,39 +215,14 @@ module _ {B : Type 0} (engine : Engine B) where
       (all-made (IsCall g) empty operations results made (new_caller caller g) c all leads)
 
   module _ {operation : Op} {operations : List Op} {calls : List Call} {lane : LaneState B} (b : IsBefore engine operation operations calls lane) where
-    abbrev pub stands : IsLane g lane.caller engine.events engine.errand operations (blocks lane) lane.outcomes.items lane.stage calls
-    stands = b.stands.stands
+    pub resting : IsResting g lane.caller engine.events engine.errand operations (blocks lane) lane.outcomes.items calls
+    resting = lane-resting g lane.caller engine.events engine.errand operations (blocks lane) lane.outcomes.items lane.stage calls b.between b.stands.stands
 
     abbrev pub now : Caller
-    now = record { errand = engine.errand; seen = stands.sight }
-
-    -- what was made, and that the caller is in no call
-    pub record IsResting : Type 0 where
-      pub registers : blocks lane ≡ registers_from empty operations lane.outcomes.items
-      pub all : AllMadeFor empty operations lane.outcomes.items stands.made
-      pub leads : LeadsBy (IsCall g) (new_caller lane.caller g) stands.made now
-      pub rests : IsAtRest g now
-      pub calls_are : calls ≡ calls_made stands.made
-
-    resting-by :
-        (under : Option Call) → under ≡ None → calls ≡ calls_made stands.made ++ calls_in under → StandsBy g lane.caller stands.made under now
-        → (blocks lane ≡ registers_from empty operations lane.outcomes.items) → AllMadeFor empty operations lane.outcomes.items stands.made → IsResting
-    resting-by None is are so registers all = record {
-      registers = registers;
-      all = all;
-      leads = so.0;
-      rests = so.1;
-      calls_are = are ∙ append-nil (calls_made stands.made);
-    }
-    resting-by (Some call) is are so registers all = absurd (cc)
-
-    pub resting : IsResting
-    resting =
-        let m = making-between operations (blocks lane) lane.outcomes.items lane.stage stands.made stands.under b.between stands.making in
-        resting-by stands.under m.2 stands.begun stands.stands m.0 m.1
+    now = record { errand = engine.errand; seen = resting.sight }
 
     holds-now : HoldsAll (IsCall g) Owns (caller-laws g) now (registers_from empty operations lane.outcomes.items)
-    holds-now = holds-between operations lane.outcomes.items lane.caller stands.made now resting.leads resting.all
+    holds-now = holds-between operations lane.outcomes.items lane.caller resting.made now resting.leads resting.all
 
     number : engine.errand.caller ≡ lane.caller
     number = b.served.own_errand.number
@@ -307,14 +232,14 @@ module _ {B : Type 0} (engine : Engine B) where
         (next : Option NextCall) (new : LaneState B) → HasBegun engine.place_of engine.need_of operation lane next new
         → ComesTo engine.place_of engine.need_of operation (registers_from empty operations lane.outcomes.items) lane.outcomes.items [] next new
     comes-so next new h =
-        subst (λ rs. ComesTo engine.place_of engine.need_of operation rs lane.outcomes.items [] next new) resting.registers h.comes
+        subst (λ rs. ComesTo engine.place_of engine.need_of operation rs lane.outcomes.items [] next new) resting.registers_are h.comes
 
     making-so :
         (next : Option NextCall) (new : LaneState B) → HasBegun engine.place_of engine.need_of operation lane next new
-        → IsMaking operations (blocks new) new.outcomes.items new.stage stands.made (option_map call_of next)
+        → IsMaking operations (blocks new) new.outcomes.items new.stage resting.made (option_map call_of next)
     making-so next new h =
-        subst (λ ms. IsMaking operations (blocks new) new.outcomes.items new.stage ms (option_map call_of next)) (append-nil stands.made)
-        (comes-making engine.place_of engine.need_of operations lane.outcomes.items operation stands.made [] next new b.next resting.all (comes-so next new h))
+        subst (λ ms. IsMaking operations (blocks new) new.outcomes.items new.stage ms (option_map call_of next)) (append-nil resting.made)
+        (comes-making engine.place_of engine.need_of operations lane.outcomes.items operation resting.made [] next new b.next resting.all (comes-so next new h))
 
     falls-begun :
         (next : Option NextCall) (new : LaneState B) → HasBegun engine.place_of engine.need_of operation lane next new
@@ -334,8 +259,8 @@ module _ {B : Type 0} (engine : Engine B) where
         → HasGoneOn engine None again operations calls lane new
     begins-none again new h = record {
       stands =
-          lane-stands operations lane new stands.made None (calls ++ []) engine.errand stands.sight b.stands.room b.stands.size h.keeps
-          (making-so None new h) (append-nil calls ∙ resting.calls_are ∙ sym (append-nil (calls_made stands.made))) (resting.leads, resting.rests) stands.more;
+          lane-stands operations lane new resting.made None (calls ++ []) engine.errand resting.sight b.stands.room b.stands.size h.keeps
+          (making-so None new h) (append-nil calls ∙ resting.calls_are ∙ sym (append-nil (calls_made resting.made))) (resting.leads, resting.rests) resting.others;
       falls = inl (falls-begun None new h);
       count = count-so operation (registers_from empty operations lane.outcomes.items) lane.outcomes.items [] None new (comes-so None new h);
     }
@@ -343,7 +268,7 @@ module _ {B : Type 0} (engine : Engine B) where
     -- its first call may begin
     pub record MayBeginNow (call : Call) : Type 0 where
       pub idle : IsIdle engine.errand
-      pub sight_owned : OwnsFor stands.sight engine.errand.caller call
+      pub sight_owned : OwnsFor resting.sight engine.errand.caller call
       pub owned : OwnsFor engine.events lane.caller call
       pub fits : FitsCall call
 
@@ -362,8 +287,8 @@ module _ {B : Type 0} (engine : Engine B) where
           idle = resting.rests.idle;
           sight_owned = owned_call;
           owned =
-              owns-beside g lane.caller stands.sight engine.events (call_of call) stands.more b.served.legal
-              (subst (λ k. OwnsFor stands.sight k (call_of call)) number owned_call);
+              owns-beside g lane.caller resting.sight engine.events (call_of call) resting.others b.served.legal
+              (subst (λ k. OwnsFor resting.sight k (call_of call)) number owned_call);
           fits = subst FitsCall (sym is) fits;
         }
 
@@ -375,13 +300,13 @@ module _ {B : Type 0} (engine : Engine B) where
     begins-call again call new h may started =
         let made_call = call_of call in
         let begun_so =
-        call-begun g engine.errand.caller engine.errand stands.sight made_call resting.rests.served resting.rests.idle
-        (may-begin engine.errand stands.sight made_call started may.sight_owned) in
+        call-begun g engine.errand.caller engine.errand resting.sight made_call resting.rests.served resting.rests.idle
+        (may-begin engine.errand resting.sight made_call started may.sight_owned) in
         record {
           stands =
-              lane-stands operations lane new stands.made (Some made_call) (calls ++ made_call ∷ []) (begun_by engine.errand made_call) stands.sight
+              lane-stands operations lane new resting.made (Some made_call) (calls ++ made_call ∷ []) (begun_by engine.errand made_call) resting.sight
               b.stands.room b.stands.size h.keeps (making-so (Some call) new h) (ap (λ cs. cs ++ made_call ∷ []) resting.calls_are)
-              (now, resting.leads, resting.rests, may.sight_owned, record { steps = 0; on = refl; busy = begun_so.busy }) stands.more;
+              (now, resting.leads, resting.rests, may.sight_owned, record { steps = 0; on = refl; busy = begun_so.busy }) resting.others;
           falls = inl (falls-begun (Some call) new h);
           count = count-so operation (registers_from empty operations lane.outcomes.items) lane.outcomes.items [] (Some call) new (comes-so (Some call) new h);
         }
@@ -409,7 +334,7 @@ module _ {B : Type 0} (engine : Engine B) where
         let comes_call : ComesTo engine.place_of engine.need_of operation before lane.outcomes.items (one ∷ []) None new =
         subst (λ c. ComesTo engine.place_of engine.need_of operation before lane.outcomes.items (answered c reply.Spent ∷ []) None new) (sym is) comes in
         let making =
-        comes-making engine.place_of engine.need_of operations lane.outcomes.items operation stands.made (one ∷ []) None new b.next resting.all comes_call in
+        comes-making engine.place_of engine.need_of operations lane.outcomes.items operation resting.made (one ∷ []) None new b.next resting.all comes_call in
         let keeps : KeepsLane engine.place_of engine.need_of lane new = record {
           caller = answers.keeps.caller ∙ h.keeps.caller;
           size = answers.keeps.size ∙ h.keeps.size;
@@ -423,15 +348,15 @@ module _ {B : Type 0} (engine : Engine B) where
           owned = may.sight_owned;
           rests = resting.rests;
         } in
-        let leads = leads-more (IsCall g) (new_caller lane.caller g) now now stands.made (call_of call) reply.Spent resting.leads call_made in
+        let leads = leads-more (IsCall g) (new_caller lane.caller g) now now resting.made (call_of call) reply.Spent resting.leads call_made in
         record {
           stands =
               subst (λ f. IsLaneOf (record engine { errand = f }) operations new (calls ++ call_of call ∷ [])) (sym unchanged)
-              (lane-stands operations lane new (stands.made ++ one ∷ []) None (calls ++ call_of call ∷ []) engine.errand stands.sight b.stands.room
+              (lane-stands operations lane new (resting.made ++ one ∷ []) None (calls ++ call_of call ∷ []) engine.errand resting.sight b.stands.room
               b.stands.size keeps making
               (ap (λ cs. cs ++ call_of call ∷ []) resting.calls_are
-              ∙ sym (append-nil (calls_made (stands.made ++ one ∷ [])) ∙ map-append (λ (m : Made). m.call) stands.made (one ∷ [])))
-              (leads, resting.rests) stands.more);
+              ∙ sym (append-nil (calls_made (resting.made ++ one ∷ [])) ∙ map-append (λ (m : Made). m.call) resting.made (one ∷ [])))
+              (leads, resting.rests) resting.others);
           falls =
               inl
               (subst (λ at. script_left operations new.outcomes.items new.stage < script_left operations lane.outcomes.items at) (sym b.between)

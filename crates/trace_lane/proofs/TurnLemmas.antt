@@ -12,7 +12,7 @@ use Rattle.heap_geometry.specs.Need.{need_of}
 use Rattle.pool_model.specs.Calls.{EventsOf, IsGiving, IsRefusing, IsSpending, alloc_spent, looks}
 use Rattle.pool_model.specs.Histories.{own, caller_of}
 use Rattle.pool_model.specs.declared.event.Event.{Event}
-use Rattle.pool_model.specs.declared.event.Event.TheVariants.{Alloc, Looked, Refuse, Free, Write, Put, Take, TakeNone}
+use Rattle.pool_model.specs.declared.event.Event.TheVariants.{Alloc, Looked, Refuse, Free, Write}
 use Rattle.errand_steps.specs.Begins.{IsIdle, alloc_answer, begins_with}
 use Rattle.errand_steps.specs.Errands.{ErrandFields, is_spent}
 use Rattle.errand_steps.specs.Points.{is_idle}
@@ -24,7 +24,7 @@ use Rattle.sound_state.specs.Turns.{gives_small, refuses_small, is_small_alloc, 
 use Rattle.step_machine.specs.Moments.{IsServed}
 use Rattle.trace_text.specs.declared.trace.Op.{Op}
 use Rattle.trace_text.specs.declared.trace.Op.TheVariants as op
-use Rattle.lane_outcomes.specs.declared.registers.Held.{Held}
+use Rattle.lane_outcomes.specs.declared.registers.HeldBlock.{HeldBlock}
 use Rattle.lane_outcomes.specs.declared.outcome.Outcome.{Outcome}
 use Rattle.lane_outcomes.specs.declared.outcome.Outcome.TheVariants as outcome
 use Rattle.lane_outcomes.specs.Lane.{Position, answered_after, filling, held_in, is_small, writing}
@@ -136,7 +136,7 @@ counted true answered = omega arith
 counted false answered = omega arith
 
 alloc-answered :
-    (setting : Setting) (position : Position) (r need v : ℕ) (held : Option Held) (result : Outcome) (piece : List Event)
+    (setting : Setting) (position : Position) (r need v : ℕ) (held : Option HeldBlock) (result : Outcome) (piece : List Event)
     → AllocRow setting position need v held result piece → position.answered ≡ answered_in setting.caller position.done
     → answered_after position.answered (op.Alloc r need v) result ≡ answered_in setting.caller (position.done ++ piece)
 alloc-answered setting position r need v (Some held) outcome.Skipped piece row so_far =
@@ -158,7 +158,7 @@ alloc-answered setting position r need v None outcome.Spent piece row so_far =
 alloc-answered setting position r need v held result piece row so_far = absurd row
 
 free-answered :
-    (setting : Setting) (position : Position) (r : ℕ) (held : Option Held) (result : Outcome) (piece : List Event) → FreeRow setting held result piece
+    (setting : Setting) (position : Position) (r : ℕ) (held : Option HeldBlock) (result : Outcome) (piece : List Event) → FreeRow setting held result piece
     → position.answered ≡ answered_in setting.caller position.done
     → answered_after position.answered (op.Free r) result ≡ answered_in setting.caller (position.done ++ piece)
 free-answered setting position r None outcome.Skipped piece row so_far =
@@ -168,7 +168,7 @@ free-answered setting position r (Some held) outcome.Freed piece row so_far =
 free-answered setting position r held result piece row so_far = absurd row
 
 fill-answered :
-    (setting : Setting) (position : Position) (r v : ℕ) (held : Option Held) (result : Outcome) (piece : List Event)
+    (setting : Setting) (position : Position) (r v : ℕ) (held : Option HeldBlock) (result : Outcome) (piece : List Event)
     → FillRow setting v held result piece → position.answered ≡ answered_in setting.caller position.done
     → answered_after position.answered (op.Fill r v) result ≡ answered_in setting.caller (position.done ++ piece)
 fill-answered setting position r v None outcome.Skipped piece row so_far =
@@ -179,7 +179,7 @@ fill-answered setting position r v (Some held) outcome.Filled piece row so_far =
 fill-answered setting position r v held result piece row so_far = absurd row
 
 check-answered :
-    (setting : Setting) (position : Position) (r : ℕ) (held : Option Held) (result : Outcome) (piece : List Event)
+    (setting : Setting) (position : Position) (r : ℕ) (held : Option HeldBlock) (result : Outcome) (piece : List Event)
     → CheckRow setting position held result piece → position.answered ≡ answered_in setting.caller position.done
     → answered_after position.answered (op.Check r) result ≡ answered_in setting.caller (position.done ++ piece)
 check-answered setting position r None outcome.Skipped piece row so_far =
@@ -189,7 +189,7 @@ check-answered setting position r (Some held) (outcome.Sum total) piece row so_f
 check-answered setting position r held result piece row so_far = absurd row
 
 put-answered :
-    (setting : Setting) (position : Position) (r shelf : ℕ) (held : Option Held) (result : Outcome) (piece : List Event)
+    (setting : Setting) (position : Position) (r shelf : ℕ) (held : Option HeldBlock) (result : Outcome) (piece : List Event)
     → PutRow setting position shelf held result piece → position.answered ≡ answered_in setting.caller position.done
     → answered_after position.answered (op.Put r shelf) result ≡ answered_in setting.caller (position.done ++ piece)
 put-answered setting position r shelf None outcome.Skipped piece row so_far =
@@ -201,7 +201,7 @@ put-answered setting position r shelf (Some held) outcome.ShelfFull piece row so
 put-answered setting position r shelf held result piece row so_far = absurd row
 
 take-answered :
-    (setting : Setting) (position : Position) (r shelf : ℕ) (held : Option Held) (result : Outcome) (piece : List Event)
+    (setting : Setting) (position : Position) (r shelf : ℕ) (held : Option HeldBlock) (result : Outcome) (piece : List Event)
     → TakeRow setting position shelf held result piece → position.answered ≡ answered_in setting.caller position.done
     → answered_after position.answered (op.Take r shelf) result ≡ answered_in setting.caller (position.done ++ piece)
 take-answered setting position r shelf (Some held) outcome.Skipped piece row so_far =
@@ -213,7 +213,7 @@ take-answered setting position r shelf None (outcome.Took words place need) piec
 take-answered setting position r shelf held result piece row so_far = absurd row
 
 resize-answered :
-    (setting : Setting) (position : Position) (r need : ℕ) (held : Option Held) (result : Outcome) (piece : List Event)
+    (setting : Setting) (position : Position) (r need : ℕ) (held : Option HeldBlock) (result : Outcome) (piece : List Event)
     → ResizeRow setting position need held result piece → position.answered ≡ answered_in setting.caller position.done
     → answered_after position.answered (op.Resize r need) result ≡ answered_in setting.caller (position.done ++ piece)
 resize-answered setting position r need None outcome.Skipped piece row so_far =
@@ -258,12 +258,7 @@ answered-row setting position (op.Resize r need) result piece row so_far = resiz
 others-answer : (caller : ℕ) (event : Event) → eqb (caller_of event) caller ≡ false → answers caller event ≡ 0
 others-answer caller (Alloc by need place) other = rw other refl
 others-answer caller (Refuse by need) other = rw other refl
-others-answer caller (Looked by class) other = refl
-others-answer caller (Free by place) other = refl
-others-answer caller (Write by place i v) other = refl
-others-answer caller (Put by place shelf) other = refl
-others-answer caller (Take by shelf place) other = refl
-others-answer caller (TakeNone by shelf) other = refl
+others-answer caller event other = refl
 
 -- a caller's own events tell how many of its small allocations were answered
 pub answered-own : (caller : ℕ) (events : List Event) → answered_in caller events ≡ answered_in caller (own caller events)
@@ -288,13 +283,7 @@ given-to caller (Alloc by words place) =
       | inl hers ↦ rw hers (omega arith)
       | inr other ↦ rw other (omega arith)
     ])
-given-to caller (Refuse by need) = refl
-given-to caller (Looked by class) = refl
-given-to caller (Free by place) = refl
-given-to caller (Write by place i v) = refl
-given-to caller (Put by place shelf) = refl
-given-to caller (Take by shelf place) = refl
-given-to caller (TakeNone by shelf) = refl
+given-to caller event = refl
 
 given-to-all :
     (caller : ℕ) (events : List Event)

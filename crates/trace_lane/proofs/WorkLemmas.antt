@@ -7,7 +7,7 @@ use Rattle.pool_model.specs.Legal.{IsLegal}
 use Rattle.pool_model.specs.declared.event.Event.{Event}
 use Rattle.errand_steps.specs.declared.reply.Reply.{Reply}
 use Rattle.errand_steps.specs.declared.reply.Reply.TheVariants as reply
-use Rattle.errand_steps.specs.Calls.{Call, alloc, free, write, read, put, take}
+use Rattle.errand_steps.specs.Calls.{Call, alloc, write, read, put}
 use Rattle.sound_laws.specs.events.Made.{LeadsBy, Made, answered, copied, found_from, wrote}
 use Rattle.step_machine.specs.Cores.{OwnsAfter}
 use Rattle.trace_text.specs.declared.limits.TheConstants.{REGISTERS}
@@ -15,7 +15,7 @@ use Rattle.trace_text.specs.declared.trace.Op.{Op}
 use Rattle.trace_text.specs.declared.trace.Op.TheVariants as op
 use Rattle.trace_text.specs.Traces.{IsOp}
 use Rattle.lane_engine.specs.Callers.{Caller, IsAtRest, IsCall, OwnsFor}
-use Rattle.lane_outcomes.specs.declared.registers.Held.{Held}
+use Rattle.lane_outcomes.specs.declared.registers.HeldBlock.{HeldBlock}
 use Rattle.lane_outcomes.specs.declared.outcome.Outcome.{Outcome}
 use Rattle.lane_outcomes.specs.Lane.{held_in, registers_after}
 use Rattle.trace_lane.specs.declared.stage.OperationStage.{OperationStage}
@@ -27,7 +27,7 @@ use Rattle.trace_lane.proofs.CallerLemmas.{Owns, caller-apart, caller-hands, cal
 use Rattle.trace_lane.proofs.ApartLemmas.{owns-on}
 use Rattle.trace_lane.proofs.DoingLemmas.{on-block, set-there}
 use Rattle.trace_lane.proofs.HoldsLemmas.{HoldsAll, KeepsAll, lead-keep, leads-split}
-use Rattle.trace_lane.proofs.MadeLemmas.{leave-copied, leave-found, leave-wrote}
+use Rattle.trace_lane.proofs.MadeLemmas.{leads-then, leave-copied, leave-found, leave-wrote}
 use Rattle.trace_lane.proofs.MakingLemmas.{HasNeed, HasWords}
 use Rattle.trace_lane.proofs.NeedLemmas.{need-some}
 use Rattle.lane_engine.specs.Callers.{MadeBy, at_once, by_steps}
@@ -58,7 +58,7 @@ caller-laws g = record {
 
 -- all calls of operations, operation by operation
 pub all-made :
-    {S : Type 0} (called : S → Call → Reply → S → Type 0) (registers : List (Option Held)) (operations : List Op) (results : List Outcome)
+    {S : Type 0} (called : S → Call → Reply → S → Type 0) (registers : List (Option HeldBlock)) (operations : List Op) (results : List Outcome)
     (made : List Made) (s t : S) → AllMadeFor registers operations results made → LeadsBy called s made t
     → AllMade called registers operations results s t
 all-made called registers operations [] made s t all leads = subst (λ ms. LeadsBy called s ms t) all leads
@@ -70,7 +70,16 @@ all-made called registers (operation ∷ operations) (result ∷ results) made s
       all-made called (registers_after registers operation result) operations results rest parts.0 t all parts.2,
     )
 
-module _ (g : Geometry) (before registers : List (Option Held)) (between last : Caller) (holds : HoldsAll (IsCall g) Owns (caller-laws g) between before) where
+pub made-calls :
+    {S : Type 0} (called : S → Call → Reply → S → Type 0) (registers : List (Option HeldBlock)) (operations : List Op) (results : List Outcome) (s t : S)
+    → AllMade called registers operations results s t → (made : List Made) × AllMadeFor registers operations results made × LeadsBy called s made t
+made-calls called registers operations [] s t same = ([], refl, same)
+made-calls called registers [] (result ∷ results) s t all = absurd all
+made-calls called registers (operation ∷ operations) (result ∷ results) s t (u, (first, for, leads), all) =
+    let rest = made-calls called (registers_after registers operation result) operations results u t all in
+    (first ++ rest.0, (first, rest.0, refl, for, rest.1), leads-then called s u t first rest.0 leads rest.2)
+
+module _ (g : Geometry) (before registers : List (Option HeldBlock)) (between last : Caller) (holds : HoldsAll (IsCall g) Owns (caller-laws g) between before) where
   abbrev Leads : List Made → Type 0
   Leads made = LeadsBy (IsCall g) between made last
 
@@ -79,7 +88,7 @@ module _ (g : Geometry) (before registers : List (Option Held)) (between last : 
 
   -- the new block of a resize, and its old one
   new-owned :
-      (need place : ℕ) (old : Held) (words : List ℕ) (count : ℕ) (got : List Made) (i word : ℕ) → IsReadFor old i word got
+      (need place : ℕ) (old : HeldBlock) (words : List ℕ) (count : ℕ) (got : List Made) (i word : ℕ) → IsReadFor old i word got
       → Leads (replacing old place need words count ++ got) → Owns last place (need_of need)
   new-owned need place old words count got i word got_is (t, one, leads) =
       let n = need_of need in
@@ -97,7 +106,7 @@ module _ (g : Geometry) (before registers : List (Option Held)) (between last : 
       ]
 
   old-owned :
-      (need place : ℕ) (old : Held) (words : List ℕ) (count : ℕ) → Owns between old.place old.need → Leads (replacing old place need words count)
+      (need place : ℕ) (old : HeldBlock) (words : List ℕ) (count : ℕ) → Owns between old.place old.need → Leads (replacing old place need words count)
       → Owns last old.place old.need
   old-owned need place old words count owned (t, one, leads) =
       let n = need_of need in
@@ -114,7 +123,7 @@ module _ (g : Geometry) (before registers : List (Option Held)) (between last : 
       ap held_there (set-there before registers r (held_of place (need_of need)) (omega (arith, size, is.0)) set) in
       let (t, one, rest) = subst Leads made_is leads in
       let mine = caller-hands g between t (alloc need) (reply.Given place (need_of need)) place (need_of need) one (refl, refl) in
-      subst (λ (h : Held). Owns last h.place h.need) (sym there)
+      subst (λ (h : HeldBlock). Owns last h.place h.need) (sym there)
       (lead-keep (IsCall g) Owns (caller-laws g) t last (wrote place (need_of need) v i) place (need_of need) rest
       (leave-wrote place place (need_of need) v i) mine)
   doing-owns (op.Free r) stage.Calling made size is doing leads =
@@ -125,14 +134,14 @@ module _ (g : Geometry) (before registers : List (Option Held)) (between last : 
   doing-owns (op.Fill r v) (stage.Filling i) made size is doing leads =
       let on = on-block (held_in before r) _ doing in
       let there : held_there (held_in registers r) ≡ on.held = ap (λ rs. held_there (held_in rs r)) on.so.0 ∙ ap held_there on.full in
-      subst (λ (h : Held). Owns last h.place h.need) (sym there)
+      subst (λ (h : HeldBlock). Owns last h.place h.need) (sym there)
       (lead-keep (IsCall g) Owns (caller-laws g) between last (wrote on.held.place on.held.need v i) on.held.place on.held.need (subst Leads on.so.2 leads)
       (leave-wrote on.held.place on.held.place on.held.need v i) (holds.owned r on.held on.full))
   doing-owns (op.Check r) (stage.Summing i total) made size is doing leads =
       let on = on-block (held_in before r) _ doing in
       let there : held_there (held_in registers r) ≡ on.held = ap (λ rs. held_there (held_in rs r)) on.so.0 ∙ ap held_there on.full in
       let (same, inside, words, all, total_is, made_is) = on.so in
-      subst (λ (h : Held). Owns last h.place h.need) (sym there)
+      subst (λ (h : HeldBlock). Owns last h.place h.need) (sym there)
       (lead-keep (IsCall g) Owns (caller-laws g) between last (found_from on.held.place on.held.need 0 words) on.held.place on.held.need
       (subst Leads made_is leads) (leave-found on.held.place on.held.place on.held.need 0 words) (holds.owned r on.held on.full))
   doing-owns (op.Put r shelf) stage.Calling made size is doing leads =
@@ -147,42 +156,11 @@ module _ (g : Geometry) (before registers : List (Option Held)) (between last : 
   doing-owns (op.Resize r need) (stage.Copying old i (Some w)) made size is (place, rep, inside, words, all, got, got_is, made_is) leads =
       let there : held_there (held_in registers r) ≡ held_of place (need_of need) =
       ap held_there (set-there before registers r (held_of place (need_of need)) (omega (arith, size, is.0)) rep.replaced) in
-      subst (λ (h : Held). Owns last h.place h.need) (sym there) (new-owned need place old words i got i w got_is (subst Leads made_is leads))
+      subst (λ (h : HeldBlock). Owns last h.place h.need) (sym there) (new-owned need place old words i got i w got_is (subst Leads made_is leads))
   doing-owns (op.Resize r need) stage.Releasing made size is (old, place, rep, words, all, made_is) leads =
       subst (λ slot. Owns last (held_there slot).place (held_there slot).need) (sym rep.was)
       (old-owned need place old words (usable_words (need_of need)) (holds.owned r old rep.was) (subst Leads made_is leads))
-  doing-owns (op.Alloc r need v) stage.Between made size is doing leads = absurd doing
-  doing-owns (op.Alloc r need v) (stage.Summing i total) made size is doing leads = absurd doing
-  doing-owns (op.Alloc r need v) (stage.Copying old i w) made size is doing leads = absurd doing
-  doing-owns (op.Alloc r need v) stage.Releasing made size is doing leads = absurd doing
-  doing-owns (op.Free r) stage.Between made size is doing leads = absurd doing
-  doing-owns (op.Free r) (stage.Filling i) made size is doing leads = absurd doing
-  doing-owns (op.Free r) (stage.Summing i total) made size is doing leads = absurd doing
-  doing-owns (op.Free r) (stage.Copying old i w) made size is doing leads = absurd doing
-  doing-owns (op.Free r) stage.Releasing made size is doing leads = absurd doing
-  doing-owns (op.Fill r v) stage.Between made size is doing leads = absurd doing
-  doing-owns (op.Fill r v) stage.Calling made size is doing leads = absurd doing
-  doing-owns (op.Fill r v) (stage.Summing i total) made size is doing leads = absurd doing
-  doing-owns (op.Fill r v) (stage.Copying old i w) made size is doing leads = absurd doing
-  doing-owns (op.Fill r v) stage.Releasing made size is doing leads = absurd doing
-  doing-owns (op.Check r) stage.Between made size is doing leads = absurd doing
-  doing-owns (op.Check r) stage.Calling made size is doing leads = absurd doing
-  doing-owns (op.Check r) (stage.Filling i) made size is doing leads = absurd doing
-  doing-owns (op.Check r) (stage.Copying old i w) made size is doing leads = absurd doing
-  doing-owns (op.Check r) stage.Releasing made size is doing leads = absurd doing
-  doing-owns (op.Put r shelf) stage.Between made size is doing leads = absurd doing
-  doing-owns (op.Put r shelf) (stage.Filling i) made size is doing leads = absurd doing
-  doing-owns (op.Put r shelf) (stage.Summing i total) made size is doing leads = absurd doing
-  doing-owns (op.Put r shelf) (stage.Copying old i w) made size is doing leads = absurd doing
-  doing-owns (op.Put r shelf) stage.Releasing made size is doing leads = absurd doing
-  doing-owns (op.Take r shelf) stage.Between made size is doing leads = absurd doing
-  doing-owns (op.Take r shelf) (stage.Filling i) made size is doing leads = absurd doing
-  doing-owns (op.Take r shelf) (stage.Summing i total) made size is doing leads = absurd doing
-  doing-owns (op.Take r shelf) (stage.Copying old i w) made size is doing leads = absurd doing
-  doing-owns (op.Take r shelf) stage.Releasing made size is doing leads = absurd doing
-  doing-owns (op.Resize r need) stage.Between made size is doing leads = absurd doing
-  doing-owns (op.Resize r need) (stage.Filling i) made size is doing leads = absurd doing
-  doing-owns (op.Resize r need) (stage.Summing i total) made size is doing leads = absurd doing
+  doing-owns operation at made size is doing leads = absurd doing
 
 -- a block that the caller owns has a need of blocks, and words
 pub owned-has :
@@ -191,7 +169,4 @@ owned-has g events caller (write place need i v) legal owned =
     (owned-need g events caller place need legal owned, need-some g place need (heap-block g events caller place need legal owned))
 owned-has g events caller (read place need i) legal owned =
     (owned-need g events caller place need legal owned, need-some g place need (heap-block g events caller place need legal owned))
-owned-has g events caller (alloc words) legal owned = (tt, tt)
-owned-has g events caller (free place need) legal owned = (tt, tt)
-owned-has g events caller (put place need shelf) legal owned = (tt, tt)
-owned-has g events caller (take shelf) legal owned = (tt, tt)
+owned-has g events caller call legal owned = (tt, tt)

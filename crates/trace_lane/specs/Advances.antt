@@ -26,7 +26,7 @@ use Rattle.lane_engine.specs.Begins.{call_of}
 use Rattle.lane_engine.specs.Engines.{Engine, machine_at}
 use Rattle.lane_engine.specs.Machines.{MovesCore}
 use Rattle.lane_engine.specs.Told.{HasStepped}
-use Rattle.lane_outcomes.specs.declared.registers.Held.{Held}
+use Rattle.lane_outcomes.specs.declared.registers.HeldBlock.{HeldBlock}
 use Rattle.lane_outcomes.specs.declared.outcome.Outcome.{Outcome}
 use Rattle.lane_outcomes.specs.Lane.{held_in, registers_after}
 use Rattle.trace_lane.specs.declared.lane.LaneState.{LaneState}
@@ -59,7 +59,7 @@ total_with (stage.Summing next total) word = (total + word) % 2 ^ 64
 total_with at word = word
 
 module _ {B : Type 0} (place_of : B → ℕ) (block_need : B → Need) where
-  abbrev pub blocks_of : LaneState B → List (Option Held)
+  abbrev pub blocks_of : LaneState B → List (Option HeldBlock)
   blocks_of lane = held_blocks place_of block_need lane.registers.items
 
   -- a call of these answers so: with an answer of its own, a block that serves what was asked for, and the block back that a full shelf didn't take
@@ -83,7 +83,7 @@ module _ {B : Type 0} (place_of : B → ℕ) (block_need : B → Need) where
   IsShort call = Unit {0}
 
   -- the operation has ended these calls: it has its outcome where it has no call more, else that call is the next one
-  abbrev pub ComesTo : Op → List (Option Held) → List Outcome → List Made → Option NextCall → LaneState B → Type 0
+  abbrev pub ComesTo : Op → List (Option HeldBlock) → List Outcome → List Made → Option NextCall → LaneState B → Type 0
   ComesTo operation before results made None lane =
       (result : Outcome) × (lane.outcomes.items ≡ results ++ result ∷ []) × (lane.stage ≡ stage.Between)
       × MadeFor (held_in before (register_of operation)) operation result made
@@ -110,7 +110,7 @@ module _ {B : Type 0} (place_of : B → ℕ) (block_need : B → Need) where
 
   -- a call of the operation has ended so
   pub record MayAnswer (operation : Op) (ended : Ending B) (lane : LaneState B) : Type 0 where
-    pub before : List (Option Held)
+    pub before : List (Option HeldBlock)
     pub made : List Made
     pub doing : DoingOf before (blocks_of lane) operation lane.stage made
     pub answers : AnswersCall (call_at before (blocks_of lane) operation lane.stage) ended
@@ -121,7 +121,7 @@ module _ {B : Type 0} (place_of : B → ℕ) (block_need : B → Need) where
     pub rises : Rises old.stage next new.stage
     pub over : ended ≡ ending.Spent → next ≡ None
     pub comes :
-        (before : List (Option Held)) (made : List Made) → DoingOf before (blocks_of old) operation old.stage made
+        (before : List (Option HeldBlock)) (made : List Made) → DoingOf before (blocks_of old) operation old.stage made
         → AnswersCall (call_at before (blocks_of old) operation old.stage) ended
         → ComesTo operation before old.outcomes.items
         (made ++ answered (call_at before (blocks_of old) operation old.stage) (ended_as place_of block_need ended) ∷ []) next new

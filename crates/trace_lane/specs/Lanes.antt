@@ -8,7 +8,7 @@ use Rattle.sound_laws.specs.events.Made.{LeadsBy, Made}
 use Rattle.step_machine.specs.Moments.{HasSeenMore}
 use Rattle.trace_text.specs.declared.trace.Op.{Op}
 use Rattle.lane_engine.specs.Callers.{Caller, IsAtRest, IsCall, IsIn, OwnsFor, new_caller}
-use Rattle.lane_outcomes.specs.declared.registers.Held.{Held}
+use Rattle.lane_outcomes.specs.declared.registers.HeldBlock.{HeldBlock}
 use Rattle.lane_outcomes.specs.declared.outcome.Outcome.{Outcome}
 use Rattle.trace_lane.specs.declared.stage.OperationStage.{OperationStage}
 use Rattle.trace_lane.specs.Doing.{IsMaking}
@@ -22,7 +22,7 @@ StandsBy g caller made (Some call) now =
     × IsIn last call now
 
 -- a lane of these operations has these outcomes so far, and these registers, is at this stage, and has begun these calls; its caller has this errand, and these events are seen: the whole calls that its outcomes and its stage tell were made by the caller since it was new, and the others have made what it hasn't seen with its last step
-pub record IsLane (g : Geometry) (caller : ℕ) (events : List Event) (e : ErrandFields) (operations : List Op) (registers : List (Option Held))
+pub record IsLane (g : Geometry) (caller : ℕ) (events : List Event) (e : ErrandFields) (operations : List Op) (registers : List (Option HeldBlock))
     (results : List Outcome) (at : OperationStage) (calls : List Call) : Type 0 where
   pub made : List Made
   pub under : Option Call

@@ -11,7 +11,7 @@ use Rattle.trace_text.specs.declared.trace.Op.{Op}
 use Rattle.trace_text.specs.declared.trace.Op.TheVariants as op
 use Rattle.sound_laws.specs.events.Made.{LeadsBy, Made, answered, copied, found_from, wrote}
 use Rattle.lane_engine.specs.Whole.{Maker}
-use Rattle.lane_outcomes.specs.declared.registers.Held.{Held}
+use Rattle.lane_outcomes.specs.declared.registers.HeldBlock.{HeldBlock}
 use Rattle.lane_outcomes.specs.declared.outcome.Outcome.{Outcome}
 use Rattle.lane_outcomes.specs.declared.outcome.Outcome.TheVariants as outcome
 use Rattle.lane_outcomes.specs.Lane.{held_in, registers_after}
@@ -36,18 +36,18 @@ AreMisses shelf (made ∷ rest) =
     (expected : ℕ) × (found : ℕ) × (made ≡ answered (take shelf) (reply.Missed expected found)) × AreMisses shelf rest
 
 -- calls on the block of a full register, with the need that it was given or taken with
-abbrev pub OnBlock : Option Held → (Held → Need → Type 0) → Type 0
+abbrev pub OnBlock : Option HeldBlock → (HeldBlock → Need → Type 0) → Type 0
 OnBlock None P = ⊥
 OnBlock (Some held) P = (held.words ≡ usable_words held.need) × P held held.need
 
 -- the outcome of a resize that asks for no block: its register is empty, or the block there serves the need
-abbrev pub IsUnasked : Option Held → ℕ → Option Outcome → Type 0
+abbrev pub IsUnasked : Option HeldBlock → ℕ → Option Outcome → Type 0
 IsUnasked None need result = result ≡ Some outcome.Skipped
 IsUnasked (Some held) need None = need_of need ≢ held.need
 IsUnasked (Some held) need (Some result) = (need_of need ≡ held.need) × (result ≡ outcome.Kept held.words held.place)
 
 -- an operation on a register of this kind is skipped: an allocation and a take where it is full, any other where it is empty
-abbrev pub Skips : Option Held → Op → Type 0
+abbrev pub Skips : Option HeldBlock → Op → Type 0
 Skips (Some held) (op.Alloc r need v) = Unit {0}
 Skips (Some held) (op.Take r shelf) = Unit {0}
 Skips None (op.Free r) = Unit {0}
@@ -68,7 +68,7 @@ register_of (op.Take r shelf) = r
 register_of (op.Resize r need) = r
 
 -- the whole calls of an operation with its outcome, where its register held this
-abbrev pub MadeFor : Option Held → Op → Outcome → List Made → Type 0
+abbrev pub MadeFor : Option HeldBlock → Op → Outcome → List Made → Type 0
 MadeFor held operation outcome.Skipped made = Skips held operation × (made ≡ [])
 MadeFor None (op.Alloc r need v) (outcome.Given words place) made =
     (words ≡ usable_words (need_of need))
@@ -103,12 +103,12 @@ MadeFor held operation result made = ⊥
 
 module _ {S : Type 0} (called : S → Call → Reply → S → Type 0) where
   -- an operation with its outcome led from one state to another
-  abbrev pub OneMade : List (Option Held) → Op → Outcome → S → S → Type 0
+  abbrev pub OneMade : List (Option HeldBlock) → Op → Outcome → S → S → Type 0
   OneMade registers operation result before after =
       (made : List Made) × MadeFor (held_in registers (register_of operation)) operation result made × LeadsBy called before made after
 
   -- operations with these outcomes led from one state to another, from these registers on
-  abbrev pub AllMade : List (Option Held) → List Op → List Outcome → S → S → Type 0
+  abbrev pub AllMade : List (Option HeldBlock) → List Op → List Outcome → S → S → Type 0
   AllMade registers operations [] before after = after ≡ before
   AllMade registers [] (result ∷ results) before after = ⊥
   AllMade registers (operation ∷ operations) (result ∷ results) before after =

@@ -6,17 +6,17 @@ use Rattle.heap_geometry.specs.Need.{usable_words}
 use Rattle.sound_state.specs.Runs.{Move, begins, steps}
 use Rattle.step_machine.specs.Cores.{CoreFields}
 use Rattle.lane_engine.specs.Machines.{MovesCore}
-use Rattle.lane_outcomes.specs.declared.registers.Held.{Held}
+use Rattle.lane_outcomes.specs.declared.registers.HeldBlock.{HeldBlock}
 use Rattle.lane_outcomes.specs.declared.outcome.Outcome.{Outcome}
 use Rattle.trace_lane.specs.declared.stage.OperationStage.{OperationStage}
 use Rattle.trace_lane.specs.Scripts.{stage_begun}
 
 -- a block in hand as a register's: its place, its usable words and its need
-abbrev pub held_by : {B : Type 0} → (B → ℕ) → (B → Need) → B → Held
+abbrev pub held_by : {B : Type 0} → (B → ℕ) → (B → Need) → B → HeldBlock
 held_by place_of need_of block = record { place = place_of block; words = usable_words (need_of block); need = need_of block }
 
 -- registers that hold blocks in hand
-abbrev pub held_blocks : {B : Type 0} → (B → ℕ) → (B → Need) → List (Option B) → List (Option Held)
+abbrev pub held_blocks : {B : Type 0} → (B → ℕ) → (B → Need) → List (Option B) → List (Option HeldBlock)
 held_blocks place_of need_of registers = map (λ register. option_map (held_by place_of need_of) register) registers
 
 -- moves lead from one machine to another, one after the other

@@ -8,7 +8,7 @@ use Rattle.heap_geometry.specs.Need.{IsNeed, need_of, usable_words}
 use Rattle.errand_steps.specs.Calls.{Call, alloc, free, write, read, put, take as take_call}
 use Rattle.trace_text.specs.declared.trace.Op.{Op}
 use Rattle.trace_text.specs.declared.trace.Op.TheVariants as op
-use Rattle.lane_outcomes.specs.declared.registers.Held.{Held}
+use Rattle.lane_outcomes.specs.declared.registers.HeldBlock.{HeldBlock}
 use Rattle.lane_outcomes.specs.declared.outcome.Outcome.{Outcome}
 use Rattle.lane_outcomes.specs.declared.outcome.Outcome.TheVariants as outcome
 use Rattle.lane_outcomes.specs.Lane.{held_in, registers_after}
@@ -16,10 +16,10 @@ use Rattle.trace_lane.specs.declared.stage.OperationStage.{OperationStage}
 use Rattle.trace_lane.specs.declared.stage.OperationStage.TheVariants as stage
 
 -- a write for each usable word of a block, in their order: word i with v + i; a read for each
-abbrev pub writes_of : Held → Need → ℕ → List Call
+abbrev pub writes_of : HeldBlock → Need → ℕ → List Call
 writes_of held need v = map (λ i. write held.place need i ((v + i) % 2 ^ 64)) (range_with_len 0 held.words)
 
-abbrev pub reads_of : Held → Need → List Call
+abbrev pub reads_of : HeldBlock → Need → List Call
 reads_of held need = map (λ i. read held.place need i) (range_with_len 0 held.words)
 
 -- the calls that copy word i of a block into another one, where these of its first words are read: the read of the word and the write of what it
@@ -33,17 +33,17 @@ abbrev pub copying : ℕ → Need → ℕ → Need → List ℕ → ℕ → List
 copying place need to to_need words count = flat_map (copying_word place need to to_need words) (range_with_len 0 count)
 
 -- a block in a register is one of this need: there are such blocks, and it has as many words
-abbrev pub IsOfNeed : Held → Need → Type 0
+abbrev pub IsOfNeed : HeldBlock → Need → Type 0
 IsOfNeed held need = IsNeed need × (held.words ≡ usable_words need) × (held.need ≡ need)
 
 -- the calls on the block of a full register, with the need that it was given or taken with
-abbrev pub OnHeld : Option Held → (Held → Need → List Call) → List Call → Type 0
+abbrev pub OnHeld : Option HeldBlock → (HeldBlock → Need → List Call) → List Call → Type 0
 OnHeld None calls_on calls = ⊥
 OnHeld (Some held) calls_on calls = IsOfNeed held held.need × (calls ≡ calls_on held held.need)
 
 -- the calls that replace the block of a full register by one at this place: the allocation, the copy of as many words as both have, in their order,
 -- with 0 behind them, and then the free of the old block
-abbrev pub Replaces : Option Held → ℕ → ℕ → ℕ → List Call → Type 0
+abbrev pub Replaces : Option HeldBlock → ℕ → ℕ → ℕ → List Call → Type 0
 Replaces None need words place calls = ⊥
 Replaces (Some held) need words place calls =
     IsOfNeed held held.need
@@ -52,7 +52,7 @@ Replaces (Some held) need words place calls =
 
 -- the calls of an operation with its outcome, where the registers held these blocks before it: one that is skipped has none, and neither has a resize
 -- that keeps its block; a take that missed the shelf's block is tried again
-abbrev pub CallsOf : List (Option Held) → Op → Outcome → List Call → Type 0
+abbrev pub CallsOf : List (Option HeldBlock) → Op → Outcome → List Call → Type 0
 CallsOf registers operation outcome.Skipped calls = calls ≡ []
 CallsOf registers (op.Alloc r need v) (outcome.Given words place) calls =
     calls ≡ alloc need ∷ writes_of (record { place = place; words = words; need = need_of need }) (need_of need) v
@@ -67,7 +67,7 @@ CallsOf registers (op.Resize r need) result calls = calls ≡ alloc need ∷ []
 CallsOf registers (op.Take r shelf) result calls = (misses : ℕ) × (calls ≡ replicate (suc misses) (take_call shelf))
 
 -- the calls of operations with these outcomes, from these registers on
-abbrev pub Scripts : List (Option Held) → List Op → List Outcome → List Call → Type 0
+abbrev pub Scripts : List (Option HeldBlock) → List Op → List Outcome → List Call → Type 0
 Scripts registers operations [] calls = calls ≡ []
 Scripts registers [] (result ∷ results) calls = ⊥
 Scripts registers (operation ∷ operations) (result ∷ results) calls =
@@ -75,7 +75,7 @@ Scripts registers (operation ∷ operations) (result ∷ results) calls =
     × Scripts (registers_after registers operation result) operations results rest
 
 -- the registers after operations with these outcomes
-abbrev pub registers_from : List (Option Held) → List Op → List Outcome → List (Option Held)
+abbrev pub registers_from : List (Option HeldBlock) → List Op → List Outcome → List (Option HeldBlock)
 registers_from registers operations [] = registers
 registers_from registers [] (result ∷ results) = registers
 registers_from registers (operation ∷ operations) (result ∷ results) =

@@ -7,7 +7,7 @@ use Rattle.trace_text.specs.declared.limits.TheConstants.{REGISTERS}
 use Rattle.trace_text.specs.declared.trace.Op.{Op}
 use Rattle.lane_engine.specs.declared.grip.Grip.{Grip}
 use Rattle.lane_engine.specs.Engines.{Engine, machine_at}
-use Rattle.lane_outcomes.specs.declared.registers.Held.{Held}
+use Rattle.lane_outcomes.specs.declared.registers.HeldBlock.{HeldBlock}
 use Rattle.trace_lane.specs.declared.lane.LaneState.{LaneState}
 use Rattle.trace_lane.specs.declared.stage.OperationStage.TheVariants as stage
 use Rattle.trace_lane.specs.Lanes.{IsLane}
@@ -29,10 +29,10 @@ pub record AreNew {B : Type 0} (lanes : List (List Op)) (states : List (LaneStat
       → IsNew lane (length (slice_index_or lanes lane [])) state
 
 -- a block in hand as a register's, as this engine has it; and registers that hold blocks in hand
-abbrev pub held_at : {B : Type 0} → Engine B → B → Held
+abbrev pub held_at : {B : Type 0} → Engine B → B → HeldBlock
 held_at engine block = held_by engine.place_of engine.need_of block
 
-abbrev pub registers_at : {B : Type 0} → Engine B → List (Option B) → List (Option Held)
+abbrev pub registers_at : {B : Type 0} → Engine B → List (Option B) → List (Option HeldBlock)
 registers_at engine registers = held_blocks engine.place_of engine.need_of registers
 
 -- the lane of these operations stands so over this engine, and has begun these calls; it has room for all outcomes

@@ -11,7 +11,7 @@ ghost use Rattle.trace_text.specs.declared.limits.TheConstants.{REGISTERS};
 ghost use Rattle.trace_text.specs.declared.trace.Op.{Op};
 ghost use Rattle.lane_outcomes.specs.declared.outcome.Outcome.{Outcome};
 ghost use Rattle.lane_outcomes.specs.declared.outcome.Outcome.TheVariants.{Spent};
-ghost use Rattle.lane_outcomes.specs.declared.registers.Held.{Held};
+ghost use Rattle.lane_outcomes.specs.declared.registers.HeldBlock.{HeldBlock};
 ghost use Rattle.lane_outcomes.specs.Fits.{Fits, Walks};
 ghost use Rattle.lane_outcomes.specs.Lane.{Position, start};
 ghost use Rattle.lane_outcomes.specs.Standing.{setting_in};
@@ -37,7 +37,7 @@ pub fn new_lanes_stand<B: Token>()
 /// A lane stands as it stood, whatever others did in the meantime.
 pub fn lanes_stand_beside()
     ensures { (g : Geometry) (caller : ℕ) (before after : List Event) (e : ErrandFields) (operations : List Op)
-        (registers : List (Option Held)) (results : List Outcome) (at : OperationStage) (calls : List Call)
+        (registers : List (Option HeldBlock)) (results : List Outcome) (at : OperationStage) (calls : List Call)
         → IsLane g caller before e operations registers results at calls → HasSeenMore caller before after
         → IsLane g caller after e operations registers results at calls }
 {}
@@ -46,10 +46,10 @@ pub fn lanes_stand_beside()
 /// with their outcomes.
 pub fn lanes_make_the_calls_of_their_script()
     ensures idle { (g : Geometry) (caller : ℕ) (events : List Event) (e : ErrandFields) (operations : List Op)
-        (registers : List (Option Held)) (results : List Outcome) (calls : List Call)
+        (registers : List (Option HeldBlock)) (results : List Outcome) (calls : List Call)
         → IsLane g caller events e operations registers results Between calls → IsIdle e }
     ensures script { (g : Geometry) (caller : ℕ) (events : List Event) (e : ErrandFields) (operations : List Op)
-        (registers : List (Option Held)) (results : List Outcome) (calls : List Call)
+        (registers : List (Option HeldBlock)) (results : List Outcome) (calls : List Call)
         → IsLane g caller events e operations registers results Between calls
         → Scripts (replicate REGISTERS None) operations results calls }
 {}
@@ -59,15 +59,15 @@ pub fn lanes_make_the_calls_of_their_script()
 /// have no turn left has taken them all.
 pub fn outcomes_of_lanes_fit()
     ensures so_far { (g : Geometry) (caller : ℕ) (events : List Event) (e : ErrandFields) (operations : List Op)
-        (registers : List (Option Held)) (results : List Outcome) (at : OperationStage) (calls : List Call) (lost : ℕ)
+        (registers : List (Option HeldBlock)) (results : List Outcome) (at : OperationStage) (calls : List Call) (lost : ℕ)
         → IsLane g caller events e operations registers results at calls → e.lost ≤ lost
         → (end : Position) × Walks (setting_in events caller g.turn_limit lost) start (take (length results) operations) results end }
     ensures ended { (g : Geometry) (caller : ℕ) (events : List Event) (e : ErrandFields) (operations : List Op)
-        (registers : List (Option Held)) (results : List Outcome) (calls : List Call) (lost : ℕ)
+        (registers : List (Option HeldBlock)) (results : List Outcome) (calls : List Call) (lost : ℕ)
         → IsLane g caller events e operations registers results Between calls → length results ≡ length operations → e.lost ≤ lost
         → Fits (setting_in events caller g.turn_limit lost) operations results }
     ensures spent { (g : Geometry) (caller : ℕ) (events : List Event) (e : ErrandFields) (operations : List Op)
-        (registers : List (Option Held)) (results : List Outcome) (calls : List Call) (k : ℕ)
+        (registers : List (Option HeldBlock)) (results : List Outcome) (calls : List Call) (k : ℕ)
         → IsLane g caller events e operations registers results Between calls → k < length results
         → slice_index_or results k Spent ≡ Spent → e.turns ≡ g.turn_limit }
 {}

@@ -1,6 +1,6 @@
 //! How far a lane's operation is.
 
-use lane_outcomes::registers::Held;
+use lane_outcomes::registers::HeldBlock;
 
 /// How far the operation at hand is.
 #[derive(Clone, Copy, Debug, PartialEq, Eq)]
@@ -22,7 +22,7 @@ pub enum OperationStage {
     /// The words before `next` of a resized block are copied from the old one. With no word the read of that one
     /// is under way, and else the write of this one.
     Copying {
-        old: Held,
+        old: HeldBlock,
         next: u32,
         word: Option<u64>,
     },

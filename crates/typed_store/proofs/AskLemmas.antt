@@ -14,9 +14,9 @@ use Rattle.live_heap.specs.Calls.{HasCalled}
 use Rattle.live_heap.specs.Contents.{owned_in}
 use Rattle.live_heap.specs.Holdings.{HoldsExactly}
 use Rattle.live_heap.specs.Passes.{IsOf}
-use Rattle.live_heap.proofs.Changes.{called-changes}
-use Rattle.live_heap.proofs.Enough.{given-enough}
-use Rattle.live_heap.proofs.Exact.{called-exact}
+use Rattle.live_heap.proofs.laws_for_builders.AllBlocks.{called-exact}
+use Rattle.live_heap.proofs.laws_for_builders.Changing.{called-changes}
+use Rattle.live_heap.proofs.laws_for_builders.Giving.{given-enough}
 use Rattle.typed_store.proofs.PassLemmas.{StaysSame, called-stays, reads-self, reads-stay}
 use Rattle.typed_store.proofs.StayLemmas.{SameFor, given-same}
 

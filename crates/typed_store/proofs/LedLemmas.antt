@@ -1,19 +1,17 @@
 -- What calls on words show: what their pass has seen, its accesses, and its caller's events.
-use Rattle.std.proofs.Common.{ℕ, suc, ◌≡◌, ◌+◌, List, [], ◌∷◌, ◌++◌, length, sym, ◌∙◌, ap, subst, arith, inl, inr, append_assoc, append-nil}
+use Rattle.std.proofs.Common.{ℕ, ◌≡◌, ◌+◌, List, [], ◌∷◌, ◌++◌, length, sym, ◌∙◌, ap, subst, arith, inl, inr, append_assoc, append-nil}
 use Rattle.std.specs.Prelude.{All}
 use Rattle.std.proofs.lemmas.List.Elements.{All-head, All-tail}
 use Rattle.pool_model.specs.declared.event.Event.{Event}
 use Rattle.pool_model.specs.Histories.{Begins, own}
-use Rattle.errand_steps.specs.Calls.{Call, read, write}
-use Rattle.errand_steps.specs.declared.reply.Reply.{Reply}
 use Rattle.errand_steps.specs.declared.reply.Reply.TheVariants as reply
 use Rattle.sound_laws.specs.events.Ends.{HasEnded}
-use Rattle.sound_laws.specs.events.Made.{LeadsBy, Made, answered}
+use Rattle.sound_laws.specs.events.Made.{LeadsBy, Made}
 use Rattle.live_heap.specs.Heaps.{HeapFields}
 use Rattle.live_heap.specs.declared.pass.Pass.{Pass}
 use Rattle.live_heap.specs.Passes.{accesses, seen}
 use Rattle.live_heap.specs.Whole.{MadeByPass, by_steps}
-use Rattle.live_heap.proofs.LawsKept.{called-grows}
+use Rattle.live_heap.proofs.laws_for_builders.Events.{called-grows}
 use Rattle.typed_store.specs.Walks.{IsOnWord, LedBy, event_of, events_of}
 use Rattle.typed_store.proofs.CountLemmas.{read-adds, write-adds}
 

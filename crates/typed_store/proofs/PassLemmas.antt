@@ -25,9 +25,9 @@ use Rattle.live_heap.specs.Contents.{OwnsBut, OwnsSame, owned_in, word_in, word_
 use Rattle.live_heap.specs.Holdings.{ChangesHand, HoldsExactly}
 use Rattle.live_heap.specs.Passes.{IsOf, Owns, seen, view}
 use Rattle.live_heap.specs.Whole.{OwnsFor}
-use Rattle.live_heap.proofs.Changes.{called-changes}
-use Rattle.live_heap.proofs.Exact.{called-exact}
-use Rattle.live_heap.proofs.LawsKept.{stays-home}
+use Rattle.live_heap.proofs.laws_for_builders.AllBlocks.{called-exact}
+use Rattle.live_heap.proofs.laws_for_builders.Changing.{called-changes}
+use Rattle.live_heap.proofs.laws_for_builders.Keeping.{stays-home}
 use Rattle.typed_store.specs.Nodes.{node_at, node_of}
 use Rattle.sound_laws.specs.events.Ends.{HasEnded}
 use Rattle.pool_model.specs.declared.event.Event.{Event}

@@ -16,7 +16,7 @@ use Rattle.live_heap.specs.Calls.{HasCalled, IsCalling, IsInterrupted}
 use Rattle.live_heap.specs.Contents.{owned_in}
 use Rattle.live_heap.specs.Holdings.{HoldsExactly}
 use Rattle.live_heap.specs.Passes.{IsOf}
-use Rattle.live_heap.proofs.Exact.{called-exact}
+use Rattle.live_heap.proofs.laws_for_builders.AllBlocks.{called-exact}
 use Rattle.typed_store.specs.declared.store.Pending.TheVariants.{Pair, Record, Free}
 use Rattle.typed_store.specs.declared.store.Store.{Store}
 use Rattle.typed_store.specs.Stores.{IsBuilt, IsReady, IsUnderWay, IsWaitingFor, blocks_of}

@@ -15,7 +15,7 @@ use Rattle.live_heap.specs.Contents.{owned_in, word_in, word_of}
 use Rattle.live_heap.specs.Memory.{writes_from}
 use Rattle.live_heap.specs.Passes.{IsOf, Owns}
 use Rattle.live_heap.specs.Words.{CallsOnWord}
-use Rattle.live_heap.proofs.WordsKept.{called-word, read-word, wrote-word}
+use Rattle.live_heap.proofs.laws_for_builders.Words.{called-keeps_word, read-word, wrote-word}
 use Rattle.typed_store.specs.Passings.{KeepsWords, Rests}
 use Rattle.typed_store.specs.Records.{IsRecord}
 use Rattle.typed_store.specs.Walks.{LedBy, record_reads}
@@ -83,7 +83,7 @@ slice-writes h p b first (word ∷ words) q of idle owns (r, one, rest) =
       wrote = writes r one more;
       stays = λ i v below is.
           more.stays i v (omega (arith, below))
-          (called-word h p r (write b.place b.need first word) 0 reply.Wrote b.place i v one.of one.called (inr (λ same. omega (arith, same, below))) is);
+          (called-keeps_word h p r (write b.place b.need first word) 0 reply.Wrote b.place i v one.of one.called (inr (λ same. omega (arith, same, below))) is);
     }
   where
     writes :

@@ -10,7 +10,7 @@ use Rattle.live_heap.specs.declared.pass.Pass.{Pass}
 use Rattle.live_heap.specs.Holdings.{Holds, HoldsExactly}
 use Rattle.live_heap.specs.Passes.{Owns}
 use Rattle.live_heap.specs.Contents.{owned_in}
-use Rattle.live_heap.proofs.Holding.{all-out, holds-out}
+use Rattle.live_heap.proofs.laws_for_builders.Hands.{hand-left}
 use Rattle.typed_store.specs.declared.slot.Slot.{Slot}
 use Rattle.typed_store.specs.declared.slot.Slot.TheVariants.{Node, Spare}
 use Rattle.typed_store.specs.Nodes.{node_at, node_in, nodes_at, token_in, tokens_in}
@@ -62,7 +62,7 @@ token-out p slots more slot block held is =
     let a = around slots slot (Node block) is in
     let whole : tokens_in slots ++ more ≡ a.before ++ block ∷ (a.after ++ more) =
     ap (λ l. l ++ more) a.was ∙ append_assoc a.before (block ∷ a.after) more in
-    (holds-out p a.before (a.after ++ more) block (subst (Holds p) whole held.0)).0
+    (hand-left p a.before (a.after ++ more) block (subst (Holds p) whole held.0)).0
 
 -- a node stands in a slot with a token
 pub node-token :
@@ -77,12 +77,16 @@ pub all-front : (P : Block → Type 0) (xs ys : List Block) → All P (xs ++ ys)
 all-front P [] ys all = All-nil P
 all-front P (x ∷ xs) ys all = All-cons P x xs (All-head P x (xs ++ ys) all) (all-front P xs ys (All-tail P x (xs ++ ys) all))
 
+all-one : (P : Block → Type 0) (before after : List Block) (block : Block) → All P (before ++ block ∷ after) → P block
+all-one P [] after block all = All-head P block after all
+all-one P (x ∷ xs) after block all = all-one P xs after block (All-tail P x (xs ++ block ∷ after) all)
+
 pub all-token :
     (P : Block → Type 0) (slots : List Slot) (slot : ℕ) (block : Block) → slice_get slots slot ≡ Some (Node block) → All P (tokens_in slots)
     → P block
 all-token P slots slot block is all =
     let a = around slots slot (Node block) is in
-    (all-out P a.before a.after block (subst (All P) a.was all)).0
+    all-one P a.before a.after block (subst (All P) a.was all)
 
 -- the tokens in two slots lie apart
 slots-apart :
@@ -93,7 +97,7 @@ slots-apart p slots more slot other block token held is there away =
     let a = around slots slot (Node block) is in
     let whole : tokens_in slots ++ more ≡ a.before ++ block ∷ (a.after ++ more) =
     ap (λ l. l ++ more) a.was ∙ append_assoc a.before (block ∷ a.after) more in
-    let out = (holds-out p a.before (a.after ++ more) block (subst (Holds p) whole held.0)).1 in
+    let out = (hand-left p a.before (a.after ++ more) block (subst (Holds p) whole held.0)).1 in
     let left : All P (a.before ++ a.after) =
     all-front P (a.before ++ a.after) more (subst (All P) (sym (append_assoc a.before a.after more)) out) in
     all-token P (slice_set slots slot (Spare 0)) other token (get-other slots slot other (Spare 0) away ∙ there) (subst (All P) (sym (a.now (Spare 0))) left)

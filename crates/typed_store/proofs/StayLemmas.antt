@@ -17,7 +17,7 @@ use Rattle.live_heap.specs.Calls.{HasCalled, IsCalling}
 use Rattle.live_heap.specs.Contents.{HasChangedSoFar, OwnsSame, owned_in, word_of}
 use Rattle.live_heap.specs.Holdings.{Holds}
 use Rattle.live_heap.specs.Passes.{IsOf}
-use Rattle.live_heap.proofs.Changes.{called-changes, calling-changes}
+use Rattle.live_heap.proofs.laws_for_builders.Changing.{called-changes, calling-changes}
 use Rattle.typed_store.specs.declared.slot.Slot.{Slot}
 use Rattle.typed_store.specs.declared.slot.Slot.TheVariants.{Node, Spare}
 use Rattle.typed_store.specs.Nodes.{Spells, node_at, nodes_at, tokens_in}

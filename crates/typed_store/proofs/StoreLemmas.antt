@@ -9,7 +9,7 @@ use Rattle.live_heap.specs.Heaps.{HeapFields}
 use Rattle.live_heap.specs.declared.pass.Pass.{Pass}
 use Rattle.live_heap.specs.Contents.{owned_in}
 use Rattle.live_heap.specs.Holdings.{HoldsExactly}
-use Rattle.live_heap.proofs.Exact.{order-exact}
+use Rattle.live_heap.proofs.laws_for_builders.AllBlocks.{order-exact}
 use Rattle.typed_store.specs.declared.slot.Slot.{Slot}
 use Rattle.typed_store.specs.declared.slot.Slot.TheVariants.{Node, Spare}
 use Rattle.typed_store.specs.declared.store.Pending.{Pending}

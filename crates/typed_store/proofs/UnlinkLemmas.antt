@@ -12,8 +12,8 @@ use Rattle.live_heap.specs.Answers.{FreeTells}
 use Rattle.live_heap.specs.Contents.{owned_in}
 use Rattle.live_heap.specs.Holdings.{Holds, HoldsExactly}
 use Rattle.live_heap.specs.Passes.{IsOf}
-use Rattle.live_heap.proofs.Exact.{called-exact}
-use Rattle.live_heap.proofs.Holding.{holds-out}
+use Rattle.live_heap.proofs.laws_for_builders.AllBlocks.{called-exact}
+use Rattle.live_heap.proofs.laws_for_builders.Hands.{hand-left}
 use Rattle.typed_store.specs.declared.seeking.Sought.{Sought}
 use Rattle.typed_store.specs.declared.slot.Slot.{Slot}
 use Rattle.typed_store.specs.declared.slot.Slot.TheVariants.{Node, Spare}
@@ -58,7 +58,7 @@ same-others :
     → Holds p (xs ++ ys) → SameFor p r ys
 same-others p r xs [] others held = tt
 same-others p r xs (y ∷ ys) others held =
-    let out = holds-out p xs ys y held in
+    let out = hand-left p xs ys y held in
     (others y.place (all-front (λ (b : Block). b.place ≢ y.place) xs ys out.1), same-others p r xs ys others out.2)
 
 -- a store whose pass owns one block more than its own

@@ -166,9 +166,9 @@ ends-behind h from p q calls place need call answer has made = push h from p q c
 
 pub stops-behind :
     (h : HeapFields) (from p q : Pass) (calls : List Made) (place : ℕ) (need : Need) (IsNext : List Made → Call → Type 0) (call : Call) (stop : Stop)
-    → Has h from calls p place need → IsNext calls call → Stops h p call stop q → HasStopped h from IsNext stop
+    → Has h from calls p place need → IsNext calls call → Stops h p call stop q → HasStopped h from IsNext stop q
 stops-behind h from p q calls place need IsNext call stop has next stops =
-    (q, record { calls = calls; last = p; made = has.made; call = call; next = next; stops = stops })
+    record { calls = calls; last = p; made = has.made; call = call; next = next; stops = stops }
 
 -- an error that goes on through a `?`
 pub err-as : {A : Type 0} (r : Result A Stop) (stop : Stop) (P : Stop → Type 0) → IsErrAnd r (λ s. s ≡ stop) → P stop → IfErr r P

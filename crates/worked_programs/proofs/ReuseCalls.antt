@@ -76,7 +76,7 @@ keeps-depth c d keeps = ap (λ (m : Magazines Block). m.depth) keeps.magazines
 
 -- an allocation that was interrupted found no block in a magazine, and such a free no room in one
 pub busy-asks :
-    (c : Cache) (words : ℕ) (d : Cache) (told : AllocAnswer) → told ≡ answer.Busy
+    (c : Cache) (words : ℕ) (d : Cache) (told : AllocAnswer Block) → told ≡ answer.Busy
     → (HasFor c (need_of words) → (block : Block) × (told ≡ answer.Given block) × HasServed c words block d) → ¬ HasFor c (need_of words)
 busy-asks c words d told is served has =
     let s = served has in

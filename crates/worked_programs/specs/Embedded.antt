@@ -21,6 +21,7 @@ use Rattle.worked_programs.specs.declared.embedded.TheConstants.{SHELF, TRIES}
 use Rattle.worked_programs.specs.declared.embedded.Report.{Report}
 use Rattle.worked_programs.specs.declared.embedded.Stop.{Stop}
 use Rattle.worked_programs.specs.declared.embedded.Stop.TheVariants as stop
+use Rattle.worked_programs.specs.declared.embedded.Stopped.{Stopped}
 
 -- a pass of the heap makes a whole call; a word that it reads is the one that was written there, if any was
 abbrev pub Makes : HeapFields → Pass → Call → Reply → Pass → Type 0
@@ -90,19 +91,18 @@ pub record HasStoppedBy {S : Type 0} (makes : S → Call → Reply → S → Typ
   pub next : IsNext calls call
   pub stops : ends last call stop to
 
--- a pass was stopped by the next one of its calls
-abbrev pub HasStopped : HeapFields → Pass → (List Made → Call → Type 0) → Stop → Type 0
-HasStopped h from IsNext stop = (q : Pass) × HasStoppedBy (Makes h) (Stops h) IsNext from stop q
+-- a pass was stopped by the next one of its calls, which left it as `to`
+abbrev pub HasStopped : HeapFields → Pass → (List Made → Call → Type 0) → Stop → Pass → Type 0
+HasStopped h from IsNext stop to = HasStoppedBy (Makes h) (Stops h) IsNext from stop to
 
--- a call that was answered so has stopped the first one of the two passes of a new heap, or the second one behind all calls of the first
-pub record WasStopped (stop : Stop) : Type 0 where
-  pub heap : HeapFields
+-- the heap that is told was new with these two passes; then a call stopped the first one, and the second has made none, or the second one behind all calls of the first. Both are told as they were left
+pub record WasStopped (told : Stopped) : Type 0 where
   pub first : Pass
   pub second : Pass
-  pub fresh : AreFrom heap 0 (first ∷ second ∷ [])
+  pub fresh : AreFrom told.heap 0 (first ∷ second ∷ [])
   pub stopped :
-      HasStopped heap first IsNextOfFirst stop
-      ⊎ ((kept : ℕ) × (p : Pass) × Keeps heap first kept p × HasStopped heap second IsNextOfSecond stop)
+      (HasStopped told.heap first IsNextOfFirst told.stop told.first × (told.second ≡ second))
+      ⊎ ((kept : ℕ) × Keeps told.heap first kept told.first × HasStopped told.heap second IsNextOfSecond told.stop told.second)
 
 -- the two passes of a new heap have made their calls, and then it was closed: the first pass read what it wrote, behind its other calls, and so did the second one behind the hand-over; and no block is live
 pub record HasRun (report : Report) : Type 0 where

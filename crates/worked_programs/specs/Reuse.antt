@@ -21,6 +21,7 @@ use Rattle.worked_programs.specs.declared.embedded.Stop.{Stop}
 use Rattle.worked_programs.specs.declared.embedded.Stop.TheVariants as stop
 use Rattle.worked_programs.specs.declared.reuse.TheConstants.{DEPTH, ROUNDS}
 use Rattle.worked_programs.specs.declared.reuse.Reused.{Reused}
+use Rattle.worked_programs.specs.declared.reuse.Stopped.{Stopped}
 use Rattle.worked_programs.specs.Embedded.{HasStoppedBy}
 
 -- a whole call through a cache of this heap, whose magazines stay as deep
@@ -95,13 +96,11 @@ pub record HasWorked (h : HeapFields) (c : Cache) (sum : ℕ) (d : Cache) : Type
   pub rests : RestsAt h d
   pub empty : cached_in d ≡ []
 
--- a call that was answered so has stopped the work with a new heap through a cache
-pub record WasStopped (told : Stop) : Type 0 where
-  pub heap : HeapFields
+-- the heap that is told was new with this cache; then a call that was answered so stopped the work, and left the cache that is told
+pub record WasStopped (told : Stopped) : Type 0 where
   pub cache : Cache
-  pub opened : IsOpened heap cache
-  pub last : Cache
-  pub stopped : HasStoppedWork heap cache told last
+  pub opened : IsOpened told.heap cache
+  pub stopped : HasStoppedWork told.heap cache told.stop told.cache
 
 -- a new heap was worked with through a cache and closed. A magazine served each allocation but the first one, which took the only turn; and no block is live
 pub record HasReused (reused : Reused) : Type 0 where

@@ -1,6 +1,6 @@
 //! Collections of std in heaps of fixed size: of two threads, and of one whose memory ends.
 
 pub mod alone;
-mod build;
+pub mod build;
 pub mod shared;
 mod work;

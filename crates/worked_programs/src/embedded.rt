@@ -67,6 +67,15 @@ pub struct Report {
     pub closed: Closed,
 }
 
+/// The answer of the call that ended the program, the heap that it opened, and both passes as they were left.
+#[derive(Drop)]
+pub struct Stopped {
+    pub stop: Stop,
+    pub heap: Heap,
+    pub first: Pass,
+    pub second: Pass,
+}
+
 /// An allocation of so many words.
 fn allocate(heap: &Heap, pass: &mut Pass, words: u32) -> Result<Block, Stop>
     requires rest { IsAtRest heap.now pass.old }
@@ -133,7 +142,7 @@ fn hand_over(heap: &Heap, pass: &mut Pass, block: Block) -> Result<(), Stop>
 fn keep(heap: &Heap, pass: &mut Pass) -> Result<u64, Stop>
     requires { IsFresh heap.now pass.old }
     ensures kept { IfOk result (λ kept. Keeps heap.now pass.old kept pass.new) }
-    ensures stopped { IfErr result (λ stop. HasStopped heap.now pass.old IsNextOfFirst stop) }
+    ensures stopped { IfErr result (λ stop. HasStopped heap.now pass.old IsNextOfFirst stop pass.new) }
 {
     whole_calls_keep_blocks();
     given_blocks_have_enough_words();
@@ -151,7 +160,7 @@ fn keep(heap: &Heap, pass: &mut Pass) -> Result<u64, Stop>
 fn fetch(heap: &Heap, pass: &mut Pass) -> Result<u64, Stop>
     requires { IsFresh heap.now pass.old }
     ensures fetched { IfOk result (λ handed. Fetches heap.now pass.old handed pass.new) }
-    ensures stopped { IfErr result (λ stop. HasStopped heap.now pass.old IsNextOfSecond stop) }
+    ensures stopped { IfErr result (λ stop. HasStopped heap.now pass.old IsNextOfSecond stop pass.new) }
 {
     whole_calls_keep_blocks();
     let block = pick_up(heap, pass)?;
@@ -175,7 +184,7 @@ fn four_frames() -> Geometry
 }
 
 /// The program: a heap of 4 frames and 2 units, its two passes at work, and its end.
-pub fn run(alloc: Global) -> Result<Result<Report, Stop>, AllocError>
+pub fn run(alloc: Global) -> Result<Result<Report, Stopped>, AllocError>
     ensures ran { IfOk result (λ told. IfOk told HasRun) }
     ensures stopped { IfOk result (λ told. IfErr told WasStopped) }
 {
@@ -191,11 +200,25 @@ pub fn run(alloc: Global) -> Result<Result<Report, Stop>, AllocError>
     let mut first = passes.remove(0);
     let kept = match keep(&heap, &mut first) {
         Ok(kept) => kept,
-        Err(stop) => return Ok(Err(stop)),
+        Err(stop) => {
+            return Ok(Err(Stopped {
+                stop,
+                heap,
+                first,
+                second,
+            }));
+        }
     };
     let handed = match fetch(&heap, &mut second) {
         Ok(handed) => handed,
-        Err(stop) => return Ok(Err(stop)),
+        Err(stop) => {
+            return Ok(Err(Stopped {
+                stop,
+                heap,
+                first,
+                second,
+            }));
+        }
     };
     passes.push_reserved(first);
     passes.push_reserved(second);
@@ -223,13 +246,13 @@ pub fn count_live(closed: &Closed) -> u64
 }
 
 /// What the program prints.
-pub fn told(alloc: Global) -> Result<Result<Vec<u8>, Stop>, AllocError>
+pub fn told(alloc: Global) -> Result<Result<Vec<u8>, Stopped>, AllocError>
     ensures prints { IfOk result (λ told. IfOk told (λ text. text.items ≡ codes "kept 7\nhanded 7\nlive 0\n")) }
     ensures stopped { IfOk result (λ told. IfErr told WasStopped) }
 {
     match run(alloc)? {
         Ok(report) => Ok(Ok(lines(alloc, report.kept, report.handed, report.live)?)),
-        Err(stop) => Ok(Err(stop)),
+        Err(stopped) => Ok(Err(stopped)),
     }
 }
 

@@ -48,6 +48,14 @@ pub struct Reused {
     pub closed: Closed,
 }
 
+/// The answer of the call that ended the program, the heap that it opened, and the cache as it was left.
+#[derive(Drop)]
+pub struct Stopped {
+    pub stop: Stop,
+    pub heap: Heap,
+    pub cache: Cache,
+}
+
 /// An allocation of so many words.
 fn allocate(heap: &Heap, cache: &mut Cache, words: u32) -> Result<Block, Stop>
     requires rests { RestsAt heap.now cache.old }
@@ -176,7 +184,7 @@ fn close(alloc: Global, heap: Heap, cache: Cache, sum: u64) -> Result<Reused, Al
 }
 
 /// The program: it opens a heap, makes its rounds, and closes the heap.
-pub fn run(alloc: Global) -> Result<Result<Reused, Stop>, AllocError>
+pub fn run(alloc: Global) -> Result<Result<Reused, Stopped>, AllocError>
     ensures ran { IfOk result (λ told. IfOk told HasReused) }
     ensures stopped { IfOk result (λ told. IfErr told WasStopped) }
 {
@@ -187,6 +195,6 @@ pub fn run(alloc: Global) -> Result<Result<Reused, Stop>, AllocError>
     let (heap, mut cache) = open(alloc)?;
     match work(&heap, &mut cache) {
         Ok(sum) => Ok(Ok(close(alloc, heap, cache, sum)?)),
-        Err(stop) => Ok(Err(stop)),
+        Err(stop) => Ok(Err(Stopped { stop, heap, cache })),
     }
 }

@@ -20,8 +20,8 @@ use Rattle.plain_words.specs.Owned.{plain_owns}
 use Rattle.balloc_malloc.specs.Gives.{GivesBy}
 use Rattle.balloc_malloc.specs.Handing.{words_own}
 use Rattle.balloc_malloc.specs.Out.{HasOut}
-use Rattle.balloc_malloc.specs.declared.seat.Seat.{Seat}
-use Rattle.balloc_malloc.specs.contracts.seat.Seat as seat
+use Rattle.balloc_malloc.specs.declared.seat.ThreadSeat.{ThreadSeat}
+use Rattle.balloc_malloc.specs.contracts.seat.ThreadSeat as seat
 use Rattle.balloc_malloc.specs.contracts.handed.Handed as handed
 use Rattle.balloc_malloc.specs.contracts.calls.give as giving
 use Rattle.balloc_malloc.proofs.calls.give.Met.{met as gives}
@@ -51,7 +51,7 @@ balloc_malloc_give_spec 𝓤 𝓛 𝓜 𝓡 wired =
     let Req : Type 0 = (lot' : Memory) × (w ≡ lot'.words) × HasOut was lot' i n in
     use0 𝓛 (raw (fact 𝓤 Req)) (fact_i 𝓤 Req (emp 𝓤) (lot, refl, asked)) $ move ! (1 ∷ 0 ∷ []) $ join ! $ use1 𝓛 (raw (k.pre z)) (id⊢ 𝓤 _) $
     calls_at ! (fm 𝓛 𝓜 𝓡) k (gives 𝓤 𝓛 𝓜 𝓡 (code.calls-balloc_malloc::calls::give 𝓡.env wired)) z (and_then ! (get ! refl) (and_then ! (get ! refl) (and_then ! (get ! refl) (and_then ! (get ! refl) (no_more !))))) (λ v.
-    let Told : Hd.Denot → Seat → Type 0 = λ r t. (lot' : Memory) → w ≡ lot'.words → HasOut was lot' i n → GivesBy was lot' r.code r.words t.held.tenant in
+    let Told : Hd.Denot → ThreadSeat → Type 0 = λ r t. (lot' : Memory) → w ≡ lot'.words → HasOut was lot' i n → GivesBy was lot' r.code r.words t.held.tenant in
     use1 𝓛 (later (some (λ (r : Hd.Denot). (raw (alive 𝓛 ended.signature κs qs) ⊛ ‵ (Hd.own_val r (v ∷ []))) ⊛ some (λ (ls : Lasts giving.ended κs z.0.3). ‵ (lasts giving.ended κs z.0.3 ls) ⊛ raw (fact 𝓤 (Told r ls.0)))))) (id⊢ 𝓤 (k.post z v)) $
     await ! tt $ pick ! (λ r. split ! $ move ! (1 ∷ []) $ pick ! (λ ls. split ! $ move ! (1 ∷ []) $ heard ! (Told r ls.0) (λ told. fsplit ! $ move ! (2 ∷ []) $ split ! $ move ! (1 ∷ []) $
     peeks ! Hd _ (shows 𝓛 Hd) r (v ∷ []) (λ is. let e = (bare_told r.memory r.code (v ∷ []) is.0).0 in let fits : r.code < 2 ^ 32 = (bare_told r.memory r.code (v ∷ []) is.0).1 in

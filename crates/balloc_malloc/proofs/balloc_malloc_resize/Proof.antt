@@ -18,8 +18,8 @@ use Rattle.std_alloc.proofs.RcSteps.{Ptr-Good}
 use Rattle.core.proofs.atomic.Steps.{fm}
 use Rattle.plain_words.specs.declared.plain.PlainWords.{PlainWords}
 use Rattle.balloc_malloc.specs.Handing.{words_own}
-use Rattle.balloc_malloc.specs.declared.seat.Seat.{Seat}
-use Rattle.balloc_malloc.specs.contracts.seat.Seat as seat
+use Rattle.balloc_malloc.specs.declared.seat.ThreadSeat.{ThreadSeat}
+use Rattle.balloc_malloc.specs.contracts.seat.ThreadSeat as seat
 use Rattle.balloc_malloc.specs.contracts.handed.Handed as handed
 use Rattle.balloc_malloc.specs.contracts.balloc_malloc_resize.{ended, clauses}
 use Rattle.balloc_malloc.specs.contracts.balloc_malloc_resize.Key.{name as #self}
@@ -55,7 +55,7 @@ balloc_malloc_resize_spec 𝓤 𝓛 𝓜 𝓡 wired =
     let Req : Type 0 = (lot' : Memory) × (w ≡ lot'.words) × HasOut was lot' i j × IsNumbered lot' in
     use0 𝓛 (raw (fact 𝓤 Req)) (fact_i 𝓤 Req (emp 𝓤) (lot, refl, asked, numbered)) $ move ! (1 ∷ 0 ∷ []) $ join ! $ use1 𝓛 (raw (k.pre z)) (id⊢ 𝓤 _) $
     calls_at ! (fm 𝓛 𝓜 𝓡) k (resizes 𝓤 𝓛 𝓜 𝓡 (code.calls-balloc_malloc::calls::resize 𝓡.env wired)) z (and_then ! (get ! refl) (and_then ! (get ! refl) (and_then ! (get ! refl) (and_then ! (get ! refl) (and_then ! (get ! refl) (no_more !)))))) (λ v.
-    let Told : Hd.Denot → Seat → Type 0 = λ r t. (lot' : Memory) → w ≡ lot'.words → HasOut was lot' i j → ResizesBy was lot' n r.code r.words r.memory t.held.tenant in
+    let Told : Hd.Denot → ThreadSeat → Type 0 = λ r t. (lot' : Memory) → w ≡ lot'.words → HasOut was lot' i j → ResizesBy was lot' n r.code r.words r.memory t.held.tenant in
     use1 𝓛 (later (some (λ (r : Hd.Denot). ((‵ (flft κs.0 qs.0) ⊛ ‵ ftrue) ⊛ ‵ (Hd.own_val r (v ∷ []))) ⊛ some (λ (ls : Lasts resizing.ended (κs.0, tt) z.0.3). ‵ (lasts resizing.ended (κs.0, tt) z.0.3 ls) ⊛ raw (fact 𝓤 (Told r ls.0)))))) (id⊢ 𝓤 (k.post z v)) $
     await ! tt $ pick ! (λ r. split ! $ move ! (1 ∷ []) $ pick ! (λ ls. split ! $ move ! (1 ∷ []) $ heard ! (Told r ls.0) (λ told. fsplit ! $ move ! (2 ∷ []) $ split ! $ move ! (1 ∷ []) $
     peeks ! Hd _ (shows 𝓛 Hd) r (v ∷ []) (λ is. let e = (bare_told r.memory r.code (v ∷ []) is.0).0 in let fits : r.code < 2 ^ 32 = (bare_told r.memory r.code (v ∷ []) is.0).1 in

@@ -18,8 +18,8 @@ use Rattle.core.proofs.atomic.Steps.{fm}
 use Rattle.plain_words.specs.declared.plain.PlainWords.{PlainWords}
 use Rattle.balloc_malloc.specs.Handing.{words_own}
 use Rattle.balloc_malloc.specs.Takes.{TakesBy}
-use Rattle.balloc_malloc.specs.declared.seat.Seat.{Seat}
-use Rattle.balloc_malloc.specs.contracts.seat.Seat as seat
+use Rattle.balloc_malloc.specs.declared.seat.ThreadSeat.{ThreadSeat}
+use Rattle.balloc_malloc.specs.contracts.seat.ThreadSeat as seat
 use Rattle.balloc_malloc.specs.contracts.handed.Handed as handed
 use Rattle.balloc_malloc.specs.contracts.calls.take as taking
 use Rattle.balloc_malloc.proofs.calls.take.Met.{met as takes}
@@ -46,7 +46,7 @@ balloc_malloc_take_spec 𝓤 𝓛 𝓜 𝓡 wired =
     sets ! (addr ! (through ! refl (stop !))) refl (tt, tt) $
     nothing ! $ move ! (2 ∷ 0 ∷ []) $ fjoin ! $ move ! (1 ∷ 0 ∷ []) $ fjoin ! $ nothing ! $ move ! (2 ∷ 0 ∷ []) $ join ! $ join ! $ nothing ! $ move ! (1 ∷ 0 ∷ []) $ join ! $ use1 𝓛 (raw (k.pre z)) (id⊢ 𝓤 _) $
     calls_at ! (fm 𝓛 𝓜 𝓡) k (takes 𝓤 𝓛 𝓜 𝓡 (code.calls-balloc_malloc::calls::take 𝓡.env wired)) z (and_then ! (get ! refl) (and_then ! (get ! refl) (no_more !))) (λ v.
-    let Told : Hd.Denot → Seat → Type 0 = λ r t. TakesBy was n r.code r.words r.memory t.held.tenant in
+    let Told : Hd.Denot → ThreadSeat → Type 0 = λ r t. TakesBy was n r.code r.words r.memory t.held.tenant in
     use1 𝓛 (later (some (λ (r : Hd.Denot). ((‵ (flft κs.0 qs.0) ⊛ ‵ ftrue) ⊛ ‵ (Hd.own_val r (v ∷ []))) ⊛ some (λ (ls : Lasts taking.ended (κs.0, tt) z.0.3). ‵ (lasts taking.ended (κs.0, tt) z.0.3 ls) ⊛ raw (fact 𝓤 (Told r ls.0)))))) (id⊢ 𝓤 (k.post z v)) $
     await ! tt $ pick ! (λ r. split ! $ move ! (1 ∷ []) $ pick ! (λ ls. split ! $ move ! (1 ∷ []) $ heard ! (Told r ls.0) (λ told. fsplit ! $ move ! (2 ∷ []) $ split ! $ move ! (1 ∷ []) $
     peeks ! Hd _ (shows 𝓛 Hd) r (v ∷ []) (λ is. let e = (bare_told r.memory r.code (v ∷ []) is.0).0 in let fits : r.code < 2 ^ 32 = (bare_told r.memory r.code (v ∷ []) is.0).1 in

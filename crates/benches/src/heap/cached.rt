@@ -186,6 +186,16 @@ impl Front for Cache {
         Cache::read(self, heap, block, i)
     }
 
+    fn fill(&mut self, heap: &Heap, block: &Block, from: u64) {
+        caches_account_for_all_blocks();
+        Cache::fill(self, heap, block, from);
+    }
+
+    fn sum(&mut self, heap: &Heap, block: &Block) -> u64 {
+        caches_account_for_all_blocks();
+        Cache::sum(self, heap, block)
+    }
+
     fn blocks_have_no_order()
         ensures { (front : Cache) (before after : List Block) (block : Block)
             → Holds front (before ++ block ∷ after) ↔ Holds front (block ∷ before ++ after) }

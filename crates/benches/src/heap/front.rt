@@ -98,6 +98,20 @@ pub trait Front: Drop {
         ensures rests { rests heap.now self.new }
         ensures holds { (held : List Block) → holds self.old held → holds self.new held };
 
+    /// Fills the caller's block: word i with from + i, modulo 2^64.
+    fn fill(&mut self, heap: &Heap, block: &Block, from: u64)
+        requires rests { rests heap.now self.old }
+        requires held { (others : List Block) × holds self.old (block.now ∷ others) }
+        ensures rests { rests heap.now self.new }
+        ensures holds { (held : List Block) → holds self.old held → holds self.new held };
+
+    /// The sum of the words of the caller's block, modulo 2^64.
+    fn sum(&mut self, heap: &Heap, block: &Block) -> u64
+        requires rests { rests heap.now self.old }
+        requires held { (others : List Block) × holds self.old (block.now ∷ others) }
+        ensures rests { rests heap.now self.new }
+        ensures holds { (held : List Block) → holds self.old held → holds self.new held };
+
     /// The order of the blocks means nothing: a theorem, on a function that does nothing.
     fn blocks_have_no_order()
         ensures { (front : Self) (before after : List Block) (block : Block)
@@ -170,6 +184,14 @@ impl Front for Pass {
     fn read(&mut self, heap: &Heap, block: &Block, i: u32) -> u64 {
         passes_keep_their_blocks();
         heap.read(self, block, i)
+    }
+
+    fn fill(&mut self, heap: &Heap, block: &Block, from: u64) {
+        heap.fill(self, block, from);
+    }
+
+    fn sum(&mut self, heap: &Heap, block: &Block) -> u64 {
+        heap.sum(self, block)
     }
 
     fn blocks_have_no_order()

@@ -6,7 +6,6 @@ ghost use Rattle.benches.specs.Hands.{Keeps};
 
 use crate::command::Task;
 use crate::heap::front::Front;
-use crate::heap::stamps::{fill, wrong_words};
 use crate::heap::tally::{Tally, count};
 use crate::heap::worker::{Work, Worker};
 use live_heap::block::Block;
@@ -33,7 +32,7 @@ fn make_pairs<R: Wait, F: Front>(rt: &R, heap: &Heap, front: &mut F, pairs: u64,
     }
 }
 
-/// Fills a block and checks it, so many times.
+/// Fills a block and checks the sum of its words, so many times.
 fn make_words<R: Wait, F: Front>(rt: &R, heap: &Heap, front: &mut F, rounds: u64, tally: &mut Tally)
     requires rests { F.rests heap.now front.old }
     requires none { F.holds front.old [] }
@@ -55,12 +54,21 @@ fn turn_over<F: Front>(heap: &Heap, front: &mut F, block: &Block, rounds: u64, t
 {
     for round in 0..rounds {
         count(&mut tally.made);
-        fill(heap, front, block, round);
-        let wrong = wrong_words(heap, front, block, round);
+        front.fill(heap, block, round);
+        let found = front.sum(heap, block);
         tally.count_words(block);
         tally.count_words(block);
-        tally.wrong = tally.wrong.saturating_add(wrong);
+        if found != sum_from(round, block.usable_words()) {
+            count(&mut tally.wrong);
+        }
     }
+}
+
+/// The sum of so many numbers from one on, modulo 2^64.
+fn sum_from(from: u64, count: u32) -> u64 {
+    let count = u64::from(count);
+    let pairs = count.wrapping_mul(count.wrapping_sub(1)) / 2;
+    from.wrapping_mul(count).wrapping_add(pairs)
 }
 
 /// So many allocations that are filled, checked and freed.

@@ -21,7 +21,7 @@ const USED_SHELVES: u32 = 4;
 
 /// A block in a thread's hand, and the number in each of its words.
 #[derive(Drop)]
-pub struct Held {
+pub struct Stamped {
     pub block: Block,
     pub stamp: u64,
 }
@@ -33,7 +33,7 @@ pub struct Worker<F> {
     pub front: F,
     /// The number of its caller.
     pub caller: u32,
-    pub hand: Vec<Held>,
+    pub hand: Vec<Stamped>,
     pub random: Random,
     /// How many stamps the thread has used.
     pub stamps: u64,
@@ -151,7 +151,7 @@ impl<F: Front> Worker<F> {
     }
 
     /// One of the blocks in the hand; none where the place that was picked is empty.
-    fn pick(&mut self) -> Option<Held>
+    fn pick(&mut self) -> Option<Stamped>
         requires { F.holds self.old.front (blocks_of self.old.hand.items) }
         ensures front { self.new.front ≡ self.old.front }
         ensures none { IfNone result (self.new.hand ≡ self.old.hand) }
@@ -187,25 +187,25 @@ impl<F: Front> Worker<F> {
     }
 
     /// Checks a block from the hand, and frees it.
-    fn give_back<R: Wait>(&mut self, rt: &R, heap: &Heap, held: Held)
+    fn give_back<R: Wait>(&mut self, rt: &R, heap: &Heap, held: Stamped)
         requires rests { F.rests heap.now self.old.front }
         requires holds { F.holds self.old.front (held.block ∷ blocks_of self.old.hand.items) }
         ensures working { IsWorking F.rests F.holds heap.now self.new }
         ensures hand { self.new.hand ≡ self.old.hand }
     {
-        let Held { block, stamp } = held;
+        let Stamped { block, stamp } = held;
         self.check(heap, &block, stamp);
         let tries = next_tries(&mut self.random);
         self.front.release(rt, heap, block, tries, &mut self.tally);
     }
 
     /// Checks a block from the hand, and puts it on a shelf.
-    fn put_down<R: Wait>(&mut self, rt: &R, heap: &Heap, held: Held)
+    fn put_down<R: Wait>(&mut self, rt: &R, heap: &Heap, held: Stamped)
         requires rests { F.rests heap.now self.old.front }
         requires holds { F.holds self.old.front (held.block ∷ blocks_of self.old.hand.items) }
         ensures { IsWorking F.rests F.holds heap.now self.new }
     {
-        let Held { block, stamp } = held;
+        let Stamped { block, stamp } = held;
         self.check(heap, &block, stamp);
         let shelf = next_shelf(&mut self.random);
         let tries = next_tries(&mut self.random);
@@ -234,7 +234,7 @@ impl<F: Front> Worker<F> {
         ensures holds { F.holds self.new.front (blocks_of self.new.hand.items) }
     {
         F::blocks_have_no_order();
-        self.hand.push_reserved(Held { block, stamp });
+        self.hand.push_reserved(Stamped { block, stamp });
     }
 
     /// Checks all blocks in the hand, and frees them.

@@ -35,7 +35,7 @@ pub fn hands_give_out_blocks()
 /// A hand goes through every whole call: what the call is about has left the hand, what it brings is in it
 /// behind the others, and an interrupted one waits with the others.
 pub fn hands_go_through_calls()
-    ensures alloc { (h : HeapFields) (p q : Pass) (blocks : List Block) (need tries : ℕ) (answer : AllocAnswer) → IsHand h p blocks
+    ensures alloc { (h : HeapFields) (p q : Pass) (blocks : List Block) (need tries : ℕ) (answer : AllocAnswer Block) → IsHand h p blocks
         → IsIdle p.errand → IsOf h q → AllocTells p need tries answer q → IsHand h q (blocks ++ given_by answer) }
     ensures free { (h : HeapFields) (p q : Pass) (block : Block) (blocks : List Block) (tries : ℕ) (answer : FreeAnswer) → IsOf h p
         → Holds p (block ∷ blocks) → IsOf h q → FreeTells p block tries answer q → IsHand h q blocks }
@@ -46,7 +46,7 @@ pub fn hands_go_through_calls()
     ensures put { (h : HeapFields) (p q : Pass) (block : Block) (blocks : List Block) (shelf : ℕ) (answer : Result (Unit {0}) Full) → IsOf h p
         → Holds p (block ∷ blocks) → IsOf h q → IfOk answer (λ _. HasCalled p (put block.place block.need shelf) 0 reply.Put q)
         → IfErr answer (λ full. PutTellsFull p block shelf full q) → IsHand h q (blocks ++ returned_by answer) }
-    ensures take { (h : HeapFields) (p q : Pass) (blocks : List Block) (shelf : ℕ) (answer : Taken) → IsOf h p → Holds p blocks → IsOf h q
+    ensures take { (h : HeapFields) (p q : Pass) (blocks : List Block) (shelf : ℕ) (answer : Taken Block) → IsOf h p → Holds p blocks → IsOf h q
         → TakeTells p shelf answer q → IsHand h q (blocks ++ taken_by answer) }
     ensures ended { (h : HeapFields) (p q : Pass) (blocks : List Block) (call : Call) (steps : ℕ) (end : Ending Block) → IsOf h p → Holds p blocks
         → IsOf h q → All (λ block. LeavesPlace call block.place) blocks → HasCalled p call steps (reply_of end) q → EndTells call end q

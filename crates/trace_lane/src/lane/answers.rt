@@ -17,7 +17,7 @@ use crate::stage::OperationStage;
 use errand_steps::told::Ending;
 use lane_engine::begins::NextCall;
 use lane_outcomes::outcome::Outcome;
-use lane_outcomes::registers::Held;
+use lane_outcomes::registers::HeldBlock;
 use step_machine::token::Token;
 use trace_text::trace::Op;
 
@@ -246,7 +246,7 @@ impl<B: Token + Drop> LaneState<B> {
     }
 
     /// The read of word `next` of the old block of a resize.
-    fn read_old(&mut self, old: Held, next: u32) -> Option<NextCall>
+    fn read_old(&mut self, old: HeldBlock, next: u32) -> Option<NextCall>
         ensures call { (call : _) × (result ≡ Some call) × (call_of call ≡ reads old next) }
         ensures lane { self.new ≡ record self.old { stage = stage.Copying old next None } }
     {
@@ -263,7 +263,7 @@ impl<B: Token + Drop> LaneState<B> {
     }
 
     /// The write of word `next` of the new block of a resize, which is in the register.
-    fn write_new(&mut self, r: u16, old: Held, next: u32, word: u64) -> Option<NextCall>
+    fn write_new(&mut self, r: u16, old: HeldBlock, next: u32, word: u64) -> Option<NextCall>
         requires register { r < length self.old.registers.items }
         ensures call { (call : _) × (result ≡ Some call)
             × (call_of call ≡ writes (held_there (held_in (blocks_of B.place_of B.need_of self.old) r)) next word) }
@@ -284,7 +284,7 @@ impl<B: Token + Drop> LaneState<B> {
     }
 
     /// The free of the old block of a resize.
-    fn release(&mut self, old: Held) -> Option<NextCall>
+    fn release(&mut self, old: HeldBlock) -> Option<NextCall>
         ensures call { (call : _) × (result ≡ Some call) × (call_of call ≡ frees old) }
         ensures lane { self.new ≡ record self.old { stage = stage.Releasing } }
     {

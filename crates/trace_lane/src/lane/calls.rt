@@ -38,7 +38,7 @@ fn take_block<B: Token + Drop, R: Wait, C: Calls<Held = B>>(
         match calls.take(shelf) {
             Taken::Got(block) => return Some(block),
             Taken::Empty => return None,
-            Taken::Missed => {}
+            Taken::Missed { .. } => {}
         }
     }
     unreachable!()

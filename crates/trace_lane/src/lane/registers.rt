@@ -9,7 +9,7 @@ ghost use Rattle.trace_lane.specs.Paths.{held_by};
 
 use heap_geometry::need::{Need, class_of};
 use lane_outcomes::outcome::Outcome;
-use lane_outcomes::registers::Held;
+use lane_outcomes::registers::HeldBlock;
 use step_machine::token::Token;
 
 /// Whether the register holds a block.
@@ -21,17 +21,17 @@ pub(super) fn is_full<B>(registers: &Vec<Option<B>>, r: u16) -> bool
 }
 
 /// The block of a full register, by its numbers.
-pub(super) fn held_at<B: Token>(registers: &Vec<Option<B>>, r: u16) -> Held
+pub(super) fn held_at<B: Token>(registers: &Vec<Option<B>>, r: u16) -> HeldBlock
     requires { r < length registers.now.items }
     ensures { result ≡ held_there (option_map (held_by B.place_of B.need_of) (slice_index_or registers.now.items r None)) }
 {
     match &registers[usize::from(r)] {
-        Some(block) => Held {
+        Some(block) => HeldBlock {
             place: block.place(),
             words: block.words(),
             need: block.need(),
         },
-        None => Held {
+        None => HeldBlock {
             place: 0,
             words: 0,
             need: Need::TooLarge,

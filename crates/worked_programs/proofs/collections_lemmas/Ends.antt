@@ -11,7 +11,8 @@ use Rattle.live_heap.specs.Contents.{owned_after, owned_in}
 use Rattle.live_heap.specs.Endings.{AreAllIdle, ClosedFields, HasClosed, HasTakenIn, IsResting}
 use Rattle.live_heap.specs.Heaps.{HeapFields}
 use Rattle.live_heap.specs.Passes.{AreFrom, IsOf}
-use Rattle.worked_programs.specs.collections.Shared.{ComesBack, HasNothing, HaveAllWorked, OwnNothing}
+use Rattle.worked_programs.specs.declared.collections.build.Built.{Built}
+use Rattle.worked_programs.specs.collections.Shared.{HasBuilt, HasNothing, HaveAllWorked, IsBuiltIn, OwnNothing}
 
 -- a closed heap has just what each pass owned
 abbrev pub HasWhatPassesOwned : Type 0
@@ -19,10 +20,13 @@ HasWhatPassesOwned =
     (c : ClosedFields) (p : Pass) (place : ℕ) → IsResting c → HasTakenIn c p → owned_after c.events p.errand.caller place ≡ owned_in p place
 
 -- what a thread came to
-pub comes-back : (h : HeapFields) (n : ℕ) (p : Pass) (told : Option (ℕ × Pass)) (done : ℕ × Pass) → told ≡ Some done
-    → IfSome told (λ d. (d.0 ≡ n) × ComesBack h p d.1) → ComesBack h p done.1
-comes-back h n p told done is ends =
-    let P : Option (ℕ × Pass) → Type 0 = λ o. IfSome o (λ d. (d.0 ≡ n) × ComesBack h p d.1) in let it = subst P is ends in it.1
+pub has-built : (h : HeapFields) (n : ℕ) (p : Pass) (told : Option (Built × Pass)) (done : Built × Pass) → told ≡ Some done
+    → IfSome told (λ d. HasBuilt h p n d.0 d.1) → HasBuilt h p n done.0 done.1
+has-built h n p told done is ends = let P : Option (Built × Pass) → Type 0 = λ o. IfSome o (λ d. HasBuilt h p n d.0 d.1) in subst P is ends
+
+-- the heap of the allocator over which things were built was closed
+pub built-there : (h : HeapFields) (c : ClosedFields) (items : List Pass) (built : Built) → HasClosed h items c → built.heap.value ≡ h → IsBuiltIn c built
+built-there h c items built closed is = ap (λ (x : HeapFields). x.region) is ∙ sym closed.table
 
 -- the callers of the passes of a new heap
 pub only-caller : (h : HeapFields) (items : List Pass) (p : Pass) → AreFrom h 0 items → length items ≡ 1 → p ≡ slice_index_or items 0 p → p.errand.caller ≡ 0

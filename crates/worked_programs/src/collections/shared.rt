@@ -2,8 +2,9 @@
 
 ghost use Rattle.std.specs.Prelude.{◌≡◌, ◌≤◌, ◌*◌, IfOk, IfSome};
 ghost use Rattle.heap_geometry.specs.Geometry.{IsChecked};
-ghost use Rattle.worked_programs.specs.collections.Shared.{ComesBack, HasNothing, HaveAllWorked, OwnNothing};
+ghost use Rattle.worked_programs.specs.collections.Shared.{HasBuilt, HasNothing, HaveAllWorked, IsBuiltIn, OwnNothing};
 
+use crate::collections::build::Built;
 use crate::collections::work::work;
 use heap_geometry::geometry::Geometry;
 use live_heap::closed::Closed;
@@ -13,11 +14,11 @@ use std::alloc::{AllocError, Global};
 use std::thread;
 use std::thread::Threads;
 
-/// How many things the threads counted, and what is left of the heap.
+/// What the threads built, and what is left of the heap.
 #[derive(Drop)]
 pub struct Report {
-    pub one: u32,
-    pub other: u32,
+    pub one: Built,
+    pub other: Built,
     pub closed: Closed,
 }
 
@@ -35,16 +36,17 @@ fn two_callers() -> Geometry
     }
 }
 
-/// Two threads build collections of so many things at once and drop them. Each hands its count over, and the heap closes:
-/// no caller owns a block in it, and each has begun calls in it. None where a thread had no memory for all of that or
-/// nothing to build, or a call of the heap stayed under way.
+/// Two threads build collections of so many things at once and drop them. Each hands its count over, and the heap closes,
+/// which is the one of their allocators: no caller owns a block in it, and each has begun calls in it. None where a thread
+/// had no memory for all of that or nothing to build, or a call of the heap stayed under way.
 pub fn share<R: Threads + Sync>(
     rt: &R,
     alloc: Global,
     things: u32,
 ) -> Result<Option<Report>, AllocError>
     requires { things ≤ 1000 }
-    ensures counts { IfOk result (λ told. IfSome told (λ report. (report.one ≡ 3 * things) × (report.other ≡ 3 * things))) }
+    ensures counts { IfOk result (λ told. IfSome told (λ report. (report.one.count ≡ 3 * things) × (report.other.count ≡ 3 * things))) }
+    ensures there { IfOk result (λ told. IfSome told (λ report. IsBuiltIn report.closed report.one × IsBuiltIn report.closed report.other)) }
     ensures nothing { IfOk result (λ told. IfSome told (λ report. OwnNothing report.closed)) }
     ensures worked { IfOk result (λ told. IfSome told (λ report. HaveAllWorked 2 report.closed)) }
 {
@@ -58,11 +60,11 @@ pub fn share<R: Threads + Sync>(
         rt,
         move ||
             requires { HasNothing shared.now first × (things ≤ 1000) }
-            ensures { IfSome result (λ done. (done.0 ≡ 3 * things) × ComesBack shared.entry.now first done.1) }
+            ensures { IfSome result (λ done. HasBuilt shared.entry.now first (3 * things) done.0 done.1) }
         { work(alloc, shared, first, things) },
         move ||
             requires { HasNothing shared.now second × (things ≤ 1000) }
-            ensures { IfSome result (λ done. (done.0 ≡ 3 * things) × ComesBack shared.entry.now second done.1) }
+            ensures { IfSome result (λ done. HasBuilt shared.entry.now second (3 * things) done.0 done.1) }
         { work(alloc, shared, second, things) },
     );
     let (Some((one, first)), Some((other, second))) = (one, other) else {

@@ -1,9 +1,9 @@
 //! A thread's work over a pass.
 
 ghost use Rattle.std.specs.Prelude.{◌≡◌, ◌<◌, ◌≤◌, ◌*◌, IfSome};
-ghost use Rattle.worked_programs.specs.collections.Shared.{ComesBack, HasNothing};
+ghost use Rattle.worked_programs.specs.collections.Shared.{HasBuilt, HasNothing};
 
-use crate::collections::build::{build, fill};
+use crate::collections::build::{Built, build, fill};
 use heap_allocator::HeapAllocator;
 use live_heap::heap::Heap;
 use live_heap::pass::Pass;
@@ -38,10 +38,10 @@ fn close(allocator: HeapAllocator, before: u64) -> Option<Pass>
 
 /// Builds over the pass, which comes back with nothing and has begun calls of the heap. None where there was no memory for
 /// that, or nothing to build.
-pub fn work(alloc: Global, heap: &Heap, pass: Pass, things: u32) -> Option<(u32, Pass)>
+pub fn work(alloc: Global, heap: &Heap, pass: Pass, things: u32) -> Option<(Built, Pass)>
     requires pass { HasNothing heap.now pass }
     requires few { things ≤ 1000 }
-    ensures { IfSome result (λ done. (done.0 ≡ 3 * things) × ComesBack heap.now pass done.1) }
+    ensures { IfSome result (λ done. HasBuilt heap.now pass (3 * things) done.0 done.1) }
 {
     let before = pass.turns();
     let allocator = open(alloc, heap, pass)?;
@@ -51,10 +51,10 @@ pub fn work(alloc: Global, heap: &Heap, pass: Pass, things: u32) -> Option<(u32,
 }
 
 /// Fills a list until there is no memory for more, drops it, and builds: the memory is there again.
-pub fn overflow(alloc: Global, heap: &Heap, pass: Pass, things: u32) -> Option<(u32, u32, Pass)>
+pub fn overflow(alloc: Global, heap: &Heap, pass: Pass, things: u32) -> Option<(u32, Built, Pass)>
     requires pass { HasNothing heap.now pass }
     requires few { things ≤ 1000 }
-    ensures { IfSome result (λ done. (done.1 ≡ 3 * things) × ComesBack heap.now pass done.2) }
+    ensures { IfSome result (λ done. HasBuilt heap.now pass (3 * things) done.1 done.2) }
 {
     let before = pass.turns();
     let allocator = open(alloc, heap, pass)?;

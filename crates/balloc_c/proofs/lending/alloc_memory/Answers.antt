@@ -1,4 +1,4 @@
-use Rattle.std.proofs.Common.{arith, rules, ℕ, ◌≡◌, ◌≢◌, ◌≤◌, Some, None, Ok, Err, refl, sym, ap, ◌∙◌, subst}
+use Rattle.std.proofs.Common.{arith, rules, ℕ, ◌≡◌, ◌≢◌, ◌≤◌, ◌%◌, ◌^◌, Some, None, Ok, Err, refl, sym, ap, ◌∙◌, subst}
 use Rattle.heap_geometry.specs.Need.{usable_words}
 use Rattle.live_heap.specs.declared.block.Block.{Block}
 use Rattle.balloc_c.specs.declared.kept.Kept.TheVariants as kept
@@ -9,24 +9,38 @@ use Rattle.balloc_c.specs.Slots.{block_at}
 use Rattle.balloc_c.proofs.Enough.{block-enough, bytes-enough}
 use Rattle.balloc_c.proofs.LendingLemmas.{same-home}
 use Rattle.balloc_c.proofs.MemoryCalls.{has-given}
-use Rattle.balloc_c.proofs.Numbers.{some-not-none}
+use Rattle.balloc_c.proofs.Numbers.{slot-named}
 use Rattle.balloc_c.proofs.Packing.{few-before}
+use Rattle.balloc_c.proofs.Tending.{within-of}
 use Rattle.balloc_c.proofs.lending.alloc_memory.Goals as goal
 
 pub go_out-requires-clause-idle : goal.go_out-requires-clause-idle
 go_out-requires-clause-idle c =
     (has-given c.args.cache.now c.args.table.now c.least_words.result c.in-Ok.number c.alloc.new.cache c.alloc.new.table c.in-Ok.ensures.answers).idle
 
+pub go_out-requires-clause-within : goal.go_out-requires-clause-within
+go_out-requires-clause-within c =
+    let g = has-given c.args.cache.now c.args.table.now c.least_words.result c.in-Ok.number c.alloc.new.cache c.alloc.new.table c.in-Ok.ensures.answers in
+    let n = c.in-Ok.number in
+    within-of c.alloc.new.table.slots.items (n % 2 ^ 32) (kept.Home g.block)
+    (sym (slot-named c.alloc.new.table n (n % 2 ^ 32) (kept.Home g.block) refl g.names.here) ∙ g.names.here)
+
 pub go_out-requires-clause-home : goal.go_out-requires-clause-home
 go_out-requires-clause-home c =
     let g = has-given c.args.cache.now c.args.table.now c.least_words.result c.in-Ok.number c.alloc.new.cache c.alloc.new.table c.in-Ok.ensures.answers in
-    (g.block, sym c.in-Some.ensures.found.2 ∙ g.names.here)
+    let n = c.in-Ok.number in
+    (g.block, sym (slot-named c.alloc.new.table n (n % 2 ^ 32) (kept.Home g.block) refl g.names.here) ∙ g.names.here)
 
-pub returns-in-Some-clause-few : goal.returns-in-Some-clause-few
-returns-in-Some-clause-few c = few-before c.args.table.now c.alloc.new.table c.go_out.new.table c.alloc.ensures.few c.go_out.ensures.count
+pub go_out-requires-clause-named : goal.go_out-requires-clause-named
+go_out-requires-clause-named c =
+    let g = has-given c.args.cache.now c.args.table.now c.least_words.result c.in-Ok.number c.alloc.new.cache c.alloc.new.table c.in-Ok.ensures.answers in
+    slot-named c.alloc.new.table c.in-Ok.number (c.in-Ok.number % 2 ^ 32) (kept.Home g.block) refl g.names.here
 
-pub returns-in-Some-clause-answers : goal.returns-in-Some-clause-answers
-returns-in-Some-clause-answers c =
+pub returns-in-Ok-clause-few : goal.returns-in-Ok-clause-few
+returns-in-Ok-clause-few c = few-before c.args.table.now c.alloc.new.table c.go_out.new.table c.alloc.ensures.few c.go_out.ensures.count
+
+pub returns-in-Ok-clause-answers : goal.returns-in-Ok-clause-answers
+returns-in-Ok-clause-answers c =
     let s = c.args.cache.now in
     let t = c.args.table.now in
     let e = c.alloc.new.cache in

@@ -7,9 +7,9 @@ use Rattle.sound_laws.specs.events.Made.{LeadsBy}
 use Rattle.live_heap.specs.Memory.{HasTaken, IsMemoryOf, before_taking, writes_from}
 use Rattle.live_heap.specs.Words.{CallsOnWord}
 use Rattle.balloc_c.specs.Lending.{Renames}
-use Rattle.live_heap.proofs.CallsOne.{block-same}
+use Rattle.live_heap.proofs.laws_for_builders.Hands.{block-same}
 use Rattle.balloc_c.specs.declared.kept.Kept.TheVariants as kept
-use Rattle.balloc_c.specs.declared.lent.Lent.{Lent}
+use Rattle.balloc_c.specs.declared.lent.LentBlock.{LentBlock}
 use Rattle.balloc_c.specs.Kept.{block_of}
 use Rattle.balloc_c.specs.Slots.{block_at}
 use Rattle.balloc_c.specs.Tended.{Stands}
@@ -20,7 +20,7 @@ use Rattle.balloc_c.proofs.lending.come_home.Goals as goal
 
 pub bring_home-block-requires-clause-memory : goal.bring_home-block-requires-clause-memory
 bring_home-block-requires-clause-memory c =
-    let lent : Lent = c.take_lent-lent.result in
+    let lent : LentBlock = c.take_lent-lent.result in
     let memory : Memory = c.of_words-memory.result in
     let same : lent ≡ c.requires.words.0 = same-lent lent c.requires.words.0 (sym c.take_lent-lent.ensures.value ∙ c.requires.words.1) in
     let token : block_of (kept.Out lent) ≡ memory.block =
@@ -28,19 +28,19 @@ bring_home-block-requires-clause-memory c =
     let given : Memory = record { block = block_of (kept.Out lent); words = c.args.words } in
     let whole : given ≡ memory = λ i. record { block = token i; words = (sym c.of_words-memory.ensures.words) i } in
     subst (IsMemoryOf c.args.heap.now) whole
-    (subst (λ (l : Lent). IsMemoryOf c.args.heap.now (record { block = block_of (kept.Out l); words = c.args.words })) (sym same) c.requires.words.2)
+    (subst (λ (l : LentBlock). IsMemoryOf c.args.heap.now (record { block = block_of (kept.Out l); words = c.args.words })) (sym same) c.requires.words.2)
 
 pub bring_home-block-requires-clause-taken : goal.bring_home-block-requires-clause-taken
 bring_home-block-requires-clause-taken c =
     let h = c.args.heap.now in
     let s = c.args.cache.now in
-    let lent : Lent = c.take_lent-lent.result in
+    let lent : LentBlock = c.take_lent-lent.result in
     let memory : Memory = c.of_words-memory.result in
     let token : block_of (kept.Out lent) ≡ memory.block =
     block-same (block_of (kept.Out lent)) memory.block (sym c.of_words-memory.ensures.block.0) (sym c.of_words-memory.ensures.block.1) in
     let given : Memory = record { block = block_of (kept.Out lent); words = c.args.words } in
     let whole : given ≡ memory = λ i. record { block = token i; words = (sym c.of_words-memory.ensures.words) i } in
-    subst (HasTaken s.pass) whole (subst (Stands s.pass) c.take_lent-lent.ensures.value (c.requires.tends.stand c.args.index))
+    subst (HasTaken s.pass) whole (subst (Stands h s.pass) c.take_lent-lent.ensures.value (c.requires.tends.stand c.args.index)).0
 
 pub returns : goal.returns
 returns c =
@@ -50,7 +50,7 @@ returns c =
     let d = c.bring_home-block.new.self in
     let u = c.set.new.self in
     let index = c.args.index in
-    let lent : Lent = c.take_lent-lent.result in
+    let lent : LentBlock = c.take_lent-lent.result in
     let block : Block = c.bring_home-block.result in
     let memory : Memory = c.of_words-memory.result in
     let m = c.bring_home-block.ensures in

@@ -66,6 +66,11 @@ returns-then-is_out-clause-answers c =
           (sym c.none-then-is_out.ensures.2) c.free_out-freed.ensures.answers,
     )
 
+pub free_home-requires-clause-home : goal.free_home-requires-clause-home
+free_home-requires-clause-home c =
+    home-slot (block_at c.args.table.now.slots.items c.in-Some.index) (λ none. c.in-Some.ensures.found.3 (c.in-Some.ensures.found.2 ∙ none))
+    (sym c.is_out.ensures ∙ c.if-is_out.false)
+
 pub returns-clause-answers : goal.returns-clause-answers
 returns-clause-answers c =
     let h = c.args.heap.now in
@@ -75,10 +80,10 @@ returns-clause-answers c =
     let index = c.in-Some.index in
     let home = home-slot (block_at t.slots.items index) (λ none. c.in-Some.ensures.found.3 (c.in-Some.ensures.found.2 ∙ none)) (sym c.is_out.ensures ∙ c.if-is_out.false) in
     let names : named t n ≡ Some (kept.Home home.0) = c.in-Some.ensures.found.2 ∙ home.1 in
-    let outcome = c.free.result in (
+    let outcome = c.free_home.result in (
       outcome,
       c.none-2.ensures.1 ∙ c.word-2.ensures,
       nothing-left outcome c.none-2.result.words c.none-2.ensures.2,
-      gives-nothing h s t n zeros (λ e v result d u. HasFreed e v n result d u) c.args.back.words c.none-2.result.words outcome c.free.new.cache c.free.new.table
-          (subst (λ slot. IsBackFor h slot c.args.back.words) names c.requires.back) c.none-2.ensures.2 c.free.ensures.answers,
+      gives-nothing h s t n zeros (λ e v result d u. HasFreed e v n result d u) c.args.back.words c.none-2.result.words outcome c.free_home.new.cache c.free_home.new.table
+          (subst (λ slot. IsBackFor h slot c.args.back.words) names c.requires.back) c.none-2.ensures.2 c.free_home.ensures.answers,
     )

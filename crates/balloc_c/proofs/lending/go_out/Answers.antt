@@ -4,19 +4,20 @@ use Rattle.std.specs.Borrow.{u64}
 use Rattle.std.specs.Prelude.{length}
 use Rattle.heap_geometry.specs.declared.need.Need.{Need}
 use Rattle.heap_geometry.specs.Need.{IsNeed}
+use Rattle.plain_words.specs.Owned.{Lies}
 use Rattle.plain_words.specs.Places.{numbers}
 use Rattle.plain_words.specs.declared.plain.PlainWords.{PlainWords}
 use Rattle.live_heap.specs.declared.block.Block.{Block}
 use Rattle.live_heap.specs.declared.plain.Memory.{Memory}
-use Rattle.live_heap.proofs.CallsOne.{block-same}
+use Rattle.live_heap.proofs.laws_for_builders.Hands.{block-same}
 use Rattle.live_heap.specs.declared.pass.Pass.{Pass}
 use Rattle.live_heap.specs.Memory.{before_taking}
 use Rattle.balloc_c.specs.declared.kept.Kept.TheVariants as kept
-use Rattle.balloc_c.specs.declared.lent.Lent.{Lent}
+use Rattle.balloc_c.specs.declared.lent.LentBlock.{LentBlock}
 use Rattle.balloc_c.specs.Kept.{block_of}
 use Rattle.balloc_c.specs.Slots.{block_at, no_slot}
 use Rattle.balloc_c.specs.Lending.{memory_at}
-use Rattle.balloc_c.proofs.LendingLemmas.{out-tends}
+use Rattle.balloc_c.proofs.LendingLemmas.{lies-first, out-tends}
 use Rattle.balloc_c.proofs.Numbers.{renames-at}
 use Rattle.balloc_c.proofs.Packing.{back-packed}
 use Rattle.balloc_c.proofs.Tending.{held-at}
@@ -37,12 +38,15 @@ returns c =
     let index = c.args.index in
     let block = c.take_home-block.result in
     let memory : Memory = c.take_out-memory.result in
-    let lent : Lent = c.new.result in
+    let lent : LentBlock = c.new.result in
     let m = c.take_out-memory.ensures in
     let is : block_at t.slots.items index ≡ Some (kept.Home block) = c.take_home-block.ensures.value in
     let words : c.into_words.result ≡ memory.words = c.into_words.ensures in
     let token : block_of (kept.Out lent) ≡ block =
     block-same (block_of (kept.Out lent)) block (c.new.ensures.0 ∙ c.place-place.ensures) (c.new.ensures.1 ∙ c.need-need.ensures) in
+    let lies : Lies h.region.at (lent.place + 1) =
+    lies-first h lent.place memory m.memory (ap (λ (b : Block). b.place) m.block ∙ sym (c.new.ensures.0 ∙ c.place-place.ensures))
+    (subst (λ (w : PlainWords). Lies w.at (w.first + length w.places)) words c.of_words-words.ensures.3) in
     let begins : c.of_words-words.result.memory ≡ memory_at h memory.block.place =
     c.of_words-words.ensures.0
     ∙ ap (λ (w : PlainWords). ptr_add u64 w.first w.at) words
@@ -50,7 +54,7 @@ returns c =
     record {
       tends = out-tends h s d t.slots.items c.take_home-block.new.self.slots.items u.slots.items index block lent memory (numbers memory.words.places)
           c.requires.tends c.requires.idle m.idle c.requires.within is c.take_home-block.ensures.slots c.set.ensures.slots token m.block m.cache m.keeps
-          m.before m.last;
+          m.before m.last lies;
       packed = back-packed t c.take_home-block.new.self u index (kept.Home block) (kept.Out lent) c.requires.packed c.requires.within is
           c.take_home-block.ensures.slots c.take_home-block.ensures.spare c.set.ensures.slots c.set.ensures.spare;
       count = ap length c.set.ensures.slots ∙ length-set c.take_home-block.new.self.slots.items index _ ∙ ap length c.take_home-block.ensures.slots

@@ -1,13 +1,14 @@
-use Rattle.std.proofs.Common.{rules, ◌≡◌, true, false, Some, None, Ok, Err, refl, sym, ap, ◌∙◌}
+use Rattle.std.proofs.Common.{rules, ◌≡◌, true, false, Some, None, Ok, Err, refl, sym, ap, ◌∙◌, subst}
 use Rattle.errand_steps.specs.Points.{is_idle}
 use Rattle.balloc_c.specs.declared.kept.Kept.TheVariants as kept
 use Rattle.balloc_c.specs.declared.refusal.Refusal.TheVariants as refusal
 use Rattle.balloc_c.specs.Numbers.{named}
-use Rattle.balloc_c.specs.Outcomes.{barred, names_none, names_out}
+use Rattle.balloc_c.specs.Outcomes.{barred, names_none}
 use Rattle.balloc_c.specs.Slots.{block_at}
-use Rattle.balloc_c.proofs.BarLemmas.{in-call, no-block, out-block}
+use Rattle.balloc_c.specs.Tended.{Stands}
+use Rattle.balloc_c.proofs.BarLemmas.{in-call, no-block}
 use Rattle.balloc_c.proofs.LendingLemmas.{home-slot, out-slot}
-use Rattle.balloc_c.proofs.MemoryCalls.{memory-answers, memory-refused}
+use Rattle.balloc_c.proofs.MemoryCalls.{memory-again, memory-answers, memory-refused}
 use Rattle.balloc_c.proofs.Packing.{few-same}
 use Rattle.balloc_c.proofs.lending.memory.Goals as goal
 
@@ -21,7 +22,7 @@ returns-then-not-idle-clause-answers c =
       Err refusal.InCall,
       r.ensures.1 ∙ c.word.ensures,
       memory-refused c.args.heap.now s t n refusal.InCall r.result.memory r.result.words
-          (in-call s.pass (barred (names_none t n) refusal.NoBlock (barred (names_out t n) refusal.Out None)) busy) r.ensures.0 r.ensures.2,
+          (in-call s.pass (barred (names_none t n) refusal.NoBlock None) busy) r.ensures.0 r.ensures.2,
     )
 
 pub returns-in_default-clause-answers : goal.returns-in_default-clause-answers
@@ -35,21 +36,26 @@ returns-in_default-clause-answers c =
       Err refusal.NoBlock,
       r.ensures.1 ∙ c.word-in_default.ensures,
       memory-refused c.args.heap.now s t n refusal.NoBlock r.result.memory r.result.words
-          (no-block s.pass t n (barred (names_out t n) refusal.Out None) idle none) r.ensures.0 r.ensures.2,
+          (no-block s.pass t n None idle none) r.ensures.0 r.ensures.2,
     )
+
+pub told_again-requires-clause-out : goal.told_again-requires-clause-out
+told_again-requires-clause-out c =
+    let s = c.args.cache.now in
+    let out = out-slot (block_at c.args.table.now.slots.items c.in-Some.index) (sym c.is_out.ensures ∙ c.if-is_out.true) in
+    let stands : Stands c.args.heap.now s.pass (Some (kept.Out out.0)) =
+    subst (Stands c.args.heap.now s.pass) out.1 (c.requires.tends.stand c.in-Some.index) in
+    (out.0, out.1, stands.1)
 
 pub returns-then-is_out-clause-answers : goal.returns-then-is_out-clause-answers
 returns-then-is_out-clause-answers c =
-    let s = c.args.cache.now in
-    let t = c.args.table.now in
-    let n = c.args.number in
-    let r = c.none-then-is_out in
-    let idle : is_idle s.pass.errand.point ≡ true = search rules in
-    let out = out-slot (block_at t.slots.items c.in-Some.index) (sym c.is_out.ensures ∙ c.if-is_out.true) in (
-      Err refusal.Out,
-      r.ensures.1 ∙ c.word-then-is_out.ensures,
-      memory-refused c.args.heap.now s t n refusal.Out r.result.memory r.result.words
-          (out-block s.pass t n None out.0 idle (c.in-Some.ensures.found.2 ∙ out.1)) r.ensures.0 r.ensures.2,
+    let r = c.told_again in
+    let m = r.ensures.memory in
+    let idle : is_idle c.args.cache.now.pass.errand.point ≡ true = search rules in (
+      Ok tt,
+      r.ensures.code,
+      memory-again c.args.heap.now c.args.cache.now c.args.table.now c.args.number r.result.memory r.result.words m.0 idle
+          (c.in-Some.ensures.found.2 ∙ m.1) m.2 r.ensures.words,
     )
 
 pub go_out-requires-clause-home : goal.go_out-requires-clause-home

@@ -1,4 +1,4 @@
-use Rattle.std.proofs.Common.{arith, rules, ◌≡◌, ◌≤◌, ◌+◌, Some, length, sym, ◌∙◌, refl, ap}
+use Rattle.std.proofs.Common.{rules, ◌≡◌, ◌≤◌, ◌+◌, Some, length, sym, ◌∙◌, refl, ap}
 use Rattle.errand_steps.specs.Begins.{IsIdle}
 use Rattle.sound_laws.specs.events.Made.{found_from}
 use Rattle.balloc_c.proofs.Going.{found-on, words-goes}
@@ -11,8 +11,8 @@ use Rattle.heap_geometry.specs.Need.{usable_words}
 use Rattle.balloc_c.proofs.MadeCalls.{reads-answers}
 use Rattle.balloc_c.proofs.ranges.read_range.Goals as goal
 
-pub read_words-requires-clause-held : goal.read_words-requires-clause-held
-read_words-requires-clause-held c =
+pub read_slice-requires-clause-held : goal.read_slice-requires-clause-held
+read_slice-requires-clause-held c =
     let h = c.args.heap.now in
     let s = c.args.cache.now in
     let t = c.args.table.now in
@@ -28,9 +28,9 @@ returns-clause-tends c =
     let t = c.args.table.now in
     let block = c.in-Home.block in
     let idle : IsIdle s.pass.errand = search rules in
-    same-tends h s c.read_words.new.cache t.slots.items t.slots.items c.requires.tends c.read_words.ensures.cache
-    (words-goes h s c.read_words.new.cache (found_from block.place block.need c.args.from c.read_words.new.words) (lots_of t.slots.items) c.requires.tends.cache idle
-    (found-on block.place block.need c.args.from c.read_words.new.words) c.read_words.ensures.found.0 c.read_words.ensures.found.1)
+    same-tends h s c.read_slice.new.self t.slots.items t.slots.items c.requires.tends c.read_slice.ensures.cache
+    (words-goes h s c.read_slice.new.self (found_from block.place block.need c.args.from c.read_slice.new.into) (lots_of t.slots.items) c.requires.tends.cache idle
+    (found-on block.place block.need c.args.from c.read_slice.new.into) c.read_slice.ensures.found c.read_slice.ensures.keeps)
     refl (λ i. refl)
 
 pub returns-clause-answers : goal.returns-clause-answers
@@ -42,6 +42,5 @@ returns-clause-answers c =
     let is : block_at t.slots.items c.in-Some.index ≡ Some (kept.Home block) = sym c.block.ensures ∙ c.in-Some-block.is ∙ ap (λ (k : Kept). Some k) c.in-Home.is in
     let idle : IsIdle s.pass.errand = search rules in
     let names : named t c.args.number ≡ Some (kept.Home block) = c.in-Some.ensures.found.2 ∙ is in
-    let has : c.args.from + length c.args.words.now ≤ usable_words block.need =
-    omega (arith, c.in-Some-range_end.ensures.within.0, c.in-Some-range_end.ensures.within.1) in
-    reads-answers h s t c.args.number c.args.from c.args.words.now c.read_words.new.words block c.read_words.new.cache idle names has c.requires.tends.cache.hand.of c.read_words.ensures.found
+    let has : c.args.from + length c.args.words.now ≤ usable_words block.need = search rules in
+    reads-answers h s t c.args.number c.args.from c.args.words.now c.read_slice.new.into block c.read_slice.new.self idle names has c.requires.tends.cache.hand.of (c.read_slice.ensures.found, c.read_slice.ensures.keeps)

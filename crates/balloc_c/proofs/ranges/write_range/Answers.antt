@@ -1,7 +1,7 @@
-use Rattle.std.proofs.Common.{arith, rules, ◌≡◌, ◌≤◌, ◌+◌, Some, length, sym, ◌∙◌, refl, ap}
+use Rattle.std.proofs.Common.{rules, ◌≡◌, ◌≤◌, ◌+◌, Some, length, sym, ◌∙◌, refl, ap}
 use Rattle.errand_steps.specs.Begins.{IsIdle}
-use Rattle.balloc_c.specs.Ranges.{wrote_from}
-use Rattle.balloc_c.proofs.Going.{words-goes, wrote-on}
+use Rattle.live_heap.specs.Memory.{writes_from}
+use Rattle.balloc_c.proofs.Going.{words-goes, writes-on}
 use Rattle.balloc_c.specs.Slots.{block_at, lots_of}
 use Rattle.balloc_c.specs.Numbers.{named}
 use Rattle.balloc_c.specs.declared.kept.Kept.{Kept}
@@ -11,8 +11,8 @@ use Rattle.heap_geometry.specs.Need.{usable_words}
 use Rattle.balloc_c.proofs.MadeCalls.{writes-answers}
 use Rattle.balloc_c.proofs.ranges.write_range.Goals as goal
 
-pub write_words-requires-clause-held : goal.write_words-requires-clause-held
-write_words-requires-clause-held c =
+pub write_slice-requires-clause-held : goal.write_slice-requires-clause-held
+write_slice-requires-clause-held c =
     let h = c.args.heap.now in
     let s = c.args.cache.now in
     let t = c.args.table.now in
@@ -28,9 +28,9 @@ returns-clause-tends c =
     let t = c.args.table.now in
     let block = c.in-Home.block in
     let idle : IsIdle s.pass.errand = search rules in
-    same-tends h s c.write_words.new.cache t.slots.items t.slots.items c.requires.tends c.write_words.ensures.cache
-    (words-goes h s c.write_words.new.cache (wrote_from block.place block.need c.args.from c.args.words.now) (lots_of t.slots.items) c.requires.tends.cache idle
-    (wrote-on block.place block.need c.args.from c.args.words.now) c.write_words.ensures.wrote.0 c.write_words.ensures.wrote.1)
+    same-tends h s c.write_slice.new.self t.slots.items t.slots.items c.requires.tends c.write_slice.ensures.cache
+    (words-goes h s c.write_slice.new.self (writes_from block.place block.need c.args.from c.args.words.now) (lots_of t.slots.items) c.requires.tends.cache idle
+    (writes-on block.place block.need c.args.from c.args.words.now) c.write_slice.ensures.wrote c.write_slice.ensures.keeps)
     refl (λ i. refl)
 
 pub returns-clause-answers : goal.returns-clause-answers
@@ -42,6 +42,5 @@ returns-clause-answers c =
     let is : block_at t.slots.items c.in-Some.index ≡ Some (kept.Home block) = sym c.block.ensures ∙ c.in-Some-block.is ∙ ap (λ (k : Kept). Some k) c.in-Home.is in
     let idle : IsIdle s.pass.errand = search rules in
     let names : named t c.args.number ≡ Some (kept.Home block) = c.in-Some.ensures.found.2 ∙ is in
-    let has : c.args.from + length c.args.words.now ≤ usable_words block.need =
-    omega (arith, c.in-Some-range_end.ensures.within.0, c.in-Some-range_end.ensures.within.1) in
-    writes-answers h s t c.args.number c.args.from c.args.words.now block c.write_words.new.cache idle names has c.requires.tends.cache.hand.of c.write_words.ensures.wrote
+    let has : c.args.from + length c.args.words.now ≤ usable_words block.need = search rules in
+    writes-answers h s t c.args.number c.args.from c.args.words.now block c.write_slice.new.self idle names has c.requires.tends.cache.hand.of (c.write_slice.ensures.wrote, c.write_slice.ensures.keeps)

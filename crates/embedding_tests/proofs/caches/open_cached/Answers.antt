@@ -4,7 +4,7 @@ use Rattle.live_heap.specs.declared.block.Block.{Block}
 use Rattle.live_heap.specs.declared.pass.Pass.{Pass}
 use Rattle.live_heap.specs.Holdings.{HoldsExactly}
 use Rattle.live_heap.specs.Passes.{IsFresh, IsOf}
-use Rattle.live_heap.proofs.Exact.{fresh-exact}
+use Rattle.live_heap.proofs.laws_for_builders.AllBlocks.{fresh-exact}
 use Rattle.block_cache.specs.Caches.{Holds}
 use Rattle.block_cache.proofs.TogetherLemmas.{opened}
 use Rattle.embedding_tests.proofs.DriverLemmas.{first-fresh}

@@ -1,6 +1,6 @@
 use Rattle.errand_steps.specs.declared.reply.Reply.TheVariants as reply
 use Rattle.errand_steps.specs.Calls.{read}
-use Rattle.live_heap.proofs.LawsKept.{called-keeps}
+use Rattle.live_heap.proofs.laws_for_builders.Keeping.{called-keeps}
 use Rattle.heap_tests.proofs.memory.word.Goals as goal
 
 pub returns-then-i-usable_words-clause-owned : goal.returns-then-i-usable_words-clause-owned

@@ -3,6 +3,7 @@ use Rattle.errand_steps.specs.declared.reply.Reply.{Reply}
 use Rattle.errand_steps.specs.declared.reply.Reply.TheVariants as reply
 use Rattle.errand_steps.specs.Calls.{alloc}
 use Rattle.live_heap.specs.declared.answers.AllocAnswer.{AllocAnswer}
+use Rattle.live_heap.specs.declared.block.Block.{Block}
 use Rattle.block_cache.specs.Whole.{EndsAs}
 use Rattle.lane_engine.proofs.ThroughLemmas.{alloc-resumes, busy-asks, keeps-depth, keeps-on}
 use Rattle.lane_engine.proofs.over_cache.allocate.Goals as goal
@@ -23,7 +24,7 @@ returns-in-Given g c =
     let told : Reply = reply.Given b.place b.need in (
       c.ended_calls_are_whole.ensures.alloc c.args.heap.now c.args.cache.now c.alloc.new.self c.args.need c.tries-tries.result c.alloc.result told
           c.requires.rests c.alloc.ensures.cache c.alloc.ensures.served c.alloc.ensures.asked
-          (subst (λ (a : AllocAnswer). EndsAs a told) (sym c.in-Given.is) refl),
+          (subst (λ (a : AllocAnswer Block). EndsAs a told) (sym c.in-Given.is) refl),
       c.alloc.ensures.depth,
     )
 
@@ -31,7 +32,7 @@ pub returns-in-Refused : goal.returns-in-Refused
 returns-in-Refused g c = (
   c.ended_calls_are_whole.ensures.alloc c.args.heap.now c.args.cache.now c.alloc.new.self c.args.need c.tries-tries.result c.alloc.result reply.Refused
       c.requires.rests c.alloc.ensures.cache c.alloc.ensures.served c.alloc.ensures.asked
-      (subst (λ (a : AllocAnswer). EndsAs a reply.Refused) (sym c.in-Refused.is) refl),
+      (subst (λ (a : AllocAnswer Block). EndsAs a reply.Refused) (sym c.in-Refused.is) refl),
   c.alloc.ensures.depth,
 )
 
@@ -39,7 +40,7 @@ pub returns-in-Spent : goal.returns-in-Spent
 returns-in-Spent g c = (
   c.ended_calls_are_whole.ensures.alloc c.args.heap.now c.args.cache.now c.alloc.new.self c.args.need c.tries-tries.result c.alloc.result reply.Spent
       c.requires.rests c.alloc.ensures.cache c.alloc.ensures.served c.alloc.ensures.asked
-      (subst (λ (a : AllocAnswer). EndsAs a reply.Spent) (sym c.in-Spent.is) refl),
+      (subst (λ (a : AllocAnswer Block). EndsAs a reply.Spent) (sym c.in-Spent.is) refl),
   c.alloc.ensures.depth,
 )
 

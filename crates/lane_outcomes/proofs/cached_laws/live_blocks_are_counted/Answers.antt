@@ -1,6 +1,6 @@
 use Rattle.lane_outcomes.specs.LaneCounts.{as_one, as_words}
-use Rattle.lane_outcomes.proofs.LiveLemmas.{few-ones, few-words, live-balanced}
-use Rattle.lane_outcomes.proofs.CountLemmas.{cached-balanced}
+use Rattle.lane_outcomes.proofs.CountLemmas.{cached-balanced, few-ones, few-words}
+use Rattle.lane_outcomes.proofs.LiveLemmas.{live-balanced}
 use Rattle.lane_outcomes.proofs.cached_laws.live_blocks_are_counted.Goals as goal
 
 pub returns : goal.returns

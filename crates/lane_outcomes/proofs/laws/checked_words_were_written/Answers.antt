@@ -1,4 +1,4 @@
-use Rattle.lane_outcomes.proofs.WrittenLemmas.{check-written, resize-written, held-written, shelved}
+use Rattle.lane_outcomes.proofs.PlainWritten.{check-written, resize-written, held-written, shelved}
 use Rattle.lane_outcomes.proofs.laws.checked_words_were_written.Goals as goal
 
 pub returns-clause-shelved : goal.returns-clause-shelved

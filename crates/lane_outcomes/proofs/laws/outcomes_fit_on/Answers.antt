@@ -1,4 +1,4 @@
-use Rattle.lane_outcomes.proofs.FitLemmas.{fits-later}
+use Rattle.lane_outcomes.proofs.LaterLemmas.{fits-later}
 use Rattle.lane_outcomes.proofs.laws.outcomes_fit_on.Goals as goal
 
 pub returns : goal.returns

@@ -7,7 +7,7 @@ use Rattle.live_heap.specs.declared.answers.AllocAnswer.TheVariants as alloc_ans
 use Rattle.live_heap.specs.Answers.{AllocTells}
 use Rattle.live_heap.specs.Memory.{HasTaken, before_taking}
 use Rattle.plain_words.specs.Places.{numbers}
-use Rattle.live_heap.proofs.Enough.{given-enough}
+use Rattle.live_heap.proofs.laws_for_builders.Giving.{given-enough}
 use Rattle.memory_cache.specs.Rooms.{IsRoomOf}
 use Rattle.memory_cache.specs.Settled.{HasAllOutBut}
 use Rattle.memory_cache.proofs.RoomLemmas.{room-of}

@@ -2,8 +2,8 @@ use Rattle.std.proofs.Common.{ℕ, ◌≡◌, ◌∙◌, List, ap, length, repli
 use Rattle.heap_geometry.specs.Need.{usable_words}
 use Rattle.plain_words.specs.Places.{numbers}
 use Rattle.plain_words.specs.declared.plain.PlainWords.{PlainWords}
-use Rattle.live_heap.proofs.CallsOne.{block-same}
-use Rattle.live_heap.proofs.Taking.{numbers-laids}
+use Rattle.live_heap.proofs.laws_for_builders.Hands.{block-same}
+use Rattle.live_heap.proofs.laws_for_builders.Memory.{numbers-laids}
 use Rattle.memory_cache.proofs.passes.laid_with_zeros.Goals as goal
 
 pub returns-clause-block : goal.returns-clause-block

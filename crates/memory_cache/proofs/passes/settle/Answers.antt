@@ -1,6 +1,6 @@
 use Rattle.std.proofs.Common.{◌∙◌, sym, inl, inr, refl}
 use Rattle.live_heap.specs.declared.answers.Resumed.TheVariants as resumed
-use Rattle.live_heap.proofs.Holding.{idle-free}
+use Rattle.live_heap.proofs.laws_for_builders.Hands.{idle-not_busy}
 use Rattle.memory_cache.proofs.SettledLemmas.{at-once, frees-none, leaves-settled, resumable, settled-of, under_way-of, way-caller, way-leaves, way-lent}
 use Rattle.memory_cache.proofs.passes.settle.Goals as goal
 
@@ -26,7 +26,7 @@ returns-in-Given-clause-tells c =
     record {
       pass = c.free.ensures.pass;
       idle = sym c.free.ensures.ended;
-      same = λ idle. absurd (idle-free c.args.pass.now.errand idle (sym c.if-idle.ensures));
+      same = λ idle. absurd (idle-not_busy c.args.pass.now.errand idle (sym c.if-idle.ensures));
       resumed = λ busy. (resumed.Given c.in-Given.block, c.resume.new.pass, c.in-Given.ensures.tells, c.free.ensures.tells);
     }
 
@@ -57,7 +57,7 @@ returns-in-Busy c =
       tells = record {
         pass = inr left;
         idle = left.calling.busy;
-        same = λ idle. absurd (idle-free p.errand idle way.calling.busy);
+        same = λ idle. absurd (idle-not_busy p.errand idle way.calling.busy);
         resumed = λ busy. (resumed.Busy, q, c.in-Busy.ensures.tells, (refl, refl));
       };
       out = way-lent h p q c.args.tries resumed.Busy way c.in-Busy.ensures.tells;
@@ -78,7 +78,7 @@ returns-in_default c =
       tells = record {
         pass = inl settled;
         idle = settled.idle;
-        same = λ idle. absurd (idle-free p.errand idle way.calling.busy);
+        same = λ idle. absurd (idle-not_busy p.errand idle way.calling.busy);
         resumed = λ busy. (told, q, c.resume.ensures.tells, frees-none told q c.args.tries c.in_default.not-Busy c.in_default.not-Given);
       };
       out = way-lent h p q c.args.tries told way c.resume.ensures.tells;

@@ -1,9 +1,7 @@
-use Rattle.std.proofs.Common.{suc, refl, subst}
+use Rattle.std.proofs.Common.{suc, refl}
 use Rattle.errand_steps.specs.declared.reply.Reply.TheVariants as reply
-use Rattle.errand_steps.specs.Begins.{IsIdle}
 use Rattle.errand_steps.specs.Calls.{alloc}
 use Rattle.lane_engine.proofs.ThroughLemmas.{alloc-resumes}
-use Rattle.live_heap.specs.declared.pass.Pass.{Pass}
 use Rattle.live_heap.specs.Whole.{by_steps}
 use Rattle.pipe_runner.proofs.CallSteps.{made-idle, spent-made}
 use Rattle.pipe_runner.proofs.whole.allocate.Goals as goal

@@ -1,23 +1,22 @@
 -- A block is cut into its first word, the others, and the right to free it. Assumes `Logic`.
-use Rattle.plain_words.proofs.Names.{◌≡◌, ℕ, ◌+◌, ◌-◌, ◌*◌, ◌^◌, ◌<◌, List, [], ◌∷◌, length, refl, arith, w64, named, Val, vint, vptr, vstruct, vcons, vnil, SProp, emp, ent, Lft, ftrue, flft, sem, ‵, raw, ◌⊛◌, later, at_ret, ◌$◌, ◌∵◌, !, qed, by, move, keep, split, split3, join, fsplit, fjoin, fpack, await, use0, use1, use2, rewrite, feq_i, stop, fld, lit, of_opd, bin, no_more, and_then, first, blocks, exec, returns, enter, alloc_all, pass_all, free_all, look_at, get, get_in, sets, env, sub, whole, agg, tables, yes, RattleType, owns, Valss, types_at, plain, Ptr, block_ptr, InBlock, nothing, heard, Stays, stay_dropped, walk_of, Goes-dropped, fact, fact_i, RefOf, u64, usize, shr_vals, shr_Tells, uint_vals, uint_Tells, Tuple, proved, leaves, sep, done, froom, group, frame, sets_last, RawPtr}
+use Rattle.plain_words.proofs.Names.{◌≡◌, ℕ, ◌+◌, ◌-◌, ◌*◌, ◌^◌, ◌<◌, List, [], ◌∷◌, refl, arith, w64, named, Val, vint, vptr, vstruct, vcons, vnil, SProp, emp, ent, Lft, ftrue, flft, sem, ‵, raw, ◌⊛◌, later, at_ret, ◌$◌, ◌∵◌, !, qed, by, move, keep, split, split3, join, fsplit, fjoin, fpack, await, use0, use1, use2, feq_i, stop, fld, lit, of_opd, bin, no_more, and_then, first, blocks, exec, returns, enter, alloc_all, pass_all, free_all, look_at, get, get_in, sets, env, sub, whole, agg, tables, yes, RattleType, owns, Valss, types_at, plain, Ptr, block_ptr, InBlock, nothing, heard, Stays, stay_dropped, walk_of, Goes-dropped, fact, fact_i, RefOf, u64, usize, shr_vals, shr_Tells, uint_vals, uint_Tells, Tuple, proved, leaves, sep, done, froom, group, sets_last, RawPtr}
 use Rattle.plain_words.proofs.Names.{a_type, dcons, dnil, inst_fn, param, bounded, any_q, Body, Env}
 use Rattle.plain_words.proofs.Made.{token_val, Token, token_made, start_val, start_made, start_good}
 use lib.Dec.{lit<}
-use base.Fml.{fwand, Incl-trans}
-use mir.Syntax.{Ty, ty_int, ty_array}
+use base.Fml.{Incl-trans}
+use mir.Syntax.{Ty, ty_int}
 use prog.Capped.{capped_is}
 use contract.BorrowLft.{◌⊑◌}
 use types.Logic.{Logic}
 use denote.Triple.Table.{framed}
 use Rattle.plain_words.specs.Places.{blanks}
-use Rattle.plain_words.specs.Owned.{Lies, row, plain_owns, pairs_ty, words_ty}
+use Rattle.plain_words.specs.Owned.{pairs_up, plain_owns, pairs_ty}
 use Rattle.plain_words.specs.contracts.plain.Start as start
 use Rattle.plain_words.specs.contracts.plain.PlainWords as plain_words
 use Rattle.plain_words.specs.contracts.block.Deed as deed
 use Rattle.std.specs.Ptr.{ptr_add}
-use Rattle.std.proofs.Common.{suc, true, false}
+use Rattle.std.proofs.Common.{true, false}
 use seplogic.Ra.Ura.{Ura}
-use lib.ListN.{length-replicate}
 use prog.Wp.{Wp, after_seq, at_return}
 use types.Kit.{Post as After}
 use types.Match.{live, vrt, in_variant}
@@ -30,14 +29,14 @@ use denote.Struct.Struct.{Struct, Struct-Makes, within}
 use denote.Struct.Declared as declared
 use denote.Struct.Tuple.{tuple_type}
 use denote.Triple.Call.{calls_at}
-use Rattle.std.specs.Prelude.{IfOk, Ok, Err, Some, None}
+use Rattle.std.specs.Prelude.{IfOk, Ok, Err}
 use Rattle.core.specs.contracts.result.Result as outcome
 use Rattle.core.specs.contracts.alloc.AllocError as refusal
 use Rattle.core.proofs.alloc.Calls.{Al, Answer-typed, Takes, at_takes, Answered, Takes-goes, Takes-gives, answers}
 use Rattle.std_alloc.proofs.VecSteps.Shapes.{after, head, arm_body}
 use Rattle.std_alloc.proofs.ResultValues.{ok_of, err_of}
 use Rattle.std_alloc.proofs.RcSteps.{Good, first_Good}
-use Rattle.plain_words.proofs.Rows.{of_room}
+use Rattle.plain_words.proofs.Blocks.{cut_block}
 use Rattle.plain_words.specs.contracts.block.allocate.{ended, clauses}
 use Rattle.plain_words.specs.contracts.block.allocate.Key.{name as #self}
 use Rattle.plain_words.proofs.block.allocate.Statement.{statement}
@@ -51,21 +50,6 @@ four_of : {M : Type 1} {𝓤 : Ura M} (𝓛 : Logic 𝓤) (R S T' U : RattleType
 four_of 𝓛 R S T' U x y z t u v w v' = let all_ : Val = four_val u v w v' in
     qed 𝓛 (‵ (R.own_val x (u ∷ [])) ∷ ‵ (S.own_val y (v ∷ [])) ∷ ‵ (T'.own_val z (w ∷ [])) ∷ ‵ (U.own_val t (v' ∷ [])) ∷ []) ∵ nothing ! $ move ! (4 ∷ 0 ∷ []) $ fjoin ! $ move ! (3 ∷ 0 ∷ []) $ fjoin ! $ move ! (2 ∷ 0 ∷ []) $ fjoin ! $ move ! (1 ∷ 0 ∷ []) $ fjoin ! $
     feq_i ! (List Val) (all_ ∷ []) (all_ ∷ []) refl $ fjoin ! $ fpack ! (Valss (R ∷ S ∷ T' ∷ U ∷ [])) (within (declared.shape (tuple_type (R ∷ S ∷ T' ∷ U ∷ []))) (x, (y, (z, (t, tt)))) (all_ ∷ [])) (u ∷ [], (v ∷ [], (w ∷ [], (v' ∷ [], tt)))) $ done !
-
-module _ {M : Type 1} {𝓤 : Ura M} (𝓛 : Logic 𝓤) (n b o : ℕ) where
-  open 𝓛 use {H}
-
-  abbrev words_at : Ptr
-  words_at = ptr_add u64 1 (block_ptr b o)
-
-  -- the first word and the way back; the others
-  cut_room : 0 < n → n * 16 < 2 ^ 63 → ent 𝓤 (H.room (pairs_ty n) b o) (sep 𝓤 (sem 𝓛 (froom (ty_int w64) b o)) (sep 𝓤 (sem 𝓛 (fwand (froom (words_ty n) b o) (froom (pairs_ty n) b o))) (sem 𝓛 (plain_owns words_at 0 (blanks (n + n - 1))))))
-  cut_room some_ small = let m : ℕ = n + n - 1 in let one_more : n + n ≡ suc m = omega (arith, some_) in let same : (n + n) * 8 ≡ n * 16 = omega arith in let far : o + 8 ≡ 0 * 8 + (8 + o) = omega arith in
-      let long : length (blanks m) ≡ m = length-replicate m (Some None) in let fits : (0 + length (blanks m)) * 8 < 2 ^ 63 = omega (arith, long, small) in
-      qed 𝓛 (‵ (froom (pairs_ty n) b o) ∷ []) ∵ use1 𝓛 (‵ (froom (words_ty n) b o) ⊛ ‵ (fwand (froom (words_ty n) b o) (froom (pairs_ty n) b o))) (𝓛.laws.room_as (pairs_ty n) (words_ty n) b o same tt) $ split ! $
-      rewrite ! 0 (λ (k : ℕ). ‵ (froom (ty_array (ty_int w64) k) b o)) one_more refl $
-      use1 𝓛 (‵ (froom (ty_int w64) b o) ⊛ ‵ (froom (ty_array (ty_int w64) m) b (o + 8))) (𝓛.laws.room_uncons (ty_int w64) m b o) $ split ! $ frame ! $ use1 𝓛 (‵ (row b (o + 8) (blanks m))) (of_room 𝓛 b m (o + 8)) $
-      rewrite ! 0 (λ (k : ℕ). ‵ (row b k (blanks m))) far refl $ nothing ! $ fpack ! (Lies words_at (0 + length (blanks m))) (λ _. ftrue) (tt, fits) $ fjoin ! $ move ! (1 ∷ 0 ∷ []) $ done !
 
 pub allocate_spec : {M : Type 1} → statement M
 allocate_spec 𝓤 𝓛 𝓜 𝓡 wired W LW g d dd met md =
@@ -104,7 +88,7 @@ allocate_spec 𝓤 𝓛 𝓜 𝓡 wired W LW g d dd met md =
     sets ! (agg ! (and_then ! (get ! refl) (and_then ! (get ! refl) (and_then ! (get ! refl) (and_then ! (get ! refl) (no_more !)))))) refl typed $
     sets_last ! (agg ! (and_then ! (lit ! tt) (and_then ! (get ! refl) (no_more !)))) refl ok $ exec ! 𝓣.C 𝓣.Λ Ev (after 5 fn.body) (at_ret Ev Post) $ sets ! (of_opd ! (get ! refl)) refl ok $
     -- [the block; the right to free it; the tokens]
-    use1 𝓛 (‵ (froom (ty_int w64) b o) ⊛ (‵ (fwand (froom (words_ty n) b o) (froom τ b o)) ⊛ ‵ (plain_owns p' 0 (blanks m)))) (cut_room 𝓛 n b o asked.0 small) $ split3 ! $ move ! (1 ∷ 3 ∷ []) $ fjoin ! $ move ! (1 ∷ 0 ∷ []) $ fjoin ! $
+    use1 𝓛 (‵ (froom (ty_int w64) b o) ⊛ (‵ (pairs_up b o) ⊛ ‵ (plain_owns p' 0 (blanks m)))) (cut_block 𝓛 b o n asked.0 small) $ split3 ! $ move ! (1 ∷ 3 ∷ []) $ fjoin ! $ move ! (1 ∷ 0 ∷ []) $ fjoin ! $
     nothing ! $ fpack ! (InBlock p) (λ _. ftrue) tt $ fjoin ! $ use0 𝓛 (‵ ((Token RawPtr).own_val (record {}, tt) (token_val ∷ []))) (token_made RawPtr 𝓛) $ fjoin ! $ move ! (1 ∷ []) $
     use0 𝓛 (‵ ((Token RawPtr).own_val (record {}, tt) (token_val ∷ []))) (token_made RawPtr 𝓛) $ fjoin ! $ use0 𝓛 (‵ (St.own_val s₁ (start_val p' ∷ []))) (start_made 𝓛 p') $ use0 𝓛 (‵ (St.own_val s₀ (start_val p ∷ []))) (start_made 𝓛 p) $
     group ! 4 $ use1 𝓛 (‵ (Four.own_val (s₀, s₁, w, t) (made ∷ []))) (four_of 𝓛 St St Pw Dd s₀ s₁ w t (start_val p) (start_val p') token_val token_val) $

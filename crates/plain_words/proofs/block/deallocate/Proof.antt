@@ -1,25 +1,24 @@
 -- The words are glued to their first one, and the block goes back. Assumes `Logic`.
-use Rattle.plain_words.proofs.Names.{◌≡◌, ℕ, ◌+◌, ◌*◌, ◌^◌, ◌<◌, List, [], ◌∷◌, length, sym, refl, ap, ◌∙◌, subst, arith, w64, named, Val, vunit, vint, vptr, SProp, ent, Lft, ftrue, flft, ‵, raw, ◌⊛◌, given, later, at_ret, ◌$◌, ◌∵◌, !, qed, by, move, keep, drop, split, split3, join, fsplit, fsplit3, fjoin, fpick, learn, await, suffices, use1, use2, rewrite, feq_i, stop, fld, lit, of_opd, unit_lit, bin, no_more, and_then, first, blocks, exec, returns, enter, alloc_all, pass_all, free_all, look_at, get, get_in, sets, env, sub, whole, tables, yes, no, RattleType, owns, types_at, plain, Ptr, block_ptr, block_of, count_of, at_block, nothing, heard, Stays, stay_dropped, walk_of, Goes-dropped, fact, id⊢, RefOf, u64, usize, shr_vals, shr_Tells, uint_vals, uint_Tells, WpFn, proved, leaves, tail, apply∗, froom, group, RawPtr}
+use Rattle.plain_words.proofs.Names.{◌≡◌, ℕ, ◌+◌, ◌*◌, ◌^◌, ◌<◌, List, [], ◌∷◌, length, sym, refl, ap, ◌∙◌, subst, arith, w64, named, Val, vunit, vint, vptr, SProp, ent, Lft, ftrue, flft, ‵, raw, ◌⊛◌, given, later, at_ret, ◌$◌, ◌∵◌, !, qed, by, move, keep, drop, split, split3, join, fsplit, fsplit3, fjoin, fpick, learn, await, suffices, use1, rewrite, feq_i, stop, fld, lit, of_opd, unit_lit, bin, no_more, and_then, first, blocks, exec, returns, enter, alloc_all, pass_all, free_all, look_at, get, get_in, sets, env, sub, whole, tables, yes, no, RattleType, owns, types_at, plain, Ptr, block_ptr, block_of, count_of, at_block, nothing, heard, Stays, stay_dropped, walk_of, Goes-dropped, fact, id⊢, RefOf, u64, usize, shr_vals, shr_Tells, uint_vals, uint_Tells, WpFn, proved, leaves, tail, froom, group, RawPtr}
 use Rattle.plain_words.proofs.Names.{a_type, dcons, dnil, inst_fn, param, bounded, Env}
 use Rattle.plain_words.proofs.Made.{token_val, token_told, start_val, start_told, start_good}
 use lib.Dec.{T, lit<}
 use base.Fml.{Incl-trans}
-use mir.Syntax.{Ty, ty_int, ty_array, ty_unit}
+use mir.Syntax.{Ty, ty_unit}
 use mir.Val.{has_ty, WT}
 use prog.Capped.{capped_is}
 use contract.BorrowLft.{◌⊑◌}
 use denote.Triple.Table.{framed}
 use Rattle.plain_words.specs.Places.{Place, AllHere}
-use Rattle.plain_words.specs.Owned.{plain_owns, deed_owns, pairs_ty, words_ty}
+use Rattle.plain_words.specs.Owned.{plain_owns, deed_owns, pairs_ty}
 use Rattle.plain_words.specs.contracts.plain.Start as start
 use Rattle.plain_words.specs.contracts.plain.PlainWords as plain_words
 use Rattle.plain_words.specs.contracts.block.Deed as deed
 use Rattle.std.specs.Ptr.{ptr_add}
-use Rattle.std.proofs.Common.{suc}
 use types.ByLocal.{lands_last}
 use denote.Triple.Call.{calls_at_last}
 use Rattle.core.proofs.alloc.Calls.{Al, token, Gives, at_gives, Gives-goes, Gives-Gives, Goes-blank}
-use Rattle.plain_words.proofs.Rows.{to_room}
+use Rattle.plain_words.proofs.Blocks.{whole_block}
 use Rattle.plain_words.specs.contracts.block.deallocate.{ended, clauses}
 use Rattle.plain_words.specs.contracts.block.deallocate.Key.{name as #self}
 use Rattle.plain_words.proofs.block.deallocate.Statement.{statement}
@@ -39,13 +38,10 @@ deallocate_spec 𝓤 𝓛 𝓜 𝓡 wired W LW g d dd met md =
     qed 𝓛 (((‵ (flft κ q) ⊛ ‵ (flft κs.1.0 qs.1.0) ⊛ ‵ ftrue) ⊛ ‵ (owns (types_at En.signature.params κs) a y.0.4)) ∷ raw (fact 𝓤 (κs.1.0 ⊑ W.lives)) ∷ raw (fact 𝓤 Words) ∷ raw (fact 𝓤 Deeded) ∷ []) ∵
     move ! (1 ∷ []) $ heard ! (κs.1.0 ⊑ W.lives) (λ lives. move ! (1 ∷ []) $ heard ! Words (λ whole_. move ! (1 ∷ []) $ heard ! Deeded (λ deeded. split ! $ split3 ! $ move ! (3 ∷ []) $ fsplit ! $ fsplit ! $ move ! (2 ∷ []) $ fsplit3 ! $ move ! (2 ∷ []) $ fsplit ! $ fsplit ! $ move ! (2 ∷ []) $ fsplit ! $ fsplit ! $
     keep ! (1 ∷ 4 ∷ 8 ∷ 9 ∷ 10 ∷ 11 ∷ []) $ rewrite ! 0 (λ (x : W.Denot × Ptr × ℕ). ‵ (deed_owns (token Z x.0) x.1 x.2)) (λ i. (deeded.2 i, deeded.0 i, deeded.1 i)) refl $ fsplit ! $ fpick ! (λ in_block. drop ! $ fsplit3 ! $
-    -- [the first word; the way back; the right to free; the others; the allocator; its token; the other tokens]
+    -- [the first word; the way from it to a pair; the right to free; the others; the allocator; its token; the other tokens]
     let b : ℕ = block_of p in let o : ℕ = count_of p in let p' : Ptr = block_ptr b o in let where_ : p ≡ p' = at_block p in_block in let words_at : Ptr = ptr_add u64 1 p' in let long : length ps + 1 ≡ n + n = whole_.2 in
-    let more : suc (length ps) ≡ n + n = omega (arith, long) in let far : 0 * 8 + (8 + o) ≡ o + 8 = omega arith in
     move ! (3 ∷ []) $ rewrite ! 0 (λ (x : Ptr × ℕ). ‵ (plain_owns x.0 x.1 ps)) (λ i. ((whole_.0 ∙ ap (ptr_add u64 1) where_) i, whole_.1 i)) refl $ fsplit ! $ fpick ! (λ lies. drop ! $ let room : (0 + length ps) * 8 < 2 ^ 63 = lies.1 in
-    use1 𝓛 (‵ (froom (ty_array (ty_int w64) (length ps)) b (0 * 8 + (8 + o)))) (to_room 𝓛 b ps (0 * 8 + (8 + o)) whole_.3) $ rewrite ! 0 (λ (k : ℕ). ‵ (froom (ty_array (ty_int w64) (length ps)) b k)) far refl $ move ! (1 ∷ 0 ∷ []) $
-    use2 𝓛 (‵ (froom (ty_array (ty_int w64) (suc (length ps))) b o)) (𝓛.laws.room_cons (ty_int w64) (length ps) b o) $ rewrite ! 0 (λ (k : ℕ). ‵ (froom (ty_array (ty_int w64) k) b o)) more refl $
-    use2 𝓛 (‵ (froom τ b o)) (apply∗ 𝓤 (H.room (words_ty n) b o) (H.room τ b o)) $ rewrite ! 1 (λ (x : Ptr). ‵ (token Z h τ x)) where_ refl $
+    move ! (1 ∷ 2 ∷ 0 ∷ []) $ group ! 3 $ use1 𝓛 (‵ (froom τ b o)) (whole_block 𝓛 b o ps n long whole_.3) $ rewrite ! 1 (λ (x : Ptr). ‵ (token Z h τ x)) where_ refl $
     let bytes : n * 16 < 2 ^ 64 = omega arith in let us : Ptr → List Val = λ x. vptr rp.0 rp.1 ∷ start_val x ∷ vint w64 n ∷ token_val ∷ token_val ∷ [] in let Run : List Val → SProp 𝓤 = λ ws. WpFn 𝓤 H 𝓣.C 𝓣.Λ fn ws Post in
     suffices ! (Run (us p')) (subst (λ (x : Ptr). ent 𝓤 (Run (us p')) (Run (us x))) (sym where_) (id⊢ 𝓤 (Run (us p')))) $
     enter ! 𝓣.C 𝓣.Λ fn (us p') Post $ alloc_all ! (λ l. pass_all ! refl ((tt, tt), (start_good p', ((tt, record { fits = are.1.1.0.1 }), ((tt, (tt, tt)), ((tt, (tt, tt)), tt))))) $ let Ev : Env 𝓤 H = env fn.locals l in

@@ -1,6 +1,6 @@
 use Rattle.std.proofs.Common.{ℕ, ◌≡◌, List, length, drop, sym, ◌∙◌, subst, arith}
 use lib.Seq.{take_at}
-use Rattle.live_heap.proofs.WordsKept.{read-word}
+use Rattle.live_heap.proofs.laws_for_builders.Words.{read-word}
 use Rattle.typed_store.specs.Walks.{LedBy, record_reads}
 use Rattle.typed_store.proofs.PassLemmas.{read-reads, same-owns}
 use Rattle.typed_store.proofs.RecordLemmas.{record-within}

@@ -2,7 +2,7 @@ use Rattle.std.proofs.Common.{suc, ◌≡◌, ◌+◌, Some, length, sym, ◌∙
 use Rattle.std.specs.Prelude.{slice_index}
 use Rattle.std.proofs.lemmas.Option.{slice_get-get_or}
 use Rattle.live_heap.specs.Contents.{word_in}
-use Rattle.live_heap.proofs.WordsKept.{wrote-word}
+use Rattle.live_heap.proofs.laws_for_builders.Words.{wrote-word}
 use Rattle.typed_store.proofs.PassLemmas.{rests-on, write-changes, write-rests, wrote-owns}
 use Rattle.typed_store.proofs.SliceLemmas.{slice-writes}
 use Rattle.typed_store.proofs.records.write_record.Goals as goal

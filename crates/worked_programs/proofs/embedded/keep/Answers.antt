@@ -4,6 +4,7 @@ use Rattle.heap_geometry.specs.Need.{usable_words}
 use Rattle.errand_steps.specs.declared.reply.Reply.TheVariants as reply
 use Rattle.errand_steps.specs.Calls.{alloc, free, put}
 use Rattle.worked_programs.specs.declared.embedded.TheConstants.{SHELF}
+use Rattle.worked_programs.specs.declared.embedded.Stop.{Stop}
 use Rattle.worked_programs.specs.Embedded.{HasStopped, IsNextOfFirst, first_calls}
 use Rattle.worked_programs.proofs.EmbeddedCalls.{ends-behind, err-as, given-owned, given-words, has-both, has-more, has-read, has-written, stops-behind}
 use Rattle.worked_programs.proofs.embedded.keep.Goals as goal
@@ -12,17 +13,15 @@ pub returns-in_err-block-clause-stopped : goal.returns-in_err-block-clause-stopp
 returns-in_err-block-clause-stopped c =
     let h = c.args.heap.now in
     let p = c.args.pass.now in
-    err-as c.from_residual.result c.in_err-block.field-0.0 (HasStopped h p IsNextOfFirst) c.from_residual.ensures.1 (
-      c.allocate.new.pass,
-      record {
-        calls = [];
-        last = p;
-        made = refl;
-        call = alloc 3;
-        next = (0, TooLarge, 0, TooLarge, 0, reply.Given 0 TooLarge, drop 1 (first_calls 0 TooLarge 0 TooLarge 0), refl);
-        stops = c.in_err-block.ensures.stopped;
-      },
-    )
+    err-as c.from_residual.result c.in_err-block.field-0.0 (λ (s : Stop). HasStopped h p IsNextOfFirst s c.allocate.new.pass) c.from_residual.ensures.1
+    record {
+      calls = [];
+      last = p;
+      made = refl;
+      call = alloc 3;
+      next = (0, TooLarge, 0, TooLarge, 0, reply.Given 0 TooLarge, drop 1 (first_calls 0 TooLarge 0 TooLarge 0), refl);
+      stops = c.in_err-block.ensures.stopped;
+    }
 
 pub write-requires-clause-owned : goal.write-requires-clause-owned
 write-requires-clause-owned c =
@@ -45,7 +44,7 @@ returns-in_err-other-clause-stopped c =
     let two =
     has-written h p c.allocate.new.pass c.write.new.pass 3 b.place b.need 1 7 c.whole_calls_keep_blocks.ensures.keeps c.whole_calls_keep_blocks.ensures.hands
     c.requires.of c.requires.home c.in_ok-block.ensures.given c.write.ensures.called c.write.ensures.of in
-    err-as c.from_residual-in_err-other.result c.in_err-other.field-0.0 (HasStopped h p IsNextOfFirst) c.from_residual-in_err-other.ensures.1
+    err-as c.from_residual-in_err-other.result c.in_err-other.field-0.0 (λ (s : Stop). HasStopped h p IsNextOfFirst s c.allocate-2.new.pass) c.from_residual-in_err-other.ensures.1
     (stops-behind h p c.write.new.pass c.allocate-2.new.pass _ b.place b.need IsNextOfFirst (alloc 5) _ two
     (b.place, b.need, 0, TooLarge, 0, reply.Given 0 TooLarge, drop 3 (first_calls b.place b.need 0 TooLarge 0), refl) c.in_err-other.ensures.stopped)
 
@@ -93,7 +92,7 @@ returns-in_err-give_back-clause-stopped c =
     let four =
     has-both h p c.write.new.pass c.allocate-2.new.pass c.write-2.new.pass _ b.place 5 o.place b.need o.need 1 8 c.whole_calls_keep_blocks.ensures.keeps c.whole_calls_keep_blocks.ensures.hands two
     c.in_ok-other.ensures.given c.write-2.ensures.called c.write-2.ensures.of in
-    err-as c.from_residual-in_err-give_back.result c.in_err-give_back.field-0.0 (HasStopped h p IsNextOfFirst) c.from_residual-in_err-give_back.ensures.1
+    err-as c.from_residual-in_err-give_back.result c.in_err-give_back.field-0.0 (λ (s : Stop). HasStopped h p IsNextOfFirst s c.give_back.new.pass) c.from_residual-in_err-give_back.ensures.1
     (stops-behind h p c.write-2.new.pass c.give_back.new.pass _ b.place b.need IsNextOfFirst (free o.place o.need) _ four
     (b.place, b.need, o.place, o.need, 0, reply.Freed, drop 5 (first_calls b.place b.need o.place o.need 0), refl) c.in_err-give_back.ensures.stopped)
 
@@ -168,7 +167,7 @@ returns-in_err-hand_over-clause-stopped c =
     let six =
     has-read h p c.give_back.new.pass c.read-kept.new.pass _ b.place b.need 1 c.read-kept.result c.whole_calls_keep_blocks.ensures.keeps five c.read-kept.ensures.called
     c.read-kept.ensures.of c.read-kept.ensures.contents in
-    err-as c.from_residual-in_err-hand_over.result c.in_err-hand_over.field-0.0 (HasStopped h p IsNextOfFirst) c.from_residual-in_err-hand_over.ensures.1
+    err-as c.from_residual-in_err-hand_over.result c.in_err-hand_over.field-0.0 (λ (s : Stop). HasStopped h p IsNextOfFirst s c.hand_over.new.pass) c.from_residual-in_err-hand_over.ensures.1
     (stops-behind h p c.read-kept.new.pass c.hand_over.new.pass _ b.place b.need IsNextOfFirst (put b.place b.need SHELF) _ six
     (b.place, b.need, o.place, o.need, c.read-kept.result, reply.Put, drop 7 (first_calls b.place b.need o.place o.need c.read-kept.result), refl) c.in_err-hand_over.ensures.stopped)
 

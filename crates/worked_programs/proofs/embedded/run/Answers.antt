@@ -1,4 +1,4 @@
-use Rattle.std.proofs.Common.{◌≡◌, ◌∙◌, All, List, ap, inl, inr, subst, sym}
+use Rattle.std.proofs.Common.{◌≡◌, ◌∙◌, All, List, ap, inl, inr, refl, subst, sym}
 use Rattle.heap_geometry.specs.declared.geometry.Geometry.{Geometry}
 use Rattle.live_heap.specs.declared.pass.Pass.{Pass}
 use Rattle.live_heap.specs.Endings.{HasClosed}
@@ -15,7 +15,7 @@ returns-in-Err-clause-stopped c =
     two-passes h c.in_ok-heap.passes.items c.remove-second.new.self.items c.remove-first.new.self.items first second c.in_ok-heap.ensures.passes.0
     (c.in_ok-heap.ensures.passes.1 ∙ c.four_frames.ensures.callers) c.remove-second.ensures.value c.remove-second.ensures.by_index.2
     c.remove-first.ensures.value c.remove-first.ensures.by_index.2 in
-    record { heap = h; first = first; second = second; fresh = two.0; stopped = inl c.in-Err.ensures.stopped }
+    record { first = first; second = second; fresh = two.0; stopped = inl (c.in-Err.ensures.stopped, refl) }
 
 pub fetch-requires : goal.fetch-requires
 fetch-requires c =
@@ -39,7 +39,7 @@ returns-in-Err-fetch-clause-stopped c =
     two-passes h c.in_ok-heap.passes.items c.remove-second.new.self.items c.remove-first.new.self.items first second c.in_ok-heap.ensures.passes.0
     (c.in_ok-heap.ensures.passes.1 ∙ c.four_frames.ensures.callers) c.remove-second.ensures.value c.remove-second.ensures.by_index.2
     c.remove-first.ensures.value c.remove-first.ensures.by_index.2 in
-    record { heap = h; first = first; second = second; fresh = two.0; stopped = inr (c.in-Ok.kept, c.keep.new.pass, c.in-Ok.ensures.kept, c.in-Err-fetch.ensures.stopped) }
+    record { first = first; second = second; fresh = two.0; stopped = inr (c.in-Ok.kept, c.in-Ok.ensures.kept, c.in-Err-fetch.ensures.stopped) }
 
 pub close-requires : goal.close-requires
 close-requires c =

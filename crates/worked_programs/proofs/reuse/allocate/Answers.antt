@@ -2,6 +2,7 @@ use Rattle.std.proofs.Common.{refl, sym, subst}
 use Rattle.errand_steps.specs.declared.reply.Reply.{Reply}
 use Rattle.errand_steps.specs.declared.reply.Reply.TheVariants as reply
 use Rattle.live_heap.specs.declared.answers.AllocAnswer.{AllocAnswer}
+use Rattle.live_heap.specs.declared.block.Block.{Block}
 use Rattle.block_cache.specs.Whole.{EndsAs}
 use Rattle.worked_programs.specs.declared.embedded.TheConstants.{TRIES}
 use Rattle.worked_programs.proofs.ReuseCalls.{busy-asks}
@@ -13,7 +14,7 @@ returns-in-Given-clause-given c =
     let told : Reply = reply.Given b.place b.need in (
       c.ended_calls_are_whole.ensures.alloc c.args.heap.now c.args.cache.now c.alloc.new.self c.args.words TRIES c.alloc.result told c.requires.rests
           c.alloc.ensures.cache c.alloc.ensures.served c.alloc.ensures.asked
-          (subst (λ (a : AllocAnswer). EndsAs a told) (sym c.in-Given.is) refl),
+          (subst (λ (a : AllocAnswer Block). EndsAs a told) (sym c.in-Given.is) refl),
       c.alloc.ensures.depth,
     )
 
@@ -21,7 +22,7 @@ pub returns-in-Refused-clause-stopped : goal.returns-in-Refused-clause-stopped
 returns-in-Refused-clause-stopped c = (
   c.ended_calls_are_whole.ensures.alloc c.args.heap.now c.args.cache.now c.alloc.new.self c.args.words TRIES c.alloc.result reply.Refused
       c.requires.rests c.alloc.ensures.cache c.alloc.ensures.served c.alloc.ensures.asked
-      (subst (λ (a : AllocAnswer). EndsAs a reply.Refused) (sym c.in-Refused.is) refl),
+      (subst (λ (a : AllocAnswer Block). EndsAs a reply.Refused) (sym c.in-Refused.is) refl),
   c.alloc.ensures.depth,
 )
 
@@ -29,7 +30,7 @@ pub returns-in-Spent-clause-stopped : goal.returns-in-Spent-clause-stopped
 returns-in-Spent-clause-stopped c = (
   c.ended_calls_are_whole.ensures.alloc c.args.heap.now c.args.cache.now c.alloc.new.self c.args.words TRIES c.alloc.result reply.Spent
       c.requires.rests c.alloc.ensures.cache c.alloc.ensures.served c.alloc.ensures.asked
-      (subst (λ (a : AllocAnswer). EndsAs a reply.Spent) (sym c.in-Spent.is) refl),
+      (subst (λ (a : AllocAnswer Block). EndsAs a reply.Spent) (sym c.in-Spent.is) refl),
   c.alloc.ensures.depth,
 )
 

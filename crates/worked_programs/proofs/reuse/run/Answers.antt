@@ -38,9 +38,7 @@ returns-in_ok-close-in-Ok-clause-ran c =
 
 pub returns-in-Err-clause-stopped : goal.returns-in-Err-clause-stopped
 returns-in-Err-clause-stopped c = record {
-  heap = c.in_ok-heap.heap;
   cache = c.in_ok-heap.cache;
   opened = c.in_ok-heap.ensures;
-  last = c.work.new.cache;
   stopped = c.in-Err.ensures.stopped;
 }

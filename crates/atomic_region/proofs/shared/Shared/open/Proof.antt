@@ -32,8 +32,8 @@ open_spec 𝓤 𝓛 𝓜 𝓡 wired U Q P _ _ _ g d _ =
     let Asked : Type 0 = (x.first ≡ 0) × holds (opening ps v) in let pair : Val = vstruct (vcons token_val (vcons token_val vnil)) in
     qed 𝓛 ((raw (alive 𝓛 En.signature κs qs) ⊛ ‵ (owns (types_at En.signature.params κs) a y.0.4)) ∷ raw (fact 𝓤 _) ∷ raw (fact 𝓤 _) ∷ raw (fact 𝓤 _) ∷ raw (fact 𝓤 Asked) ∷ []) ∵
     keep ! (4 ∷ 0 ∷ []) $ heard ! Asked (λ asked. split ! $ move ! (1 ∷ []) $ fsplit3 ! $ drop ! $ fsplit ! $ drop ! $ keep ! (0 ∷ 2 ∷ []) $ fsplit ! $ fpick ! (λ lies. drop ! $
-    let first : x.first ≡ 0 = asked.0 in let room : (x.first + n) * 8 < 2 ^ 63 = lies.1 in let small : n * 8 < 2 ^ 63 = omega arith in let far : x.first * 8 + count_of p ≡ count_of p = omega arith in
-    rewrite ! 0 (λ (k : ℕ). ‵ (row (block_of p) k ps)) far refl $
+    let first : x.first ≡ 0 = asked.0 in let room : (x.first + n) * 8 < 2 ^ 63 = lies.1 in let small : n * 8 < 2 ^ 63 = omega arith in
+    rewrite ! 0 (λ (k : ℕ). ‵ (row (block_of p) (count_of p) k ps)) first refl $
     enter ! 𝓣.C 𝓣.Λ fn (vptr a.0.ref_ptr.0 a.0.ref_ptr.1 ∷ token_val ∷ []) Post $ alloc_all ! (λ l. pass_all ! refl ((tt, tt), ((tt, (tt, tt)), tt)) $
     use1 𝓛 (later (some (λ (z : RegionId). given ((z.at ≡ p) × (z.words ≡ n)) (‵ (region_owns cv.code z holds) ⊛ ‵ (mine z cv.code 0 (v, [])))))) (moves.begins 𝓛 cv holds p ps v lies.0 small asked.1) $ await ! tt $ pick ! (λ z. learn ! (λ is. split ! $
     let w : Sh.Denot = record { marker = record {}; id = z; key = key } in let r : Sr.Denot = record { marker = record {}; region = z; id = 0; me = (v, []) } in

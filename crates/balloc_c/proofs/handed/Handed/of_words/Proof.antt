@@ -31,7 +31,7 @@ of_words_spec 𝓤 𝓛 𝓜 𝓡 wired =
     let b : ℕ = block_of p in let f : ℕ = count_of p in let where_ : p ≡ block_ptr b f = at_block p lies.0 in let there_ : u ≡ block_ptr b f = asked.0 ∙ where_ in
     let fits : n < 2 ^ 32 = are.1.1.1.0.1 in let room : (w.first + length w.places) * 8 < 2 ^ 63 = lies.1 in let same : i ≡ w.first = asked.1 in let small : i * 8 < 2 ^ 64 = omega (arith, same, room) in
     let q : Ptr = block_ptr b (i * 8 + f) in let begins : q ≡ ptr_add u64 w.first p = ap (λ (j : ℕ). block_ptr b (j * 8 + f)) same ∙ sym (ap (ptr_add u64 w.first) where_) in
-    let x : (handed.the_row).Denot = record { memory = q; code = n; words = Some w } in let is : Option Pw.Denot = Some w in let Told : Type 0 = (q ≡ ptr_add u64 w.first p) × (n ≡ n) × (is ≡ is) in
+    let x : (handed.the_row).Denot = record { memory = q; code = n; words = Some w } in let is : Option Pw.Denot = Some w in let Told : Type 0 = (q ≡ ptr_add u64 w.first p) × (n ≡ n) × (is ≡ is) × Lies p (w.first + length w.places) in
     enter ! 𝓣.C 𝓣.Λ fn (token_val ∷ start_val u ∷ vint w64 i ∷ vint w32 n ∷ []) Post $ alloc_all ! (λ l. pass_all ! refl ((tt, (tt, tt)), (start_good u, ((tt, record { fits = are.1.1.0.1 }), ((tt, record { fits = fits }), tt)))) $ let Ev = env fn.locals l in
     take_at ! 2 $ rewrite ! 0 (λ (z : Ptr). ‵ (fat full_share (layout St) (l 2) 0 (start_val z))) there_ refl $ give_at ! 2 $ first ! $ blocks ! $
     sets ! (bin ! (get ! refl) (lit ! tt) (record { fits = small })) refl (tt, record { fits = small }) $
@@ -39,5 +39,5 @@ of_words_spec 𝓤 𝓛 𝓜 𝓡 wired =
     sets ! (of_opd ! (get ! refl)) refl (tt, tt) $ sets ! (agg ! (and_then ! (get ! refl) (and_then ! (get ! refl) (no_more !)))) refl (tt, (tt, (record { fits = fits }, tt))) $
     nothing ! $ fpack ! (Lies p (w.first + length w.places)) (λ _. ftrue) lies $ fjoin ! $
     use0 𝓛 (‵ (Bare.own_val (q, (n, tt)) (handed_val q n ∷ []))) (bare_made 𝓛 q n fits) $ fjoin ! $
-    use0 𝓛 (raw (fact 𝓤 Told)) (fact_i 𝓤 Told (emp 𝓤) (begins, refl, refl)) $ nothing ! $ nothing ! $ fjoin ! $ nothing ! $ fjoin ! $ nothing ! $ fjoin ! $ nothing ! $ fjoin ! $
+    use0 𝓛 (raw (fact 𝓤 Told)) (fact_i 𝓤 Told (emp 𝓤) (begins, refl, refl, lies)) $ nothing ! $ nothing ! $ fjoin ! $ nothing ! $ fjoin ! $ nothing ! $ fjoin ! $ nothing ! $ fjoin ! $
     returns ! (look_at ! 0 refl) $ free_all ! refl $ keep ! (3 ∷ 0 ∷ 2 ∷ 1 ∷ []) $ by ! (leaves 𝓛 ended hs c y (handed_val q n) x (tt, (tt, (tt, (tt, tt)))) (tt, (tt, (tt, (tt, tt)))))))))

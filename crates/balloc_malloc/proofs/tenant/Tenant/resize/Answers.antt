@@ -2,7 +2,8 @@ use Rattle.std.proofs.Common.{◌≡◌, ℕ, ◌<◌, ◌≤◌, sym, refl, ◌
 use Rattle.heap_geometry.specs.declared.need.Need.{Need}
 use Rattle.heap_geometry.specs.Need.{need_of}
 use Rattle.live_heap.specs.Heaps.{HeapFields}
-use Rattle.memory_cache.specs.declared.answers.MemoryAnswer.{MemoryAnswer}
+use Rattle.live_heap.specs.declared.answers.AllocAnswer.{AllocAnswer}
+use Rattle.live_heap.specs.declared.plain.Memory.{Memory}
 use Rattle.memory_cache.specs.Asking.{TakeTells}
 use Rattle.balloc_malloc.specs.declared.tenant.TheConstants.{TRIES}
 use Rattle.balloc_malloc.proofs.Rooms.{has_room, idle_after}
@@ -53,7 +54,7 @@ move_to-requires-clause-returns c =
     inr (has_room before c.take.new.self c.in-Some.words larger s.0 (same_memory larger s.0 (sym c.in-Given.is ∙ s.1)) (heap_of c.args.self.now, c.tended.ensures) c.take.ensures.depth s.2))
     (λ none.
     inl (idle_after c.deref-2.result.now before.pass c.in-Some.words larger c.take.new.self.pass
-    (subst (λ (a : MemoryAnswer). TakeTells c.deref-2.result.now before.pass c.in-Some.words TRIES a c.take.new.self.pass) c.in-Given.is
+    (subst (λ (a : AllocAnswer Memory). TakeTells c.deref-2.result.now before.pass c.in-Some.words TRIES a c.take.new.self.pass) c.in-Given.is
     (c.take.ensures.asked none c.in-Some.ensures.words.2).0)))
     (for-or-not (stacks_in before) (need_of c.in-Some.words))
 

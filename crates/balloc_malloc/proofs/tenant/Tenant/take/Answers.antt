@@ -1,8 +1,9 @@
 use Rattle.std.proofs.Common.{◌≡◌, ℕ, ◌≤◌, sym, refl, ◌∙◌, subst, inr}
 use Rattle.heap_geometry.specs.Need.{need_of, usable_words}
 use Rattle.live_heap.specs.Heaps.{HeapFields}
-use Rattle.memory_cache.specs.declared.answers.MemoryAnswer.{MemoryAnswer}
-use Rattle.memory_cache.specs.declared.answers.MemoryAnswer.TheVariants.{Given}
+use Rattle.live_heap.specs.declared.answers.AllocAnswer.{AllocAnswer}
+use Rattle.live_heap.specs.declared.plain.Memory.{Memory}
+use Rattle.live_heap.specs.declared.answers.AllocAnswer.TheVariants.{Given}
 use Rattle.memory_cache.specs.Caches.{IsCache}
 use Rattle.balloc_malloc.specs.Kinds.{words_for}
 use Rattle.balloc_malloc.specs.Out.{IsOut}
@@ -19,7 +20,7 @@ returns-in-Given c =
     let lot = c.in-Given.memory in
     let given = c.take.ensures.given lot c.in-Given.is in
     let told : Told c.deref.result.now before c.take.new.self (words_for c.args.bytes) (Given lot) =
-    subst (λ (a : MemoryAnswer). Told c.deref.result.now before c.take.new.self (words_for c.args.bytes) a) c.in-Given.is
+    subst (λ (a : AllocAnswer Memory). Told c.deref.result.now before c.take.new.self (words_for c.args.bytes) a) c.in-Given.is
     (subst (λ (n : ℕ). Told c.deref.result.now before c.take.new.self n c.take.result) words (record {
       heap = c.deref.ensures;
       large = c.in-Some.ensures.words.2;

@@ -1,6 +1,6 @@
 use Rattle.live_heap.specs.Hands.{given_by}
 use Rattle.std.proofs.Common.{◌++◌, refl, sym, ◌∙◌}
-use Rattle.live_heap.proofs.Holding.{alloc-hand}
+use Rattle.live_heap.proofs.laws_for_builders.Hands.{alloc-hand}
 use Rattle.block_cache.specs.Caches.{cached_in}
 use Rattle.block_cache.proofs.AccountLemmas.{alloc-all, regroup}
 use Rattle.block_cache.proofs.CacheLemmas.{hand-front, passed}

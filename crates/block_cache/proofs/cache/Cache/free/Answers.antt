@@ -1,5 +1,5 @@
 use Rattle.std.proofs.Common.{◌++◌}
-use Rattle.live_heap.proofs.Holding.{free-hand}
+use Rattle.live_heap.proofs.laws_for_builders.Hands.{free-hand}
 use Rattle.block_cache.specs.Caches.{cached_in}
 use Rattle.block_cache.proofs.AccountLemmas.{free-all}
 use Rattle.block_cache.proofs.CacheLemmas.{passed}

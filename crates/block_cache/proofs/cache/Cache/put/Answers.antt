@@ -1,5 +1,5 @@
 use Rattle.live_heap.specs.Hands.{returned_by}
-use Rattle.live_heap.proofs.Holding.{put-hand}
+use Rattle.live_heap.proofs.laws_for_builders.Hands.{put-hand}
 use Rattle.block_cache.specs.Caches.{cached_in}
 use Rattle.std.proofs.Common.{◌++◌}
 use Rattle.block_cache.proofs.AccountLemmas.{put-all, regroup}

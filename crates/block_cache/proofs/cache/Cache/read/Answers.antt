@@ -1,7 +1,7 @@
 use Rattle.std.proofs.Common.{◌++◌, refl}
 use Rattle.errand_steps.specs.declared.reply.Reply.TheVariants as reply
 use Rattle.errand_steps.specs.Calls.{read}
-use Rattle.live_heap.proofs.Holding.{ended-hand}
+use Rattle.live_heap.proofs.laws_for_builders.Hands.{ended-hand}
 use Rattle.block_cache.specs.Caches.{cached_in}
 use Rattle.block_cache.proofs.AccountLemmas.{ended-all}
 use Rattle.block_cache.proofs.CacheLemmas.{passed}

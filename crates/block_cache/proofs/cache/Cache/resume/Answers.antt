@@ -1,6 +1,6 @@
 use Rattle.live_heap.specs.Hands.{resumed_by}
 use Rattle.std.proofs.Common.{◌++◌}
-use Rattle.live_heap.proofs.Holding.{waiting-hand}
+use Rattle.live_heap.proofs.laws_for_builders.Hands.{waiting-hand}
 use Rattle.block_cache.specs.Caches.{cached_in}
 use Rattle.block_cache.proofs.AccountLemmas.{waiting-all, regroup}
 use Rattle.block_cache.proofs.CacheLemmas.{hand-front, passed, resumable}

@@ -1,5 +1,5 @@
 use Rattle.live_heap.specs.Hands.{taken_by}
-use Rattle.live_heap.proofs.Holding.{take-hand}
+use Rattle.live_heap.proofs.laws_for_builders.Hands.{take-hand}
 use Rattle.block_cache.specs.Caches.{cached_in}
 use Rattle.std.proofs.Common.{◌++◌}
 use Rattle.block_cache.proofs.AccountLemmas.{take-all, regroup}

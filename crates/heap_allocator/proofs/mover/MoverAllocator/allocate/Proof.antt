@@ -43,8 +43,8 @@ allocate_spec 𝓤 𝓛 𝓜 𝓡 wired =
     use1 𝓛 (later (some (λ (r : Taken.Denot). (raw (alive 𝓛 ended.signature κs z.0.1) ⊛ ‵ (Taken.own_val r (v ∷ []))) ⊛ some (λ (ls : Lasts taking.ended κs a). ‵ (lasts taking.ended κs a ls) ⊛ raw (fact 𝓤 (Told p n al r)))))) (id⊢ 𝓤 (k.post y v)) $
     await ! tt $ pick ! (λ r. split ! $ move ! (1 ∷ []) $ pick ! (λ _. split ! $ drop ! $ heard ! (Told p n al r) (λ told. split ! $ move ! (1 ∷ []) $
     taken ! p n al r v told
-    (λ word count label there room small block slim e. let b : ℕ = block_of p in let o : ℕ = word * 8 + count_of p in
-    use1 𝓛 (‵ (froom τ b o) ⊛ ‵ (piece_token p τ (lies_at_word p word))) (hands_out 𝓛 p word n count label al τ asked.0 asked.1 there room small block slim) $ lands_as ! e refl (tt, (record { fits = lit< tt }, ((tt, (record { fits = are.1.0.1 }, tt)), tt))) $
+    (λ word count label there room small block odd e. let b : ℕ = block_of p in let o : ℕ = word * 8 + count_of p in
+    use1 𝓛 (‵ (froom τ b o) ⊛ ‵ (piece_token p τ (lies_at_word p word))) (hands_out 𝓛 p word n count label τ asked.0 there room small block odd) $ lands_as ! e refl (tt, (record { fits = lit< tt }, ((tt, (record { fits = are.1.0.1 }, tt)), tt))) $
     first ! $ switches_on ! (get_tag ! (vrt ! refl (fld ! refl (stop !))) (whole !)) $ exec ! 𝓣.C 𝓣.Λ Ev (arm_body 0 (head (after 1 fn.body))) Then $
     sets ! (of_opd ! (get_in ! (vrt ! refl (fld ! refl (fld ! refl (stop !)))) (sub ! 0 refl (in_variant ! 1 0 refl refl (whole !))))) refl (tt, tt) $
     sets_last ! (agg ! (and_then ! (lit ! tt) (and_then ! (get ! refl) (no_more !)))) refl (tt, (record { fits = lit< tt }, (tt, tt))) $

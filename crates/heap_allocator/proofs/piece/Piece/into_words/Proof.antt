@@ -38,24 +38,24 @@ into_words_spec 𝓤 𝓛 𝓜 𝓡 wired =
     qed 𝓛 ((raw (alive 𝓛 ended.signature κs qs) ⊛ ‵ (owns (types_at ended.signature.params κs) a y.0.4)) ∷ raw (fact 𝓤 Last) ∷ []) ∵
     move ! (1 ∷ []) $ heard ! Last (λ last. split ! $ move ! (1 ∷ []) $ fsplit ! $ fsplit ! $ keep ! (1 ∷ 3 ∷ []) $ fsplit ! $ fpick ! (λ lies. drop ! $
     -- [the row; no token]
-    let b : ℕ = block_of p in let f : ℕ = count_of p in let o : ℕ = x.first * 8 + f in let where_ : x.memory ≡ block_ptr b o = x.placed.0 ∙ ap (ptr_add u64 x.first) (at_block p lies.0) in let there : ℕ = k * 8 + o in
+    let b : ℕ = block_of p in let f : ℕ = count_of p in let o : ℕ = x.first * 8 + f in let where_ : x.memory ≡ block_ptr b o = x.placed.0 ∙ ap (ptr_add u64 x.first) (at_block p lies.0) in let there : ℕ = k * 8 + o in let end : ℕ = k + x.first in let ends : end * 8 + f ≡ there = omega arith in
     let fits : n < 2 ^ 64 = (bare_told x.memory n _ are.0.0).1 in let before : x.count - 1 ≡ k = omega (arith, last) in
     let long : length all_ ≡ x.count = labelled-long x.count label (omega (arith, last)) in let bytes : k * 8 < 2 ^ 64 = omega (arith, long, last, lies.1) in
-    let far : there ≡ length (blanks k) * 8 + o = ap (λ (j : ℕ). j * 8 + o) (sym (length-replicate k (Some None))) in
+    let far : end ≡ length (blanks k) + x.first = ap (λ (j : ℕ). j + x.first) (sym (length-replicate k (Some None))) in
     let us : Ptr → List Val = λ q. piece_val q n ∷ vint w64 k ∷ [] in let Run : List Val → SProp 𝓤 = λ vs. WpFn 𝓤 H 𝓣.C 𝓣.Λ fn vs Post in
     suffices ! (Run (us (block_ptr b o))) (subst (λ (q : Ptr). ent 𝓤 (Run (us (block_ptr b o))) (Run (us q))) (sym where_) (id⊢ 𝓤 (Run (us (block_ptr b o))))) $
-    rewrite ! 0 (λ (j : ℕ). ‵ (row b o (blanks j ++ back))) before refl $
-    use1 𝓛 (‵ (row b o (blanks k)) ⊛ ‵ (row b there back)) (cut 𝓛 b (blanks k) back o there far) $ split ! $ move ! (1 ∷ []) $ fsplit ! $
+    rewrite ! 0 (λ (j : ℕ). ‵ (row b f x.first (blanks j ++ back))) before refl $
+    use1 𝓛 (‵ (row b f x.first (blanks k)) ⊛ ‵ (row b f end back)) (cut 𝓛 b f (blanks k) back x.first end far) $ split ! $ move ! (1 ∷ []) $ fsplit ! $ fsplit ! $ rewrite ! 0 (λ (j : ℕ). ‵ (place b j (laid label))) ends refl $
     use1 𝓛 (‵ (fat full_share (ty_int w64) b there (vint w64 label))) (word_out 𝓛 b there label) $ well_typed ! (λ good.
-    -- [the label; what is spare; the words; no token]
+    -- [the label; what goes with it; no more words; the words; no token]
     enter ! 𝓣.C 𝓣.Λ fn (us (block_ptr b o)) Post $ alloc_all ! (λ l. pass_all ! refl ((tt, (tt, (record { fits = fits }, tt))), ((tt, record { fits = are.1.0.1 }), tt)) $ let Ev = env fn.locals l in
     sets ! (of_opd ! (get_in ! (fld ! refl (stop !)) (sub ! 0 refl (whole !)))) refl (tt, tt) $ first ! $ blocks ! $
     sets ! (of_opd ! (get ! refl)) refl (tt, tt) $ sets ! (bin ! (get ! refl) (lit ! tt) (record { fits = bytes })) refl (tt, record { fits = bytes }) $
     sets ! (bin ! (get ! refl) (get ! refl) tt) refl (tt, tt) $ sets_last ! (of_opd ! (load ! (through ! refl (stop !)) (look ! 0 refl))) refl good $
     exec ! 𝓣.C 𝓣.Λ Ev (after 2 fn.body) (at_ret Ev Post) $ sets ! (of_opd ! (get ! refl)) refl good $
     sets ! (agg ! (no_more !)) refl (tt, tt) $ sets ! (agg ! (and_then ! (get ! refl) (no_more !))) refl (tt, (tt, tt)) $ sets ! (agg ! (and_then ! (get ! refl) (and_then ! (get ! refl) (no_more !)))) refl (tt, (good.1, ((tt, tt), tt))) $
-    use1 𝓛 (‵ (place b there (laid label))) (word_in 𝓛 b there label) $ fjoin ! $ move ! (1 ∷ 0 ∷ []) $ use2 𝓛 (‵ (row b o (blanks k ++ back))) (glue 𝓛 b (blanks k) back o there far) $
-    rewrite ! 0 (λ (j : ℕ). ‵ (row b o (blanks j ++ back))) (sym before) refl $
+    use1 𝓛 (‵ (place b there (laid label))) (word_in 𝓛 b there label) $ rewrite ! 0 (λ (j : ℕ). ‵ (place b j (laid label))) (sym ends) refl $ fjoin ! $ fjoin ! $ move ! (1 ∷ 0 ∷ []) $
+    use2 𝓛 (‵ (row b f x.first (blanks k ++ back))) (glue 𝓛 b f (blanks k) back x.first end far) $ rewrite ! 0 (λ (j : ℕ). ‵ (row b f x.first (blanks j ++ back))) (sym before) refl $
     nothing ! $ fpack ! (Lies p (x.first + length all_)) (λ _. ftrue) lies $ fjoin ! $ use0 𝓛 (‵ ((Token RawPtr).own_val (record {}, tt) (token_val ∷ []))) (token_made RawPtr 𝓛) $ fjoin ! $
     flt_i ! label (2 ^ 64) good.1.fits $ feq_i ! (List Val) (vint w64 label ∷ []) (vint w64 label ∷ []) refl $ fjoin ! $
     use2 𝓛 (‵ ((Tuple (u64 ∷ Pw ∷ [])).own_val (label, w) (out ∷ []))) (two_of 𝓛 u64 Pw label w (vint w64 label) token_val) $

@@ -29,7 +29,7 @@ of_words_spec 𝓤 𝓛 𝓜 𝓡 wired =
     qed 𝓛 ((raw (alive 𝓛 ended.signature κs qs) ⊛ ‵ (owns (types_at ended.signature.params κs) a y.0.4)) ∷ raw (fact 𝓤 Words) ∷ raw (fact 𝓤 Label) ∷ raw (fact 𝓤 Room) ∷ []) ∵
     move ! (1 ∷ []) $ heard ! Words (λ given_. move ! (1 ∷ []) $ heard ! Label (λ is. move ! (1 ∷ []) $ heard ! Room (λ enough. split ! $ move ! (1 ∷ []) $ fsplit ! $ fsplit ! $ keep ! (1 ∷ 3 ∷ []) $ fsplit ! $ fpick ! (λ lies. drop ! $
     -- [the row; no token]
-    let b : ℕ = block_of p in let f : ℕ = count_of p in let o : ℕ = w.first * 8 + f in let where_ : p ≡ block_ptr b f = at_block p lies.0 in let there_ : u ≡ block_ptr b f = given_.0 ∙ where_ in
+    let b : ℕ = block_of p in let f : ℕ = count_of p in let where_ : p ≡ block_ptr b f = at_block p lies.0 in let there_ : u ≡ block_ptr b f = given_.0 ∙ where_ in
     let fits : n < 2 ^ 64 = are.1.1.1.0.1 in let room : (w.first + length ps) * 8 < 2 ^ 63 = lies.1 in let same : i ≡ w.first = given_.1 in let small : i * 8 < 2 ^ 64 = omega (arith, same, room) in
     let q : Ptr = block_ptr b (i * 8 + f) in let label : ℕ = number_at ps k in let all_ : List Place = labelled (length ps) label in
     let begins : q ≡ ptr_add u64 w.first p = ap (λ (j : ℕ). block_ptr b (j * 8 + f)) same ∙ sym (ap (ptr_add u64 w.first) where_) in
@@ -41,7 +41,7 @@ of_words_spec 𝓤 𝓛 𝓜 𝓡 wired =
     sets ! (bin ! (get_in ! (fld ! refl (stop !)) (sub ! 0 refl (whole !))) (get ! refl) tt) refl (tt, tt) $
     sets_last ! (of_opd ! (get ! refl)) refl (tt, tt) $ exec ! 𝓣.C 𝓣.Λ Ev (tail fn.body) (at_ret Ev Post) $
     sets ! (of_opd ! (get ! refl)) refl (tt, tt) $ sets ! (agg ! (and_then ! (get ! refl) (and_then ! (get ! refl) (no_more !)))) refl (tt, (tt, (record { fits = fits }, tt))) $
-    use1 𝓛 (‵ (row b o all_)) (forgets 𝓛 b ps k 0 o given_.2 is (omega (arith, enough.0))) $
+    use1 𝓛 (‵ (row b f w.first all_)) (forgets 𝓛 b f ps k 0 w.first given_.2 is (omega (arith, enough.0))) $
     nothing ! $ fpack ! (Lies p (w.first + length all_)) (λ _. ftrue) (lies.0, subst (λ (j : ℕ). (w.first + j) * 8 < 2 ^ 63) (sym (labelled-long (length ps) label (omega (arith, enough.0)))) room) $ fjoin ! $
     use0 𝓛 (‵ (Bare.own_val (q, (n, tt)) (piece_val q n ∷ []))) (bare_made 𝓛 q n fits) $ fjoin ! $
     use0 𝓛 (raw (fact 𝓤 Told)) (fact_i 𝓤 Told (emp 𝓤) (refl, refl, refl, refl, refl)) $ nothing ! $ nothing ! $ fjoin ! $ nothing ! $ fjoin ! $ nothing ! $ fjoin ! $ nothing ! $ fjoin ! $

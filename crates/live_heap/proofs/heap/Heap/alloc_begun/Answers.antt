@@ -58,7 +58,7 @@ returns-in-Some-clause-tells g c =
     let calling = alloc-calling p c.begin_alloc.new.pass c.args.need b.begun c.requires.idle (sym b.answer ∙ c.in-Started.is) in
     let G : Option (Ending Block) → Type 0 = λ o. GoesOn p (alloc c.args.need) 0 c.begin_alloc.new.pass c.args.tries (reply_in o) q in
     let ends : G (Some c.in-Some.ending) = subst G c.in-Some.is (c.go_on.ensures.goes p (alloc c.args.need) 0 calling) in
-    let T : AllocAnswer → Type 0 = λ a. AllocTells p c.args.need c.args.tries a q in
+    let T : AllocAnswer Block → Type 0 = λ a. AllocTells p c.args.need c.args.tries a q in
     subst T (sym c.alloc_ended.ensures)
     (alloc-tells c.args.self.now p c.args.need c.args.tries c.in-Some.ending q c.requires.of c.go_on.ensures.of
     (ends-since p c.begin_alloc.new.pass (alloc c.args.need) c.args.tries q b.begun _ ends))

@@ -2,6 +2,7 @@ use Rattle.std.proofs.Common.{slice_index_or, refl, sym, ap, ◌∙◌, subst, a
 use Rattle.std.specs.List.{list_all}
 use Rattle.std.specs.Prelude.{◌==◌}
 use Rattle.plain_words.specs.Places.{numbers}
+use Rattle.atomic_region.specs.Owned.{RegionId}
 use Rattle.atomic_region.specs.declared.shared.Seat.{Seat}
 use Rattle.live_heap.specs.placement.Places.{words_at}
 use Rattle.heap_geometry.specs.declared.geometry.Geometry.{Geometry}
@@ -33,24 +34,25 @@ last g c =
     let seat = c.gather-seat.result.seat in
     last-words c.end-room.result.1 seat.id seat.me.0 c.end-room.result.0.plain.places (at-rest g c) c.end-room.ensures.last
 
-rests : (g : Over) (c : After-end-room g) → IsResting (closed_with c.end-room.result.1 (words_at c.end-room.result.1 (numbers c.end-room.result.0.plain.places)) c.of-last.result.value.me.0)
+rests : (g : Over) (c : After-end-room g) → IsResting (closed_with c.end-room.result.1 c.of-last.result.value.region (words_at c.end-room.result.1 (numbers c.end-room.result.0.plain.places)) c.of-last.result.value.me.0)
 rests g c =
     let layout = c.end-room.result.1 in
     let seat = c.gather-seat.result.seat in
-    subst (λ (x : Seat View). IsResting (closed_with layout (words_at layout (numbers c.end-room.result.0.plain.places)) x.me.0)) (sym c.of-last.ensures)
-    (last-rests layout (words_at layout (numbers c.end-room.result.0.plain.places)) seat.me.0 (last g c) (idle-at seat.me.0.callers c.gather-seat.ensures.idle))
+    subst (λ (x : Seat View). IsResting (closed_with layout x.region (words_at layout (numbers c.end-room.result.0.plain.places)) x.me.0)) (sym c.of-last.ensures)
+    (last-rests layout seat.region (words_at layout (numbers c.end-room.result.0.plain.places)) seat.me.0 (last g c) (idle-at seat.me.0.callers c.gather-seat.ensures.idle))
 
-counted : (g : Over) (c : After-end-room g) → IsCounted (closed_with c.end-room.result.1 (words_at c.end-room.result.1 (numbers c.end-room.result.0.plain.places)) c.of-last.result.value.me.0) c.gather-seat.result.won c.gather-seat.result.lost
+counted : (g : Over) (c : After-end-room g) → IsCounted (closed_with c.end-room.result.1 c.of-last.result.value.region (words_at c.end-room.result.1 (numbers c.end-room.result.0.plain.places)) c.of-last.result.value.me.0) c.gather-seat.result.won c.gather-seat.result.lost
 counted g c =
     let layout = c.end-room.result.1 in
     let seat = c.gather-seat.result.seat in
-    subst (λ (x : Seat View). IsCounted (closed_with layout (words_at layout (numbers c.end-room.result.0.plain.places)) x.me.0) c.gather-seat.result.won c.gather-seat.result.lost) (sym c.of-last.ensures)
-    (last-counted layout (words_at layout (numbers c.end-room.result.0.plain.places)) seat.me.0 (last g c) c.gather-seat.result.won c.gather-seat.result.lost c.gather-seat.ensures.won_is c.gather-seat.ensures.lost_is)
+    subst (λ (x : Seat View). IsCounted (closed_with layout x.region (words_at layout (numbers c.end-room.result.0.plain.places)) x.me.0) c.gather-seat.result.won c.gather-seat.result.lost) (sym c.of-last.ensures)
+    (last-counted layout seat.region (words_at layout (numbers c.end-room.result.0.plain.places)) seat.me.0 (last g c) c.gather-seat.result.won c.gather-seat.result.lost c.gather-seat.ensures.won_is c.gather-seat.ensures.lost_is)
 
 pub invariant_of-result : goal.invariant_of-result
 invariant_of-result g c =
     let seat = c.gather-seat.result.seat in
     record {
+      lies = c.end-room.ensures.start ∙ (ap (λ (r : RegionId). r.at) (sym c.gather-seat.ensures.table) ∙ ap (λ (x : Seat View). x.region.at) (sym c.of-last.ensures));
       marked = last-marked c.end-room.result.1 seat.id seat.me.0 c.end-room.result.0.plain.places (at-rest g c) c.end-room.ensures.last;
       rests = rests g c;
       counts = counted g c;
@@ -63,9 +65,9 @@ pub returns-clause-accesses : goal.returns-clause-accesses
 returns-clause-accesses g c =
     let layout = c.end-room.result.1 in
     let seat = c.gather-seat.result.seat in
-    subst (λ (x : Seat View). HasAccesses (closed_with layout (words_at layout (numbers c.end-room.result.0.plain.places)) x.me.0) c.args.passes.items)
+    subst (λ (x : Seat View). HasAccesses (closed_with layout x.region (words_at layout (numbers c.end-room.result.0.plain.places)) x.me.0) c.args.passes.items)
     (sym c.of-last.ensures)
-    (last-accesses layout (words_at layout (numbers c.end-room.result.0.plain.places)) seat.me.0 (last g c) (idle-at seat.me.0.callers c.gather-seat.ensures.idle)
+    (last-accesses layout seat.region (words_at layout (numbers c.end-room.result.0.plain.places)) seat.me.0 (last g c) (idle-at seat.me.0.callers c.gather-seat.ensures.idle)
     c.args.passes.items c.gather-seat.ensures.each)
 
 pub returns-clause-closed : goal.returns-clause-closed
@@ -74,10 +76,11 @@ returns-clause-closed g c =
     let seat = c.gather-seat.result.seat in
     record {
       heap = c.end-room.ensures.layout;
+      table = ap (λ (x : Seat View). x.region) c.of-last.ensures ∙ c.gather-seat.ensures.table;
       each = λ k d l.
-          subst (λ (x : Seat View). HasTakenIn (closed_with layout (words_at layout (numbers c.end-room.result.0.plain.places)) x.me.0) (slice_index_or c.args.passes.items k d))
+          subst (λ (x : Seat View). HasTakenIn (closed_with layout x.region (words_at layout (numbers c.end-room.result.0.plain.places)) x.me.0) (slice_index_or c.args.passes.items k d))
           (sym c.of-last.ensures)
-          (last-taken layout (words_at layout (numbers c.end-room.result.0.plain.places)) seat.me.0 (last g c) (slice_index_or c.args.passes.items k d) (c.gather-seat.ensures.each k d l));
+          (last-taken layout seat.region (words_at layout (numbers c.end-room.result.0.plain.places)) seat.me.0 (last g c) (slice_index_or c.args.passes.items k d) (c.gather-seat.ensures.each k d l));
     }
 
 pub returns-then-not-are_home-clause-always : goal.returns-then-not-are_home-clause-always

@@ -2,7 +2,7 @@ use Rattle.std.proofs.Common.{◌≡◌, ◌≤◌, ◌≢◌, ◌%◌, ◌∙�
 use Rattle.heap_geometry.specs.Need.{need_of, usable_words}
 use Rattle.live_heap.specs.declared.plain.Memory.{Memory}
 use Rattle.live_heap.specs.Memory.{HasTaken}
-use Rattle.memory_cache.specs.declared.answers.MemoryAnswer.{MemoryAnswer}
+use Rattle.live_heap.specs.declared.answers.AllocAnswer.{AllocAnswer}
 use Rattle.memory_cache.specs.Asking.{LiesElsewhere}
 use Rattle.memory_cache.specs.Caches.{IsHeld, kept_in}
 use Rattle.memory_cache.specs.Rooms.{IsRoomOf}
@@ -62,7 +62,7 @@ returns-in_default-clause-given c memory is =
     let s = c.args.self.now in
     let x = c.ask.ensures.given memory is in
     let apart : (other : Memory) → HasTaken s.pass other → other.block.place ≢ memory.block.place = λ other taken.
-    subst (λ (told : MemoryAnswer). LiesElsewhere told other) is (c.ask.ensures.keeps other taken).1 in (
+    subst (λ (told : AllocAnswer Memory). LiesElsewhere told other) is (c.ask.ensures.keeps other taken).1 in (
       x.0,
       (x.1, kept-all h s.pass (λ other. other.block.place ≢ memory.block.place) apart (kept_in s) c.requires.cache.kept),
       x.2,
@@ -77,7 +77,7 @@ returns-in_default-clause-aligned c memory is =
 
 pub returns-in_default-clause-apart : goal.returns-in_default-clause-apart
 returns-in_default-clause-apart c memory other is held =
-    subst (λ (told : MemoryAnswer). LiesElsewhere told other) is (c.ask.ensures.keeps other held.0).1
+    subst (λ (told : AllocAnswer Memory). LiesElsewhere told other) is (c.ask.ensures.keeps other held.0).1
 
 pub returns-in_default-clause-keeps : goal.returns-in_default-clause-keeps
 returns-in_default-clause-keeps c other held = ((c.ask.ensures.keeps other held.0).0, held.1)

@@ -32,16 +32,16 @@ lay_spec 𝓤 𝓛 𝓜 𝓡 wired =
     enter ! 𝓣.C 𝓣.Λ fn (vptr rb ro ∷ start_val u ∷ vint w64 i ∷ vint w64 n ∷ []) Post $ alloc_all ! (λ l. pass_all ! refl ((tt, tt), (start_good u, ((tt, record { fits = are.1.1.0.1 }), ((tt, record { fits = are.1.1.1.0.1 }), tt)))) $ let Ev = env fn.locals l in
     opens ! tt Pw rb ro (λ ts. move ! (1 ∷ []) $ fsplit ! $ move ! (1 ∷ []) $ fsplit ! $ fpick ! (λ lies. drop ! $
     -- [the row; the token; its cell; the open borrow; obs; auth; no other token]
-    let b : ℕ = block_of p in let o : ℕ = k * 8 + count_of p in let e : ℕ = i * 8 + count_of p in let there : u ≡ block_ptr b (count_of p) = asked.0 ∙ at_block p lies.0 in
-    let room : (k + length ps) * 8 < 2 ^ 63 = lies.1 in let before : i < k + length ps = asked.2 in let small : i * 8 < 2 ^ 64 = omega arith in let inside : j < length ps = omega (arith, asked.1, asked.2) in let far : e ≡ j * 8 + o = omega (arith, asked.1) in
+    let b : ℕ = block_of p in let f : ℕ = count_of p in let e : ℕ = i * 8 + f in let there : u ≡ block_ptr b (count_of p) = asked.0 ∙ at_block p lies.0 in
+    let room : (k + length ps) * 8 < 2 ^ 63 = lies.1 in let before : i < k + length ps = asked.2 in let small : i * 8 < 2 ^ 64 = omega arith in let inside : j < length ps = omega (arith, asked.1, asked.2) in let far : e ≡ (j + k) * 8 + f = omega (arith, asked.1) in
     take_at ! 2 $ rewrite ! 0 (λ (x : Ptr). ‵ (fat full_share (layout St) (l 2) 0 (start_val x))) there refl $ give_at ! 2 $ first ! $ blocks ! $
     sets ! (bin ! (get ! refl) (lit ! tt) (record { fits = small })) refl (tt, record { fits = small }) $
     sets ! (bin ! (get_in ! (fld ! refl (stop !)) (sub ! 0 refl (whole !))) (get ! refl) tt) refl (tt, tt) $
-    use1 𝓛 (‵ (place b e (get_or ps j None)) ⊛ raw (all 𝓤 (Reset 𝓛 b o e ps j))) (one_of 𝓛 b ps o e j inside far) $ split ! $ use1 𝓛 (‵ (froom (ty_int w64) b e)) (roomy 𝓛 b e (get_or ps j None) asked.3) $
+    use1 𝓛 (‵ (place b e (get_or ps j None)) ⊛ raw (all 𝓤 (Reset 𝓛 b f k e ps j))) (one_of 𝓛 b f ps k e j inside far asked.3) $ split ! $ use1 𝓛 (‵ (froom (ty_int w64) b e)) (roomy 𝓛 b e (get_or ps j None) asked.3) $
     assigns_last ! (of_opd ! (get ! refl)) (through ! refl (stop !)) (init ! 0 refl (tt, record { fits = are.1.1.1.0.1 })) $
     exec ! 𝓣.C 𝓣.Λ Ev (tail fn.body) (at_ret Ev Post) $ sets ! (of_opd ! (unit_lit !)) refl (tt, tt) $
-    use1 𝓛 (‵ (place b e (laid n))) (word_in 𝓛 b e n) $ move ! (1 ∷ []) $ use1 𝓛 (raw (Reset 𝓛 b o e ps j (laid n))) (all_e 𝓤 (Reset 𝓛 b o e ps j) (laid n)) $ move ! (1 ∷ 0 ∷ []) $
-    use2 𝓛 (‵ (row b o after)) (apply∗ 𝓤 (sem 𝓛 (place b e (laid n))) (sem 𝓛 (row b o after))) $ nothing ! $ fpack ! (Lies p (k + length after)) (λ _. ftrue) (lies.0, subst (λ (m : ℕ). (k + m) * 8 < 2 ^ 63) (sym (length-set ps j (laid n))) room) $ fjoin ! $
+    use1 𝓛 (‵ (place b e (laid n))) (word_in 𝓛 b e n) $ move ! (1 ∷ []) $ use1 𝓛 (raw (Reset 𝓛 b f k e ps j (laid n))) (all_e 𝓤 (Reset 𝓛 b f k e ps j) (laid n)) $ move ! (1 ∷ 0 ∷ []) $
+    use2 𝓛 (‵ (row b f k after)) (apply∗ 𝓤 (sem 𝓛 (place b e (laid n))) (sem 𝓛 (row b f k after))) $ nothing ! $ fpack ! (Lies p (k + length after)) (λ _. ftrue) (lies.0, subst (λ (m : ℕ). (k + m) * 8 < 2 ^ 63) (sym (length-set ps j (laid n))) room) $ fjoin ! $
     move ! (1 ∷ 0 ∷ []) $ fjoin ! $ move ! (1 ∷ 0 ∷ []) $ closes ! tt Pw w' ts rb ro $ feq_i ! (List Val) (vptr rb ro ∷ []) (vptr rb ro ∷ []) refl $ fjoin3 ! $
     nothing ! $ nothing ! $ fjoin ! $ nothing ! $ fjoin ! $ nothing ! $ fjoin ! $ move ! (1 ∷ 0 ∷ []) $ fjoin ! $ move ! (1 ∷ 2 ∷ []) $ join ! $
     use0 𝓛 (raw (fact 𝓤 Told)) (fact_i 𝓤 Told (emp 𝓤) (refl, refl, refl)) $ feq_i ! (List Val) (vunit ∷ []) (vunit ∷ []) refl $

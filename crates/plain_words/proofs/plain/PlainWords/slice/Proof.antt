@@ -28,7 +28,7 @@ slice_spec 𝓤 𝓛 𝓜 𝓡 wired =
     -- [what is lent of the row; the token; no other token]
     let ns : List ℕ = asked.2.1.0 in let is : run ps j n ≡ laids ns = asked.2.1.1 in let within : j + n ≤ length ps = asked.2.0 in let behind : k ≤ i = asked.1 in let room : (k + length ps) * 8 < 2 ^ 63 = lies.1 in
     let long : length ns ≡ n = sym (length-map ns laid) ∙ ap length (sym is) ∙ length-run ps j n within in
-    let b : ℕ = block_of p in let o : ℕ = k * 8 + count_of p in let e : ℕ = i * 8 + count_of p in let small : i * 8 < 2 ^ 64 = omega arith in let far : e ≡ j * 8 + o = omega arith in let le : j ≤ length ps = omega arith in
+    let b : ℕ = block_of p in let f : ℕ = count_of p in let e : ℕ = i * 8 + f in let small : i * 8 < 2 ^ 64 = omega arith in let far : (j + k) * 8 + f ≡ e = omega arith in let le : j ≤ length ps = omega arith in
     let few : length ns < 2 ^ 64 = omega arith in let fits : length ns * 8 < 2 ^ 63 = omega arith in let Told : Type 0 = run ps j n ≡ laids ns in
     let us : Ptr → List Val = λ x. vptr rb ro ∷ start_val x ∷ vint w64 i ∷ vint w64 n ∷ [] in let Run : List Val → SProp 𝓤 = λ ws. WpFn 𝓤 H 𝓣.C 𝓣.Λ fn ws Post in
     let p' : Ptr = block_ptr b (count_of p) in let where_ : u ≡ p' = asked.0 ∙ at_block p lies.0 in
@@ -36,7 +36,7 @@ slice_spec 𝓤 𝓛 𝓜 𝓡 wired =
     enter ! 𝓣.C 𝓣.Λ fn (us p') Post $ alloc_all ! (λ l. pass_all ! refl ((tt, tt), (start_good p', ((tt, record { fits = are.1.1.0.1 }), ((tt, record { fits = are.1.1.1.0.1 }), tt)))) $ let Ev = env fn.locals l in first ! $ blocks ! $
     sets ! (bin ! (get ! refl) (lit ! tt) (record { fits = small })) refl (tt, record { fits = small }) $
     sets ! (bin ! (get_in ! (fld ! refl (stop !)) (sub ! 0 refl (whole !))) (get ! refl) tt) refl (tt, tt) $
-    use1 𝓛 (‵ (elements_shared u64 ns b e κ)) (run_seen 𝓛 b κ ps j n ns o e le is far) $ hide ! $
+    use1 𝓛 (‵ (elements_shared u64 ns b e κ)) (run_seen 𝓛 b f κ ps j n ns k e le is far) $ hide ! $
     sets_last ! (agg ! (and_then ! (get ! refl) (and_then ! (get ! refl) (no_more !)))) refl (tt, (tt, (record { fits = are.1.1.1.0.1 }, tt))) $
     exec ! 𝓣.C 𝓣.Λ Ev (tail fn.body) (at_ret Ev Post) $ sets ! (of_opd ! (get ! refl)) refl (tt, (tt, (record { fits = are.1.1.1.0.1 }, tt))) $
     flt_i ! (length ns * 8) (2 ^ 63) fits $ flt_i ! (length ns) (2 ^ 64) few $ fjoin ! $ feq_i ! (List Val) (slice_val (b, e) n ∷ []) (slice_val (b, e) (length ns) ∷ []) (ap (λ (m : ℕ). slice_val (b, e) m ∷ []) (sym long)) $ fjoin ! $ fjoin ! $

@@ -1,5 +1,5 @@
 -- All the words are lent as a slice, and the token follows it. Assumes `Logic`.
-use Rattle.plain_words.proofs.Names.{◌≡◌, ℕ, ◌+◌, ◌*◌, ◌^◌, ◌<◌, List, [], ◌∷◌, length, sym, refl, ap, ◌∙◌, subst, arith, w64, named, Val, vint, vptr, SProp, emp, ent, Lft, Fml, ftrue, fsep, flft, sem, ‵, raw, ◌⊛◌, some, later, at_ret, ◌$◌, ◌∵◌, !, qed, by, move, keep, drop, split, join, fsplit, fsplit3, fjoin, fpick, fpack, pick, await, suffices, use0, use1, rewrite, stop, fld, lit, of_opd, bin, no_more, and_then, first, blocks, exec, returns, enter, alloc_all, pass_all, free_all, look_at, get, get_in, sets, env, sub, whole, agg, tables, yes, no, RattleType, owns, types_at, plain, Ptr, block_ptr, block_of, count_of, at_block, nothing, opens, heard, Stays, stay_dropped, walk_of, Goes-dropped, fact, fact_i, id⊢, u64, usize, mut_vals, mut_Tells, uint_vals, uint_Tells, proved, leaves, tail, sep, full_share, done, fat, group, take_at, give_at, sets_last, RawPtr}
+use Rattle.plain_words.proofs.Names.{◌≡◌, ℕ, ◌+◌, ◌*◌, ◌^◌, ◌<◌, List, [], ◌∷◌, length, sym, refl, ap, ◌∙◌, subst, arith, w64, named, Val, vint, vptr, SProp, emp, ent, Lft, Fml, ftrue, fsep, flft, sem, ‵, raw, ◌⊛◌, some, later, at_ret, ◌$◌, ◌∵◌, !, qed, by, move, keep, drop, split, join, fsplit, fsplit3, fjoin, fpick, fpack, pick, await, suffices, use0, use1, use2, rewrite, stop, fld, lit, of_opd, bin, no_more, and_then, first, blocks, exec, returns, enter, alloc_all, pass_all, free_all, look_at, get, get_in, sets, env, sub, whole, agg, tables, yes, no, RattleType, owns, types_at, plain, Ptr, block_ptr, block_of, count_of, at_block, nothing, opens, heard, Stays, stay_dropped, walk_of, Goes-dropped, fact, fact_i, id⊢, u64, usize, mut_vals, mut_Tells, uint_vals, uint_Tells, proved, leaves, tail, sep, full_share, done, fat, group, take_at, give_at, sets_last, RawPtr}
 use Rattle.plain_words.proofs.Made.{Token, start_val, start_told, start_good}
 use Rattle.plain_words.specs.contracts.plain.PlainWords as plain_words
 use Rattle.plain_words.specs.contracts.plain.PlainWords.slice_mut.{ended, clauses}
@@ -27,23 +27,23 @@ use Rattle.plain_words.specs.Places.{Place, laid, laids, numbers}
 use Rattle.plain_words.specs.Owned.{Lies, row}
 use Rattle.plain_words.specs.Lends.{with_words}
 use Rattle.plain_words.specs.contracts.plain.Start as start
-use Rattle.plain_words.proofs.Rows.{to_cells, of_cells}
+use Rattle.plain_words.proofs.Rows.{mates, to_cells, of_cells}
 
 abbrev Pw : RattleType
 Pw = plain_words.the_row
 
 module _ {M : Type 1} {𝓤 : Ura M} (𝓛 : Logic 𝓤) (w : (Pw).Denot) (rb ro : ℕ) (vs : List Val) where
-  -- the token itself, where it lies
+  -- what goes with the words, and the token itself, where it lies
   abbrev Rest : Fml
-  Rest = fsep ((Token RawPtr).own_val (record {}, tt) vs) (cell_at full_share (Pw).mir vs rb ro)
+  Rest = fsep (mates 𝓛 (block_of w.at) (count_of w.at) w.first (length w.places)) (fsep ((Token RawPtr).own_val (record {}, tt) vs) (cell_at full_share (Pw).mir vs rb ro))
 
   back : Lies w.at (w.first + length w.places) → (e : ℕ) → e ≡ w.first * 8 + count_of w.at → (ws : List ℕ) → length ws ≡ length w.places
       → ent 𝓤 (sep 𝓤 (sem 𝓛 (cells (mem u64) ws (block_of w.at) e)) (sem 𝓛 Rest)) (sem 𝓛 ((mem Pw).own_at (with_words w ws) rb ro))
   unfolding part_of
   back lies e far ws same =
-      let b : ℕ = block_of w.at in let o : ℕ = w.first * 8 + count_of w.at in let n : ℕ = length w.places in let old : List ℕ = numbers w.places in let w' : (Pw).Denot = with_words w ws in
+      let b : ℕ = block_of w.at in let f : ℕ = count_of w.at in let k : ℕ = w.first in let n : ℕ = length w.places in let old : List ℕ = numbers w.places in let w' : (Pw).Denot = with_words w ws in
       let is : refill n old ws ≡ ws = take_front ws (drop_l (length ws) old) n same in let long : length w'.places ≡ n = ap (λ (l : List ℕ). length (laids l)) is ∙ length-map ws laid ∙ same in
-      qed 𝓛 (‵ (cells (mem u64) ws b e) ∷ ‵ Rest ∷ []) ∵ use1 𝓛 (‵ (row b e (laids ws))) (of_cells 𝓛 b ws e) $ rewrite ! 0 (λ (x : ℕ × List ℕ). ‵ (row b x.0 (laids x.1))) (λ i. (far i, sym is i)) refl $
+      qed 𝓛 (‵ (cells (mem u64) ws b e) ∷ ‵ Rest ∷ []) ∵ move ! (1 ∷ []) $ fsplit ! $ move ! (2 ∷ 0 ∷ []) $ use2 𝓛 (‵ (row b f k (laids ws))) (of_cells 𝓛 b f ws k e n (sym far) same) $ rewrite ! 0 (λ (l : List ℕ). ‵ (row b f k (laids l))) (sym is) refl $
       nothing ! $ fpack ! (Lies w.at (w.first + length w'.places)) (λ _. ftrue) (lies.0, subst (λ (m : ℕ). (w.first + m) * 8 < 2 ^ 63) (sym long) lies.1) $ fjoin ! $ move ! (1 ∷ []) $ fsplit ! $ move ! (0 ∷ 2 ∷ []) $ fjoin ! $ move ! (1 ∷ 0 ∷ []) $ fjoin ! $
       fpack ! (List Val) (λ us. fsep (cell_at full_share (Pw).mir us rb ro) ((Pw).own_val w' us)) vs $ done !
 
@@ -63,17 +63,17 @@ slice_mut_spec 𝓤 𝓛 𝓜 𝓡 wired =
     opens ! tt Pw {h = w} rb ro (λ vs. move ! (1 ∷ []) $ fsplit ! $ move ! (1 ∷ []) $ fsplit ! $ fpick ! (λ lies. drop ! $
     -- [the row; the token; its cell; the open borrow; obs; auth]
     let ns : List ℕ = asked.3.0 in let is : ps ≡ laids ns = asked.3.1 in let long : length ns ≡ length ps = sym (length-map ns laid) ∙ sym (ap length is) in let same : length ns ≡ n = long ∙ sym asked.2 in
-    let b : ℕ = block_of p in let o : ℕ = k * 8 + count_of p in let e : ℕ = i * 8 + count_of p in let there_ : u ≡ block_ptr b (count_of p) = asked.0 ∙ at_block p lies.0 in
-    let room : (k + length ps) * 8 < 2 ^ 63 = lies.1 in let at_first : i ≡ k = asked.1 in let small : i * 8 < 2 ^ 64 = omega arith in let far : e ≡ o = ap (λ (m : ℕ). m * 8 + count_of p) at_first in
+    let b : ℕ = block_of p in let f : ℕ = count_of p in let e : ℕ = i * 8 + f in let there_ : u ≡ block_ptr b (count_of p) = asked.0 ∙ at_block p lies.0 in
+    let room : (k + length ps) * 8 < 2 ^ 63 = lies.1 in let at_first : i ≡ k = asked.1 in let small : i * 8 < 2 ^ 64 = omega arith in let far : e ≡ k * 8 + f = ap (λ (m : ℕ). m * 8 + f) at_first in
     let few : length ns < 2 ^ 64 = omega arith in let fits : length ns * 8 < 2 ^ 63 = omega arith in
     take_at ! 2 $ rewrite ! 0 (λ (x : Ptr). ‵ (fat full_share (layout St) (l 2) 0 (start_val x))) there_ refl $ give_at ! 2 $ first ! $ blocks ! $
     sets ! (bin ! (get ! refl) (lit ! tt) (record { fits = small })) refl (tt, record { fits = small }) $
     sets ! (bin ! (get_in ! (fld ! refl (stop !)) (sub ! 0 refl (whole !))) (get ! refl) tt) refl (tt, tt) $
-    rewrite ! 0 (λ (x : ℕ × List Place). ‵ (row b x.0 x.1)) (λ m. (sym far m, is m)) refl $ use1 𝓛 (‵ (cells (mem u64) ns b e)) (to_cells 𝓛 b ns e) $
+    rewrite ! 0 (λ (l : List Place). ‵ (row b f k l)) is refl $ use1 𝓛 (‵ (cells (mem u64) ns b e) ⊛ ‵ (mates 𝓛 b f k (length ns))) (to_cells 𝓛 b f ns k e (sym far)) $ split ! $ rewrite ! 1 (λ (m : ℕ). ‵ (mates 𝓛 b f k m)) long refl $
     sets_last ! (agg ! (and_then ! (get ! refl) (and_then ! (get ! refl) (no_more !)))) refl (tt, (tt, (record { fits = are.1.1.1.0.1 }, tt))) $
     exec ! 𝓣.C 𝓣.Λ Ev (tail fn.body) (at_ret Ev Post) $ sets ! (of_opd ! (get ! refl)) refl (tt, (tt, (record { fits = are.1.1.1.0.1 }, tt))) $
     let way = λ (ws : List ℕ) (m : length ws ≡ length ns). back 𝓛 w rb ro vs lies e far ws (m ∙ long) in let Left : SProp 𝓤 = sem 𝓛 (Rest 𝓛 w rb ro vs) in let code_ = (Pw).coded.code w in
-    move ! (1 ∷ 2 ∷ []) $ fjoin ! $ move ! (2 ∷ 3 ∷ 4 ∷ 1 ∷ 0 ∷ []) $ group ! 5 $
+    move ! (2 ∷ 3 ∷ []) $ fjoin ! $ move ! (2 ∷ 0 ∷ []) $ fjoin ! $ move ! (2 ∷ 3 ∷ 4 ∷ 1 ∷ 0 ∷ []) $ group ! 5 $
     use1 𝓛 (later (some (λ (δ : GName). raw (Elements 𝓛 Pw u64 (with_words w) (named 0) κ q rb ro b e γ ns (few, fits) Left way δ))))
     (lends_Elements 𝓛 Pw u64 (with_words w) (named 0) κ q rb ro b e γ ns (few, fits) Left way code_ code_) $ await ! tt $ pick ! (λ δ.
     let r : MutBor (List ℕ) = record { ref_ptr = (b, e); ghost_name = δ; now = ns } in let Told : Type 0 = ps ≡ laids ns in let v : Val = slice_val (b, e) n in

@@ -6,9 +6,9 @@ use Rattle.errand_steps.specs.Calls.{begun_by}
 use Rattle.lane_engine.specs.Begins.{call_of}
 use Rattle.lane_engine.specs.Callers.{OwnsFor}
 use Rattle.lane_engine.specs.Engines.{machine_at}
-use Rattle.lane_engine.specs.Machines.{MovesCore, grip_need, grip_place}
+use Rattle.lane_engine.specs.Machines.{MovesCore, ServesCaller, grip_need, grip_place}
 use Rattle.trace_lane.specs.Advances.{HasAnswered, HasGoneOn, IsAgain}
-use Rattle.trace_lane.proofs.MachineLemmas.{begins-events, begins-on}
+use Rattle.trace_lane.proofs.AdvanceLemmas.{begins-events, begins-on}
 use Rattle.trace_lane.proofs.StandLemmas.{told-ends, told-goes, told-may, told-next, told-stays}
 use Rattle.trace_lane.proofs.lane.LaneState+Grip.go_on.Goals as goal
 
@@ -26,36 +26,26 @@ pub answer-requires-clause-ready : goal.answer-requires-clause-ready
 answer-requires-clause-ready c =
     told-may (machine_at c.args.core.now c.args.self.now.caller) c.requires.ready.4 c.in-Done.ended c.in-Done.is c.requires.operation
 
-pub begin-requires-clause-idle : goal.begin-requires-clause-idle
-begin-requires-clause-idle c =
-    let answers = subst (λ n. HasAnswered grip_place grip_need c.args.operation c.in-Done.ended c.args.self.now n c.answer.new.self) c.in-Some.is
-    c.answer.ensures.answered in
-    subst (λ k. IsIdle (errand_at c.args.core.now.errands k)) (sym answers.keeps.caller)
-    (told-next (machine_at c.args.core.now c.args.self.now.caller) c.requires.ready.4 c.in-Done.ended c.in-Done.is c.in-Some.call c.answer.new.self
-    c.requires.operation answers).0
-
-pub begin-requires-clause-owned : goal.begin-requires-clause-owned
-begin-requires-clause-owned c =
-    let answers = subst (λ n. HasAnswered grip_place grip_need c.args.operation c.in-Done.ended c.args.self.now n c.answer.new.self) c.in-Some.is
-    c.answer.ensures.answered in
-    subst (λ k. OwnsFor c.args.core.now.events k (call_of c.in-Some.call)) (sym answers.keeps.caller)
-    (told-next (machine_at c.args.core.now c.args.self.now.caller) c.requires.ready.4 c.in-Done.ended c.in-Done.is c.in-Some.call c.answer.new.self
-    c.requires.operation answers).1
-
-pub begin-requires-clause-fits : goal.begin-requires-clause-fits
-begin-requires-clause-fits c =
-    let answers = subst (λ n. HasAnswered grip_place grip_need c.args.operation c.in-Done.ended c.args.self.now n c.answer.new.self) c.in-Some.is
-    c.answer.ensures.answered in
-    (told-next (machine_at c.args.core.now c.args.self.now.caller) c.requires.ready.4 c.in-Done.ended c.in-Done.is c.in-Some.call c.answer.new.self
-    c.requires.operation answers).2
+pub begin-requires : goal.begin-requires
+begin-requires c =
+    let core = c.args.core.now in
+    let lane = c.args.self.now in
+    let answers = subst (λ n. HasAnswered grip_place grip_need c.args.operation c.in-Done.ended lane n c.answer.new.self) c.in-Some.is c.answer.ensures.answered in
+    let may = told-next (machine_at core lane.caller) c.requires.ready.4 c.in-Done.ended c.in-Done.is c.in-Some.call c.answer.new.self c.requires.operation answers in
+    let same = sym answers.keeps.caller in
+    record {
+      serves = subst (ServesCaller core) same c.requires.serves;
+      idle = subst (λ k. IsIdle (errand_at core.errands k)) same may.0;
+      owned = subst (λ k. OwnsFor core.events k (call_of c.in-Some.call)) same may.1;
+      fits = may.2;
+    }
 
 pub returns-in-Some : goal.returns-in-Some
 returns-in-Some c =
     let core = c.args.core.now in
     let lane = c.args.self.now in
     let call = call_of c.in-Some.call in
-    let answers = subst (λ n. HasAnswered grip_place grip_need c.args.operation c.in-Done.ended lane n c.answer.new.self) c.in-Some.is
-    c.answer.ensures.answered in
+    let answers = subst (λ n. HasAnswered grip_place grip_need c.args.operation c.in-Done.ended lane n c.answer.new.self) c.in-Some.is c.answer.ensures.answered in
     let called = subst (λ k. MovesCore core (begins k call) c.begin.new.core) answers.keeps.caller c.begin.ensures.called in
     let same = begins-events lane.caller call core c.begin.new.core called in
     record {
@@ -77,8 +67,7 @@ pub returns-in_default-answer : goal.returns-in_default-answer
 returns-in_default-answer c =
     let core = c.args.core.now in
     let lane = c.args.self.now in
-    let answers = subst (λ n. HasAnswered grip_place grip_need c.args.operation c.in-Done.ended lane n c.answer.new.self) c.in_default-answer.is
-    c.answer.ensures.answered in
+    let answers = subst (λ n. HasAnswered grip_place grip_need c.args.operation c.in-Done.ended lane n c.answer.new.self) c.in_default-answer.is c.answer.ensures.answered in
     record {
       answered = record {
         begun = None;

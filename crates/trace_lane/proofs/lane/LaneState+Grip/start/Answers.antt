@@ -7,7 +7,7 @@ use Rattle.lane_engine.specs.Callers.{OwnsFor}
 use Rattle.lane_engine.specs.Engines.{machine_at}
 use Rattle.lane_engine.specs.Machines.{MovesCore, grip_need, grip_place}
 use Rattle.trace_lane.specs.Advances.{HasBegun}
-use Rattle.trace_lane.proofs.MachineLemmas.{begins-on, large-need}
+use Rattle.trace_lane.proofs.AdvanceLemmas.{begins-on, large-need}
 use Rattle.trace_lane.proofs.StandLemmas.{begins-call, begins-may, begins-none, begins-spent, spent-may}
 use Rattle.trace_lane.proofs.lane.LaneState+Grip.start.Goals as goal
 

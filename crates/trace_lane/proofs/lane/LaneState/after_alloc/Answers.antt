@@ -3,17 +3,16 @@ use Rattle.std.proofs.lemmas.List.{length-set}
 use Rattle.errand_steps.specs.declared.told.Ending.TheVariants as ending
 use Rattle.errand_steps.specs.declared.reply.Reply.TheVariants as reply
 use Rattle.trace_text.specs.declared.trace.Op.TheVariants as op
-use Rattle.lane_outcomes.specs.declared.registers.Held.{Held}
+use Rattle.lane_outcomes.specs.declared.registers.HeldBlock.{HeldBlock}
 use Rattle.lane_outcomes.specs.declared.outcome.Outcome.TheVariants as outcome
 use Rattle.lane_outcomes.specs.Lane.{held_in}
 use Rattle.trace_lane.specs.declared.stage.OperationStage.TheVariants as stage
-use Rattle.trace_lane.specs.Advances.{HasAnswered, word_behind}
+use Rattle.trace_lane.specs.Advances.{word_behind}
 use Rattle.trace_lane.specs.Doing.{DoingOf, call_at, fills, held_there}
 use Rattle.trace_lane.specs.Scripts.{stage_begun}
 use Rattle.trace_lane.specs.Paths.{held_blocks}
 use Rattle.trace_lane.proofs.DoingLemmas as doing
-use Rattle.trace_lane.proofs.LaneParts.{blocks-size}
-use Rattle.trace_lane.proofs.PartLemmas.{answer-ends, answer-goes, read-held, set-block, staged}
+use Rattle.trace_lane.proofs.PartLemmas.{answer-ends, answer-goes, blocks-size, read-held, set-block, staged}
 use Rattle.trace_lane.proofs.lane.LaneState.after_alloc.Goals as goal
 
 pub returns-in-Given : goal.returns-in-Given
@@ -22,7 +21,6 @@ returns-in-Given g c =
     let need_of = g.B.Token.need_of in
     let old = c.args.self.now in
     let regs = held_blocks place_of need_of old.registers.items in
-    let within : c.args.r < length regs = subst (λ n. c.args.r < n) (sym (blocks-size place_of need_of old.registers.items)) c.requires.register in
     let block = c.in-Given.block in
     let v = c.args.v in
     let mid = c.put_in.new.registers.items in
@@ -30,11 +28,9 @@ returns-in-Given g c =
     let e = c.write_word.ensures.lane in
     let ready = c.requires.ready.1 in
     let was = (doing.alloc-given place_of need_of ready.before regs c.args.r c.requires.ready.0 v block old.stage ready.made ready.doing
-    (subst (λ x. doing.Answers place_of need_of ready.before regs (call_at ready.before regs (op.Alloc c.args.r c.requires.ready.0 c.args.v) old.stage) x) c.in-Given.is ready.answers)).1 in
+    (rw c.in-Given.is at ready.answers)).1 in
     record {
-      answered = λ need.
-          subst (λ x. HasAnswered place_of need_of (op.Alloc c.args.r need v) x old c.write_word.result c.write_word.new.self) (sym c.in-Given.is)
-          (answer-goes place_of need_of old c.write_word.new.self c.write_word.result (op.Alloc c.args.r need v) (ending.Given block) mid
+      answered = λ need. rw c.in-Given.is (answer-goes place_of need_of old c.write_word.new.self c.write_word.result (op.Alloc c.args.r need v) (ending.Given block) mid
           (stage.Filling 0) (fills (held_there (held_in (held_blocks place_of need_of mid) c.args.r)) v 0)
           (record {
             some = c.write_word.ensures.call;
@@ -65,16 +61,13 @@ returns-in-Some g c =
     let within : c.args.r < length regs = subst (λ n. c.args.r < n) (sym (blocks-size place_of need_of old.registers.items)) c.requires.register in
     let held_is = read-held place_of need_of old.registers.items c.args.r c.held_at-held.result c.held_at-held.ensures in
     let found : Some c.in-Some.next ≡ word_behind old.stage (held_there (held_in regs c.args.r)).words =
-    sym c.in-Some.is ∙ c.next_word.ensures ∙ ap (λ (h : Held). word_behind old.stage h.words) held_is in
+    sym c.in-Some.is ∙ c.next_word.ensures ∙ ap (λ (h : HeldBlock). word_behind old.stage h.words) held_is in
     let ready = c.requires.ready.1 in
     let v = c.args.v in
     let at = stage.Filling c.in-Some.next in
-    let wrote = subst (λ x. doing.Answers place_of need_of ready.before regs (call_at ready.before regs (op.Alloc c.args.r c.requires.ready.0 c.args.v) old.stage) x) c.in-Wrote.is ready.answers in
+    let wrote = rw c.in-Wrote.is at ready.answers in
     record {
-      answered = λ need.
-          subst (λ e. HasAnswered place_of need_of (op.Alloc c.args.r need v) e old c.write_word-in-Some.result c.write_word-in-Some.new.self)
-          (sym c.in-Wrote.is)
-          (answer-goes place_of need_of old c.write_word-in-Some.new.self c.write_word-in-Some.result (op.Alloc c.args.r need v) ending.Wrote
+      answered = λ need. rw c.in-Wrote.is (answer-goes place_of need_of old c.write_word-in-Some.new.self c.write_word-in-Some.result (op.Alloc c.args.r need v) ending.Wrote
           old.registers.items at (fills (held_there (held_in regs c.args.r)) v c.in-Some.next)
           (staged place_of need_of old c.write_word-in-Some.new.self c.write_word-in-Some.result old at _ c.write_word-in-Some.ensures.call
           c.write_word-in-Some.ensures.lane refl refl) refl (λ spent. cc)
@@ -98,19 +91,10 @@ returns-in-None g c =
     let words = c.held_at-held.result.words in
     let place = c.held_at-held.result.place in
     record {
-      answered = λ need.
-          subst (λ e. HasAnswered place_of need_of (op.Alloc c.args.r need v) e old c.end-in-None.result c.end-in-None.new.self) (sym c.in-Wrote.is)
-          (answer-ends place_of need_of old c.end-in-None.new.self c.end-in-None.result (op.Alloc c.args.r need v) ending.Wrote old.registers.items
+      answered = λ need. rw c.in-Wrote.is (answer-ends place_of need_of old c.end-in-None.new.self c.end-in-None.result (op.Alloc c.args.r need v) ending.Wrote old.registers.items
           (outcome.Given words place)
-          (record {
-            none = c.end-in-None.ensures.none;
-            caller = c.end-in-None.ensures.caller;
-            blocks_are = ap (λ rs. rs.items) c.end-in-None.ensures.registers;
-            outcomes = c.end-in-None.ensures.outcomes;
-            room = c.end-in-None.ensures.room;
-            between = c.end-in-None.ensures.stage;
-          }) refl
+          (let e = c.end-in-None.ensures in record { none = e.none; caller = e.caller; blocks_are = ap (λ rs. rs.items) e.registers; outcomes = e.outcomes; room = e.room; between = e.stage }) refl
           (λ before made so a.
           doing.alloc-ends place_of need_of before regs c.args.r need v words place old.stage made within so a found
-          (ap (λ (h : Held). h.words) held_is) (ap (λ (h : Held). h.place) held_is)));
+          (ap (λ (h : HeldBlock). h.words) held_is) (ap (λ (h : HeldBlock). h.place) held_is)));
     }

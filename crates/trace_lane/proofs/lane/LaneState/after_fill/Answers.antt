@@ -1,15 +1,14 @@
-use Rattle.std.proofs.Common.{◌≡◌, ◌<◌, Some, None, length, refl, sym, ap, ◌∙◌, subst, inl}
+use Rattle.std.proofs.Common.{◌≡◌, Some, None, refl, sym, ap, ◌∙◌, inl}
 use Rattle.errand_steps.specs.declared.told.Ending.TheVariants as ending
 use Rattle.trace_text.specs.declared.trace.Op.TheVariants as op
-use Rattle.lane_outcomes.specs.declared.registers.Held.{Held}
+use Rattle.lane_outcomes.specs.declared.registers.HeldBlock.{HeldBlock}
 use Rattle.lane_outcomes.specs.declared.outcome.Outcome.TheVariants as outcome
 use Rattle.lane_outcomes.specs.Lane.{held_in}
 use Rattle.trace_lane.specs.declared.stage.OperationStage.TheVariants as stage
-use Rattle.trace_lane.specs.Advances.{HasAnswered, word_behind}
+use Rattle.trace_lane.specs.Advances.{word_behind}
 use Rattle.trace_lane.specs.Doing.{fills, held_there}
 use Rattle.trace_lane.specs.Paths.{held_blocks}
 use Rattle.trace_lane.proofs.DoingLemmas as doing
-use Rattle.trace_lane.proofs.LaneParts.{blocks-size}
 use Rattle.trace_lane.proofs.PartLemmas.{answer-ends, answer-goes, read-held, staged}
 use Rattle.trace_lane.proofs.lane.LaneState.after_fill.Goals as goal
 
@@ -19,15 +18,12 @@ returns-in-Some g c =
     let need_of = g.B.Token.need_of in
     let old = c.args.self.now in
     let regs = held_blocks place_of need_of old.registers.items in
-    let within : c.args.r < length regs = subst (λ n. c.args.r < n) (sym (blocks-size place_of need_of old.registers.items)) c.requires.register in
     let held_is = read-held place_of need_of old.registers.items c.args.r c.held_at-held.result c.held_at-held.ensures in
     let found : Some c.in-Some.next ≡ word_behind old.stage (held_there (held_in regs c.args.r)).words =
-    sym c.in-Some.is ∙ c.next_word.ensures ∙ ap (λ (h : Held). word_behind old.stage h.words) held_is in
+    sym c.in-Some.is ∙ c.next_word.ensures ∙ ap (λ (h : HeldBlock). word_behind old.stage h.words) held_is in
     let ready = c.requires.ready in
     record {
-      answered =
-          subst (λ e. HasAnswered place_of need_of (op.Fill c.args.r c.args.v) e old c.write_word.result c.write_word.new.self) (sym c.in-Wrote.is)
-          (answer-goes place_of need_of old c.write_word.new.self c.write_word.result (op.Fill c.args.r c.args.v) ending.Wrote old.registers.items
+      answered = rw c.in-Wrote.is (answer-goes place_of need_of old c.write_word.new.self c.write_word.result (op.Fill c.args.r c.args.v) ending.Wrote old.registers.items
           (stage.Filling c.in-Some.next) (fills (held_there (held_in regs c.args.r)) c.args.v c.in-Some.next)
           (staged place_of need_of old c.write_word.new.self c.write_word.result old (stage.Filling c.in-Some.next) _ c.write_word.ensures.call
           c.write_word.ensures.lane refl refl) refl (λ spent. cc)
@@ -41,21 +37,11 @@ returns-in-None g c =
     let need_of = g.B.Token.need_of in
     let old = c.args.self.now in
     let regs = held_blocks place_of need_of old.registers.items in
-    let within : c.args.r < length regs = subst (λ n. c.args.r < n) (sym (blocks-size place_of need_of old.registers.items)) c.requires.register in
     let held_is = read-held place_of need_of old.registers.items c.args.r c.held_at-held.result c.held_at-held.ensures in
     let found : None ≡ word_behind old.stage (held_there (held_in regs c.args.r)).words =
-    sym c.in-None.is ∙ c.next_word.ensures ∙ ap (λ (h : Held). word_behind old.stage h.words) held_is in
+    sym c.in-None.is ∙ c.next_word.ensures ∙ ap (λ (h : HeldBlock). word_behind old.stage h.words) held_is in
     record {
-      answered =
-          subst (λ e. HasAnswered place_of need_of (op.Fill c.args.r c.args.v) e old c.end.result c.end.new.self) (sym c.in-Wrote.is)
-          (answer-ends place_of need_of old c.end.new.self c.end.result (op.Fill c.args.r c.args.v) ending.Wrote old.registers.items outcome.Filled
-          (record {
-            none = c.end.ensures.none;
-            caller = c.end.ensures.caller;
-            blocks_are = ap (λ rs. rs.items) c.end.ensures.registers;
-            outcomes = c.end.ensures.outcomes;
-            room = c.end.ensures.room;
-            between = c.end.ensures.stage;
-          }) refl
+      answered = rw c.in-Wrote.is (answer-ends place_of need_of old c.end.new.self c.end.result (op.Fill c.args.r c.args.v) ending.Wrote old.registers.items outcome.Filled
+          (let e = c.end.ensures in record { none = e.none; caller = e.caller; blocks_are = ap (λ rs. rs.items) e.registers; outcomes = e.outcomes; room = e.room; between = e.stage }) refl
           (λ before made so a. doing.fill-ends place_of need_of before regs c.args.r c.args.v old.stage made so a found));
     }

@@ -1,12 +1,10 @@
-use Rattle.std.proofs.Common.{◌<◌, Some, length, sym, ap, ◌∙◌, subst}
+use Rattle.std.proofs.Common.{Some, length, ap, ◌∙◌}
 use Rattle.std.proofs.lemmas.List.{length-set}
 use Rattle.errand_steps.specs.declared.told.Ending.TheVariants as ending
 use Rattle.trace_text.specs.declared.trace.Op.TheVariants as op
 use Rattle.lane_outcomes.specs.declared.outcome.Outcome.TheVariants as outcome
-use Rattle.trace_lane.specs.Advances.{HasAnswered}
 use Rattle.trace_lane.specs.Paths.{held_blocks}
 use Rattle.trace_lane.proofs.DoingLemmas as doing
-use Rattle.trace_lane.proofs.LaneParts.{blocks-size}
 use Rattle.trace_lane.proofs.PartLemmas.{answer-ends, set-block}
 use Rattle.trace_lane.proofs.lane.LaneState.after_put.Goals as goal
 
@@ -16,23 +14,13 @@ returns-in-Full g c =
     let need_of = g.B.Token.need_of in
     let old = c.args.self.now in
     let regs = held_blocks place_of need_of old.registers.items in
-    let within : c.args.r < length regs = subst (λ n. c.args.r < n) (sym (blocks-size place_of need_of old.registers.items)) c.requires.register in
     let block = c.in-Full.block in
     let mid = c.put_in.new.registers.items in
     let set = set-block place_of need_of old.registers.items mid c.args.r block c.put_in.ensures in
     record {
-      answered = λ shelf.
-          subst (λ e. HasAnswered place_of need_of (op.Put c.args.r shelf) e old c.end-in-Full.result c.end-in-Full.new.self) (sym c.in-Full.is)
-          (answer-ends place_of need_of old c.end-in-Full.new.self c.end-in-Full.result (op.Put c.args.r shelf) (ending.Full block c.in-Full.found) mid
+      answered = λ shelf. rw c.in-Full.is (answer-ends place_of need_of old c.end-in-Full.new.self c.end-in-Full.result (op.Put c.args.r shelf) (ending.Full block c.in-Full.found) mid
           outcome.ShelfFull
-          (record {
-            none = c.end-in-Full.ensures.none;
-            caller = c.end-in-Full.ensures.caller;
-            blocks_are = ap (λ rs. rs.items) c.end-in-Full.ensures.registers;
-            outcomes = c.end-in-Full.ensures.outcomes;
-            room = c.end-in-Full.ensures.room;
-            between = c.end-in-Full.ensures.stage;
-          }) (ap length c.put_in.ensures ∙ length-set old.registers.items c.args.r (Some block))
+          (let e = c.end-in-Full.ensures in record { none = e.none; caller = e.caller; blocks_are = ap (λ rs. rs.items) e.registers; outcomes = e.outcomes; room = e.room; between = e.stage }) (ap length c.put_in.ensures ∙ length-set old.registers.items c.args.r (Some block))
           (λ before made so a.
           let full = doing.put-full place_of need_of before regs c.args.r shelf c.in-Full.found block old.stage made so a in
           (full.0, set ∙ full.1)));

@@ -1,37 +1,26 @@
 use Rattle.std.proofs.Common.{◌<◌, length, refl, sym, ap, subst}
 use Rattle.errand_steps.specs.declared.told.Ending.TheVariants as ending
 use Rattle.trace_text.specs.declared.trace.Op.TheVariants as op
-use Rattle.lane_outcomes.specs.declared.registers.Held.{Held}
+use Rattle.lane_outcomes.specs.declared.registers.HeldBlock.{HeldBlock}
 use Rattle.lane_outcomes.specs.declared.outcome.Outcome.TheVariants as outcome
-use Rattle.trace_lane.specs.Advances.{HasAnswered}
 use Rattle.trace_lane.specs.Paths.{held_blocks}
 use Rattle.trace_lane.proofs.DoingLemmas as doing
-use Rattle.trace_lane.proofs.LaneParts.{blocks-size}
-use Rattle.trace_lane.proofs.PartLemmas.{answer-ends, read-held}
+use Rattle.trace_lane.proofs.PartLemmas.{answer-ends, blocks-size, read-held}
 use Rattle.trace_lane.proofs.lane.LaneState.after_resize.Goals as goal
 
 pub returns-in-Given : goal.returns-in-Given
 returns-in-Given g c = record {
-  answered = λ need.
-      subst
-      (λ e. HasAnswered g.B.Token.place_of g.B.Token.need_of (op.Resize c.args.r need) e c.args.self.now c.copy_into.result c.copy_into.new.self)
-      (sym c.in-Given.is) (c.copy_into.ensures.answered need);
+  answered = λ need. rw c.in-Given.is (c.copy_into.ensures.answered need);
 }
 
 pub returns-in-Word : goal.returns-in-Word
 returns-in-Word g c = record {
-  answered = λ need.
-      subst
-      (λ e. HasAnswered g.B.Token.place_of g.B.Token.need_of (op.Resize c.args.r need) e c.args.self.now c.copy_word.result c.copy_word.new.self)
-      (sym c.in-Word.is) (c.copy_word.ensures.answered need);
+  answered = λ need. rw c.in-Word.is (c.copy_word.ensures.answered need);
 }
 
 pub returns-in-Wrote : goal.returns-in-Wrote
 returns-in-Wrote g c = record {
-  answered = λ need.
-      subst
-      (λ e. HasAnswered g.B.Token.place_of g.B.Token.need_of (op.Resize c.args.r need) e c.args.self.now c.copy_next.result c.copy_next.new.self)
-      (sym c.in-Wrote.is) (c.copy_next.ensures.answered need);
+  answered = λ need. rw c.in-Wrote.is (c.copy_next.ensures.answered need);
 }
 
 pub returns-in-Freed : goal.returns-in-Freed
@@ -45,19 +34,10 @@ returns-in-Freed g c =
     let words = c.held_at-held.result.words in
     let place = c.held_at-held.result.place in
     record {
-      answered = λ need.
-          subst (λ e. HasAnswered place_of need_of (op.Resize c.args.r need) e old c.end-in-Freed.result c.end-in-Freed.new.self) (sym c.in-Freed.is)
-          (answer-ends place_of need_of old c.end-in-Freed.new.self c.end-in-Freed.result (op.Resize c.args.r need) ending.Freed old.registers.items
+      answered = λ need. rw c.in-Freed.is (answer-ends place_of need_of old c.end-in-Freed.new.self c.end-in-Freed.result (op.Resize c.args.r need) ending.Freed old.registers.items
           (outcome.Resized words place)
-          (record {
-            none = c.end-in-Freed.ensures.none;
-            caller = c.end-in-Freed.ensures.caller;
-            blocks_are = ap (λ rs. rs.items) c.end-in-Freed.ensures.registers;
-            outcomes = c.end-in-Freed.ensures.outcomes;
-            room = c.end-in-Freed.ensures.room;
-            between = c.end-in-Freed.ensures.stage;
-          }) refl
+          (let e = c.end-in-Freed.ensures in record { none = e.none; caller = e.caller; blocks_are = ap (λ rs. rs.items) e.registers; outcomes = e.outcomes; room = e.room; between = e.stage }) refl
           (λ before made so a.
           doing.resize-ends place_of need_of before regs c.args.r need words place old.stage made within so a
-          (ap (λ (h : Held). h.words) held_is) (ap (λ (h : Held). h.place) held_is)));
+          (ap (λ (h : HeldBlock). h.words) held_is) (ap (λ (h : HeldBlock). h.place) held_is)));
     }

@@ -1,4 +1,4 @@
-use Rattle.std.proofs.Common.{ℕ, ◌<◌, ◌+◌, ◌∷◌, ◌++◌, [], Some, length, refl, sym, ap, ◌∙◌, subst, inr}
+use Rattle.std.proofs.Common.{ℕ, ◌+◌, ◌∷◌, ◌++◌, [], Some, length, refl, ap, ◌∙◌, inr}
 use Rattle.std.proofs.lemmas.List.{length-set}
 use Rattle.heap_geometry.specs.declared.need.Need.{Need}
 use Rattle.heap_geometry.specs.Need.{usable_words}
@@ -7,10 +7,8 @@ use Rattle.lane_engine.specs.declared.begins.NextCall.TheVariants as next
 use Rattle.errand_steps.specs.Calls.{take}
 use Rattle.trace_text.specs.declared.trace.Op.TheVariants as op
 use Rattle.lane_outcomes.specs.declared.outcome.Outcome.TheVariants as outcome
-use Rattle.trace_lane.specs.Advances.{HasAnswered}
 use Rattle.trace_lane.specs.Paths.{held_blocks}
 use Rattle.trace_lane.proofs.DoingLemmas as doing
-use Rattle.trace_lane.proofs.LaneParts.{blocks-size}
 use Rattle.trace_lane.proofs.PartLemmas.{answer-ends, answer-goes, set-block}
 use Rattle.trace_lane.proofs.lane.LaneState.after_take.Goals as goal
 
@@ -20,17 +18,13 @@ returns-in-Got g c =
     let need_of = g.B.Token.need_of in
     let old = c.args.self.now in
     let regs = held_blocks place_of need_of old.registers.items in
-    let within : c.args.r < length regs = subst (λ n. c.args.r < n) (sym (blocks-size place_of need_of old.registers.items)) c.requires.register in
     let block = c.in-Got.block in
     let mid = c.put_in.new.registers.items in
     let set = set-block place_of need_of old.registers.items mid c.args.r block c.put_in.ensures in
-    let words = c.words-words.result in
     let place = c.place-place.result in
     let need = c.need-need.result in
     record {
-      answered =
-          subst (λ e. HasAnswered place_of need_of (op.Take c.args.r c.args.shelf) e old c.end.result c.end.new.self) (sym c.in-Got.is)
-          (answer-ends place_of need_of old c.end.new.self c.end.result (op.Take c.args.r c.args.shelf) (ending.Got block) mid
+      answered = rw c.in-Got.is (answer-ends place_of need_of old c.end.new.self c.end.result (op.Take c.args.r c.args.shelf) (ending.Got block) mid
           (outcome.Took (usable_words (need_of block)) (place_of block) (need_of block))
           (record {
             none = c.end.ensures.none;
@@ -55,15 +49,12 @@ returns-in-Missed g c =
     let need_of = g.B.Token.need_of in
     let old = c.args.self.now in
     let regs = held_blocks place_of need_of old.registers.items in
-    let within : c.args.r < length regs = subst (λ n. c.args.r < n) (sym (blocks-size place_of need_of old.registers.items)) c.requires.register in
     let ready = c.requires.ready in
     let expected = c.in-Missed.expected in
     let found = c.in-Missed.found in
     let was = (doing.take-missed place_of need_of ready.before regs c.args.r c.args.shelf expected found old.stage ready.made ready.doing).1 in
     record {
-      answered =
-          subst (λ e. HasAnswered place_of need_of (op.Take c.args.r c.args.shelf) e old (Some (next.Take c.args.shelf)) old) (sym c.in-Missed.is)
-          (answer-goes place_of need_of old old (Some (next.Take c.args.shelf)) (op.Take c.args.r c.args.shelf) (ending.Missed expected found) old.registers.items old.stage
+      answered = rw c.in-Missed.is (answer-goes place_of need_of old old (Some (next.Take c.args.shelf)) (op.Take c.args.r c.args.shelf) (ending.Missed expected found) old.registers.items old.stage
           (take c.args.shelf)
           (record { some = (next.Take c.args.shelf, refl, refl); caller = refl; blocks_are = refl; outcomes = refl; room = refl; at_is = refl }) refl (λ spent. cc)
           (inr (c.args.shelf, refl, was, was))

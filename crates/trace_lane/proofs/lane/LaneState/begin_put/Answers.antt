@@ -9,8 +9,7 @@ use Rattle.trace_lane.specs.Paths.{held_blocks}
 use Rattle.trace_lane.specs.Made.{OnBlock}
 use Rattle.sound_laws.specs.events.Made.{Made}
 use Rattle.errand_steps.specs.Calls as calls
-use Rattle.trace_lane.proofs.LaneParts.{set-held, slot-full}
-use Rattle.trace_lane.proofs.PartLemmas.{begin-goes}
+use Rattle.trace_lane.proofs.PartLemmas.{begin-goes, set-held, slot-full}
 use Rattle.trace_lane.proofs.lane.LaneState.begin_put.Goals as goal
 
 abbrev none : List Made

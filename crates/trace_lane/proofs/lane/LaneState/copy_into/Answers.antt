@@ -4,14 +4,13 @@ use Rattle.std.proofs.lemmas.List.{length-set, set-set}
 use Rattle.errand_steps.specs.declared.told.Ending.TheVariants as ending
 use Rattle.errand_steps.specs.declared.reply.Reply.TheVariants as reply
 use Rattle.trace_text.specs.declared.trace.Op.TheVariants as op
-use Rattle.lane_outcomes.specs.declared.registers.Held.{Held}
+use Rattle.lane_outcomes.specs.declared.registers.HeldBlock.{HeldBlock}
 use Rattle.lane_outcomes.specs.Lane.{held_in}
 use Rattle.trace_lane.specs.declared.stage.OperationStage.TheVariants as stage
 use Rattle.trace_lane.specs.Doing.{DoingOf, call_at, held_there, reads}
 use Rattle.trace_lane.specs.Scripts.{stage_begun}
 use Rattle.trace_lane.specs.Paths.{held_blocks}
 use Rattle.trace_lane.proofs.DoingLemmas as doing
-use Rattle.trace_lane.proofs.LaneParts.{blocks-size}
 use Rattle.trace_lane.proofs.PartLemmas.{answer-goes, read-held, set-block}
 use Rattle.trace_lane.proofs.lane.LaneState.copy_into.Goals as goal
 
@@ -21,7 +20,6 @@ returns g c =
     let need_of = g.B.Token.need_of in
     let old = c.args.self.now in
     let regs = held_blocks place_of need_of old.registers.items in
-    let within : c.args.r < length regs = subst (λ n. c.args.r < n) (sym (blocks-size place_of need_of old.registers.items)) c.requires.register in
     let block = c.args.block in
     let mid = c.put_in.new.registers.items in
     let blocks_are : mid ≡ slice_set old.registers.items c.args.r (Some block) =
@@ -49,7 +47,7 @@ returns g c =
           (λ before made so a.
           let given = doing.resize-given place_of need_of before regs c.args.r need block old.stage made so a in
           let calls = doing.with_answer made (call_at before regs (op.Resize c.args.r need) old.stage) (reply.Given (place_of block) (need_of block)) in (
-            subst (λ (h : Held). DoingOf before (held_blocks place_of need_of mid) (op.Resize c.args.r need) (stage.Copying h 0 None) calls) (sym from_is)
+            subst (λ (h : HeldBlock). DoingOf before (held_blocks place_of need_of mid) (op.Resize c.args.r need) (stage.Copying h 0 None) calls) (sym from_is)
                 (subst (λ rs. DoingOf before rs (op.Resize c.args.r need) (stage.Copying (held_there (held_in regs c.args.r)) 0 None) calls) (sym set) given.0),
             refl,
           ));

@@ -1,15 +1,14 @@
 use Rattle.std.proofs.Common.{◌≡◌, ◌<◌, Some, None, length, refl, sym, ap, ◌∙◌, subst, inl, arith}
 use Rattle.errand_steps.specs.declared.told.Ending.TheVariants as ending
 use Rattle.trace_text.specs.declared.trace.Op.TheVariants as op
-use Rattle.lane_outcomes.specs.declared.registers.Held.{Held}
+use Rattle.lane_outcomes.specs.declared.registers.HeldBlock.{HeldBlock}
 use Rattle.lane_outcomes.specs.Lane.{held_in}
 use Rattle.trace_lane.specs.declared.stage.OperationStage.TheVariants as stage
 use Rattle.trace_lane.specs.Advances.{behind, word_behind}
 use Rattle.trace_lane.specs.Doing.{frees, held_there, reads, writes}
 use Rattle.trace_lane.specs.Paths.{held_blocks}
 use Rattle.trace_lane.proofs.DoingLemmas as doing
-use Rattle.trace_lane.proofs.LaneParts.{blocks-size}
-use Rattle.trace_lane.proofs.PartLemmas.{answer-goes, read-held, staged}
+use Rattle.trace_lane.proofs.PartLemmas.{answer-goes, blocks-size, read-held, staged}
 use Rattle.trace_lane.proofs.lane.LaneState.copy_next.Goals as goal
 
 pub returns-in-Some : goal.returns-in-Some
@@ -26,7 +25,7 @@ returns-in-Some g c =
     let next = c.in-Some.next in
     let found : Some next ≡ behind i (held_there (held_in regs c.args.r)).words =
     sym c.in-Some.is ∙ c.next_word.ensures ∙ ap (λ a. word_behind a c.held_at-held.result.words) c.in-Copying.is
-    ∙ ap (λ (h : Held). behind i h.words) held_is in
+    ∙ ap (λ (h : HeldBlock). behind i h.words) held_is in
     let more = doing.behind-some i (held_there (held_in regs c.args.r)).words next found in
     record {
       answered = λ need.
@@ -57,7 +56,7 @@ returns-in-Some-2 g c =
     let next = c.in-Some.next in
     let found : Some next ≡ behind i (held_there (held_in regs c.args.r)).words =
     sym c.in-Some.is ∙ c.next_word.ensures ∙ ap (λ a. word_behind a c.held_at-held.result.words) c.in-Copying.is
-    ∙ ap (λ (h : Held). behind i h.words) held_is in
+    ∙ ap (λ (h : HeldBlock). behind i h.words) held_is in
     let more = doing.behind-some i (held_there (held_in regs c.args.r)).words next found in
     record {
       answered = λ need.
@@ -87,7 +86,7 @@ returns-in-None g c =
     let w = c.in-Copying.word in
     let found : None ≡ behind i (held_there (held_in regs c.args.r)).words =
     sym c.in-None.is ∙ c.next_word.ensures ∙ ap (λ a. word_behind a c.held_at-held.result.words) c.in-Copying.is
-    ∙ ap (λ (h : Held). behind i h.words) held_is in
+    ∙ ap (λ (h : HeldBlock). behind i h.words) held_is in
     let ready = c.requires.ready.1 in
     let few =
     doing.copying-few place_of need_of ready.before regs c.args.r c.requires.ready.0 i from w old.stage ready.made within c.in-Copying.is

@@ -1,29 +1,32 @@
-use Rattle.std.proofs.Common.{◌<◌, ◌≡◌, Some, None, sym, ap, subst}
-use Rattle.std.specs.List.{slice_index_or}
+use Rattle.std.proofs.Common.{◌<◌, [], Some, None, refl, sym, ap, subst}
+use Rattle.heap_geometry.specs.Need.{usable_words}
+use Rattle.sound_laws.specs.events.Made.{wrote}
 use Rattle.trace_text.specs.declared.trace.Op.TheVariants as op
-use Rattle.trace_lane.specs.Made.{Skips}
-use Rattle.trace_lane.proofs.LaneParts.{slot-empty}
-use Rattle.trace_lane.proofs.MadeLemmas.{made-fill, made-skip, slot-read}
+use Rattle.lane_outcomes.specs.declared.outcome.Outcome.TheVariants as outcome
+use Rattle.trace_lane.proofs.MadeLemmas.{leave-wrote, made-still, slot-read}
 use Rattle.trace_lane.proofs.lane.LaneState.make_fill.Goals as goal
 
 pub returns-in-Some-clause-made : goal.returns-in-Some-clause-made
 returns-in-Some-clause-made g c =
     let f = c.finish.ensures in
-    made-fill g.B.Token.place_of g.B.Token.need_of g.C.Calls.maker c.calls_keep_blocks.ensures c.args.calls.now c.fill.new.self c.args.self.now
-    c.finish.new.self c.requires.ready.holds c.args.r c.args.v c.in-Some.block
-    (slot-read c.args.self.now.registers.items c.args.r c.from.result c.index.result.now (Some c.in-Some.block) c.from.ensures c.index.ensures c.in-Some.is
+    let block = c.in-Some.block in
+    let at = g.B.Token.place_of block in
+    let need = g.B.Token.need_of block in
+    made-still g.B.Token.place_of g.B.Token.need_of g.C.Calls.maker c.calls_keep_blocks.ensures c.args.calls.now c.fill.new.self c.args.self.now
+    c.finish.new.self c.requires.ready.holds
+    (op.Fill c.args.r c.args.v) outcome.Filled (Some block) (wrote at need c.args.v (usable_words need))
+    (slot-read c.args.self.now.registers.items c.args.r c.from.result c.index.result.now (Some block) c.from.ensures c.index.ensures c.in-Some.is
     (subst (λ n. c.args.r < n) (sym c.requires.ready.holds.size) c.requires.register))
     (record { blocks_are = ap (λ v. v.items) f.registers; results = f.outcomes; same_caller = f.caller; at = f.stage; room = f.room })
-    c.fill.ensures.called
+    (refl, refl) c.fill.ensures.called (λ place. leave-wrote place at need c.args.v (usable_words need)) refl
 
 pub returns-in-None-clause-made : goal.returns-in-None-clause-made
 returns-in-None-clause-made g c =
     let f = c.finish-in-None.ensures in
-    let blocks = c.args.self.now.registers.items in
-    let empty : slice_index_or blocks c.args.r None ≡ None =
-    slot-read blocks c.args.r c.from.result c.index.result.now None c.from.ensures c.index.ensures c.in-None.is
-    (subst (λ n. c.args.r < n) (sym c.requires.ready.holds.size) c.requires.register) in
-    made-skip g.B.Token.place_of g.B.Token.need_of g.C.Calls.maker c.args.calls.now c.args.self.now c.finish-in-None.new.self
-    (op.Fill c.args.r c.args.v) c.requires.ready.holds
-    (subst (λ h. Skips h (op.Fill c.args.r c.args.v)) (sym (slot-empty g.B.Token.place_of g.B.Token.need_of blocks c.args.r empty)) tt)
+    made-still g.B.Token.place_of g.B.Token.need_of g.C.Calls.maker c.calls_keep_blocks.ensures c.args.calls.now c.args.calls.now c.args.self.now
+    c.finish-in-None.new.self c.requires.ready.holds
+    (op.Fill c.args.r c.args.v) outcome.Skipped None []
+    (slot-read c.args.self.now.registers.items c.args.r c.from.result c.index.result.now None c.from.ensures c.index.ensures c.in-None.is
+    (subst (λ n. c.args.r < n) (sym c.requires.ready.holds.size) c.requires.register))
     (record { blocks_are = ap (λ v. v.items) f.registers; results = f.outcomes; same_caller = f.caller; at = f.stage; room = f.room })
+    (tt, refl) refl (λ place. tt) refl

@@ -1,32 +1,29 @@
-use Rattle.std.proofs.Common.{◌≡◌, None, sym, ap, ◌∙◌, subst}
-use Rattle.std.specs.List.{slice_index_or}
+use Rattle.std.proofs.Common.{[], None, refl, sym, ap, ◌∙◌}
+use Rattle.errand_steps.specs.Calls.{free}
+use Rattle.errand_steps.specs.declared.reply.Reply.TheVariants as reply
 use Rattle.trace_text.specs.declared.trace.Op.TheVariants as op
-use Rattle.trace_lane.specs.Made.{Skips}
-use Rattle.trace_lane.proofs.LaneParts.{emptied-empty}
-use Rattle.trace_lane.proofs.LaneParts.{slot-empty}
-use Rattle.trace_lane.proofs.MadeLemmas.{made-free, made-skip}
+use Rattle.lane_outcomes.specs.declared.outcome.Outcome.TheVariants as outcome
+use Rattle.trace_lane.proofs.PartLemmas.{emptied-empty}
+use Rattle.trace_lane.proofs.MadeLemmas.{made-gone, made-still}
 use Rattle.trace_lane.proofs.lane.LaneState.make_free.Goals as goal
 
 pub returns-in-Some-clause-made : goal.returns-in-Some-clause-made
 returns-in-Some-clause-made g c =
     let f = c.finish.ensures in
-    made-free g.B.Token.place_of g.B.Token.need_of g.C.Calls.maker c.calls_keep_blocks.ensures c.args.calls.now c.free.new.self c.args.self.now
-    c.finish.new.self c.requires.ready.holds c.args.r c.in-Some.block (sym c.take_out.ensures.found ∙ c.in-Some.is)
+    let block = c.in-Some.block in
+    made-gone g.B.Token.place_of g.B.Token.need_of g.C.Calls.maker c.calls_keep_blocks.ensures c.args.calls.now c.free.new.self c.args.self.now
+    c.finish.new.self c.requires.ready.holds
+    (op.Free c.args.r) outcome.Freed block (free (g.B.Token.place_of block) (g.B.Token.need_of block)) reply.Freed (sym c.take_out.ensures.found ∙ c.in-Some.is)
     (record { blocks_are = ap (λ v. v.items) f.registers ∙ c.take_out.ensures.emptied; results = f.outcomes; same_caller = f.caller; at = f.stage; room = f.room })
-    c.free.ensures.called
+    (refl, refl) c.free.ensures.called (λ place differ. differ) refl
 
 pub returns-in-None-clause-made : goal.returns-in-None-clause-made
 returns-in-None-clause-made g c =
     let f = c.finish-in-None.ensures in
-    let blocks = c.args.self.now.registers.items in
-    let empty : slice_index_or blocks c.args.r None ≡ None = sym c.take_out.ensures.found ∙ c.in-None.is in
-    made-skip g.B.Token.place_of g.B.Token.need_of g.C.Calls.maker c.args.calls.now c.args.self.now c.finish-in-None.new.self
-    (op.Free c.args.r) c.requires.ready.holds
-    (subst (λ h. Skips h (op.Free c.args.r)) (sym (slot-empty g.B.Token.place_of g.B.Token.need_of blocks c.args.r empty)) tt)
-    (record {
-      blocks_are = ap (λ v. v.items) f.registers ∙ c.take_out.ensures.emptied ∙ emptied-empty blocks c.args.r empty;
-      results = f.outcomes;
-      same_caller = f.caller;
-      at = f.stage;
-      room = f.room;
-    })
+    let empty = sym c.take_out.ensures.found ∙ c.in-None.is in
+    let blocks = emptied-empty c.args.self.now.registers.items c.args.r empty in
+    made-still g.B.Token.place_of g.B.Token.need_of g.C.Calls.maker c.calls_keep_blocks.ensures c.args.calls.now c.args.calls.now c.args.self.now
+    c.finish-in-None.new.self c.requires.ready.holds
+    (op.Free c.args.r) outcome.Skipped None [] empty
+    (record { blocks_are = ap (λ v. v.items) f.registers ∙ c.take_out.ensures.emptied ∙ blocks; results = f.outcomes; same_caller = f.caller; at = f.stage; room = f.room })
+    (tt, refl) refl (λ place. tt) refl

@@ -1,12 +1,14 @@
-use Rattle.std.proofs.Common.{◌≡◌, ◌∙◌, Some, None, refl, sym, ap}
+use Rattle.std.proofs.Common.{◌≡◌, ◌∙◌, [], ◌∷◌, Some, None, refl, sym, ap}
 use Rattle.std.specs.Prelude.{slice_set}
 use Rattle.std.specs.List.{slice_index_or}
 use Rattle.heap_geometry.specs.Need.{usable_words}
 use Rattle.errand_steps.specs.declared.reply.Reply.{Reply}
 use Rattle.errand_steps.specs.declared.reply.Reply.TheVariants as reply
 use Rattle.errand_steps.specs.Calls.{alloc}
-use Rattle.sound_laws.specs.events.Made.{copied}
-use Rattle.trace_lane.proofs.MadeLemmas.{asked-full, leads-keep, leave-copied, made-resized, made-respent, made-unresized}
+use Rattle.sound_laws.specs.events.Made.{answered, copied}
+use Rattle.trace_text.specs.declared.trace.Op.TheVariants as op
+use Rattle.lane_outcomes.specs.declared.outcome.Outcome.TheVariants as outcome
+use Rattle.trace_lane.proofs.MadeLemmas.{asked-full, leads-keep, leave-copied, made-resized, made-still}
 use Rattle.trace_lane.proofs.lane.LaneState.make_resize.Goals as goal
 
 pub free-requires-clause-owned : goal.free-requires-clause-owned
@@ -64,21 +66,25 @@ returns-in-Some-take_out-clause-made g c =
 pub returns-in-Refused-clause-made : goal.returns-in-Refused-clause-made
 returns-in-Refused-clause-made g c =
     let f = c.finish-in-Refused.ensures in
+    let answer : Reply = reply.Refused in
     let asked =
     asked-full g.B.Token.place_of g.B.Token.need_of (slice_index_or c.args.self.now.registers.items c.args.r None) c.args.need c.unasked.result
     c.in_default.is c.unasked.ensures in
-    made-unresized g.B.Token.place_of g.B.Token.need_of g.C.Calls.maker c.calls_keep_blocks.ensures c.args.calls.now
-    c.allocate.new.self c.args.self.now c.finish-in-Refused.new.self c.requires.ready.holds c.args.r c.args.need asked.0 asked.1 asked.2
+    made-still g.B.Token.place_of g.B.Token.need_of g.C.Calls.maker c.calls_keep_blocks.ensures c.args.calls.now c.allocate.new.self c.args.self.now
+    c.finish-in-Refused.new.self c.requires.ready.holds
+    (op.Resize c.args.r c.args.need) outcome.Refused (Some asked.0) (answered (alloc c.args.need) answer ∷ []) asked.1
     (record { blocks_are = ap (λ v. v.items) f.registers; results = f.outcomes; same_caller = f.caller; at = f.stage; room = f.room })
-    c.in-Refused.ensures.called
+    (asked.2, refl) (_, c.in-Refused.ensures.called, refl) (λ place. (tt, tt)) refl
 
 pub returns-in-Spent-clause-made : goal.returns-in-Spent-clause-made
 returns-in-Spent-clause-made g c =
     let f = c.finish-in-Spent.ensures in
+    let answer : Reply = reply.Spent in
     let asked =
     asked-full g.B.Token.place_of g.B.Token.need_of (slice_index_or c.args.self.now.registers.items c.args.r None) c.args.need c.unasked.result
     c.in_default.is c.unasked.ensures in
-    made-respent g.B.Token.place_of g.B.Token.need_of g.C.Calls.maker c.calls_keep_blocks.ensures c.args.calls.now
-    c.allocate.new.self c.args.self.now c.finish-in-Spent.new.self c.requires.ready.holds c.args.r c.args.need asked.0 asked.1 asked.2
+    made-still g.B.Token.place_of g.B.Token.need_of g.C.Calls.maker c.calls_keep_blocks.ensures c.args.calls.now c.allocate.new.self c.args.self.now
+    c.finish-in-Spent.new.self c.requires.ready.holds
+    (op.Resize c.args.r c.args.need) outcome.Spent (Some asked.0) (answered (alloc c.args.need) answer ∷ []) asked.1
     (record { blocks_are = ap (λ v. v.items) f.registers; results = f.outcomes; same_caller = f.caller; at = f.stage; room = f.room })
-    c.in-Spent.ensures.called
+    (asked.2, refl) (_, c.in-Spent.ensures.called, refl) (λ place. (tt, tt)) refl

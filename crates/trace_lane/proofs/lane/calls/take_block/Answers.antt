@@ -23,16 +23,15 @@ returns-in-Empty-clause-made g c =
 pub loop-preserved : goal.loop-preserved
 loop-preserved g c =
     let m = c.loop.invariant.missed in
-    let t = c.in-Missed.ensures.called in
     record {
       can_next = tt;
       is_finite = tt;
       stands = c.take.ensures.stands;
       base = c.take.ensures.base ∙ c.loop.invariant.base;
       missed = (
-        m.0 ++ answered (take c.args.shelf) (reply.Missed t.0 t.1) ∷ [],
-        misses-more c.args.shelf m.0 t.0 t.1 m.1,
-        leads-more g.C.Calls.maker.called c.args.calls.now c.loop.calls c.take.new.self m.0 (take c.args.shelf) (reply.Missed t.0 t.1) m.2 t.2,
+        m.0 ++ answered (take c.args.shelf) (reply.Missed c.in-Missed.expected c.in-Missed.found) ∷ [],
+        misses-more c.args.shelf m.0 c.in-Missed.expected c.in-Missed.found m.1,
+        leads-more g.C.Calls.maker.called c.args.calls.now c.loop.calls c.take.new.self m.0 (take c.args.shelf) (reply.Missed c.in-Missed.expected c.in-Missed.found) m.2 c.in-Missed.ensures.called,
       );
     }
 

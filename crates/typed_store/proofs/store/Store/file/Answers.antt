@@ -2,7 +2,7 @@ use Rattle.std.proofs.Common.{◌≡◌, ◌++◌, ◌∷◌, [], List, length-a
 use Rattle.std.specs.List.{AllZip}
 use Rattle.live_heap.specs.declared.block.Block.{Block}
 use Rattle.live_heap.specs.Holdings.{HoldsExactly}
-use Rattle.live_heap.proofs.Exact.{order-exact}
+use Rattle.live_heap.proofs.laws_for_builders.AllBlocks.{order-exact}
 use Rattle.typed_store.specs.Nodes.{tokens_in}
 use Rattle.typed_store.specs.Records.{IsRecord}
 use Rattle.typed_store.specs.Stores.{blocks_of}

@@ -3,6 +3,7 @@ use Rattle.errand_steps.specs.declared.reply.Reply.{Reply}
 use Rattle.errand_steps.specs.declared.reply.Reply.TheVariants as reply
 use Rattle.errand_steps.specs.Calls.{alloc}
 use Rattle.live_heap.specs.declared.answers.AllocAnswer.{AllocAnswer}
+use Rattle.live_heap.specs.declared.block.Block.{Block}
 use Rattle.block_cache.specs.Caches.{Holds}
 use Rattle.block_cache.specs.Whole.{EndsAs}
 use Rattle.lane_engine.proofs.ThroughLemmas.{busy-asks}
@@ -21,7 +22,7 @@ returns-in-Given g c =
     let whole =
     c.ended_calls_are_whole.ensures.alloc c.args.heap.now c.args.self.now c.alloc.new.self c.args.need c.args.tries c.alloc.result told
     c.requires.rests.0 c.alloc.ensures.cache c.alloc.ensures.served c.alloc.ensures.asked
-    (subst (λ (a : AllocAnswer). EndsAs a told) (sym c.in-Given.is) refl) in
+    (subst (λ (a : AllocAnswer Block). EndsAs a told) (sym c.in-Given.is) refl) in
     record {
       rests = (whole.after, whole-home c.args.heap.now c.args.self.now c.alloc.new.self (alloc c.args.need) _ whole c.requires.rests.1);
       holds = c.in-Given.ensures.holds;
@@ -47,7 +48,7 @@ returns-in-Refused g c =
     let whole =
     c.ended_calls_are_whole.ensures.alloc c.args.heap.now c.args.self.now c.alloc.new.self c.args.need c.args.tries c.alloc.result reply.Refused
     c.requires.rests.0 c.alloc.ensures.cache c.alloc.ensures.served c.alloc.ensures.asked
-    (subst (λ (a : AllocAnswer). EndsAs a reply.Refused) (sym c.in-Refused.is) refl) in
+    (subst (λ (a : AllocAnswer Block). EndsAs a reply.Refused) (sym c.in-Refused.is) refl) in
     record {
       rests = (whole.after, whole-home c.args.heap.now c.args.self.now c.alloc.new.self (alloc c.args.need) _ whole c.requires.rests.1);
       holds = c.in-Refused.ensures.holds;
@@ -58,7 +59,7 @@ returns-in-Spent g c =
     let whole =
     c.ended_calls_are_whole.ensures.alloc c.args.heap.now c.args.self.now c.alloc.new.self c.args.need c.args.tries c.alloc.result reply.Spent
     c.requires.rests.0 c.alloc.ensures.cache c.alloc.ensures.served c.alloc.ensures.asked
-    (subst (λ (a : AllocAnswer). EndsAs a reply.Spent) (sym c.in-Spent.is) refl) in
+    (subst (λ (a : AllocAnswer Block). EndsAs a reply.Spent) (sym c.in-Spent.is) refl) in
     record {
       rests = (whole.after, whole-home c.args.heap.now c.args.self.now c.alloc.new.self (alloc c.args.need) _ whole c.requires.rests.1);
       holds = c.in-Spent.ensures.holds;

@@ -1,0 +1,81 @@
+-- `into_parts` moves two fields, and what they own goes with them.
+use mathlib.Core.Path.{◌≡◌, refl, sym, subst, ap, ◌∙◌}
+use mathlib.Core.List.{List, [], ◌∷◌, ◌++◌}
+use Rattle.std.specs.Prelude.{Option, Some}
+use seplogic.Ra.Ura.{Ura}
+use mir.Raw.{raw as bare}
+use mir.Val.{Val}
+use base.Logic.{SProp, ent, id⊢, never, fst∗}
+use base.Fml.{ftrue, fsep}
+use prog.Memory.{Memory}
+use prog.Routine.{Routine}
+use prog.Wp.{WpFn, Tables}
+use types.Logic.{Logic, sem}
+use contract.Monad.{Fun, fact}
+use contract.Running.{tables, tables_of}
+use sound.WpLaws.{WpFn-mono}
+use types.Kit.{Item, ‵, raw, ◌⊛◌, ◌$◌, ◌∵◌, !, qed, by, move, drop, use1, join, split, fsplit, fjoin, fpick, fpack, rewrite, suffices, done}
+use types.Part.{whole, sub, agg}
+use types.Run.{stop, fld, no_more, and_then, of_opd, returns, enter}
+use types.ByLocal.{alloc_all, pass_all, free_all, look_at, get, get_in, sets}
+use denote.Exit.{yes}
+use denote.RawPtr.{Ptr, null_ptr, ptr_val, in_a_block}
+use denote.Signature.{type_at}
+use denote.Steps.{nothing, heard}
+use denote.Triple.Spec.{triple_of}
+use denote.Triple.Table.{entered}
+use denote.Triple.Walked.{says, Stays, stay_dropped, walk_of, ends_at, Goes-dropped, walk_Meets}
+use Rattle.std.proofs.alloc.Calls.{token}
+use Rattle.std_alloc.specs.Box.Ownership.{box_owns}
+use Rattle.std_alloc.proofs.BoxSteps.Form.{D, R, τ, word, box_typed}
+use Rattle.std_alloc.proofs.BoxSteps.Steps.{box_in}
+use Rattle.balloc_c.specs.Owned.{pass_owns}
+use Rattle.balloc_c.proofs.Seal.{E, both, held_out, FromHeld}
+use Rattle.balloc_c.specs.contracts.erased_box.ErasedBox.{the_row}
+use Rattle.balloc_c.specs.declared.hand.Hand.{Hand}
+use Rattle.balloc_c.specs.contracts.erased_box.ErasedBox.into_parts as F
+use Rattle.balloc_c.specs.contracts.erased_box.ErasedBox.into_parts.Key.{name as #self}
+use Rattle.balloc_c.proofs.erased_box.ErasedBox.into_parts.Statement as stated
+use Rattle.balloc_c.proofs.erased_box.ErasedBox.into_parts.Code as code
+
+abbrev stayed : Stays (F.ended).signature.params (F.ended).kept
+stayed = (stay_dropped FromHeld yes, tt)
+
+module _ {M : Type 1} {𝓤 : Ura M} (𝓛 : Logic 𝓤) (at_mem : Memory → SProp 𝓤) (run : Routine → Fun 𝓤) (𝓣 : Tables 𝓤 𝓛.H) where
+  open 𝓛 use {H}
+
+  walk : (z : (walk_of 𝓛 F.ended stayed (F.clauses 𝓛 at_mem run)).Ghost)
+      → ent 𝓤 ((walk_of 𝓛 F.ended stayed (F.clauses 𝓛 at_mem run)).pre z)
+      (WpFn 𝓤 H 𝓣.C 𝓣.Λ code.function (z.0.4.0 ++ []) ((walk_of 𝓛 F.ended stayed (F.clauses 𝓛 at_mem run)).post z))
+  walk z =
+      let Post = (walk_of 𝓛 F.ended stayed (F.clauses 𝓛 at_mem run)).post z in
+      let To = type_at (F.signature).result tt in
+      let v = z.0.3.0 in
+      let owned = λ (p : Ptr) (s : E.row.Denot). box_owns (token E.al v.alloc) (R E) p s in
+      qed 𝓛 ((‵ ftrue ⊛ ‵ (fsep (the_row.own_val v z.0.4.0) ftrue)) ∷ raw (fact 𝓤 ((hand : Hand) × (v.hand ≡ Some hand))) ∷ []) ∵
+      move ! (1 ∷ []) $ heard ! ((hand : Hand) × (v.hand ≡ Some hand)) (λ is. let s = is.0 in
+      split ! $ drop ! $ fsplit ! $ held_out ! v z.0.4.0 (λ hv ws fa.
+      rewrite ! 0 (λ (t : Option Hand). ‵ (pass_owns t v.alloc v.at)) is.1 refl $ use1 𝓛 (‵ (owned v.at s)) (id⊢ 𝓤 _) $
+      in_a_block ! v.at (λ p. owned p s) (fst∗ 𝓤 (never 𝓤) (sem 𝓛 (token E.al v.alloc (bare (τ E)) null_ptr))) (λ b o e.
+      let d : D E = record { ptr = v.at; alloc = v.alloc; value = s } in
+      let made : To.Denot = record { ptr = v.at; alloc = v.alloc; value = s } in
+      let w = word E hv b o in
+      fsplit ! $ box_in E ! d b o s e refl $ use1 𝓛 (‵ (To.own_val made (w ∷ []))) (id⊢ 𝓤 _) $ move ! (1 ∷ []) $ drop ! $
+      let Γ : List (Item 𝓤) = ‵ (To.own_val made (w ∷ [])) ∷ [] in
+      by ! (subst (λ (us : List Val). ent 𝓤 (types.Kit.⋆ 𝓛 Γ) (WpFn 𝓤 H 𝓣.C 𝓣.Λ code.function (us ++ []) Post)) (sym (ws ∙ ap (λ (p : Ptr). both (ptr_val p) hv ∷ []) e))
+      (qed 𝓛 Γ ∵ enter ! 𝓣.C 𝓣.Λ code.function (w ∷ []) _ $ alloc_all ! (λ ls. pass_all ! refl (box_typed E hv b o fa, tt) $
+      sets ! (of_opd ! (get_in ! (fld ! refl (stop !)) (sub ! 0 refl (whole !)))) refl (tt, tt) $
+      sets ! (of_opd ! (get_in ! (fld ! refl (stop !)) (sub ! 1 refl (whole !)))) refl fa $
+      sets ! (of_opd ! (get ! refl)) refl (tt, tt) $
+      sets ! (agg ! (and_then ! (get ! refl) (and_then ! (get ! refl) (no_more !)))) refl (box_typed E hv b o fa) $ returns ! (look_at ! 0 refl) $ free_all ! refl $
+      suffices ! _ (ends_at 𝓛 F.ended stayed (F.clauses 𝓛 at_mem run) z w made (tt, tt) (tt, tt)) $ says ! is.1 $
+      nothing ! $ nothing ! $ fjoin ! $ join ! $ nothing ! $ join ! $ done !))))))
+
+pub into_parts_spec : {M : Type 1} → stated.statement M
+unfolding tables_of
+into_parts_spec 𝓤 𝓛 𝓜 𝓡 wired =
+    let 𝓣 : Tables 𝓤 𝓛.H = tables_of 𝓤 𝓛.H 𝓜 (tables 𝓤 𝓛.H 𝓜 𝓡 𝓡.env) in
+    entered 𝓤 𝓛.H (triple_of 𝓛 F.signature (F.spec 𝓛 𝓜.mem 𝓡.returns)) 𝓣.C 𝓣.Λ #self code.function (code.unfolded 𝓤 𝓛.H 𝓜 𝓡 wired)
+    (walk_Meets 𝓛 F.ended stayed (Goes-dropped 𝓛 0 FromHeld yes (λ κs x f. refl), tt) (F.clauses 𝓛 𝓜.mem 𝓡.returns)
+    (WpFn 𝓤 𝓛.H 𝓣.C 𝓣.Λ code.function) (WpFn-mono 𝓤 𝓛.H 𝓛.laws 𝓣 code.function)
+    (walk 𝓛 𝓜.mem 𝓡.returns 𝓣))

@@ -1,0 +1,19 @@
+use Rattle.std.proofs.Common.{◌∷◌, [], refl}
+use Rattle.sound_laws.specs.events.Made.{found_from}
+use Rattle.benches.proofs.CacheLemmas.{on-words-home}
+use Rattle.benches.proofs.heap.cached.CacheFront.sum.Goals as goal
+
+pub sum-requires-clause-held : goal.sum-requires-clause-held
+sum-requires-clause-held c =
+    let block = c.args.block.now in
+    let held = c.requires.held in
+    (c.caches_account_for_all_blocks.ensures.held c.args.heap.now c.args.self.now (block ∷ held.0) block c.requires.rests.0.0 c.requires.rests.0.1 held.1).1
+    ([], held.0, refl)
+
+pub returns-clause-rests : goal.returns-clause-rests
+returns-clause-rests c =
+    let was = c.requires.rests in
+    let is = c.sum.ensures in
+    let block = c.args.block.now in
+    let reads = found_from block.place block.need 0 is.sums.0 in
+    ((is.cache, is.idle), on-words-home c.args.heap.now c.args.self.now.pass c.sum.new.self.pass reads was.0.0.hand.of was.1 is.sums.3)

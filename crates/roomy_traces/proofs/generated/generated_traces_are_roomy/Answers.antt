@@ -1,5 +1,0 @@
-use Rattle.roomy_traces.proofs.generated_lemmas.RoomyLemmas.{made-roomy}
-use Rattle.roomy_traces.proofs.generated.generated_traces_are_roomy.Goals as goal
-
-pub returns : goal.returns
-returns c = made-roomy

@@ -1,0 +1,228 @@
+-- The events of an operation through a cache: how many blocks they give and free, and that they refuse small needs alone.
+use Rattle.std.proofs.Common.{ℕ, Bool, true, false, ◌≡◌, ◌+◌, ◌≤◌, ◌%◌, ◌^◌, List, [], ◌∷◌, ◌++◌, Option, Some, None, cond, count_by, length, map, replicate, refl, sym, ◌∙◌, ap, subst, inl, inr, arith}
+use Rattle.std.specs.Prelude.{slice_set, flat_map}
+use Rattle.std.specs.List.{AllByRecursion}
+use Rattle.std.proofs.lemmas.Bool.{cases_lt}
+use Rattle.std.proofs.lemmas.List.{set_past}
+use Rattle.std.proofs.lemmas.List.Sums.{sum_by-cons}
+use Rattle.heap_geometry.specs.declared.limits.TheConstants.{CLASSES}
+use Rattle.heap_geometry.specs.Need.{IsNeed, need_of}
+use Rattle.pool_model.specs.declared.event.Event.{Event}
+use Rattle.pool_model.specs.declared.event.Event.TheVariants.{Free}
+use Rattle.pool_model.specs.Counts.{is_alloc, is_free}
+use Rattle.pool_model.proofs.NeedOfLemmas.{need_of-within}
+use Rattle.trace_text.specs.declared.trace.Op.{Op}
+use Rattle.trace_text.specs.declared.trace.Op.TheVariants as op
+use Rattle.lane_outcomes.specs.declared.registers.HeldBlock.{HeldBlock}
+use Rattle.lane_outcomes.specs.declared.outcome.Outcome.{Outcome}
+use Rattle.lane_outcomes.specs.declared.outcome.Outcome.TheVariants as outcome
+use Rattle.lane_outcomes.specs.Cached.{CachedPosition, CachedRow, IsGivenBy, hit_of, magazines_after, served_for}
+use Rattle.lane_outcomes.specs.Lane.{held_in, registers_after, writing}
+use Rattle.lane_outcomes.specs.LaneCounts.{as_one, count_with, words_freed, words_given}
+use Rattle.lane_outcomes.specs.Magazines.{emptying, freeing, is_kept, magazines_given, served_by}
+use Rattle.lane_outcomes.specs.Rows.{Setting, FitsRow}
+use Rattle.lane_outcomes.proofs.HoldLemmas.{held-nothing, held-set}
+use Rattle.lane_outcomes.proofs.KeptLemmas.{given-long}
+use Rattle.roomy_traces.specs.Roomy.{IsPlain}
+use Rattle.roomy_traces.proofs.LaneLemmas.{all-append}
+use Rattle.roomy_traces.proofs.PieceLemmas.{Counts, IsTame, all-writing, counts-append, given-by, given-counts, quiet-counts, quiet-writing, row-counts, row-tame, tame-made}
+use Rattle.roomy_traces.proofs.through_lemmas.MagazineLemmas.{total, total-freed, total-given}
+
+-- the block in each register serves a need of the heap's
+abbrev pub AreNeeds : List (Option HeldBlock) → Type 0
+AreNeeds registers = (r : ℕ) (held : HeldBlock) → held_in registers r ≡ Some held → IsNeed held.need
+
+needs-set :
+    (registers : List (Option HeldBlock)) (r : ℕ) (held : Option HeldBlock) → ((h : HeldBlock) → held ≡ Some h → IsNeed h.need) → AreNeeds registers
+    → AreNeeds (slice_set registers r held)
+needs-set registers r held is needs q other full =
+    elim (cases_lt r (length registers)) [
+      | inl within ↦ elim (held-set registers r q held within) [
+        | inl here ↦ is other (sym here.1 ∙ full)
+        | inr there ↦ needs q other (sym there.1 ∙ full)
+      ]
+      | inr past ↦ needs q other (subst (λ (xs : List (Option HeldBlock)). held_in xs q ≡ Some other) (set_past registers r held past) full)
+    ]
+
+needs-new : (words place need : ℕ) (h : HeldBlock) → Some (record { place = place; words = words; need = need_of need }) ≡ Some h → IsNeed h.need
+needs-new words place need h is =
+    let new : HeldBlock = record { place = place; words = words; need = need_of need } in
+    let same : new ≡ h = let e : Some new ≡ Some h = is in cc in
+    subst (λ (held : HeldBlock). IsNeed held.need) same (need_of-within need)
+
+needs-none : (h : HeldBlock) → None ≡ Some h → IsNeed h.need
+needs-none h is = absurd (let e : None ≡ Some h = is in cc)
+
+pub needs-after :
+    (registers : List (Option HeldBlock)) (operation : Op) (result : Outcome) → IsPlain operation → AreNeeds registers → AreNeeds (registers_after registers operation result)
+needs-after registers (op.Alloc r need v) (outcome.Given words place) plain needs = needs-set registers r _ (needs-new words place need) needs
+needs-after registers (op.Resize r need) (outcome.Resized words place) plain needs = needs-set registers r _ (needs-new words place need) needs
+needs-after registers (op.Free r) outcome.Freed plain needs = needs-set registers r None needs-none needs
+needs-after registers (op.Put r shelf) result plain needs = absurd plain
+needs-after registers (op.Take r shelf) result plain needs = absurd plain
+needs-after registers operation result plain needs = needs
+
+pub needs-start : (n : ℕ) → AreNeeds (replicate n None)
+needs-start n r held full = needs-none held (sym (held-nothing n r) ∙ full)
+
+-- a magazine or the heap gives a block: the heap by one event
+handed-counts :
+    (setting : Setting) (position : CachedPosition) (by : Option ℕ) (need words place : ℕ) (value : ℕ → ℕ) (calls : List Event)
+    → IsGivenBy by setting position need place calls
+    → (given : ℕ) × Counts (calls ++ writing setting.caller place words value) given 0 × (given + hit_of by ≡ 1)
+handed-counts setting position None need words place value calls given = (
+  1,
+  given-counts setting.caller need place words value calls (calls ++ writing setting.caller place words value)
+      (given-by setting.caller need place (need_of need) calls given.1) refl,
+  omega arith,
+)
+handed-counts setting position (Some at) need words place value calls given = (
+  0,
+  subst (λ xs. Counts (xs ++ writing setting.caller place words value) 0 0) (sym given.1)
+      (quiet-counts (writing setting.caller place words value) (quiet-writing setting.caller place words value)),
+  omega arith,
+)
+
+freeing-counts : (caller : ℕ) (keeps : Bool) (place : ℕ) → Counts (freeing caller keeps place) 0 (count_by is_free (freeing caller keeps place))
+freeing-counts caller true place = record { gives = refl; frees = refl }
+freeing-counts caller false place = record { gives = refl; frees = refl }
+
+freeing-few : (caller : ℕ) (keeps : Bool) (place : ℕ) → count_by is_free (freeing caller keeps place) ≤ 1
+freeing-few caller true place = omega arith
+freeing-few caller false place = omega arith
+
+-- what an operation gives and frees by its events, and what magazines serve and keep of it
+pub record CachedCounts (depth : ℕ) (position : CachedPosition) (operation : Op) (result : Outcome) (piece : List Event) : Type 0 where
+  pub given : ℕ
+  pub freed : ℕ
+  pub counts : Counts piece given freed
+  pub gives : given + hit_of (served_for position.magazines operation result) ≡ count_with as_one (words_given operation result)
+  pub few : freed ≤ count_with as_one (words_freed position.base.registers operation result)
+  pub balance :
+      freed + total (magazines_after depth position.magazines position.base.registers operation result)
+      + hit_of (served_for position.magazines operation result)
+      ≡ total position.magazines + count_with as_one (words_freed position.base.registers operation result)
+
+bare-counts :
+    (setting : Setting) (depth : ℕ) (position : CachedPosition) (operation : Op) (result : Outcome) (piece : List Event) → IsPlain operation
+    → FitsRow setting position.base operation result piece → served_for position.magazines operation result ≡ None
+    → magazines_after depth position.magazines position.base.registers operation result ≡ position.magazines
+    → CachedCounts depth position operation result piece
+bare-counts setting depth position operation result piece plain row none same =
+    record {
+      given = count_with as_one (words_given operation result);
+      freed = count_with as_one (words_freed position.base.registers operation result);
+      counts = row-counts setting position.base operation result piece plain row;
+      gives = omega (arith, ap hit_of none);
+      few = omega arith;
+      balance = omega (arith, ap hit_of none, ap (λ (m : List (List ℕ)). total m) same);
+    }
+
+pub cached-counts :
+    (setting : Setting) (depth : ℕ) (position : CachedPosition) (operation : Op) (result : Outcome) (piece : List Event) → IsPlain operation
+    → AreNeeds position.base.registers → length position.magazines ≡ CLASSES → CachedRow setting depth position operation result piece
+    → CachedCounts depth position operation result piece
+cached-counts setting depth position (op.Alloc r need v) (outcome.Given words place) piece plain needs long (empty, words_are, calls, given, is) =
+    let handed = handed-counts setting position (served_by position.magazines (need_of need)) need words place (λ i. (v + i) % 2 ^ 64) calls given in
+    record {
+      given = handed.0;
+      freed = 0;
+      counts = subst (λ xs. Counts xs handed.0 0) (sym is) handed.1;
+      gives = handed.2;
+      few = omega arith;
+      balance = omega (arith, total-given position.magazines (need_of need));
+    }
+cached-counts setting depth position (op.Resize r need) (outcome.Resized words place) piece plain needs long (held, full, differ, words_are, calls, given, value, copy, is) =
+    let caller = setting.caller in
+    let handed = handed-counts setting position (served_by position.magazines (need_of need)) need words place value calls given in
+    let magazines : List (List ℕ) = magazines_given position.magazines (need_of need) in
+    let keeps : Bool = is_kept depth magazines held.need in
+    let frees : ℕ = count_by is_free (freeing caller keeps held.place) in
+    record {
+      given = handed.0 + 0;
+      freed = 0 + frees;
+      counts =
+          subst (λ xs. Counts xs (handed.0 + 0) (0 + frees)) (sym is)
+          (counts-append (calls ++ writing caller place words value) (freeing caller keeps held.place) handed.0 0 0 frees handed.1
+          (freeing-counts caller keeps held.place));
+      gives = omega (arith, handed.2);
+      few = rw full (omega (arith, freeing-few caller keeps held.place));
+      balance =
+          rw full
+          (omega (
+            arith,
+            total-given position.magazines (need_of need),
+            total-freed caller depth magazines held.place held.need (needs r held full)
+                (given-long (served_by position.magazines (need_of need)) position.magazines (need_of need) ∙ long),
+          ));
+    }
+cached-counts setting depth position (op.Free r) outcome.Freed piece plain needs long (held, full, is) =
+    let caller = setting.caller in
+    let keeps : Bool = is_kept depth position.magazines held.need in
+    let frees : ℕ = count_by is_free (freeing caller keeps held.place) in
+    record {
+      given = 0;
+      freed = frees;
+      counts = subst (λ xs. Counts xs 0 frees) (sym is) (freeing-counts caller keeps held.place);
+      gives = omega arith;
+      few = rw full (freeing-few caller keeps held.place);
+      balance = rw full (omega (arith, total-freed caller depth position.magazines held.place held.need (needs r held full) long));
+    }
+cached-counts setting depth position (op.Alloc r need v) outcome.Refused piece plain needs long row =
+    bare-counts setting depth position (op.Alloc r need v) outcome.Refused piece plain row.1 refl refl
+cached-counts setting depth position (op.Alloc r need v) outcome.Spent piece plain needs long row =
+    bare-counts setting depth position (op.Alloc r need v) outcome.Spent piece plain row.1 refl refl
+cached-counts setting depth position (op.Resize r need) outcome.Refused piece plain needs long row =
+    bare-counts setting depth position (op.Resize r need) outcome.Refused piece plain row.1 refl refl
+cached-counts setting depth position (op.Resize r need) outcome.Spent piece plain needs long row =
+    bare-counts setting depth position (op.Resize r need) outcome.Spent piece plain row.1 refl refl
+cached-counts setting depth position operation result piece plain needs long row =
+    bare-counts setting depth position operation result piece plain row refl refl
+
+-- the frees that empty magazines give no block
+pub frees-all : (P : Event → Type 0) (caller : ℕ) (places : List ℕ) → ((place : ℕ) → P (Free caller place)) → AllByRecursion P (map (λ place. Free caller place) places)
+frees-all P caller [] holds = tt
+frees-all P caller (place ∷ places) holds = (holds place, frees-all P caller places holds)
+
+frees-none : (caller : ℕ) (places : List ℕ) → count_by is_alloc (map (λ place. Free caller place) places) ≡ 0
+frees-none caller [] = refl
+frees-none caller (place ∷ places) =
+    omega (arith, sum_by-cons (λ e. cond (is_alloc e) 1 0) (Free caller place) (map (λ at. Free caller at) places), frees-none caller places)
+
+pub emptying-none : (caller : ℕ) (magazines : List (List ℕ)) → count_by is_alloc (emptying caller magazines) ≡ 0
+emptying-none caller magazines = frees-none caller (flat_map (λ magazine. magazine) magazines)
+
+-- the events refuse small needs alone
+handed-tame :
+    (setting : Setting) (position : CachedPosition) (by : Option ℕ) (need words place : ℕ) (value : ℕ → ℕ) (calls : List Event)
+    → IsGivenBy by setting position need place calls → AllByRecursion IsTame (calls ++ writing setting.caller place words value)
+handed-tame setting position None need words place value calls given =
+    tame-made setting.caller need place words value calls (given-by setting.caller need place (need_of need) calls given.1)
+handed-tame setting position (Some at) need words place value calls given =
+    subst (λ xs. AllByRecursion IsTame (xs ++ writing setting.caller place words value)) (sym given.1)
+    (all-writing IsTame setting.caller place words value (λ i n. tt))
+
+freeing-tame : (caller : ℕ) (keeps : Bool) (place : ℕ) → AllByRecursion IsTame (freeing caller keeps place)
+freeing-tame caller true place = tt
+freeing-tame caller false place = (tt, tt)
+
+pub cached-tame :
+    (setting : Setting) (depth : ℕ) (position : CachedPosition) (operation : Op) (result : Outcome) (piece : List Event) → IsPlain operation
+    → CachedRow setting depth position operation result piece → AllByRecursion IsTame piece
+cached-tame setting depth position (op.Alloc r need v) (outcome.Given words place) piece plain (empty, words_are, calls, given, is) =
+    subst (AllByRecursion IsTame) (sym is)
+    (handed-tame setting position (served_by position.magazines (need_of need)) need words place (λ i. (v + i) % 2 ^ 64) calls given)
+cached-tame setting depth position (op.Resize r need) (outcome.Resized words place) piece plain (held, full, differ, words_are, calls, given, value, copy, is) =
+    let keeps : Bool = is_kept depth (magazines_given position.magazines (need_of need)) held.need in
+    subst (AllByRecursion IsTame) (sym is)
+    (all-append IsTame (calls ++ writing setting.caller place words value) (freeing setting.caller keeps held.place)
+    (handed-tame setting position (served_by position.magazines (need_of need)) need words place value calls given)
+    (freeing-tame setting.caller keeps held.place))
+cached-tame setting depth position (op.Free r) outcome.Freed piece plain (held, full, is) =
+    subst (AllByRecursion IsTame) (sym is) (freeing-tame setting.caller (is_kept depth position.magazines held.need) held.place)
+cached-tame setting depth position (op.Alloc r need v) outcome.Refused piece plain row = row-tame setting position.base (op.Alloc r need v) outcome.Refused piece plain row.1
+cached-tame setting depth position (op.Alloc r need v) outcome.Spent piece plain row = row-tame setting position.base (op.Alloc r need v) outcome.Spent piece plain row.1
+cached-tame setting depth position (op.Resize r need) outcome.Refused piece plain row =
+    row-tame setting position.base (op.Resize r need) outcome.Refused piece plain row.1
+cached-tame setting depth position (op.Resize r need) outcome.Spent piece plain row = row-tame setting position.base (op.Resize r need) outcome.Spent piece plain row.1
+cached-tame setting depth position operation result piece plain row = row-tame setting position.base operation result piece plain row
