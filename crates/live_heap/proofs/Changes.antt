@@ -37,7 +37,8 @@ use Rattle.live_heap.specs.Whole.{IsWhole, at_once, by_steps}
 use Rattle.live_heap.proofs.Growing.{own-kept, rest-none}
 use Rattle.live_heap.proofs.Last.{called-last}
 use Rattle.live_heap.proofs.LawsClosed.{closed-legal}
-use Rattle.live_heap.proofs.LawsKept.{Adds, called-adds, calling-adds}
+use Rattle.step_machine.proofs.ApartLemmas.{Adds}
+use Rattle.live_heap.proofs.LawsKept.{called-adds, calling-adds}
 use Rattle.live_heap.proofs.Owned.{AllQuiet, IsChange, changes, looks-quiet, quiet-all, quiet-append}
 
 -- the events of an allocation that is given a block: looks, and then its own

@@ -12,7 +12,8 @@ use Rattle.pool_model.proofs.HistoryLemmas.{pool_of-push, push-append, EachAfter
 use Rattle.pool_model.proofs.OwnedLemmas.{others-event}
 use Rattle.pool_model.proofs.WellFormedLemmas.{sound-of, sound-differ}
 use Rattle.live_heap.specs.Contents.{owned_after}
-use Rattle.live_heap.proofs.LawsKept.{others-same, own-split, same-rest}
+use Rattle.step_machine.proofs.ApartLemmas.{others-same, own-split}
+use Rattle.live_heap.proofs.LawsKept.{same-rest}
 
 -- the event leaves every pool as it is; all of the events do
 abbrev pub IsQuiet : Event → Type 0

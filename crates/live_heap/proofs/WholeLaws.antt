@@ -12,7 +12,8 @@ use Rattle.step_machine.proofs.MomentAnswers.{moment-meant, moment-owns}
 use Rattle.live_heap.specs.Heaps.{HeapFields}
 use Rattle.live_heap.specs.declared.pass.Pass.{Pass}
 use Rattle.live_heap.specs.Passes.{OwnsAt, seen}
-use Rattle.live_heap.proofs.LawsKept.{called-adds, ended-spares, given-apart, got-apart, owns-on, stays-home}
+use Rattle.step_machine.proofs.ApartLemmas.{ended-spares, given-apart, got-apart, owns-on}
+use Rattle.live_heap.proofs.LawsKept.{called-adds, stays-home}
 use Rattle.live_heap.specs.Whole.{IsWhole, by_steps, at_once}
 
 abbrev HasAt : Pass → ℕ → Need → Type 0

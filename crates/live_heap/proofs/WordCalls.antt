@@ -28,7 +28,8 @@ use Rattle.live_heap.specs.Sights.{TakesStep, found_in}
 use Rattle.live_heap.specs.Words.{CallsOnWord}
 use Rattle.live_heap.proofs.Begun.{heap-at, of-laid}
 use Rattle.live_heap.proofs.CallsOne.{read-contents}
-use Rattle.live_heap.proofs.LawsKept.{called-adds, ended-spares, owns-on, stays-home}
+use Rattle.step_machine.proofs.ApartLemmas.{ended-spares, owns-on}
+use Rattle.live_heap.proofs.LawsKept.{called-adds, stays-home}
 use Rattle.live_heap.proofs.Shows.{arena-placed}
 use Rattle.live_heap.proofs.Straight.{ends-at_once, payload-end, read-answers, read-settles, write-answers, write-settles}
 

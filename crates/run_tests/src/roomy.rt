@@ -1,4 +1,5 @@
-//! Traces with frames and turns to spare have one report each, on threads and in any order of steps.
+//! Traces with frames and turns to spare have one report each, on threads, through caches and in any order
+//! of steps.
 
 use command_line::status::REPORTED;
 use command_tests::running::{Left, run_on, writes};
@@ -72,16 +73,47 @@ fn resizing_report(alloc: Global) -> Result<String, AllocError> {
     Ok(report)
 }
 
-/// Ten runs on threads of these lanes all give this report.
+/// Eight lanes whose caches keep a block of a class: of held and kept ones each has at most two, and
+/// counts three while a resize moves one. So 54 frames are just enough, and 32 turns.
+fn cached_lanes(alloc: Global) -> Result<String, AllocError> {
+    let mut trace = String::new(alloc);
+    trace.push_str("heap2 54 2 0 32\n")?;
+    for lane in 0..LANES {
+        let next = lane + 1;
+        write!(
+            trace,
+            "lane\na 0 3 {lane}\nf 0\na 0 2 {next}\nc 0\nr 0 100\nr 0 3\nc 0\nf 0\n"
+        )?;
+    }
+    Ok(trace)
+}
+
+/// Their report: in each lane the block of three words is served twice.
+fn cached_report(alloc: Global) -> Result<String, AllocError> {
+    let mut report = String::new(alloc);
+    report.push_str("heap2 54 2 0 32 lanes 8\n")?;
+    for lane in 0..LANES {
+        let sum = 3 * lane + 6;
+        write!(
+            report,
+            "lane {lane}\ngiven 3\nfreed\ngiven 3\nsum {sum}\nresized 127\nresized 3\nsum {sum}\nfreed\n"
+        )?;
+    }
+    report.push_str("live 0 words 0\nhits 16\n")?;
+    Ok(report)
+}
+
+/// Ten runs on threads of these lanes, by these words, all give this report.
 fn threads_give<R: Threads + Wait + AllocGlobal + Sync>(
     rt: &R,
+    words: &str,
     lanes: &str,
     report: &str,
 ) -> Result<(), Fail> {
     let trace = [lanes, "end\n"].join(rt.alloc(), "")?;
     for _ in 0..10u32 {
         let ends = (REPORTED, Left::Shared);
-        writes(rt, "replay", trace.as_str(), ends, report)?;
+        writes(rt, words, trace.as_str(), ends, report)?;
     }
     Ok(())
 }
@@ -136,7 +168,7 @@ fn schedules_give<R: Threads + Wait + Abort + AllocGlobal + Sync>(
 fn threads_and_schedules_give_one_report(rt: HostRuntime) -> Result<(), Fail> {
     let lanes = roomy_lanes(rt.alloc())?;
     let report = roomy_report(rt.alloc())?;
-    threads_give(&rt, lanes.as_str(), report.as_str())?;
+    threads_give(&rt, "replay", lanes.as_str(), report.as_str())?;
     schedules_give(&rt, lanes.as_str(), report.as_str())
 }
 
@@ -144,6 +176,13 @@ fn threads_and_schedules_give_one_report(rt: HostRuntime) -> Result<(), Fail> {
 fn threads_and_schedules_give_one_report_of_resizes(rt: HostRuntime) -> Result<(), Fail> {
     let lanes = resizing_lanes(rt.alloc())?;
     let report = resizing_report(rt.alloc())?;
-    threads_give(&rt, lanes.as_str(), report.as_str())?;
+    threads_give(&rt, "replay", lanes.as_str(), report.as_str())?;
     schedules_give(&rt, lanes.as_str(), report.as_str())
+}
+
+#[test]
+fn threads_through_caches_give_one_report_and_number_of_hits(rt: HostRuntime) -> Result<(), Fail> {
+    let lanes = cached_lanes(rt.alloc())?;
+    let report = cached_report(rt.alloc())?;
+    threads_give(&rt, "cache 1", lanes.as_str(), report.as_str())
 }

@@ -7,6 +7,7 @@ pub mod FirstLemmas
 pub mod KeepLemmas
 pub mod AdvanceLemmas
 pub mod AloneLemmas
+pub mod ApartLemmas
 pub mod MeantLemmas
 pub mod MomentLemmas
 pub mod MomentAnswers

@@ -36,7 +36,7 @@ use Rattle.lane_engine.specs.Told.{HasStepped}
 use Rattle.trace_lane.specs.Advances.{AnswersCall}
 use Rattle.trace_lane.proofs.AnswerLemmas.{HasBegun, HasMovedOn, MayCall, ends-full, ends-given, ends-not}
 use Rattle.trace_lane.proofs.AnswerLemmas.{behind, call-begun, goes-on as call-goes_on, has-ended, heap-block, moved-on, settled-of}
-use Rattle.trace_lane.proofs.ApartLemmas.{ended-spares, given-apart, got-apart, owns-on}
+use Rattle.step_machine.proofs.ApartLemmas.{ended-spares, given-apart, got-apart, owns-on}
 use Rattle.trace_lane.proofs.NeedLemmas.{need-some}
 
 -- a step of a caller is one from where it stood earlier, whatever others did in between

@@ -1,7 +1,6 @@
 pub mod AddedLemmas
 pub mod AdvanceLemmas
 pub mod AnswerLemmas
-pub mod ApartLemmas
 pub mod CallerLemmas
 pub mod DoingLemmas
 pub mod EndedLemmas

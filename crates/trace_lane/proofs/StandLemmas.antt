@@ -55,7 +55,7 @@ use Rattle.trace_lane.specs.Paths.{begun_count}
 use Rattle.trace_lane.specs.Scripts.{begun_bound, registers_from, script_left, stage_begun}
 use Rattle.trace_lane.specs.States.{IsLaneOf, registers_at}
 use Rattle.trace_lane.proofs.AnswerLemmas.{MayCall, alloc-not_begun, call-begun, goes-on as call-goes_on, settled-of}
-use Rattle.trace_lane.proofs.ApartLemmas.{owns-on}
+use Rattle.step_machine.proofs.ApartLemmas.{owns-on}
 use Rattle.trace_lane.proofs.CallerLemmas.{IsWay, Owns, answers-so, ends-called, in-begun, in-way, moment-from}
 use Rattle.trace_lane.proofs.DoingLemmas.{on-block}
 use Rattle.trace_lane.proofs.EndedLemmas.{IsResting, lane-resting}

@@ -24,7 +24,7 @@ use Rattle.trace_lane.specs.Doing.{AllMadeFor, DoingOf, IsReadFor, call_at, held
 use Rattle.trace_lane.specs.Made.{AllMade}
 use Rattle.trace_lane.proofs.AnswerLemmas.{heap-block, owned-need}
 use Rattle.trace_lane.proofs.CallerLemmas.{Owns, caller-apart, caller-hands, caller-keeps, ends-called}
-use Rattle.trace_lane.proofs.ApartLemmas.{owns-on}
+use Rattle.step_machine.proofs.ApartLemmas.{owns-on}
 use Rattle.trace_lane.proofs.DoingLemmas.{on-block, set-there}
 use Rattle.trace_lane.proofs.HoldsLemmas.{HoldsAll, KeepsAll, lead-keep, leads-split}
 use Rattle.trace_lane.proofs.MadeLemmas.{leads-then, leave-copied, leave-found, leave-wrote}

@@ -19,7 +19,7 @@ pub struct Tally {
     pub busy: u64,
     /// Empty superblocks that were taken for partial ones.
     pub cleared: u64,
-    /// Words of blocks that were written or checked, each by a step of its own.
+    /// Words of blocks that were filled and summed.
     pub words: u64,
     /// Words of a block that weren't what its owner had written there.
     pub wrong: u64,

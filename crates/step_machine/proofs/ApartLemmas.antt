@@ -80,11 +80,11 @@ splits-here caller x xs event same = ([], xs, ap (λ (y : Event). y ∷ xs) same
 first-same : (x y : Event) (xs ys : List Event) → x ∷ xs ≡ y ∷ ys → x ≡ y
 first-same x y xs ys e = cc
 
-others-same : (x y : Event) (xs ys : List Event) → x ∷ xs ≡ y ∷ ys → xs ≡ ys
+pub others-same : (x y : Event) (xs ys : List Event) → x ∷ xs ≡ y ∷ ys → xs ≡ ys
 others-same x y xs ys e = cc
 
 -- where the events of a caller end with one, that stands in the list behind the others
-own-split : (caller : ℕ) (xs front : List Event) (event : Event) → own caller xs ≡ front ++ event ∷ [] → Splits caller xs front event
+pub own-split : (caller : ℕ) (xs front : List Event) (event : Event) → own caller xs ≡ front ++ event ∷ [] → Splits caller xs front event
 own-split caller [] [] event e = absurd (let t : [] ≡ event ∷ [] = e in cc)
 own-split caller [] (f ∷ fs) event e = absurd (let t : [] ≡ f ∷ (fs ++ event ∷ []) = e in cc)
 own-split caller (x ∷ xs) [] event e =
@@ -126,7 +126,7 @@ looks-spare : (place caller class count : ℕ) → AllSpare place (looks caller 
 looks-spare place caller class zero = tt
 looks-spare place caller class (suc count) = (tt, looks-spare place caller class count)
 
-giving-last :
+pub giving-last :
     (caller words place at : ℕ) (n : Need) (events : List Event) → IsGiving caller words place n events
     → (front : List Event) × (events ≡ front ++ Alloc caller words place ∷ []) × AllSpare at front
 giving-last caller words place at (Small class) events h = (looks caller class h.0, h.1, looks-spare at caller class h.0)
