@@ -1,7 +1,7 @@
 /* The symbols of malloc over balloc's heaps. What decides is crates/balloc_malloc; here is what that can't have: a thread's
- * own variables, its first call and its end, and the names. Before the caller's memory stands the heap's own word alone:
- * which seat told it, and its kind, is noted aside, in a byte for each 16. Only the seat's thread makes calls with it: others
- * put what they free on its list. What no seat gives is the C library's, and goes back there. README.md has the rest. */
+ * own variables, its first call and its end, and the names. Nothing of ours stands among the caller's memory: whose each
+ * page of a heap is, and how many words its pieces have, is noted aside. Only a seat's thread makes calls with it: others put
+ * what they free on its list. What no seat gives is the C library's, and goes back there. README.md has the rest. */
 #include "balloc_malloc.h"
 #include <dlfcn.h>
 #include <errno.h>
@@ -14,64 +14,65 @@
 #include <sys/sysinfo.h>
 #define EXPORT __attribute__((visibility("default")))
 #define COUNT(at) atomic_store_explicit(&(at), (at) + 1, memory_order_relaxed) /* by one thread; others only look */
-enum { HEAPS = 256, SEATS = 16, SHARED = 4, DEPTH = BALLOC_MALLOC_MOST_DEPTH, FRAMES = 512, FRAME = 1 << 15, WORD = 8, LONGEST = 32,
-       MOST = 1016, DONE = BALLOC_MALLOC_DONE, OPEN = PROT_READ | PROT_WRITE };
-static const size_t SLOT = 1 << 28, ALL = (size_t)HEAPS << 28, BEHIND = 9 << 24, ROOM = (1 << 20) + 96 * SEATS * DEPTH;
+enum { HEAPS = 256, SEATS = 16, SHARED = 4, DEPTH = 8, FRAMES = 512, LONGEST = 32, SIZES = 51, DONE = BALLOC_MALLOC_DONE };
+static const size_t WORD = 8, PAGE = 1 << 14, FRAME = 1 << 15, SLOT = 1 << 28, ALL = (size_t)HEAPS << 28, MOST = 2048;
 extern void *__libc_malloc(size_t), *__libc_calloc(size_t, size_t), *__libc_realloc(void *, size_t);
 extern void *__libc_memalign(size_t, size_t), __libc_free(void *);
 typedef struct seat { /* what others read, what its thread alone writes, and what others write are apart */
     _Alignas(64) _Atomic(void *) owner; /* the `me` of its thread; NULL where it is free */
     struct seat *next;                  /* a thread's seats stand in a ring */
-    balloc_seat *pass; size_t number;   /* counted as if slots began at address 0 */
-    _Alignas(64) _Atomic size_t given[16], freed[16], awaits; /* by kind; its heap refused: asked first again once as many are freed */
+    balloc_seat *pass; size_t number;
+    _Alignas(64) _Atomic size_t given[SIZES], freed[SIZES], awaits; /* its heap refused: asked first again once as many are freed */
     _Alignas(64) _Atomic(void **) list; /* what other threads freed: in each stands where the next one is */
 } seat;
 static balloc_seat passes[HEAPS * SEATS]; static seat seats[HEAPS * SEATS]; static pthread_key_t at_end;
-static size_t sizes[HEAPS], behind; /* where the next thing that lies behind a heap's words begins */
-static _Atomic size_t opened, region = 1ull << 63; /* where the heaps' slots begin, and the notes behind them; first, nowhere */
-static uint8_t *notes; /* where the note of address 0 would be */
+static size_t sizes[HEAPS]; static _Atomic size_t opened, region = 1ull << 63; /* where the heaps' slots begin; first, nowhere */
+static uint16_t notes[HEAPS << 14]; /* of each page: its seat in the heap, and in the lower 11 bits the size of its pieces */
 static atomic_flag door = ATOMIC_FLAG_INIT; /* who finds it closed uses the C library; so may a forked child for ever */
 static _Thread_local struct { seat *first; size_t from; /* a seat of its own; from this heap on it looks for another one */
     seat *to; void **top, **last; size_t count; } me;   /* what it freed that will go on another's list, all at once */
-static inline int is_ours(void *p) { return (size_t)p - region < ALL; }
-static inline uint8_t *note_of(void *p) { return notes + (size_t)p / 16; }
-static inline size_t number_of(void *p) { return (size_t)p / SLOT * SEATS + *note_of(p) / 16; }
-static inline size_t bytes_of(void *p) { return balloc_malloc_bytes(*note_of(p) % 16); }
-/* What the library asks for when it opens a heap, and keeps: its words, far more than all else, begin its slot. */
+static inline size_t place_of(void *p) { return (size_t)p - region; } static inline int is_ours(void *p) { return place_of(p) < ALL; }
+static inline size_t seat_at(size_t place) { return place / SLOT * SEATS + notes[place / PAGE] / 2048; }
+static inline size_t size_at(size_t place) { return notes[place / PAGE] % 2048; }
+static inline size_t bytes_of(void *p) { return WORD * size_at(place_of(p)); }
+/* What the library asks for is the C library's; but a heap's words, far more than all else, begin its slot as it opens. */
 void *glue_malloc(size_t n)
 {
-    size_t slot = region + opened * SLOT, at = behind;
-    if (n >= (size_t)FRAMES * FRAME) return n < BEHIND && !mprotect((void *)slot, n, OPEN) ? (void *)slot : NULL;
-    return n > ROOM || at + n > slot + BEHIND + ROOM ? NULL : (behind += (n + 15) / 16 * 16, (void *)at);
+    void *slot = (void *)(region + opened * SLOT);
+    return n < FRAMES * FRAME ? __libc_malloc(n) : n <= SLOT && !mprotect(slot, n, PROT_READ | PROT_WRITE) ? slot : NULL;
 }
-void glue_free(void *p) { (void)p; }
-static size_t sum(_Atomic size_t *counts) { size_t all = 0; for (int k = 0; k < 16; k++) all += counts[k]; return all; }
+void glue_free(void *p) { if (!is_ours(p)) __libc_free(p); }
+/* The sizes of pieces are numbered as in crates/memory_cache. */
+static inline size_t number_of(size_t n) { return n <= 64 ? n / 2 - 1 : n <= 256 ? 27 + n / 16 : n <= 1022 ? 51 - 2047 / n : 50; }
+static size_t words_of(size_t k) { return k < 32 ? 2 * k + 2 : k < 44 ? 16 * (k - 27) : k < 50 ? 1023 / (51 - k) * 2 : 2047; }
+static size_t sum(_Atomic size_t *counts) { size_t all = 0; for (int k = 0; k < SIZES; k++) all += counts[k]; return all; }
 static inline uint32_t take(seat *s, size_t n, void **p)
 {
-    uint32_t kind = balloc_malloc_take(s->pass, n, p);
-    const uint8_t note = s->number % SEATS << 4 | kind; /* mostly it stands there already, and others read those beside it */
-    if (kind < BALLOC_MALLOC_KINDS && (COUNT(s->given[kind % 16]), *note_of(*p) != note)) *note_of(*p) = note;
-    return kind;
+    uint32_t size = balloc_malloc_take(s->pass, n, p);
+    if (size >= BALLOC_MALLOC_CAUSES) return size;
+    uint16_t note = s->number % SEATS << 11 | size, *noted = &notes[place_of(*p) / PAGE];
+    if (*noted != note) *noted = note; /* mostly it stands there already, and others read those beside it */
+    return COUNT(s->given[number_of(size)]), size;
 }
-static inline int give(seat *s, void *p) /* a heap's memory begins a word behind its slot */
+static inline void give(seat *s, size_t place) /* a heap's memory begins a word behind its slot */
 {
-    uint32_t kind = *note_of(p) % 16, code = balloc_malloc_give(s->pass, (size_t)p % SLOT / WORD - 2, kind);
-    return code == DONE && (COUNT(s->freed[kind]), 1);
+    COUNT(s->freed[number_of(size_at(place))]), balloc_malloc_give(s->pass, place % SLOT / WORD - 1, size_at(place));
 }
 static void push(void) { if (me.count) for (void **at = me.to->list; *me.last = at, !atomic_compare_exchange_weak(&me.to->list, &at, me.top);); }
 static __attribute__((noinline)) void give_or_push(void **p) /* by LONGEST at once, where the thread's end will be told */
 {
-    seat *s = &seats[number_of(p) - region / SLOT * SEATS];
-    if (s->owner != &me || !give(s, p)) {
+    seat *s = &seats[seat_at(place_of(p))];
+    if (s->owner != &me) {
         if (me.to != s || me.count == LONGEST) push(), me.count = 0;
         *p = me.top, me.top = p, me.last = me.count++ ? me.last : p, me.to = s;
         if (!me.first) push(), me.count = 0;
-    } else if (s->awaits && sum(s->freed) >= s->awaits) me.first = s, s->awaits = 0;
+    } else if (give(s, place_of(p)), s->awaits && sum(s->freed) >= s->awaits) me.first = s, s->awaits = 0;
 }
-EXPORT void free(void *p) /* most often of the first seat: its words are then on their way before the note is read */
+EXPORT void free(void *p)
 {
-    if (!is_ours(p)) return __libc_free(p);
-    if (!me.first || me.first->number != number_of(p) || !give(me.first, p)) give_or_push(p);
+    size_t place = place_of(p);
+    if (place >= ALL) return __libc_free(p);
+    if (me.first && me.first->number == seat_at(place)) give(me.first, place); else give_or_push(p);
 }
 static void leave(void *first) /* at the thread's end */
 {
@@ -80,12 +81,11 @@ static void leave(void *first) /* at the thread's end */
 static int open_heap(size_t h) /* the first one takes the addresses of all; what is opened since others refused is larger */
 {
     const int how = MAP_PRIVATE | MAP_ANONYMOUS | MAP_NORESERVE, frames = FRAMES << (me.from < 3 ? me.from : 3);
-    void *words, *all = region >> 63 ? mmap(NULL, ALL + ALL / 16 + SLOT, PROT_NONE, how, -1, 0) : NULL;
+    void *words, *all = region >> 63 ? mmap(NULL, ALL + SLOT, PROT_NONE, how, -1, 0) : NULL;
     if (h == HEAPS || all == MAP_FAILED || (all && pthread_key_create(&at_end, leave))) return 0;
     if (all) region = ((size_t)all + SLOT - 1) / SLOT * SLOT;
-    notes = (uint8_t *)region + ALL - region / 16, behind = region + h * SLOT + BEHIND;
-    return !mprotect((void *)behind, ROOM, OPEN) && DONE == balloc_malloc_open(frames, SHARED, DEPTH, &passes[h * SEATS], SEATS, &words, &sizes[h])
-        && (size_t)words == region + h * SLOT + WORD && !mprotect(note_of(words), sizes[h] / 16 + 1, OPEN);
+    return DONE == balloc_malloc_open(frames, SHARED, DEPTH, &passes[h * SEATS], SEATS, &words, &sizes[h])
+        && (size_t)words == region + h * SLOT + WORD;
 }
 static seat *sit(void) /* on a seat of a heap where this thread has none */
 {
@@ -97,7 +97,7 @@ static seat *sit(void) /* on a seat of a heap where this thread has none */
     seat *found = i < opened * SEATS && !pthread_setspecific(at_end, &seats[i]) ? &seats[i] : NULL;
     me.from = found ? i / SEATS + 1 : HEAPS + 1; /* where there is none it looks no more */
     if (found) found->next = me.first ? me.first->next : found, *(me.first ? &me.first->next : &me.first) = found;
-    if (found) found->pass = &passes[i], found->number = region / SLOT * SEATS + i, found->owner = &me;
+    if (found) found->pass = &passes[i], found->number = i, found->owner = &me;
     return atomic_flag_clear(&door), found;
 }
 static __attribute__((noinline)) void *search(size_t n) /* from seat to seat of the ring, and then on new ones */
@@ -105,8 +105,8 @@ static __attribute__((noinline)) void *search(size_t n) /* from seat to seat of 
     uint32_t code = DONE; seat *s = n > MOST ? NULL : me.first ? me.first : sit();
     for (; s; s = s->next != me.first ? s->next : code == BALLOC_MALLOC_REFUSED || code == BALLOC_MALLOC_SPENT ? sit() : NULL) {
         void **p = atomic_exchange(&s->list, NULL);
-        for (void **next; p; p = next) if (next = *p, !give(s, p)) give_or_push(p);
-        if ((code = take(s, n, (void **)&p)) < BALLOC_MALLOC_KINDS) return me.first = s, p;
+        for (void **next; p; p = next) next = *p, give(s, place_of(p));
+        if ((code = take(s, n, (void **)&p)) < BALLOC_MALLOC_CAUSES) return me.first = s, p;
         s->awaits = sum(s->freed) + (sum(s->given) - sum(s->freed)) / 8 + 1;
     }
     return __libc_malloc(n);
@@ -114,7 +114,7 @@ static __attribute__((noinline)) void *search(size_t n) /* from seat to seat of 
 EXPORT void *malloc(size_t n)
 {
     seat *s = me.first; void *p;
-    return s && n <= MOST && !s->list && take(s, n, &p) < BALLOC_MALLOC_KINDS ? p : search(n);
+    return s && n <= MOST && !s->list && take(s, n, &p) < BALLOC_MALLOC_CAUSES ? p : search(n);
 }
 EXPORT void *calloc(size_t n, size_t m)
 {
@@ -135,16 +135,16 @@ EXPORT int posix_memalign(void **p, size_t a, size_t n) { return a < 8 || a & (a
 EXPORT size_t malloc_usable_size(void *p) { return is_ours(p) ? bytes_of(p) : ((size_t (*)(void *))dlsym(RTLD_NEXT, "malloc_usable_size"))(p); }
 EXPORT void balloc_report(void) /* on standard error, also for a debugger; nothing while a thread looks for a seat */
 {
-    uint64_t given[16] = {0}, live[16] = {0}, all = 0, gone = 0, bytes = 0, hits = 0, lost = 0, more, out, less;
+    uint64_t given[SIZES] = {0}, live[SIZES] = {0}, all = 0, gone = 0, bytes = 0, hits = 0, lost = 0, more, out, less;
     if (atomic_flag_test_and_set(&door)) return; /* meanwhile nobody takes a seat; those of other threads tell no more */
     for (seat *s = seats; s < seats + opened * SEATS; s++) {
-        for (int k = 0; k < 16; k++) given[k] += s->given[k], live[k] += s->given[k] - s->freed[k];
+        for (int k = 0; k < SIZES; k++) given[k] += s->given[k], live[k] += s->given[k] - s->freed[k];
         all += sum(s->given), gone += sum(s->freed), bytes += (s - seats) % SEATS ? 0 : sizes[(s - seats) / SEATS];
         if ((!s->owner || s->owner == &me) && balloc_malloc_counts(&passes[s - seats], &more, &out, &less) == DONE) hits += more, lost += less;
     }
-    dprintf(2, "balloc: %lu given, %lu freed, %lu live; magazines served %lu; %lu exchanges lost; %zu heaps with %lu MB of addresses\n",
+    dprintf(2, "balloc: %lu given, %lu freed, %lu live; pages served %lu; %lu exchanges lost; %zu heaps with %lu MB of addresses\n",
             all, gone, all - gone, hits, lost, (size_t)opened, bytes >> 20);
-    for (int k = 0; k < 16; k++) if (given[k]) dprintf(2, "balloc: of %zu bytes %lu given, %lu live\n", balloc_malloc_bytes(k), given[k], live[k]);
+    for (int k = 0; k < SIZES; k++) if (given[k]) dprintf(2, "balloc: of %zu bytes %lu given, %lu live\n", WORD * words_of(k), given[k], live[k]);
     atomic_flag_clear(&door);
 }
 __attribute__((destructor)) static void report(void) { char *asked = getenv("BALLOC_STATS"); if (asked && !strcmp(asked, "1")) balloc_report(); }

@@ -21,39 +21,39 @@ static int holds(const unsigned char *bytes, unsigned char value) {
 }
 
 /* A call that was interrupted is made again. */
-static unsigned char *take(balloc_seat *seat, uint32_t *kind) {
+static unsigned char *take(balloc_seat *seat, uint32_t *size) {
     void *memory;
-    while ((*kind = balloc_malloc_take(seat, BYTES, &memory)) == BALLOC_MALLOC_BUSY) {}
+    while ((*size = balloc_malloc_take(seat, BYTES, &memory)) == BALLOC_MALLOC_BUSY) {}
     return memory;
 }
 
-static void give(balloc_seat *seat, void *memory, uint32_t kind) {
-    while (balloc_malloc_give(seat, BALLOC_MALLOC_PLACE(heap, memory), kind) == BALLOC_MALLOC_BUSY) {}
+static void give(balloc_seat *seat, void *memory, uint32_t size) {
+    balloc_malloc_give(seat, BALLOC_MALLOC_FIRST(heap, memory), size);
 }
 
 static void *hand_over(void *wrong) {
     for (int round = 0; round < ROUNDS; round++) {
-        uint32_t kind;
-        unsigned char *bytes = take(&seats[0], &kind), *came;
+        uint32_t size;
+        unsigned char *bytes = take(&seats[0], &size), *came;
         if (!bytes) exit(3);
         memset(bytes, 1 + round % 100, BYTES);
         atomic_store(&there, bytes);
         while (!(came = atomic_exchange(&back, NULL))) {}
         *(int *)wrong += came != bytes || !holds(bytes, 101 + round % 100);
-        give(&seats[0], bytes, kind);
+        give(&seats[0], bytes, size);
     }
     return NULL;
 }
 
 static void *answer(void *wrong) {
     for (int round = 0; round < ROUNDS; round++) {
-        uint32_t kind;
-        unsigned char *came, *own = take(&seats[1], &kind);
+        uint32_t size;
+        unsigned char *came, *own = take(&seats[1], &size);
         while (!(came = atomic_exchange(&there, NULL))) {}
         *(int *)wrong += !holds(came, 1 + round % 100);
         memset(came, 101 + round % 100, BYTES);
         atomic_store(&back, came);
-        if (own) give(&seats[1], own, kind);
+        if (own) give(&seats[1], own, size);
     }
     return NULL;
 }

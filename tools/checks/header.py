@@ -32,7 +32,7 @@ PAGES = [
           "MOST_BYTES": "8 * SMALL_MOST"}),
 ]
 VERSION = ["BALLOC_VERSION_MAJOR", "BALLOC_VERSION_MINOR", "BALLOC_VERSION_PATCH"]
-TYPES = {"bool": "bool", "u8": "uint8_t", "u32": "uint32_t", "u64": "uint64_t", "i32": "int32_t", "usize": "size_t",
+TYPES = {"": "void", "bool": "bool", "u8": "uint8_t", "u32": "uint32_t", "u64": "uint64_t", "i32": "int32_t", "usize": "size_t",
          "*mut u64": "void *", "Spot": "void *", "ThreadSeat": "balloc_seat", "PassHandle": "balloc_pass",
          "Counted": "balloc_census"}
 
@@ -56,7 +56,7 @@ def c_parameters(name, kind):
 def exported(source):
     """Each export as its name and C's parameters."""
     found = {}
-    pattern = r'#\[unsafe\(no_mangle\)\]\s*pub (?:unsafe )?extern "C" fn (\w+)\((.*?)\)\s*->\s*(\w+)'
+    pattern = r'#\[unsafe\(no_mangle\)\]\s*pub (?:unsafe )?extern "C" fn (\w+)\((.*?)\)(?:\s*->\s*(\w+))?'
     for name, inside, result in re.findall(pattern, source, flags=re.S):
         parameters = []
         for part in filter(None, (part.strip() for part in inside.split(","))):
@@ -148,7 +148,7 @@ def codes(page, header):
         named = set(re.findall(r"BALLOC_\w+", comment)) - defined(header).keys()
         for constant in sorted(named - theirs.keys()):
             yield f"{name}: its comment names {constant}, which there is not"
-        if result != "size_t" and not named & theirs.keys():
+        if result != "void" and not named & theirs.keys():
             yield f"{name}: its comment doesn't name its codes"
 
 

@@ -27,7 +27,7 @@
  * be changed (while it is 0, MINOR does), MINOR where a name or a code is added, and PATCH where all names, numbers and
  * layouts stay. A program is built with the page of the very library that it is linked with. */
 #define BALLOC_VERSION_MAJOR 0
-#define BALLOC_VERSION_MINOR 3
+#define BALLOC_VERSION_MINOR 4
 #define BALLOC_VERSION_PATCH 0
 
 #ifdef __cplusplus

@@ -1,8 +1,8 @@
 -- Words that are laid one after the other.
-use Rattle.std.proofs.Common.{◌≡◌, ◌≢◌, ℕ, zero, suc, ◌+◌, ◌∙◌, ◌<◌, List, [], ◌∷◌, length, get_or, set, sym, refl, ap, arith}
+use Rattle.std.proofs.Common.{◌≡◌, ◌≢◌, ℕ, zero, suc, ◌+◌, ◌∙◌, ◌<◌, List, [], ◌∷◌, length, get_or, set, take, drop, take_all, sym, refl, ap, arith}
 use Rattle.std.specs.Prelude.{None}
 use Rattle.std.proofs.lemmas.Bool.Decides.{eqb_tells}
-use Rattle.plain_words.specs.Places.{Place, laid, laids, IsHere, AllHere}
+use Rattle.plain_words.specs.Places.{Place, laid, laids, run, IsHere, AllHere}
 use Rattle.balloc_malloc.proofs.SeatLemmas.{by_case}
 
 laid-here : (n : ℕ) → IsHere (laid n)
@@ -45,3 +45,7 @@ one_more ps qs had i is lt done k hi =
     by_case
     (λ at. ap (λ (n : ℕ). get_or (set ps i (laid (get_or had i 0))) n None) at.1 ∙ at_same ps i (laid (get_or had i 0)) lt ∙ ap (λ (n : ℕ). laid (get_or had n 0)) (sym at.1))
     (λ apart. at_other ps i k (laid (get_or had i 0)) apart.1 ∙ done k (omega (arith, hi, apart.1))) (eqb_tells k i)
+
+-- a run of all the words is all of them
+pub all_run : (ps : List Place) (k n : ℕ) (ns : List ℕ) → k ≡ 0 → n ≡ length ps → run ps k n ≡ laids ns → ps ≡ laids ns
+all_run ps k n ns none all is = sym (take_all n ps (omega (arith, all))) ∙ ap (λ (j : ℕ). take n (drop j ps)) (sym none) ∙ is

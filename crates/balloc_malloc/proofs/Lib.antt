@@ -1,9 +1,7 @@
 mod Calling
 mod Firsts
-mod Giving
-mod Lots
 mod Moving
-mod Rooms
+mod PieceSizes
 mod Seal
 mod SeatLemmas
 mod Taking

@@ -7,11 +7,11 @@ use Rattle.balloc_malloc.specs.declared.codes.TheConstants.{DONE, EMPTY}
 use Rattle.balloc_malloc.specs.declared.spot.Spot.{Spot}
 use Rattle.balloc_malloc.specs.declared.tenant.Tenant.{Tenant}
 
--- how many takes a magazine has served, how many blocks are out, those in magazines too, and how many exchanges the pass has lost; a seat that is empty tells nothing
+-- how many takes a page that was ready has served, how many blocks are out, those in magazines too, and how many exchanges the pass has lost; a seat that is empty tells nothing
 abbrev pub TellsCounts : Option Tenant → ℕ → ℕ × ℕ × ℕ → ℕ × ℕ × ℕ → Type 0
 TellsCounts None code before after = (code ≡ EMPTY) × (after ≡ before)
 TellsCounts (Some tenant) code before after =
-    (code ≡ DONE) × (after.0 ≡ tenant.cache.hits) × (after.1 ≡ tenant.cache.pass.out) × (after.2 ≡ tenant.cache.pass.errand.lost)
+    (code ≡ DONE) × (after.0 ≡ tenant.cache.hits) × (after.1 ≡ tenant.cache.cache.pass.out) × (after.2 ≡ tenant.cache.cache.pass.errand.lost)
 
 -- the code of an opening, where memory begins and how many bytes it has in which blocks lie; where none is opened nothing is told
 abbrev pub TellsMemory : Geometry → Result Start ℕ → ℕ → Spot → ℕ → Spot → ℕ → Type 0

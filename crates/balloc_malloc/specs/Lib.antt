@@ -2,11 +2,11 @@ pub mod Codes
 pub mod Counts
 pub mod Gives
 pub mod Handing
-pub mod Kinds
 pub mod Lent
 pub mod Opened
 pub mod Out
 pub mod Owned
-pub mod Takes
 pub mod Resizes
+pub mod Sizes
+pub mod Takes
 pub mod Tenants

@@ -6,6 +6,7 @@ use Rattle.heap_geometry.specs.Geometry.{IsChecked}
 use Rattle.live_heap.specs.Heaps.{HeapFields}
 use Rattle.live_heap.specs.Passes.{IsFresh}
 use Rattle.memory_cache.specs.Caches.{kept_in}
+use Rattle.memory_cache.specs.Paged.{IsOut}
 use Rattle.plain_words.specs.declared.plain.Start.{Start}
 use Rattle.balloc_malloc.specs.declared.codes.TheConstants.{BAD_NUMBERS, NO_MEMORY}
 use Rattle.balloc_malloc.specs.declared.tenant.Tenant.{Tenant}
@@ -26,17 +27,18 @@ held_at (seat ∷ seats) (suc number) = held_at seats number
 abbrev pub AreEmpty : List ThreadSeat → Type 0
 AreEmpty seats = (number : ℕ) → held_at seats number ≡ None
 
--- the numbers are in their ranges, and magazines have room for so many pieces
+-- the numbers are in their ranges, and magazines have room for so many pages
 abbrev pub Fit : Geometry → ℕ → Type 0
 Fit g depth = IsChecked g × (depth ≤ 4096)
 
--- the pass of this caller of the heap, which has made no step and has no block; its magazines are empty, and have room for so many each
+-- the pass of this caller of the heap, which has made no step and has no block; nothing is out with C, and magazines are empty, with room for so many pages each
 pub record IsNew (h : HeapFields) (number depth : ℕ) (tenant : Tenant) : Type 0 where
   pub heap : heap_of tenant ≡ h
-  pub fresh : IsFresh h tenant.cache.pass
-  pub caller : tenant.cache.pass.errand.caller ≡ number
-  pub empty : kept_in tenant.cache ≡ []
-  pub deep : tenant.cache.magazines.depth ≡ depth
+  pub fresh : IsFresh h tenant.cache.cache.pass
+  pub caller : tenant.cache.cache.pass.errand.caller ≡ number
+  pub none : (first size : ℕ) → ¬ IsOut tenant.cache first size
+  pub empty : kept_in tenant.cache.cache ≡ []
+  pub deep : tenant.cache.cache.magazines.depth ≡ depth
   pub hits : tenant.cache.hits ≡ 0
 
 -- the first seats have the passes of the first callers of the heap

@@ -1,30 +1,26 @@
 -- Memory that is out with C.
-use Rattle.std.specs.Prelude.{ℕ, ◌≡◌, ◌<◌, ◌^◌, Option, Some, None}
+use Rattle.std.specs.Prelude.{ℕ, ◌≡◌, ◌<◌, Option, Some, None}
 use Rattle.std.specs.Ptr.{ptr_add}
 use Rattle.std.specs.Borrow.{u64}
 use denote.RawPtr.{Ptr}
-use Rattle.live_heap.specs.Heaps.{HeapFields}
-use Rattle.live_heap.specs.declared.plain.Memory.{Memory}
-use Rattle.memory_cache.specs.Caches.{IsHeld}
-use Rattle.memory_cache.specs.Rooms.{IsRoomOf}
-use Rattle.balloc_malloc.specs.Kinds.{kind_of}
-use Rattle.balloc_malloc.specs.declared.codes.TheConstants.{KINDS}
-use Rattle.balloc_malloc.specs.Tenants.{heap_of}
+use Rattle.plain_words.specs.declared.plain.PlainWords.{PlainWords}
+use Rattle.memory_cache.specs.Pages.{AreHere}
+use Rattle.memory_cache.specs.Paged.{IsOut}
+use Rattle.balloc_malloc.specs.declared.codes.TheConstants.{CAUSES}
 use Rattle.balloc_malloc.specs.declared.tenant.Tenant.{Tenant}
+use Rattle.balloc_malloc.specs.Tenants.{heap_of}
 
--- p points to the first word of the memory
-abbrev pub IsAt : Memory → Ptr → Type 0
-IsAt memory p = p ≡ ptr_add u64 memory.words.first memory.words.at
+-- p points to the first of the words
+abbrev pub IsAt : PlainWords → Ptr → Type 0
+IsAt words p = p ≡ ptr_add u64 words.first words.at
 
--- the memory is all usable words of the block of this heap that lies at this place and is of this kind
-pub record IsOut (h : HeapFields) (memory : Memory) (place kind : ℕ) : Type 0 where
-  pub room : IsRoomOf h memory
-  pub small : place < 2 ^ 32
-  pub lies : place ≡ memory.block.place
-  pub serves : kind ≡ kind_of memory.block.need
-  pub within : kind < KINDS
+-- C has a piece of the tenant's: the words of its heap's memory from this one on, so many, each of them here
+pub record IsLent (tenant : Tenant) (words : PlainWords) (first size : ℕ) : Type 0 where
+  pub here : AreHere (heap_of tenant) first size words
+  pub out : IsOut tenant.cache first size
+  pub within : size < CAUSES
 
--- C has this memory of the tenant of a seat, at this place and of this kind: its cache holds it for C
-abbrev pub HasOut : Option Tenant → Memory → ℕ → ℕ → Type 0
-HasOut None memory place kind = ⊥
-HasOut (Some tenant) memory place kind = IsOut (heap_of tenant) memory place kind × IsHeld tenant.cache memory
+-- the same of the tenant of a seat
+abbrev pub HasOut : Option Tenant → PlainWords → ℕ → ℕ → Type 0
+HasOut None words first size = ⊥
+HasOut (Some tenant) words first size = IsLent tenant words first size

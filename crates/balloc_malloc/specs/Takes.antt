@@ -1,42 +1,37 @@
 -- How memory is taken.
-use Rattle.std.specs.Prelude.{ℕ, ◌≡◌, ◌≢◌, ◌<◌, ◌≤◌, ◌*◌, ◌%◌, ◌⊎◌, Option, Some, None}
+use Rattle.std.specs.Prelude.{ℕ, ◌≡◌, ◌≢◌, ◌<◌, ◌≤◌, ◌*◌, ◌%◌, ◌⊎◌, Option, Some, None, Result, IfOk}
+use Rattle.std.specs.declared.alloc.AllocError.{AllocError}
 use denote.RawPtr.{Ptr, null_ptr}
 use Rattle.heap_geometry.specs.declared.limits.TheConstants.{LARGE_MOST}
-use Rattle.heap_geometry.specs.Need.{need_of}
-use Rattle.live_heap.specs.declared.plain.Memory.{Memory}
 use Rattle.plain_words.specs.declared.plain.PlainWords.{PlainWords}
 use Rattle.live_heap.specs.declared.answers.AllocAnswer.{AllocAnswer}
-use Rattle.live_heap.specs.declared.answers.AllocAnswer.TheVariants as answer
-use Rattle.memory_cache.specs.Asking.{TakeTells}
-use Rattle.memory_cache.specs.Caches.{HasFor, HasServed, IsHeld, KeepsMagazines}
-use Rattle.balloc_malloc.specs.declared.codes.TheConstants.{EMPTY, KINDS, TOO_LARGE}
+use Rattle.memory_cache.specs.declared.piece.Piece.{Piece}
+use Rattle.memory_cache.specs.Paged.{CameOf, HasPieceReady, IsOut}
+use Rattle.memory_cache.specs.Sizes.{page_words, piece_words}
+use Rattle.balloc_malloc.specs.declared.codes.TheConstants.{CAUSES, EMPTY, TOO_LARGE}
 use Rattle.balloc_malloc.specs.declared.tenant.TheConstants.{TRIES}
 use Rattle.balloc_malloc.specs.declared.tenant.Tenant.{Tenant}
-use Rattle.balloc_malloc.specs.Codes.{code_of}
-use Rattle.balloc_malloc.specs.Kinds.{bytes_for, words_for}
-use Rattle.balloc_malloc.specs.Out.{IsAt, IsOut}
+use Rattle.balloc_malloc.specs.Codes.{GivesNone, code_of}
+use Rattle.balloc_malloc.specs.Out.{IsAt, IsLent}
+use Rattle.balloc_malloc.specs.Sizes.{bytes_of, words_for}
 use Rattle.balloc_malloc.specs.Tenants.{heap_of}
 
--- the heap was asked for so many words, and this is what came of it; the magazines had nothing for them and are as they were
-pub record IsAsked (before : Tenant) (words : ℕ) (answer : AllocAnswer Memory) (after : Tenant) : Type 0 where
-  pub none : ¬ HasFor before.cache (need_of words)
-  pub tells : TakeTells (heap_of before) before.cache.pass words TRIES answer after.cache.pass
-  pub keeps : KeepsMagazines before.cache after.cache
+-- a page has a piece ready for so many bytes
+abbrev pub HasReady : Tenant → ℕ → Type 0
+HasReady tenant bytes = HasPieceReady tenant.cache (piece_words (words_for bytes))
 
--- memory of this kind, with at least so many bytes, is C's from now on, and was not before; it is aligned to 16 bytes, since it begins at an odd word of memory that begins 8 bytes behind a multiple of 16. The cache holds it for C, and just what it held for C before
-pub record IsGiven (before : Tenant) (bytes kind : ℕ) (memory : Memory) (p : Ptr) (after : Tenant) : Type 0 where
-  pub out : IsOut (heap_of after) memory memory.block.place kind
-  pub there : IsAt memory p
-  pub held : IsHeld after.cache memory
-  pub apart : (other : Memory) → IsHeld before.cache other → other.block.place ≢ memory.block.place
-  pub keeps : (other : Memory) → IsHeld before.cache other → IsHeld after.cache other
-  pub only : (other : Memory) → IsHeld after.cache other → other.block.place ≢ memory.block.place → IsHeld before.cache other
-  pub aligned : memory.words.first % 2 ≡ 1
-  pub need : memory.block.need ≡ need_of (words_for bytes)
-  pub enough : bytes ≤ bytes_for memory.block.need
+-- memory of so many words, that have at least so many bytes, is C's from now on, and was not before; it is aligned to 16 bytes, since it begins at an odd word of memory that begins 8 bytes behind a multiple of 16. Of the rest C has just what it had. Where a page had a piece ready nothing was asked of the heap
+pub record IsGiven (before : Tenant) (bytes size : ℕ) (words : PlainWords) (p : Ptr) (after : Tenant) : Type 0 where
+  pub lent : IsLent after words words.first size
+  pub there : IsAt words p
+  pub fresh : (other : ℕ) → ¬ IsOut before.cache words.first other
+  pub keeps : (first other : ℕ) → IsOut before.cache first other → IsOut after.cache first other
+  pub only : (first other : ℕ) → IsOut after.cache first other → first ≢ words.first → IsOut before.cache first other
+  pub aligned : words.first % 2 ≡ 1
+  pub sized : size ≡ piece_words (words_for bytes)
+  pub enough : bytes ≤ bytes_of size
   pub heap : after.heap ≡ before.heap
-  pub served : HasFor before.cache (need_of (words_for bytes)) → HasServed before.cache (words_for bytes) memory after.cache
-  pub asked : (¬ HasFor before.cache (need_of (words_for bytes))) → IsAsked before (words_for bytes) (answer.Given memory) after
+  pub served : HasReady before bytes → after.cache.cache ≡ before.cache.cache
 
 -- no block has so many bytes: nothing happened
 pub record IsTooMuch (before : Tenant) (bytes code : ℕ) (after : Tenant) : Type 0 where
@@ -45,21 +40,26 @@ pub record IsTooMuch (before : Tenant) (bytes code : ℕ) (after : Tenant) : Typ
   pub cache : after.cache ≡ before.cache
   pub heap : after.heap ≡ before.heap
 
--- the heap was asked, and has no memory for so many bytes now; what C has it has still
+-- no page had a piece ready; the heap was asked for one and has none now, or there is no memory to keep account of one. What C has it has still
 pub record IsRefused (before : Tenant) (bytes code : ℕ) (after : Tenant) : Type 0 where
   pub fits : bytes ≤ 8 * LARGE_MOST
-  pub answer : AllocAnswer Memory
+  pub none : ¬ HasReady before bytes
+  pub answer : Result (AllocAnswer Piece) AllocError
   pub told : code ≡ code_of answer
-  pub lacks : KINDS ≤ code
-  pub asked : IsAsked before (words_for bytes) answer after
-  pub keeps : (other : Memory) → IsHeld before.cache other → IsHeld after.cache other
-  pub only : (other : Memory) → IsHeld after.cache other → IsHeld before.cache other
+  pub lacks : GivesNone answer × (CAUSES ≤ code)
+  pub came : IfOk answer (λ told. CameOf (heap_of before) before.cache.cache.pass (page_words (words_for bytes)) TRIES told after.cache.cache.pass)
+  pub keeps : (first size : ℕ) → IsOut before.cache first size → IsOut after.cache first size
+  pub only : (first size : ℕ) → IsOut after.cache first size → IsOut before.cache first size
   pub heap : after.heap ≡ before.heap
 
--- what comes of a take: these words go out, and the code is their kind; or none, and it tells why
+-- why no memory is given
+abbrev pub Lacks : Tenant → ℕ → ℕ → Tenant → Type 0
+Lacks before bytes code after = IsTooMuch before bytes code after ⊎ IsRefused before bytes code after
+
+-- what comes of a take: these words go out, and the code is how many they are; or none, and it tells why
 abbrev pub Takes : Tenant → ℕ → ℕ → Option PlainWords → Ptr → Tenant → Type 0
-Takes before bytes code (Some words) p after = (memory : Memory) × (memory.words ≡ words) × IsGiven before bytes code memory p after
-Takes before bytes code None p after = (p ≡ null_ptr) × (IsTooMuch before bytes code after ⊎ IsRefused before bytes code after)
+Takes before bytes code (Some words) p after = IsGiven before bytes code words p after
+Takes before bytes code None p after = (p ≡ null_ptr) × Lacks before bytes code after
 
 -- the same of a seat, which may be empty
 abbrev pub TakesBy : Option Tenant → ℕ → ℕ → Option PlainWords → Ptr → Option Tenant → Type 0

@@ -1,7 +1,7 @@
 -- What is so of a tenant of a seat.
 use Rattle.std.specs.Arc.{arc_value}
 use Rattle.live_heap.specs.Heaps.{HeapFields}
-use Rattle.memory_cache.specs.Caches.{IsCache}
+use Rattle.memory_cache.specs.Paged.{IsPaged}
 use Rattle.balloc_malloc.specs.declared.tenant.Tenant.{Tenant}
 
 -- the heap that it has a share in
@@ -10,4 +10,4 @@ heap_of tenant = arc_value tenant.heap
 
 -- its cache is one in front of that heap
 abbrev pub IsTended : Tenant → Type 0
-IsTended tenant = IsCache (heap_of tenant) tenant.cache
+IsTended tenant = IsPaged (heap_of tenant) tenant.cache

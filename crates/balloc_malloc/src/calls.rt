@@ -1,10 +1,9 @@
 //! Calls by a seat.
 
 ghost use Rattle.std.specs.Prelude.{◌≡◌};
-ghost use Rattle.live_heap.specs.declared.plain.Memory.{Memory};
 ghost use Rattle.balloc_malloc.specs.Gives.{GivesBy};
 ghost use Rattle.balloc_malloc.specs.Out.{HasOut};
-ghost use Rattle.balloc_malloc.specs.Resizes.{IsNumbered, ResizesBy};
+ghost use Rattle.balloc_malloc.specs.Resizes.{AreNumbered, ResizesBy};
 ghost use Rattle.balloc_malloc.specs.Takes.{TakesBy};
 
 use crate::codes::EMPTY;
@@ -13,6 +12,7 @@ use crate::seat::ThreadSeat;
 use plain_words::PlainWords;
 
 /// Memory of at least so many bytes.
+#[inline(always)]
 pub fn take(seat: &mut ThreadSeat, bytes: usize) -> Handed
     ensures { TakesBy seat.old.held.tenant bytes result.code result.words result.memory seat.new.held.tenant }
 {
@@ -22,16 +22,14 @@ pub fn take(seat: &mut ThreadSeat, bytes: usize) -> Handed
     }
 }
 
-/// Takes memory back, by its place and its kind. The words come out again where a call of the heap is under way that
-/// doesn't end.
-pub fn give(seat: &mut ThreadSeat, words: PlainWords, place: u32, kind: u32) -> Handed
-    requires { (lot : Memory) × (words ≡ lot.words) × HasOut seat.old.held.tenant lot place kind }
-    ensures { (lot : Memory) → words ≡ lot.words → HasOut seat.old.held.tenant lot place kind
-        → GivesBy seat.old.held.tenant lot result.code result.words seat.new.held.tenant }
+/// Takes memory back, by its first word and how many words it has.
+#[inline(always)]
+pub fn give(seat: &mut ThreadSeat, words: PlainWords, first: usize, size: u32)
+    requires { HasOut seat.old.held.tenant words first size }
+    ensures { GivesBy seat.old.held.tenant first seat.new.held.tenant }
 {
-    match seat.tenant() {
-        Some(tenant) => tenant.give(words, place, kind),
-        None => Handed::none(EMPTY),
+    if let Some(tenant) = seat.tenant() {
+        tenant.give(words, first, size);
     }
 }
 
@@ -39,16 +37,15 @@ pub fn give(seat: &mut ThreadSeat, words: PlainWords, place: u32, kind: u32) -> 
 pub fn resize(
     seat: &mut ThreadSeat,
     words: PlainWords,
-    place: u32,
-    kind: u32,
+    first: usize,
+    size: u32,
     bytes: usize,
 ) -> Handed
-    requires { (lot : Memory) × (words ≡ lot.words) × HasOut seat.old.held.tenant lot place kind × IsNumbered lot }
-    ensures { (lot : Memory) → words ≡ lot.words → HasOut seat.old.held.tenant lot place kind
-        → ResizesBy seat.old.held.tenant lot bytes result.code result.words result.memory seat.new.held.tenant }
+    requires { HasOut seat.old.held.tenant words first size × AreNumbered words }
+    ensures { ResizesBy seat.old.held.tenant words size bytes result.code result.words result.memory seat.new.held.tenant }
 {
     match seat.tenant() {
-        Some(tenant) => tenant.resize(words, place, kind, bytes),
+        Some(tenant) => tenant.resize(words, first, size, bytes),
         None => Handed::none(EMPTY),
     }
 }

@@ -1,23 +1,20 @@
-//! How memory goes out to C, and comes in.
+//! How memory goes out to C.
 
-ghost use Rattle.std.specs.Prelude.{◌≡◌, ◌<◌, ◌≤◌, ◌*◌, ◌^◌, IfSome, None, Some};
+ghost use Rattle.std.specs.Prelude.{◌≡◌, ◌<◌, ◌≤◌, ◌*◌, IfSome, None, Some};
 ghost use Rattle.heap_geometry.specs.declared.limits.TheConstants.{LARGE_MOST};
-ghost use Rattle.heap_geometry.specs.Need.{usable_words};
-ghost use Rattle.live_heap.specs.declared.plain.Memory.{Memory as Lot};
-ghost use Rattle.memory_cache.specs.Rooms.{IsRoomOf};
-ghost use Rattle.balloc_malloc.specs.Gives.{IsSame};
-ghost use Rattle.balloc_malloc.specs.Kinds.{bytes_for, words_for as least_words};
-ghost use Rattle.balloc_malloc.specs.Out.{IsAt, IsOut};
-ghost use Rattle.balloc_malloc.specs.Resizes.{HasCopied, IsNumbered};
+ghost use Rattle.plain_words.specs.declared.plain.PlainWords.{PlainWords};
+ghost use Rattle.memory_cache.specs.Pages.{IsPiece};
+ghost use Rattle.balloc_malloc.specs.Out.{IsAt};
+ghost use Rattle.balloc_malloc.specs.Resizes.{AreNumbered, HasCopied};
+ghost use Rattle.balloc_malloc.specs.Sizes.{bytes_of, words_for as least_words};
 
 use crate::handed::Handed;
-use crate::kind::{kind, need_of_kind};
 use heap_geometry::limits::LARGE_MOST;
 use live_heap::heap::Heap;
-use live_heap::plain::Memory;
-use plain_words::PlainWords;
+use memory_cache::piece::Piece;
 
-/// How many usable words so many bytes lie in, where a block has as many.
+/// How many words so many bytes lie in, where a block has as many.
+#[inline(always)]
 pub fn words_for(bytes: usize) -> Option<u32>
     ensures words { IfSome result (λ words. (words ≡ least_words bytes) × (bytes ≤ 8 * LARGE_MOST) × (words ≤ LARGE_MOST)) }
     ensures none { result ≡ None → 8 * LARGE_MOST < bytes }
@@ -28,58 +25,50 @@ pub fn words_for(bytes: usize) -> Option<u32>
     Some(((bytes + 7) / 8) as u32)
 }
 
-/// Memory goes out to C, and its kind is told.
-pub fn hand_out(heap: &Heap, memory: Memory) -> Handed
-    requires { IsRoomOf heap.now memory }
-    ensures out { IsOut heap.now memory memory.block.place result.code }
-    ensures words { (result.words ≡ Some memory.words) × IsAt memory result.memory }
+/// A piece goes out to C, with how many words it has.
+#[inline(always)]
+pub fn hand_out(heap: &Heap, piece: Piece) -> Handed
+    requires { IsPiece heap.now piece }
+    ensures { (result.code ≡ piece.size) × (result.words ≡ Some piece.words) × IsAt piece.words result.memory }
 {
-    let code = kind(memory.need());
-    send_out(heap, code, memory)
+    let size = piece.size;
+    send_out(heap, size, piece)
 }
 
-/// Memory goes out to C with this code.
-pub fn send_out(heap: &Heap, code: u32, memory: Memory) -> Handed
-    requires { IsRoomOf heap.now memory }
-    ensures { (result.code ≡ code) × (result.words ≡ Some memory.words) × IsAt memory result.memory × (memory.block.place < 2 ^ 32) }
+/// A piece goes out to C with this code.
+#[inline(always)]
+pub fn send_out(heap: &Heap, code: u32, piece: Piece) -> Handed
+    requires { IsPiece heap.now piece }
+    ensures { (result.code ≡ code) × (result.words ≡ Some piece.words) × IsAt piece.words result.memory }
 {
-    let first = memory.place() as usize + 1;
-    Handed::of_words(memory.into_words(), heap.start(), first, code)
+    Handed::of_words(piece.words, heap.start(), piece.first, code)
 }
 
-/// Memory comes in from C, by its place and its kind.
-pub fn bring_in(_heap: &Heap, words: PlainWords, place: u32, kind: u32) -> Memory
-    requires { (lot : Lot) × (words ≡ lot.words) × IsOut _heap.now lot place kind }
-    ensures same { (lot : Lot) → words ≡ lot.words → IsOut _heap.now lot place kind → IsSame lot result }
-    ensures room { IsRoomOf _heap.now result }
-    ensures words { result.words ≡ words }
-{
-    Memory::of_words(place, need_of_kind(kind), words)
-}
-
-/// What memory has goes over to larger memory.
-pub fn copied(heap: &Heap, from: &Memory, to: Memory) -> Memory
-    requires from { IsRoomOf heap.now from.now × IsNumbered from.now }
-    requires to { IsRoomOf heap.now to }
-    requires larger { usable_words from.now.block.need < usable_words to.block.need }
-    ensures block { (result.block.place ≡ to.block.place) × (result.block.need ≡ to.block.need) }
-    ensures room { IsRoomOf heap.now result }
+/// What one piece has goes over to a larger one.
+pub fn copied(heap: &Heap, from: &Piece, to: Piece) -> Piece
+    requires from { IsPiece heap.now from.now × AreNumbered from.now.words }
+    requires to { IsPiece heap.now to }
+    requires larger { from.now.size < to.size }
+    ensures place { (result.first ≡ to.first) × (result.size ≡ to.size) }
+    ensures piece { IsPiece heap.now result }
     ensures copied { HasCopied from.now.words result.words }
 {
-    let place = to.place();
-    let need = to.need();
-    let first = place as usize + 1;
-    let mut words = to.into_words();
-    let had = from.words(heap);
+    let Piece {
+        first,
+        size,
+        mut words,
+    } = to;
+    let len = from.size as usize;
+    let had = from.words.slice(heap.start(), from.first, len);
     for i in 0..had.len() {
         words.lay(heap.start(), first + i, had[i]);
     }
-    Memory::of_words(place, need, words)
+    Piece { first, size, words }
 }
 
-/// How many bytes memory has.
-pub fn bytes_in(memory: &Memory) -> usize
-    ensures { result ≡ bytes_for memory.now.block.need }
+/// How many bytes a piece has.
+pub fn bytes_in(piece: &Piece) -> usize
+    ensures { result ≡ bytes_of piece.now.size }
 {
-    8 * memory.usable_words() as usize
+    8 * piece.size as usize
 }

@@ -1,9 +1,8 @@
 //! Memory of the heap for C, by pointers: what a library to preload asks for. `include/balloc_malloc.h` declares the
 //! same.
 //!
-//! A seat is a thread's: it has a pass of the heap with magazines of memory, or nothing. Memory goes out to C by a
-//! pointer, with its kind, which tells what its block serves; C gives it back by its place and its kind. Nothing of
-//! ours stands in its words.
+//! A seat is a thread's: it has a pass of the heap with pages of memory, or nothing. Memory goes out to C by a pointer,
+//! with how many words it has; C gives it back by its first word and as many. Nothing of ours stands in its words.
 #![tactic(auto)]
 
 mod calls;
@@ -11,7 +10,6 @@ mod codes;
 mod erased_box;
 mod handed;
 mod handing;
-mod kind;
 mod opening;
 mod parts;
 mod seat;
@@ -20,17 +18,14 @@ mod tenant;
 
 ghost use Rattle.std.specs.Prelude.{ℕ, ◌≡◌, Result, Some, length};
 ghost use Rattle.std.specs.Borrow.{sem};
-ghost use Rattle.heap_geometry.specs.Need.{IsNeed};
-ghost use Rattle.heap_geometry.specs.declared.need.Need.{Need};
-ghost use Rattle.live_heap.specs.declared.plain.Memory.{Memory};
+ghost use Rattle.plain_words.specs.declared.plain.PlainWords.{PlainWords as Words};
 ghost use Rattle.plain_words.specs.declared.plain.Start.{Start};
 ghost use Rattle.balloc_malloc.specs.Counts.{TellsCounts, TellsMemory};
 ghost use Rattle.balloc_malloc.specs.Gives.{GivesBy};
 ghost use Rattle.balloc_malloc.specs.Handing.{handed, words_own};
-ghost use Rattle.balloc_malloc.specs.Kinds.{bytes_for, kind_of};
 ghost use Rattle.balloc_malloc.specs.Opened.{Opens, numbers};
 ghost use Rattle.balloc_malloc.specs.Out.{HasOut};
-ghost use Rattle.balloc_malloc.specs.Resizes.{IsNumbered, ResizesBy};
+ghost use Rattle.balloc_malloc.specs.Resizes.{AreNumbered, ResizesBy};
 ghost use Rattle.balloc_malloc.specs.Takes.{TakesBy};
 
 use calls::{give, resize, take};
@@ -38,7 +33,6 @@ use codes::{DONE, EMPTY};
 use handed::Handed;
 use heap_geometry::geometry::Geometry;
 use heap_geometry::limits::MAX_TURNS;
-use kind::bytes_of_kind;
 use live_heap::placement::Placement;
 use opening::open_all;
 use plain_words::PlainWords;
@@ -47,8 +41,8 @@ use spot::Spot;
 use std::alloc::Global;
 use std::marker::PhantomData;
 
-/// Opens a heap with one caller for each seat and puts a pass of it into each, with magazines of this depth. Tells
-/// where its memory begins, and how many bytes of it blocks lie in.
+/// Opens a heap with one caller for each seat and puts a pass of it into each, with magazines of this depth for pages.
+/// Tells where its memory begins, and how many bytes of it blocks lie in.
 #[unsafe(no_mangle)]
 pub extern "C" fn balloc_malloc_open(
     alloc: Global,
@@ -79,7 +73,7 @@ pub extern "C" fn balloc_malloc_open(
     }
 }
 
-/// Memory of at least so many bytes, to which the pointer leads, and its kind, as the result.
+/// Memory of at least so many bytes, to which the pointer leads, and how many words it has, as the result.
 #[unsafe(no_mangle)]
 pub extern "C" fn balloc_malloc_take(
     seat: &mut ThreadSeat,
@@ -93,51 +87,42 @@ pub extern "C" fn balloc_malloc_take(
     code
 }
 
-/// Takes memory back that this seat gave and that was not given back since, by its place and its kind.
+/// Takes memory back that this seat gave and that was not given back since, by its first word and how many it has.
 #[unsafe(no_mangle)]
-pub unsafe extern "C" fn balloc_malloc_give(seat: &mut ThreadSeat, place: u32, kind: u32) -> u32
-    ghost lot: { Memory }
-    requires out { HasOut seat.old.held.tenant lot place kind }
-    requires* words { sem 𝓛 (words_own (Some lot.words)) }
-    ensures* words { sem 𝓛 (handed (λ words. GivesBy seat.old.held.tenant lot result words seat.new.held.tenant)) }
+pub unsafe extern "C" fn balloc_malloc_give(seat: &mut ThreadSeat, first: usize, size: u32)
+    ghost words: { Words }
+    requires out { HasOut seat.old.held.tenant words first size }
+    requires* words { sem 𝓛 (words_own (Some words)) }
+    ensures given { GivesBy seat.old.held.tenant first seat.new.held.tenant }
 {
     let words = PlainWords { mark: PhantomData };
-    let Handed { memory: _, code } = give(seat, words, place, kind);
-    code
+    give(seat, words, first, size);
 }
 
 /// Memory of at least so many bytes, with what this one has, as far as both go: this one, where it has as many; else
-/// another one, and this one is given back. The kind of what is told is the result.
+/// another one, and this one is given back. How many words has what is told is the result.
 #[unsafe(no_mangle)]
 pub unsafe extern "C" fn balloc_malloc_resize(
     seat: &mut ThreadSeat,
-    place: u32,
-    kind: u32,
+    first: usize,
+    size: u32,
     bytes: usize,
     moved: &mut *mut u64,
 ) -> u32
-    ghost lot: { Memory }
-    requires out { HasOut seat.old.held.tenant lot place kind }
-    requires numbered { IsNumbered lot }
-    requires* words { sem 𝓛 (words_own (Some lot.words)) }
-    ensures* words { sem 𝓛 (handed (λ words. ResizesBy seat.old.held.tenant lot bytes result words moved.new seat.new.held.tenant)) }
+    ghost words: { Words }
+    requires out { HasOut seat.old.held.tenant words first size }
+    requires numbered { AreNumbered words }
+    requires* words { sem 𝓛 (words_own (Some words)) }
+    ensures* words { sem 𝓛 (handed (λ told. ResizesBy seat.old.held.tenant words size bytes result told moved.new seat.new.held.tenant)) }
 {
     let words = PlainWords { mark: PhantomData };
-    let Handed { memory: at, code } = resize(seat, words, place, kind, bytes);
+    let Handed { memory: at, code } = resize(seat, words, first, size, bytes);
     *moved = at;
     code
 }
 
-/// How many bytes memory of this kind has.
-#[unsafe(no_mangle)]
-pub extern "C" fn balloc_malloc_bytes(kind: u32) -> usize
-    ensures { (need : Need) → IsNeed need → kind ≡ kind_of need → result ≡ bytes_for need }
-{
-    bytes_of_kind(kind)
-}
-
-/// How many of its takes a magazine served, how many blocks are out, those in magazines too, and how many exchanges its
-/// pass has lost.
+/// How many of its takes a page that was ready served, how many blocks are out, those in magazines too, and how many
+/// exchanges its pass has lost.
 #[unsafe(no_mangle)]
 pub extern "C" fn balloc_malloc_counts(
     seat: &mut ThreadSeat,

@@ -1,9 +1,10 @@
 //! How a heap opens for C.
 
-ghost use Rattle.std.specs.Prelude.{◌≡◌, ◌≤◌, [], IfOk, IfSome, None, false, length, min, true};
+ghost use Rattle.std.specs.Prelude.{ℕ, ◌≡◌, ◌≤◌, [], IfOk, IfSome, None, false, length, min, true};
 ghost use Rattle.live_heap.specs.Heaps.{HeapFields};
 ghost use Rattle.live_heap.specs.Passes.{IsFresh};
-ghost use Rattle.memory_cache.specs.Caches.{IsCache, kept_in};
+ghost use Rattle.memory_cache.specs.Caches.{kept_in};
+ghost use Rattle.memory_cache.specs.Paged.{IsOut, IsPaged};
 ghost use Rattle.balloc_malloc.specs.Opened.{AreEmpty, Fit, HoldNew, Opens};
 
 use crate::codes::{BAD_NUMBERS, NO_MEMORY};
@@ -13,13 +14,13 @@ use heap_geometry::geometry::Geometry;
 use live_heap::heap::Heap;
 use live_heap::laws::blocks::passes_hold_exactly;
 use live_heap::pass::Pass;
-use memory_cache::cache::MemoryCache;
 use memory_cache::laws::passes_with_nothing_are_settled;
+use memory_cache::paged::PagedCache;
 use plain_words::Start;
 use std::alloc::{AllocError, Global};
 use std::sync::Arc;
 
-/// A magazine has room for so many pieces of memory at most.
+/// A magazine has room for so many pages at most.
 const DEEPEST: u32 = 4096;
 
 /// Opens a heap, and puts a pass into each seat. Where that fails the seats are empty as before, or one wasn't and
@@ -110,16 +111,17 @@ fn give_all(
     Ok(heap.start())
 }
 
-/// The pass with magazines of this depth.
-fn cached(alloc: Global, heap: &Heap, pass: Pass, depth: u16) -> Result<MemoryCache, AllocError>
+/// The pass with magazines of this depth for pages.
+fn cached(alloc: Global, heap: &Heap, pass: Pass, depth: u16) -> Result<PagedCache, AllocError>
     requires fresh { IsFresh heap.now pass }
     requires few { depth ≤ 4096 }
-    ensures cache { IfOk result (λ cache. IsCache heap.now cache) }
-    ensures new { IfOk result (λ cache. (cache.pass ≡ pass) × (kept_in cache ≡ []) × (cache.magazines.depth ≡ depth) × (cache.hits ≡ 0)) }
+    ensures paged { IfOk result (λ cache. IsPaged heap.now cache) }
+    ensures new { IfOk result (λ cache. (cache.cache.pass ≡ pass) × ((first size : ℕ) → ¬ IsOut cache first size) × (kept_in cache.cache ≡ [])
+        × (cache.cache.magazines.depth ≡ depth) × (cache.hits ≡ 0)) }
 {
     passes_hold_exactly();
     passes_with_nothing_are_settled();
-    match MemoryCache::open(alloc, pass, depth) {
+    match PagedCache::open(alloc, pass, depth) {
         Ok(cache) => Ok(cache),
         Err(_) => Err(AllocError),
     }

@@ -17,8 +17,8 @@ use std::io::Print;
 use std::thread::Threads;
 use std::{io, thread};
 
-/// How many blocks of a class a magazine keeps: more than a map of 100,000 keys has.
-const DEPTH: u16 = 16_384;
+/// How many pages an allocator keeps whose pieces are all back.
+const DEPTH: u16 = 64;
 
 /// How many exchanges a call may lose.
 const TRIES: u32 = 1000;

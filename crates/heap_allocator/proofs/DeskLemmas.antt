@@ -1,135 +1,65 @@
--- What calls make of a desk.
-use Rattle.std.proofs.Common.{◌≡◌, ◌≢◌, ℕ, ◌<◌, List, [], slice_index_or, Option, Some, None, IfSome, sym, ap, ◌∙◌, subst, inl, inr}
-use Rattle.std.proofs.lemmas.Bool.{cases_eq}
+-- What a desk begins with, which pieces are out, and where they lie.
+use Rattle.std.proofs.Common.{ℕ, ◌≡◌, ◌≢◌, ◌<◌, ◌/◌, ◌^◌, ◌⊎◌, [], Option, Some, Result, Ok, Err, IsSomeAnd, inl, inr, refl, sym, subst, arith}
+use Rattle.std.specs.declared.alloc.AllocError.{AllocError}
 use Rattle.std.proofs.lemmas.List.Elements.{All-nil}
+use Rattle.heap_geometry.specs.declared.geometry.Geometry.{Geometry}
 use Rattle.heap_geometry.specs.declared.need.Need.{Need}
-use Rattle.errand_steps.specs.Begins.{IsIdle}
-use Rattle.std.specs.List.{All}
-use Rattle.slab.specs.Slab.{Slab, get, Updates}
+use Rattle.heap_geometry.specs.declared.need.Need.TheVariants.{Small, Large, TooLarge}
+use Rattle.heap_geometry.specs.Geometry.{IsChecked}
+use Rattle.heap_geometry.proofs.PlaceLemmas.{block-within}
+use Rattle.errand_steps.specs.Begins.{IsHeapBlock, IsIdle}
+use Rattle.live_heap.specs.declared.answers.AllocAnswer.{AllocAnswer}
+use Rattle.live_heap.specs.declared.answers.AllocAnswer.TheVariants.{Given}
 use Rattle.live_heap.specs.Heaps.{HeapFields}
-use Rattle.live_heap.specs.declared.plain.Memory.{Memory}
 use Rattle.live_heap.specs.declared.pass.Pass.{Pass}
+use Rattle.live_heap.specs.declared.plain.Memory.{Memory}
 use Rattle.live_heap.specs.Holdings.{HoldsExactly}
-use Rattle.live_heap.specs.Memory.{IsTaken}
 use Rattle.live_heap.specs.Passes.{IsOf}
-use Rattle.memory_cache.specs.Caches.{IsCache, IsHeld, kept_in}
-use Rattle.memory_cache.specs.Settled.{IsSettled}
-use Rattle.memory_cache.specs.declared.cache.MemoryCache.{MemoryCache}
+use Rattle.live_heap.proofs.laws_for_builders.Memory.{owned-in_heap, taken-owned}
+use Rattle.memory_cache.specs.declared.paged.PagedCache.{PagedCache}
+use Rattle.memory_cache.specs.declared.piece.Piece.{Piece}
+use Rattle.memory_cache.specs.Paged.{IsOut, IsPaged, LiesElsewhere}
+use Rattle.memory_cache.specs.Settled.{IsPassFor, IsSettled}
 use Rattle.heap_allocator.specs.declared.desk.Desk.{Desk}
-use Rattle.heap_allocator.specs.declared.desk.Entry.{Entry}
-use Rattle.heap_allocator.specs.Desks.{HoldsEntries, IsDesk, IsEntryOf}
-
-mapped : {C : Type 0} (P Q : C → Type 0) → ((c : C) → P c → Q c) → (o : Option C) → IfSome o P → IfSome o Q
-mapped P Q f None is = tt
-mapped P Q f (Some c) is = f c is
-
--- memory of the same block is held
-pub moves : (c : MemoryCache) (m other : Memory) → m.block.place ≡ other.block.place → m.block.need ≡ other.block.need → IsHeld c m → IsHeld c other
-moves c m other place need held =
-    let At : ℕ → Need → Type 0 = λ p n. IsTaken c.pass p n × All (λ (x : Memory). x.block.place ≢ p) (kept_in c) in
-    let P : ℕ → Type 0 = λ p. At p m.block.need in
-    let N : Need → Type 0 = λ n. At other.block.place n in
-    subst N need (subst P place held)
-
--- a wider slab has the same entries
-pub widens : (h : HeapFields) (d : Desk) (out : Slab Entry) → out ≡ record d.out { capacity = out.capacity } → IsDesk h d → IsDesk h (record { cache = d.cache; out = out; tries = d.tries })
-widens h d out e is =
-    let same : (key : ℕ) → get d.out key ≡ get out key = λ key. sym (ap (λ (s : Slab Entry). get s key) e) in record {
-      cache = is.cache;
-      tries = is.tries;
-      held = mapped (HoldsEntries d.out) (HoldsEntries out) (λ c held key x at. held key x (same key ∙ at)) d.cache is.held;
-      once = λ key other x y at at' places. is.once key other x y (same key ∙ at) (same other ∙ at') places;
-    }
+use Rattle.heap_allocator.specs.Desks.{IsOutOf}
 
 -- a pass in no call that holds no blocks is settled
 pub settles : (h : HeapFields) (p : Pass) → IsOf h p → IsIdle p.errand → HoldsExactly p [] → IsSettled h p
 settles h p of idle holds = record { of = of; idle = idle; out = λ place home. holds.1 place (All-nil _) }
 
--- a desk begins without an entry
-pub begins : (h : HeapFields) (d : Desk) (cache : MemoryCache) → d.out.slots ≡ [] → 0 < d.tries → IsCache h cache
-    → IsDesk h (record { cache = Some cache; out = d.out; tries = d.tries })
-begins h d cache empty some ok =
-    let none : (key : ℕ) → get d.out key ≡ None = λ key. ap (λ (xs : List (Option Entry)). slice_index_or xs key None) empty in record {
-      cache = ok;
-      tries = some;
-      held = λ key x at. absurd (cc (none key, at));
-      once = λ key other x y at at' e. absurd (cc (none key, at));
-    }
+-- what is out of a desk is out of its cache, and back
+module _ (d : Desk) (cache : PagedCache) (is : d.cache ≡ Some cache) (first size : ℕ) where
+  abbrev Has : Option PagedCache → Type 0
+  Has o = IsSomeAnd o (λ c. IsOut c first size)
 
-module _ (h : HeapFields) (d : Desk) (cache : MemoryCache) (was : d.cache ≡ Some cache) (is : IsDesk h d) where
-  holds : HoldsEntries d.out cache
-  holds = let P : Option MemoryCache → Type 0 = λ o. IfSome o (HoldsEntries d.out) in subst P was is.held
+  pub out-of_cache : IsOutOf d first size → IsOut cache first size
+  out-of_cache out = subst Has is out
 
-  pub is_cache : IsCache h cache
-  is_cache = let P : Option MemoryCache → Type 0 = λ o. IfSome o (IsCache h) in subst P was is.cache
+  pub out-of_desk : IsOut cache first size → IsOutOf d first size
+  out-of_desk out = subst Has (sym is) out
 
-  -- the cache has changed, and all that was held is
-  pub keeps : (new : MemoryCache) → IsCache h new → ((other : Memory) → IsHeld cache other → IsHeld new other) → IsDesk h (record { cache = Some new; out = d.out; tries = d.tries })
-  keeps new ok more = record {
-    cache = ok;
-    tries = is.tries;
-    held = λ key x at. let known = holds key x at in (known.0, known.1, more known.0 known.2);
-    once = is.once;
-  }
+-- where nothing was given, all lies elsewhere
+pub elsewhere : (told : Result (AllocAnswer Piece) AllocError) (first : ℕ) → ((x : Piece) → told ≢ Ok (Given x)) → LiesElsewhere told first
+elsewhere (Ok (Given x)) first none = absurd (none x refl)
+elsewhere told first none = tt
 
-  -- memory that the cache has given is entered
-  pub enters : (new : MemoryCache) (out : Slab Entry) (key : ℕ) (x : Entry) (m : Memory) → IsCache h new → ((other : Memory) → IsHeld cache other → IsHeld new other)
-      → ((other : Memory) → IsHeld cache other → other.block.place ≢ m.block.place) → IsHeld new m → IsEntryOf m x → Updates d.out out key (Some x)
-      → IsDesk h (record { cache = Some new; out = out; tries = d.tries })
-  enters new out key x m ok more apart held of up =
-      let own : (y : Entry) → get out key ≡ Some y → y ≡ x = λ y at. cc (up.changed, at) in
-      let elsewhere : (other : ℕ) (y : Entry) → other ≢ key → get out other ≡ Some y → (y.place ≡ x.place) → ⊥ = λ other y ne at e.
-      let known = holds other y (sym (up.others other ne) ∙ at) in apart known.0 known.2 (sym known.1.0 ∙ e ∙ of.0) in record {
-        cache = ok;
-        tries = is.tries;
-        held = λ k y at. elim (cases_eq k key) [
-          | inl same ↦ let e = own y (ap (get out) (sym same) ∙ at) in (m, (ap (λ (z : Entry). z.place) e ∙ of.0, ap (λ (z : Entry). z.need) e ∙ of.1), held)
-          | inr ne ↦ let known = holds k y (sym (up.others k ne) ∙ at) in (known.0, known.1, more known.0 known.2)
-        ];
-        once = λ k l y z at at' e. elim (cases_eq k key) [
-          | inl same ↦ elim (cases_eq l key) [
-            | inl same' ↦ same ∙ sym same'
-            | inr ne ↦ absurd (elsewhere l z ne at' (sym e ∙ ap (λ (w : Entry). w.place) (own y (ap (get out) (sym same) ∙ at))))
-          ]
-          | inr ne ↦ elim (cases_eq l key) [
-            | inl same' ↦ absurd (elsewhere k y ne at (e ∙ ap (λ (w : Entry). w.place) (own z (ap (get out) (sym same') ∙ at'))))
-            | inr ne' ↦ is.once k l y z (sym (up.others k ne) ∙ at) (sym (up.others l ne') ∙ at') e
-          ]
-        ];
-      }
+pass-of : (h : HeapFields) (p : Pass) → IsPassFor h p → IsOf h p
+pass-of h p is = elim is [ inl settled ↦ settled.of | inr under_way ↦ under_way.of ]
 
-  module _ (key : ℕ) (x : Entry) (m : Memory) (here : get d.out key ≡ Some x) (of : IsEntryOf m x) where
-    -- memory that has an entry is held
-    pub is_held : IsHeld cache m
-    is_held = let known = holds key x here in moves cache known.0 m (sym known.1.0 ∙ of.0) (sym known.1.1 ∙ of.1) known.2
+-- a heap's words have numbers of 32 bits
+place-near : (g : Geometry) (place : ℕ) (n : Need) → IsChecked g → IsHeapBlock g place n → place < 2 ^ 32
+place-near g place (Small class) checked (needs, (frame, index, has, within, is)) =
+    omega (arith, block-within class index within, is, has, checked.frames.1)
+place-near g place (Large units) checked (needs, (unit, within, is)) = omega (arith, is, within, checked.frames.1, checked.units.1)
+place-near g place TooLarge checked (needs, nowhere) = absurd nowhere
 
-    -- an entry under another key is of a block at another place
-    away : (other : ℕ) (y : Entry) (n : Memory) → other ≢ key → get d.out other ≡ Some y → IsEntryOf n y → n.block.place ≢ m.block.place
-    away other y n ne at on e = ne (is.once other key y x at here (on.0 ∙ e ∙ sym of.0))
-
-    -- it has been given back, and its entry is gone
-    pub leaves_out : (new : MemoryCache) (out : Slab Entry) → IsCache h new
-        → ((other : Memory) → IsHeld cache other → other.block.place ≢ m.block.place → IsHeld new other) → Updates d.out out key None
-        → IsDesk h (record { cache = Some new; out = out; tries = d.tries })
-    leaves_out new out ok more up =
-        let apart : (other : ℕ) (y : Entry) → get out other ≡ Some y → other ≢ key = λ other y at e. absurd (cc (up.changed, at, ap (get out) e)) in
-        let before : (other : ℕ) (y : Entry) → get out other ≡ Some y → get d.out other ≡ Some y = λ other y at. sym (up.others other (apart other y at)) ∙ at in record {
-          cache = ok;
-          tries = is.tries;
-          held = λ k y at. let known = holds k y (before k y at) in (known.0, known.1, more known.0 known.2 (away k y known.0 (apart k y at) (before k y at) known.1));
-          once = λ k l y z at at' e. is.once k l y z (before k y at) (before l z at') e;
-        }
-
-    -- it has come back, and its entry stays
-    pub stays : (new : MemoryCache) → IsCache h new
-        → ((other : Memory) → IsHeld cache other → other.block.place ≢ m.block.place → IsHeld new other) → IsHeld new m
-        → IsDesk h (record { cache = Some new; out = d.out; tries = d.tries })
-    stays new ok more held = record {
-      cache = ok;
-      tries = is.tries;
-      held = λ k y at. elim (cases_eq k key) [
-        | inl same ↦ let e : y ≡ x = cc (here, at, ap (get d.out) same) in (m, (ap (λ (z : Entry). z.place) e ∙ of.0, ap (λ (z : Entry). z.need) e ∙ of.1), held)
-        | inr ne ↦ let known = holds k y at in (known.0, known.1, more known.0 known.2 (away k y known.0 ne at known.1))
-      ];
-      once = is.once;
-    }
+-- a piece that is out begins at such a number, or a few words behind
+pub begins-near : (h : HeapFields) (c : PagedCache) (first size : ℕ) → IsPaged h c → IsOut c first size → first < 2 ^ 33
+begins-near h c first size is out =
+    let p : Pass = c.cache.pass in let of : IsOf h p = pass-of h p is.cache.pass in
+    let page = is.pages (first / 2048) out.page out.there in let m : Memory = page.memory in
+    let block : IsHeapBlock p.errand.geometry m.block.place m.block.need =
+    owned-in_heap h p m.block.place m.block.need of (taken-owned h p m.block.place m.block.need of page.held.0) in
+    let place : m.block.place < 2 ^ 32 = place-near p.errand.geometry m.block.place m.block.need of.served.own_errand.rule.geometry block in
+    let narrow = page.for.narrow out.out.number (subst (λ (k : ℕ). out.out.number < k) page.page.count out.out.within) in
+    omega (arith, place, narrow, page.of.0, out.out.there)

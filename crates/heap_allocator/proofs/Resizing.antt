@@ -1,4 +1,4 @@
--- Values whose block serves their new size too stay where they are. Assumes `Logic`.
+-- Values whose piece serves their new size too stay where they are. Assumes `Logic`.
 use Rattle.std.proofs.Common.{◌≡◌, refl, ℕ, zero, suc, ◌+◌, ◌-◌, ◌*◌, ◌^◌, ◌<◌, ◌≤◌, List, [], ◌∷◌, sym, ap, ◌∙◌, subst, arith}
 use mathlib.Core.Bool.{Bool, true, false}
 use lib.Dec.{T}
@@ -20,8 +20,8 @@ use denote.RawPtr.Room.{past, room_cut, room_glue}
 use borrow.Fn.Refines.{Gives, Turns}
 use Rattle.core.specs.Allocator.{block_with_items}
 use Rattle.core.proofs.ptr.Rows.{add_times}
-use Rattle.heap_geometry.specs.Need.{usable_words, need_of}
-use Rattle.heap_allocator.specs.Pieces.{words_for, piece_owns, piece_token, behind, bytes_before, most_of, kept_back, AreOfOneBlock, IsOut}
+use Rattle.memory_cache.specs.Sizes.{piece_words}
+use Rattle.heap_allocator.specs.Pieces.{words_for, piece_owns, piece_token, behind, bytes_before, most_of, kept_back, AreOfOnePiece, IsOut}
 use Rattle.heap_allocator.proofs.Rooms.{most}
 
 -- what is done where a condition fails
@@ -79,7 +79,7 @@ module _ {M : Type 1} {𝓤 : Ura M} (𝓛 : Logic 𝓤) (σ : Ty) (b : ℕ) whe
       (cut_at (n - len) (t - n) (t - len) d f (omega (arith, le', ln)) (omega (arith, at, at'', spread n le')))
 
 pub stays_put : {M : Type 1} {𝓤 : Ura M} (𝓛 : Logic 𝓤) (X : RattleType) (p : Ptr) (len old new b o : ℕ) (xs : List X.Denot) → len ≤ old → len ≤ new → old < 2 ^ 64 → new < 2 ^ 64
-    → AreOfOneBlock (old * size (layout X)) (new * size (layout X)) → words_for (new * size (layout X)) ≤ usable_words (need_of (words_for (new * size (layout X))))
+    → AreOfOnePiece (old * size (layout X)) (new * size (layout X)) → words_for (new * size (layout X)) ≤ piece_words (words_for (new * size (layout X)))
     → ent 𝓤 (sem 𝓛 (block_with_items (piece_token p) (param 1 X) (block_ptr b o) len old xs)) (sem 𝓛 (block_with_items (piece_token p) (param 1 X) (block_ptr b o) len new xs))
 stays_put {𝓤 = 𝓤} 𝓛 X p len old new b o xs le le' fo fn one room =
     let H = 𝓛.H in let s : ℕ = size (layout X) in let σ : Ty = bare (layout X) in let z : ℕ = size σ in let q : Ptr = block_ptr b o in
@@ -88,7 +88,7 @@ stays_put {𝓤 = 𝓤} 𝓛 X p len old new b o xs le le' fo fn one room =
     qed 𝓛 (‵ (block_with_items (piece_token p) (param 1 X) q len old xs) ∷ []) ∵ fsplit3 ! $ move ! (2 ∷ []) $ fpick ! (λ first. fpick ! (λ count. fpick ! (λ label. fpick ! (λ out. fsplit ! $
     -- [what it may grow by; the way back; the values; the room behind them]
     let t : ℕ = most_of (bytes_before count) z in
-    let long : count ≡ usable_words (need_of (words_for (new * s))) = out.block.long ∙ ap (λ (k : ℕ). usable_words (need_of (words_for k))) (bytes old) ∙ ap usable_words one.same in
+    let long : count ≡ piece_words (words_for (new * s)) = out.piece.long ∙ ap (λ (k : ℕ). piece_words (words_for k)) (bytes old) ∙ one.same in
     let enough : words_for (new * z) ≤ count = subst (λ (k : ℕ). words_for k ≤ count) (sym (bytes new)) (subst (λ (k : ℕ). words_for (new * s) ≤ k) (sym long) room) in
     let old_most : old ≤ t = most (bytes_before count) z old (omega (arith, out.room)) fo in let new_most : new ≤ t = most (bytes_before count) z new (omega (arith, enough)) fn in
     let Old : SProp 𝓤 = sep 𝓤 (rm 𝓛 σ b old o) (rm 𝓛 σ b (t - old) (o + old * z)) in let New : SProp 𝓤 = sep 𝓤 (rm 𝓛 σ b new o) (rm 𝓛 σ b (t - new) (o + new * z)) in let Owned : SProp 𝓤 = sem 𝓛 (piece_owns p first count label) in
@@ -96,7 +96,7 @@ stays_put {𝓤 = 𝓤} 𝓛 X p len old new b o xs le le' fo fn one room =
       there = out.there;
       room = enough;
       small = omega (arith, one.new_small, bytes new);
-      block = record { long = long ∙ ap (λ (k : ℕ). usable_words (need_of (words_for k))) (sym (bytes new)); placed = out.block.placed };
+      piece = record { long = long ∙ ap (λ (k : ℕ). piece_words (words_for k)) (sym (bytes new)); placed = out.piece.placed };
     } in
     move ! (3 ∷ 0 ∷ []) $ use2 𝓛 (‵ (froom (ty_array σ (new - len)) b (o + len * s)) ⊛ ‵ (froom (ty_array σ (t - new)) b (o + new * z)))
     (recut 𝓛 σ b len old new t o (o + len * s) (o + old * z) (o + new * z) le old_most le' new_most (ap (λ (k : ℕ). o + k) (sym (bytes len))) refl refl) $ split ! $ move ! (2 ∷ []) $

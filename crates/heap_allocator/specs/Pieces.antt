@@ -6,9 +6,9 @@ use mir.Syntax.{Ty, ty_int, ty_bool, ty_float, ty_ptr, ty_ref, ty_array, ty_unit
 use base.Fml.{Fml, fsep, fex, fwand}
 use prog.Memory.{size}
 use denote.RawPtr.{Ptr, ◌+ₚ◌, room_for}
-use Rattle.heap_geometry.specs.Need.{usable_words, need_of}
 use Rattle.plain_words.specs.Places.{Place, laid, blanks}
 use Rattle.plain_words.specs.Owned.{plain_owns}
+use Rattle.memory_cache.specs.Sizes.{piece_words}
 use Rattle.heap_allocator.specs.declared.mover.TheConstants.{MOST_BYTES}
 
 -- how many words n bytes lie in
@@ -27,16 +27,16 @@ labelled count label = blanks (count - 1) ++ (laid label ∷ [])
 abbrev pub piece_owns : Ptr → ℕ → ℕ → ℕ → Fml
 piece_owns p first count label = plain_owns p first (labelled count label)
 
--- the block's words are those that serve n bytes, and the low half of its label says where it lies: right before its first usable word
-pub record IsBlockFor (n first count label : ℕ) : Type 0 where
-  pub long : count ≡ usable_words (need_of (words_for n))
-  pub placed : first ≡ label % 2 ^ 32 + 1
+-- the words are as many as a piece for n bytes has, and the label says where they begin
+pub record IsPieceFor (n first count label : ℕ) : Type 0 where
+  pub long : count ≡ piece_words (words_for n)
+  pub placed : label ≡ first
 
--- blocks of one size serve so many bytes and so many
-pub record AreOfOneBlock (old new : ℕ) : Type 0 where
+-- one piece serves so many bytes and so many
+pub record AreOfOnePiece (old new : ℕ) : Type 0 where
   pub old_small : old ≤ MOST_BYTES
   pub new_small : new ≤ MOST_BYTES
-  pub same : need_of (words_for old) ≡ need_of (words_for new)
+  pub same : piece_words (words_for old) ≡ piece_words (words_for new)
 
 -- the bytes of so many words that lie before their label
 abbrev pub bytes_before : ℕ → ℕ
@@ -63,18 +63,18 @@ behind room (ty_const n) = ty_unit
 behind room (ty_array_p τ i) = ty_unit
 behind room (ty_named ν θ) = ty_unit
 
--- a block of the memory that begins at p is out as room for a τ at q
+-- a piece of the memory that begins at p is out as room for a τ at q
 pub record IsOut (p : Ptr) (τ : Ty) (q : Ptr) (first count label : ℕ) : Type 0 where
   pub there : q ≡ ptr_add u64 first p
   pub room : words_for (size τ) ≤ count
   pub small : size τ < 2 ^ 63
-  pub block : IsBlockFor (size τ) first count label
+  pub piece : IsPieceFor (size τ) first count label
 
 -- room for a ρ right behind a τ at q
 abbrev pub room_behind : Ty → Ty → Ptr → Fml
 room_behind τ ρ q = room_for ρ (q +ₚ size τ)
 
--- what the τ may grow by, and the way back from it and the room for the τ to the block's words
+-- what the τ may grow by, and the way back from it and the room for the τ to the piece's words
 abbrev pub kept_back : Ptr → Ty → Ty → Ptr → ℕ → ℕ → ℕ → Fml
 kept_back p τ ρ q first count label =
     fsep (room_behind τ ρ q) (fwand (fsep (room_for τ q) (room_behind τ ρ q)) (piece_owns p first count label))

@@ -9,15 +9,14 @@ ghost use Rattle.errand_steps.specs.Begins.{IsIdle};
 ghost use Rattle.live_heap.specs.Holdings.{HoldsExactly};
 ghost use Rattle.live_heap.specs.Passes.{IsOf};
 ghost use Rattle.heap_allocator.specs.Desks.{IsDeskOf};
-ghost use Rattle.heap_allocator.specs.Pieces.{AreOfOneBlock, piece_token};
+ghost use Rattle.heap_allocator.specs.Pieces.{AreOfOnePiece, piece_token};
 
 use crate::desk::Desk;
-use crate::mover::{Mover, are_of_one_block};
+use crate::mover::{Mover, are_of_one_piece};
 use crate::slot::Slot;
 use live_heap::heap::Heap;
 use live_heap::pass::Pass;
-use memory_cache::cache::MemoryCache;
-use slab::Slab;
+use memory_cache::paged::PagedCache;
 use std::alloc::{AllocError, Allocator, Global};
 use std::mem::size_of;
 
@@ -36,8 +35,8 @@ pub struct Refused {
 }
 
 impl<'h> HeapAllocator<'h> {
-    /// An allocator over a pass that holds no blocks, with magazines for so many pieces of each class. A call of the heap has
-    /// so many tries. All memory but for the table of what is out is taken here.
+    /// An allocator over a pass that holds no blocks. Of pages whose pieces are all back it keeps so many, and one that is
+    /// ready of each size; a call of the heap has so many tries. All memory but for the table of pages is taken here.
     pub fn new(
         alloc: Global,
         heap: &'h Heap,
@@ -54,15 +53,11 @@ impl<'h> HeapAllocator<'h> {
         ensures refused { IfErr result (λ refused. refused.pass ≡ pass) }
     {
         let caller = pass.caller();
-        let desk = Desk {
-            cache: None,
-            out: Slab::new(alloc),
-            tries,
-        };
+        let desk = Desk { cache: None, tries };
         let Ok(mut desk) = Box::new(alloc, desk) else {
             return Err(Refused { pass });
         };
-        match MemoryCache::open(alloc, pass, depth) {
+        match PagedCache::open(alloc, pass, depth) {
             Ok(cache) => {
                 desk.cache = Some(cache);
                 let slot = Slot::new(heap, caller, Some(desk));
@@ -84,7 +79,7 @@ impl<'h> HeapAllocator<'h> {
         self.heap
     }
 
-    /// Frees what the magazines have, and gives the pass back where nothing is out. Else, or where a call of the heap is
+    /// Frees what the pages and the magazines have, and gives the pass back where nothing is out. Else, or where a call of the heap is
     /// under way that doesn't end within the tries, the allocator stays.
     pub fn close(self) -> Result<Pass, HeapAllocator<'h>>
         ensures of { IfOk result (λ pass. IsOf self.entry.heap.now pass × IsIdle pass.errand) }
@@ -124,7 +119,7 @@ unsafe impl<'h> Allocator for HeapAllocator<'h> {
         self.mover.deallocate(ptr, size, align);
     }
 
-    /// The values stay where they are in a block that serves both sizes; else they move.
+    /// The values stay where they are in a piece that serves both sizes; else they move.
     unsafe fn grow<T>(
         &self,
         ptr: *mut T,
@@ -135,10 +130,10 @@ unsafe impl<'h> Allocator for HeapAllocator<'h> {
         ghost items: { List T }
         requires sizes { (len ≤ old_cap) × (old_cap ≤ new_cap) × FitsBlock T.row new_cap }
         requires* block { sem 𝓛 (block_with_items (piece_token self.now.mover.heap.now.region.at) T.row ptr len old_cap items) }
-        ensures in_place { AreOfOneBlock (old_cap * type_size T.row) (new_cap * type_size T.row) → result ≡ Ok ptr }
+        ensures in_place { AreOfOnePiece (old_cap * type_size T.row) (new_cap * type_size T.row) → result ≡ Ok ptr }
         ensures* memory { sem 𝓛 (resized_if_ok (piece_token self.now.mover.heap.now.region.at) T.row ptr len old_cap new_cap items result) }
     {
-        if are_of_one_block(old_cap * size_of::<T>(), new_cap * size_of::<T>()) {
+        if are_of_one_piece(old_cap * size_of::<T>(), new_cap * size_of::<T>()) {
             Ok(ptr)
         } else {
             unsafe { self.mover.grow(ptr, len, old_cap, new_cap) }
@@ -156,10 +151,10 @@ unsafe impl<'h> Allocator for HeapAllocator<'h> {
         ghost items: { List T }
         requires sizes { (len ≤ new_cap) × (new_cap ≤ old_cap) × FitsBlock T.row old_cap }
         requires* block { sem 𝓛 (block_with_items (piece_token self.now.mover.heap.now.region.at) T.row ptr len old_cap items) }
-        ensures in_place { AreOfOneBlock (old_cap * type_size T.row) (new_cap * type_size T.row) → result ≡ Ok ptr }
+        ensures in_place { AreOfOnePiece (old_cap * type_size T.row) (new_cap * type_size T.row) → result ≡ Ok ptr }
         ensures* memory { sem 𝓛 (resized_if_ok (piece_token self.now.mover.heap.now.region.at) T.row ptr len old_cap new_cap items result) }
     {
-        if are_of_one_block(old_cap * size_of::<T>(), new_cap * size_of::<T>()) {
+        if are_of_one_piece(old_cap * size_of::<T>(), new_cap * size_of::<T>()) {
             Ok(ptr)
         } else {
             unsafe { self.mover.shrink(ptr, len, old_cap, new_cap) }

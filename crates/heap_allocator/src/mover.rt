@@ -1,25 +1,22 @@
 //! An allocator that moves whatever grows or shrinks.
 
-ghost use Rattle.std.specs.Prelude.{◌≡◌, ◌<◌, ◌≤◌, ◌+◌, ◌/◌, ◌%◌, true, IfSome, length};
-ghost use Rattle.heap_geometry.specs.Need.{need_of, usable_words};
+ghost use Rattle.std.specs.Prelude.{◌≡◌, ◌<◌, ◌≤◌, ◌%◌, ◌^◌, true, IfSome, length};
 ghost use Rattle.plain_words.specs.Places.{AllHere};
-ghost use Rattle.memory_cache.specs.Rooms.{IsRoomOf};
-ghost use Rattle.heap_allocator.specs.declared.mover.TheConstants.{HALF, MOST_BYTES};
-ghost use Rattle.heap_allocator.specs.Pieces.{AreOfOneBlock, IsBlockFor, piece_token, words_for, words_of};
+ghost use Rattle.memory_cache.specs.Pages.{IsPiece};
+ghost use Rattle.memory_cache.specs.Sizes.{piece_words};
+ghost use Rattle.heap_allocator.specs.declared.mover.TheConstants.{MOST_BYTES};
+ghost use Rattle.heap_allocator.specs.Pieces.{AreOfOnePiece, IsPieceFor, piece_token, words_for, words_of};
 ghost use Rattle.heap_allocator.specs.Served.{IsServed};
 
 use crate::piece::Piece;
 use crate::slot::Slot;
-use heap_geometry::need::{class_of, usable};
 use live_heap::heap::Heap;
-use live_heap::plain::Memory;
+use memory_cache::piece::Piece as PagePiece;
+use memory_cache::sizes::piece_words;
 use std::alloc::{AllocError, Allocator};
 
-/// The most bytes that the largest block serves, behind a header.
+/// The most bytes that the largest block serves, before a label.
 pub(crate) const MOST_BYTES: usize = 8 * 131_070;
-
-/// A label has a key in its high half, and a place in its low half.
-const HALF: u64 = 1 << 32;
 
 /// The cell of a desk of the heap, as an allocator.
 pub(crate) struct Mover<'h> {
@@ -39,8 +36,7 @@ impl<'h> Mover<'h> {
         let mut desk = self.slot.replace(None)?;
         let taken = desk.take(self.heap, words_of(size) as u32 + 1);
         self.slot.replace(Some(desk));
-        let (key, memory) = taken?;
-        Some(piece_of(self.heap, key, memory, size))
+        Some(piece_of(self.heap, taken?, size))
     }
 
     /// Takes a piece of so many bytes back.
@@ -50,8 +46,8 @@ impl<'h> Mover<'h> {
         let Some(mut desk) = self.slot.replace(None) else {
             return;
         };
-        if let Some((key, memory)) = memory_of(piece, size) {
-            desk.give(self.heap, key, memory);
+        if let Some(taken) = taken_of(piece, size) {
+            desk.give(self.heap, taken);
         }
         self.slot.replace(Some(desk));
     }
@@ -87,16 +83,16 @@ impl<'h> Drop for Mover<'h> {
     }
 }
 
-/// Whether blocks of one size serve so many bytes and so many.
-pub(crate) fn are_of_one_block(old: usize, new: usize) -> bool
-    ensures yes { result ≡ true → AreOfOneBlock old new }
-    ensures no { AreOfOneBlock old new → result ≡ true }
-    ensures room { result ≡ true → words_for new ≤ usable_words (need_of (words_for new)) }
+/// Whether one piece serves so many bytes and so many.
+pub(crate) fn are_of_one_piece(old: usize, new: usize) -> bool
+    ensures yes { result ≡ true → AreOfOnePiece old new }
+    ensures no { AreOfOnePiece old new → result ≡ true }
+    ensures room { result ≡ true → words_for new ≤ piece_words (words_for new) }
 {
     if old > MOST_BYTES || new > MOST_BYTES {
         return false;
     }
-    class_of(words_of(old) as u32 + 1) == class_of(words_of(new) as u32 + 1)
+    piece_words(words_of(old) as u32 + 1) == piece_words(words_of(new) as u32 + 1)
 }
 
 /// How many words so many bytes lie in.
@@ -107,40 +103,41 @@ fn words_of(size: usize) -> usize
     (size + 7) / 8
 }
 
-/// The piece of memory that is out under this key. Its label has the key and the place of its block.
-fn piece_of(heap: &Heap, key: u32, memory: Memory, size: usize) -> Piece
-    requires room { IsRoomOf heap.now memory }
-    requires aligned { memory.words.first % 2 ≡ 1 }
-    requires need { memory.block.need ≡ need_of (words_for size) }
-    requires long { words_for size ≤ usable_words memory.block.need }
+/// The piece, as memory of so many bytes. Its label is the number of its first word.
+fn piece_of(heap: &Heap, taken: PagePiece, size: usize) -> Piece
+    requires piece { IsPiece heap.now taken }
+    requires aligned { taken.first % 2 ≡ 1 }
+    requires within { taken.first < 2 ^ 33 }
+    requires sized { taken.size ≡ piece_words (words_for size) }
+    requires long { words_for size ≤ taken.size }
     requires size { size ≤ MOST_BYTES }
-    ensures label { result.label / HALF ≡ key }
+    ensures label { result.label ≡ taken.first }
     ensures served { IsServed heap.now.region.at result }
     ensures size { result.size ≡ size }
     ensures aligned { result.first % 2 ≡ 1 }
 {
     let start = heap.start();
-    let place = memory.place();
-    let first = place as usize + 1;
-    let last = place as usize + memory.usable_words() as usize;
-    let mut words = memory.into_words();
-    let label = u64::from(key) * HALF + u64::from(place);
-    words.lay(start, last, label);
+    let first = taken.first;
+    let last = first + taken.size as usize - 1;
+    let mut words = taken.words;
+    words.lay(start, last, first as u64);
     Piece::of_words(words, start, first, size)
 }
 
-/// The memory whose words a piece of so many bytes is, and the key under which it is out, as its label says.
-fn memory_of(piece: Piece, size: usize) -> Option<(u32, Memory)>
-    requires { IsBlockFor size piece.first piece.count piece.label }
-    ensures { IfSome result (λ given. (given.0 ≡ piece.label / HALF) × (given.1.words.at ≡ piece.at) × (given.1.words.first ≡ given.1.block.place + 1)
-        × (length given.1.words.places ≡ usable_words given.1.block.need) × AllHere given.1.words.places) }
+/// What was taken as memory of so many bytes; its label says where it begins.
+fn taken_of(piece: Piece, size: usize) -> Option<PagePiece>
+    requires { IsPieceFor size piece.first piece.count piece.label }
+    ensures { IfSome result (λ taken. (taken.first ≡ piece.first) × (taken.size ≡ piece.count) × (taken.words.at ≡ piece.at)
+        × (taken.words.first ≡ taken.first) × (length taken.words.places ≡ taken.size) × AllHere taken.words.places) }
 {
     if size > MOST_BYTES {
         return None;
     }
-    let need = class_of(words_of(size) as u32 + 1);
-    let (label, words) = piece.into_words(usable(need) as usize - 1);
-    let key = (label / HALF) as u32;
-    let place = (label % HALF) as u32;
-    Some((key, Memory::of_words(place, need, words)))
+    let count = piece_words(words_of(size) as u32 + 1);
+    let (label, words) = piece.into_words(count as usize - 1);
+    Some(PagePiece {
+        first: label as usize,
+        size: count,
+        words,
+    })
 }

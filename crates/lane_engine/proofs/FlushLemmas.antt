@@ -4,7 +4,7 @@ use Rattle.std.proofs.lemmas.List.{map-append}
 use Rattle.errand_steps.specs.declared.reply.Reply.TheVariants as reply
 use Rattle.errand_steps.specs.Begins.{IsIdle}
 use Rattle.errand_steps.specs.Calls.{free}
-use Rattle.sound_laws.specs.events.Made.{LeadsBy, Made, answered}
+use Rattle.sound_laws.specs.events.Made.{LeadsBy, answered}
 use Rattle.live_heap.specs.declared.answers.Resumed.{Resumed}
 use Rattle.live_heap.specs.declared.block.Block.{Block}
 use Rattle.live_heap.specs.Heaps.{HeapFields}
@@ -18,6 +18,7 @@ use Rattle.block_cache.specs.Flushes.{Frees, HasStopped}
 use Rattle.block_cache.specs.Magazines.{leaving, stacks_of}
 use Rattle.block_cache.specs.Whole.{RestsAt}
 use Rattle.lane_engine.specs.Caches.{HasEmptied, HasEndedAt, frees_of}
+use Rattle.lane_engine.proofs.LeadsLemmas.{leads-then}
 use Rattle.lane_engine.proofs.ThroughLemmas.{free-resumes}
 
 -- some of the blocks of the magazines were freed, and the others are left
@@ -29,13 +30,6 @@ pub record EmptiesSoFar (h : HeapFields) (c d : Cache) : Type 0 where
 
 pub empties-none : (h : HeapFields) (c : Cache) → EmptiesSoFar h c c
 empties-none h c = record { freed = []; order = refl; frees = refl; hits = refl }
-
--- frees that have ended, and then others
-leads-on :
-    (h : HeapFields) (p q r : Pass) (made more : List Made) → LeadsBy (HasEndedAt h) p made q → LeadsBy (HasEndedAt h) q more r
-    → LeadsBy (HasEndedAt h) p (made ++ more) r
-leads-on h p q r [] more leads rest = subst (λ x. LeadsBy (HasEndedAt h) x more r) leads rest
-leads-on h p q r (m ∷ made) more (t, one, leads) rest = (t, one, leads-on h t q r made more leads rest)
 
 frees-lead : (h : HeapFields) (p q : Pass) (blocks : List Block) (tries : ℕ) → Frees h p blocks tries q → LeadsBy (HasEndedAt h) p (frees_of blocks) q
 frees-lead h p q [] tries frees = frees
@@ -53,7 +47,7 @@ empties-all h c now d tries so frees hits none = record {
   frees =
       subst (λ blocks. LeadsBy (HasEndedAt h) c.pass (frees_of blocks) d.pass) (sym so.order)
       (subst (λ made. LeadsBy (HasEndedAt h) c.pass made d.pass) (sym (frees-append so.freed (leaving (stacks_in now))))
-      (leads-on h c.pass now.pass d.pass (frees_of so.freed) (frees_of (leaving (stacks_in now))) so.frees
+      (leads-then (HasEndedAt h) c.pass now.pass d.pass (frees_of so.freed) (frees_of (leaving (stacks_in now))) so.frees
       (frees-lead h now.pass d.pass (leaving (stacks_in now)) tries frees)));
   empty = none;
   hits = hits ∙ so.hits;
@@ -78,7 +72,7 @@ empties-stopped h c now mid d tries told so stopped hits keeps rests resumes =
     let last : LeadsBy (HasEndedAt h) stopped.next (frees_of (block ∷ [])) d.pass = (d.pass, (ended, (rests.0.hand.of, rests.1)), refl) in
     let these : LeadsBy (HasEndedAt h) now.pass (frees_of all) d.pass =
     subst (λ made. LeadsBy (HasEndedAt h) now.pass made d.pass) (sym (frees-append before (block ∷ [])))
-    (leads-on h now.pass stopped.next d.pass (frees_of before) (frees_of (block ∷ [])) first last) in
+    (leads-then (HasEndedAt h) now.pass stopped.next d.pass (frees_of before) (frees_of (block ∷ [])) first last) in
     record {
       freed = so.freed ++ all;
       order =
@@ -87,7 +81,7 @@ empties-stopped h c now mid d tries told so stopped hits keeps rests resumes =
           ∙ (sym (append_assoc so.freed all (leaving (stacks_in mid))) ∙ ap (λ xs. (so.freed ++ all) ++ xs) (sym left)));
       frees =
           subst (λ made. LeadsBy (HasEndedAt h) c.pass made d.pass) (sym (frees-append so.freed all))
-          (leads-on h c.pass now.pass d.pass (frees_of so.freed) (frees_of all) so.frees these);
+          (leads-then (HasEndedAt h) c.pass now.pass d.pass (frees_of so.freed) (frees_of all) so.frees these);
       hits = keeps.hits ∙ (hits ∙ so.hits);
     }
 

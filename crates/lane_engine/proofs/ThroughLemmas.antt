@@ -1,5 +1,5 @@
 -- A call through a cache that was interrupted, and goes on to its end; and calls of a cache, for what holds it.
-use Rattle.std.proofs.Common.{ℕ, ◌≡◌, ◌∷◌, List, [], refl, sym, ap, ◌∙◌}
+use Rattle.std.proofs.Common.{ℕ, ◌≡◌, List, refl, sym, ap, ◌∙◌}
 use Rattle.std.proofs.lemmas.Option.{none-some}
 use Rattle.heap_geometry.specs.declared.need.Need.{Need}
 use Rattle.errand_steps.specs.declared.reply.Reply.TheVariants as reply
@@ -19,11 +19,11 @@ use Rattle.live_heap.specs.Answers.{ResumeTells}
 use Rattle.live_heap.specs.Whole.{HasEndedCall, ResumesTo}
 use Rattle.block_cache.specs.declared.cache.Cache.{Cache}
 use Rattle.block_cache.specs.declared.magazines.Magazines.{Magazines}
-use Rattle.block_cache.specs.Caches.{HasFor, HasKept, HasRoom, HasServed, KeepsMagazines, cached_in}
-use Rattle.block_cache.specs.Magazines.{all_in, stacks_of}
+use Rattle.block_cache.specs.Caches.{HasFor, HasKept, HasRoom, HasServed, KeepsMagazines}
 use Rattle.block_cache.specs.Whole.{IsWholeOnWord}
 use Rattle.lane_engine.specs.declared.over_cache.CachedCalls.{CachedCalls}
-use Rattle.lane_engine.specs.Caches.{IsCachedCall}
+use Rattle.lane_engine.specs.Caches.{cache_maker}
+use Rattle.lane_engine.proofs.LeadsLemmas.{leads-of}
 
 -- a resumed call that isn't told to be busy has ended
 pub resume-ended :
@@ -68,9 +68,6 @@ keeps-depth c d keeps = ap (λ (m : Magazines Block). m.depth) keeps.magazines
 pub keeps-on : (c d e : Cache) → KeepsMagazines c d → KeepsMagazines d e → KeepsMagazines c e
 keeps-on c d e one two = record { magazines = two.magazines ∙ one.magazines; hits = two.hits ∙ one.hits }
 
-pub same-cached : (c d : Cache) → KeepsMagazines c d → cached_in d ≡ cached_in c
-same-cached c d keeps = ap (λ (m : Magazines Block). all_in (stacks_of m.stacks.items)) keeps.magazines
-
 -- the struct with its cache in this state
 abbrev pub with_cache : CachedCalls → Cache → CachedCalls
 with_cache e c = record e { cache = record e.cache { now = c } }
@@ -78,9 +75,10 @@ with_cache e c = record e { cache = record e.cache { now = c } }
 -- calls on words through a cache are calls of the struct that has it
 pub words-lead :
     (e : CachedCalls) (c d : Cache) (made : List Made) → LeadsBy (IsWholeOnWord e.heap.now) c made d
-    → LeadsBy (λ f call answer g. IsCachedCall f.heap.now f.cache.now call answer g.cache.now × (g.heap.now ≡ f.heap.now)) (with_cache e c) made (with_cache e d)
-words-lead e c d [] leads = ap (with_cache e) leads
-words-lead e c d (m ∷ made) (t, one, leads) = (with_cache e t, ((one.0, keeps-depth c t one.1), refl), words-lead e t d made leads)
+    → LeadsBy cache_maker.called (with_cache e c) made (with_cache e d)
+words-lead e c d made leads =
+    (leads-of (IsWholeOnWord e.heap.now) cache_maker.called (with_cache e) (λ x. Unit {0})
+    (λ s t call answer is one. (((one.0, keeps-depth s t one.1), refl), tt)) made c d tt leads).0
 
 -- an allocation that is under way found no block in a magazine, and a free under way no room in one
 pub busy-asks :

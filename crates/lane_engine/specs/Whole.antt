@@ -4,7 +4,7 @@ use Rattle.heap_geometry.specs.declared.need.Need.{Need}
 use Rattle.heap_geometry.specs.Need.{need_of}
 use Rattle.errand_steps.specs.declared.reply.Reply.{Reply}
 use Rattle.errand_steps.specs.declared.reply.Reply.TheVariants as reply
-use Rattle.errand_steps.specs.Calls.{Call, alloc}
+use Rattle.errand_steps.specs.Calls.{Call, alloc, put}
 use Rattle.step_machine.specs.Keeping.{Hands, LeavesPlace}
 use Rattle.lane_engine.specs.declared.calls.Allocated.{Allocated}
 use Rattle.lane_engine.specs.declared.calls.Allocated.TheVariants as allocated
@@ -38,16 +38,16 @@ pub record Maker (S : Type 0) : Type 1 where
   pub runs_on : S → Base
   pub called : S → Call → Reply → S → Type 0
 
--- whole calls leave their caller its blocks, but for the one that each gives away; a block that one hands out is the caller's, and none of those that it had; and one that is given serves what was asked for
-pub record KeepBlocks {S : Type 0} (maker : Maker S) : Type 0 where
+-- whole calls leave their caller its blocks, but for the one that each gives away, which a full shelf doesn't take; a block that one hands out is the caller's, and none of those that it had; and one that is given serves what was asked for
+pub record KeepBlocks {S : Type 0} (called : S → Call → Reply → S → Type 0) (owns : S → ℕ → Need → Type 0) : Type 0 where
   pub keeps :
-      (s t : S) (call : Call) (answer : Reply) (place : ℕ) (need : Need) → maker.called s call answer t → LeavesPlace call place
-      → maker.owns s place need → maker.owns t place need
-  pub hands :
-      (s t : S) (call : Call) (answer : Reply) (place : ℕ) (need : Need) → maker.called s call answer t → Hands answer place need
-      → maker.owns t place need
+      (s t : S) (call : Call) (answer : Reply) (place : ℕ) (need : Need) → called s call answer t → LeavesPlace call place → owns s place need
+      → owns t place need
+  pub back :
+      (s t : S) (place : ℕ) (need : Need) (shelf found at : ℕ) (had : Need) → called s (put place need shelf) (reply.Full found) t → owns s at had
+      → owns t at had
+  pub hands : (s t : S) (call : Call) (answer : Reply) (place : ℕ) (need : Need) → called s call answer t → Hands answer place need → owns t place need
   pub apart :
-      (s t : S) (call : Call) (answer : Reply) (place other : ℕ) (need had : Need) → maker.called s call answer t → Hands answer place need
-      → maker.owns s other had → other ≢ place
-  pub serves :
-      (s t : S) (words place : ℕ) (need : Need) → maker.called s (alloc words) (reply.Given place need) t → need ≡ need_of words
+      (s t : S) (call : Call) (answer : Reply) (place other : ℕ) (need had : Need) → called s call answer t → Hands answer place need
+      → owns s other had → other ≢ place
+  pub serves : (s t : S) (words place : ℕ) (need : Need) → called s (alloc words) (reply.Given place need) t → need ≡ need_of words

@@ -100,5 +100,5 @@ pub trait Calls {
 
     /// What is so of all whole calls: a theorem, on a function that does nothing.
     fn calls_keep_blocks()
-        ensures { KeepBlocks maker };
+        ensures { KeepBlocks maker.called maker.owns };
 }

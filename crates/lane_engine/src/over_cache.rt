@@ -16,7 +16,7 @@ ghost use Rattle.lane_engine.specs.Caches.{HasEmptied, IsCachedCall};
 
 use crate::calls::{Allocated, Calls};
 use block_cache::cache::Cache;
-use block_cache::laws::{calls_on_words_are_whole, ended_calls_are_whole, whole_calls_keep_blocks};
+use block_cache::laws::{calls_on_words_are_whole, ended_calls_are_whole};
 use live_heap::answers::{AllocAnswer, FreeAnswer, Resumed, Taken};
 use live_heap::block::Block;
 use live_heap::heap::Heap;
@@ -199,8 +199,6 @@ impl<'a> Calls for CachedCalls<'a> {
     }
 
     fn calls_keep_blocks()
-        ensures { KeepBlocks cache_maker }
-    {
-        whole_calls_keep_blocks();
-    }
+        ensures { KeepBlocks cache_maker.called cache_maker.owns }
+    {}
 }

@@ -10,7 +10,7 @@ use Rattle.trace_lane.specs.declared.lane.LaneState.{LaneState}
 use Rattle.trace_lane.specs.Made.{AllMade, HasRun, HoldsBlocks}
 use Rattle.trace_lane.specs.Paths.{FirstPassed, held_blocks}
 use Rattle.trace_lane.specs.States.{IsNew}
-use Rattle.trace_lane.proofs.HoldsLemmas.{made-of}
+use Rattle.trace_lane.proofs.MadeLemmas.{made-of}
 use Rattle.trace_lane.proofs.OwnLemmas.{blocks-none, none-hold}
 use Rattle.block_cache.specs.declared.cache.Cache.{Cache}
 use Rattle.block_cache.specs.Whole.{RestsAt}

@@ -1,76 +1,33 @@
 -- Whole calls through a cache: those that the heap made, those that a magazine served, and those for which one kept a block.
-use Rattle.std.proofs.Common.{ℕ, suc, ◌≡◌, ◌∷◌, ◌++◌, List, [], length, map, sym, ap, subst, inl, inr}
+use Rattle.std.proofs.Common.{ℕ, ◌≡◌, ◌∷◌, List, [], sym, ap, subst, inl, inr}
 use Rattle.std.specs.Prelude.{◌⊎◌}
-use Rattle.std.specs.List.{flat_map, range_with_len}
-use Rattle.std.proofs.lemmas.Bool.{cases_lt}
 use Rattle.heap_geometry.specs.declared.need.Need.{Need}
 use Rattle.heap_geometry.specs.Need.{need_of}
 use Rattle.errand_steps.specs.declared.reply.Reply.{Reply}
 use Rattle.errand_steps.specs.declared.reply.Reply.TheVariants as reply
-use Rattle.errand_steps.specs.Calls.{Call, alloc, free, take, write}
-use Rattle.sound_laws.specs.events.Made.{LeadsBy, Made, answered, copied_word, found_from}
+use Rattle.errand_steps.specs.Calls.{Call, alloc, free}
+use Rattle.sound_laws.specs.events.Made.{LeadsBy, Made}
 use Rattle.live_heap.specs.declared.block.Block.{Block}
 use Rattle.live_heap.specs.Heaps.{HeapFields}
 use Rattle.live_heap.specs.Answers.{IsTried}
-use Rattle.sound_laws.proofs.events_lemmas.CopyLemmas.{copied-past, copied-read}
-use Rattle.trace_lane.specs.Made.{AreMisses}
 use Rattle.block_cache.specs.declared.cache.Cache.{Cache}
 use Rattle.block_cache.specs.Caches.{HasFor, HasKept, HasRoom, HasServed, KeepsMagazines}
 use Rattle.block_cache.specs.Whole.{RestsAt, asked, kept, served}
 use Rattle.lane_engine.specs.Caches.{IsCachedCall}
 use Rattle.lane_engine.specs.Callers.{Caller, IsCall}
 use Rattle.lane_engine.proofs.ThroughLemmas.{keeps-on}
-use Rattle.trace_lane.proofs.AddedLemmas.{Writes}
+use Rattle.trace_lane.proofs.EachCall.{AllCalls, IsOnWords}
 use Rattle.live_heap.specs.declared.pass.Pass.{Pass}
 use Rattle.live_heap.specs.Passes.{view}
 use Rattle.live_heap.specs.Whole.{IsAtRest, IsWhole, MadeByPass, at_once, by_steps}
 use Rattle.lane_runner.proofs.PassLemmas.{caller_at, whole-call}
 
--- calls that are neither allocations nor frees: no magazine serves or keeps a block
-abbrev pub AllPlain : List Made → Type 0
-AllPlain [] = Unit {0}
-AllPlain (made ∷ rest) = (¬ IsTried made.call) × AllPlain rest
+-- a call that is neither an allocation nor a free: no magazine serves or keeps a block
+abbrev pub IsPlain : Call → Type 0
+IsPlain call = ¬ IsTried call
 
-plain-append : (made more : List Made) → AllPlain made → AllPlain more → AllPlain (made ++ more)
-plain-append [] more one two = two
-plain-append (m ∷ made) more one two = (one.0, plain-append made more one.1 two)
-
-plain-writes : (place : ℕ) (need : Need) (value : ℕ → ℕ) (is : List ℕ) → AllPlain (map (λ j. answered (write place need j (value j)) reply.Wrote) is)
-plain-writes place need value [] = tt
-plain-writes place need value (i ∷ is) = ((λ tried. tried), plain-writes place need value is)
-
-pub plain-wrote : (place : ℕ) (need : Need) (value : ℕ → ℕ) (i n : ℕ) → AllPlain (Writes place need value i n)
-plain-wrote place need value i n = plain-writes place need value (range_with_len i n)
-
-pub plain-found : (place : ℕ) (need : Need) (i : ℕ) (words : List ℕ) → AllPlain (found_from place need i words)
-plain-found place need i [] = tt
-plain-found place need i (word ∷ words) = ((λ tried. tried), plain-found place need (suc i) words)
-
-plain-word :
-    (from : ℕ) (from_need : Need) (to : ℕ) (to_need : Need) (words : List ℕ) (i : ℕ) → AllPlain (copied_word from from_need to to_need words i)
-plain-word from from_need to to_need words i =
-    elim (cases_lt i (length words)) [
-      | inl inside ↦ subst AllPlain (sym (copied-read from from_need to to_need words i inside)) ((λ tried. tried), ((λ tried. tried), tt))
-      | inr past ↦ subst AllPlain (sym (copied-past from from_need to to_need words i past)) ((λ tried. tried), tt)
-    ]
-
-plain-words :
-    (from : ℕ) (from_need : Need) (to : ℕ) (to_need : Need) (words is : List ℕ)
-    → AllPlain (flat_map (copied_word from from_need to to_need words) is)
-plain-words from from_need to to_need words [] = tt
-plain-words from from_need to to_need words (i ∷ is) =
-    plain-append (copied_word from from_need to to_need words i) (flat_map (copied_word from from_need to to_need words) is)
-    (plain-word from from_need to to_need words i) (plain-words from from_need to to_need words is)
-
-pub plain-copied :
-    (from : ℕ) (from_need : Need) (to : ℕ) (to_need : Need) (words : List ℕ) (i n : ℕ)
-    → AllPlain (flat_map (copied_word from from_need to to_need words) (range_with_len i n))
-plain-copied from from_need to to_need words i n = plain-words from from_need to to_need words (range_with_len i n)
-
-pub plain-takes : (shelf : ℕ) (misses : List Made) (answer : Reply) → AreMisses shelf misses → AllPlain (misses ++ answered (take shelf) answer ∷ [])
-plain-takes shelf [] answer are = ((λ tried. tried), tt)
-plain-takes shelf (m ∷ misses) answer are =
-    ((λ tried. subst (λ (x : Made). IsTried x.call) are.2 tried), plain-takes shelf misses answer are.3)
+pub plain : IsOnWords IsPlain
+plain = record { writes = λ place need i value tried. tried; reads = λ place need i tried. tried; takes = λ shelf tried. tried }
 
 -- the caller of the pass behind a cache
 abbrev pub caller_in : Cache → Caller
@@ -92,7 +49,7 @@ pub record HasAsked (h : HeapFields) (c d : Cache) (made : List Made) : Type 0 w
   pub rests : RestsAt h d
 
 pub plain-call :
-    (h : HeapFields) (c d : Cache) (call : Call) (answer : Reply) → IsCachedCall h c call answer d → ¬ IsTried call
+    (h : HeapFields) (c d : Cache) (call : Call) (answer : Reply) → IsCachedCall h c call answer d → IsPlain call
     → IsCall h.layout (caller_in c) call answer (caller_in d) × KeepsMagazines c d
 plain-call h c d call answer (whole, deep) plain =
     elim whole.made [
@@ -102,15 +59,15 @@ plain-call h c d call answer (whole, deep) plain =
     ]
 
 pub plain-leads :
-    (h : HeapFields) (made : List Made) (c d : Cache) → AllPlain made → RestsAt h c → LeadsBy (IsCachedCall h) c made d → HasAsked h c d made
-plain-leads h [] c d plain rests same = record {
+    (h : HeapFields) (made : List Made) (c d : Cache) → AllCalls IsPlain made → RestsAt h c → LeadsBy (IsCachedCall h) c made d → HasAsked h c d made
+plain-leads h [] c d all rests same = record {
   leads = ap caller_in same;
   keeps = record { magazines = ap (λ (x : Cache). x.magazines) same; hits = ap (λ (x : Cache). x.hits) same };
   rests = subst (RestsAt h) (sym same) rests;
 }
-plain-leads h (m ∷ made) c d plain rests (t, one, leads) =
-    let first = plain-call h c t m.call m.answer one plain.0 in
-    let rest = plain-leads h made t d plain.1 one.0.after leads in
+plain-leads h (m ∷ made) c d all rests (t, one, leads) =
+    let first = plain-call h c t m.call m.answer one all.0 in
+    let rest = plain-leads h made t d all.1 one.0.after leads in
     record { leads = (caller_in t, first.0, rest.leads); keeps = keeps-on c t d first.1 rest.keeps; rests = rest.rests }
 
 -- an allocation: a magazine served it, or the heap was asked

@@ -1,8 +1,9 @@
 -- The outcomes of lanes that ran on threads fit the history of their closed heap.
-use Rattle.std.proofs.Common.{ℕ, ◌≡◌, ◌<◌, ◌≤◌, ◌+◌, List, [], ◌∷◌, ◌++◌, length, length-append, append_assoc, get_or, max, refl, sym, ap, ◌∙◌, subst, inl, inr, arith, zero-add}
+use Rattle.std.proofs.Common.{ℕ, ◌≡◌, ◌<◌, ◌≤◌, ◌+◌, List, [], ◌∷◌, ◌++◌, length, append_assoc, get_or, max, refl, sym, ap, ◌∙◌, subst, inl, inr, arith, zero-add}
 use Rattle.std.specs.Prelude.{Contains}
 use Rattle.std.specs.List.{AllByRecursion}
 use Rattle.std.proofs.lemmas.Bool.{cases_lt}
+use Rattle.std.proofs.lemmas.List.{append-nil, append_cancel_left}
 use Rattle.std.proofs.lemmas.List.Elements.{All-get_or}
 use Rattle.heap_geometry.specs.declared.geometry.Geometry.{Geometry}
 use Rattle.pool_model.specs.declared.event.Event.{Event}
@@ -29,18 +30,12 @@ use Rattle.live_heap.specs.Heaps.{HeapFields}
 use Rattle.live_heap.specs.declared.pass.Pass.{Pass}
 use Rattle.live_heap.specs.Endings.{ClosedFields, HasClosed, HasTakenIn, IsResting, machine_of}
 use Rattle.live_heap.specs.Passes.{IsFresh, seen}
-use Rattle.trace_lane.specs.Begun.{calls_of}
 use Rattle.trace_lane.proofs.FitLemmas.{lane-spent}
 use Rattle.lane_runner.specs.Driven.{IsDriven}
 use Rattle.lane_runner.specs.Running.{operations_in}
 use Rattle.lane_runner.specs.Passes.{HaveRun}
 use Rattle.lane_runner.proofs.DrivenLemmas.{fits-all}
 use Rattle.lane_runner.proofs.RunLanes.{element_at}
-
--- nothing follows a list that is the same with what follows it
-nothing-more : (xs ys : List Event) → xs ++ ys ≡ xs → ys ≡ []
-nothing-more xs [] same = refl
-nothing-more xs (y ∷ ys) same = absurd (omega (arith, length-append xs (y ∷ ys), ap length same))
 
 -- each event of a legal history has a caller of the heap; and where those from a number on have none, it has one below
 pub events-below :
@@ -65,10 +60,7 @@ at-least-one n m is = omega (arith, is)
 pub driven-taken :
     (trace : Trace) (orders : List OrderRun) (c : CoreFields) (outcomes : List (List Outcome)) (lane : ℕ) → IsDriven trace orders c outcomes
     → lane < length trace.lanes → Contains (get_or outcomes lane []) outcome.Spent → (errand_at c.errands lane).turns ≡ trace.heap.turn_limit
-driven-taken trace orders c outcomes lane driven lt told =
-    let end = driven.ended lane lt in
-    lane-spent trace.heap lane c.events (errand_at c.errands lane) (operations_in trace lane) end.registers (get_or outcomes lane [])
-    (calls_of lane driven.so_far.moves) told.0 end.rule told.1 told.2
+driven-taken trace orders c outcomes lane driven lt told = lane-spent (driven.ended lane lt).rule told.0 refl told.1 told.2
 
 -- passes with which a heap was closed
 module _ (trace : Trace) (h : HeapFields) (passes : List Pass) (c : ClosedFields) (is : IsTrace trace) (laid : h.layout ≡ trace.heap) (all : length passes ≡ trace.heap.callers) (closed : HasClosed h passes c) (rests : IsResting c) where
@@ -108,7 +100,8 @@ module _ (trace : Trace) (h : HeapFields) (passes : List Pass) (c : ClosedFields
         rest = rest;
         whole = t.seen_before.1;
         none =
-            nothing-more (own lane (seen p)) (own lane rest) (sym (own-append lane (seen p) rest) ∙ ap (own lane) (sym t.seen_before.1) ∙ same);
+            append_cancel_left (own lane (seen p)) (own lane rest) []
+            (sym (own-append lane (seen p) rest) ∙ ap (own lane) (sym t.seen_before.1) ∙ same ∙ sym (append-nil (own lane (seen p))));
         lost = subst (λ (f : ErrandFields). f.lost ≤ lost_by) errand most;
         errand = errand;
       }

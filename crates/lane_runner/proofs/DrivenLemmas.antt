@@ -213,10 +213,10 @@ below-mover count (begins caller call) lt = lt
 below-mover count (steps caller) lt = lt
 
 pub so-far :
-    (passed : ℕ → ℕ → Type 0) (trace : Trace) (first last : CoreFields) (start lanes : List (LaneState Grip)) → IsTrace trace
+    {passed : ℕ → ℕ → Type 0} {trace : Trace} {first last : CoreFields} {start lanes : List (LaneState Grip)} → IsTrace trace
     → IsOpened trace.heap (opening trace.heap) first → IsCore first → AreNew trace.lanes start
     → HaveRunSo passed trace (InOrder trace.orders (length trace.lanes)) first last start lanes → IsDrivenSoFar trace trace.orders last
-so-far passed trace first last start lanes is opened core new so =
+so-far {trace = trace} {first = first} {last = last} {start = start} {lanes = lanes} is opened core new so =
     let ran = so.ran in
     let begun : (lane : ℕ) (state : LaneState Grip) → lane < length start → state ≡ get_or start lane state
     → IsLaneOn first (operations_in trace lane) state [] =
@@ -249,12 +249,10 @@ so-far passed trace first last start lanes is opened core new so =
 
 -- lanes that stopped behind the order runs have driven the machine so far, in order
 pub stopped :
-    (passed : ℕ → ℕ → Type 0) (trace : Trace) (first mid last : CoreFields) (start middle lanes : List (LaneState Grip)) → IsTrace trace
+    {passed : ℕ → ℕ → Type 0} {trace : Trace} {first mid last : CoreFields} {start middle lanes : List (LaneState Grip)} → IsTrace trace
     → IsOpened trace.heap (opening trace.heap) first → IsCore first → AreNew trace.lanes start → HaveFollowed passed trace trace.orders first mid start middle
     → HaveRunSo passed trace (OneByOne 0 (length trace.lanes)) mid last middle lanes → IsDrivenSoFar trace trace.orders last
-stopped passed trace first mid last start middle lanes is opened core new follow so =
-    so-far passed trace first last start lanes is opened core new
-    (runs-behind passed trace first mid last start middle lanes (follow.stand.all ∙ sym new.all) follow so)
+stopped is opened core new follow so = so-far is opened core new (runs-behind (follow.stand.all ∙ sym new.all) follow so)
 
 -- no lane has begun
 pub so-none :
@@ -282,11 +280,9 @@ so-none trace first is opened core = record {
 }
 
 -- a lane at its end
-module _ (passed : ℕ → ℕ → Type 0) (trace : Trace) (first mid last : CoreFields) (start middle lanes : List (LaneState Grip)) (is : IsTrace trace) (opened : IsOpened trace.heap (opening trace.heap) first) (core : IsCore first) (new : AreNew trace.lanes start) (follow : HaveFollowed passed trace trace.orders first mid start middle) (finish : HaveFinished passed trace (length trace.lanes) mid last middle lanes) where
+module _ {passed : ℕ → ℕ → Type 0} {trace : Trace} {first mid last : CoreFields} {start middle lanes : List (LaneState Grip)} (is : IsTrace trace) (opened : IsOpened trace.heap (opening trace.heap) first) (core : IsCore first) (new : AreNew trace.lanes start) (follow : HaveFollowed passed trace trace.orders first mid start middle) (finish : HaveFinished passed trace (length trace.lanes) mid last middle lanes) where
   whole : HaveRunSo passed trace (InOrder trace.orders (length trace.lanes)) first last start lanes
-  whole =
-      runs-behind passed trace first mid last start middle lanes (follow.stand.all ∙ sym new.all) follow
-      (finished-so passed trace mid last middle lanes finish)
+  whole = runs-behind (follow.stand.all ∙ sym new.all) follow (finished-so finish)
 
   ran : LanesRan passed trace first last start lanes
   ran = whole.ran
@@ -349,10 +345,7 @@ module _ (passed : ℕ → ℕ → Type 0) (trace : Trace) (first mid last : Cor
   scripts :
       (lane : ℕ) → lane < length trace.lanes
       → Scripts (replicate REGISTERS None) (get_or trace.lanes lane []) (get_or results lane []) (calls_of lane ran.moves)
-  scripts lane lt =
-      let e = ended lane lt in
-      lane-script trace.heap lane last.events (errand_at last.errands lane) (operations_in trace lane) e.registers (get_or results lane [])
-      (calls_of lane ran.moves) e.rule
+  scripts lane lt = lane-script (ended lane lt).rule
 
   idle : (caller : ℕ) → caller < trace.heap.callers → IsIdle (errand_at last.errands caller)
   idle caller has =
@@ -375,17 +368,15 @@ module _ (passed : ℕ → ℕ → Type 0) (trace : Trace) (first mid last : Cor
       → Fits (setting_in last.events (0 + lane) trace.heap.turn_limit (lost_by_all last)) (get_or trace.lanes lane []) (get_or results lane [])
   fits-at lane lt =
       let e = at-end lane lt in
-      let end = ended lane lt in
       let has : lane < last.geometry.callers = subst (λ k. k < last.geometry.callers) e.number e.stands.has in
       subst (λ k. Fits (setting_in last.events k trace.heap.turn_limit (lost_by_all last)) (operations_in trace lane) (get_or results lane []))
       (sym (zero-add lane))
-      (lane-fits trace.heap lane last.events (errand_at last.errands lane) (operations_in trace lane) end.registers (get_or results lane [])
-      (calls_of lane ran.moves) (lost_by_all last) end.rule (ap length (sym (result-at lane lt)) ∙ e.ended.all) (lost-most lane has))
+      (lane-fits (ended lane lt).rule (lost_by_all last) refl (ap length (sym (result-at lane lt)) ∙ e.ended.all) (lost-most lane has))
 
   pub driven : IsDriven trace trace.orders last (map (λ (lane : LaneState Grip). lane.outcomes.items) lanes)
   unfolding results ran so-far
   driven = record {
-    so_far = so-far passed trace first last start lanes is opened core new whole;
+    so_far = so-far is opened core new whole;
     scripts = scripts;
     ended = ended;
     idle = idle;

@@ -1,6 +1,7 @@
 -- An operation of a lane through a cache that is given a block, or frees one: by a magazine, or by the heap.
 use Rattle.std.proofs.Common.{ℕ, Bool, suc, true, ◌≡◌, ◌≢◌, ◌<◌, ◌+◌, ◌-◌, ◌%◌, ◌^◌, ◌∷◌, ◌++◌, List, [], Option, Some, None, length, refl, sym, ap, ◌∙◌, subst, inl, inr, arith}
 use Rattle.std.specs.Prelude.{min, if◌then◌else◌}
+use Rattle.std.specs.List.{range_with_len}
 use Rattle.heap_geometry.specs.declared.need.Need.{Need}
 use Rattle.heap_geometry.specs.Need.{need_of, usable_words}
 use Rattle.pool_model.specs.declared.event.Event.{Event}
@@ -28,12 +29,13 @@ use Rattle.block_cache.specs.declared.magazines.Magazines.{Magazines}
 use Rattle.block_cache.specs.Whole.{RestsAt}
 use Rattle.block_cache.proofs.WholeLemmas.{whole-apart}
 use Rattle.lane_engine.specs.Caches.{IsCachedCall}
+use Rattle.lane_engine.proofs.LeadsLemmas.{leads-split}
 use Rattle.trace_lane.proofs.AddedLemmas.{HasAdded, added-none, added-then, value_of, whole-added, writes-added}
-use Rattle.trace_lane.proofs.HoldsLemmas.{leads-split}
+use Rattle.trace_lane.proofs.EachCall.{all-copied, all-wrote}
 use Rattle.trace_lane.proofs.QuietLemmas.{AllQuiet, quiet-giving}
 use Rattle.trace_lane.proofs.RowLemmas.{copies, gives as heap-gives}
-use Rattle.trace_lane.proofs.TurnLemmas.{answered_in, counted, giving-count, piece-count, piece-none, small-need, writes-none}
-use Rattle.lane_runner.proofs.CallLemmas.{alloc-by, caller_in, free-by, pass-rests, plain-copied, plain-leads, plain-wrote}
+use Rattle.trace_lane.proofs.TurnLemmas.{answered_in, giving-count, piece-count, piece-none, small-more, writes-none}
+use Rattle.lane_runner.proofs.CallLemmas.{alloc-by, caller_in, free-by, pass-rests, plain, plain-leads}
 use Rattle.lane_runner.proofs.PassLemmas.{caller_at, rests-caller}
 use Rattle.lane_runner.proofs.Places.{kept-freed, not-given, not-kept, not-served, places_in, room-kept, same-places, served-by, served-given}
 use Rattle.lane_runner.proofs.RowLemmas.{HasGone, IsBetween, quiet-freeing, quiet-more, setting_at, stands_at}
@@ -100,7 +102,7 @@ given-answers :
     → IsGivenBy served setting (stands_at c base) need place calls → base.answered ≡ answered_in setting.caller base.done
     → answered_by served base.answered operation result ≡ answered_in setting.caller (base.done ++ calls)
 given-answers setting c base operation result need place calls None is given so_far =
-    is ∙ ap (λ b. if b then suc base.answered else base.answered) (small-need need) ∙ counted _ base.answered
+    is ∙ small-more need base.answered
     ∙ piece-count setting.caller base.done calls base.answered _ so_far (giving-count setting.caller need place (need_of need) calls given.1)
 given-answers setting c base operation result need place calls (Some at) is given so_far =
     piece-none setting.caller base.done calls base.answered so_far (ap (answered_in setting.caller) given.1)
@@ -175,7 +177,7 @@ module _ (h : HeapFields) (c d : Cache) (base : Position) (st : IsBetween h c ba
   given r need v words place empty words_are (t, one, leads) =
       let value = λ (i : ℕ). (v + i) % 2 ^ 64 in
       let g = gives h c t base need place st one in
-      let a = plain-leads h (wrote place (need_of need) v words) t d (plain-wrote place (need_of need) value 0 words) one.0.after leads in
+      let a = plain-leads h (wrote place (need_of need) v words) t d (all-wrote plain place (need_of need) v words) one.0.after leads in
       let fills = filling caller place words v in
       let wrote_so : HasAdded h.layout (caller_in t) (caller_in d) fills =
       subst (λ k. HasAdded h.layout (caller_in t) (caller_in d) (filling k place words v)) g.added.moved.same_caller
@@ -211,7 +213,7 @@ module _ (h : HeapFields) (c d : Cache) (base : Position) (st : IsBetween h c ba
       let made = copied held.place held.need place n found words in
       let parts = leads-split (IsCachedCall h) t d made (answered release reply.Freed ∷ []) leads in
       let u : Cache = parts.0 in
-      let a = plain-leads h made t u (plain-copied held.place held.need place n found 0 words) one.0.after parts.1 in
+      let a = plain-leads h made t u (all-copied plain held.place held.need place n found (range_with_len 0 words)) one.0.after parts.1 in
       let writes = writing caller place words (value_of found) in
       let (copied_so, copy) = copies h.layout (caller_in c) (caller_in d) base st.plain r words place held n found (caller_in t) (caller_in u) g.calls full has
       all apart g.added (g.quiet held.place) a.leads in

@@ -4,7 +4,6 @@ pub mod ClosedFits
 pub mod ClosedLemmas
 pub mod DrivenLemmas
 pub mod GivenLemmas
-pub mod HoldsLemmas
 pub mod Numbered
 pub mod OrderLemmas
 pub mod PairLemmas

@@ -23,9 +23,8 @@ use Rattle.lane_runner.proofs.RunLemmas.{steppers-append}
 use Rattle.lane_runner.proofs.RunLanes.{contains-none, element_at, ended-at, one-ran, the-same}
 
 -- lanes that made no move
-pub lanes-none :
-    (passed : ℕ → ℕ → Type 0) (trace : Trace) (c : CoreFields) (lanes : List (LaneState Grip)) → LanesRan passed trace c c lanes lanes
-lanes-none passed trace c lanes = record {
+lanes-none : {passed : ℕ → ℕ → Type 0} {trace : Trace} {c : CoreFields} {lanes : List (LaneState Grip)} → LanesRan passed trace c c lanes lanes
+lanes-none {passed = passed} {trace = trace} {c = c} {lanes = lanes} = record {
   moves = [];
   leads = refl;
   by_lanes = All-nil (IsBelow (length lanes));
@@ -53,9 +52,9 @@ drives-append g lanes earlier s t u (move ∷ first) second h k = (
 
 -- lanes have run, and then run further
 unfoldable pub lanes-more :
-    (passed : ℕ → ℕ → Type 0) (trace : Trace) (a b c : CoreFields) (old mid new : List (LaneState Grip)) → length mid ≡ length old
+    {passed : ℕ → ℕ → Type 0} {trace : Trace} {a b c : CoreFields} {old mid new : List (LaneState Grip)} → length mid ≡ length old
     → LanesRan passed trace a b old mid → LanesRan passed trace b c mid new → LanesRan passed trace a c old new
-lanes-more passed trace a b c old mid new same h k = record {
+lanes-more {trace = trace} {a = a} {b = b} {c = c} {old = old} {mid = mid} same h k = record {
   moves = h.moves ++ k.moves;
   leads = leads-append a b c h.moves k.moves h.leads k.leads;
   by_lanes =
@@ -99,24 +98,24 @@ not-both xs ys lane a b there = elim (Contains-append_cases xs ys lane there) [ 
 
 -- lanes that have followed no order run yet
 pub followed-none :
-    (passed : ℕ → ℕ → Type 0) (trace : Trace) (c : CoreFields) (lanes : List (LaneState Grip)) → LanesStand trace c lanes
+    {passed : ℕ → ℕ → Type 0} {trace : Trace} {c : CoreFields} {lanes : List (LaneState Grip)} → LanesStand trace c lanes
     → HaveFollowed passed trace [] c c lanes lanes
 unfolding lanes-none
-followed-none passed trace c lanes stand = record {
+followed-none stand = record {
   stand = stand;
-  ran = lanes-none passed trace c lanes;
+  ran = lanes-none;
   order = record { goes_on = λ later count rest none follows. follows };
 }
 
 -- a lane follows one order run
 pub followed-one :
-    (passed : ℕ → ℕ → Type 0) (trace : Trace) (c after : CoreFields) (lanes : List (LaneState Grip)) (run : OrderRun) (lane : ℕ)
-    (operations : List Op) (old new : LaneState Grip) → LanesStand trace c lanes → lane < length lanes → run.lane ≡ lane
+    {passed : ℕ → ℕ → Type 0} {trace : Trace} {c after : CoreFields} {lanes : List (LaneState Grip)} {run : OrderRun}
+    {operations : List Op} {old new : LaneState Grip} (lane : ℕ) → LanesStand trace c lanes → lane < length lanes → run.lane ≡ lane
     → operations ≡ operations_in trace lane → old ≡ get_or lanes lane old → HasRunSome passed c after operations old new run.steps
     → HaveFollowed passed trace (run ∷ []) c after lanes (set lanes lane new)
-followed-one passed trace c after lanes run lane operations old new stand lt number mine is some =
+followed-one {passed = passed} {c = c} {after = after} {run = run} {old = old} {new = new} lane stand lt number mine is some =
     let ran = subst (λ operations. HasRun passed c after operations old new some.made) mine some.ran in
-    let one = one-ran passed trace c after lanes lane some.made old new stand lt is ran in
+    let one = one-ran lane stand lt is ran in
     record {
       stand = one.stand;
       ran = one.ran;
@@ -128,7 +127,7 @@ followed-one passed trace c after lanes run lane operations old new stand lt num
           some.most,
           λ early there.
               none lane
-              (ended-at passed trace c after lanes lane some.made old new stand lt is ran lane refl
+              (ended-at lane stand lt is ran lane refl
               (subst (λ operations. HasEnded operations new) mine (some.ended early)))
               (subst (Contains rest) number there),
           follows,
@@ -138,13 +137,13 @@ followed-one passed trace c after lanes run lane operations old new stand lt num
 
 -- lanes have followed order runs, and then more of them
 pub followed-more :
-    (passed : ℕ → ℕ → Type 0) (trace : Trace) (runs more : List OrderRun) (a b c : CoreFields) (old mid new : List (LaneState Grip))
+    {passed : ℕ → ℕ → Type 0} {trace : Trace} {runs more : List OrderRun} {a b c : CoreFields} {old mid new : List (LaneState Grip)}
     → length mid ≡ length old → HaveFollowed passed trace runs a b old mid → HaveFollowed passed trace more b c mid new
     → HaveFollowed passed trace (runs ++ more) a c old new
 unfolding lanes-more
-followed-more passed trace runs more a b c old mid new same h k = record {
+followed-more {runs = runs} {more = more} same h k = record {
   stand = k.stand;
-  ran = lanes-more passed trace a b c old mid new same h.ran k.ran;
+  ran = lanes-more same h.ran k.ran;
   order = record {
     goes_on = λ later count rest none follows.
         let second = k.order.goes_on later count rest none follows in
@@ -162,39 +161,37 @@ followed-more passed trace runs more a b c old mid new same h k = record {
 
 -- no lane has gone on to its end yet
 pub finished-none :
-    (passed : ℕ → ℕ → Type 0) (trace : Trace) (c : CoreFields) (lanes : List (LaneState Grip)) → LanesStand trace c lanes
+    {passed : ℕ → ℕ → Type 0} {trace : Trace} {c : CoreFields} {lanes : List (LaneState Grip)} → LanesStand trace c lanes
     → HaveFinished passed trace 0 c c lanes lanes
 unfolding lanes-none
-finished-none passed trace c lanes stand = record {
+finished-none stand = record {
   stand = stand;
-  ran = lanes-none passed trace c lanes;
+  ran = lanes-none;
   ended = λ lane lt. absurd (omega (arith, lt));
   order = λ left rest none turn. subst (λ n. OneByOne 0 n rest) (sym (zero-add left)) turn;
 }
 
 -- one lane goes on to its end
 pub out-one :
-    (passed : ℕ → ℕ → Type 0) (trace : Trace) (c after : CoreFields) (lanes : List (LaneState Grip)) (lane : ℕ) (operations : List Op)
-    (old new : LaneState Grip) → LanesStand trace c lanes → lane < length lanes → operations ≡ operations_in trace lane
+    {passed : ℕ → ℕ → Type 0} {trace : Trace} {c after : CoreFields} {lanes : List (LaneState Grip)} {operations : List Op}
+    {old new : LaneState Grip} (lane : ℕ) → LanesStand trace c lanes → lane < length lanes → operations ≡ operations_in trace lane
     → old ≡ get_or lanes lane old → HasRunOut passed c after operations old new → OneRanOut passed trace c after lanes (set lanes lane new) lane
-out-one passed trace c after lanes lane operations old new stand lt mine is out =
+out-one {passed = passed} {c = c} {after = after} {old = old} {new = new} lane stand lt mine is out =
     let ran = subst (λ operations. HasRun passed c after operations old new out.made) mine out.ran in
     record {
       made = out.made;
-      one = one-ran passed trace c after lanes lane out.made old new stand lt is ran;
-      ended =
-          ended-at passed trace c after lanes lane out.made old new stand lt is ran lane refl
-          (subst (λ operations. HasEnded operations new) mine out.ended);
+      one = one-ran lane stand lt is ran;
+      ended = ended-at lane stand lt is ran lane refl (subst (λ operations. HasEnded operations new) mine out.ended);
     }
 
 -- one lane more has gone on to its end
 pub finished-more :
-    (passed : ℕ → ℕ → Type 0) (trace : Trace) (count : ℕ) (a b c : CoreFields) (old mid new : List (LaneState Grip)) → length mid ≡ length old
+    {passed : ℕ → ℕ → Type 0} {trace : Trace} {count : ℕ} {a b c : CoreFields} {old mid new : List (LaneState Grip)} → length mid ≡ length old
     → HaveFinished passed trace count a b old mid → OneRanOut passed trace b c mid new count → HaveFinished passed trace (count + 1) a c old new
 unfolding lanes-more
-finished-more passed trace count a b c old mid new same h k = record {
+finished-more {trace = trace} {count = count} {new = new} same h k = record {
   stand = k.one.stand;
-  ran = lanes-more passed trace a b c old mid new same h.ran k.one.ran;
+  ran = lanes-more same h.ran k.one.ran;
   ended = λ lane lt.
       elim (cases_eq lane count) [
         | inl is ↦ subst (HasEndedIn trace new) (sym is) k.ended

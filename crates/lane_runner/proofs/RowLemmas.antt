@@ -20,17 +20,14 @@ use Rattle.block_cache.specs.declared.cache.Cache.{Cache}
 use Rattle.block_cache.specs.Caches.{KeepsMagazines}
 use Rattle.block_cache.specs.Whole.{HoldsAt, RestsAt}
 use Rattle.lane_engine.specs.Caches.{IsCachedCall}
-use Rattle.lane_engine.specs.Callers.{IsCall}
 use Rattle.trace_lane.specs.Made.{MadeFor, register_of}
 use Rattle.trace_lane.proofs.AddedLemmas.{HasAdded}
 use Rattle.trace_lane.proofs.CallerLemmas.{Owns}
-use Rattle.trace_lane.proofs.HoldsLemmas.{HoldsAll as HoldsAllOn, held_need, held_place}
-use Rattle.trace_lane.proofs.MadeLemmas.{holds-still}
+use Rattle.trace_lane.proofs.EachCall.{AllCalls}
+use Rattle.trace_lane.proofs.HoldsLemmas.{HoldsAll, holds-still}
 use Rattle.trace_lane.proofs.RowLemmas.{HasGone as HasGoneOn, IsBetween as IsBetweenOn, op-gone, setting_at as setting_on}
 use Rattle.trace_lane.proofs.TurnLemmas.{answered-append, answered-row, answered_in}
-use Rattle.trace_lane.proofs.WorkLemmas.{caller-laws}
-use Rattle.lane_runner.proofs.CallLemmas.{AllPlain, alloc-by, caller_in, plain-leads}
-use Rattle.lane_runner.proofs.HoldsLemmas.{HoldsAll}
+use Rattle.lane_runner.proofs.CallLemmas.{IsPlain, alloc-by, caller_in, plain-leads}
 use Rattle.lane_runner.proofs.Places.{not-served, places_in, same-places}
 
 -- a lane between two operations, by the cache that it goes through
@@ -41,13 +38,12 @@ stands_at c base = record { base = base; magazines = places_in c; hits = c.hits 
 pub record IsBetween (h : HeapFields) (c : Cache) (base : Position) : Type 0 where
   pub rests : RestsAt h c
   pub plain : IsBetweenOn h.layout (caller_in c) base
-  pub holds : HoldsAll c base.registers
+  pub holds : HoldsAll HoldsAt c base.registers
 
 -- what registers hold through a cache they hold on its pass
 pub holds-plain :
-    (h : HeapFields) (c : Cache) (registers : List (Option HeldBlock)) → HoldsAll c registers
-    → HoldsAllOn (IsCall h.layout) Owns (caller-laws h.layout) (caller_in c) registers
-holds-plain h c registers holds = holds-still held_place held_need (HoldsAt c) (Owns (caller_in c)) registers holds (λ place need held. held.0.0)
+    (h : HeapFields) (c : Cache) (registers : List (Option HeldBlock)) → HoldsAll HoldsAt c registers → HoldsAll Owns (caller_in c) registers
+holds-plain h c registers holds = holds-still (HoldsAt c) (Owns (caller_in c)) registers holds (λ place need held. held.0.0)
 
 -- what the outcome of an operation is held against, by the cache behind the operation
 abbrev pub setting_at : HeapFields → Cache → Cache → Setting
@@ -108,13 +104,13 @@ module _ (h : HeapFields) (c d : Cache) (base : Position) (st : IsBetween h c ba
   -- no magazine has to do with it
   pub plain-gone :
       (operation : Op) (result : Outcome) (slot : Option HeldBlock) (made calls : List Made) → held_in base.registers (register_of operation) ≡ slot
-      → MadeFor slot operation result made → made ≡ calls → AllPlain calls → Leads made
+      → MadeFor slot operation result made → made ≡ calls → AllCalls IsPlain calls → Leads made
       → ((piece : List Event) → FitsRow (setting_at h c d) base operation result piece
       → CachedRow (setting_at h c d) depth (stands_at c base) operation result piece)
       → served_for (places_in c) operation result ≡ None → magazines_after depth (places_in c) base.registers operation result ≡ places_in c
       → HasGone h c d base operation result
   plain-gone operation result slot made calls is for are plain leads row none same =
-      let a = plain-leads h made c d (subst AllPlain (sym are) plain) st.rests leads in
+      let a = plain-leads h made c d (subst (AllCalls IsPlain) (sym are) plain) st.rests leads in
       let gone = op-gone h.layout (caller_in c) (caller_in d) base st.plain operation result slot made is for a.leads in
       gone-plain operation result gone a.keeps (row gone.piece gone.row) none same
 

@@ -19,6 +19,7 @@ use Rattle.sound_state.specs.Moves.{is_step}
 use Rattle.sound_state.specs.Runs.{Move, Moved, begins, steps}
 use Rattle.step_machine.specs.Cores.{CoreFields, errand_at, state_of}
 use Rattle.step_machine.specs.Moments.{HasSeenMore}
+use Rattle.step_machine.proofs.MomentLemmas.{same-seen}
 use Rattle.lane_engine.specs.declared.grip.Grip.{Grip}
 use Rattle.trace_lane.specs.declared.lane.LaneState.{LaneState}
 use Rattle.trace_lane.specs.Begun.{calls_of}
@@ -30,7 +31,6 @@ use Rattle.trace_lane.specs.States.{IsLaneOf, IsLaneOn, StandsOn, registers_at}
 use Rattle.lane_engine.specs.Engines.{machine_at}
 use Rattle.trace_lane.proofs.EndedLemmas.{lane-beside, lane_of-beside}
 use Rattle.trace_lane.proofs.AdvanceLemmas.{calls-append}
-use Rattle.lane_runner.proofs.RunLemmas.{seen-none}
 
 -- the lane at a place, after one was replaced
 pub data Placed {A : Type 0} (lanes : List A) (lane : ℕ) (new : A) (at : ℕ) (state : A) : Type 0 where
@@ -96,7 +96,7 @@ own-not lane e ne = ap (λ b. if b then e ∷ [] else []) (ne_eqb (caller_of e) 
 other-told :
     (lane : ℕ) (events : List Event) (o : Option Event) → ((e : Event) → o ≡ Some e → caller_of e ≢ lane)
     → HasSeenMore lane events (with_event events o)
-other-told lane events None others = seen-none lane events
+other-told lane events None others = same-seen lane events events refl
 other-told lane events (Some e) others = record { more = e ∷ []; seen = refl; not_own = own-not lane e (others e refl) }
 
 by-mover : (mover : ℕ) (move : Move) → IsBy mover move → mover_of move ≡ mover
@@ -143,7 +143,7 @@ other-move :
 other-move c after lane (begins caller call) ne moved =
     let same = ap (λ (s : State). s.errand lane) moved.moved.1.after ∙ moved.moved.1.moves.elsewhere lane ne in
     let seen : after.events ≡ c.events = ap (λ (s : State). s.history) moved.moved.1.after in
-    (same, subst (HasSeenMore lane c.events) (sym seen) (seen-none lane c.events))
+    (same, subst (HasSeenMore lane c.events) (sym seen) (same-seen lane c.events c.events refl))
 other-move c after lane (steps caller) ne moved = (
   moved.moved.1.errand.elsewhere lane ne,
   subst (HasSeenMore lane c.events) (sym moved.moved.1.history)
@@ -190,7 +190,7 @@ lane-drives g all mover c after earlier (move ∷ moves) heap by leads ways =
     )
 
 -- one lane ran
-module _ (passed : ℕ → ℕ → Type 0) (trace : Trace) (c after : CoreFields) (lanes : List (LaneState Grip)) (lane made : ℕ) (old new : LaneState Grip) (stand : LanesStand trace c lanes) (lt : lane < length lanes) (is : old ≡ get_or lanes lane old) (run : HasRun passed c after (operations_in trace lane) old new made) where
+module _ {passed : ℕ → ℕ → Type 0} {trace : Trace} {c after : CoreFields} {lanes : List (LaneState Grip)} {made : ℕ} {old new : LaneState Grip} (lane : ℕ) (stand : LanesStand trace c lanes) (lt : lane < length lanes) (is : old ≡ get_or lanes lane old) (run : HasRun passed c after (operations_in trace lane) old new made) where
   number : old.caller ≡ lane
   number = stand.numbered lane old lt is
 

@@ -1,20 +1,16 @@
 -- Advances of one lane on a machine, one after another.
 use Rattle.std.proofs.Common.{ℕ, ◌≡◌, ◌<◌, ◌+◌, Bool, true, false, if◌then◌else◌, List, [], ◌∷◌, ◌++◌, length, refl, sym, ap, ◌∙◌, subst, inl, inr, arith, append_assoc}
+use Rattle.std.proofs.lemmas.Bool.{true≢false}
 use Rattle.std.specs.Prelude.{All, count_by}
 use Rattle.std.proofs.lemmas.List.{append-nil}
 use Rattle.std.proofs.lemmas.List.Elements.{All-nil, All-append}
-use Rattle.std.proofs.lemmas.Bool.{true≢false}
 use Rattle.heap_geometry.specs.declared.geometry.Geometry.{Geometry}
-use Rattle.pool_model.specs.declared.event.Event.{Event}
-use Rattle.pool_model.specs.Histories.{own}
 use Rattle.trace_text.specs.declared.trace.Op.{Op}
 use Rattle.errand_steps.specs.Begins.{IsIdle}
 use Rattle.errand_steps.specs.Calls.{take as take_call}
-use Rattle.pool_model.proofs.HistoryLemmas.{own-append as own-both}
 use Rattle.sound_state.specs.Moves.{is_step}
 use Rattle.sound_state.specs.Runs.{Move, begins, steps}
 use Rattle.step_machine.specs.Cores.{CoreFields, errand_at}
-use Rattle.step_machine.specs.Moments.{HasSeenMore}
 use Rattle.lane_engine.specs.declared.grip.Grip.{Grip}
 use Rattle.trace_lane.specs.declared.lane.LaneState.{LaneState}
 use Rattle.trace_lane.specs.declared.stage.OperationStage.TheVariants as stage
@@ -25,9 +21,9 @@ use Rattle.lane_runner.specs.Running.{HasEnded, HasRun}
 use Rattle.trace_lane.specs.Advances.{AdvancesOn, HasAdvanced}
 use Rattle.trace_lane.specs.Scripts.{script_left}
 use Rattle.trace_lane.proofs.AdvanceLemmas.{calls-append, leads-append, steps-append}
-use Rattle.trace_lane.specs.States.{IsLaneOn, StandsOn, registers_at}
-use Rattle.lane_engine.specs.Engines.{machine_at}
-use Rattle.trace_lane.proofs.EndedLemmas.{lane-resting}
+use Rattle.trace_lane.specs.States.{IsLaneOn, StandsOn}
+use Rattle.step_machine.proofs.MomentLemmas.{same-seen}
+use Rattle.trace_lane.proofs.EndedLemmas.{lane-resting, seen-then}
 
 -- the callers that made steps, of moves one after the other
 pub steppers-append : (first second : List Move) → steppers_of (first ++ second) ≡ steppers_of first ++ steppers_of second
@@ -35,25 +31,11 @@ steppers-append [] second = refl
 steppers-append (begins other call ∷ first) second = steppers-append first second
 steppers-append (steps other ∷ first) second = ap (λ xs. other ∷ xs) (steppers-append first second)
 
--- more and more events are seen
-pub seen-none : (caller : ℕ) (events : List Event) → HasSeenMore caller events events
-seen-none caller events = record { more = []; seen = sym (append-nil events); not_own = refl }
-
-own-append : (caller : ℕ) (xs ys : List Event) → own caller xs ≡ [] → own caller ys ≡ [] → own caller (xs ++ ys) ≡ []
-own-append caller xs ys none also = own-both caller xs ys ∙ ap (λ zs. zs ++ own caller ys) none ∙ also
-
-pub seen-more : (caller : ℕ) (a b c : List Event) → HasSeenMore caller a b → HasSeenMore caller b c → HasSeenMore caller a c
-seen-more caller a b c h k = record {
-  more = h.more ++ k.more;
-  seen = k.seen ∙ ap (λ xs. xs ++ k.more) h.seen ∙ append_assoc a h.more k.more;
-  not_own = own-append caller h.more k.more h.not_own k.not_own;
-}
-
 -- a lane that has made no step yet
 pub ran-none :
-    (passed : ℕ → ℕ → Type 0) (c : CoreFields) (operations : List Op) (lane : LaneState Grip) → StandsOn c operations lane
+    {passed : ℕ → ℕ → Type 0} {c : CoreFields} {operations : List Op} {lane : LaneState Grip} → StandsOn c operations lane
     → HasRun passed c c operations lane lane 0
-ran-none passed c operations lane stands = record {
+ran-none {c = c} {operations = operations} {lane = lane} stands = record {
   heap = refl;
   caller = refl;
   moves = [];
@@ -62,16 +44,16 @@ ran-none passed c operations lane stands = record {
   counts = refl;
   calls = λ calls on. subst (IsLaneOn c operations lane) (sym (append-nil calls)) on;
   stands = stands;
-  others = λ other has apart. (refl, seen-none other c.events);
+  others = λ other has apart. (refl, same-seen other c.events c.events refl);
   still = λ ended. (refl, ended);
   gate = λ gone. gone;
 }
 
 -- a lane has run, and then runs further
-pub ran-more :
-    (passed : ℕ → ℕ → Type 0) (a b c : CoreFields) (operations : List Op) (old mid new : LaneState Grip) (m n : ℕ)
+ran-more :
+    {passed : ℕ → ℕ → Type 0} {a b c : CoreFields} {operations : List Op} {old mid new : LaneState Grip} {m n : ℕ}
     → HasRun passed a b operations old mid m → HasRun passed b c operations mid new n → HasRun passed a c operations old new (m + n)
-ran-more passed a b c operations old mid new m n h k =
+ran-more {a = a} {b = b} {c = c} {operations = operations} {old = old} {mid = mid} {new = new} h k =
     let by : All (IsBy old.caller) k.moves = subst (λ caller. All (IsBy caller) k.moves) h.caller k.by_caller in
     record {
       heap = k.heap ∙ h.heap;
@@ -92,7 +74,7 @@ ran-more passed a b c operations old mid new m n h k =
           let first = h.others other has apart in
           let second =
           k.others other (subst (λ (g : Geometry). other < g.callers) (sym h.heap) has) (λ is. apart (is ∙ h.caller)) in
-          (second.0 ∙ first.0, seen-more other a.events b.events c.events first.1 second.1);
+          (second.0 ∙ first.0, seen-then other a.events b.events c.events first.1 second.1);
       still = λ ended.
           let first = h.still ended in
           let second = k.still first.1 in
@@ -104,9 +86,7 @@ ran-more passed a b c operations old mid new m n h k =
 pub between-idle :
     (c : CoreFields) (operations : List Op) (lane : LaneState Grip) → StandsOn c operations lane → lane.stage ≡ stage.Between
     → IsIdle (errand_at c.errands lane.caller)
-between-idle c operations lane stands is =
-    (lane-resting c.geometry lane.caller c.events (errand_at c.errands lane.caller) operations
-    (registers_at (machine_at c lane.caller) lane.registers.items) lane.outcomes.items lane.stage stands.calls is stands.stands.stands).rests.idle
+between-idle c operations lane stands is = (lane-resting stands.stands.stands is).rests.idle
 
 -- a step is made by a caller in a call
 first-idle :
@@ -154,9 +134,9 @@ ended-stays c after operations old new made stands advanced ended =
 
 -- an advance is a run of one step, or of none
 advanced-ran :
-    (passed : ℕ → ℕ → Type 0) (c after : CoreFields) (operations : List Op) (old new : LaneState Grip) (made : Bool) → StandsOn c operations old
+    {passed : ℕ → ℕ → Type 0} {c after : CoreFields} {operations : List Op} {old new : LaneState Grip} {made : Bool} → StandsOn c operations old
     → AdvancesOn passed operations c after old new made → HasRun passed c after operations old new (if made then 1 else 0)
-advanced-ran passed c after operations old new made stands goes = record {
+advanced-ran {passed = passed} {c = c} {after = after} {operations = operations} {old = old} {new = new} {made = made} stands goes = record {
   heap = goes.geometry;
   caller = goes.caller;
   moves = goes.advanced.moves;
@@ -174,9 +154,7 @@ advanced-ran passed c after operations old new made stands goes = record {
 
 -- a run of a lane with an advance behind it is a run
 pub next-ran :
-    (passed : ℕ → ℕ → Type 0) (first c after : CoreFields) (operations : List Op) (start old new : LaneState Grip) (made : ℕ) (one : Bool)
+    {passed : ℕ → ℕ → Type 0} {first c after : CoreFields} {operations : List Op} {start old new : LaneState Grip} {made : ℕ} {one : Bool}
     → HasRun passed first c operations start old made → AdvancesOn passed operations c after old new one
     → HasRun passed first after operations start new (made + (if one then 1 else 0))
-next-ran passed first c after operations start old new made one before goes =
-    ran-more passed first c after operations start old new made (if one then 1 else 0) before
-    (advanced-ran passed c after operations old new one before.stands goes)
+next-ran before goes = ran-more before (advanced-ran before.stands goes)

@@ -1,6 +1,7 @@
 -- A lane that runs alone ends: each of its advances leaves less of its script, or fewer steps of its call.
-use Rattle.std.proofs.Common.{ℕ, ◌≡◌, ◌<◌, ◌≤◌, ◌+◌, ◌*◌, ◌^◌, ◌⊎◌, Bool, true, false, not, if◌then◌else◌, Option, Some, None, List, [], ◌∷◌, ◌++◌, length, length-append, refl, sym, ap, ◌∙◌, subst, inl, inr, arith}
+use Rattle.std.proofs.Common.{ℕ, ◌≡◌, ◌<◌, ◌≤◌, ◌+◌, ◌*◌, ◌^◌, ◌⊎◌, Bool, true, false, not, if◌then◌else◌, Option, Some, None, List, [], ◌∷◌, refl, sym, ap, ◌∙◌, subst, inl, inr, arith}
 use Rattle.std.proofs.lemmas.Bool.{true≢false}
+use Rattle.std.proofs.lemmas.List.{append-nil, append_cancel_left}
 use Rattle.heap_geometry.specs.declared.geometry.Geometry.{Geometry}
 use Rattle.heap_geometry.specs.declared.limits.TheConstants.{CALL_STEPS}
 use Rattle.word_table.specs.declared.action.Found.{Found}
@@ -95,16 +96,12 @@ missed-lost caller k e (point.Large (large.ConfirmNothing shelf) o) x added way 
 missed-lost caller k e (point.Large p o) x added way idle none = absurd way
 
 -- an event of the caller's would be seen
-append-none : (xs ys : List Event) → xs ++ ys ≡ xs → ys ≡ []
-append-none xs [] is = refl
-append-none xs (y ∷ ys) is = absurd (omega (arith, length-append xs (y ∷ ys), ap length is))
-
 none-with :
     (caller : ℕ) (events : List Event) (o : Option Event) → ((e : Event) → o ≡ Some e → caller_of e ≡ caller)
     → own caller (with_event events o) ≡ own caller events → o ≡ None
 none-with caller events None mine same = refl
 none-with caller events (Some e) mine same =
-    let alone = append-none (own caller events) (own caller (e ∷ [])) (sym (own-append caller events (e ∷ [])) ∙ same) in
+    let alone = append_cancel_left (own caller events) (own caller (e ∷ [])) [] (sym (own-append caller events (e ∷ [])) ∙ same ∙ sym (append-nil _)) in
     absurd ((own-none caller e [] alone).0 (mine e refl))
 
 none-told :

@@ -30,14 +30,14 @@ order-none (run ∷ runs) lanes = (0, [], refl, omega arith, λ early. contains-
 
 -- a lane has stopped in an order run
 pub stopped-one :
-    (passed : ℕ → ℕ → Type 0) (trace : Trace) (c after : CoreFields) (lanes : List (LaneState Grip)) (run : OrderRun) (lane : ℕ)
-    (operations : List Op) (old new : LaneState Grip) → LanesStand trace c lanes → lane < length lanes → run.lane ≡ lane
+    {passed : ℕ → ℕ → Type 0} {trace : Trace} {c after : CoreFields} {lanes : List (LaneState Grip)} {run : OrderRun}
+    {operations : List Op} {old new : LaneState Grip} (lane : ℕ) → LanesStand trace c lanes → lane < length lanes → run.lane ≡ lane
     → operations ≡ operations_in trace lane → old ≡ get_or lanes lane old
     → (made : ℕ) × HasRun passed c after operations old new made × (made ≤ run.steps)
     → HaveRunSo passed trace (λ made. (later : List OrderRun) → InOrder (run ∷ later) (length trace.lanes) made) c after lanes (set lanes lane new)
-stopped-one passed trace c after lanes run lane operations old new stand lt number mine is (made, some, few) =
+stopped-one {passed = passed} {trace = trace} {c = c} {after = after} {run = run} {old = old} {new = new} lane stand lt number mine is (made, some, few) =
     let ran = subst (λ operations. HasRun passed c after operations old new made) mine some in
-    let one = one-ran passed trace c after lanes lane made old new stand lt is ran in
+    let one = one-ran lane stand lt is ran in
     record {
       stand = one.stand;
       ran = one.ran;
@@ -53,16 +53,16 @@ stopped-one passed trace c after lanes run lane operations old new stand lt numb
 
 -- lanes have followed order runs before the one in which a lane stops
 pub stopped-more :
-    (passed : ℕ → ℕ → Type 0) (trace : Trace) (runs later : List OrderRun) (run : OrderRun) (a b c : CoreFields) (old mid new : List (LaneState Grip))
+    {passed : ℕ → ℕ → Type 0} {trace : Trace} {a b c : CoreFields} {old mid new : List (LaneState Grip)} (runs later : List OrderRun) (run : OrderRun)
     → length mid ≡ length old → runs ++ run ∷ later ≡ trace.orders → HaveFollowed passed trace runs a b old mid
     → HaveRunSo passed trace (λ made. (later : List OrderRun) → InOrder (run ∷ later) (length trace.lanes) made) b c mid new
     → HaveRunSo passed trace (InOrder trace.orders (length trace.lanes)) a c old new
 unfolding lanes-more
-stopped-more passed trace runs later run a b c old mid new same whole h k =
+stopped-more {trace = trace} runs later run same whole h k =
     let n = length trace.lanes in
     record {
       stand = k.stand;
-      ran = lanes-more passed trace a b c old mid new same h.ran k.ran;
+      ran = lanes-more same h.ran k.ran;
       made =
           subst (λ runs. InOrder runs n (steppers_of (h.ran.moves ++ k.ran.moves))) whole
           (subst (InOrder (runs ++ run ∷ later) n) (sym (steppers-append h.ran.moves k.ran.moves))
@@ -71,11 +71,11 @@ stopped-more passed trace runs later run a b c old mid new same whole h k =
 
 -- a lane has stopped on the way to its end
 pub stopped-lane :
-    (passed : ℕ → ℕ → Type 0) (trace : Trace) (count : ℕ) (a b c : CoreFields) (old mid new : List (LaneState Grip)) → length mid ≡ length old
+    {passed : ℕ → ℕ → Type 0} {trace : Trace} {count : ℕ} {a b c : CoreFields} {old mid new : List (LaneState Grip)} → length mid ≡ length old
     → count < length trace.lanes → HaveFinished passed trace count a b old mid → (made : ℕ) × OneRan passed trace b c mid new count made
     → HaveRunSo passed trace (OneByOne 0 (length trace.lanes)) a c old new
 unfolding lanes-more
-stopped-lane passed trace count a b c old mid new same lt h (made, one) =
+stopped-lane {trace = trace} {count = count} same lt h (made, one) =
     let left = length trace.lanes - suc count in
     let last : OneByOne count (suc left) (replicate made count) =
     (made, [], sym (append-nil (replicate made count)), contains-none count, one-by-none left (suc count)) in
@@ -83,7 +83,7 @@ stopped-lane passed trace count a b c old mid new same lt h (made, one) =
     h.order (suc left) (steppers_of one.ran.moves) (λ lane ended. (one.ran.still lane ended).0) (subst (OneByOne count (suc left)) (sym one.only) last) in
     record {
       stand = one.stand;
-      ran = lanes-more passed trace a b c old mid new same h.ran one.ran;
+      ran = lanes-more same h.ran one.ran;
       made =
           subst (OneByOne 0 (length trace.lanes)) (sym (steppers-append h.ran.moves one.ran.moves))
           (subst (λ n. OneByOne 0 n (steppers_of h.ran.moves ++ steppers_of one.ran.moves)) (omega (arith, lt)) whole);
@@ -91,9 +91,9 @@ stopped-lane passed trace count a b c old mid new same lt h (made, one) =
 
 -- all lanes have made their last steps
 pub finished-so :
-    (passed : ℕ → ℕ → Type 0) (trace : Trace) (c after : CoreFields) (old new : List (LaneState Grip))
+    {passed : ℕ → ℕ → Type 0} {trace : Trace} {c after : CoreFields} {old new : List (LaneState Grip)}
     → HaveFinished passed trace (length trace.lanes) c after old new → HaveRunSo passed trace (OneByOne 0 (length trace.lanes)) c after old new
-finished-so passed trace c after old new finish =
+finished-so {trace = trace} finish =
     let left = steppers_of finish.ran.moves in
     record {
       stand = finish.stand;
@@ -105,15 +105,15 @@ finished-so passed trace c after old new finish =
 
 -- the lanes go on to their ends, or stop on the way, behind all order runs
 unfoldable pub runs-behind :
-    (passed : ℕ → ℕ → Type 0) (trace : Trace) (a b c : CoreFields) (old mid new : List (LaneState Grip)) → length mid ≡ length old
+    {passed : ℕ → ℕ → Type 0} {trace : Trace} {a b c : CoreFields} {old mid new : List (LaneState Grip)} → length mid ≡ length old
     → HaveFollowed passed trace trace.orders a b old mid → HaveRunSo passed trace (OneByOne 0 (length trace.lanes)) b c mid new
     → HaveRunSo passed trace (InOrder trace.orders (length trace.lanes)) a c old new
 unfolding lanes-more
-runs-behind passed trace a b c old mid new same h k =
+runs-behind {trace = trace} same h k =
     let n = length trace.lanes in
     record {
       stand = k.stand;
-      ran = lanes-more passed trace a b c old mid new same h.ran k.ran;
+      ran = lanes-more same h.ran k.ran;
       made =
           subst (InOrder trace.orders n) (sym (steppers-append h.ran.moves k.ran.moves))
           (subst (λ runs. InOrder runs n (steppers_of h.ran.moves ++ steppers_of k.ran.moves)) (append-nil trace.orders)

@@ -17,7 +17,7 @@ use Rattle.live_heap.specs.declared.block.Block.{Block}
 use Rattle.live_heap.specs.Heaps.{HeapFields}
 use Rattle.live_heap.specs.declared.pass.Pass.{Pass}
 use Rattle.live_heap.specs.Passes.{IsOf, view}
-use Rattle.trace_lane.proofs.HoldsLemmas.{made-of}
+use Rattle.trace_lane.proofs.MadeLemmas.{made-of}
 use Rattle.trace_lane.specs.Paths.{FirstPassed}
 use Rattle.lane_runner.specs.Running.{operations_in}
 use Rattle.lane_runner.proofs.CallLemmas.{call-lent}
@@ -104,17 +104,23 @@ ended-at trace h depth k (q ∷ ps) (o ∷ os) (n ∷ ns) (suc i) p all lt there
     (ended-at trace h depth (suc k) ps os ns i p all.1 (omega (arith, lt)) there)
 ended-at trace h depth k ps os ns i p all lt there = absurd all
 
+-- what follows for the pass of each is so of all passes
+ended-all :
+    (trace : Trace) (h : HeapFields) (depth : ℕ) (P : Pass → Type 0)
+    → ((operations : List Op) (lane : ℕ) (p : Pass) (outcomes : List Outcome) (hits : ℕ) → HasEndedWith h depth operations lane p outcomes hits → P p)
+    → (k : ℕ) (ps : List Pass) (os : List (Vec Outcome Global)) (ns : List ℕ) → AreEnded trace h depth k ps os ns → All P ps
+ended-all trace h depth P follows k [] [] [] all = All-nil P
+ended-all trace h depth P follows k (p ∷ ps) (o ∷ os) (n ∷ ns) all =
+    All-cons P p ps (follows (operations_in trace k) k p o.items n all.0) (ended-all trace h depth P follows (suc k) ps os ns all.1)
+ended-all trace h depth P follows k ps os ns all = absurd all
+
 pub ended-idle :
     (trace : Trace) (h : HeapFields) (depth k : ℕ) (ps : List Pass) (os : List (Vec Outcome Global)) (ns : List ℕ) → AreEnded trace h depth k ps os ns
     → All (λ p. IsOf h p × IsIdle p.errand) ps
-ended-idle trace h depth k [] [] [] all = All-nil (λ p. IsOf h p × IsIdle p.errand)
-ended-idle trace h depth k (p ∷ ps) (o ∷ os) (n ∷ ns) all =
-    let e = all.0 in
-    let rests = e.ended.through.rests in
-    let stands : IsOf h e.cache.pass × IsIdle e.cache.pass.errand = (rests.0.hand.of, rests.1) in
-    All-cons (λ p. IsOf h p × IsIdle p.errand) p ps (subst (λ (q : Pass). IsOf h q × IsIdle q.errand) (sym e.pass) stands)
-    (ended-idle trace h depth (suc k) ps os ns all.1)
-ended-idle trace h depth k ps os ns all = absurd all
+ended-idle trace h depth =
+    ended-all trace h depth (λ p. IsOf h p × IsIdle p.errand)
+    (λ operations lane p outcomes hits e.
+    let rests = e.ended.through.rests in subst (λ (q : Pass). IsOf h q × IsIdle q.errand) (sym e.pass) (rests.0.hand.of, rests.1))
 
 frees-lent : (h : HeapFields) (blocks : List Block) (p q : Pass) → LeadsBy (HasEndedAt h) p (frees_of blocks) q → (view q).lent ≡ (view p).lent
 frees-lent h [] p q same = ap (λ (x : Pass). (view x).lent) same
@@ -137,12 +143,10 @@ through-home h depth operations lane outcomes c e =
 pub ended-home :
     (trace : Trace) (h : HeapFields) (depth k : ℕ) (ps : List Pass) (os : List (Vec Outcome Global)) (ns : List ℕ) → AreEnded trace h depth k ps os ns
     → All (λ p. p.out ≡ 0) ps
-ended-home trace h depth k [] [] [] all = All-nil (λ (p : Pass). p.out ≡ 0)
-ended-home trace h depth k (p ∷ ps) (o ∷ os) (n ∷ ns) all =
-    let e = all.0 in
-    let home = through-home h depth (operations_in trace k) k o.items e.cache e.ended in
-    All-cons (λ (p : Pass). p.out ≡ 0) p ps (subst (λ (q : Pass). q.out ≡ 0) (sym e.pass) home) (ended-home trace h depth (suc k) ps os ns all.1)
-ended-home trace h depth k ps os ns all = absurd all
+ended-home trace h depth =
+    ended-all trace h depth (λ p. p.out ≡ 0)
+    (λ operations lane p outcomes hits e.
+    subst (λ (q : Pass). q.out ≡ 0) (sym e.pass) (through-home h depth operations lane outcomes e.cache e.ended))
 
 -- the lanes of a trace have run
 one-each : (n : ℕ) → 0 < n → max 1 n ≡ n

@@ -1,5 +1,5 @@
 -- The operations of a lane through a cache, one after the other.
-use Rattle.std.proofs.Common.{ℕ, ◌≡◌, ◌<◌, ◌≤◌, ◌+◌, ◌%◌, ◌^◌, ◌∷◌, ◌++◌, List, [], Option, Some, None, length, refl, sym, ap, ◌∙◌, subst, arith}
+use Rattle.std.proofs.Common.{ℕ, ◌≡◌, ◌<◌, ◌≤◌, ◌+◌, ◌^◌, ◌∷◌, ◌++◌, List, [], Option, Some, None, length, refl, sym, ap, ◌∙◌, subst, arith}
 use Rattle.pool_model.specs.declared.event.Event.{Event}
 use Rattle.errand_steps.specs.declared.reply.Reply.TheVariants as reply
 use Rattle.errand_steps.specs.Calls.{put, take}
@@ -16,16 +16,18 @@ use Rattle.lane_outcomes.specs.Lane.{Position, held_in, registers_after, spent_a
 use Rattle.lane_outcomes.specs.Standing.{setting_in}
 use Rattle.lane_outcomes.proofs.LaterLemmas.{cached-row-later}
 use Rattle.block_cache.specs.declared.cache.Cache.{Cache}
-use Rattle.block_cache.specs.Whole.{HoldsAt, RestsAt}
+use Rattle.block_cache.specs.Whole.{RestsAt}
 use Rattle.lane_engine.specs.Caches.{IsCachedCall}
 use Rattle.trace_lane.specs.Made.{AllMade, MadeFor, register_of}
 use Rattle.trace_lane.proofs.AnswerLemmas.{HasMovedOn}
 use Rattle.trace_lane.proofs.CallerLemmas.{moved-none, moved-then}
-use Rattle.trace_lane.proofs.HoldsLemmas.{leads-of, op-holds}
+use Rattle.lane_engine.proofs.KeptLemmas.{cached-laws}
+use Rattle.lane_engine.proofs.LeadsLemmas.{leads-of}
+use Rattle.trace_lane.proofs.EachCall.{all-found, all-takes, all-wrote}
+use Rattle.trace_lane.proofs.HoldsLemmas.{op-holds}
 use Rattle.trace_lane.proofs.WalkLemmas.{between-next}
-use Rattle.lane_runner.proofs.CallLemmas.{caller_in, plain-found, plain-takes, plain-wrote}
+use Rattle.lane_runner.proofs.CallLemmas.{caller_in, plain}
 use Rattle.lane_runner.proofs.GivenLemmas.{freed, given, resized}
-use Rattle.lane_runner.proofs.HoldsLemmas.{cached-laws}
 use Rattle.lane_runner.proofs.Places.{places_in}
 use Rattle.lane_runner.proofs.RowLemmas.{HasGone, IsBetween, holds-plain, plain-gone, setting_at, stands_at, ungiven}
 
@@ -62,10 +64,10 @@ module _ (h : HeapFields) (c d : Cache) (base : Position) (st : IsBetween h c ba
   op-through (op.Free r) outcome.Freed (Some held) made is (words, calls) leads = freed h c d base st r held is (subst Leads calls leads)
   op-through (op.Fill r v) outcome.Filled (Some held) made is (words, calls) leads =
       plain-gone h c d base st (op.Fill r v) outcome.Filled (Some held) made (wrote held.place held.need v held.words) is (words, calls) calls
-      (plain-wrote held.place held.need (λ (i : ℕ). (v + i) % 2 ^ 64) 0 held.words) leads (λ piece row. row) refl refl
+      (all-wrote plain held.place held.need v held.words) leads (λ piece row. row) refl refl
   op-through (op.Check r) (outcome.Sum total) (Some held) made is (words_are, (words, all, total_is, calls)) leads =
       plain-gone h c d base st (op.Check r) (outcome.Sum total) (Some held) made (found_from held.place held.need 0 words) is
-      (words_are, (words, all, total_is, calls)) calls (plain-found held.place held.need 0 words) leads (λ piece row. row) refl refl
+      (words_are, (words, all, total_is, calls)) calls (all-found plain held.place held.need 0 words) leads (λ piece row. row) refl refl
   op-through (op.Put r shelf) outcome.Put (Some held) made is (words, calls) leads =
       plain-gone h c d base st (op.Put r shelf) outcome.Put (Some held) made (answered (put held.place held.need shelf) reply.Put ∷ []) is (words, calls) calls
       ((λ tried. tried), tt) leads (λ piece row. row) refl refl
@@ -74,10 +76,10 @@ module _ (h : HeapFields) (c d : Cache) (base : Position) (st : IsBetween h c ba
       (words, (found, calls)) calls ((λ tried. tried), tt) leads (λ piece row. row) refl refl
   op-through (op.Take r shelf) (outcome.Took words place need) None made is (misses, are, words_are, calls) leads =
       plain-gone h c d base st (op.Take r shelf) (outcome.Took words place need) None made (misses ++ answered (take shelf) (reply.Got place need) ∷ []) is
-      (misses, are, words_are, calls) calls (plain-takes shelf misses (reply.Got place need) are) leads (λ piece row. row) refl refl
+      (misses, are, words_are, calls) calls (all-takes plain shelf misses (reply.Got place need) are) leads (λ piece row. row) refl refl
   op-through (op.Take r shelf) outcome.ShelfEmpty None made is (misses, are, calls) leads =
       plain-gone h c d base st (op.Take r shelf) outcome.ShelfEmpty None made (misses ++ answered (take shelf) reply.Empty ∷ []) is (misses, are, calls) calls
-      (plain-takes shelf misses reply.Empty are) leads (λ piece row. row) refl refl
+      (all-takes plain shelf misses reply.Empty are) leads (λ piece row. row) refl refl
   op-through (op.Resize r need) (outcome.Kept words place) (Some held) made is (serves, words_are, place_is, calls) leads =
       plain-gone h c d base st (op.Resize r need) (outcome.Kept words place) (Some held) made [] is (serves, words_are, place_is, calls) calls tt leads
       (λ piece row. row) refl refl
@@ -144,7 +146,7 @@ all-walk h (operation ∷ operations) (result ∷ results) c d base as_many few 
     let gone = op-through h c t base st operation result slot made refl for leads in
     let rest_t = (leads-of (IsCachedCall h) (IsCachedCall h) (λ x. x) (λ (x : Cache). RestsAt h x × (x.magazines.depth ≡ depth))
     (λ x y call answer is called. (called, (called.0.after, called.1 ∙ is.1))) made c t (st.rests, refl) leads).1 in
-    let holds = op-holds (IsCachedCall h) HoldsAt (cached-laws h) c t base.registers operation result slot made st.holds refl for leads in
+    let holds = op-holds (cached-laws h) c t base.registers operation result slot made st.holds refl for leads in
     let next = base_after c base operation result gone.piece in
     let between : IsBetween h t next = record {
       rests = rest_t.0;

@@ -16,13 +16,13 @@ use Rattle.trace_lane.specs.Made.{calls_made}
 use Rattle.trace_lane.specs.Scripts.{Scripts}
 use Rattle.trace_lane.proofs.AnswerLemmas.{owned-need}
 use Rattle.trace_lane.proofs.CallerLemmas.{Owns}
-use Rattle.trace_lane.proofs.HoldsLemmas.{leads-of}
+use Rattle.lane_engine.proofs.KeptLemmas.{cached-laws}
+use Rattle.lane_engine.proofs.LeadsLemmas.{leads-of}
 use Rattle.trace_lane.proofs.OwnLemmas.{empty-holds}
 use Rattle.trace_lane.proofs.ScriptLemmas.{all-script, caller-script}
-use Rattle.trace_lane.proofs.WorkLemmas.{made-calls}
+use Rattle.trace_lane.proofs.MadeLemmas.{made-calls}
 use Rattle.lane_runner.specs.Passes.{HasMadeCalls, WholeAt}
 use Rattle.lane_runner.specs.Threads.{HasEndedThrough}
-use Rattle.lane_runner.proofs.HoldsLemmas.{cached-laws}
 use Rattle.lane_runner.proofs.Numbered.{fresh-idle}
 use Rattle.lane_runner.proofs.PassLemmas.{caller_at, rests-caller, whole-call}
 
@@ -54,7 +54,7 @@ through-script h depth operations lane outcomes c ended =
     let (made, all, leads) = made-calls (IsCachedCall h) (replicate REGISTERS None) operations outcomes first ran ended.through.made in (
       made,
       leads,
-      all-script (IsCachedCall h) HoldsAt (cached-laws h) (RestsAt h) (λ s t call answer one. one.0.after)
+      all-script (cached-laws h) (RestsAt h) (λ s t call answer one. one.0.after)
           (λ s place need rests held. owned-need h.layout (seen s.pass) s.pass.errand.caller place need rests.0.hand.of.served.legal held.0.0) operations outcomes
           (replicate REGISTERS None) made first ran ended.opened.rests (empty-holds (HoldsAt first)) all leads,
     )

@@ -222,6 +222,21 @@ impl MemoryCache {
         false
     }
 
+    /// Goes on with the call that was interrupted, where one was. Whether none is under way now.
+    pub(crate) fn settled(&mut self, heap: &Heap, tries: u32) -> bool
+        requires cache { IsCache heap.now self.old }
+        requires tries { 0 < tries }
+        ensures cache { IsCache heap.now self.new }
+        ensures caller { self.new.pass.errand.caller ≡ self.old.pass.errand.caller }
+        ensures keeps { (other : Memory) → IsHeld self.old other → IsHeld self.new other }
+        ensures only { (other : Memory) → IsHeld self.new other → IsHeld self.old other }
+        ensures same { KeepsMagazines self.old self.new }
+        ensures idle { result ≡ true → IsIdle self.new.pass.errand }
+        ensures busy { result ≡ false → IsBusy self.new.pass.errand }
+    {
+        settle(heap, &mut self.pass, tries)
+    }
+
     /// How many takes a magazine has served, at most 2^64 - 1.
     pub fn hits(&self) -> u64
         ensures { result ≡ self.now.hits }

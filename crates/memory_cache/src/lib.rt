@@ -4,4 +4,8 @@
 
 pub mod cache;
 pub mod laws;
+mod page;
+pub mod paged;
 mod passes;
+pub mod piece;
+pub mod sizes;

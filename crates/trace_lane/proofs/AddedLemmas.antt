@@ -14,11 +14,8 @@ use Rattle.pool_model.specs.Histories.{own}
 use Rattle.pool_model.specs.Legal.{IsLegalWithoutCounts}
 use Rattle.pool_model.specs.Pool.{Block, block_at, pool_of}
 use Rattle.pool_model.proofs.HistoryLemmas.{legal-weaker, own-append}
-use Rattle.errand_steps.specs.declared.reply.Offer.{Offer}
 use Rattle.errand_steps.specs.declared.reply.Reply.{Reply}
 use Rattle.errand_steps.specs.declared.reply.Reply.TheVariants as reply
-use Rattle.errand_steps.specs.declared.told.Ending.TheVariants as ending
-use Rattle.errand_steps.specs.declared.told.Stepped.TheVariants as stepped
 use Rattle.errand_steps.specs.Calls.{Call, alloc, put, read, take, write}
 use Rattle.sound_laws.specs.events.Ends.{HasEnded, end_of}
 use Rattle.sound_laws.specs.events.Made.{LeadsBy, Made, answered, copied_word, found_from}
@@ -26,21 +23,13 @@ use Rattle.sound_laws.proofs.events_lemmas.CopyLemmas.{copied-past, copied-read}
 use Rattle.sound_laws.proofs.events_lemmas.OfferLemmas.{put-offers}
 use Rattle.sound_laws.specs.events.Stages.{stage_of}
 use Rattle.step_machine.proofs.SpareLemmas.{take-none}
-use Rattle.lane_engine.specs.Callers.{Caller, IsAtRest, IsCall, MadeBy, OwnsFor, at_once, by_steps}
-use Rattle.lane_engine.specs.Told.{HasStepped}
+use Rattle.lane_engine.specs.Callers.{Caller, IsAtRest, IsCall}
 use Rattle.lane_outcomes.specs.Rows.{IsFullShelf, IsWord}
 use Rattle.trace_lane.specs.Made.{AreMisses}
-use Rattle.trace_lane.proofs.AnswerLemmas.{EndsGot, HasMovedOn, ends-full, ends-read, told-of_take}
-use Rattle.trace_lane.proofs.CallerLemmas.{HasCalled, ends-called, moved-none, moved-then}
-use Rattle.trace_lane.proofs.HoldsLemmas.{leads-split}
+use Rattle.trace_lane.proofs.AnswerLemmas.{EndsGot, HasMovedOn, ends-full, ends-got, ends-read}
+use Rattle.trace_lane.proofs.CallerLemmas.{HasCalled, moved-none, moved-then, steps-called}
+use Rattle.lane_engine.proofs.LeadsLemmas.{leads-split}
 use Rattle.trace_lane.proofs.QuietLemmas.{AllQuiet, quiet-keeps}
-
--- an offer, for what a step tells
-abbrev pub place_in : Offer → ℕ
-place_in o = o.place
-
-abbrev pub need_in : Offer → Need
-need_in o = o.need
 
 -- a caller rests later, and these are all events that it has added since
 pub record HasAdded (g : Geometry) (c d : Caller) (added : List Event) : Type 0 where
@@ -53,18 +42,6 @@ added-none g c rests = record { rests = rests; moved = moved-none c.errand c.see
 pub added-then : (g : Geometry) (c d e : Caller) (one two : List Event) → HasAdded g c d one → HasAdded g d e two → HasAdded g c e (one ++ two)
 added-then g c d e one two a b =
     record { rests = b.rests; moved = moved-then c.errand d.errand e.errand c.seen d.seen e.seen one two a.moved b.moved }
-
--- a whole call that made steps
-steps-by :
-    (g : Geometry) (c d : Caller) (call : Call) (answer : Reply) → IsAtRest g c → OwnsFor c.seen c.errand.caller call → MadeBy c call answer d
-    → ((words : ℕ) → call ≡ alloc words → answer ≡ reply.Spent → ⊥) → HasCalled c call answer d
-steps-by g c d call answer rests owned (by_steps ends) not = ends-called g c d call answer rests owned ends
-steps-by g c d call answer rests owned (at_once words is_alloc is_spent spent same) not = absurd (not words is_alloc is_spent)
-
-pub steps-called :
-    (g : Geometry) (c d : Caller) (call : Call) (answer : Reply) → IsCall g c call answer d
-    → ((words : ℕ) → call ≡ alloc words → answer ≡ reply.Spent → ⊥) → HasCalled c call answer d
-steps-called g c d call answer one not = steps-by g c d call answer one.rested one.owned one.made not
 
 pub called-added : (g : Geometry) (c d : Caller) (call : Call) (answer : Reply) → IsAtRest g d → (h : HasCalled c call answer d) → HasAdded g c d h.added
 called-added g c d call answer rests h = record { rests = rests; moved = h.moved }
@@ -148,11 +125,8 @@ got-added g c d shelf place need one =
     let call = take shelf in
     let answer : Reply = reply.Got place need in
     let h = steps-called g c d call answer one (λ words is spent. cc) in
-    let block : Offer = record { place = place; need = need } in
-    let step : HasStepped place_in need_in h.last.errand d.errand h.last.seen d.seen (stepped.Done (ending.Got block)) =
-    record { moment = h.moment; back = tt } in
     let told : EndsGot h.last.errand d.errand shelf place need h.last.seen d.seen h.way.added =
-    told-of_take place_in need_in h.last.errand d.errand h.last.seen d.seen h.way.added shelf (ending.Got block) step h.way.under_way in
+    ends-got h.last.errand d.errand h.last.seen d.seen h.way.added shelf place need h.moment h.way.under_way in
     let same : h.last.errand.caller ≡ caller = h.way.moved.same_caller in
     let none : h.way.added ≡ [] = take-none h.last.errand.caller shelf (stage_of h.last.errand.point) h.way.added h.way.under_way in
     let own_last : own caller h.last.seen ≡ own caller c.seen =

@@ -63,7 +63,7 @@ abbrev pub OnScriptWith : List Op → CoreFields → CoreFields → LaneState Gr
 OnScriptWith operations s t old new more = (calls : List Call) → IsLaneOn s operations old calls → IsLaneOn t operations new (calls ++ more)
 
 -- less is left of the lane's script
-abbrev pub Falls : List Op → LaneState Grip → LaneState Grip → Type 0
+abbrev pub Falls : {B : Type 0} → List Op → LaneState B → LaneState B → Type 0
 Falls operations old new = script_left operations new.outcomes.items new.stage < script_left operations old.outcomes.items old.stage
 
 -- the operation stays where it is

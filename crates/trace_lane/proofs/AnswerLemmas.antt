@@ -1,7 +1,7 @@
 -- What a step of a caller's call came to, over events alone: the call goes on, or it has ended as its answer says.
-use Rattle.std.proofs.Common.{ℕ, true, false, ◌≡◌, ◌≢◌, ◌<◌, ◌≤◌, ◌+◌, ◌^◌, ◌∷◌, ◌++◌, List, [], Option, Some, None, refl, sym, ap, ◌∙◌, subst, inl}
+use Rattle.std.proofs.Common.{ℕ, true, false, ◌≡◌, ◌≢◌, ◌<◌, ◌≤◌, ◌^◌, ◌∷◌, ◌++◌, List, [], Option, Some, None, refl, sym, ap, ◌∙◌, subst, inl}
 use Rattle.std.proofs.Common.{inr, arith, append-nil, append_assoc}
-use Rattle.std.proofs.lemmas.Bool.{cases_Bool, true≢false, eq-eqb}
+use Rattle.std.proofs.lemmas.Bool.{true≢false, cases_Bool, eq-eqb}
 use Rattle.std.specs.List.{slice_index_or}
 use Rattle.heap_geometry.specs.declared.geometry.Geometry.{Geometry}
 use Rattle.heap_geometry.specs.declared.need.Need.{Need}
@@ -40,9 +40,6 @@ use Rattle.errand_steps.specs.declared.reply.Progress.{Progress}
 use Rattle.errand_steps.specs.declared.reply.Progress.TheVariants as progress
 use Rattle.errand_steps.specs.declared.reply.Reply.{Reply}
 use Rattle.errand_steps.specs.declared.reply.Reply.TheVariants as reply
-use Rattle.errand_steps.specs.declared.told.Ending.{Ending}
-use Rattle.errand_steps.specs.declared.told.Ending.TheVariants as ending
-use Rattle.errand_steps.specs.declared.told.Stepped.TheVariants as stepped
 use Rattle.errand_steps.proofs.AnswerLemmas.{done-told}
 use Rattle.errand_steps.proofs.EventLemmas.{event_own}
 use Rattle.errand_steps.proofs.SpentLemmas.{ends-spent, begins-at_limit}
@@ -60,7 +57,6 @@ use Rattle.lane_outcomes.specs.Rows.{IsWord, IsFullShelf}
 use Rattle.step_machine.specs.Cores.{OwnsAfter}
 use Rattle.step_machine.specs.Moments.{IsMoment, IsServed}
 use Rattle.step_machine.proofs.MomentAnswers.{moment-meant, settle-caller, settle-geometry}
-use Rattle.lane_engine.specs.Told.{HasStepped}
 
 -- what every step does: more events are seen, of which the caller's own are these; its number and its heap stay, what it lost does not fall, and its turns stay where they are all begun
 pub record HasMovedOn (e f : ErrandFields) (before after more : List Event) : Type 0 where
@@ -84,10 +80,6 @@ pub record CallGoesOn (e f : ErrandFields) (call : Call) (before after added : L
 pub record EndsGiven (e f : ErrandFields) (words place : ℕ) (need : Need) (before after added : List Event) : Type 0 where
   pub serves : need ≡ need_of words
   pub owned : OwnsAfter after e.caller place need
-
--- the allocation found no turn left
-pub record EndsSpent (e f : ErrandFields) (words : ℕ) (before after added : List Event) : Type 0 where
-  pub limit : f.turns ≡ e.geometry.turn_limit
 
 -- the word of the caller's live block was read; it is what the block holds there, where that was written
 pub record EndsRead (e f : ErrandFields) (place i word : ℕ) (before after added : List Event) : Type 0 where
@@ -283,7 +275,7 @@ ends-full e f before after added place need shelf found back back_need m offered
           };
     }
 
-ends-got :
+pub ends-got :
     (e f : ErrandFields) (before after added : List Event) (shelf place : ℕ) (need : Need)
     → IsMoment e f before after (progress.Done (reply.Got place need)) → IsUnderWay e.caller (take shelf) e.point added
     → EndsGot e f shelf place need before after added
@@ -324,27 +316,12 @@ ends-given e f before after added words place need m way =
       owned = owned-after e f before after _ m place need (moment-meant e f before after _ m r refl).3;
     }
 
+-- an allocation that found no turn left has taken them all
 pub ends-spent_call :
-    (e f : ErrandFields) (before after added : List Event) (words : ℕ)
-    → IsMoment e f before after (progress.Done reply.Spent) → IsUnderWay e.caller (alloc words) e.point added
-    → EndsSpent e f words before after added
-ends-spent_call e f before after added words m way =
+    (e f : ErrandFields) (before after : List Event) → IsMoment e f before after (progress.Done reply.Spent) → f.turns ≡ e.geometry.turn_limit
+ends-spent_call e f before after m =
     let s = settled-of e f before after (progress.Done reply.Spent) m in
-    record {
-      limit = ap (λ (d : ErrandFields). d.turns) s.settled ∙ (ends-spent e s.x (sym s.answers)).1;
-    }
-
--- what is told of a take that got a block
-module _ {B : Type 0} (place_of : B → ℕ) (block_need : B → Need) (e f : ErrandFields) (before after added : List Event) where
-  abbrev pub ToldOfTake : ℕ → Ending B → Type 0
-  ToldOfTake shelf (ending.Got b) = EndsGot e f shelf (place_of b) (block_need b) before after added
-  ToldOfTake shelf told = Unit {0}
-
-  pub told-of_take :
-      (shelf : ℕ) (told : Ending B) → HasStepped place_of block_need e f before after (stepped.Done told) → IsUnderWay e.caller (take shelf) e.point added
-      → ToldOfTake shelf told
-  told-of_take shelf (ending.Got b) h way = ends-got e f before after added shelf (place_of b) (block_need b) h.moment way
-  told-of_take shelf told h way = tt
+    ap (λ (d : ErrandFields). d.turns) s.settled ∙ (ends-spent e s.x (sym s.answers)).1
 
 -- a caller may begin a call: the block that it is about is its own; an allocation has a turn, if it wants one
 abbrev pub MayCall : ErrandFields → List Event → Call → Type 0

@@ -1,9 +1,11 @@
 -- What the whole calls of a caller add to its events, and what they leave it.
-use Rattle.std.proofs.Common.{ℕ, zero, suc, true, false, ◌≡◌, ◌≢◌, ◌<◌, ◌∷◌, ◌++◌, List, [], refl, sym, ap, ◌∙◌, subst, arith, append_assoc, append-nil}
+use Rattle.std.proofs.Common.{ℕ, Some, zero, suc, true, false, ◌≡◌, ◌≢◌, ◌<◌, ◌∷◌, ◌++◌, List, [], refl, sym, ap, ◌∙◌, subst, arith, append_assoc, append-nil}
 use Rattle.heap_geometry.specs.declared.geometry.Geometry.{Geometry}
 use Rattle.heap_geometry.specs.declared.need.Need.{Need}
 use Rattle.heap_geometry.specs.Need.{usable_words}
 use Rattle.pool_model.specs.declared.event.Event.{Event}
+use Rattle.pool_model.specs.Calls.{Ended, EventsOf}
+use Rattle.pool_model.specs.Calls as ended
 use Rattle.pool_model.specs.Histories.{own}
 use Rattle.pool_model.specs.Legal.{IsLegal}
 use Rattle.pool_model.proofs.HistoryLemmas.{own-append}
@@ -33,6 +35,7 @@ use Rattle.step_machine.specs.Moments.{HasSeenMore, IsMoment}
 use Rattle.step_machine.proofs.MomentAnswers.{moment-given, moment-got}
 use Rattle.lane_engine.specs.Callers.{Caller, EndsCall, FitsCall, IsAtRest, IsCall, IsIn, MadeBy, OwnsFor, StepsOn, at_once, begun_at, by_steps}
 use Rattle.lane_engine.specs.Told.{HasStepped}
+use Rattle.lane_engine.specs.Whole.{KeepBlocks}
 use Rattle.trace_lane.specs.Advances.{AnswersCall}
 use Rattle.trace_lane.proofs.AnswerLemmas.{HasBegun, HasMovedOn, MayCall, ends-full, ends-given, ends-not}
 use Rattle.trace_lane.proofs.AnswerLemmas.{behind, call-begun, goes-on as call-goes_on, has-ended, heap-block, moved-on, settled-of}
@@ -261,46 +264,64 @@ module _ (g : Geometry) where
   keeps-by c d call answer place need rests after owned (at_once words is_alloc is_spent spent same) leaves owns =
       subst (λ x. Owns x place need) (sym same) owns
 
-  hands-by :
-      (c d : Caller) (call : Call) (answer : Reply) (place : ℕ) (need : Need) → MadeBy c call answer d → Hands answer place need → Owns d place need
-  hands-by c d call (reply.Given at n) place need (by_steps ends) hands =
-      let owned = moment-given ends.last.errand d.errand ends.last.seen d.seen _ ends.moment at n refl in
-      subst (λ m. Owns d place m) hands.1 (subst (λ k. Owns d k n) hands.0 owned)
-  hands-by c d call (reply.Got at n) place need (by_steps ends) hands =
-      let owned = moment-got ends.last.errand d.errand ends.last.seen d.seen _ ends.moment at n refl in
-      subst (λ m. Owns d place m) hands.1 (subst (λ k. Owns d k n) hands.0 owned)
-  hands-by c d call answer place need (by_steps ends) hands = absurd hands
-  hands-by c d call answer place need (at_once words is_alloc is_spent spent same) hands = absurd (subst (λ r. Hands r place need) is_spent hands)
+  -- a whole call that made steps
+  steps-by :
+      (c d : Caller) (call : Call) (answer : Reply) → IsAtRest g c → OwnsFor c.seen c.errand.caller call → MadeBy c call answer d
+      → ((words : ℕ) → call ≡ alloc words → answer ≡ reply.Spent → ⊥) → HasCalled c call answer d
+  steps-by c d call answer rests owned (by_steps ends) not = ends-called g c d call answer rests owned ends
+  steps-by c d call answer rests owned (at_once words is_alloc is_spent spent same) not = absurd (not words is_alloc is_spent)
 
-  apart-by :
-      (c d : Caller) (call : Call) (answer : Reply) (place other : ℕ) (need had : Need) → IsAtRest g c → IsAtRest g d
-      → OwnsFor c.seen c.errand.caller call → MadeBy c call answer d → Hands answer place need → Owns c other had → other ≢ place
-  apart-by c d call (reply.Given at n) place other need had rests after owned (by_steps ends) hands owns =
-      let h = ends-called g c d call (reply.Given at n) rests owned ends in
-      subst (λ k. other ≢ k) hands.0 (given-apart g c.errand.caller at other had n call c.seen d.seen h.added after.served.legal
-      (h.moved.rest, h.moved.seen, h.moved.own_rest) h.ended owns)
-  apart-by c d call (reply.Got at n) place other need had rests after owned (by_steps ends) hands owns =
-      let h = ends-called g c d call (reply.Got at n) rests owned ends in
-      subst (λ k. other ≢ k) hands.0 (got-apart g c.errand.caller at other had n call c.seen d.seen h.added after.served.legal
-      (h.moved.rest, h.moved.seen, h.moved.own_rest) h.ended owns)
-  apart-by c d call answer place other need had rests after owned (by_steps ends) hands owns = absurd hands
-  apart-by c d call answer place other need had rests after owned (at_once words is_alloc is_spent spent same) hands owns =
-      absurd (subst (λ r. Hands r place need) is_spent hands)
+  pub steps-called :
+      (c d : Caller) (call : Call) (answer : Reply) → IsCall g c call answer d → ((words : ℕ) → call ≡ alloc words → answer ≡ reply.Spent → ⊥)
+      → HasCalled c call answer d
+  steps-called c d call answer one not = steps-by c d call answer one.rested one.owned one.made not
 
-  pub caller-keeps :
-      (c d : Caller) (call : Call) (answer : Reply) (place : ℕ) (need : Need) → IsCall g c call answer d → LeavesPlace call place → Owns c place need
-      → Owns d place need
-  caller-keeps c d call answer place need one leaves owns = keeps-by c d call answer place need one.rested one.rests one.owned one.made leaves owns
+  -- a put that found a full shelf has added nothing
+  full-back :
+      (c d : Caller) (place : ℕ) (need : Need) (shelf found at : ℕ) (had : Need) → IsCall g c (put place need shelf) (reply.Full found) d → Owns c at had
+      → Owns d at had
+  full-back c d place need shelf found at had one owns =
+      let h = steps-called c d (put place need shelf) (reply.Full found) one (λ words is spent. cc) in
+      let is : Some ended.put_full ≡ Some h.ended.ended.0 = h.ended.ended.1 in
+      let same : h.ended.ended.0 ≡ ended.put_full = cc in
+      let none : h.added ≡ [] = subst (λ (x : Ended). EventsOf c.errand.caller x h.added) same h.ended.ended.2 in
+      subst (λ k. OwnsAfter d.seen k at had) (sym h.moved.same_caller)
+      (owns-on g c.errand.caller at had c.seen d.seen [] one.rests.served.legal (h.moved.rest, h.moved.seen, h.moved.own_rest ∙ none) tt owns)
 
-  pub caller-hands :
+  -- a block that a call hands out is its caller's, and none of those that it had
+  hands-owned :
       (c d : Caller) (call : Call) (answer : Reply) (place : ℕ) (need : Need) → IsCall g c call answer d → Hands answer place need → Owns d place need
-  caller-hands c d call answer place need one hands = hands-by c d call answer place need one.made hands
+  hands-owned c d call (reply.Given at n) place need one hands =
+      let h = steps-called c d call (reply.Given at n) one (λ words is spent. cc) in
+      let owned = moment-given h.last.errand d.errand h.last.seen d.seen _ h.moment at n refl in
+      subst (λ m. Owns d place m) hands.1 (subst (λ k. Owns d k n) hands.0 owned)
+  hands-owned c d call (reply.Got at n) place need one hands =
+      let h = steps-called c d call (reply.Got at n) one (λ words is spent. cc) in
+      let owned = moment-got h.last.errand d.errand h.last.seen d.seen _ h.moment at n refl in
+      subst (λ m. Owns d place m) hands.1 (subst (λ k. Owns d k n) hands.0 owned)
+  hands-owned c d call answer place need one hands = absurd hands
 
-  pub caller-apart :
+  hands-apart :
       (c d : Caller) (call : Call) (answer : Reply) (place other : ℕ) (need had : Need) → IsCall g c call answer d → Hands answer place need
       → Owns c other had → other ≢ place
-  caller-apart c d call answer place other need had one hands owns =
-      apart-by c d call answer place other need had one.rested one.rests one.owned one.made hands owns
+  hands-apart c d call (reply.Given at n) place other need had one hands owns =
+      let h = steps-called c d call (reply.Given at n) one (λ words is spent. cc) in
+      subst (λ k. other ≢ k) hands.0 (given-apart g c.errand.caller at other had n call c.seen d.seen h.added one.rests.served.legal
+      (h.moved.rest, h.moved.seen, h.moved.own_rest) h.ended owns)
+  hands-apart c d call (reply.Got at n) place other need had one hands owns =
+      let h = steps-called c d call (reply.Got at n) one (λ words is spent. cc) in
+      subst (λ k. other ≢ k) hands.0 (got-apart g c.errand.caller at other had n call c.seen d.seen h.added one.rests.served.legal
+      (h.moved.rest, h.moved.seen, h.moved.own_rest) h.ended owns)
+  hands-apart c d call answer place other need had one hands owns = absurd hands
+
+  pub caller-laws : KeepBlocks (IsCall g) Owns
+  caller-laws = record {
+    keeps = λ c d call answer place need one. keeps-by c d call answer place need one.rested one.rests one.owned one.made;
+    back = full-back;
+    hands = hands-owned;
+    apart = hands-apart;
+    serves = λ c d words place need one. (steps-called c d (alloc words) (reply.Given place need) one (λ n is spent. cc)).ended.serves;
+  }
 
   -- calls leave their caller in no call
   pub leads-rest : (c d : Caller) (made : List Made) → IsAtRest g c → LeadsBy (IsCall g) c made d → IsAtRest g d

@@ -10,6 +10,7 @@ use Rattle.errand_steps.specs.Calls.{Call}
 use Rattle.errand_steps.specs.Errands.{ErrandFields, open_errand}
 use Rattle.sound_laws.specs.events.Made.{LeadsBy, Made}
 use Rattle.step_machine.specs.Moments.{HasSeenMore, IsServed}
+use Rattle.step_machine.proofs.MomentLemmas.{same-seen}
 use Rattle.trace_text.specs.declared.limits.TheConstants.{REGISTERS}
 use Rattle.trace_text.specs.declared.trace.Op.{Op}
 use Rattle.lane_engine.specs.Callers.{Caller, IsAtRest, IsCall, new_caller}
@@ -34,9 +35,6 @@ pub making-none : (operations : List Op) → IsMaking operations empty [] stage.
 making-none operations =
     record { within = omega arith; past = []; present = []; all = refl; ended = refl; doing = (refl, refl, refl) }
 
-seen-none : (caller : ℕ) (events : List Event) → events ≡ [] → HasSeenMore caller [] events
-seen-none caller events none = record { more = []; seen = none; not_own = refl }
-
 -- a lane stands before its first operation, where nothing has happened
 pub lane-start :
     (g : Geometry) (caller : ℕ) (events : List Event) (e : ErrandFields) (operations : List Op) → e ≡ open_errand caller g → events ≡ []
@@ -57,7 +55,7 @@ lane-start g caller events e operations opened none served =
           idle = subst IsIdle (sym opened) refl;
         },
       );
-      more = seen-none caller events none;
+      more = same-seen caller [] events none;
     }
 
 pub lane-new :
@@ -78,24 +76,29 @@ lane-new {B = B} engine operations lane new opened none served =
       room = new.room;
     }
 
+-- more and more events are seen
+pub seen-then : (caller : ℕ) (a b c : List Event) → HasSeenMore caller a b → HasSeenMore caller b c → HasSeenMore caller a c
+seen-then caller a b c h k = record {
+  more = h.more ++ k.more;
+  seen = k.seen ∙ ap (λ xs. xs ++ k.more) h.seen ∙ append_assoc a h.more k.more;
+  not_own = own-append caller h.more k.more ∙ ap (λ xs. xs ++ own caller k.more) h.not_own ∙ k.not_own;
+}
+
 -- a lane stands as it stood, whatever others did
 pub lane-beside :
     (g : Geometry) (caller : ℕ) (before after : List Event) (e : ErrandFields) (operations : List Op) (registers : List (Option HeldBlock))
     (results : List Outcome) (at : OperationStage) (calls : List Call) → IsLane g caller before e operations registers results at calls
     → HasSeenMore caller before after → IsLane g caller after e operations registers results at calls
-lane-beside g caller before after e operations registers results at calls lane more = record {
-  made = lane.made;
-  under = lane.under;
-  making = lane.making;
-  begun = lane.begun;
-  sight = lane.sight;
-  stands = lane.stands;
-  more = record {
-    more = lane.more.more ++ more.more;
-    seen = more.seen ∙ ap (λ xs. xs ++ more.more) lane.more.seen ∙ append_assoc lane.sight lane.more.more more.more;
-    not_own = own-append caller lane.more.more more.more ∙ ap (λ xs. xs ++ own caller more.more) lane.more.not_own ∙ more.not_own;
-  };
-}
+lane-beside g caller before after e operations registers results at calls lane more =
+    record {
+      made = lane.made;
+      under = lane.under;
+      making = lane.making;
+      begun = lane.begun;
+      sight = lane.sight;
+      stands = lane.stands;
+      more = seen-then caller lane.sight before after lane.more more;
+    }
 
 pub lane_of-beside :
     {B : Type 0} (engine : Engine B) (after : List Event) (operations : List Op) (lane : LaneState B) (calls : List Call)
@@ -120,38 +123,36 @@ pub record IsResting (g : Geometry) (caller : ℕ) (events : List Event) (e : Er
   pub calls_are : calls ≡ calls_made made
   pub others : HasSeenMore caller sight events
 
-resting-by :
-    (g : Geometry) (caller : ℕ) (events : List Event) (e : ErrandFields) (operations : List Op) (registers : List (Option HeldBlock)) (results : List Outcome)
-    (at : OperationStage) (calls : List Call) (lane : IsLane g caller events e operations registers results at calls) (under : Option Call)
-    → under ≡ None → calls ≡ calls_made lane.made ++ calls_in under → StandsBy g caller lane.made under (record { errand = e; seen = lane.sight })
-    → registers ≡ registers_from empty operations results → AllMadeFor empty operations results lane.made
-    → IsResting g caller events e operations registers results calls
-resting-by g caller events e operations registers results at calls lane None is are so registers_are all = record {
-  made = lane.made;
-  sight = lane.sight;
-  registers_are = registers_are;
-  all = all;
-  leads = so.0;
-  rests = so.1;
-  calls_are = are ∙ append-nil (calls_made lane.made);
-  others = lane.more;
-}
-resting-by g caller events e operations registers results at calls lane (Some call) is are so registers_are all = absurd (cc)
+module _ {g : Geometry} {caller : ℕ} {events : List Event} {e : ErrandFields} {operations : List Op} {registers : List (Option HeldBlock)}
+    {results : List Outcome} {at : OperationStage} {calls : List Call} (lane : IsLane g caller events e operations registers results at calls) where
+  resting-by :
+      (under : Option Call) → under ≡ None → calls ≡ calls_made lane.made ++ calls_in under
+      → StandsBy g caller lane.made under (record { errand = e; seen = lane.sight }) → registers ≡ registers_from empty operations results
+      → AllMadeFor empty operations results lane.made → IsResting g caller events e operations registers results calls
+  resting-by None is are so registers_are all = record {
+    made = lane.made;
+    sight = lane.sight;
+    registers_are = registers_are;
+    all = all;
+    leads = so.0;
+    rests = so.1;
+    calls_are = are ∙ append-nil (calls_made lane.made);
+    others = lane.more;
+  }
+  resting-by (Some call) is are so registers_are all = absurd (cc)
 
-pub lane-resting :
-    (g : Geometry) (caller : ℕ) (events : List Event) (e : ErrandFields) (operations : List Op) (registers : List (Option HeldBlock)) (results : List Outcome)
-    (at : OperationStage) (calls : List Call) → at ≡ stage.Between → IsLane g caller events e operations registers results at calls
-    → IsResting g caller events e operations registers results calls
-lane-resting g caller events e operations registers results at calls between lane =
-    let m = making-between operations registers results at lane.made lane.under between lane.making in
-    resting-by g caller events e operations registers results at calls lane lane.under m.2 lane.begun lane.stands m.0 m.1
+  pub lane-resting : at ≡ stage.Between → IsResting g caller events e operations registers results calls
+  lane-resting between =
+      let m = making-between operations registers results at lane.made lane.under between lane.making in
+      resting-by lane.under m.2 lane.begun lane.stands m.0 m.1
 
 -- the calls of a lane that rests are those of its operations with their outcomes
 pub lane-script :
-    (g : Geometry) (caller : ℕ) (events : List Event) (e : ErrandFields) (operations : List Op) (registers : List (Option HeldBlock)) (results : List Outcome)
-    (calls : List Call) → IsLane g caller events e operations registers results stage.Between calls → Scripts empty operations results calls
-lane-script g caller events e operations registers results calls lane =
-    let r = lane-resting g caller events e operations registers results stage.Between calls refl lane in
+    {g : Geometry} {caller : ℕ} {events : List Event} {e : ErrandFields} {operations : List Op} {registers : List (Option HeldBlock)}
+    {results : List Outcome} {calls : List Call} → IsLane g caller events e operations registers results stage.Between calls
+    → Scripts empty operations results calls
+lane-script {g = g} {caller = caller} {e = e} {operations = operations} {results = results} lane =
+    let r = lane-resting lane refl in
     let now : Caller = record { errand = e; seen = r.sight } in
     let first = leads-first g (new_caller caller g) now r.made r.rests r.leads in
     subst (Scripts empty operations results) (sym r.calls_are)

@@ -1,7 +1,8 @@
 -- The outcomes of a lane so far fit the events that are seen.
-use Rattle.std.proofs.Common.{ℕ, true, false, ◌≡◌, ◌<◌, ◌≤◌, ◌∷◌, ◌++◌, List, [], Option, Some, None, length, take, refl, sym, ap, ◌∙◌, subst, arith, append_assoc, append-nil}
-use Rattle.std.specs.List.{slice_index_or}
+use Rattle.std.proofs.Common.{ℕ, true, ◌≡◌, ◌<◌, ◌≤◌, ◌∷◌, ◌++◌, List, [], Option, Some, None, length, take, refl, sym, ap, ◌∙◌, subst, arith, append_assoc, append-nil}
 use Rattle.std.proofs.lemmas.Bool.{true≢false}
+use Rattle.std.specs.List.{slice_index_or}
+use Rattle.std.proofs.lemmas.List.{take_all}
 use Rattle.heap_geometry.specs.declared.geometry.Geometry.{Geometry}
 use Rattle.pool_model.specs.declared.event.Event.{Event}
 use Rattle.pool_model.specs.Histories.{own}
@@ -28,13 +29,12 @@ use Rattle.trace_lane.specs.Lanes.{IsLane, StandsBy}
 use Rattle.trace_lane.proofs.AnswerLemmas.{HasMovedOn}
 use Rattle.trace_lane.proofs.CallerLemmas.{Owns, ends-called, in-begun, in-way, leads-first, leads-rest, moved-none, moved-then}
 use Rattle.trace_lane.proofs.EndedLemmas.{lane-resting}
-use Rattle.trace_lane.proofs.HoldsLemmas.{leads-split}
+use Rattle.lane_engine.proofs.LeadsLemmas.{leads-split}
 use Rattle.trace_lane.proofs.MakingLemmas.{empty}
-use Rattle.trace_lane.proofs.NeedLemmas.{take_all}
 use Rattle.trace_lane.proofs.OwnLemmas.{empty-holds}
 use Rattle.trace_lane.proofs.RowLemmas.{IsBetween, setting_at}
 use Rattle.trace_lane.proofs.WalkLemmas.{HasWalked, all-walk}
-use Rattle.trace_lane.proofs.WorkLemmas.{all-made}
+use Rattle.trace_lane.proofs.MadeLemmas.{all-made}
 
 -- whole calls move their caller on
 call-moved :
@@ -118,20 +118,12 @@ stands-come g caller events e operations results past present (Some call) sight 
     let way = in-way last call (in-begun g last now call rests owned is_in) now is_in in
     come-by g caller events e operations results past present last sight others seen rests all leads way.added way.moved
 
-pub lane-come :
-    (g : Geometry) (caller : ℕ) (events : List Event) (e : ErrandFields) (operations : List Op) (registers : List (Option HeldBlock)) (results : List Outcome)
-    (at : OperationStage) (calls : List Call) → IsLane g caller events e operations registers results at calls → HasCome g caller events e operations results
-lane-come g caller events e operations registers results at calls lane =
-    let m = lane.making in
-    stands-come g caller events e operations results m.past m.present lane.under lane.sight lane.more.more lane.more.seen m.ended
-    (subst (λ ms. StandsBy g caller ms lane.under (record { errand = e; seen = lane.sight })) m.all lane.stands)
-
 -- the outcomes so far fit the events that are seen, however much more was lost
 pub come-fits :
-    (g : Geometry) (caller : ℕ) (events : List Event) (e : ErrandFields) (operations : List Op) (results : List Outcome) (lost : ℕ) → e.lost ≤ lost
-    → (come : HasCome g caller events e operations results)
+    {g : Geometry} {caller : ℕ} {events : List Event} {e : ErrandFields} {operations : List Op} {results : List Outcome}
+    (come : HasCome g caller events e operations results) (lost : ℕ) → e.lost ≤ lost
     → Walks (setting_in events caller g.turn_limit lost) start (take (length results) operations) results come.walked.end
-come-fits g caller events e operations results lost more come =
+come-fits {g = g} {caller = caller} {events = events} {operations = operations} {results = results} come lost more =
     let w = come.walked in
     let setting = setting_at g (new_caller caller g) come.last in
     let least = come.lost in
@@ -149,57 +141,57 @@ pub record HasEndedSo (g : Geometry) (caller : ℕ) (events : List Event) (e : E
   pub done : own caller events ≡ come.walked.end.done
   pub turns : come.walked.end.spent ≡ true → e.turns ≡ g.turn_limit
 
-pub lane-ended :
-    (g : Geometry) (caller : ℕ) (events : List Event) (e : ErrandFields) (operations : List Op) (registers : List (Option HeldBlock)) (results : List Outcome)
-    (calls : List Call) → IsLane g caller events e operations registers results stage.Between calls
-    → HasEndedSo g caller events e operations results
-lane-ended g caller events e operations registers results calls lane =
-    let r = lane-resting g caller events e operations registers results stage.Between calls refl lane in
-    let now : Caller = record { errand = e; seen = r.sight } in
-    let first = new_caller caller g in
-    let first_rests = leads-first g first now r.made r.rests r.leads in
-    let walked =
-    all-walk g operations results first now start (new-between g caller first_rests) (all-made (IsCall g) empty operations results r.made first now r.all r.leads) in
-    let heap : e.geometry ≡ g = r.rests.served.own_errand.geometry in
-    let come : HasCome g caller events e operations results = record {
-      last = now;
-      walked = walked;
-      more = r.others.more;
-      seen = r.others.seen;
-      lost = omega arith;
-      at_limit = λ is. is;
-    } in
-    let number : e.caller ≡ caller = walked.moved.same_caller in
-    record {
-      come = come;
-      done =
-          ap (own caller) r.others.seen ∙ own-append caller r.sight r.others.more ∙ ap (λ xs. own caller r.sight ++ xs) r.others.not_own
-          ∙ append-nil (own caller r.sight) ∙ subst (λ k. own k r.sight ≡ walked.end.done) number walked.stands.done;
-      turns = walked.stands.spent;
-    }
+module _ {g : Geometry} {caller : ℕ} {events : List Event} {e : ErrandFields} {operations : List Op} {registers : List (Option HeldBlock)}
+    {results : List Outcome} {at : OperationStage} {calls : List Call} (lane : IsLane g caller events e operations registers results at calls) where
+  pub lane-come : HasCome g caller events e operations results
+  lane-come =
+      let m = lane.making in
+      stands-come g caller events e operations results m.past m.present lane.under lane.sight lane.more.more lane.more.seen m.ended
+      (subst (λ ms. StandsBy g caller ms lane.under (record { errand = e; seen = lane.sight })) m.all lane.stands)
 
--- the outcomes of a lane that has all of them fit
-pub lane-fits :
-    (g : Geometry) (caller : ℕ) (events : List Event) (e : ErrandFields) (operations : List Op) (registers : List (Option HeldBlock)) (results : List Outcome)
-    (calls : List Call) (lost : ℕ) → IsLane g caller events e operations registers results stage.Between calls → length results ≡ length operations
-    → e.lost ≤ lost → Fits (setting_in events caller g.turn_limit lost) operations results
-lane-fits g caller events e operations registers results calls lost lane whole more =
-    let ended = lane-ended g caller events e operations registers results calls lane in
-    let walks = come-fits g caller events e operations results lost more ended.come in
-    let end = ended.come.walked.end in
-    let all : take (length results) operations ≡ operations = ap (λ n. take n operations) whole ∙ take_all operations in
-    record {
-      end = end;
-      walks = subst (λ ops. Walks (setting_in events caller g.turn_limit lost) start ops results end) all walks;
-      all_used = ended.done;
-    }
+  lane-ended : at ≡ stage.Between → HasEndedSo g caller events e operations results
+  lane-ended between =
+      let r = lane-resting lane between in
+      let now : Caller = record { errand = e; seen = r.sight } in
+      let first = new_caller caller g in
+      let first_rests = leads-first g first now r.made r.rests r.leads in
+      let walked =
+      all-walk g operations results first now start (new-between g caller first_rests) (all-made (IsCall g) empty operations results r.made first now r.all r.leads) in
+      let heap : e.geometry ≡ g = r.rests.served.own_errand.geometry in
+      let come : HasCome g caller events e operations results = record {
+        last = now;
+        walked = walked;
+        more = r.others.more;
+        seen = r.others.seen;
+        lost = omega arith;
+        at_limit = λ is. is;
+      } in
+      let number : e.caller ≡ caller = walked.moved.same_caller in
+      record {
+        come = come;
+        done =
+            ap (own caller) r.others.seen ∙ own-append caller r.sight r.others.more ∙ ap (λ xs. own caller r.sight ++ xs) r.others.not_own
+            ∙ append-nil (own caller r.sight) ∙ subst (λ k. own k r.sight ≡ walked.end.done) number walked.stands.done;
+        turns = walked.stands.spent;
+      }
 
--- a lane that was told to have no turn left has taken them all
-pub lane-spent :
-    (g : Geometry) (caller : ℕ) (events : List Event) (e : ErrandFields) (operations : List Op) (registers : List (Option HeldBlock)) (results : List Outcome)
-    (calls : List Call) (k : ℕ) → IsLane g caller events e operations registers results stage.Between calls → k < length results
-    → slice_index_or results k outcome.Spent ≡ outcome.Spent → e.turns ≡ g.turn_limit
-lane-spent g caller events e operations registers results calls k lane below is =
-    let ended = lane-ended g caller events e operations registers results calls lane in
-    let w = ended.come.walked in
-    ended.turns (told-spent (setting_at g (new_caller caller g) ended.come.last) start w.end w.used results k w.walks below is)
+  -- the outcomes of a lane that has all of them fit
+  pub lane-fits :
+      (lost : ℕ) → at ≡ stage.Between → length results ≡ length operations → e.lost ≤ lost
+      → Fits (setting_in events caller g.turn_limit lost) operations results
+  lane-fits lost between whole more =
+      let ended = lane-ended between in
+      let end = ended.come.walked.end in
+      let all : take (length results) operations ≡ operations = take_all (length results) operations (omega (arith, whole)) in
+      record {
+        end = end;
+        walks = subst (λ ops. Walks (setting_in events caller g.turn_limit lost) start ops results end) all (come-fits ended.come lost more);
+        all_used = ended.done;
+      }
+
+  -- a lane that was told to have no turn left has taken them all
+  pub lane-spent : (k : ℕ) → at ≡ stage.Between → k < length results → slice_index_or results k outcome.Spent ≡ outcome.Spent → e.turns ≡ g.turn_limit
+  lane-spent k between below is =
+      let ended = lane-ended between in
+      let w = ended.come.walked in
+      ended.turns (told-spent (setting_at g (new_caller caller g) ended.come.last) start w.end w.used results k w.walks below is)

@@ -1,23 +1,32 @@
 -- The blocks that registers hold stay their caller's, through whole calls of whoever makes them.
-use Rattle.std.proofs.Common.{ℕ, ◌≡◌, ◌≢◌, ◌∷◌, ◌++◌, List, [], Option, Some, None, refl, sym, ap, subst}
-use Rattle.std.specs.Prelude.{slice_set}
-use Rattle.std.proofs.lemmas.List.{set-set}
+use Rattle.std.proofs.Common.{ℕ, zero, suc, ◌≡◌, ◌≢◌, ◌∷◌, ◌++◌, List, [], Option, Some, None, inl, inr, refl, sym, ap, ◌∙◌, subst, vec_capacity}
+use Rattle.std.specs.Prelude.{◌⊎◌, slice_set}
+use Rattle.std.specs.List.{range_with_len, slice_index_or}
+use Rattle.std.specs.Option.{option_map}
+use Rattle.std.proofs.lemmas.Bool.{cases_eq}
+use Rattle.std.proofs.lemmas.List.{get_or-set_other, length-set, set-set}
 use Rattle.heap_geometry.specs.declared.need.Need.{Need}
 use Rattle.heap_geometry.specs.Need.{need_of}
 use Rattle.errand_steps.specs.declared.reply.Reply.{Reply}
 use Rattle.errand_steps.specs.declared.reply.Reply.TheVariants as reply
 use Rattle.errand_steps.specs.Calls.{Call, alloc, free, put, take}
 use Rattle.sound_laws.specs.events.Made.{LeadsBy, Made, answered, copied, wrote}
-use Rattle.step_machine.specs.Keeping.{Hands, LeavesPlace}
+use Rattle.step_machine.specs.Keeping.{LeavesPlace}
 use Rattle.trace_text.specs.declared.trace.Op.{Op}
 use Rattle.trace_text.specs.declared.trace.Op.TheVariants as op
+use Rattle.lane_engine.specs.Whole.{KeepBlocks, Maker}
+use Rattle.lane_engine.proofs.LeadsLemmas.{leads-split}
 use Rattle.lane_outcomes.specs.declared.registers.HeldBlock.{HeldBlock}
 use Rattle.lane_outcomes.specs.declared.outcome.Outcome.{Outcome}
 use Rattle.lane_outcomes.specs.declared.outcome.Outcome.TheVariants as outcome
 use Rattle.lane_outcomes.specs.Lane.{held_in, registers_after}
-use Rattle.trace_lane.specs.Made.{AllMade, AreMisses, HoldsBlocks, MadeFor, register_of}
+use Rattle.trace_lane.specs.declared.lane.LaneState.{LaneState}
+use Rattle.trace_lane.specs.declared.stage.OperationStage.TheVariants as stage
+use Rattle.trace_lane.specs.Made.{AllMade, AreMisses, HoldsBlocks, MadeFor, Makes, MayMake, register_of}
+use Rattle.trace_lane.specs.Paths.{held_blocks, held_by}
 use Rattle.trace_lane.specs.Scripts.{registers_from}
-use Rattle.trace_lane.proofs.MadeLemmas.{AllLeave, holds-emptied, holds-filled, holds-still, leads-keep, leave-copied, leave-found, leave-misses, leave-takes, leave-wrote, skip-leaves}
+use Rattle.trace_lane.proofs.EachCall.{AllCalls, Leaves, all-copied, all-found, all-misses, all-takes, all-wrote, leaves}
+use Rattle.trace_lane.proofs.PartLemmas.{blocks-size, slot-full, slot-held}
 
 abbrev pub held_place : HeldBlock → ℕ
 held_place held = held.place
@@ -25,76 +34,111 @@ held_place held = held.place
 abbrev pub held_need : HeldBlock → Need
 held_need held = held.need
 
--- whole calls leave their caller its blocks, but for the one that each gives away, which a full shelf doesn't take; and a block that one hands out is the caller's, and none of those that it had
-pub record KeepsAll {S : Type 0} (called : S → Call → Reply → S → Type 0) (owns : S → ℕ → Need → Type 0) : Type 0 where
-  pub keeps :
-      (s t : S) (call : Call) (answer : Reply) (place : ℕ) (need : Need) → called s call answer t → LeavesPlace call place → owns s place need
-      → owns t place need
-  pub hands : (s t : S) (call : Call) (answer : Reply) (place : ℕ) (need : Need) → called s call answer t → Hands answer place need → owns t place need
-  pub apart :
-      (s t : S) (call : Call) (answer : Reply) (place other : ℕ) (need had : Need) → called s call answer t → Hands answer place need
-      → owns s other had → other ≢ place
-  pub back :
-      (s t : S) (place : ℕ) (need : Need) (shelf found at : ℕ) (had : Need) → called s (put place need shelf) (reply.Full found) t → owns s at had
-      → owns t at had
+-- the registers hold blocks of the caller's, and no two the same one
+abbrev pub HoldsAll : {S : Type 0} → (S → ℕ → Need → Type 0) → S → List (Option HeldBlock) → Type 0
+HoldsAll owns c registers = HoldsBlocks held_place held_need (owns c) registers
 
--- calls that lead from one state to another, cut in two
-pub leads-split :
-    {S : Type 0} (called : S → Call → Reply → S → Type 0) (s u : S) (made more : List Made) → LeadsBy called s (made ++ more) u
-    → (t : S) × LeadsBy called s made t × LeadsBy called t more u
-leads-split called s u [] more leads = (s, refl, leads)
-leads-split called s u (m ∷ made) more (t, one, leads) =
-    let rest = leads-split called t u made more leads in (rest.0, (t, one, rest.1), rest.2)
+-- a register that was set holds what it was set to, and the others what they held
+set-here :
+    (registers : List (Option HeldBlock)) (r : ℕ) (slot : Option HeldBlock) (held : HeldBlock) → held_in (slice_set registers r slot) r ≡ Some held
+    → slot ≡ Some held
+set-here [] r slot held is = absurd (cc)
+set-here (first ∷ registers) zero slot held is = is
+set-here (first ∷ registers) (suc r) slot held is = set-here registers r slot held is
 
--- calls of one kind that are calls of another one, on what their states stand for, as long as something holds of these
-module _ {S T : Type 0} (one : S → Call → Reply → S → Type 0) (other : T → Call → Reply → T → Type 0) (of : S → T) (P : S → Type 0) (step : (s t : S) (call : Call) (answer : Reply) → P s → one s call answer t → other (of s) call answer (of t) × P t) where
-  pub leads-of : (made : List Made) (s t : S) → P s → LeadsBy one s made t → LeadsBy other (of s) made (of t) × P t
-  leads-of [] s t is same = (ap of same, subst P (sym same) is)
-  leads-of (m ∷ made) s t is (u, called, leads) =
-      let first = step s u m.call m.answer is called in
-      let rest = leads-of made u t first.1 leads in
-      ((of u, first.0, rest.0), rest.1)
+at-set :
+    (registers : List (Option HeldBlock)) (r q : ℕ) (slot : Option HeldBlock) (held : HeldBlock) → held_in (slice_set registers r slot) q ≡ Some held
+    → ((q ≡ r) × (slot ≡ Some held)) ⊎ ((q ≢ r) × (held_in registers q ≡ Some held))
+at-set registers r q slot held is =
+    elim (cases_eq q r) [
+      | inl same ↦ inl (same, set-here registers r slot held (ap (held_in (slice_set registers r slot)) (sym same) ∙ is))
+      | inr differ ↦ inr (differ, sym (get_or-set_other registers r q slot None differ) ∙ is)
+    ]
 
-  pub made-of :
-      (registers : List (Option HeldBlock)) (operations : List Op) (results : List Outcome) (s t : S) → P s → AllMade one registers operations results s t
-      → AllMade other registers operations results (of s) (of t) × P t
-  made-of registers operations [] s t is same = (ap of same, subst P (sym same) is)
-  made-of registers [] (result ∷ results) s t is all = absurd all
-  made-of registers (operation ∷ operations) (result ∷ results) s t is (u, (made, for, leads), all) =
-      let first = leads-of made s u is leads in
-      let rest = made-of (registers_after registers operation result) operations results u t first.1 all in
-      ((of u, (made, for, first.0), rest.0), rest.1)
+module _ (owns after : ℕ → Need → Type 0) (registers : List (Option HeldBlock)) (holds : HoldsBlocks held_place held_need owns registers) where
+  -- the registers as they were, with all blocks still the caller's
+  pub holds-still : ((place : ℕ) (need : Need) → owns place need → after place need) → HoldsBlocks held_place held_need after registers
+  holds-still keep =
+      record { size = holds.size; owned = λ r held full. keep held.place held.need (holds.owned r held full); once = holds.once }
 
-module _ {S : Type 0} (called : S → Call → Reply → S → Type 0) (owns : S → ℕ → Need → Type 0) (laws : KeepsAll called owns) where
-  -- the registers hold blocks of the caller's, and no two the same one
-  abbrev pub HoldsAll : S → List (Option HeldBlock) → Type 0
-  HoldsAll c registers = HoldsBlocks held_place held_need (owns c) registers
+  -- a block that is given away leaves its register
+  pub holds-emptied :
+      (r : ℕ) (held : HeldBlock) → held_in registers r ≡ Some held → ((place : ℕ) (need : Need) → place ≢ held.place → owns place need → after place need)
+      → HoldsBlocks held_place held_need after (slice_set registers r None)
+  holds-emptied r held full keep =
+      let was : (q : ℕ) (other : HeldBlock) → held_in (slice_set registers r None) q ≡ Some other → (q ≢ r) × (held_in registers q ≡ Some other) =
+      λ q other is.
+      elim (at-set registers r q None other is) [
+        | inl here ↦ absurd (let none : None ≡ Some other = here.1 in cc)
+        | inr there ↦ there
+      ] in
+      record {
+        size = length-set registers r None ∙ holds.size;
+        owned = λ q other is. let w = was q other is in keep other.place other.need (holds.once q r other held w.1 full w.0) (holds.owned q other w.1);
+        once = λ q k other another is are. holds.once q k other another (was q other is).1 (was k another are).1;
+      }
 
-  pub lead-keep :
-      (c d : S) (made : List Made) (place : ℕ) (need : Need) → LeadsBy called c made d → AllLeave place made → owns c place need → owns d place need
-  lead-keep = leads-keep called owns laws.keeps
+  -- a block that is handed out goes into a register
+  pub holds-filled :
+      (r : ℕ) (held : HeldBlock) → ((place : ℕ) (need : Need) → owns place need → after place need) → after held.place held.need
+      → ((q : ℕ) (other : HeldBlock) → q ≢ r → held_in registers q ≡ Some other → other.place ≢ held.place)
+      → HoldsBlocks held_place held_need after (slice_set registers r (Some held))
+  holds-filled r held keep mine apart = record {
+    size = length-set registers r (Some held) ∙ holds.size;
+    owned = λ q other is.
+        elim (at-set registers r q (Some held) other is) [
+          | inl here ↦ let same : held ≡ other = let e = here.1 in cc in subst (λ (h : HeldBlock). after h.place h.need) same mine
+          | inr there ↦ keep other.place other.need (holds.owned q other there.1)
+        ];
+    once = λ q k other another is are differ.
+        elim (at-set registers r q (Some held) other is) [
+          | inl here ↦
+              let same : held ≡ other = let e = here.1 in cc in
+              elim (at-set registers r k (Some held) another are) [
+                | inl too ↦ absurd (differ (here.0 ∙ sym too.0))
+                | inr past ↦ λ e. apart k another past.0 past.1 (sym e ∙ ap held_place (sym same))
+              ]
+          | inr there ↦ elim (at-set registers r k (Some held) another are) [
+            | inl here ↦
+                let same : held ≡ another = let e = here.1 in cc in λ e. apart q other there.0 there.1 (e ∙ ap held_place (sym same))
+            | inr past ↦ holds.once q k other another there.1 past.1 differ
+          ]
+        ];
+  }
 
-  module _ (c d : S) (registers : List (Option HeldBlock)) (holds : HoldsAll c registers) where
-    still : (made : List Made) → LeadsBy called c made d → ((place : ℕ) → AllLeave place made) → HoldsAll d registers
-    still made leads leave =
-        holds-still held_place held_need (owns c) (owns d) registers holds (λ place need. lead-keep c d made place need leads (leave place))
+-- a skipped operation leaves the registers
+skip-leaves : (registers : List (Option HeldBlock)) (operation : Op) → registers ≡ registers_after registers operation outcome.Skipped
+skip-leaves registers (op.Alloc r need v) = refl
+skip-leaves registers operation = refl
+
+module _ {S : Type 0} {called : S → Call → Reply → S → Type 0} {owns : S → ℕ → Need → Type 0} (laws : KeepBlocks called owns) where
+  -- the caller keeps its block through calls
+  pub leads-keep :
+      (s t : S) (made : List Made) (place : ℕ) (need : Need) → LeadsBy called s made t → AllCalls (Leaves place) made → owns s place need → owns t place need
+  leads-keep s t [] place need leads leave owned = subst (λ x. owns x place need) (sym leads) owned
+  leads-keep s t (m ∷ made) place need (u, one, leads) leave owned =
+      leads-keep u t made place need leads leave.1 (laws.keeps s u m.call m.answer place need one leave.0 owned)
+
+  module _ (c d : S) (registers : List (Option HeldBlock)) (holds : HoldsAll owns c registers) where
+    still : (made : List Made) → LeadsBy called c made d → ((place : ℕ) → AllCalls (Leaves place) made) → HoldsAll owns d registers
+    still made leads leave = holds-still (owns c) (owns d) registers holds (λ place need. leads-keep c d made place need leads (leave place))
 
     emptied :
         (r : ℕ) (held : HeldBlock) (call : Call) (answer : Reply) → held_in registers r ≡ Some held → LeadsBy called c (answered call answer ∷ []) d
-        → ((place : ℕ) → place ≢ held.place → LeavesPlace call place) → HoldsAll d (slice_set registers r None)
+        → ((place : ℕ) → place ≢ held.place → LeavesPlace call place) → HoldsAll owns d (slice_set registers r None)
     emptied r held call answer full leads leave =
-        holds-emptied held_place held_need (owns c) (owns d) registers r held full holds
-        (λ place need differ. lead-keep c d (answered call answer ∷ []) place need leads (leave place differ, tt))
+        holds-emptied (owns c) (owns d) registers holds r held full
+        (λ place need differ. leads-keep c d (answered call answer ∷ []) place need leads (leave place differ, tt))
 
     given :
         (r need v : ℕ) (held : HeldBlock) → held.need ≡ need_of need
         → LeadsBy called c (answered (alloc need) (reply.Given held.place held.need) ∷ wrote held.place held.need v held.words) d
-        → HoldsAll d (slice_set registers r (Some held))
+        → HoldsAll owns d (slice_set registers r (Some held))
     given r need v held serves (t, one, leads) =
         let answer : Reply = reply.Given held.place held.need in
         let fills = wrote held.place held.need v held.words in
-        let later = λ (place : ℕ) (n : Need). lead-keep t d fills place n leads (leave-wrote place held.place held.need v held.words) in
-        holds-filled held_place held_need (owns c) (owns d) registers r held holds
+        let later = λ (place : ℕ) (n : Need). leads-keep t d fills place n leads (all-wrote (leaves place) held.place held.need v held.words) in
+        holds-filled (owns c) (owns d) registers holds r held
         (λ place n owned. later place n (laws.keeps c t (alloc need) answer place n one tt owned))
         (later held.place held.need (laws.hands c t (alloc need) answer held.place held.need one (refl, refl)))
         (λ q other differ there.
@@ -103,25 +147,25 @@ module _ {S : Type 0} (called : S → Call → Reply → S → Type 0) (owns : S
     took :
         (r shelf : ℕ) (held : HeldBlock) (misses : List Made) → AreMisses shelf misses
         → LeadsBy called c (misses ++ answered (take shelf) (reply.Got held.place held.need) ∷ []) d
-        → HoldsAll d (slice_set registers r (Some held))
+        → HoldsAll owns d (slice_set registers r (Some held))
     took r shelf held misses are leads =
         let answer : Reply = reply.Got held.place held.need in
         let parts = leads-split called c d misses (answered (take shelf) answer ∷ []) leads in
         let t = parts.0 in
         let one : called t (take shelf) answer d = subst (λ x. called t (take shelf) answer x) (sym parts.2.2) parts.2.1 in
-        holds-filled held_place held_need (owns c) (owns d) registers r held holds
-        (λ place n owned. lead-keep c d (misses ++ answered (take shelf) answer ∷ []) place n leads (leave-takes place shelf misses answer are) owned)
+        holds-filled (owns c) (owns d) registers holds r held
+        (λ place n owned. leads-keep c d (misses ++ answered (take shelf) answer ∷ []) place n leads (all-takes (leaves place) shelf misses answer are) owned)
         (laws.hands t d (take shelf) answer held.place held.need one (refl, refl))
         (λ q other differ there.
         laws.apart t d (take shelf) answer held.place other.place held.need other.need one (refl, refl)
-        (lead-keep c t misses other.place other.need parts.1 (leave-misses other.place shelf misses are) (holds.owned q other there)))
+        (leads-keep c t misses other.place other.need parts.1 (all-misses (leaves other.place) shelf misses are) (holds.owned q other there)))
 
     resized :
         (r need : ℕ) (old new : HeldBlock) (found : List ℕ) → held_in registers r ≡ Some old → new.need ≡ need_of need
         → LeadsBy called c
         (answered (alloc need) (reply.Given new.place new.need)
         ∷ copied old.place old.need new.place new.need found new.words ++ answered (free old.place old.need) reply.Freed ∷ []) d
-        → HoldsAll d (slice_set registers r (Some new))
+        → HoldsAll owns d (slice_set registers r (Some new))
     resized r need old new found full serves (t, one, leads) =
         let answer : Reply = reply.Given new.place new.need in
         let release = free old.place old.need in
@@ -132,37 +176,41 @@ module _ {S : Type 0} (called : S → Call → Reply → S → Type 0) (owns : S
         let apart = λ (other : ℕ) (had : Need). laws.apart c t (alloc need) answer new.place other new.need had one (refl, refl) in
         let later = λ (place : ℕ) (n : Need) (differ : place ≢ old.place) (owned : owns t place n).
         laws.keeps u d release reply.Freed place n freed differ
-        (lead-keep t u copies place n parts.1 (leave-copied place old.place old.need new.place new.need found new.words) owned) in
+        (leads-keep t u copies place n parts.1
+        (all-copied (leaves place) old.place old.need new.place new.need found (range_with_len 0 new.words)) owned) in
         let differ : new.place ≢ old.place = λ e. apart old.place old.need (holds.owned r old full) (sym e) in
-        let gone = holds-emptied held_place held_need (owns c) (owns d) registers r old full holds
+        let gone = holds-emptied (owns c) (owns d) registers holds r old full
         (λ place n not owned. later place n not (laws.keeps c t (alloc need) answer place n one tt owned)) in
-        let gone_here = holds-emptied held_place held_need (owns c) (owns c) registers r old full holds (λ place n not owned. owned) in
-        subst (HoldsAll d) (set-set registers r None (Some new))
-        (holds-filled held_place held_need (owns d) (owns d) (slice_set registers r None) r new gone (λ place n owned. owned)
+        let gone_here = holds-emptied (owns c) (owns c) registers holds r old full (λ place n not owned. owned) in
+        subst (HoldsAll owns d) (set-set registers r None (Some new))
+        (holds-filled (owns d) (owns d) (slice_set registers r None) gone r new (λ place n owned. owned)
         (later new.place new.need differ (laws.hands c t (alloc need) answer new.place new.need one (refl, refl)))
         (λ q other not there. apart other.place other.need (gone_here.owned q other there)))
 
   -- an operation that was made leaves blocks of the caller's in the registers
   pub op-holds :
-      (c d : S) (registers : List (Option HeldBlock)) (operation : Op) (result : Outcome) (slot : Option HeldBlock) (made : List Made) → HoldsAll c registers
+      (c d : S) (registers : List (Option HeldBlock)) (operation : Op) (result : Outcome) (slot : Option HeldBlock) (made : List Made) → HoldsAll owns c registers
       → held_in registers (register_of operation) ≡ slot → MadeFor slot operation result made → LeadsBy called c made d
-      → HoldsAll d (registers_after registers operation result)
+      → HoldsAll owns d (registers_after registers operation result)
   op-holds c d registers operation outcome.Skipped slot made holds is (skip, none) leads =
-      subst (HoldsAll d) (skip-leaves registers operation) (still c d registers holds made leads (λ place. subst (AllLeave place) (sym none) tt))
+      subst (HoldsAll owns d) (skip-leaves registers operation)
+      (still c d registers holds made leads (λ place. subst (AllCalls (Leaves place)) (sym none) tt))
   op-holds c d registers (op.Alloc r need v) (outcome.Given words place) None made holds is (words_are, calls) leads =
       given c d registers holds r need v (record { place = place; words = words; need = need_of need }) refl
       (subst (λ ms. LeadsBy called c ms d) calls leads)
   op-holds c d registers (op.Alloc r need v) outcome.Refused None made holds is calls leads =
-      still c d registers holds made leads (λ place. subst (AllLeave place) (sym calls) (tt, tt))
+      still c d registers holds made leads (λ place. subst (AllCalls (Leaves place)) (sym calls) (tt, tt))
   op-holds c d registers (op.Alloc r need v) outcome.Spent None made holds is calls leads =
-      still c d registers holds made leads (λ place. subst (AllLeave place) (sym calls) (tt, tt))
+      still c d registers holds made leads (λ place. subst (AllCalls (Leaves place)) (sym calls) (tt, tt))
   op-holds c d registers (op.Free r) outcome.Freed (Some held) made holds is (words, calls) leads =
       emptied c d registers holds r held (free held.place held.need) reply.Freed is (subst (λ ms. LeadsBy called c ms d) calls leads)
       (λ place differ. differ)
   op-holds c d registers (op.Fill r v) outcome.Filled (Some held) made holds is (words, calls) leads =
-      still c d registers holds made leads (λ place. subst (AllLeave place) (sym calls) (leave-wrote place held.place held.need v held.words))
+      still c d registers holds made leads
+      (λ place. subst (AllCalls (Leaves place)) (sym calls) (all-wrote (leaves place) held.place held.need v held.words))
   op-holds c d registers (op.Check r) (outcome.Sum total) (Some held) made holds is (words_are, (words, all, total_is, calls)) leads =
-      still c d registers holds made leads (λ place. subst (AllLeave place) (sym calls) (leave-found place held.place held.need 0 words))
+      still c d registers holds made leads
+      (λ place. subst (AllCalls (Leaves place)) (sym calls) (all-found (leaves place) held.place held.need 0 words))
   op-holds c d registers (op.Put r shelf) outcome.Put (Some held) made holds is (words, calls) leads =
       emptied c d registers holds r held (put held.place held.need shelf) reply.Put is (subst (λ ms. LeadsBy called c ms d) calls leads)
       (λ place differ. differ)
@@ -170,21 +218,21 @@ module _ {S : Type 0} (called : S → Call → Reply → S → Type 0) (owns : S
       let one = subst (λ ms. LeadsBy called c ms d) calls leads in
       let call = put held.place held.need shelf in
       let back : called c call (reply.Full found) d = subst (λ x. called c call (reply.Full found) x) (sym one.2) one.1 in
-      holds-still held_place held_need (owns c) (owns d) registers holds
-      (λ place need. laws.back c d held.place held.need shelf found place need back)
+      holds-still (owns c) (owns d) registers holds (λ place need. laws.back c d held.place held.need shelf found place need back)
   op-holds c d registers (op.Take r shelf) (outcome.Took words place need) None made holds is (misses, are, words_are, calls) leads =
       took c d registers holds r shelf (record { place = place; words = words; need = need }) misses are (subst (λ ms. LeadsBy called c ms d) calls leads)
   op-holds c d registers (op.Take r shelf) outcome.ShelfEmpty None made holds is (misses, are, calls) leads =
-      still c d registers holds made leads (λ place. subst (AllLeave place) (sym calls) (leave-takes place shelf misses reply.Empty are))
+      still c d registers holds made leads
+      (λ place. subst (AllCalls (Leaves place)) (sym calls) (all-takes (leaves place) shelf misses reply.Empty are))
   op-holds c d registers (op.Resize r need) (outcome.Kept words place) (Some held) made holds is (serves, words_are, place_is, calls) leads =
-      still c d registers holds made leads (λ at. subst (AllLeave at) (sym calls) tt)
+      still c d registers holds made leads (λ at. subst (AllCalls (Leaves at)) (sym calls) tt)
   op-holds c d registers (op.Resize r need) (outcome.Resized words place) (Some held) made holds is (differ, words_are, has, found, all, calls) leads =
       resized c d registers holds r need held (record { place = place; words = words; need = need_of need }) found is refl
       (subst (λ ms. LeadsBy called c ms d) calls leads)
   op-holds c d registers (op.Resize r need) outcome.Refused (Some held) made holds is (differ, calls) leads =
-      still c d registers holds made leads (λ place. subst (AllLeave place) (sym calls) (tt, tt))
+      still c d registers holds made leads (λ place. subst (AllCalls (Leaves place)) (sym calls) (tt, tt))
   op-holds c d registers (op.Resize r need) outcome.Spent (Some held) made holds is (differ, calls) leads =
-      still c d registers holds made leads (λ place. subst (AllLeave place) (sym calls) (tt, tt))
+      still c d registers holds made leads (λ place. subst (AllCalls (Leaves place)) (sym calls) (tt, tt))
   op-holds c d registers (op.Alloc r need v) result None made holds is calls leads = absurd calls
   op-holds c d registers (op.Alloc r need v) result (Some held) made holds is calls leads = absurd calls
   op-holds c d registers (op.Free r) result None made holds is calls leads = absurd calls
@@ -202,10 +250,78 @@ module _ {S : Type 0} (called : S → Call → Reply → S → Type 0) (owns : S
 
   -- so do operations
   pub all-hold :
-      (c d : S) (registers : List (Option HeldBlock)) (operations : List Op) (results : List Outcome) → HoldsAll c registers
-      → AllMade called registers operations results c d → HoldsAll d (registers_from registers operations results)
-  all-hold c d registers operations [] holds same = subst (λ x. HoldsAll x registers) (sym same) holds
+      (c d : S) (registers : List (Option HeldBlock)) (operations : List Op) (results : List Outcome) → HoldsAll owns c registers
+      → AllMade called registers operations results c d → HoldsAll owns d (registers_from registers operations results)
+  all-hold c d registers operations [] holds same = subst (λ x. HoldsAll owns x registers) (sym same) holds
   all-hold c d registers [] (result ∷ results) holds all = absurd all
   all-hold c d registers (operation ∷ operations) (result ∷ results) holds (t, (made, for, leads), all) =
       all-hold t d (registers_after registers operation result) operations results
       (op-holds c t registers operation result (held_in registers (register_of operation)) made holds refl for leads) all
+
+-- blocks in hand are held where they are as a register's
+module _ {B : Type 0} (place_of : B → ℕ) (need_of_block : B → Need) (owns : ℕ → Need → Type 0) (blocks : List (Option B)) where
+  in-hand :
+      (r : ℕ) (held : HeldBlock) (slot : Option B) → slice_index_or blocks r None ≡ slot → option_map (held_by place_of need_of_block) slot ≡ Some held
+      → (block : B) × (slice_index_or blocks r None ≡ Some block) × (held_by place_of need_of_block block ≡ held)
+  in-hand r held None is same = absurd (let none : None ≡ Some held = same in cc)
+  in-hand r held (Some block) is same =
+      (block, is, (let both : Some (held_by place_of need_of_block block) ≡ Some held = same in cc))
+
+  pub hold-held : HoldsBlocks place_of need_of_block owns blocks → HoldsBlocks held_place held_need owns (held_blocks place_of need_of_block blocks)
+  hold-held holds =
+      let of = λ (r : ℕ) (held : HeldBlock) (full : held_in (held_blocks place_of need_of_block blocks) r ≡ Some held).
+      in-hand r held (slice_index_or blocks r None) refl (sym (slot-held place_of need_of_block blocks r) ∙ full) in
+      record {
+        size = blocks-size place_of need_of_block blocks ∙ holds.size;
+        owned = λ r held full. let b = of r held full in subst (λ (h : HeldBlock). owns h.place h.need) b.2 (holds.owned r b.0 b.1);
+        once = λ r q held other is are differ.
+            let b = of r held is in
+            let o = of q other are in
+            λ e. holds.once r q b.0 o.0 b.1 o.1 differ (ap held_place b.2 ∙ e ∙ ap held_place (sym o.2));
+      }
+
+  pub held-hold : HoldsBlocks held_place held_need owns (held_blocks place_of need_of_block blocks) → HoldsBlocks place_of need_of_block owns blocks
+  held-hold holds = record {
+    size = sym (blocks-size place_of need_of_block blocks) ∙ holds.size;
+    owned = λ r block full. holds.owned r (held_by place_of need_of_block block) (slot-full place_of need_of_block blocks r block full);
+    once = λ r q block other is are.
+        holds.once r q (held_by place_of need_of_block block) (held_by place_of need_of_block other) (slot-full place_of need_of_block blocks r block is)
+        (slot-full place_of need_of_block blocks q other are);
+  }
+
+-- what the code leaves of a lane that it gives an outcome
+pub record IsFinished {B : Type 0} (old new : LaneState B) (blocks : List (Option B)) (result : Outcome) : Type 0 where
+  pub blocks_are : new.registers.items ≡ blocks
+  pub results : new.outcomes.items ≡ old.outcomes.items ++ result ∷ []
+  pub same_caller : new.caller ≡ old.caller
+  pub at : new.stage ≡ stage.Between
+  pub room : vec_capacity new.outcomes ≡ vec_capacity old.outcomes
+
+-- a lane made an operation by these calls
+pub makes :
+    {B S : Type 0} {place_of : B → ℕ} {need_of_block : B → Need} {maker : Maker S} {s t : S} {old new : LaneState B} {blocks : List (Option B)}
+    → KeepBlocks maker.called maker.owns → MayMake place_of need_of_block maker s old
+    → (operation : Op) (result : Outcome) (slot : Option B) → slice_index_or old.registers.items (register_of operation) None ≡ slot
+    → (made : List Made) → MadeFor (option_map (held_by place_of need_of_block) slot) operation result made → LeadsBy maker.called s made t
+    → IsFinished old new blocks result
+    → held_blocks place_of need_of_block blocks ≡ registers_after (held_blocks place_of need_of_block old.registers.items) operation result
+    → Makes place_of need_of_block maker operation s t old new
+makes {place_of = place_of} {need_of_block = block_need} {maker = maker} {s = s} {t = t} {old = old} {new = new} {blocks = blocks} laws ready operation result slot is made for leads f after =
+    let before = held_blocks place_of block_need old.registers.items in
+    let held = option_map (held_by place_of block_need) slot in
+    let there : held_in before (register_of operation) ≡ held =
+    slot-held place_of block_need old.registers.items (register_of operation) ∙ ap (option_map (held_by place_of block_need)) is in
+    let now : held_blocks place_of block_need new.registers.items ≡ registers_after before operation result =
+    ap (held_blocks place_of block_need) f.blocks_are ∙ after in
+    let holds =
+    op-holds laws s t before operation result held made (hold-held place_of block_need (maker.owns s) old.registers.items ready.holds) there for leads in
+    record {
+      result = result;
+      made = (made, subst (λ h. MadeFor h operation result made) (sym there) for, leads);
+      registers = now;
+      holds = held-hold place_of block_need (maker.owns t) new.registers.items (subst (HoldsAll maker.owns t) (sym now) holds);
+      results = f.results;
+      same_caller = f.same_caller;
+      between = f.at;
+      room = f.room;
+    }

@@ -130,25 +130,26 @@ pub record HasMade (t u : CoreFields) (lane : LaneState Grip) (told : Stepped Gr
       (other : ℕ) → other ≢ lane.caller
       → (errand_at u.errands other ≡ errand_at t.errands other) × HasSeenMore other t.events u.events
 
-module _ (passed : ℕ → ℕ → Type 0) (operations : List Op) where
-  -- a lane has gone on without a move, and nothing has begun
-  pub onward-none : (c : CoreFields) (lane : LaneState Grip) → StandsOn c operations lane → AdvancesOn passed operations c c lane lane false
-  onward-none c lane stands =
-      record {
-        geometry = refl;
-        caller = refl;
-        stands = stands;
-        others = λ other ne. (refl, same-seen other c.events c.events refl);
-        advanced = advance-none c lane.caller operations lane;
-        gate = λ h. h;
-      }
+-- a lane has gone on without a move, and nothing has begun
+pub onward-none :
+    {passed : ℕ → ℕ → Type 0} {operations : List Op} {c : CoreFields} {lane : LaneState Grip} → StandsOn c operations lane
+    → AdvancesOn passed operations c c lane lane false
+onward-none {operations = operations} {c = c} {lane = lane} stands = record {
+  geometry = refl;
+  caller = refl;
+  stands = stands;
+  others = λ other ne. (refl, same-seen other c.events c.events refl);
+  advanced = advance-none c lane.caller operations lane;
+  gate = λ h. h;
+}
 
+module _ {passed : ℕ → ℕ → Type 0} {operations : List Op} {s t : CoreFields} {lane mid : LaneState Grip} (so : AdvancesOn passed operations s t lane mid false) where
   -- a lane has gone on without a step, and one more operation has begun
-  pub onward-more :
-      (s t u : CoreFields) (lane mid after : LaneState Grip) (operation : Op) (so : AdvancesOn passed operations s t lane mid false) → IsCore u
+  onward-more :
+      {u : CoreFields} {after : LaneState Grip} {operation : Op} → IsCore u
       → MayBeginOperation operation t operations so.stands.calls mid → BeginsOperation operation t u mid after → passed lane.caller (min (length mid.outcomes.items) (2 ^ 32 - 1))
       → AdvancesOn passed operations s u lane after false
-  onward-more s t u lane mid after operation so core before goes last =
+  onward-more {u = u} {after = after} {operation = operation} core before goes last =
       let k : mid.caller ≡ lane.caller = so.caller in
       let calls = so.stands.calls in
       let gone = goes.gone_on [] (errand_at t.errands mid.caller) operations calls before in
@@ -173,20 +174,19 @@ module _ (passed : ℕ → ℕ → Type 0) (operations : List Op) where
       }
 
   -- the operation at this place: what is so when it has begun
-  pub record HasNext (s t u : CoreFields) (lane mid after : LaneState Grip) : Type 0 where
-    pub so : AdvancesOn passed operations s u lane after false
+  pub record HasNext (u : CoreFields) (after : LaneState Grip) : Type 0 where
+    pub advanced : AdvancesOn passed operations s u lane after false
     pub no_event : u.events ≡ t.events
     pub count : begun_count after.outcomes.items after.stage ≡ length mid.outcomes.items + 1
 
   pub onward-next :
-      (s t u : CoreFields) (lane mid after : LaneState Grip) (k number : ℕ) (d : Op) → AdvancesOn passed operations s t lane mid false → IsCore u
-      → mid.stage ≡ stage.Between → length mid.outcomes.items ≡ k → k < length operations → BeginsOperation (get_or operations k d) t u mid after
-      → number ≡ min k (2 ^ 32 - 1) → passed mid.caller number → HasNext s t u lane mid after
-  onward-next s t u lane mid after k number d so core between here below goes number_is told =
+      {u : CoreFields} {after : LaneState Grip} (k number : ℕ) (d : Op) → IsCore u → mid.stage ≡ stage.Between → length mid.outcomes.items ≡ k
+      → k < length operations → BeginsOperation (get_or operations k d) t u mid after → number ≡ min k (2 ^ 32 - 1) → passed mid.caller number → HasNext u after
+  onward-next {u = u} k number d core between here below goes number_is told =
       let ready = next-ready t operations mid k d so.stands between here below in
       record {
-        so =
-            onward-more s t u lane mid after (get_or operations k d) so core ready goes
+        advanced =
+            onward-more core ready goes
             (gate-number passed mid.caller lane.caller number k (length mid.outcomes.items) so.caller number_is here told);
         no_event = (calls-kept mid.caller goes.begun t u goes.called).no_event;
         count = (goes.gone_on [] (errand_at t.errands mid.caller) operations so.stands.calls ready).count;
@@ -194,11 +194,9 @@ module _ (passed : ℕ → ℕ → Type 0) (operations : List Op) where
 
   -- a step of the operation that is under way may be answered
   pub step-told :
-      (s t u : CoreFields) (lane mid : LaneState Grip) (told : Stepped Grip) (k : ℕ) (d : Op) (so : AdvancesOn passed operations s t lane mid false)
-      → mid.stage ≢ stage.Between → HasMade t u mid told
-      → length mid.outcomes.items ≡ k → (calls : List Call) → IsLaneOn t operations mid calls
+      {u : CoreFields} {told : Stepped Grip} (k : ℕ) (d : Op) → mid.stage ≢ stage.Between → HasMade t u mid told → length mid.outcomes.items ≡ k → (calls : List Call) → IsLaneOn t operations mid calls
       → MayGoOn (get_or operations k d) told u t.events (errand_at t.errands mid.caller) operations calls mid
-  step-told s t u lane mid told k d so not made here calls stands =
+  step-told {u = u} k d not made here calls stands =
       let on = so.stands in
       let under = lane-under t operations mid calls stands not in
       let below = here-below operations under.rest mid.outcomes.items under.operation under.next in
@@ -214,14 +212,12 @@ module _ (passed : ℕ → ℕ → Type 0) (operations : List Op) where
 
   -- a lane has gone on by a step, which is answered
   pub onward-steps :
-      (s t u v : CoreFields) (lane mid after : LaneState Grip) (told : Stepped Grip) (k : ℕ) (d : Op) → AdvancesOn passed operations s t lane mid false
-      → t.events ≡ s.events → mid.stage ≢ stage.Between → HasMade t u mid told
+      {u v : CoreFields} {after : LaneState Grip} {told : Stepped Grip} (k : ℕ) (d : Op) → t.events ≡ s.events → mid.stage ≢ stage.Between → HasMade t u mid told
       → length mid.outcomes.items ≡ k → GoesOnBy (get_or operations k d) told u v mid after → IsCore v
       → AdvancesOn passed operations s v lane after true
-  onward-steps s t u v lane mid after told k d so same not made here goes core =
-      let place = k in
+  onward-steps {u = u} {v = v} {after = after} k d same not made here goes core =
       let calls = so.stands.calls in
-      let ready = step-told s t u lane mid told k d so not made here calls so.stands.stands in
+      let ready = step-told k d not made here calls so.stands.stands in
       let same_caller : mid.caller ≡ lane.caller = so.caller in
       let step = made.moves (lane-under t operations mid calls so.stands.stands not).busy in
       let gone = goes.gone_on t.events (errand_at t.errands mid.caller) operations calls ready in
@@ -239,8 +235,7 @@ module _ (passed : ℕ → ℕ → Type 0) (operations : List Op) where
         advanced =
             advance-then s t v lane.caller operations lane mid after true so.advanced
             (subst (λ c. HasAdvanced t v c operations mid after true) same_caller
-            (part-steps u v mid after t _ step goes operations calls ready
-            (λ cs on. step-told s t u lane mid told place d so not made here cs on)));
+            (part-steps u v mid after t _ step goes operations calls ready (λ cs on. step-told k d not made here cs on)));
         gate = λ first.
             let count : begun_count mid.outcomes.items mid.stage ≡ length mid.outcomes.items + 1 =
             count-under mid.outcomes.items mid.stage not in

@@ -3,6 +3,7 @@ pub mod AdvanceLemmas
 pub mod AnswerLemmas
 pub mod CallerLemmas
 pub mod DoingLemmas
+pub mod EachCall
 pub mod EndedLemmas
 pub mod FitLemmas
 pub mod HoldsLemmas

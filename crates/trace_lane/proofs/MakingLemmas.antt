@@ -1,6 +1,6 @@
 -- What a lane has made, with one call or one operation more.
-use Rattle.std.proofs.Common.{ℕ, ◌≡◌, ◌≢◌, ◌<◌, ◌+◌, ◌∷◌, ◌++◌, List, [], Option, Some, None, length, drop, replicate, refl, sym, ap, ◌∙◌, subst}
-use Rattle.std.proofs.Common.{arith, append_assoc, append-nil}
+use Rattle.std.proofs.Common.{ℕ, ◌≡◌, ◌≢◌, ◌<◌, ◌∷◌, ◌++◌, List, [], Option, Some, None, length, drop, replicate, refl, sym, ap, ◌∙◌, subst}
+use Rattle.std.proofs.Common.{arith, append-nil}
 use Rattle.std.specs.Option.{option_map}
 use Rattle.std.proofs.lemmas.List.{length-append}
 use Rattle.heap_geometry.specs.declared.need.Need.{Need}
@@ -16,45 +16,20 @@ use Rattle.lane_engine.specs.Begins.{call_of}
 use Rattle.lane_engine.specs.Callers.{FitsCall}
 use Rattle.lane_outcomes.specs.declared.registers.HeldBlock.{HeldBlock}
 use Rattle.lane_outcomes.specs.declared.outcome.Outcome.{Outcome}
-use Rattle.lane_outcomes.specs.Lane.{held_in, registers_after}
+use Rattle.lane_outcomes.specs.Lane.{held_in}
 use Rattle.trace_lane.specs.Advances.{ComesTo, IsAtHand, blocks_of}
 use Rattle.trace_lane.specs.declared.lane.LaneState.{LaneState}
 use Rattle.trace_lane.specs.declared.stage.OperationStage.{OperationStage}
 use Rattle.trace_lane.specs.declared.stage.OperationStage.TheVariants as stage
 use Rattle.trace_lane.specs.Doing.{AllMadeFor, DoingIn, DoingOf, IsMaking, call_at, held_of, held_there}
-use Rattle.trace_lane.specs.Made.{MadeFor, register_of}
 use Rattle.trace_lane.specs.Scripts.{begun_bound, registers_from, stage_begun}
 use Rattle.trace_lane.proofs.DoingLemmas.{on-block, set-there}
-use Rattle.trace_lane.proofs.MadeLemmas.{from-more}
+use Rattle.trace_lane.proofs.MadeLemmas.{all-for-more, from-more}
 use Rattle.trace_lane.proofs.NeedLemmas.{here-below, need-words}
 
 -- registers that hold nothing
 abbrev pub empty : List (Option HeldBlock)
 empty = replicate REGISTERS None
-
--- one operation more was made
-all-for-more :
-    (registers : List (Option HeldBlock)) (operations : List Op) (results : List Outcome) (made more : List Made) (operation : Op) (result : Outcome) (rest : List Op)
-    → drop (length results) operations ≡ operation ∷ rest → AllMadeFor registers operations results made
-    → MadeFor (held_in (registers_from registers operations results) (register_of operation)) operation result more
-    → AllMadeFor registers operations (results ++ result ∷ []) (made ++ more)
-all-for-more registers [] [] made more operation result rest next all one = absurd (cc)
-all-for-more registers (o ∷ operations) [] made more operation result rest next all one =
-    let same : operation ≡ o = cc in (
-      more,
-      [],
-      ap (λ ms. ms ++ more) all ∙ sym (append-nil more),
-      subst (λ p. MadeFor (held_in registers (register_of p)) p result more) same one,
-      refl,
-    )
-all-for-more registers [] (r ∷ results) made more operation result rest next all one = absurd all
-all-for-more registers (o ∷ operations) (r ∷ results) made more operation result rest next (first, others, is, for, all) one = (
-  first,
-  others ++ more,
-  ap (λ ms. ms ++ more) is ∙ append_assoc first others more,
-  for,
-  all-for-more (registers_after registers o r) operations results others more operation result rest next all one,
-)
 
 -- the operation at hand is under way
 pub record IsAtWork (operations : List Op) (registers : List (Option HeldBlock)) (results : List Outcome) (operation : Op) (at : OperationStage) (made : List Made)

@@ -1,5 +1,5 @@
 -- How many words blocks have, and how much of its script a lane has left.
-use Rattle.std.proofs.Common.{ℕ, zero, suc, ◌≡◌, ◌<◌, ◌≤◌, ◌+◌, ◌^◌, ◌∷◌, ◌++◌, List, [], length, take, drop, refl, ap, arith}
+use Rattle.std.proofs.Common.{ℕ, zero, suc, ◌≡◌, ◌<◌, ◌≤◌, ◌+◌, ◌^◌, ◌∷◌, ◌++◌, List, [], length, drop, arith}
 use Rattle.std.proofs.lemmas.List.{length-append}
 use Rattle.std.proofs.Math.Pow.{pow_mono}
 use Rattle.heap_geometry.specs.declared.geometry.Geometry.{Geometry}
@@ -13,10 +13,6 @@ use Rattle.lane_outcomes.specs.declared.outcome.Outcome.{Outcome}
 use Rattle.trace_lane.specs.declared.stage.OperationStage.{OperationStage}
 use Rattle.trace_lane.specs.declared.stage.OperationStage.TheVariants as stage
 use Rattle.trace_lane.specs.Scripts.{begun_bound, script_left, stage_begun}
-
-pub take_all : (operations : List Op) → take (length operations) operations ≡ operations
-take_all [] = refl
-take_all (operation ∷ operations) = ap (λ ops. operation ∷ ops) (take_all operations)
 
 drop-below : (n : ℕ) (operations : List Op) (operation : Op) (rest : List Op) → drop n operations ≡ operation ∷ rest → n < length operations
 drop-below zero [] operation rest next = absurd (let e : [] ≡ operation ∷ rest = next in cc)

@@ -68,7 +68,7 @@ slot-some found (Some block) h is = (block, refl)
 pub emptied-empty : {B : Type 0} (blocks : List (Option B)) (r : ℕ) → slice_index_or blocks r None ≡ None → slice_set blocks r None ≡ blocks
 emptied-empty blocks r empty = ap (λ slot. slice_set blocks r slot) (sym empty) ∙ set-get_or blocks r None
 
-module _ {B : Type 0} (place_of : B → ℕ) (block_need : B → Need) (old new : LaneState B) (next : Option NextCall) where
+module _ {B : Type 0} (old new : LaneState B) (next : Option NextCall) where
   -- the operation has its outcome
   pub record IsEnded (blocks : List (Option B)) (result : Outcome) : Type 0 where
     pub none : next ≡ None
@@ -87,11 +87,12 @@ module _ {B : Type 0} (place_of : B → ℕ) (block_need : B → Need) (old new 
     pub room : vec_capacity new.outcomes ≡ vec_capacity old.outcomes
     pub at_is : new.stage ≡ at
 
+module _ {B : Type 0} (place_of : B → ℕ) (block_need : B → Need) (old new : LaneState B) (next : Option NextCall) where
   abbrev held : List (Option B) → List (Option HeldBlock)
   held blocks = held_blocks place_of block_need blocks
 
   ended-comes :
-      (operation : Op) (before : List (Option HeldBlock)) (made : List Made) (blocks : List (Option B)) (result : Outcome) → IsEnded blocks result
+      (operation : Op) (before : List (Option HeldBlock)) (made : List Made) (blocks : List (Option B)) (result : Outcome) → IsEnded old new next blocks result
       → MadeFor (held_in before (register_of operation)) operation result made → held blocks ≡ registers_after before operation result
       → ComesTo place_of block_need operation before old.outcomes.items made next new
   ended-comes operation before made blocks result e for registers =
@@ -99,7 +100,7 @@ module _ {B : Type 0} (place_of : B → ℕ) (block_need : B → Need) (old new 
       (result, e.outcomes, e.between, for, ap held e.blocks_are ∙ registers)
 
   gone-comes :
-      (operation : Op) (before : List (Option HeldBlock)) (made : List Made) (blocks : List (Option B)) (at : OperationStage) (call : Call) → IsGone blocks at call
+      (operation : Op) (before : List (Option HeldBlock)) (made : List Made) (blocks : List (Option B)) (at : OperationStage) (call : Call) → IsGone old new next blocks at call
       → DoingOf before (held blocks) operation at made → call ≡ call_at before (held blocks) operation at
       → ComesTo place_of block_need operation before old.outcomes.items made next new
   gone-comes operation before made blocks at call e doing is =
@@ -110,42 +111,43 @@ module _ {B : Type 0} (place_of : B → ℕ) (block_need : B → Need) (old new 
       subst (λ a. P (held new.registers.items) a) (sym e.at_is) (subst (λ bs. P (held bs) at) (sym e.blocks_are) here) in
       subst (λ n. ComesTo place_of block_need operation before old.outcomes.items made n new) (sym e.some.1) (e.outcomes, there.0, there.1)
 
+module _ {B : Type 0} {place_of : B → ℕ} {block_need : B → Need} {old new : LaneState B} {next : Option NextCall} where
   pub begin-goes :
-      (operation : Op) (blocks : List (Option B)) (at : OperationStage) (call : Call) → IsGone blocks at call → length blocks ≡ length old.registers.items
-      → DoingOf (held old.registers.items) (held blocks) operation at []
-      → call ≡ call_at (held old.registers.items) (held blocks) operation at → HasBegun place_of block_need operation old next new
-  begin-goes operation blocks at call e size doing is = record {
+      {operation : Op} (blocks : List (Option B)) (at : OperationStage) (call : Call) → IsGone old new next blocks at call → length blocks ≡ length old.registers.items
+      → DoingOf (held_blocks place_of block_need old.registers.items) (held_blocks place_of block_need blocks) operation at []
+      → call ≡ call_at (held_blocks place_of block_need old.registers.items) (held_blocks place_of block_need blocks) operation at → HasBegun place_of block_need operation old next new
+  begin-goes {operation = operation} blocks at call e size doing is = record {
     keeps = record { caller = e.caller; size = ap length e.blocks_are ∙ size; room = e.room };
-    comes = gone-comes operation (held old.registers.items) [] blocks at call e doing is;
+    comes = gone-comes place_of block_need old new next operation (held_blocks place_of block_need old.registers.items) [] blocks at call e doing is;
   }
 
   pub answer-ends :
-      (operation : Op) (ended : Ending B) (blocks : List (Option B)) (result : Outcome) → IsEnded blocks result → length blocks ≡ length old.registers.items
-      → ((before : List (Option HeldBlock)) (made : List Made) → DoingOf before (held old.registers.items) operation old.stage made
-      → AnswersCall place_of block_need (call_at before (held old.registers.items) operation old.stage) ended
+      {operation : Op} {ended : Ending B} (blocks : List (Option B)) (result : Outcome) → IsEnded old new next blocks result → length blocks ≡ length old.registers.items
+      → ((before : List (Option HeldBlock)) (made : List Made) → DoingOf before (held_blocks place_of block_need old.registers.items) operation old.stage made
+      → AnswersCall place_of block_need (call_at before (held_blocks place_of block_need old.registers.items) operation old.stage) ended
       → MadeFor (held_in before (register_of operation)) operation result
-      (made ++ answered (call_at before (held old.registers.items) operation old.stage) (ended_as place_of block_need ended) ∷ [])
-      × (held blocks ≡ registers_after before operation result)) → HasAnswered place_of block_need operation ended old next new
-  answer-ends operation ended blocks result e size so = record {
+      (made ++ answered (call_at before (held_blocks place_of block_need old.registers.items) operation old.stage) (ended_as place_of block_need ended) ∷ [])
+      × (held_blocks place_of block_need blocks ≡ registers_after before operation result)) → HasAnswered place_of block_need operation ended old next new
+  answer-ends {operation = operation} {ended = ended} blocks result e size so = record {
     keeps = record { caller = e.caller; size = ap length e.blocks_are ∙ size; room = e.room };
     rises = subst (λ n. Rises place_of block_need old.stage n new.stage) (sym e.none) tt;
     over = λ spent. e.none;
     comes = λ before made doing answers.
         let s = so before made doing answers in
-        ended-comes operation before
-        (made ++ answered (call_at before (held old.registers.items) operation old.stage) (ended_as place_of block_need ended) ∷ []) blocks result e s.0 s.1;
+        ended-comes place_of block_need old new next operation before
+        (made ++ answered (call_at before (held_blocks place_of block_need old.registers.items) operation old.stage) (ended_as place_of block_need ended) ∷ []) blocks result e s.0 s.1;
   }
 
   pub answer-goes :
-      (operation : Op) (ended : Ending B) (blocks : List (Option B)) (at : OperationStage) (call : Call) → IsGone blocks at call
+      {operation : Op} (ended : Ending B) (blocks : List (Option B)) (at : OperationStage) (call : Call) → IsGone old new next blocks at call
       → length blocks ≡ length old.registers.items → ended ≢ ending.Spent
       → (stage_begun old.stage < stage_begun at) ⊎ ((shelf : ℕ) × (call ≡ take shelf) × (old.stage ≡ stage.Calling) × (at ≡ stage.Calling))
-      → ((before : List (Option HeldBlock)) (made : List Made) → DoingOf before (held old.registers.items) operation old.stage made
-      → AnswersCall place_of block_need (call_at before (held old.registers.items) operation old.stage) ended
-      → DoingOf before (held blocks) operation at
-      (made ++ answered (call_at before (held old.registers.items) operation old.stage) (ended_as place_of block_need ended) ∷ [])
-      × (call ≡ call_at before (held blocks) operation at)) → HasAnswered place_of block_need operation ended old next new
-  answer-goes operation ended blocks at call e size over rises so =
+      → ((before : List (Option HeldBlock)) (made : List Made) → DoingOf before (held_blocks place_of block_need old.registers.items) operation old.stage made
+      → AnswersCall place_of block_need (call_at before (held_blocks place_of block_need old.registers.items) operation old.stage) ended
+      → DoingOf before (held_blocks place_of block_need blocks) operation at
+      (made ++ answered (call_at before (held_blocks place_of block_need old.registers.items) operation old.stage) (ended_as place_of block_need ended) ∷ [])
+      × (call ≡ call_at before (held_blocks place_of block_need blocks) operation at)) → HasAnswered place_of block_need operation ended old next new
+  answer-goes {operation = operation} ended blocks at call e size over rises so =
       let goes : Rises place_of block_need old.stage (Some e.some.0) new.stage = elim rises [
         | inl less ↦ inl (subst (λ a. stage_begun old.stage < stage_begun a) (sym e.at_is) less)
         | inr again ↦ inr (again.0, e.some.2 ∙ again.1, again.2, e.at_is ∙ again.3)
@@ -156,23 +158,23 @@ module _ {B : Type 0} (place_of : B → ℕ) (block_need : B → Need) (old new 
         over = λ spent. absurd (over spent);
         comes = λ before made doing answers.
             let s = so before made doing answers in
-            gone-comes operation before
-            (made ++ answered (call_at before (held old.registers.items) operation old.stage) (ended_as place_of block_need ended) ∷ []) blocks at call e s.0
+            gone-comes place_of block_need old new next operation before
+            (made ++ answered (call_at before (held_blocks place_of block_need old.registers.items) operation old.stage) (ended_as place_of block_need ended) ∷ []) blocks at call e s.0
             s.1;
       }
 
-  -- what the code leaves of a lane whose stage it has set, and of one that it has given its outcome
-  pub staged :
-      (from : LaneState B) (at : OperationStage) (call : Call) → ((c : NextCall) × (next ≡ Some c) × (call_of c ≡ call)) → new ≡ record from { stage = at }
-      → from.caller ≡ old.caller → from.outcomes ≡ old.outcomes → IsGone from.registers.items at call
-  staged from at call some is caller outcomes = record {
-    some = some;
-    caller = ap (λ (l : LaneState B). l.caller) is ∙ caller;
-    blocks_are = ap (λ (l : LaneState B). l.registers.items) is;
-    outcomes = ap (λ (l : LaneState B). l.outcomes.items) is ∙ ap (λ os. os.items) outcomes;
-    room = ap (λ (l : LaneState B). vec_capacity l.outcomes) is ∙ ap (λ os. vec_capacity os) outcomes;
-    at_is = ap (λ (l : LaneState B). l.stage) is;
-  }
+-- what the code leaves of a lane whose stage it has set, and of one that it has given its outcome
+pub staged :
+    {B : Type 0} {old new : LaneState B} {next : Option NextCall} (from : LaneState B) (at : OperationStage) (call : Call) → ((c : NextCall) × (next ≡ Some c) × (call_of c ≡ call)) → new ≡ record from { stage = at }
+    → from.caller ≡ old.caller → from.outcomes ≡ old.outcomes → IsGone old new next from.registers.items at call
+staged {B = B} from at call some is caller outcomes = record {
+  some = some;
+  caller = ap (λ (l : LaneState B). l.caller) is ∙ caller;
+  blocks_are = ap (λ (l : LaneState B). l.registers.items) is;
+  outcomes = ap (λ (l : LaneState B). l.outcomes.items) is ∙ ap (λ os. os.items) outcomes;
+  room = ap (λ (l : LaneState B). vec_capacity l.outcomes) is ∙ ap (λ os. vec_capacity os) outcomes;
+  at_is = ap (λ (l : LaneState B). l.stage) is;
+}
 
 -- the block of a register, as the code reads it
 pub read-held :

@@ -13,7 +13,7 @@ use Rattle.pool_model.specs.declared.event.Event.TheVariants.{Free, Put, Take, T
 use Rattle.pool_model.specs.declared.owner.Owner.TheVariants.{Caller as CallerOf}
 use Rattle.pool_model.specs.Calls.{Ended, EventsOf, alloc_given, alloc_refused, alloc_spent}
 use Rattle.pool_model.specs.Calls as event_end
-use Rattle.pool_model.specs.Histories.{Begins, own}
+use Rattle.pool_model.specs.Histories.{own}
 use Rattle.pool_model.specs.Legal.{IsLegal}
 use Rattle.pool_model.specs.Pool.{Block, block_at, pool_of}
 use Rattle.pool_model.specs.WellFormed.{IsWellFormed}
@@ -35,30 +35,41 @@ use Rattle.lane_outcomes.specs.declared.registers.HeldBlock.{HeldBlock}
 use Rattle.lane_outcomes.specs.declared.outcome.Outcome.{Outcome}
 use Rattle.lane_outcomes.specs.declared.outcome.Outcome.TheVariants as outcome
 use Rattle.lane_outcomes.specs.Lane.{Position, filling, held_in, writing}
-use Rattle.lane_outcomes.specs.Rows.{AllocRow, CheckRow, FillRow, FitsRow, FreeRow, IsCopy, IsSpent, IsWord, MayAsk, Moment, PutRow, ResizeRow, Setting, TakeRow}
+use Rattle.lane_outcomes.specs.Rows.{CheckRow, FitsRow, IsCopy, IsSpent, IsWord, MayAsk, Moment, Setting}
+use Rattle.lane_outcomes.proofs.SlotRows.{RowAt, at-row, slot_of}
 use Rattle.lane_outcomes.specs.Standing.{setting_in}
 use Rattle.trace_lane.specs.Made.{MadeFor, Skips, register_of}
-use Rattle.trace_lane.proofs.AddedLemmas.{HasAdded, HasKept, HasTakenOff, added-none, added-then, called-added, copy-walk, ended-as, full-added, got-added, kept-on, reads-kept, steps-called, takes-added, value_of, whole-added, writes-added}
+use Rattle.trace_lane.proofs.AddedLemmas.{HasAdded, HasKept, HasTakenOff, added-none, added-then, called-added, copy-walk, ended-as, full-added, got-added, kept-on, reads-kept, takes-added, value_of, whole-added, writes-added}
 use Rattle.trace_lane.proofs.AnswerLemmas.{alloc-not_begun, ends-spent_call}
-use Rattle.trace_lane.proofs.CallerLemmas.{Owns, alloc-started, caller-apart, ends-called, steps-busy}
-use Rattle.trace_lane.proofs.HoldsLemmas.{HoldsAll, leads-split}
+use Rattle.trace_lane.proofs.CallerLemmas.{Owns, alloc-started, caller-laws, ends-called, steps-busy, steps-called}
+use Rattle.lane_engine.proofs.LeadsLemmas.{leads-split}
+use Rattle.trace_lane.proofs.HoldsLemmas.{HoldsAll}
 use Rattle.trace_lane.proofs.QuietLemmas.{AllQuiet, quiet-giving}
 use Rattle.trace_lane.proofs.TurnLemmas.{answered_in, asked-unspent, is-spent, may-ask}
-use Rattle.trace_lane.proofs.WorkLemmas.{caller-laws}
 
--- a skipped operation's row
+-- a row, by what the operation's register holds
+slot-is : (registers : List (Option HeldBlock)) (operation : Op) → slot_of registers operation ≡ held_in registers (register_of operation)
+slot-is registers (op.Alloc r need v) = refl
+slot-is registers operation = refl
+
+row-by :
+    (setting : Setting) (position : Position) (operation : Op) (slot : Option HeldBlock) (result : Outcome) (piece : List Event)
+    → held_in position.registers (register_of operation) ≡ slot → RowAt setting position operation slot result piece
+    → FitsRow setting position operation result piece
+row-by setting position operation slot result piece is row =
+    at-row setting position operation result piece
+    (subst (λ h. RowAt setting position operation h result piece) (sym (slot-is position.registers operation ∙ is)) row)
+
+-- a skipped operation's
 skip-row :
-    (setting : Setting) (position : Position) (operation : Op) (slot : Option HeldBlock) → held_in position.registers (register_of operation) ≡ slot
-    → Skips slot operation → FitsRow setting position operation outcome.Skipped []
-skip-row setting position (op.Alloc r need v) (Some held) is skips = subst (λ h. AllocRow setting position need v h outcome.Skipped []) (sym is) refl
-skip-row setting position (op.Take r shelf) (Some held) is skips = subst (λ h. TakeRow setting position shelf h outcome.Skipped []) (sym is) refl
-skip-row setting position (op.Free r) None is skips = subst (λ h. FreeRow setting h outcome.Skipped []) (sym is) refl
-skip-row setting position (op.Fill r v) None is skips = subst (λ h. FillRow setting v h outcome.Skipped []) (sym is) refl
-skip-row setting position (op.Check r) None is skips = subst (λ h. CheckRow setting position h outcome.Skipped []) (sym is) refl
-skip-row setting position (op.Put r shelf) None is skips = subst (λ h. PutRow setting position shelf h outcome.Skipped []) (sym is) refl
-skip-row setting position (op.Resize r need) None is skips = subst (λ h. ResizeRow setting position need h outcome.Skipped []) (sym is) refl
-skip-row setting position operation None is skips = absurd skips
-skip-row setting position operation (Some held) is skips = absurd skips
+    (setting : Setting) (position : Position) (operation : Op) (slot : Option HeldBlock) → Skips slot operation
+    → RowAt setting position operation slot outcome.Skipped []
+skip-row setting position (op.Alloc r need v) (Some held) skips = refl
+skip-row setting position (op.Take r shelf) (Some held) skips = refl
+skip-row setting position (op.Alloc r need v) None skips = absurd skips
+skip-row setting position (op.Take r shelf) None skips = absurd skips
+skip-row setting position operation None skips = refl
+skip-row setting position operation (Some held) skips = absurd skips
 
 -- a live block has all its words
 contents-long :
@@ -109,7 +120,7 @@ pub record IsBetween (g : Geometry) (c : Caller) (base : Position) : Type 0 wher
   pub done : own c.errand.caller c.seen ≡ base.done
   pub answered : base.answered ≡ answered_in c.errand.caller base.done
   pub spent : base.spent ≡ true → c.errand.turns ≡ g.turn_limit
-  pub holds : HoldsAll (IsCall g) Owns (caller-laws g) c base.registers
+  pub holds : HoldsAll Owns c base.registers
 
 -- what the outcome of an operation is held against, by the caller behind it
 abbrev pub setting_at : Geometry → Caller → Caller → Setting
@@ -147,9 +158,12 @@ module _ (g : Geometry) (c d : Caller) (base : Position) (st : IsBetween g c bas
   moment-last added =
       record { before = d.seen; begins = ([], sym (append-nil d.seen)); own_done = own-later [] added ∙ append-nil base.done }
 
-  abbrev gone : (operation : Op) (result : Outcome) (piece : List Event) → HasAdded g c d piece → FitsRow setting base operation result piece
-      → (result ≡ outcome.Spent → d.errand.turns ≡ g.turn_limit) → HasGone g c d base operation result
-  gone operation result piece added row spent = record { piece = piece; added = added; row = row; spent = spent }
+  gone :
+      (operation : Op) (result : Outcome) (slot : Option HeldBlock) (piece : List Event) → held_in base.registers (register_of operation) ≡ slot
+      → HasAdded g c d piece → RowAt setting base operation slot result piece → (result ≡ outcome.Spent → d.errand.turns ≡ g.turn_limit)
+      → HasGone g c d base operation result
+  gone operation result slot piece is added row spent =
+      record { piece = piece; added = added; row = row-by setting base operation slot result piece is row; spent = spent }
 
   none-added : d ≡ c → HasAdded g c d []
   none-added same = subst (λ x. HasAdded g c x []) (sym same) (added-none g c st.rests)
@@ -216,10 +230,10 @@ module _ (g : Geometry) (c d : Caller) (base : Position) (st : IsBetween g c bas
   spending-by need owned rests (by_steps ends) =
       let call = alloc need in
       let h = ends-called g c d call reply.Spent st.rests owned ends in
-      let told = ends-spent_call h.last.errand d.errand h.last.seen d.seen h.way.added need h.moment h.way.under_way in
+      let told = ends-spent_call h.last.errand d.errand h.last.seen d.seen h.moment in
       let added = called-added g c d call reply.Spent rests h in
       let limit : d.errand.turns ≡ g.turn_limit =
-      told.limit ∙ ap (λ (x : Geometry). x.turn_limit) (h.way.moved.same_geometry ∙ heap) in
+      told ∙ ap (λ (x : Geometry). x.turn_limit) (h.way.moved.same_geometry ∙ heap) in
       let events = ended-as caller call reply.Spent h.added (alloc_spent need) h.ended refl in (
         h.added,
         added,
@@ -277,36 +291,32 @@ module _ (g : Geometry) (c d : Caller) (base : Position) (st : IsBetween g c bas
       (operation : Op) (result : Outcome) (slot : Option HeldBlock) (made : List Made) → held_in base.registers (register_of operation) ≡ slot
       → MadeFor slot operation result made → Leads made → HasGone g c d base operation result
   op-gone operation outcome.Skipped slot made is (skip, none) leads =
-      gone operation outcome.Skipped [] (none-added (subst Leads none leads)) (skip-row setting base operation slot is skip) (λ is. absurd (cc))
-  op-gone (op.Alloc r need v) (outcome.Given words place) None made empty (words_are, calls) leads =
+      gone operation outcome.Skipped slot [] is (none-added (subst Leads none leads)) (skip-row setting base operation slot skip) (λ is. absurd (cc))
+  op-gone (op.Alloc r need v) (outcome.Given words place) None made is (words_are, calls) leads =
       let (t, one, more) = subst Leads calls leads in
       let x = gives need place t one in
       let fills = filling caller place words v in
       let wrote_so : HasAdded g t d fills =
       subst (λ k. HasAdded g t d (filling k place words v)) x.added.moved.same_caller
       (writes-added g place (need_of need) (λ (i : ℕ). (v + i) % 2 ^ 64) words 0 t d x.added.rests more) in
-      gone (op.Alloc r need v) (outcome.Given words place) (x.calls ++ fills) (added-then g c t d x.calls fills x.added wrote_so)
-      (subst (λ slot. AllocRow setting base need v slot (outcome.Given words place) (x.calls ++ fills)) (sym empty)
-      (x.asks, words_are, x.calls, x.events, refl)) (λ is. absurd (cc))
-  op-gone (op.Alloc r need v) outcome.Refused None made empty calls leads =
+      gone (op.Alloc r need v) (outcome.Given words place) None (x.calls ++ fills) is (added-then g c t d x.calls fills x.added wrote_so)
+      (x.asks, words_are, x.calls, x.events, refl) (λ is. absurd (cc))
+  op-gone (op.Alloc r need v) outcome.Refused None made is calls leads =
       let (piece, added, may, events) = refusal need made calls leads in
-      gone (op.Alloc r need v) outcome.Refused piece added (subst (λ slot. AllocRow setting base need v slot outcome.Refused piece) (sym empty) (may, events))
-      (λ is. absurd (cc))
-  op-gone (op.Alloc r need v) outcome.Spent None made empty calls leads =
+      gone (op.Alloc r need v) outcome.Refused None piece is added (may, events) (λ is. absurd (cc))
+  op-gone (op.Alloc r need v) outcome.Spent None made is calls leads =
       let (piece, added, row, limit) = spending need made calls leads in
-      gone (op.Alloc r need v) outcome.Spent piece added (subst (λ slot. AllocRow setting base need v slot outcome.Spent piece) (sym empty) row) (λ is. limit)
-  op-gone (op.Free r) outcome.Freed (Some held) made full (words, calls) leads =
+      gone (op.Alloc r need v) outcome.Spent None piece is added row (λ is. limit)
+  op-gone (op.Free r) outcome.Freed (Some held) made is (words, calls) leads =
       let piece : List Event = Free caller held.place ∷ [] in
-      gone (op.Free r) outcome.Freed piece
+      gone (op.Free r) outcome.Freed (Some held) piece is
       (one-added made (free held.place held.need) reply.Freed (event_end.freed held.place) piece calls leads (λ words is spent. cc) refl (λ more is. is))
-      (subst (λ slot. FreeRow setting slot outcome.Freed piece) (sym full) refl) (λ is. absurd (cc))
-  op-gone (op.Fill r v) outcome.Filled (Some held) made full (words, calls) leads =
-      let piece = filling caller held.place held.words v in
-      gone (op.Fill r v) outcome.Filled piece
-      (writes-added g held.place held.need (λ (i : ℕ). (v + i) % 2 ^ 64) held.words 0 c d st.rests (subst Leads calls leads))
-      (subst (λ slot. FillRow setting v slot outcome.Filled piece) (sym full) refl) (λ is. absurd (cc))
-  op-gone (op.Check r) (outcome.Sum total) (Some held) made full (words_are, (words, all, total_is, calls)) leads =
-      let (block, live, mine, long) = owns-it r held full in
+      refl (λ is. absurd (cc))
+  op-gone (op.Fill r v) outcome.Filled (Some held) made is (words, calls) leads =
+      gone (op.Fill r v) outcome.Filled (Some held) (filling caller held.place held.words v) is
+      (writes-added g held.place held.need (λ (i : ℕ). (v + i) % 2 ^ 64) held.words 0 c d st.rests (subst Leads calls leads)) refl (λ is. absurd (cc))
+  op-gone (op.Check r) (outcome.Sum total) (Some held) made is (words_are, (words, all, total_is, calls)) leads =
+      let (block, live, mine, long) = owns-it r held is in
       let first : HasKept g c held.place block mine c [] = record { has = added-none g c st.rests; still = live } in
       let read = reads-kept g c held.place block mine held.need words 0 c d first (subst Leads calls leads) in
       let summed : CheckRow setting base (Some held) (outcome.Sum total) [] = (
@@ -321,20 +331,17 @@ module _ (g : Geometry) (c d : Caller) (base : Position) (st : IsBetween g c bas
           total_is = total_is;
         },
       ) in
-      gone (op.Check r) (outcome.Sum total) [] read.0.has (subst (λ slot. CheckRow setting base slot (outcome.Sum total) []) (sym full) summed)
-      (λ is. absurd (cc))
-  op-gone (op.Put r shelf) outcome.Put (Some held) made full (words, calls) leads =
+      gone (op.Check r) (outcome.Sum total) (Some held) [] is read.0.has summed (λ is. absurd (cc))
+  op-gone (op.Put r shelf) outcome.Put (Some held) made is (words, calls) leads =
       let piece : List Event = Put caller held.place shelf ∷ [] in
-      gone (op.Put r shelf) outcome.Put piece
+      gone (op.Put r shelf) outcome.Put (Some held) piece is
       (one-added made (put held.place held.need shelf) reply.Put (event_end.put_done held.place shelf) piece calls leads (λ words is spent. cc) refl
-      (λ more is. is))
-      (subst (λ slot. PutRow setting base shelf slot outcome.Put piece) (sym full) refl) (λ is. absurd (cc))
-  op-gone (op.Put r shelf) outcome.ShelfFull (Some held) made full (words, (found, calls)) leads =
+      (λ more is. is)) refl (λ is. absurd (cc))
+  op-gone (op.Put r shelf) outcome.ShelfFull (Some held) made is (words, (found, calls)) leads =
       let (added, lies) =
       full-added g c d held.place held.need shelf found (one-call made (put held.place held.need shelf) (reply.Full found) calls leads) in
-      gone (op.Put r shelf) outcome.ShelfFull [] added
-      (subst (λ slot. PutRow setting base shelf slot outcome.ShelfFull []) (sym full) (refl, moment-last added, lies)) (λ is. absurd (cc))
-  op-gone (op.Take r shelf) (outcome.Took words place need) None made empty (misses, are, words_are, calls) leads =
+      gone (op.Put r shelf) outcome.ShelfFull (Some held) [] is added (refl, moment-last added, lies) (λ is. absurd (cc))
+  op-gone (op.Take r shelf) (outcome.Took words place need) None made is (misses, are, words_are, calls) leads =
       let (t, first, last) = takes-added g shelf (reply.Got place need) misses c d are st.rests (subst Leads calls leads) in
       let got = got-added g t d shelf place need last in
       let off : HasTakenOff t d shelf place need = got.1 in
@@ -344,39 +351,36 @@ module _ (g : Geometry) (c d : Caller) (base : Position) (st : IsBetween g c bas
       let whole : d.seen ≡ off.before ++ piece = subst (λ k. d.seen ≡ off.before ++ Take k shelf place ∷ []) same off.last in
       let own_before : own caller off.before ≡ base.done =
       subst (λ k. own k off.before ≡ own k t.seen) same off.own_before ∙ first.moved.own_events ∙ append-nil (own caller c.seen) ∙ st.done in
-      let begins : Begins (off.before ++ piece) setting.history = ([], whole ∙ sym (append-nil (off.before ++ piece))) in
-      let row = subst (λ slot. TakeRow setting base shelf slot (outcome.Took words place need) piece) (sym empty) (
+      gone (op.Take r shelf) (outcome.Took words place need) None piece is (added-then g c t d [] piece first one) (
         refl,
         record { before = off.before; begins = (piece, whole); own_done = own_before },
         off.block,
-        begins,
+        ([], whole ∙ sym (append-nil (off.before ++ piece))),
         off.lay,
         words_are ∙ ap usable_words off.need_is,
         off.need_is,
-      ) in
-      gone (op.Take r shelf) (outcome.Took words place need) piece (added-then g c t d [] piece first one) row (λ is. absurd (cc))
-  op-gone (op.Take r shelf) outcome.ShelfEmpty None made empty (misses, are, calls) leads =
+      ) (λ is. absurd (cc))
+  op-gone (op.Take r shelf) outcome.ShelfEmpty None made is (misses, are, calls) leads =
       let (t, first, last) = takes-added g shelf reply.Empty misses c d are st.rests (subst Leads calls leads) in
       let piece : List Event = TakeNone caller shelf ∷ [] in
       let one : HasAdded g t d piece =
       whole-added g t d (take shelf) reply.Empty (event_end.take_empty shelf) piece last (λ words is spent. cc) refl
       (λ more is. is ∙ ap (λ k. TakeNone k shelf ∷ []) first.moved.same_caller) in
-      gone (op.Take r shelf) outcome.ShelfEmpty piece (added-then g c t d [] piece first one)
-      (subst (λ slot. TakeRow setting base shelf slot outcome.ShelfEmpty piece) (sym empty) refl) (λ is. absurd (cc))
-  op-gone (op.Resize r need) (outcome.Kept words place) (Some held) made full (serves, words_are, place_is, calls) leads =
-      gone (op.Resize r need) (outcome.Kept words place) [] (none-added (subst Leads calls leads))
-      (subst (λ slot. ResizeRow setting base need slot (outcome.Kept words place) []) (sym full) (refl, serves, words_are, place_is)) (λ is. absurd (cc))
-  op-gone (op.Resize r need) (outcome.Resized words place) (Some held) made full (differ, words_are, has, found, all, calls) leads =
+      gone (op.Take r shelf) outcome.ShelfEmpty None piece is (added-then g c t d [] piece first one) refl (λ is. absurd (cc))
+  op-gone (op.Resize r need) (outcome.Kept words place) (Some held) made is (serves, words_are, place_is, calls) leads =
+      gone (op.Resize r need) (outcome.Kept words place) (Some held) [] is (none-added (subst Leads calls leads)) (refl, serves, words_are, place_is)
+      (λ is. absurd (cc))
+  op-gone (op.Resize r need) (outcome.Resized words place) (Some held) made is (differ, words_are, has, found, all, calls) leads =
       let (t, one, more) = subst Leads calls leads in
       let n = need_of need in
       let x = gives need place t one in
       let release = free held.place held.need in
       let apart : held.place ≢ place =
-      caller-apart g c t (alloc need) (reply.Given place n) place held.place n held.need one (refl, refl) (st.holds.owned r held full) in
+      (caller-laws g).apart c t (alloc need) (reply.Given place n) place held.place n held.need one (refl, refl) (st.holds.owned r held is) in
       let parts = leads-split (IsCall g) t d (copied held.place held.need place n found words) (answered release reply.Freed ∷ []) more in
       let u = parts.0 in
       let writes = writing caller place words (value_of found) in
-      let (copied_so, copy) = copies r words place held n found t u x.calls full has all apart x.added
+      let (copied_so, copy) = copies r words place held n found t u x.calls is has all apart x.added
       (quiet-giving held.place caller need place n x.calls x.events) parts.1 in
       let freed_one : IsCall g u release reply.Freed d = subst (λ y. IsCall g u release reply.Freed y) (sym parts.2.2) parts.2.1 in
       let frees : HasAdded g u d (Free caller held.place ∷ []) =
@@ -384,16 +388,14 @@ module _ (g : Geometry) (c d : Caller) (base : Position) (st : IsBetween g c bas
       (λ more is. is ∙ ap (λ k. Free k held.place ∷ []) copied_so.moved.same_caller) in
       let piece = x.calls ++ writes ++ Free caller held.place ∷ [] in
       let added : HasAdded g c d piece = added-then g c u d (x.calls ++ writes) (Free caller held.place ∷ []) copied_so frees in
-      gone (op.Resize r need) (outcome.Resized words place) piece added
-      (subst (λ slot. ResizeRow setting base need slot (outcome.Resized words place) piece) (sym full)
-      (differ, x.asks, words_are, x.calls, x.events, value_of found, copy piece added, refl)) (λ is. absurd (cc))
-  op-gone (op.Resize r need) outcome.Refused (Some held) made full (differ, calls) leads =
+      gone (op.Resize r need) (outcome.Resized words place) (Some held) piece is added
+      (differ, x.asks, words_are, x.calls, x.events, value_of found, copy piece added, refl) (λ is. absurd (cc))
+  op-gone (op.Resize r need) outcome.Refused (Some held) made is (differ, calls) leads =
       let (piece, added, may, events) = refusal need made calls leads in
-      gone (op.Resize r need) outcome.Refused piece added
-      (subst (λ slot. ResizeRow setting base need slot outcome.Refused piece) (sym full) (differ, may, events)) (λ is. absurd (cc))
-  op-gone (op.Resize r need) outcome.Spent (Some held) made full (differ, calls) leads =
+      gone (op.Resize r need) outcome.Refused (Some held) piece is added (differ, may, events) (λ is. absurd (cc))
+  op-gone (op.Resize r need) outcome.Spent (Some held) made is (differ, calls) leads =
       let (piece, added, row, limit) = spending need made calls leads in
-      gone (op.Resize r need) outcome.Spent piece added (subst (λ slot. ResizeRow setting base need slot outcome.Spent piece) (sym full) (differ, row)) (λ is. limit)
+      gone (op.Resize r need) outcome.Spent (Some held) piece is added (differ, row) (λ is. limit)
   op-gone (op.Alloc r need v) result None made is calls leads = absurd calls
   op-gone (op.Alloc r need v) result (Some held) made is calls leads = absurd calls
   op-gone (op.Free r) result None made is calls leads = absurd calls

@@ -22,9 +22,10 @@ use Rattle.trace_lane.specs.Doing.{AllMadeFor}
 use Rattle.trace_lane.specs.Made.{AreMisses, MadeFor, calls_made, register_of}
 use Rattle.trace_lane.specs.Scripts.{CallsOf, IsOfNeed, OnHeld, Replaces, Scripts, copying, copying_word, reads_of, writes_of}
 use Rattle.trace_lane.proofs.AnswerLemmas.{owned-need}
-use Rattle.trace_lane.proofs.CallerLemmas.{Owns}
-use Rattle.trace_lane.proofs.HoldsLemmas.{HoldsAll, KeepsAll, leads-split, op-holds}
-use Rattle.trace_lane.proofs.WorkLemmas.{caller-laws}
+use Rattle.trace_lane.proofs.CallerLemmas.{Owns, caller-laws}
+use Rattle.lane_engine.specs.Whole.{KeepBlocks}
+use Rattle.lane_engine.proofs.LeadsLemmas.{leads-of, leads-split}
+use Rattle.trace_lane.proofs.HoldsLemmas.{HoldsAll, op-holds}
 
 -- writes, reads and takes without their answers
 wrote-calls :
@@ -138,14 +139,10 @@ module _ (registers : List (Option HeldBlock)) (serves : (r : ℕ) (held : HeldB
   op-script operation result (Some held) made is calls = absurd calls
 
 -- the calls of operations are those of their script, where who makes them owns blocks of needs that there are
-module _ {S : Type 0} (called : S → Call → Reply → S → Type 0) (owns : S → ℕ → Need → Type 0) (laws : KeepsAll called owns) (stands : S → Type 0) (next : (s t : S) (call : Call) (answer : Reply) → called s call answer t → stands t) (real : (s : S) (place : ℕ) (need : Need) → stands s → owns s place need → IsNeed need) where
-  leads-stand : (made : List Made) (s t : S) → stands s → LeadsBy called s made t → stands t
-  leads-stand [] s t is same = subst stands (sym same) is
-  leads-stand (m ∷ made) s t is (u, one, leads) = leads-stand made u t (next s u m.call m.answer one) leads
-
+module _ {S : Type 0} {called : S → Call → Reply → S → Type 0} {owns : S → ℕ → Need → Type 0} (laws : KeepBlocks called owns) (stands : S → Type 0) (next : (s t : S) (call : Call) (answer : Reply) → called s call answer t → stands t) (real : (s : S) (place : ℕ) (need : Need) → stands s → owns s place need → IsNeed need) where
   pub all-script :
       (operations : List Op) (results : List Outcome) (registers : List (Option HeldBlock)) (made : List Made) (s t : S) → stands s
-      → HoldsAll called owns laws s registers → AllMadeFor registers operations results made → LeadsBy called s made t
+      → HoldsAll owns s registers → AllMadeFor registers operations results made → LeadsBy called s made t
       → Scripts registers operations results (calls_made made)
   all-script operations [] registers made s t is holds all leads = ap calls_made all
   all-script [] (result ∷ results) registers made s t is holds all leads = absurd all
@@ -153,19 +150,19 @@ module _ {S : Type 0} (called : S → Call → Reply → S → Type 0) (owns : S
       let slot = held_in registers (register_of operation) in
       let parts = leads-split called s t first rest (subst (λ ms. LeadsBy called s ms t) cut leads) in
       let u = parts.0 in
-      let held = op-holds called owns laws s u registers operation result slot first holds refl for parts.1 in (
+      let held = op-holds laws s u registers operation result slot first holds refl for parts.1 in (
         calls_made first,
         calls_made rest,
         ap calls_made cut ∙ map-append (λ (m : Made). m.call) first rest,
         op-script registers (λ r held full words. (real s held.place held.need is (holds.owned r held full), words, refl)) operation result slot first refl for,
-        all-script operations results (registers_after registers operation result) rest u t (leads-stand first s u is parts.1) held all parts.2,
+        all-script operations results (registers_after registers operation result) rest u t (leads-of called called (λ x. x) stands (λ x y call answer was one. (one, next x y call answer one)) first s u is parts.1).1 held all parts.2,
       )
 
 -- so it is of a caller
 pub caller-script :
     (g : Geometry) (operations : List Op) (results : List Outcome) (registers : List (Option HeldBlock)) (made : List Made) (c d : Caller) → IsAtRest g c
-    → HoldsAll (IsCall g) Owns (caller-laws g) c registers → AllMadeFor registers operations results made → LeadsBy (IsCall g) c made d
+    → HoldsAll Owns c registers → AllMadeFor registers operations results made → LeadsBy (IsCall g) c made d
     → Scripts registers operations results (calls_made made)
 caller-script g =
-    all-script (IsCall g) Owns (caller-laws g) (IsAtRest g) (λ c d call answer one. one.rests)
+    all-script (caller-laws g) (IsAtRest g) (λ c d call answer one. one.rests)
     (λ c place need rests owned. owned-need g c.seen c.errand.caller place need rests.served.legal owned)

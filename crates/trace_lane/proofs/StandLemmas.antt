@@ -1,5 +1,6 @@
 -- A lane stands behind each part of an advance: where its operation begins, where its call goes on, and where that has ended.
 use Rattle.std.proofs.Common.{ℕ, true, false, suc, ◌≡◌, ◌<◌, ◌≤◌, ◌+◌, ◌∷◌, ◌++◌, List, [], Option, Some, None, length, refl, sym, ap, ◌∙◌, subst, inl, inr, arith, append_assoc, append-nil, vec_capacity}
+use Rattle.std.specs.Prelude.{◌⊎◌, ◌≢◌}
 use Rattle.std.specs.Option.{option_map}
 use Rattle.std.proofs.lemmas.List.{length-append, map-append}
 use Rattle.heap_geometry.specs.declared.geometry.Geometry.{Geometry}
@@ -54,17 +55,20 @@ use Rattle.trace_lane.specs.Made.{AreMisses, calls_in, calls_made}
 use Rattle.trace_lane.specs.Paths.{begun_count}
 use Rattle.trace_lane.specs.Scripts.{begun_bound, registers_from, script_left, stage_begun}
 use Rattle.trace_lane.specs.States.{IsLaneOf, registers_at}
+use Rattle.trace_lane.proofs.AdvanceLemmas.{Falls}
 use Rattle.trace_lane.proofs.AnswerLemmas.{MayCall, alloc-not_begun, call-begun, goes-on as call-goes_on, settled-of}
 use Rattle.step_machine.proofs.ApartLemmas.{owns-on}
-use Rattle.trace_lane.proofs.CallerLemmas.{IsWay, Owns, answers-so, ends-called, in-begun, in-way, moment-from}
+use Rattle.trace_lane.proofs.CallerLemmas.{IsWay, Owns, answers-so, caller-laws, ends-called, in-begun, in-way, moment-from}
 use Rattle.trace_lane.proofs.DoingLemmas.{on-block}
 use Rattle.trace_lane.proofs.EndedLemmas.{IsResting, lane-resting}
-use Rattle.trace_lane.proofs.HoldsLemmas.{HoldsAll, all-hold, leads-split}
+use Rattle.lane_engine.proofs.LeadsLemmas.{leads-split}
+use Rattle.trace_lane.proofs.HoldsLemmas.{HoldsAll, all-hold}
+use Rattle.trace_lane.proofs.MadeLemmas.{all-made}
 use Rattle.trace_lane.proofs.PartLemmas.{blocks-size}
 use Rattle.trace_lane.proofs.MakingLemmas.{HasNeed, IsAtWork, comes-making, doing-begun, doing-few, doing-fits, empty, making-work}
 use Rattle.trace_lane.proofs.NeedLemmas.{left-ends, left-rises, need-words}
 use Rattle.trace_lane.proofs.OwnLemmas.{empty-holds}
-use Rattle.trace_lane.proofs.WorkLemmas.{all-made, caller-laws, doing-owns, owned-has}
+use Rattle.trace_lane.proofs.WorkLemmas.{doing-owns, owned-has}
 
 -- what a caller owns it owns still, whatever others did
 pub owns-beside :
@@ -179,49 +183,76 @@ module _ {B : Type 0} (engine : Engine B) where
     room = subst (λ n. length operations ≤ n) (sym keeps.room) room;
   }
 
-  -- one operation more has begun
-  count-so :
-      (operation : Op) (before : List (Option HeldBlock)) (results : List Outcome) (made : List Made) (next : Option NextCall) (new : LaneState B)
-      → ComesTo engine.place_of engine.need_of operation before results made next new → begun_count new.outcomes.items new.stage ≡ length results + 1
-  count-so operation before results made (Some call) new (same, doing, is) =
-      let some = doing-begun before (blocks new) operation new.stage made doing in
-      ap (λ os. begun_count os new.stage) same ∙ omega (arith, some)
-  count-so operation before results made None new (result, outcomes, between, for, registers) =
-      let longer = length-append results (result ∷ []) in
-      ap (λ os. begun_count os new.stage) outcomes ∙ ap (λ at. begun_count (results ++ result ∷ []) at) between ∙ omega (arith, longer)
+  -- what the operation at hand comes to, from the registers behind those before it
+  abbrev Comes : List Op → Op → LaneState B → List Made → Option NextCall → LaneState B → Type 0
+  Comes operations operation old made next new =
+      ComesTo engine.place_of engine.need_of operation (registers_from empty operations old.outcomes.items) old.outcomes.items made next new
 
-  -- less is left of the script
-  falls-so :
-      (operations : List Op) (operation : Op) (before : List (Option HeldBlock)) (results : List Outcome) (made : List Made) (next : Option NextCall) (new : LaneState B)
-      (at : OperationStage) → IsAtHand operations results operation → stage_begun at < begun_bound
-      → ComesTo engine.place_of engine.need_of operation before results made next new
-      → ((call : NextCall) → next ≡ Some call → stage_begun at < stage_begun new.stage)
-      → script_left operations new.outcomes.items new.stage < script_left operations results at
-  falls-so operations operation before results made (Some call) new at (rest, here) few (same, doing, is) rises =
-      subst (λ os. script_left operations os new.stage < script_left operations results at) (sym same)
-      (left-rises operations rest results operation at new.stage here (rises call refl) few)
-  falls-so operations operation before results made None new at (rest, here) few (result, outcomes, between, for, registers) rises =
-      subst (λ os. script_left operations os new.stage < script_left operations results at) (sym outcomes)
-      (subst (λ to. script_left operations (results ++ result ∷ []) to < script_left operations results at) (sym between)
-      (left-ends operations rest results operation result at here few))
+  module _ (operations : List Op) (operation : Op) (old new : LaneState B) (present : List Made) (again : Type 0)
+      (here : IsAtHand operations old.outcomes.items operation) where
+    -- one operation more has begun
+    count-so : (next : Option NextCall) → Comes operations operation old present next new → begun_count new.outcomes.items new.stage ≡ length old.outcomes.items + 1
+    count-so (Some call) (same, doing, is) =
+        let some = doing-begun (registers_from empty operations old.outcomes.items) (blocks new) operation new.stage present doing in
+        ap (λ os. begun_count os new.stage) same ∙ omega (arith, some)
+    count-so None (result, outcomes, between, for, registers) =
+        let longer = length-append old.outcomes.items (result ∷ []) in
+        ap (λ os. begun_count os new.stage) outcomes ∙ ap (λ at. begun_count (old.outcomes.items ++ result ∷ []) at) between ∙ omega (arith, longer)
+
+    -- less is left of the script, but where the operation stays where it is
+    falls-so :
+        (next : Option NextCall) → Comes operations operation old present next new → stage_begun old.stage < begun_bound
+        → (next ≢ None → (stage_begun old.stage < stage_begun new.stage) ⊎ ((new.stage ≡ old.stage) × again))
+        → Falls operations old new ⊎ ((new.outcomes.items ≡ old.outcomes.items) × (new.stage ≡ old.stage) × again)
+    falls-so (Some call) (same, doing, is) few goes =
+        elim (goes (λ none. cc)) [
+          | inl rises ↦ inl
+              (subst (λ os. script_left operations os new.stage < script_left operations old.outcomes.items old.stage) (sym same)
+              (left-rises operations here.0 old.outcomes.items operation old.stage new.stage here.1 rises few))
+          | inr stays ↦ inr (same, stays.0, stays.1)
+        ]
+    falls-so None (result, outcomes, between, for, registers) few goes =
+        inl
+        (subst (λ os. script_left operations os new.stage < script_left operations old.outcomes.items old.stage) (sym outcomes)
+        (subst (λ to. script_left operations (old.outcomes.items ++ result ∷ []) to < script_left operations old.outcomes.items old.stage) (sym between)
+        (left-ends operations here.0 old.outcomes.items operation result old.stage here.1 few)))
+
+  -- a lane whose operation comes to its next call or to its outcome goes on, where its caller has made these calls and is in the next one
+  comes-on :
+      (operations : List Op) (operation : Op) (old new : LaneState B) (past present : List Made) (next : Option NextCall) (calls : List Call)
+      (f : ErrandFields) (sight : List Event) (begun : Option Call) (again : Option Call → Type 0) → IsAtHand operations old.outcomes.items operation
+      → AllMadeFor empty operations old.outcomes.items past → Comes operations operation old present next new
+      → length operations ≤ vec_capacity old.outcomes → length old.registers.items ≡ REGISTERS → KeepsLane engine.place_of engine.need_of old new
+      → StandsBy g old.caller (past ++ present) (option_map call_of next) (record { errand = f; seen = sight })
+      → HasSeenMore old.caller sight engine.events → calls ++ calls_in begun ≡ calls_made (past ++ present) ++ calls_in (option_map call_of next)
+      → stage_begun old.stage < begun_bound
+      → (next ≢ None → (stage_begun old.stage < stage_begun new.stage) ⊎ ((new.stage ≡ old.stage) × again begun))
+      → HasGoneOn (record engine { errand = f }) begun again operations calls old new
+  comes-on operations operation old new past present next calls f sight begun again here ended comes room size keeps stands more are few goes = record {
+    stands =
+        lane-stands operations old new (past ++ present) (option_map call_of next) (calls ++ calls_in begun) f sight room size keeps
+        (comes-making engine.place_of engine.need_of operations old.outcomes.items operation past present next new here ended comes) are stands more;
+    falls = falls-so operations operation old new present (again begun) here next comes few goes;
+    count = count-so operations operation old new present (again begun) here next comes;
+  }
 
   -- the registers hold blocks of the caller's between two operations
   holds-between :
       (operations : List Op) (results : List Outcome) (caller : ℕ) (made : List Made) (c : Caller)
       → LeadsBy (IsCall g) (new_caller caller g) made c → AllMadeFor empty operations results made
-      → HoldsAll (IsCall g) Owns (caller-laws g) c (registers_from empty operations results)
+      → HoldsAll Owns c (registers_from empty operations results)
   holds-between operations results caller made c leads all =
-      all-hold (IsCall g) Owns (caller-laws g) (new_caller caller g) c empty operations results (empty-holds (Owns (new_caller caller g)))
+      all-hold (caller-laws g) (new_caller caller g) c empty operations results (empty-holds (Owns (new_caller caller g)))
       (all-made (IsCall g) empty operations results made (new_caller caller g) c all leads)
 
   module _ {operation : Op} {operations : List Op} {calls : List Call} {lane : LaneState B} (b : IsBefore engine operation operations calls lane) where
     pub resting : IsResting g lane.caller engine.events engine.errand operations (blocks lane) lane.outcomes.items calls
-    resting = lane-resting g lane.caller engine.events engine.errand operations (blocks lane) lane.outcomes.items lane.stage calls b.between b.stands.stands
+    resting = lane-resting b.stands.stands b.between
 
     abbrev pub now : Caller
     now = record { errand = engine.errand; seen = resting.sight }
 
-    holds-now : HoldsAll (IsCall g) Owns (caller-laws g) now (registers_from empty operations lane.outcomes.items)
+    holds-now : HoldsAll Owns now (registers_from empty operations lane.outcomes.items)
     holds-now = holds-between operations lane.outcomes.items lane.caller resting.made now resting.leads resting.all
 
     number : engine.errand.caller ≡ lane.caller
@@ -230,40 +261,23 @@ module _ {B : Type 0} (engine : Engine B) where
     -- what the operation comes to, from the registers behind those before it
     comes-so :
         (next : Option NextCall) (new : LaneState B) → HasBegun engine.place_of engine.need_of operation lane next new
-        → ComesTo engine.place_of engine.need_of operation (registers_from empty operations lane.outcomes.items) lane.outcomes.items [] next new
+        → Comes operations operation lane [] next new
     comes-so next new h =
         subst (λ rs. ComesTo engine.place_of engine.need_of operation rs lane.outcomes.items [] next new) resting.registers_are h.comes
 
-    making-so :
-        (next : Option NextCall) (new : LaneState B) → HasBegun engine.place_of engine.need_of operation lane next new
-        → IsMaking operations (blocks new) new.outcomes.items new.stage resting.made (option_map call_of next)
-    making-so next new h =
-        subst (λ ms. IsMaking operations (blocks new) new.outcomes.items new.stage ms (option_map call_of next)) (append-nil resting.made)
-        (comes-making engine.place_of engine.need_of operations lane.outcomes.items operation resting.made [] next new b.next resting.all (comes-so next new h))
-
-    falls-begun :
-        (next : Option NextCall) (new : LaneState B) → HasBegun engine.place_of engine.need_of operation lane next new
-        → script_left operations new.outcomes.items new.stage < script_left operations lane.outcomes.items lane.stage
-    falls-begun next new h =
-        subst (λ at. script_left operations new.outcomes.items new.stage < script_left operations lane.outcomes.items at) (sym b.between)
-        (falls-so operations operation (registers_from empty operations lane.outcomes.items) lane.outcomes.items [] next new stage.Between b.next (omega arith)
-        (comes-so next new h)
-        (λ call is.
-        let comes = subst (λ n. ComesTo engine.place_of engine.need_of operation (registers_from empty operations lane.outcomes.items) lane.outcomes.items [] n new) is (comes-so next new h) in
-        let some = doing-begun (registers_from empty operations lane.outcomes.items) (blocks new) operation new.stage [] comes.1 in
-        omega (arith, some)))
+    -- a lane between two operations has begun nothing of the next one
+    few-begun : (n : ℕ) → 0 < n → stage_begun lane.stage < n
+    few-begun n some = subst (λ at. stage_begun at < n) (sym b.between) some
 
     -- the operation has its outcome at once
     pub begins-none :
         (again : Option Call → Type 0) (new : LaneState B) → HasBegun engine.place_of engine.need_of operation lane None new
         → HasGoneOn engine None again operations calls lane new
-    begins-none again new h = record {
-      stands =
-          lane-stands operations lane new resting.made None (calls ++ []) engine.errand resting.sight b.stands.room b.stands.size h.keeps
-          (making-so None new h) (append-nil calls ∙ resting.calls_are ∙ sym (append-nil (calls_made resting.made))) (resting.leads, resting.rests) resting.others;
-      falls = inl (falls-begun None new h);
-      count = count-so operation (registers_from empty operations lane.outcomes.items) lane.outcomes.items [] None new (comes-so None new h);
-    }
+    begins-none again new h =
+        comes-on operations operation lane new resting.made [] None calls engine.errand resting.sight None again b.next resting.all (comes-so None new h) b.stands.room b.stands.size
+        h.keeps (subst (λ ms. StandsBy g lane.caller ms None now) (sym (append-nil resting.made)) (resting.leads, resting.rests)) resting.others
+        (ap (λ cs. cs ++ []) (resting.calls_are ∙ ap calls_made (sym (append-nil resting.made)))) (few-begun begun_bound (omega arith))
+        (λ some. absurd (some refl))
 
     -- its first call may begin
     pub record MayBeginNow (call : Call) : Type 0 where
@@ -299,17 +313,17 @@ module _ {B : Type 0} (engine : Engine B) where
         → HasGoneOn (record engine { errand = begun_by engine.errand (call_of call) }) (Some (call_of call)) again operations calls lane new
     begins-call again call new h may started =
         let made_call = call_of call in
+        let comes = comes-so (Some call) new h in
+        let some = doing-begun (registers_from empty operations lane.outcomes.items) (blocks new) operation new.stage [] comes.1 in
         let begun_so =
         call-begun g engine.errand.caller engine.errand resting.sight made_call resting.rests.served resting.rests.idle
         (may-begin engine.errand resting.sight made_call started may.sight_owned) in
-        record {
-          stands =
-              lane-stands operations lane new resting.made (Some made_call) (calls ++ made_call ∷ []) (begun_by engine.errand made_call) resting.sight
-              b.stands.room b.stands.size h.keeps (making-so (Some call) new h) (ap (λ cs. cs ++ made_call ∷ []) resting.calls_are)
-              (now, resting.leads, resting.rests, may.sight_owned, record { steps = 0; on = refl; busy = begun_so.busy }) resting.others;
-          falls = inl (falls-begun (Some call) new h);
-          count = count-so operation (registers_from empty operations lane.outcomes.items) lane.outcomes.items [] (Some call) new (comes-so (Some call) new h);
-        }
+        comes-on operations operation lane new resting.made [] (Some call) calls (begun_by engine.errand made_call) resting.sight (Some made_call) again b.next resting.all comes
+        b.stands.room b.stands.size h.keeps
+        (subst (λ ms. StandsBy g lane.caller ms (Some made_call) (record { errand = begun_by engine.errand made_call; seen = resting.sight }))
+        (sym (append-nil resting.made)) (now, resting.leads, resting.rests, may.sight_owned, record { steps = 0; on = refl; busy = begun_so.busy })) resting.others
+        (ap (λ cs. cs ++ made_call ∷ []) (resting.calls_are ∙ ap calls_made (sym (append-nil resting.made)))) (few-begun begun_bound (omega arith))
+        (λ none. inl (few-begun (stage_begun new.stage) some))
 
     -- its allocation found no turn left
     pub begins-spent :
@@ -326,15 +340,13 @@ module _ {B : Type 0} (engine : Engine B) where
         let none : next ≡ None = answers.over refl in
         let so : AnswersCall engine.place_of engine.need_of at_call ending.Spent =
         subst (λ c. AnswersCall engine.place_of engine.need_of c ending.Spent) (sym at_alloc) tt in
-        let comes : ComesTo engine.place_of engine.need_of operation before lane.outcomes.items (answered at_call reply.Spent ∷ []) None new =
+        let comes : Comes operations operation lane (answered at_call reply.Spent ∷ []) None new =
         subst (λ os. ComesTo engine.place_of engine.need_of operation before os (answered at_call reply.Spent ∷ []) None new) same
         (subst (λ n. ComesTo engine.place_of engine.need_of operation before mid.outcomes.items (answered at_call reply.Spent ∷ []) n new) none
         (answers.comes before [] doing so)) in
         let one : Made = answered (call_of call) reply.Spent in
-        let comes_call : ComesTo engine.place_of engine.need_of operation before lane.outcomes.items (one ∷ []) None new =
+        let comes_call : Comes operations operation lane (one ∷ []) None new =
         subst (λ c. ComesTo engine.place_of engine.need_of operation before lane.outcomes.items (answered c reply.Spent ∷ []) None new) (sym is) comes in
-        let making =
-        comes-making engine.place_of engine.need_of operations lane.outcomes.items operation resting.made (one ∷ []) None new b.next resting.all comes_call in
         let keeps : KeepsLane engine.place_of engine.need_of lane new = record {
           caller = answers.keeps.caller ∙ h.keeps.caller;
           size = answers.keeps.size ∙ h.keeps.size;
@@ -349,21 +361,12 @@ module _ {B : Type 0} (engine : Engine B) where
           rests = resting.rests;
         } in
         let leads = leads-more (IsCall g) (new_caller lane.caller g) now now resting.made (call_of call) reply.Spent resting.leads call_made in
-        record {
-          stands =
-              subst (λ f. IsLaneOf (record engine { errand = f }) operations new (calls ++ call_of call ∷ [])) (sym unchanged)
-              (lane-stands operations lane new (resting.made ++ one ∷ []) None (calls ++ call_of call ∷ []) engine.errand resting.sight b.stands.room
-              b.stands.size keeps making
-              (ap (λ cs. cs ++ call_of call ∷ []) resting.calls_are
-              ∙ sym (append-nil (calls_made (resting.made ++ one ∷ [])) ∙ map-append (λ (m : Made). m.call) resting.made (one ∷ [])))
-              (leads, resting.rests) resting.others);
-          falls =
-              inl
-              (subst (λ at. script_left operations new.outcomes.items new.stage < script_left operations lane.outcomes.items at) (sym b.between)
-              (falls-so operations operation before lane.outcomes.items (one ∷ []) None new stage.Between b.next (omega arith) comes_call
-              (λ c no. absurd (cc))));
-          count = count-so operation before lane.outcomes.items (one ∷ []) None new comes_call;
-        }
+        subst (λ f. HasGoneOn (record engine { errand = f }) (Some (call_of call)) again operations calls lane new) (sym unchanged)
+        (comes-on operations operation lane new resting.made (one ∷ []) None calls engine.errand resting.sight (Some (call_of call)) again b.next resting.all comes_call b.stands.room
+        b.stands.size keeps (leads, resting.rests) resting.others
+        (ap (λ cs. cs ++ call_of call ∷ []) resting.calls_are
+        ∙ sym (append-nil (calls_made (resting.made ++ one ∷ [])) ∙ map-append (λ (m : Made). m.call) resting.made (one ∷ [])))
+        (few-begun begun_bound (omega arith)) (λ some. absurd (some refl)))
 
     -- the answer of an allocation that found none may be told
     pub spent-may :
@@ -506,7 +509,7 @@ module _ {B : Type 0} (engine : Engine B) where
           leads-split (IsCall g) (new_caller lane.caller g) calling.last work.past work.present
           (subst (λ ms. LeadsBy (IsCall g) (new_caller lane.caller g) ms calling.last) work.all calling.leads)
 
-      holds-past : HoldsAll (IsCall g) Owns (caller-laws g) past-leads.0 (registers_from empty operations lane.outcomes.items)
+      holds-past : HoldsAll Owns past-leads.0 (registers_from empty operations lane.outcomes.items)
       holds-past = holds-between operations lane.outcomes.items lane.caller work.past past-leads.0 past-leads.1 work.ended
 
       has-here : IsOp operation → FitsCall here × HasNeed here
@@ -540,43 +543,37 @@ module _ {B : Type 0} (engine : Engine B) where
           ap (λ ms. ms ++ answered calling.call answer ∷ []) work.all ∙ append_assoc work.past work.present (answered calling.call answer ∷ [])
           ∙ ap (λ c. work.past ++ (work.present ++ answered c answer ∷ [])) call-is
 
-      module _ (is_op : IsOp operation) (next : Option NextCall) (new : LaneState B)
-          (answers : HasAnswered engine.place_of engine.need_of operation ended lane next new) where
-        comes : ComesTo engine.place_of engine.need_of operation (registers_from empty operations lane.outcomes.items) lane.outcomes.items present-after next new
-        comes = answers.comes (registers_from empty operations lane.outcomes.items) work.present work.doing (answers-here is_op)
+      stands-by :
+          (under : Option Call) (f : ErrandFields)
+          → StandsBy g lane.caller (told-stands.made ++ answered calling.call answer ∷ []) under (record { errand = f; seen = engine.events })
+          → StandsBy g lane.caller (work.past ++ present-after) under (record { errand = f; seen = engine.events })
+      stands-by under f = subst (λ ms. StandsBy g lane.caller ms under (record { errand = f; seen = engine.events })) made-after
 
-        making-after : IsMaking operations (blocks new) new.outcomes.items new.stage (told-stands.made ++ answered calling.call answer ∷ []) (option_map call_of next)
-        making-after =
-            subst (λ ms. IsMaking operations (blocks new) new.outcomes.items new.stage ms (option_map call_of next)) (sym made-after)
-            (comes-making engine.place_of engine.need_of operations lane.outcomes.items operation work.past present-after next new t.next work.ended comes)
+      comes :
+          (is_op : IsOp operation) (next : Option NextCall) (new : LaneState B)
+          → HasAnswered engine.place_of engine.need_of operation ended lane next new → Comes operations operation lane present-after next new
+      comes is_op next new answers =
+          answers.comes (registers_from empty operations lane.outcomes.items) work.present work.doing (answers-here is_op)
 
-        few : stage_begun lane.stage < begun_bound
-        few =
-            let has = has-here is_op in
-            doing-few (registers_from empty operations lane.outcomes.items) (blocks lane) operation lane.stage work.present work.doing has.0 has.1
+      few : IsOp operation → stage_begun lane.stage < begun_bound
+      few is_op =
+          let has = has-here is_op in
+          doing-few (registers_from empty operations lane.outcomes.items) (blocks lane) operation lane.stage work.present work.doing has.0 has.1
 
-        calls-after : (more : Option Call) → calls ++ calls_in more ≡ calls_made (told-stands.made ++ answered calling.call answer ∷ []) ++ calls_in more
-        calls-after more =
-            ap (λ cs. cs ++ calls_in more)
-            (told-stands.begun ∙ ap (λ u. calls_made told-stands.made ++ calls_in u) calling.under
-            ∙ sym (map-append (λ (m : Made). m.call) told-stands.made (answered calling.call answer ∷ [])))
+      calls-after : (more : Option Call) → calls ++ calls_in more ≡ calls_made (work.past ++ present-after) ++ calls_in more
+      calls-after more =
+          ap (λ cs. cs ++ calls_in more)
+          (told-stands.begun ∙ ap (λ u. calls_made told-stands.made ++ calls_in u) calling.under
+          ∙ sym (map-append (λ (m : Made). m.call) told-stands.made (answered calling.call answer ∷ [])) ∙ ap calls_made made-after)
 
       -- the operation has its outcome
       pub told-ends :
           (again : Option Call → Type 0) (new : LaneState B) → IsOp operation → HasAnswered engine.place_of engine.need_of operation ended lane None new
           → HasGoneOn engine None again operations calls lane new
-      told-ends again new is_op answers = record {
-        stands =
-            lane-stands operations lane new (told-stands.made ++ answered calling.call answer ∷ []) None (calls ++ []) engine.errand engine.events t.stood.room
-            t.stood.size answers.keeps (making-after is_op None new answers) (calls-after is_op None new answers None) (leads-after, rests-after)
-            (same-seen lane.caller engine.events engine.events refl);
-        falls =
-            inl
-            (falls-so operations operation (registers_from empty operations lane.outcomes.items) lane.outcomes.items present-after None new lane.stage t.next
-            (few is_op None new answers) (comes is_op None new answers) (λ c no. absurd (cc)));
-        count =
-            count-so operation (registers_from empty operations lane.outcomes.items) lane.outcomes.items present-after None new (comes is_op None new answers);
-      }
+      told-ends again new is_op answers =
+          comes-on operations operation lane new work.past present-after None calls engine.errand engine.events None again t.next work.ended (comes is_op None new answers)
+          t.stood.room t.stood.size answers.keeps (stands-by None engine.errand (leads-after, rests-after))
+          (same-seen lane.caller engine.events engine.events refl) (calls-after None) (few is_op) (λ some. absurd (some refl))
 
       -- its next call may begin
       pub told-next :
@@ -647,26 +644,14 @@ module _ {B : Type 0} (engine : Engine B) where
           let own_call = subst (λ k. OwnsFor engine.events k (call_of call)) (sym t.still_served.own_errand.number) owned in
           let begins =
           call-begun g lane.caller engine.errand engine.events (call_of call) t.still_served idle (may-begin engine.errand engine.events (call_of call) started own_call) in
-          record {
-            stands =
-                lane-stands operations lane new (told-stands.made ++ answered calling.call answer ∷ []) (Some (call_of call)) (calls ++ call_of call ∷ [])
-                (begun_by engine.errand (call_of call)) engine.events t.stood.room t.stood.size answers.keeps (making-after is_op (Some call) new answers)
-                (calls-after is_op (Some call) new answers (Some (call_of call)))
-                (after-step, leads-after, rests-after, own_call, record { steps = 0; on = refl; busy = begins.busy })
-                (same-seen lane.caller engine.events engine.events refl);
-            falls = elim answers.rises [
-              | inl rises ↦ inl
-                  (falls-so operations operation (registers_from empty operations lane.outcomes.items) lane.outcomes.items present-after (Some call) new
-                  lane.stage t.next (few is_op (Some call) new answers) (comes is_op (Some call) new answers) (λ c is. rises))
-              | inr again ↦ inr (
-                (comes is_op (Some call) new answers).0,
-                again.3 ∙ sym again.2,
-                inr
-                    (let missed = again-missed call new is_op answers again.0 again.1 again.2 again.3 in
-                    (again.0, ap Some again.1, missed.0, missed.1)),
-              )
-            ];
-            count =
-                count-so operation (registers_from empty operations lane.outcomes.items) lane.outcomes.items present-after (Some call) new
-                (comes is_op (Some call) new answers);
-          }
+          comes-on operations operation lane new work.past present-after (Some call) calls (begun_by engine.errand (call_of call)) engine.events (Some (call_of call))
+          (IsAgain lane.caller seen e engine.events) t.next work.ended (comes is_op (Some call) new answers) t.stood.room t.stood.size answers.keeps
+          (stands-by (Some (call_of call)) (begun_by engine.errand (call_of call))
+          (after-step, leads-after, rests-after, own_call, record { steps = 0; on = refl; busy = begins.busy }))
+          (same-seen lane.caller engine.events engine.events refl) (calls-after (Some (call_of call))) (few is_op)
+          (λ some. elim answers.rises [
+            | inl rises ↦ inl rises
+            | inr again ↦
+                let missed = again-missed call new is_op answers again.0 again.1 again.2 again.3 in
+                inr (again.3 ∙ sym again.2, inr (again.0, ap Some again.1, missed.0, missed.1))
+          ])

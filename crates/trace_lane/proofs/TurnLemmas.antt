@@ -1,8 +1,8 @@
 -- How many small allocations of a lane were answered, and where it has no turn left.
-use Rattle.std.proofs.Common.{ℕ, zero, suc, Bool, true, false, eqb, ◌≡◌, ◌≢◌, ◌≤◌, ◌+◌, ◌%◌, ◌^◌, ◌&&◌, ◌∷◌, ◌++◌, List, [], Option, Some, None, append-nil}
+use Rattle.std.proofs.Common.{ℕ, zero, suc, Bool, true, false, eqb, ◌≡◌, ◌≤◌, ◌+◌, ◌%◌, ◌^◌, ◌&&◌, ◌∷◌, ◌++◌, List, [], Option, Some, None, append-nil}
 use Rattle.std.proofs.Common.{refl, sym, ap, ◌∙◌, inl, inr, arith}
 use Rattle.std.specs.Prelude.{count_by, if◌then◌else◌, nat_le}
-use Rattle.std.proofs.lemmas.Bool.{cases_Bool, true≢false, eq-eqb}
+use Rattle.std.proofs.lemmas.Bool.{true≢false, cases_Bool, eq-eqb}
 use Rattle.std.proofs.lemmas.List.Sums.{sum_by-append, sum_by-cons}
 use Rattle.heap_geometry.specs.declared.geometry.Geometry.{Geometry}
 use Rattle.heap_geometry.specs.declared.limits.TheConstants.{LARGE_MOST, SMALL_MOST}
@@ -27,8 +27,9 @@ use Rattle.trace_text.specs.declared.trace.Op.TheVariants as op
 use Rattle.lane_outcomes.specs.declared.registers.HeldBlock.{HeldBlock}
 use Rattle.lane_outcomes.specs.declared.outcome.Outcome.{Outcome}
 use Rattle.lane_outcomes.specs.declared.outcome.Outcome.TheVariants as outcome
-use Rattle.lane_outcomes.specs.Lane.{Position, answered_after, filling, held_in, is_small, writing}
-use Rattle.lane_outcomes.specs.Rows.{AllocRow, CheckRow, FillRow, FitsRow, FreeRow, IsSpent, MayAsk, Moment, PutRow, ResizeRow, Setting, TakeRow, gives_another_small}
+use Rattle.lane_outcomes.specs.Lane.{Position, answered_after, filling, is_small, writing}
+use Rattle.lane_outcomes.specs.Rows.{FitsRow, IsSpent, MayAsk, Moment, Setting, gives_another_small}
+use Rattle.lane_outcomes.proofs.SlotRows.{RowAt, row-at, slot_of}
 use Rattle.lane_outcomes.specs.Standing.{setting_in}
 use Rattle.lane_outcomes.proofs.FillLemmas.{writes_of}
 
@@ -66,7 +67,7 @@ writes-none caller (suc count) first by place value =
     ∙ ap (λ n. 0 + n) (writes-none caller count (first + 1) by place value)
 
 -- a need is small where it is of at most `SMALL_MOST` words
-pub small-need : (need : ℕ) → is_small (need_of need) ≡ nat_le need SMALL_MOST
+small-need : (need : ℕ) → is_small (need_of need) ≡ nat_le need SMALL_MOST
 unfolding need_of
 small-need need =
     elim (cases_Bool (nat_le need SMALL_MOST)) [
@@ -131,128 +132,80 @@ pub piece-none :
     → answered ≡ answered_in caller (done ++ piece)
 piece-none caller done piece answered so_far is = let all = answered-append caller done piece in omega arith
 
-pub counted : (b : Bool) (answered : ℕ) → (if b then suc answered else answered) ≡ answered + one_if b
+counted : (b : Bool) (answered : ℕ) → (if b then suc answered else answered) ≡ answered + one_if b
 counted true answered = omega arith
 counted false answered = omega arith
 
-alloc-answered :
-    (setting : Setting) (position : Position) (r need v : ℕ) (held : Option HeldBlock) (result : Outcome) (piece : List Event)
-    → AllocRow setting position need v held result piece → position.answered ≡ answered_in setting.caller position.done
-    → answered_after position.answered (op.Alloc r need v) result ≡ answered_in setting.caller (position.done ++ piece)
-alloc-answered setting position r need v (Some held) outcome.Skipped piece row so_far =
-    piece-none setting.caller position.done piece position.answered so_far (ap (answered_in setting.caller) row)
-alloc-answered setting position r need v None (outcome.Given words place) piece row so_far =
+-- who is answered a small allocation has one answer more
+pub small-more : (need answered : ℕ) → (if is_small (need_of need) then suc answered else answered) ≡ answered + one_if (nat_le need SMALL_MOST)
+small-more need answered = ap (λ b. if b then suc answered else answered) (small-need need) ∙ counted (nat_le need SMALL_MOST) answered
+
+-- how many answers an operation with this outcome is
+abbrev answers_of : Op → Outcome → ℕ
+answers_of (op.Alloc r need v) (outcome.Given words place) = one_if (nat_le need SMALL_MOST)
+answers_of (op.Alloc r need v) outcome.Refused = one_if (nat_le need SMALL_MOST)
+answers_of (op.Resize r need) (outcome.Resized words place) = one_if (nat_le need SMALL_MOST)
+answers_of (op.Resize r need) outcome.Refused = one_if (nat_le need SMALL_MOST)
+answers_of operation result = 0
+
+answered-more : (answered : ℕ) (operation : Op) (result : Outcome) → answered_after answered operation result ≡ answered + answers_of operation result
+answered-more answered (op.Alloc r need v) (outcome.Given words place) = small-more need answered
+answered-more answered (op.Alloc r need v) outcome.Refused = small-more need answered
+answered-more answered (op.Resize r need) (outcome.Resized words place) = small-more need answered
+answered-more answered (op.Resize r need) outcome.Refused = small-more need answered
+answered-more answered operation result = omega arith
+
+-- a block was given, and other events followed that are no answers
+given-count :
+    (caller need place : ℕ) (calls more : List Event) → IsGiving caller need place (need_of need) calls → answered_in caller more ≡ 0
+    → answered_in caller (calls ++ more) ≡ one_if (nat_le need SMALL_MOST)
+given-count caller need place calls more giving none =
+    let all = answered-append caller calls more in let one = giving-count caller need place (need_of need) calls giving in omega arith
+
+count-at :
+    (setting : Setting) (position : Position) (operation : Op) (slot : Option HeldBlock) (result : Outcome) (piece : List Event)
+    → RowAt setting position operation slot result piece → answered_in setting.caller piece ≡ answers_of operation result
+count-at setting position (op.Alloc r need v) (Some held) outcome.Skipped piece row = ap (answered_in setting.caller) row
+count-at setting position (op.Alloc r need v) None (outcome.Given words place) piece (asks, words_are, calls, events, is) =
+    ap (answered_in setting.caller) is
+    ∙ given-count setting.caller need place calls (filling setting.caller place words v) events
+    (writes-none setting.caller words 0 setting.caller place (λ i. (v + i) % 2 ^ 64))
+count-at setting position (op.Alloc r need v) None outcome.Refused piece row = refusing-count setting.caller need (need_of need) piece row.1
+count-at setting position (op.Alloc r need v) None outcome.Spent piece row = spent-count setting position need piece position.spent row
+count-at setting position (op.Free r) (Some held) outcome.Freed piece row = ap (answered_in setting.caller) row
+count-at setting position (op.Fill r v) (Some held) outcome.Filled piece row =
+    ap (answered_in setting.caller) row ∙ writes-none setting.caller held.words 0 setting.caller held.place (λ i. (v + i) % 2 ^ 64)
+count-at setting position (op.Check r) (Some held) (outcome.Sum total) piece row = ap (answered_in setting.caller) row.0
+count-at setting position (op.Put r shelf) (Some held) outcome.Put piece row = ap (answered_in setting.caller) row
+count-at setting position (op.Put r shelf) (Some held) outcome.ShelfFull piece row = ap (answered_in setting.caller) row.0
+count-at setting position (op.Take r shelf) (Some held) outcome.Skipped piece row = ap (answered_in setting.caller) row
+count-at setting position (op.Take r shelf) None (outcome.Took words place need) piece row = ap (answered_in setting.caller) row.0
+count-at setting position (op.Take r shelf) None outcome.ShelfEmpty piece row = ap (answered_in setting.caller) row
+count-at setting position (op.Resize r need) (Some held) (outcome.Kept words place) piece row = ap (answered_in setting.caller) row.0
+count-at setting position (op.Resize r need) (Some held) (outcome.Resized words place) piece (differ, asks, words_are, calls, events, value, copy, is) =
     let caller = setting.caller in
-    let gives = giving-count caller need place (need_of need) row.2 row.3 in
-    let fills = writes-none caller words 0 caller place (λ i. (v + i) % 2 ^ 64) in
-    let all = answered-append caller row.2 (filling caller place words v) in
-    let count : answered_in caller piece ≡ one_if (nat_le need SMALL_MOST) = ap (answered_in caller) row.4 ∙ omega arith in
-    ap (λ b. if b then suc position.answered else position.answered) (small-need need) ∙ counted (nat_le need SMALL_MOST) position.answered
-    ∙ piece-count caller position.done piece position.answered (one_if (nat_le need SMALL_MOST)) so_far count
-alloc-answered setting position r need v None outcome.Refused piece row so_far =
-    ap (λ b. if b then suc position.answered else position.answered) (small-need need) ∙ counted (nat_le need SMALL_MOST) position.answered
-    ∙ piece-count setting.caller position.done piece position.answered (one_if (nat_le need SMALL_MOST)) so_far
-    (refusing-count setting.caller need (need_of need) piece row.1)
-alloc-answered setting position r need v None outcome.Spent piece row so_far =
-    piece-none setting.caller position.done piece position.answered so_far (spent-count setting position need piece position.spent row)
-alloc-answered setting position r need v held result piece row so_far = absurd row
-
-free-answered :
-    (setting : Setting) (position : Position) (r : ℕ) (held : Option HeldBlock) (result : Outcome) (piece : List Event) → FreeRow setting held result piece
-    → position.answered ≡ answered_in setting.caller position.done
-    → answered_after position.answered (op.Free r) result ≡ answered_in setting.caller (position.done ++ piece)
-free-answered setting position r None outcome.Skipped piece row so_far =
-    piece-none setting.caller position.done piece position.answered so_far (ap (answered_in setting.caller) row)
-free-answered setting position r (Some held) outcome.Freed piece row so_far =
-    piece-none setting.caller position.done piece position.answered so_far (ap (answered_in setting.caller) row)
-free-answered setting position r held result piece row so_far = absurd row
-
-fill-answered :
-    (setting : Setting) (position : Position) (r v : ℕ) (held : Option HeldBlock) (result : Outcome) (piece : List Event)
-    → FillRow setting v held result piece → position.answered ≡ answered_in setting.caller position.done
-    → answered_after position.answered (op.Fill r v) result ≡ answered_in setting.caller (position.done ++ piece)
-fill-answered setting position r v None outcome.Skipped piece row so_far =
-    piece-none setting.caller position.done piece position.answered so_far (ap (answered_in setting.caller) row)
-fill-answered setting position r v (Some held) outcome.Filled piece row so_far =
-    piece-none setting.caller position.done piece position.answered so_far
-    (ap (answered_in setting.caller) row ∙ writes-none setting.caller held.words 0 setting.caller held.place (λ i. (v + i) % 2 ^ 64))
-fill-answered setting position r v held result piece row so_far = absurd row
-
-check-answered :
-    (setting : Setting) (position : Position) (r : ℕ) (held : Option HeldBlock) (result : Outcome) (piece : List Event)
-    → CheckRow setting position held result piece → position.answered ≡ answered_in setting.caller position.done
-    → answered_after position.answered (op.Check r) result ≡ answered_in setting.caller (position.done ++ piece)
-check-answered setting position r None outcome.Skipped piece row so_far =
-    piece-none setting.caller position.done piece position.answered so_far (ap (answered_in setting.caller) row)
-check-answered setting position r (Some held) (outcome.Sum total) piece row so_far =
-    piece-none setting.caller position.done piece position.answered so_far (ap (answered_in setting.caller) row.0)
-check-answered setting position r held result piece row so_far = absurd row
-
-put-answered :
-    (setting : Setting) (position : Position) (r shelf : ℕ) (held : Option HeldBlock) (result : Outcome) (piece : List Event)
-    → PutRow setting position shelf held result piece → position.answered ≡ answered_in setting.caller position.done
-    → answered_after position.answered (op.Put r shelf) result ≡ answered_in setting.caller (position.done ++ piece)
-put-answered setting position r shelf None outcome.Skipped piece row so_far =
-    piece-none setting.caller position.done piece position.answered so_far (ap (answered_in setting.caller) row)
-put-answered setting position r shelf (Some held) outcome.Put piece row so_far =
-    piece-none setting.caller position.done piece position.answered so_far (ap (answered_in setting.caller) row)
-put-answered setting position r shelf (Some held) outcome.ShelfFull piece row so_far =
-    piece-none setting.caller position.done piece position.answered so_far (ap (answered_in setting.caller) row.0)
-put-answered setting position r shelf held result piece row so_far = absurd row
-
-take-answered :
-    (setting : Setting) (position : Position) (r shelf : ℕ) (held : Option HeldBlock) (result : Outcome) (piece : List Event)
-    → TakeRow setting position shelf held result piece → position.answered ≡ answered_in setting.caller position.done
-    → answered_after position.answered (op.Take r shelf) result ≡ answered_in setting.caller (position.done ++ piece)
-take-answered setting position r shelf (Some held) outcome.Skipped piece row so_far =
-    piece-none setting.caller position.done piece position.answered so_far (ap (answered_in setting.caller) row)
-take-answered setting position r shelf None outcome.ShelfEmpty piece row so_far =
-    piece-none setting.caller position.done piece position.answered so_far (ap (answered_in setting.caller) row)
-take-answered setting position r shelf None (outcome.Took words place need) piece row so_far =
-    piece-none setting.caller position.done piece position.answered so_far (ap (answered_in setting.caller) row.0)
-take-answered setting position r shelf held result piece row so_far = absurd row
-
-resize-answered :
-    (setting : Setting) (position : Position) (r need : ℕ) (held : Option HeldBlock) (result : Outcome) (piece : List Event)
-    → ResizeRow setting position need held result piece → position.answered ≡ answered_in setting.caller position.done
-    → answered_after position.answered (op.Resize r need) result ≡ answered_in setting.caller (position.done ++ piece)
-resize-answered setting position r need None outcome.Skipped piece row so_far =
-    piece-none setting.caller position.done piece position.answered so_far (ap (answered_in setting.caller) row)
-resize-answered setting position r need (Some held) (outcome.Kept words place) piece row so_far =
-    piece-none setting.caller position.done piece position.answered so_far (ap (answered_in setting.caller) row.0)
-resize-answered setting position r need (Some held) (outcome.Resized words place) piece row so_far =
-    let caller = setting.caller in
-    let copies = writing caller place words row.5 in
-    let frees : List Event = Free caller held.place ∷ [] in
-    let gives = giving-count caller need place (need_of need) row.3 row.4 in
-    let writes = writes-none caller words 0 caller place row.5 in
-    let made = answered-append caller row.3 copies in
-    let all : answered_in caller (row.3 ++ copies ++ frees) ≡ answered_in caller (row.3 ++ copies) + 0 = answered-append caller (row.3 ++ copies) frees in
-    let pieces : answered_in caller (row.3 ++ copies ++ frees) ≡ one_if (nat_le need SMALL_MOST) = omega arith in
-    let count : answered_in caller piece ≡ one_if (nat_le need SMALL_MOST) = ap (answered_in caller) row.7 ∙ pieces in
-    ap (λ b. if b then suc position.answered else position.answered) (small-need need) ∙ counted (nat_le need SMALL_MOST) position.answered
-    ∙ piece-count caller position.done piece position.answered (one_if (nat_le need SMALL_MOST)) so_far count
-resize-answered setting position r need (Some held) outcome.Refused piece row so_far =
-    ap (λ b. if b then suc position.answered else position.answered) (small-need need) ∙ counted (nat_le need SMALL_MOST) position.answered
-    ∙ piece-count setting.caller position.done piece position.answered (one_if (nat_le need SMALL_MOST)) so_far
-    (refusing-count setting.caller need (need_of need) piece row.2)
-resize-answered setting position r need (Some held) outcome.Spent piece row so_far =
-    piece-none setting.caller position.done piece position.answered so_far (spent-count setting position need piece position.spent row.1)
-resize-answered setting position r need held result piece row so_far = absurd row
+    let writes = writing caller place words value in
+    let made = given-count caller need place calls writes events (writes-none caller words 0 caller place value) in
+    let all : answered_in caller (calls ++ writes ++ Free caller held.place ∷ []) ≡ answered_in caller (calls ++ writes) + 0 =
+    answered-append caller (calls ++ writes) (Free caller held.place ∷ []) in
+    ap (answered_in caller) is ∙ omega arith
+count-at setting position (op.Resize r need) (Some held) outcome.Refused piece row = refusing-count setting.caller need (need_of need) piece row.2
+count-at setting position (op.Resize r need) (Some held) outcome.Spent piece row = spent-count setting position need piece position.spent row.1
+count-at setting position (op.Alloc r need v) None outcome.Skipped piece row = absurd row
+count-at setting position (op.Take r shelf) None outcome.Skipped piece row = absurd row
+count-at setting position operation None outcome.Skipped piece row = ap (answered_in setting.caller) row
+count-at setting position operation None result piece row = absurd row
+count-at setting position operation (Some held) result piece row = absurd row
 
 -- how many small allocations were answered, with one operation more
 pub answered-row :
     (setting : Setting) (position : Position) (operation : Op) (result : Outcome) (piece : List Event) → FitsRow setting position operation result piece
     → position.answered ≡ answered_in setting.caller position.done
     → answered_after position.answered operation result ≡ answered_in setting.caller (position.done ++ piece)
-answered-row setting position (op.Alloc r need v) result piece row so_far =
-    alloc-answered setting position r need v (held_in position.registers r) result piece row so_far
-answered-row setting position (op.Free r) result piece row so_far = free-answered setting position r (held_in position.registers r) result piece row so_far
-answered-row setting position (op.Fill r v) result piece row so_far = fill-answered setting position r v (held_in position.registers r) result piece row so_far
-answered-row setting position (op.Check r) result piece row so_far = check-answered setting position r (held_in position.registers r) result piece row so_far
-answered-row setting position (op.Put r shelf) result piece row so_far = put-answered setting position r shelf (held_in position.registers r) result piece row so_far
-answered-row setting position (op.Take r shelf) result piece row so_far = take-answered setting position r shelf (held_in position.registers r) result piece row so_far
-answered-row setting position (op.Resize r need) result piece row so_far = resize-answered setting position r need (held_in position.registers r) result piece row so_far
+answered-row setting position operation result piece row so_far =
+    answered-more position.answered operation result
+    ∙ piece-count setting.caller position.done piece position.answered (answers_of operation result) so_far
+    (count-at setting position operation (slot_of position.registers operation) result piece (row-at setting position operation result piece row))
 
 -- an event of another caller's is no answer to this one
 others-answer : (caller : ℕ) (event : Event) → eqb (caller_of event) caller ≡ false → answers caller event ≡ 0

@@ -15,11 +15,10 @@ use Rattle.lane_outcomes.proofs.FitLemmas.{row-later}
 use Rattle.trace_lane.specs.Made.{AllMade, register_of}
 use Rattle.trace_lane.proofs.AddedLemmas.{HasAdded}
 use Rattle.trace_lane.proofs.AnswerLemmas.{HasMovedOn}
-use Rattle.trace_lane.proofs.CallerLemmas.{Owns, moved-none, moved-then}
+use Rattle.trace_lane.proofs.CallerLemmas.{Owns, caller-laws, moved-none, moved-then}
 use Rattle.trace_lane.proofs.HoldsLemmas.{HoldsAll, op-holds}
 use Rattle.trace_lane.proofs.RowLemmas.{IsBetween, op-gone, setting_at}
 use Rattle.trace_lane.proofs.TurnLemmas.{answered_in, answered-row}
-use Rattle.trace_lane.proofs.WorkLemmas.{caller-laws}
 
 spent-still : (spent : Bool) (result : Outcome) (all : Type 0) → (spent ≡ true → all) → (result ≡ outcome.Spent → all) → spent_after spent result ≡ true → all
 spent-still spent outcome.Spent all before now is = now refl
@@ -29,7 +28,7 @@ spent-still spent result all before now is = before is
 pub between-next :
     (g : Geometry) (c d : Caller) (base : Position) (operation : Op) (result : Outcome) (answered : ℕ) (piece : List Event) → IsBetween g c base
     → HasAdded g c d piece → (result ≡ outcome.Spent → d.errand.turns ≡ g.turn_limit) → answered ≡ answered_in c.errand.caller (base.done ++ piece)
-    → HoldsAll (IsCall g) Owns (caller-laws g) d (registers_after base.registers operation result)
+    → HoldsAll Owns d (registers_after base.registers operation result)
     → IsBetween g d
     (record {
       registers = registers_after base.registers operation result;
@@ -78,7 +77,7 @@ all-walk g (operation ∷ operations) (result ∷ results) c d base st (t, (made
     let between : IsBetween g t next =
     between-next g c t base operation result next.answered gone.piece st gone.added gone.spent
     (answered-row (setting_at g c t) base operation result gone.piece gone.row st.answered)
-    (op-holds (IsCall g) Owns (caller-laws g) c t base.registers operation result slot made st.holds refl for leads) in
+    (op-holds (caller-laws g) c t base.registers operation result slot made st.holds refl for leads) in
     let rest = all-walk g operations results t d next between all in
     let setting = setting_at g c d in
     let later = row-later (setting_at g c t) rest.moved.rest d.errand.lost rest.moved.lost base operation result gone.piece gone.row in

@@ -1,85 +1,33 @@
 -- The call that is under way is on a block of its caller's.
 use Rattle.std.proofs.Common.{ℕ, ◌≡◌, ◌∷◌, ◌++◌, List, [], Option, Some, None, length, refl, sym, ap, ◌∙◌, subst, inl, inr, arith}
 use Rattle.heap_geometry.specs.declared.geometry.Geometry.{Geometry}
-use Rattle.heap_geometry.specs.declared.need.Need.{Need}
 use Rattle.heap_geometry.specs.Need.{need_of, usable_words}
 use Rattle.pool_model.specs.Legal.{IsLegal}
 use Rattle.pool_model.specs.declared.event.Event.{Event}
-use Rattle.errand_steps.specs.declared.reply.Reply.{Reply}
 use Rattle.errand_steps.specs.declared.reply.Reply.TheVariants as reply
-use Rattle.errand_steps.specs.Calls.{Call, alloc, write, read, put}
+use Rattle.errand_steps.specs.Calls.{Call, alloc, write, read}
 use Rattle.sound_laws.specs.events.Made.{LeadsBy, Made, answered, copied, found_from, wrote}
-use Rattle.step_machine.specs.Cores.{OwnsAfter}
 use Rattle.trace_text.specs.declared.limits.TheConstants.{REGISTERS}
 use Rattle.trace_text.specs.declared.trace.Op.{Op}
 use Rattle.trace_text.specs.declared.trace.Op.TheVariants as op
+use Rattle.std.specs.List.{range_with_len}
 use Rattle.trace_text.specs.Traces.{IsOp}
-use Rattle.lane_engine.specs.Callers.{Caller, IsAtRest, IsCall, OwnsFor}
+use Rattle.lane_engine.specs.Callers.{Caller, IsCall, OwnsFor}
 use Rattle.lane_outcomes.specs.declared.registers.HeldBlock.{HeldBlock}
-use Rattle.lane_outcomes.specs.declared.outcome.Outcome.{Outcome}
-use Rattle.lane_outcomes.specs.Lane.{held_in, registers_after}
+use Rattle.lane_outcomes.specs.Lane.{held_in}
 use Rattle.trace_lane.specs.declared.stage.OperationStage.{OperationStage}
 use Rattle.trace_lane.specs.declared.stage.OperationStage.TheVariants as stage
-use Rattle.trace_lane.specs.Doing.{AllMadeFor, DoingOf, IsReadFor, call_at, held_of, held_there, reads, replacing}
-use Rattle.trace_lane.specs.Made.{AllMade}
+use Rattle.trace_lane.specs.Doing.{DoingOf, IsReadFor, call_at, held_of, held_there, reads, replacing}
 use Rattle.trace_lane.proofs.AnswerLemmas.{heap-block, owned-need}
-use Rattle.trace_lane.proofs.CallerLemmas.{Owns, caller-apart, caller-hands, caller-keeps, ends-called}
-use Rattle.step_machine.proofs.ApartLemmas.{owns-on}
+use Rattle.trace_lane.proofs.CallerLemmas.{Owns, caller-laws}
 use Rattle.trace_lane.proofs.DoingLemmas.{on-block, set-there}
-use Rattle.trace_lane.proofs.HoldsLemmas.{HoldsAll, KeepsAll, lead-keep, leads-split}
-use Rattle.trace_lane.proofs.MadeLemmas.{leads-then, leave-copied, leave-found, leave-wrote}
+use Rattle.trace_lane.proofs.EachCall.{all-copied, all-found, all-wrote, leaves}
+use Rattle.trace_lane.proofs.HoldsLemmas.{HoldsAll, leads-keep}
 use Rattle.trace_lane.proofs.MakingLemmas.{HasNeed, HasWords}
 use Rattle.trace_lane.proofs.NeedLemmas.{need-some}
-use Rattle.lane_engine.specs.Callers.{MadeBy, at_once, by_steps}
-use Rattle.pool_model.specs.Calls.{Ended, EventsOf}
-use Rattle.pool_model.specs.Calls as ended
+use Rattle.lane_engine.proofs.LeadsLemmas.{leads-split}
 
--- a put that found a full shelf has added nothing
-caller-back :
-    (g : Geometry) (c d : Caller) (place : ℕ) (need : Need) (shelf found at : ℕ) (had : Need) → IsAtRest g c → IsAtRest g d
-    → OwnsFor c.seen c.errand.caller (put place need shelf) → MadeBy c (put place need shelf) (reply.Full found) d → Owns c at had → Owns d at had
-caller-back g c d place need shelf found at had rests after owned (by_steps ends) owns =
-    let h = ends-called g c d (put place need shelf) (reply.Full found) rests owned ends in
-    let is : Some ended.put_full ≡ Some h.ended.ended.0 = h.ended.ended.1 in
-    let same : h.ended.ended.0 ≡ ended.put_full = cc in
-    let none : h.added ≡ [] = subst (λ (x : Ended). EventsOf c.errand.caller x h.added) same h.ended.ended.2 in
-    subst (λ k. OwnsAfter d.seen k at had) (sym h.moved.same_caller)
-    (owns-on g c.errand.caller at had c.seen d.seen [] after.served.legal (h.moved.rest, h.moved.seen, h.moved.own_rest ∙ none) tt owns)
-caller-back g c d place need shelf found at had rests after owned (at_once words is_alloc is_spent spent same) owns = absurd (cc)
-
-pub caller-laws : (g : Geometry) → KeepsAll (IsCall g) Owns
-caller-laws g = record {
-  keeps = caller-keeps g;
-  hands = caller-hands g;
-  apart = caller-apart g;
-  back = λ c d place need shelf found at had one owns.
-      caller-back g c d place need shelf found at had one.rested one.rests one.owned one.made owns;
-}
-
--- all calls of operations, operation by operation
-pub all-made :
-    {S : Type 0} (called : S → Call → Reply → S → Type 0) (registers : List (Option HeldBlock)) (operations : List Op) (results : List Outcome)
-    (made : List Made) (s t : S) → AllMadeFor registers operations results made → LeadsBy called s made t
-    → AllMade called registers operations results s t
-all-made called registers operations [] made s t all leads = subst (λ ms. LeadsBy called s ms t) all leads
-all-made called registers [] (result ∷ results) made s t all leads = absurd all
-all-made called registers (operation ∷ operations) (result ∷ results) made s t (first, rest, is, for, all) leads =
-    let parts = leads-split called s t first rest (subst (λ ms. LeadsBy called s ms t) is leads) in (
-      parts.0,
-      (first, for, parts.1),
-      all-made called (registers_after registers operation result) operations results rest parts.0 t all parts.2,
-    )
-
-pub made-calls :
-    {S : Type 0} (called : S → Call → Reply → S → Type 0) (registers : List (Option HeldBlock)) (operations : List Op) (results : List Outcome) (s t : S)
-    → AllMade called registers operations results s t → (made : List Made) × AllMadeFor registers operations results made × LeadsBy called s made t
-made-calls called registers operations [] s t same = ([], refl, same)
-made-calls called registers [] (result ∷ results) s t all = absurd all
-made-calls called registers (operation ∷ operations) (result ∷ results) s t (u, (first, for, leads), all) =
-    let rest = made-calls called (registers_after registers operation result) operations results u t all in
-    (first ++ rest.0, (first, rest.0, refl, for, rest.1), leads-then called s u t first rest.0 leads rest.2)
-
-module _ (g : Geometry) (before registers : List (Option HeldBlock)) (between last : Caller) (holds : HoldsAll (IsCall g) Owns (caller-laws g) between before) where
+module _ (g : Geometry) (before registers : List (Option HeldBlock)) (between last : Caller) (holds : HoldsAll Owns between before) where
   abbrev Leads : List Made → Type 0
   Leads made = LeadsBy (IsCall g) between made last
 
@@ -93,13 +41,13 @@ module _ (g : Geometry) (before registers : List (Option HeldBlock)) (between la
   new-owned need place old words count got i word got_is (t, one, leads) =
       let n = need_of need in
       let parts = leads-split (IsCall g) t last (copied old.place old.need place n words count) got leads in
-      let mine = caller-hands g between t (alloc need) (reply.Given place n) place n one (refl, refl) in
+      let mine = (caller-laws g).hands between t (alloc need) (reply.Given place n) place n one (refl, refl) in
       let copied_so =
-      lead-keep (IsCall g) Owns (caller-laws g) t parts.0 (copied old.place old.need place n words count) place n parts.1
-      (leave-copied place old.place old.need place n words count) mine in
+      leads-keep (caller-laws g) t parts.0 (copied old.place old.need place n words count) place n parts.1
+      (all-copied (leaves place) old.place old.need place n words (range_with_len 0 count)) mine in
       elim got_is [
         | inl (inside, is) ↦
-            lead-keep (IsCall g) Owns (caller-laws g) parts.0 last (answered (reads old i) (reply.Word word) ∷ []) place n
+            leads-keep (caller-laws g) parts.0 last (answered (reads old i) (reply.Word word) ∷ []) place n
             (subst (λ ms. LeadsBy (IsCall g) parts.0 ms last) is parts.2) (tt, tt) copied_so
         | inr (past, zero_is, none) ↦
             subst (λ x. Owns x place n) (sym (subst (λ ms. LeadsBy (IsCall g) parts.0 ms last) none parts.2)) copied_so
@@ -110,9 +58,9 @@ module _ (g : Geometry) (before registers : List (Option HeldBlock)) (between la
       → Owns last old.place old.need
   old-owned need place old words count owned (t, one, leads) =
       let n = need_of need in
-      lead-keep (IsCall g) Owns (caller-laws g) t last (copied old.place old.need place n words count) old.place old.need leads
-      (leave-copied old.place old.place old.need place n words count)
-      (caller-keeps g between t (alloc need) (reply.Given place n) old.place old.need one tt owned)
+      leads-keep (caller-laws g) t last (copied old.place old.need place n words count) old.place old.need leads
+      (all-copied (leaves old.place) old.place old.need place n words (range_with_len 0 count))
+      ((caller-laws g).keeps between t (alloc need) (reply.Given place n) old.place old.need one tt owned)
 
   pub doing-owns :
       (operation : Op) (at : OperationStage) (made : List Made) → length registers ≡ REGISTERS → IsOp operation
@@ -122,10 +70,10 @@ module _ (g : Geometry) (before registers : List (Option HeldBlock)) (between la
       let there : held_there (held_in registers r) ≡ held_of place (need_of need) =
       ap held_there (set-there before registers r (held_of place (need_of need)) (omega (arith, size, is.0)) set) in
       let (t, one, rest) = subst Leads made_is leads in
-      let mine = caller-hands g between t (alloc need) (reply.Given place (need_of need)) place (need_of need) one (refl, refl) in
+      let mine = (caller-laws g).hands between t (alloc need) (reply.Given place (need_of need)) place (need_of need) one (refl, refl) in
       subst (λ (h : HeldBlock). Owns last h.place h.need) (sym there)
-      (lead-keep (IsCall g) Owns (caller-laws g) t last (wrote place (need_of need) v i) place (need_of need) rest
-      (leave-wrote place place (need_of need) v i) mine)
+      (leads-keep (caller-laws g) t last (wrote place (need_of need) v i) place (need_of need) rest
+      (all-wrote (leaves place) place (need_of need) v i) mine)
   doing-owns (op.Free r) stage.Calling made size is doing leads =
       let on = on-block (held_in before r) _ doing in
       let same : last ≡ between = subst Leads on.so.1 leads in
@@ -135,15 +83,15 @@ module _ (g : Geometry) (before registers : List (Option HeldBlock)) (between la
       let on = on-block (held_in before r) _ doing in
       let there : held_there (held_in registers r) ≡ on.held = ap (λ rs. held_there (held_in rs r)) on.so.0 ∙ ap held_there on.full in
       subst (λ (h : HeldBlock). Owns last h.place h.need) (sym there)
-      (lead-keep (IsCall g) Owns (caller-laws g) between last (wrote on.held.place on.held.need v i) on.held.place on.held.need (subst Leads on.so.2 leads)
-      (leave-wrote on.held.place on.held.place on.held.need v i) (holds.owned r on.held on.full))
+      (leads-keep (caller-laws g) between last (wrote on.held.place on.held.need v i) on.held.place on.held.need (subst Leads on.so.2 leads)
+      (all-wrote (leaves on.held.place) on.held.place on.held.need v i) (holds.owned r on.held on.full))
   doing-owns (op.Check r) (stage.Summing i total) made size is doing leads =
       let on = on-block (held_in before r) _ doing in
       let there : held_there (held_in registers r) ≡ on.held = ap (λ rs. held_there (held_in rs r)) on.so.0 ∙ ap held_there on.full in
       let (same, inside, words, all, total_is, made_is) = on.so in
       subst (λ (h : HeldBlock). Owns last h.place h.need) (sym there)
-      (lead-keep (IsCall g) Owns (caller-laws g) between last (found_from on.held.place on.held.need 0 words) on.held.place on.held.need
-      (subst Leads made_is leads) (leave-found on.held.place on.held.place on.held.need 0 words) (holds.owned r on.held on.full))
+      (leads-keep (caller-laws g) between last (found_from on.held.place on.held.need 0 words) on.held.place on.held.need
+      (subst Leads made_is leads) (all-found (leaves on.held.place) on.held.place on.held.need 0 words) (holds.owned r on.held on.full))
   doing-owns (op.Put r shelf) stage.Calling made size is doing leads =
       let on = on-block (held_in before r) _ doing in
       let same : last ≡ between = subst Leads on.so.1 leads in

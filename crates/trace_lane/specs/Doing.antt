@@ -1,5 +1,5 @@
 -- How far a lane is: which calls it has ended, each with its answer, and which one is under way. Of callers and events nothing is said here.
-use Rattle.std.specs.Prelude.{ℕ, ◌≡◌, ◌≢◌, ◌<◌, ◌≤◌, ◌+◌, ◌%◌, ◌^◌, ◌∷◌, ◌++◌, ◌⊎◌, List, [], Option, Some, None, sum, length, min, take, drop, replicate, slice_set}
+use Rattle.std.specs.Prelude.{ℕ, ◌≡◌, ◌≢◌, ◌<◌, ◌≤◌, ◌+◌, ◌%◌, ◌^◌, ◌∷◌, ◌++◌, ◌⊎◌, List, [], Option, Some, None, sum, length, min, drop, replicate, slice_set}
 use Rattle.heap_geometry.specs.declared.need.Need.{Need}
 use Rattle.heap_geometry.specs.declared.need.Need.TheVariants.{TooLarge}
 use Rattle.heap_geometry.specs.Need.{need_of, usable_words}

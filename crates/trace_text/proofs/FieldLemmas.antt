@@ -1,11 +1,7 @@
 -- The fields of a line, taken one after the other.
-use Rattle.std.proofs.Common.{◌≡◌, ℕ, List, [], ◌∷◌, Option, Some, None, Result, Ok, refl}
-use Rattle.std.specs.Option.{ok_or}
+use Rattle.std.proofs.Common.{◌≡◌, ℕ, List, [], ◌∷◌, Some, Ok, refl}
 use Rattle.trace_text.specs.Causes.{◌>>=◌}
-use Rattle.trace_text.specs.Numbers.{number_in}
-use Rattle.trace_text.specs.Said.{some_in, none_in, numeral_in, two_in, three_in, heap_fields_in}
-use Rattle.trace_text.specs.declared.fault.Cause.{Cause}
-use Rattle.trace_text.specs.declared.fault.Cause.TheVariants.{BadNumber}
+use Rattle.trace_text.specs.Said.{some_in, none_in, numeral_in, one_in, two_in, three_in, heap_fields_in}
 
 -- fields that are taken as at least one are the fields themselves
 some_is : (fields taken : List (List ℕ)) → some_in fields ≡ Ok taken → fields ≡ taken
@@ -23,32 +19,33 @@ four_fields fields one two three four a b c d e f g h =
     rest [] = refl
     rest (x ∷ four) = refl
 
--- the numbers of three fields, read in their order
-abbrev in_order : Option ℕ → Option ℕ → Option ℕ → Result (ℕ × ℕ × ℕ) Cause
-in_order m n k = ok_or m BadNumber >>= λ a. ok_or n BadNumber >>= λ b. ok_or k BadNumber >>= λ c. Ok (a, b, c)
+three_found : (a b c : List ℕ) (rest : List (List ℕ)) → none_in rest ≡ Ok tt → three_in (a ∷ b ∷ c ∷ rest) ≡ (numeral_in a >>= λ a. numeral_in b >>= λ b. numeral_in c >>= λ c. Ok (a, b, c))
+unfolding three_in
+three_found a b c [] none = refl
+three_found a b c (d ∷ rest) none = absurd cc
 
-abbrev last_two : Option ℕ → Option ℕ → Result (ℕ × ℕ) Cause
-last_two n k = ok_or n BadNumber >>= λ b. ok_or k BadNumber >>= λ c. Ok (b, c)
+-- three fields and no more are their three numbers
+pub three_fields :
+    (fields one two three : List (List ℕ)) (a b c : List ℕ) → some_in fields ≡ Ok (a ∷ one) → some_in one ≡ Ok (b ∷ two) → some_in two ≡ Ok (c ∷ three)
+    → none_in three ≡ Ok tt → three_in fields ≡ (numeral_in a >>= λ a. numeral_in b >>= λ b. numeral_in c >>= λ c. Ok (a, b, c))
+three_fields fields one two three a b c e f g none =
+    rw (some_is fields (a ∷ one) e, some_is one (b ∷ two) f, some_is two (c ∷ three) g) (three_found a b c three none)
 
--- and the first one of them behind the others
-abbrev first_last : Option ℕ → Option ℕ → Option ℕ → Result (ℕ × ℕ × ℕ) Cause
-first_last m n k = last_two n k >>= λ p. ok_or m BadNumber >>= λ a. Ok (a, p.0, p.1)
+-- one field and no more, whose number is known
+pub one_known : (fields rest : List (List ℕ)) (a : List ℕ) (x : ℕ) → fields ≡ a ∷ rest → rest ≡ [] → numeral_in a ≡ Ok x → one_in fields ≡ Ok x
+unfolding one_in
+one_known fields rest a x e none n = rw (e, none, n) refl
 
--- a field that is no number is told by one cause, so the order in which fields are read is nothing
-either_order : (m n k : Option ℕ) → in_order m n k ≡ first_last m n k
-either_order None None k = refl
-either_order None (Some b) None = refl
-either_order None (Some b) (Some c) = refl
-either_order (Some a) None k = refl
-either_order (Some a) (Some b) None = refl
-either_order (Some a) (Some b) (Some c) = refl
+-- two fields and no more, whose numbers are known
+pub two_known :
+    (fields one two : List (List ℕ)) (a b : List ℕ) (x y : ℕ) → fields ≡ a ∷ one → one ≡ b ∷ two → two ≡ []
+    → numeral_in a ≡ Ok x → numeral_in b ≡ Ok y → two_in fields ≡ Ok (x, y)
+unfolding two_in
+two_known fields one two a b x y e f none n m = rw (e, f, none, n, m) refl
 
--- three fields are one, and two behind it
-pub three_of_two :
-    (fields rest : List (List ℕ)) (a : List ℕ) → some_in fields ≡ Ok (a ∷ rest)
-    → three_in fields ≡ (two_in rest >>= λ p. numeral_in a >>= λ a. Ok (a, p.0, p.1))
-unfolding two_in three_in numeral_in
-three_of_two fields [] a e = rw (some_is fields (a ∷ []) e) refl
-three_of_two fields (b ∷ []) a e = rw (some_is fields (a ∷ b ∷ []) e) refl
-three_of_two fields (b ∷ c ∷ []) a e = rw (some_is fields (a ∷ b ∷ c ∷ []) e) (either_order (number_in a) (number_in b) (number_in c))
-three_of_two fields (b ∷ c ∷ d ∷ rest) a e = rw (some_is fields (a ∷ b ∷ c ∷ d ∷ rest) e) refl
+-- three fields and no more, whose numbers are known
+pub three_known :
+    (fields one two three : List (List ℕ)) (a b c : List ℕ) (x y z : ℕ) → fields ≡ a ∷ one → one ≡ b ∷ two → two ≡ c ∷ three → three ≡ []
+    → numeral_in a ≡ Ok x → numeral_in b ≡ Ok y → numeral_in c ≡ Ok z → three_in fields ≡ Ok (x, y, z)
+unfolding three_in
+three_known fields one two three a b c x y z e f g none n m k = rw (e, f, g, none, n, m, k) refl

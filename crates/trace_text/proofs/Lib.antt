@@ -3,6 +3,7 @@ pub mod LawLemmas
 pub mod LineLemmas
 pub mod NamedLemmas
 pub mod NumberLemmas
+pub mod PlainLemmas
 pub mod PrintedLemmas
 pub mod RoundLemmas
 pub mod StageLemmas

@@ -1,9 +1,11 @@
 -- The first line of a text, and the first field of a line.
-use Rattle.std.proofs.Common.{◌≡◌, ℕ, zero, suc, ◌+◌, add-zero, append-nil, ◌-◌, ◌<◌, Bool, true, false, not, eqb, ltb, List, [], ◌∷◌, ◌++◌, length, get_or, take, drop, Option, Some, None, refl, sym, ap, ◌∙◌, arith, inl, inr}
-use Rattle.std.specs.List.{AllByRecursion, slice_split, position, position_or_len}
-use Rattle.std.proofs.lemmas.Bool.{cases_Bool, false≢true, ne_eqb, ltb-true, ltb-false, lt-ltb, le-ltb}
+use Rattle.std.proofs.Common.{◌≡◌, ℕ, zero, suc, ◌+◌, add-zero, append-nil, ◌-◌, ◌<◌, ◌≤◌, Bool, true, false, not, eqb, ltb, leb, List, [], ◌∷◌, ◌++◌, length, get_or, take, drop, Option, Some, None, refl, sym, ap, ◌∙◌, arith, inl, inr}
+use Rattle.std.specs.Char.{is_ascii_digit}
+use Rattle.std.specs.List.{AllByRecursion, list_all, slice_split, position, position_or_len}
+use Rattle.std.proofs.lemmas.Bool.{cases_Bool, false≢true, and_parts, eqb-true, leb-true, ne_eqb, ltb-true, ltb-false, lt-ltb, le-ltb}
 use Rattle.std.proofs.lemmas.List.{take-append-drop, take_all, length-drop, length-take, get_or-take, get_or-drop}
 use Rattle.std.proofs.lemmas.List.Elements.{All-from_get_or, recursion_from_All}
+use Rattle.std.proofs.lemmas.List.Folds.{list_all_at}
 use Rattle.std.proofs.lemmas.List.Splits.{slice_split_none, slice_split_first}
 use Rattle.std.proofs.lemmas.List.Sums.{fails_before_first, passes_at_first, position_or_len_is}
 use Rattle.std.proofs.lemmas.Option.{none-some}
@@ -28,16 +30,27 @@ position_found p bytes i e =
       | inr past ↦ absurd (none-some i (sym (rw past at e)))
     ]
 
--- the first byte that passes a test is at the place that a search finds, and the search finds none where none passes
-pub position_first : (p : ℕ → Bool) (bytes : List ℕ) (r : Option ℕ) → IsFirstByte p bytes r → r ≡ position p bytes
-position_first p bytes None h =
-    let none = position_or_len_is p bytes (length bytes) 0 (omega arith) (λ k below. not_passed p bytes k (h k (omega arith) below)) (λ more. absurd (omega (arith, more))) in
+-- a search finds none where no byte passes
+position_none : (p : ℕ → Bool) (bytes : List ℕ) → ((k : ℕ) → k < length bytes → p (get_or bytes k 0) ≡ false) → None ≡ position p bytes
+position_none p bytes fail =
+    let none = position_or_len_is p bytes (length bytes) 0 (omega arith) fail (λ more. absurd (omega (arith, more))) in
     let past : ltb (position_or_len p bytes) (length bytes) ≡ false = le-ltb _ _ (omega (arith, none)) in
     rw past refl
-position_first p bytes (Some i) h =
-    let is = position_or_len_is p bytes i 0 (omega (arith, h.0.high)) (λ k below. not_passed p bytes k (h.0.before k (omega arith) below)) (λ _. h.1) in
-    let within : ltb (position_or_len p bytes) (length bytes) ≡ true = lt-ltb _ _ (omega (arith, is, h.0.high)) in
+
+-- a search finds the place before which none passes
+position_at :
+    (p : ℕ → Bool) (bytes : List ℕ) (i : ℕ) → i < length bytes → ((k : ℕ) → k < i → p (get_or bytes k 0) ≡ false)
+    → p (get_or bytes i 0) ≡ true → Some i ≡ position p bytes
+position_at p bytes i below fail passes =
+    let is = position_or_len_is p bytes i 0 (omega (arith, below)) fail (λ _. passes) in
+    let within : ltb (position_or_len p bytes) (length bytes) ≡ true = lt-ltb _ _ (omega (arith, is, below)) in
     rw (within, is) refl
+
+-- the first byte that passes a test is at the place that a search finds, and the search finds none where none passes
+pub position_first : (p : ℕ → Bool) (bytes : List ℕ) (r : Option ℕ) → IsFirstByte p bytes r → r ≡ position p bytes
+position_first p bytes None h = position_none p bytes (λ k below. not_passed p bytes k (h k (omega arith) below))
+position_first p bytes (Some i) h =
+    position_at p bytes i (omega (arith, h.0.high)) (λ k below. not_passed p bytes k (h.0.before k (omega arith) below)) h.1
 
 -- no byte passes a test for which a search finds no place
 pub position_lacks : (p : ℕ → Bool) (bytes : List ℕ) → None ≡ position p bytes → (k : ℕ) (d : ℕ) → k < length bytes → p (get_or bytes k d) ≡ false
@@ -50,7 +63,7 @@ position_lacks p bytes e k d below =
     ]
 
 -- bytes that are split have at least one part
-parts_some : (p : ℕ → Bool) (bytes : List ℕ) → (part : List ℕ) × (parts : List (List ℕ)) × (slice_split p bytes ≡ part ∷ parts)
+pub parts_some : (p : ℕ → Bool) (bytes : List ℕ) → (part : List ℕ) × (parts : List (List ℕ)) × (slice_split p bytes ≡ part ∷ parts)
 parts_some p [] = ([], [], refl)
 parts_some p (b ∷ bytes) =
     let rest = parts_some p bytes in
@@ -165,6 +178,51 @@ field_alone bytes begins e =
     let split : slice_split is_blank bytes ≡ bytes ∷ [] = slice_split_none is_blank bytes (All-from_get_or (λ x. is_blank x ≡ false) bytes 0 (λ i below. position_lacks is_blank bytes e i 0 below)) in
     let some : has_bytes bytes ≡ true = some_bytes bytes begins.0 in
     rw (split, some) refl
+
+-- bytes before which a field can't end
+abbrev pub NoBlanks : List ℕ → Type 0
+NoBlanks bytes = list_all (λ b. not (is_blank b)) bytes ≡ true
+
+no_blank_at : (bytes : List ℕ) (end k : ℕ) → NoBlanks (take end bytes) → end ≤ length bytes → k < end → is_blank (get_or bytes k 0) ≡ false
+no_blank_at bytes end k filled within below =
+    elim (cases_Bool (not (is_blank (get_or bytes k 0)))) [
+      | inl other ↦ not_false (is_blank (get_or bytes k 0)) other
+      | inr blank ↦
+          let at : not (is_blank (get_or (take end bytes) k 0)) ≡ false = rw (get_or-take end bytes k 0 below) blank in
+          absurd (false≢true (sym (list_all_at (λ b. not (is_blank b)) (take end bytes) k 0 (omega (arith, length-take end bytes)) at) ∙ filled))
+    ]
+
+-- the first field ends at the first blank
+pub field_at :
+    (bytes : List ℕ) (end : ℕ) → BeginsField bytes → NoBlanks (take end bytes) → end < length bytes → is_blank (get_or bytes end 0) ≡ true
+    → (0 < end) × (fields_of bytes ≡ take end bytes ∷ fields_of (drop (end + 1) bytes))
+field_at bytes zero begins filled within at = absurd (false≢true (sym begins.1 ∙ at))
+field_at bytes (suc end) begins filled within at = (
+  omega arith,
+  field_before bytes (suc end) begins (position_at is_blank bytes (suc end) within (λ k below. no_blank_at bytes (suc end) k filled (omega (arith, within)) below) at),
+)
+
+-- bytes with no blank are one field
+pub field_whole : (bytes : List ℕ) (end : ℕ) → end ≡ length bytes → BeginsField bytes → NoBlanks (take end bytes) → fields_of bytes ≡ bytes ∷ []
+field_whole bytes end is begins filled =
+    field_alone bytes begins (position_none is_blank bytes (λ k below. no_blank_at bytes end k filled (omega (arith, is)) (omega (arith, is, below))))
+
+digit_fills : (b : ℕ) → is_ascii_digit b ≡ true → not (is_blank b) ≡ true
+digit_fills b digit =
+    let low = leb-true 48 b (and_parts (leb 48 b) (leb b 57) digit).0 in
+    rw (ne_eqb b 32 (λ is. absurd (omega (arith, low, is))), ne_eqb b 9 (λ is. absurd (omega (arith, low, is)))) refl
+
+-- digits have no blank
+pub digits_fill : (ds : List ℕ) → list_all is_ascii_digit ds ≡ true → NoBlanks ds
+digits_fill [] e = refl
+digits_fill (d ∷ ds) e =
+    let both = and_parts (is_ascii_digit d) (list_all is_ascii_digit ds) e in
+    rw (digit_fills d both.0, digits_fill ds both.1) refl
+
+-- no byte is no field
+pub no_field : (bytes : List ℕ) → eqb (length bytes) 0 ≡ true → fields_of bytes ≡ []
+no_field [] e = fields_of-nil
+no_field (b ∷ bytes) e = absurd (omega (arith, eqb-true (length (b ∷ bytes)) 0 e))
 
 -- a text without a byte has no line
 pub no_byte : (text : List ℕ) → length text ≡ 0 → lines_of text ≡ []

@@ -59,9 +59,12 @@ ok_or_some : (o : Option ℕ) (cause : Cause) (n : ℕ) → Rattle.std.specs.Opt
 ok_or_some (Some m) cause n e = cc
 ok_or_some None cause n e = absurd cc
 
-numeral_ok : (field : List ℕ) (n : ℕ) → numeral_in field ≡ Ok n → n < 2 ^ 64
+pub numeral_some : (field : List ℕ) (n : ℕ) → numeral_in field ≡ Ok n → number_in field ≡ Some n
 unfolding numeral_in
-numeral_ok field n e = (number_found field n (ok_or_some (number_in field) _ n e)).0
+numeral_some field n e = ok_or_some (number_in field) _ n e
+
+numeral_ok : (field : List ℕ) (n : ℕ) → numeral_in field ≡ Ok n → n < 2 ^ 64
+numeral_ok field n e = (number_found field n (numeral_some field n e)).0
 
 two_ok : (fields : List (List ℕ)) (n : ℕ × ℕ) → two_in fields ≡ Ok n → n.1 < 2 ^ 64
 unfolding two_in

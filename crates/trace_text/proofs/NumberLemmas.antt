@@ -1,10 +1,11 @@
 -- A number is read from a field exactly where the field is its decimal digits.
-use Rattle.std.proofs.Common.{Option, ◌∙◌, ◌≡◌, ℕ, ◌+◌, ◌-◌, ◌*◌, ◌^◌, ◌<◌, ◌≤◌, Bool, true, false, ◌&&◌, if◌then◌else◌, eqb, ltb, leb, List, [], ◌∷◌, length, get_or, take, Some, None, refl, sym, ap, arith, rules, inl, inr}
+use Rattle.std.proofs.Common.{Option, ◌∙◌, ◌≡◌, ℕ, ◌+◌, ◌-◌, ◌*◌, ◌^◌, ◌%◌, ◌<◌, ◌≤◌, Bool, true, false, ◌&&◌, if◌then◌else◌, eqb, ltb, leb, List, [], ◌∷◌, length, get_or, take, Some, None, refl, sym, ap, arith, rules, inl, inr}
 use Rattle.std.specs.Char.{is_ascii_digit, digit_value}
 use Rattle.std.specs.List.{list_all}
 use Rattle.std.specs.Fmt.{decimal}
 use Rattle.std.specs.Prelude.{IfSome}
 use Rattle.std.specs.Str.Parse.{AllDigits, digits_value}
+use Rattle.std.proofs.Math.Nat.{mod-eq_of_lt}
 use Rattle.std.proofs.lemmas.Bool.{cases_Bool, and_parts, eqb-true, eqb-false, eq-eqb, ne_eqb, lt-ltb, le-ltb, ltb-true, leb-true, cases_lt, false≢true}
 use Rattle.std.proofs.lemmas.Fmt.{decimal-digits_value, digits_decimal, digits_value-decimal, decimal_nonempty, first_decimal, decimal_digit}
 use Rattle.std.proofs.lemmas.Int.Digits.{digits_value_more}
@@ -77,8 +78,14 @@ digits_more ds i below front digit =
     )
 
 -- few digits write a number below 2^64
-pub few_digits : (ds : List ℕ) (i : ℕ) → length ds ≤ 19 → list_all is_ascii_digit (take i ds) ≡ true → digits_value 10 (take i ds) < 10 ^ 19
+pub few_digits : (ds : List ℕ) (i : ℕ) → i ≤ 19 → list_all is_ascii_digit (take i ds) ≡ true → digits_value 10 (take i ds) < 10 ^ 19
 few_digits ds i few front = digits_value_short own (take i ds) 19 front (omega (arith, length-take i ds))
+
+-- ten times a number and a digit, where nothing is lost
+pub no_wrap : (n d : ℕ) → n * 10 + d < 2 ^ 64 → ((n * 10) % 2 ^ 64 + d) % 2 ^ 64 ≡ n * 10 + d
+no_wrap n d small =
+    let ten : (n * 10) % 2 ^ 64 ≡ n * 10 = mod-eq_of_lt (omega (arith, small)) in
+    rw ten (mod-eq_of_lt small)
 
 -- bytes of which one is no digit are not all digits
 pub lacks_digit : (ds : List ℕ) (i : ℕ) → i < length ds → is_ascii_digit (get_or ds i 0) ≡ false → list_all is_ascii_digit ds ≡ false

@@ -1,19 +1,18 @@
 -- A loop over the lines, one after the other.
-use Rattle.std.proofs.Common.{◌≡◌, ℕ, ◌+◌, ◌<◌, true, ◌&&◌, List, [], ◌∷◌, ◌++◌, length, map, Ok, Err, refl, sym, ap, subst, arith}
+use Rattle.std.proofs.Common.{◌≡◌, ℕ, zero, suc, ◌+◌, ◌<◌, true, ◌&&◌, List, [], ◌∷◌, ◌++◌, length, get_or, set, map, Ok, Err, refl, sym, ap, subst, arith}
 use Rattle.std.specs.Prelude.{nat_lt}
 use Rattle.std.proofs.lemmas.Bool.{lt-ltb}
 use Rattle.std.proofs.lemmas.List.{map-append}
 use Rattle.trace_text.specs.declared.fault.Stop.{Stop}
 use Rattle.trace_text.specs.declared.fault.Stop.TheVariants as stops
-use Rattle.trace_text.specs.declared.fault.Cause.TheVariants.{NoHeapLine, NoEnd}
 use Rattle.trace_text.specs.declared.stage.ReadingStage.{ReadingStage}
-use Rattle.trace_text.specs.declared.stage.ReadingStage.TheVariants.{Before, Inside, Ended}
+use Rattle.trace_text.specs.declared.stage.ReadingStage.TheVariants.{Inside}
 use Rattle.trace_text.specs.declared.trace.Trace.{Trace}
 use Rattle.trace_text.specs.declared.trace.Version.TheVariants.{Two}
 use Rattle.trace_text.specs.declared.trace.Op.{Op}
 use Rattle.trace_text.specs.Causes.{StopsReading}
 use Rattle.trace_text.specs.Said.{after_line, after_op, op_of, is_unordered, last_with}
-use Rattle.trace_text.specs.Reading.{Reading, Read, AnswersReading, at_end, fault_of, reading_from}
+use Rattle.trace_text.specs.Reading.{Reading, AnswersReading, at_end, fault_of, reading_from}
 
 -- the lines after one that was read are read as the whole from the next stage on
 pub goes_on :
@@ -42,27 +41,16 @@ last_with-append op [] last = refl
 last_with-append op (lane ∷ []) last = refl
 last_with-append op (lane ∷ next ∷ more) last = ap (λ lanes. lane ∷ lanes) (last_with-append op (next ∷ more) last)
 
--- lanes that a view shows have one operation more where the last one was pushed it
-pub last_pushed :
-    {V : Type 0} (items : V → List Op) (op : Op) (old rest new : List V) (last pushed : V) → old ≡ rest ++ last ∷ []
-    → items pushed ≡ items last ++ op ∷ [] → new ≡ rest ++ pushed ∷ [] → map items new ≡ last_with op (map items old)
-last_pushed items op old rest new last pushed was more now =
-    rw (was, now, map-append, map-append, more) (sym (last_with-append op (map items rest) (items last)))
-
--- the three ends of a text
-pub read_at_end : (trace : Trace) (number : ℕ) (stage : ReadingStage) (reading : Reading) → stage ≡ Ended trace → at_end number stage ≡ reading → reading ≡ Read trace
-unfolding at_end
-read_at_end trace number stage reading is e = sym (rw is at e)
-
-pub no_heap_line : (number : ℕ) (stage : ReadingStage) (reading : Reading) → stage ≡ Before → at_end number stage ≡ reading → AnswersReading (Err (fault_of number (stops.Because NoHeapLine))) reading
-unfolding at_end
-no_heap_line number stage reading is e =
-    subst (λ r. AnswersReading (Err (fault_of number (stops.Because NoHeapLine))) r) (rw is at e) (refl, refl)
-
-pub no_end : (trace : Trace) (number : ℕ) (stage : ReadingStage) (reading : Reading) → stage ≡ Inside trace → at_end number stage ≡ reading → AnswersReading (Err (fault_of number (stops.Because NoEnd))) reading
-unfolding at_end
-no_end trace number stage reading is e =
-    subst (λ r. AnswersReading (Err (fault_of number (stops.Because NoEnd))) r) (rw is at e) (refl, refl)
+-- lanes that a view shows have one operation more where the last one was given it
+pub last_given :
+    {V : Type 0} (items : V → List Op) (op : Op) (lanes : List V) (i : ℕ) (last given : V) → i + 1 ≡ length lanes → last ≡ get_or lanes i last
+    → items given ≡ items last ++ op ∷ [] → map items (set lanes i given) ≡ last_with op (map items lanes)
+last_given items op [] i last given is was more = absurd (omega (arith, is))
+last_given items op (lane ∷ []) zero last given is was more = rw (more, was) refl
+last_given items op (lane ∷ []) (suc i) last given is was more = absurd (omega (arith, is))
+last_given items op (lane ∷ next ∷ lanes) zero last given is was more = absurd (omega (arith, is))
+last_given items op (lane ∷ next ∷ lanes) (suc i) last given is was more =
+    ap (λ lanes. items lane ∷ lanes) (last_given items op (next ∷ lanes) i last given (omega (arith, is)) was more)
 
 -- a trace with some lane and no order run passes the test for an operation's line
 in_lane : (trace : Trace) → (trace.lanes ≡ [] → ⊥) → trace.orders ≡ [] → (nat_lt 0 (length trace.lanes) && is_unordered trace) ≡ true

@@ -33,7 +33,7 @@ abbrev pub StopsReading : {Y : Type 0} → Stop → Result Y Cause → Type 0
 StopsReading stops.OutOfMemory said = Unit {0}
 StopsReading (stops.Because cause) said = said ≡ Err cause
 
--- what a function returned is what the grammar says, unless memory ran out
-abbrev pub Gives : {X : Type 0} → Result X Stop → Result X Cause → Type 0
-Gives (Ok x) said = said ≡ Ok x
-Gives (Err stop) said = StopsReading stop said
+-- what a function left is what the grammar says, unless it stopped
+abbrev pub Leaves : {X : Type 0} → Result (Unit {0}) Stop → X → Result X Cause → Type 0
+Leaves (Ok _) left said = said ≡ Ok left
+Leaves (Err stop) left said = StopsReading stop said

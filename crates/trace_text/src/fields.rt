@@ -1,6 +1,6 @@
 //! What the fields behind a word say.
 
-ghost use Rattle.std.specs.Prelude.{◌≡◌, ◌∷◌, ◌<◌, ◌≤◌, ◌^◌, IfOk, OnOk};
+ghost use Rattle.std.specs.Prelude.{◌≡◌, ◌∷◌, ◌<◌, ◌≤◌, ◌^◌, Ok, IfOk, IfSome, OnOk};
 ghost use Rattle.std.specs.Option.{option_copied};
 ghost use Rattle.trace_text.specs.declared.limits.TheConstants.{MAX_LANES};
 ghost use Rattle.trace_text.specs.Causes.{TellsCause};
@@ -9,8 +9,8 @@ ghost use Rattle.trace_text.specs.Said.{numeral_in, ranged, register_of, need_of
 
 use crate::fault::Cause;
 use crate::limits::{ORDER_MOST, REGISTERS};
-use crate::lines::first_field;
-use crate::numbers::number;
+use crate::lines::{field_to, first_field};
+use crate::numbers::{SHORT, digits_number, first_digits, number};
 use crate::trace::{Op, OrderRun, Version};
 use heap_geometry::limits::{LARGE_MOST, SHELVES};
 
@@ -63,6 +63,22 @@ fn field(fields: &[u8]) -> Result<(&[u8], &[u8]), Cause>
     first_field(fields).ok_or(Cause::WrongFields)
 }
 
+/// The first field and its number, and what is left behind it, if the bytes begin with few digits
+/// that are a number.
+#[inline(always)]
+#[tactic(auto, unfolding(crate::specs::Said::numeral_in))]
+fn plain_number(bytes: &[u8]) -> Option<(&[u8], u64, &[u8])>
+    ensures field { IfSome result (λ p. fields_of bytes.now ≡ p.0.now ∷ fields_of p.2.now) }
+    ensures number { IfSome result (λ p. numeral_in p.0.now ≡ Ok p.1) }
+{
+    let (len, n) = first_digits(bytes);
+    if len == 0 || len > SHORT {
+        return None;
+    }
+    let (digits, rest) = field_to(bytes, len)?;
+    Some((digits, digits_number(digits, n)?, rest))
+}
+
 /// No field behind the word.
 pub(crate) fn none(fields: &[u8]) -> Result<(), Cause>
     ensures { TellsCause (λ _. tt) result (none_in (fields_of fields.now)) }
@@ -73,9 +89,10 @@ pub(crate) fn none(fields: &[u8]) -> Result<(), Cause>
     }
 }
 
-/// The number that is the one field behind the word.
+/// The number that is the one field behind the word, whatever the bytes are.
+#[cold]
 #[tactic(auto, unfolding(crate::specs::Said::one_in))]
-fn one(fields: &[u8]) -> Result<u64, Cause>
+fn any_one(fields: &[u8]) -> Result<u64, Cause>
     ensures { result ≡ one_in (fields_of fields.now) }
 {
     let (a, rest) = field(fields)?;
@@ -83,9 +100,10 @@ fn one(fields: &[u8]) -> Result<u64, Cause>
     numeral(a)
 }
 
-/// The numbers that are the two fields behind the word.
+/// The numbers that are the two fields behind the word, whatever the bytes are.
+#[cold]
 #[tactic(auto, unfolding(crate::specs::Said::two_in))]
-fn two(fields: &[u8]) -> Result<(u64, u64), Cause>
+fn any_two(fields: &[u8]) -> Result<(u64, u64), Cause>
     ensures { result ≡ two_in (fields_of fields.now) }
 {
     let (a, rest) = field(fields)?;
@@ -94,14 +112,57 @@ fn two(fields: &[u8]) -> Result<(u64, u64), Cause>
     Ok((numeral(a)?, numeral(b)?))
 }
 
-/// The numbers that are the three fields behind the word.
+/// The numbers that are the three fields behind the word, whatever the bytes are.
+#[cold]
 #[tactic(auto, unfolding(crate::specs::Said::three_in))]
-fn three(fields: &[u8]) -> Result<(u64, u64, u64), Cause>
+fn any_three(fields: &[u8]) -> Result<(u64, u64, u64), Cause>
     ensures { result ≡ three_in (fields_of fields.now) }
 {
     let (a, rest) = field(fields)?;
-    let (b, c) = two(rest)?;
-    Ok((numeral(a)?, b, c))
+    let (b, rest) = field(rest)?;
+    let (c, rest) = field(rest)?;
+    none(rest)?;
+    Ok((numeral(a)?, numeral(b)?, numeral(c)?))
+}
+
+/// The number that is the one field behind the word.
+#[inline(always)]
+fn one(fields: &[u8]) -> Result<u64, Cause>
+    ensures { result ≡ one_in (fields_of fields.now) }
+{
+    if let Some((_, a, rest)) = plain_number(fields)
+        && rest.is_empty()
+    {
+        return Ok(a);
+    }
+    any_one(fields)
+}
+
+/// The numbers that are the two fields behind the word.
+fn two(fields: &[u8]) -> Result<(u64, u64), Cause>
+    ensures { result ≡ two_in (fields_of fields.now) }
+{
+    if let Some((_, a, rest)) = plain_number(fields)
+        && let Some((_, b, rest)) = plain_number(rest)
+        && rest.is_empty()
+    {
+        return Ok((a, b));
+    }
+    any_two(fields)
+}
+
+/// The numbers that are the three fields behind the word.
+fn three(fields: &[u8]) -> Result<(u64, u64, u64), Cause>
+    ensures { result ≡ three_in (fields_of fields.now) }
+{
+    if let Some((_, a, rest)) = plain_number(fields)
+        && let Some((_, b, rest)) = plain_number(rest)
+        && let Some((_, c, rest)) = plain_number(rest)
+        && rest.is_empty()
+    {
+        return Ok((a, b, c));
+    }
+    any_three(fields)
 }
 
 #[tactic(auto, unfolding(crate::specs::Said::alloc_in))]

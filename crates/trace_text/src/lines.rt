@@ -1,6 +1,6 @@
 //! The lines of a text, and the fields of a line.
 
-ghost use Rattle.std.specs.Prelude.{◌≡◌, ◌∷◌, ◌==◌, ◌<◌, [], not, length, position, IfSome, MatchOption};
+ghost use Rattle.std.specs.Prelude.{◌≡◌, ◌∷◌, ◌==◌, ◌<◌, ◌≤◌, [], not, true, length, position, take, IfSome, MatchOption};
 ghost use Rattle.std.specs.List.{list_all};
 ghost use Rattle.trace_text.specs.Lines.{without_return, lines_of, fields_of, is_blank, is_plain, is_comment, BeginsField};
 
@@ -84,7 +84,7 @@ fn field_end(bytes: &[u8]) -> Option<usize>
 }
 
 /// A line from its first field on.
-fn from_field(line: &[u8]) -> Option<&[u8]>
+pub(crate) fn from_field(line: &[u8]) -> Option<&[u8]>
     ensures { MatchOption result (fields_of line.now ≡ [])
         (λ bytes. (fields_of line.now ≡ fields_of bytes.now) × BeginsField bytes.now) }
 {
@@ -105,5 +105,21 @@ pub(crate) fn first_field(line: &[u8]) -> Option<(&[u8], &[u8])>
     match field_end(bytes) {
         Some(end) => Some((&bytes[..end], &bytes[end + 1..])),
         None => Some((bytes, &[])),
+    }
+}
+
+/// The field that the bytes begin with, and what is left behind it, if it ends at this place.
+pub(crate) fn field_to(bytes: &[u8], end: usize) -> Option<(&[u8], &[u8])>
+    requires within { end ≤ length bytes.now }
+    requires begins { BeginsField bytes.now }
+    requires filled { list_all (λ b. not (is_blank b)) (take end bytes.now) ≡ true }
+    ensures { IfSome result (λ p. (p.0.now ≡ take end bytes.now) × (0 < end) × (fields_of bytes.now ≡ p.0.now ∷ fields_of p.1.now)) }
+{
+    if end == bytes.len() {
+        Some((bytes, &[]))
+    } else if is_blank(bytes[end]) {
+        Some((&bytes[..end], &bytes[end + 1..]))
+    } else {
+        None
     }
 }

@@ -1,11 +1,17 @@
 //! Where the reader stands in a text, and what one line says there.
 
-ghost use Rattle.std.specs.Prelude.{◌≡◌};
-ghost use Rattle.trace_text.specs.Causes.{Gives};
-ghost use Rattle.trace_text.specs.Lines.{fields_of};
-ghost use Rattle.trace_text.specs.Said.{heap_in, version_in, after_lane, after_order, after_end, after_op, after_inner, after_first, after_word, after_line, after_fields};
+ghost use Rattle.std.specs.Prelude.{◌≡◌, codes, true, false};
+ghost use Rattle.std.specs.List.{list_all};
+ghost use Rattle.std.specs.Str.{bytes_eq};
+ghost use Rattle.trace_text.specs.Causes.{Leaves};
+ghost use Rattle.trace_text.specs.Lines.{fields_of, is_plain};
+ghost use Rattle.trace_text.specs.Said.{heap_in, version_in, after_lane, after_order, after_op, after_inner, after_first, after_word, after_line};
 ghost use Rattle.trace_text.specs.Stages.{HasTrace};
 ghost use Rattle.trace_text.specs.Traces.{IsTrace};
+ghost use Rattle.trace_text.specs.declared.fault.Cause.TheVariants.{NotAscii};
+ghost use Rattle.trace_text.specs.declared.fault.Stop.TheVariants as stops;
+ghost use Rattle.trace_text.specs.declared.stage.ReadingStage.TheVariants.{Inside, Ended};
+ghost use Rattle.trace_text.specs.declared.trace.Trace.{Trace};
 ghost use Rattle.trace_text.specs.declared.trace.Version.TheVariants.{Two};
 
 use crate::fault::{Cause, Stop};
@@ -16,6 +22,7 @@ use crate::trace::{Lanes, Orders, Trace, Version};
 use heap_geometry::geometry::Geometry;
 use heap_geometry::limits::{MAX_FRAMES, MAX_HEAPS, MAX_TURNS, MAX_UNITS};
 use std::alloc::Global;
+use std::mem;
 
 /// Where the reader stands: before the heap line, behind it with the trace so far, or behind `end`
 /// with the whole trace.
@@ -67,9 +74,9 @@ fn heap(alloc: Global, version: Version, fields: &[u8]) -> Result<Trace, Cause>
 
 /// A line `lane`.
 #[tactic(auto, unfolding(crate::specs::Said::after_lane))]
-fn lane(alloc: Global, mut trace: Trace, fields: &[u8]) -> Result<ReadingStage, Stop>
-    requires { IsTrace trace }
-    ensures { Gives result (after_lane trace (fields_of fields.now)) }
+fn lane(alloc: Global, trace: &mut Trace, fields: &[u8]) -> Result<(), Stop>
+    requires { IsTrace trace.old }
+    ensures { Leaves result (Inside trace.new) (after_lane trace.old (fields_of fields.now)) }
 {
     if !trace.orders.is_empty() {
         return Err(Stop::Because(Cause::UnknownOp));
@@ -80,54 +87,44 @@ fn lane(alloc: Global, mut trace: Trace, fields: &[u8]) -> Result<ReadingStage, 
     }
     trace.heap.callers = trace.lanes.len() as u32 + 1;
     trace.lanes.push_lane(alloc)?;
-    Ok(ReadingStage::Inside(trace))
+    Ok(())
 }
 
 /// An order line.
 #[tactic(auto, unfolding(crate::specs::Said::after_order))]
-fn order_run(mut trace: Trace, fields: &[u8]) -> Result<ReadingStage, Stop>
-    requires { IsTrace trace }
-    ensures { Gives result (after_order trace (fields_of fields.now)) }
+fn order_run(trace: &mut Trace, fields: &[u8]) -> Result<(), Stop>
+    requires { IsTrace trace.old }
+    ensures { Leaves result (Inside trace.new) (after_order trace.old (fields_of fields.now)) }
 {
     let run = order(trace.lanes.len(), fields)?;
     trace.orders.push(run)?;
-    Ok(ReadingStage::Inside(trace))
-}
-
-/// The line `end`.
-#[tactic(auto, unfolding(crate::specs::Said::after_end))]
-fn end(trace: Trace, fields: &[u8]) -> Result<ReadingStage, Cause>
-    ensures { result ≡ after_end trace (fields_of fields.now) }
-{
-    none(fields)?;
-    Ok(ReadingStage::Ended(trace))
+    Ok(())
 }
 
 /// An operation of the last lane.
 #[tactic(auto, unfolding(crate::specs::Said::after_op))]
-fn operation(mut trace: Trace, word: &[u8], fields: &[u8]) -> Result<ReadingStage, Stop>
-    ensures { Gives result (after_op trace word.now (fields_of fields.now)) }
+fn operation(trace: &mut Trace, word: &[u8], fields: &[u8]) -> Result<(), Stop>
+    ensures { Leaves result (Inside trace.new) (after_op trace.old word.now (fields_of fields.now)) }
 {
     if trace.lanes.is_empty() || !trace.orders.is_empty() {
         return Err(Stop::Because(Cause::UnknownOp));
     }
     let op = op(trace.version, word, fields)?;
     trace.lanes.push_op(op)?;
-    Ok(ReadingStage::Inside(trace))
+    Ok(())
 }
 
 /// A line between the heap line and `end`.
 #[tactic(auto, unfolding(crate::specs::Said::after_inner))]
-fn inner(alloc: Global, trace: Trace, word: &[u8], fields: &[u8]) -> Result<ReadingStage, Stop>
-    requires { IsTrace trace }
-    ensures { Gives result (after_inner trace word.now (fields_of fields.now)) }
+fn inner(alloc: Global, trace: &mut Trace, word: &[u8], fields: &[u8]) -> Result<(), Stop>
+    requires named { IsTrace trace.old }
+    requires goes_on { bytes_eq word.now (codes "end") ≡ false }
+    ensures { Leaves result (Inside trace.new) (after_inner trace.old word.now (fields_of fields.now)) }
 {
     if word == b"lane".as_slice() {
         lane(alloc, trace, fields)
     } else if word == b"order".as_slice() {
         order_run(trace, fields)
-    } else if word == b"end".as_slice() {
-        Ok(end(trace, fields)?)
     } else {
         operation(trace, word, fields)
     }
@@ -142,32 +139,63 @@ fn first(alloc: Global, word: &[u8], fields: &[u8]) -> Result<ReadingStage, Caus
     Ok(ReadingStage::Inside(heap(alloc, version, fields)?))
 }
 
+/// Why a line is refused, of which its bytes are the first test.
+fn refused(line: &[u8], stop: Stop) -> Stop
+    ensures plain { list_all is_plain line.now ≡ true → result ≡ stop }
+    ensures other { list_all is_plain line.now ≡ false → result ≡ stops.Because NotAscii }
+{
+    if is_plain(line) {
+        stop
+    } else {
+        Stop::Because(Cause::NotAscii)
+    }
+}
+
 impl ReadingStage {
-    /// Where the reader stands after a line with a word.
-    #[tactic(auto, unfolding(crate::specs::Said::after_word))]
-    fn after_word(self, alloc: Global, word: &[u8], fields: &[u8]) -> Result<ReadingStage, Stop>
-        requires { HasTrace self }
-        ensures { Gives result (after_word Two self word.now (fields_of fields.now)) }
+    /// The trace so far becomes the whole trace.
+    fn end(&mut self)
+        ensures { (trace : Trace) → self.old ≡ Inside trace → self.new ≡ Ended trace }
     {
-        match self {
-            ReadingStage::Before => Ok(first(alloc, word, fields)?),
-            ReadingStage::Inside(trace) => inner(alloc, trace, word, fields),
-            ReadingStage::Ended(_) => Err(Stop::Because(Cause::UnknownOp)),
-        }
+        *self = match mem::replace(self, ReadingStage::Before) {
+            ReadingStage::Inside(trace) => ReadingStage::Ended(trace),
+            other => other,
+        };
     }
 
-    /// Where the reader stands after a line.
-    #[tactic(auto, unfolding(crate::specs::Said::after_line, crate::specs::Said::after_fields))]
-    pub(crate) fn after_line(self, alloc: Global, line: &[u8]) -> Result<ReadingStage, Stop>
-        requires { HasTrace self }
-        ensures { Gives result (after_line Two self line.now) }
+    /// A line with a word.
+    #[tactic(auto, unfolding(crate::specs::Said::after_word, crate::specs::Said::after_inner, crate::specs::Said::after_end))]
+    fn read_word(&mut self, alloc: Global, word: &[u8], fields: &[u8]) -> Result<(), Stop>
+        requires { HasTrace self.old }
+        ensures { Leaves result self.new (after_word Two self.old word.now (fields_of fields.now)) }
     {
-        if !is_plain(line) {
-            return Err(Stop::Because(Cause::NotAscii));
+        match self {
+            ReadingStage::Before => *self = first(alloc, word, fields)?,
+            ReadingStage::Inside(_) if word == b"end".as_slice() => {
+                none(fields)?;
+                self.end();
+            }
+            ReadingStage::Inside(trace) => inner(alloc, trace, word, fields)?,
+            ReadingStage::Ended(_) => return Err(Stop::Because(Cause::UnknownOp)),
         }
+        Ok(())
+    }
+
+    /// A line. A word and fields that are taken have plain bytes alone, so the bytes of such a line
+    /// are not gone over again.
+    #[tactic(auto, unfolding(crate::specs::Said::after_line, crate::specs::Said::after_fields))]
+    pub(crate) fn read_line(&mut self, alloc: Global, line: &[u8]) -> Result<(), Stop>
+        requires { HasTrace self.old }
+        ensures { Leaves result self.new (after_line Two self.old line.now) }
+    {
         match first_field(line) {
-            Some((word, fields)) if !is_comment(word) => self.after_word(alloc, word, fields),
-            _ => Ok(self),
+            Some((word, fields)) if !is_comment(word) => {
+                if let Err(stop) = self.read_word(alloc, word, fields) {
+                    return Err(refused(line, stop));
+                }
+                Ok(())
+            }
+            _ if is_plain(line) => Ok(()),
+            _ => Err(Stop::Because(Cause::NotAscii)),
         }
     }
 }

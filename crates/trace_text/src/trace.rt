@@ -85,11 +85,9 @@ fn push_onto_last(lanes: &mut Vec<Vec<Op>>, op: Op) -> Result<(), AllocError>
     ensures { OnOk result (map (λ ops. ops.items) lanes.new.items
         ≡ last_with op (map (λ ops. ops.items) lanes.old.items)) }
 {
-    let Some(mut last) = lanes.pop() else {
-        return Ok(());
-    };
-    last.push(op)?;
-    lanes.push(last)?;
+    if let Some(last) = lanes.last_mut() {
+        last.push(op)?;
+    }
     Ok(())
 }
 

@@ -1,5 +1,5 @@
--- The words come in by their place; they go out again, or others.
-use Rattle.plain_words.proofs.Names.{ℕ, ◌^◌, ◌<◌, List, [], ◌∷◌, refl, ap, w64, named, Val, vint, vptr, SProp, ftrue, flft, ‵, raw, ◌⊛◌, some, later, ◌$◌, ◌∵◌, !, qed, by, move, keep, drop, split, split3, join, pick, fsplit, fsplit3, fjoin, fjoin3, fpack, await, use1, rewrite, feq_i, flt_i, stop, fld, of_opd, no_more, and_then, returns, enter, alloc_all, pass_all, free_all, look_at, get, get_in, through, sets, sub, whole, tables, yes, RattleType, owns, types_at, plain, ptr_val, nothing, opens, closes, heard, Stays, stay_dropped, stay_ref, walk_of, Goes-dropped, Goes-ref, fact, id⊢, usize, mut_vals, mut_Tells, uint_vals, uint_Tells, proved, leaves, full_share, RawPtr, ◌≡◌, emp, use0, agg, fact_i}
+-- The words come in by the first of them; they go out again, or others.
+use Rattle.plain_words.proofs.Names.{ℕ, ◌^◌, ◌<◌, List, [], ◌∷◌, refl, ap, w64, named, Val, vint, vptr, SProp, ftrue, flft, ‵, raw, ◌⊛◌, some, later, ◌$◌, ◌∵◌, !, qed, by, move, keep, drop, split, split3, join, pick, fsplit, fsplit3, fjoin, fjoin3, fpack, await, use1, rewrite, feq_i, flt_i, stop, fld, of_opd, no_more, and_then, returns, enter, alloc_all, pass_all, free_all, look_at, get, get_in, through, sets, sub, whole, tables, yes, RattleType, owns, types_at, plain, ptr_val, nothing, opens, closes, heard, Stays, stay_dropped, stay_ref, walk_of, Goes-dropped, Goes-ref, fact, id⊢, usize, mut_vals, mut_Tells, uint_vals, uint_Tells, proved, leaves, full_share, RawPtr, emp, use0, agg, fact_i}
 use Rattle.plain_words.proofs.Made.{token_val, Token, token_made}
 use Rattle.std.proofs.Common.{w32}
 use base.Fml.{fex}
@@ -28,8 +28,7 @@ use Rattle.balloc_malloc.proofs.balloc_malloc_resize.Code as code
 use Rattle.balloc_malloc.proofs.Values.{bare_told, handed_good}
 use denote.Builtin.{u32}
 use Rattle.plain_words.specs.Owned.{plain_owns}
-use Rattle.live_heap.specs.declared.plain.Memory.{Memory}
-use Rattle.balloc_malloc.specs.Resizes.{IsNumbered, ResizesBy}
+use Rattle.balloc_malloc.specs.Resizes.{AreNumbered, ResizesBy}
 use Rattle.balloc_malloc.specs.Out.{HasOut}
 use Rattle.balloc_malloc.specs.contracts.calls.resize as resizing
 use Rattle.balloc_malloc.proofs.calls.resize.Met.{met as resizes}
@@ -38,24 +37,24 @@ pub balloc_malloc_resize_spec : {M : Type 1} → statement M
 balloc_malloc_resize_spec 𝓤 𝓛 𝓜 𝓡 wired =
     let H = 𝓛.H in let 𝓣 = tables 𝓤 H 𝓜 𝓡 𝓡.env in let Se : RattleType = seat.the_row in let Hd : RattleType = handed.the_row in let c = clauses 𝓛 𝓜.mem 𝓡.returns in let fn = code.function in
     let one = plain (λ _. Se) in let number = plain (λ _. u32) in let pointer = plain (λ _. RawPtr) in let count = plain (λ _. usize) in
-    let hs : Stays ended.signature.params ended.kept = (gave_ref (0 ∷ []) tt one, (stay_dropped number yes, (stay_dropped number yes, (stay_dropped count yes, (stay_ref (1 ∷ []) tt pointer, tt))))) in
-    proved 𝓛 ended hs c 𝓜 𝓡 (Goes-gave_ref 𝓛 2 0 tt one, (Goes-dropped 𝓛 2 number yes (λ κs x f. refl), (Goes-dropped 𝓛 2 number yes (λ κs x f. refl), (Goes-dropped 𝓛 2 count yes (λ κs x f. refl), (Goes-ref 𝓛 2 1 tt pointer, tt))))) #self fn (code.unfolded 𝓤 H 𝓜 𝓡 wired)
-    (λ κs. (mut_vals, (uint_vals w32, (uint_vals w32, (uint_vals w64, (mut_vals, tt)))))) (λ κs. (mut_Tells (named 0) κs.0 Se, (uint_Tells w32, (uint_Tells w32, (uint_Tells w64, (mut_Tells (named 1) κs.1.0 RawPtr, tt)))))) (λ κs qs bounds a gh are.
-    let s = a.0 in let i : ℕ = a.1.0 in let j : ℕ = a.1.1.0 in let n : ℕ = a.1.1.1.0 in let m = a.1.1.1.1.0 in let lot : Memory = gh in let w : PlainWords = lot.words in let sb : ℕ = s.ref_ptr.0 in let so : ℕ = s.ref_ptr.1 in let mb : ℕ = m.ref_ptr.0 in let mo : ℕ = m.ref_ptr.1 in let was = s.now.held.tenant in
-    let y : (walk_of 𝓛 ended hs c).Ghost = ((κs, qs, bounds, a, (vptr sb so ∷ [], (vint w32 i ∷ [], (vint w32 j ∷ [], (vint w64 n ∷ [], (vptr mb mo ∷ [], tt)))))), gh) in let Post : Val → SProp 𝓤 = (walk_of 𝓛 ended hs c).post y in
-    let k = triple_of 𝓛 resizing.signature (resizing.spec 𝓛 𝓜.mem 𝓡.returns) in let z : k.Ghost = (((κs.0, tt), (qs.0, tt), tt, (s, (w, (i, (j, (n, tt))))), (vptr sb so ∷ [], (token_val ∷ [], (vint w32 i ∷ [], (vint w32 j ∷ [], (vint w64 n ∷ [], tt)))))), tt) in
-    let Asked : Type 0 = HasOut was lot i j in let Numbered : Type 0 = IsNumbered lot in
-    qed 𝓛 (((‵ (flft κs.0 qs.0) ⊛ ‵ (flft κs.1.0 qs.1.0) ⊛ ‵ ftrue) ⊛ ‵ (owns (types_at ended.signature.params κs) a y.0.4)) ∷ raw (fact 𝓤 Asked) ∷ raw (fact 𝓤 Numbered) ∷ ‵ (words_own (Some lot.words)) ∷ []) ∵
+    let hs : Stays ended.signature.params ended.kept = (gave_ref (0 ∷ []) tt one, (stay_dropped count yes, (stay_dropped number yes, (stay_dropped count yes, (stay_ref (1 ∷ []) tt pointer, tt))))) in
+    proved 𝓛 ended hs c 𝓜 𝓡 (Goes-gave_ref 𝓛 2 0 tt one, (Goes-dropped 𝓛 2 count yes (λ κs x f. refl), (Goes-dropped 𝓛 2 number yes (λ κs x f. refl), (Goes-dropped 𝓛 2 count yes (λ κs x f. refl), (Goes-ref 𝓛 2 1 tt pointer, tt))))) #self fn (code.unfolded 𝓤 H 𝓜 𝓡 wired)
+    (λ κs. (mut_vals, (uint_vals w64, (uint_vals w32, (uint_vals w64, (mut_vals, tt)))))) (λ κs. (mut_Tells (named 0) κs.0 Se, (uint_Tells w64, (uint_Tells w32, (uint_Tells w64, (mut_Tells (named 1) κs.1.0 RawPtr, tt)))))) (λ κs qs bounds a gh are.
+    let s = a.0 in let i : ℕ = a.1.0 in let j : ℕ = a.1.1.0 in let n : ℕ = a.1.1.1.0 in let m = a.1.1.1.1.0 in let w : PlainWords = gh in let sb : ℕ = s.ref_ptr.0 in let so : ℕ = s.ref_ptr.1 in let mb : ℕ = m.ref_ptr.0 in let mo : ℕ = m.ref_ptr.1 in let was = s.now.held.tenant in
+    let y : (walk_of 𝓛 ended hs c).Ghost = ((κs, qs, bounds, a, (vptr sb so ∷ [], (vint w64 i ∷ [], (vint w32 j ∷ [], (vint w64 n ∷ [], (vptr mb mo ∷ [], tt)))))), gh) in let Post : Val → SProp 𝓤 = (walk_of 𝓛 ended hs c).post y in
+    let k = triple_of 𝓛 resizing.signature (resizing.spec 𝓛 𝓜.mem 𝓡.returns) in let z : k.Ghost = (((κs.0, tt), (qs.0, tt), tt, (s, (w, (i, (j, (n, tt))))), (vptr sb so ∷ [], (token_val ∷ [], (vint w64 i ∷ [], (vint w32 j ∷ [], (vint w64 n ∷ [], tt)))))), tt) in
+    let Asked : Type 0 = HasOut was w i j in let Numbered : Type 0 = AreNumbered w in
+    qed 𝓛 (((‵ (flft κs.0 qs.0) ⊛ ‵ (flft κs.1.0 qs.1.0) ⊛ ‵ ftrue) ⊛ ‵ (owns (types_at ended.signature.params κs) a y.0.4)) ∷ raw (fact 𝓤 Asked) ∷ raw (fact 𝓤 Numbered) ∷ ‵ (words_own (Some w)) ∷ []) ∵
     move ! (1 ∷ []) $ heard ! Asked (λ asked. move ! (1 ∷ []) $ heard ! Numbered (λ numbered. split ! $ split3 ! $ move ! (3 ∷ []) $ fsplit ! $ move ! (1 ∷ []) $ fsplit ! $ move ! (1 ∷ []) $ fsplit ! $ move ! (1 ∷ []) $ fsplit ! $ move ! (1 ∷ []) $ fsplit ! $ fsplit3 ! $
     keep ! (11 ∷ 7 ∷ 6 ∷ 5 ∷ 4 ∷ 8 ∷ 1 ∷ 2 ∷ 9 ∷ []) $
-    -- [the words; the seat; the place; the kind; the bytes; the token of its loan; two parts of the variable; the token of its loan]
-    enter ! 𝓣.C 𝓣.Λ fn (vptr sb so ∷ vint w32 i ∷ vint w32 j ∷ vint w64 n ∷ vptr mb mo ∷ []) Post $ alloc_all ! (λ l. pass_all ! refl ((tt, tt), ((tt, record { fits = are.1.0.1 }), ((tt, record { fits = are.1.1.0.1 }), ((tt, record { fits = are.1.1.1.0.1 }), ((tt, tt), tt))))) $
+    -- [the words; the seat; the first word; the size; the bytes; the token of its loan; two parts of the variable; the token of its loan]
+    enter ! 𝓣.C 𝓣.Λ fn (vptr sb so ∷ vint w64 i ∷ vint w32 j ∷ vint w64 n ∷ vptr mb mo ∷ []) Post $ alloc_all ! (λ l. pass_all ! refl ((tt, tt), ((tt, record { fits = are.1.0.1 }), ((tt, record { fits = are.1.1.0.1 }), ((tt, record { fits = are.1.1.1.0.1 }), ((tt, tt), tt))))) $
     sets ! (agg ! (no_more !)) refl (tt, tt) $ sets ! (agg ! (and_then ! (get ! refl) (no_more !))) refl (tt, (tt, tt)) $ sets ! (addr ! (through ! refl (stop !))) refl (tt, tt) $
     use1 𝓛 (‵ (plain_owns w.at w.first w.places)) (id⊢ 𝓤 _) $ use0 𝓛 (‵ ((Token RawPtr).own_val (record {}, tt) (token_val ∷ []))) (token_made RawPtr 𝓛) $ fjoin ! $ nothing ! $ move ! (5 ∷ 0 ∷ []) $ fjoin ! $ move ! (4 ∷ 0 ∷ []) $ fjoin ! $ move ! (3 ∷ 0 ∷ []) $ fjoin ! $ move ! (1 ∷ 0 ∷ []) $ fjoin ! $ move ! (1 ∷ 0 ∷ []) $ fjoin ! $ nothing ! $ move ! (2 ∷ 0 ∷ []) $ join ! $ join ! $
-    let Req : Type 0 = (lot' : Memory) × (w ≡ lot'.words) × HasOut was lot' i j × IsNumbered lot' in
-    use0 𝓛 (raw (fact 𝓤 Req)) (fact_i 𝓤 Req (emp 𝓤) (lot, refl, asked, numbered)) $ move ! (1 ∷ 0 ∷ []) $ join ! $ use1 𝓛 (raw (k.pre z)) (id⊢ 𝓤 _) $
+    let Req : Type 0 = Asked × Numbered in
+    use0 𝓛 (raw (fact 𝓤 Req)) (fact_i 𝓤 Req (emp 𝓤) (asked, numbered)) $ move ! (1 ∷ 0 ∷ []) $ join ! $ use1 𝓛 (raw (k.pre z)) (id⊢ 𝓤 _) $
     calls_at ! (fm 𝓛 𝓜 𝓡) k (resizes 𝓤 𝓛 𝓜 𝓡 (code.calls-balloc_malloc::calls::resize 𝓡.env wired)) z (and_then ! (get ! refl) (and_then ! (get ! refl) (and_then ! (get ! refl) (and_then ! (get ! refl) (and_then ! (get ! refl) (no_more !)))))) (λ v.
-    let Told : Hd.Denot → ThreadSeat → Type 0 = λ r t. (lot' : Memory) → w ≡ lot'.words → HasOut was lot' i j → ResizesBy was lot' n r.code r.words r.memory t.held.tenant in
+    let Told : Hd.Denot → ThreadSeat → Type 0 = λ r t. ResizesBy was w j n r.code r.words r.memory t.held.tenant in
     use1 𝓛 (later (some (λ (r : Hd.Denot). ((‵ (flft κs.0 qs.0) ⊛ ‵ ftrue) ⊛ ‵ (Hd.own_val r (v ∷ []))) ⊛ some (λ (ls : Lasts resizing.ended (κs.0, tt) z.0.3). ‵ (lasts resizing.ended (κs.0, tt) z.0.3 ls) ⊛ raw (fact 𝓤 (Told r ls.0)))))) (id⊢ 𝓤 (k.post z v)) $
     await ! tt $ pick ! (λ r. split ! $ move ! (1 ∷ []) $ pick ! (λ ls. split ! $ move ! (1 ∷ []) $ heard ! (Told r ls.0) (λ told. fsplit ! $ move ! (2 ∷ []) $ split ! $ move ! (1 ∷ []) $
     peeks ! Hd _ (shows 𝓛 Hd) r (v ∷ []) (λ is. let e = (bare_told r.memory r.code (v ∷ []) is.0).0 in let fits : r.code < 2 ^ 32 = (bare_told r.memory r.code (v ∷ []) is.0).1 in
@@ -67,7 +66,7 @@ balloc_malloc_resize_spec 𝓤 𝓛 𝓜 𝓡 wired =
     assigns ! (of_opd ! (get ! refl)) (through ! refl (stop !)) (store ! 0 refl (Ptr-Good r.memory)) $ sets ! (of_opd ! (get ! refl)) refl (tt, record { fits = fits }) $
     feq_i ! (List Val) (ptr_val r.memory ∷ []) (ptr_val r.memory ∷ []) refl $ move ! (1 ∷ 0 ∷ []) $ closes ! tt RawPtr r.memory (ptr_val r.memory ∷ []) mb mo $ feq_i ! (List Val) (vptr mb mo ∷ []) (vptr mb mo ∷ []) refl $ fjoin3 ! $
     nothing ! $ move ! (1 ∷ 0 ∷ []) $ fjoin ! $ nothing ! $ fjoin ! $ nothing ! $ fjoin ! $ nothing ! $ fjoin ! $ move ! (4 ∷ 0 ∷ []) $ fjoin ! $ move ! (3 ∷ []) $ split ! $ move ! (3 ∷ 1 ∷ []) $ join ! $ move ! (1 ∷ 0 ∷ []) $ join ! $ move ! (2 ∷ []) $
-    let P : Option PlainWords → Type 0 = λ words. ResizesBy was lot n r.code words r.memory ls.0.held.tenant in
-    fpack ! (P r.words) (λ _. words_own r.words) (told lot refl asked) $ fpack ! (Option PlainWords) (λ words. fex (P words) (λ _. words_own words)) r.words $
+    let P : Option PlainWords → Type 0 = λ words. ResizesBy was w j n r.code words r.memory ls.0.held.tenant in
+    fpack ! (P r.words) (λ _. words_own r.words) told $ fpack ! (Option PlainWords) (λ words. fex (P words) (λ _. words_own words)) r.words $
     flt_i ! r.code (2 ^ 32) fits $ feq_i ! (List Val) (vint w32 r.code ∷ []) (vint w32 r.code ∷ []) refl $ fjoin ! $
     returns ! (look_at ! 0 refl) $ free_all ! refl $ keep ! (2 ∷ 3 ∷ 0 ∷ 1 ∷ []) $ by ! (leaves 𝓛 ended hs c y (vint w32 r.code) r.code (ls.0, (tt, (tt, (tt, (r.memory, tt))))) (tt, (tt, (tt, (tt, (tt, tt)))))))))))))))))

@@ -9,7 +9,7 @@ use live_heap::heap::Heap;
 use live_heap::pass::Pass;
 use std::alloc::Global;
 
-/// How many pieces of each class an allocator keeps.
+/// How many pages an allocator keeps whose pieces are all back.
 const DEPTH: u16 = 4;
 
 /// How often a call of the heap may lose an exchange before it is given up.

@@ -5,8 +5,9 @@ use Rattle.std.specs.Arc.{arc_value}
 use Rattle.live_heap.specs.Heaps.{HeapFields}
 use Rattle.live_heap.specs.declared.pass.Pass.{Pass}
 use Rattle.live_heap.specs.Passes.{AreFrom, IsFresh}
-use Rattle.memory_cache.specs.declared.cache.MemoryCache.{MemoryCache}
+use Rattle.memory_cache.specs.declared.paged.PagedCache.{PagedCache}
 use Rattle.memory_cache.specs.Caches.{kept_in}
+use Rattle.memory_cache.specs.Paged.{IsOut}
 use Rattle.balloc_malloc.specs.Opened.{HoldNew, IsNew}
 use Rattle.balloc_malloc.proofs.SeatLemmas.{given-one}
 use Rattle.balloc_malloc.proofs.opening.give_all.Goals as goal
@@ -41,14 +42,15 @@ loop-pass-preserved c =
     let left = subst (λ (l : List Pass). AreFrom h c.loop-pass.number l) rest i.left in
     let made = c.new-in-loop-pass in
     let new = c.in_ok-cache.ensures.new in
-    let pass : made.result.cache.pass ≡ c.in-Some.pass = ap (λ (k : MemoryCache). k.pass) made.ensures.1 ∙ new.0 in
+    let pass : made.result.cache.cache.pass ≡ c.in-Some.pass = ap (λ (k : PagedCache). k.cache.pass) made.ensures.1 ∙ new.0 in
     let tenant : IsNew h c.loop-pass.number c.args.depth made.result = record {
       heap = made.ensures.0 ∙ c.in_ok-share.ensures;
       fresh = subst (IsFresh h) (sym pass) left.0;
       caller = ap (λ (p : Pass). p.errand.caller) pass ∙ left.1;
-      empty = ap kept_in made.ensures.1 ∙ new.1;
-      deep = ap (λ (k : MemoryCache). k.magazines.depth) made.ensures.1 ∙ new.2;
-      hits = ap (λ (k : MemoryCache). k.hits) made.ensures.1 ∙ new.3;
+      none = subst (λ (k : PagedCache). (first size : ℕ) → ¬ IsOut k first size) (sym made.ensures.1) new.1;
+      empty = ap (λ (k : PagedCache). kept_in k.cache) made.ensures.1 ∙ new.2;
+      deep = ap (λ (k : PagedCache). k.cache.magazines.depth) made.ensures.1 ∙ new.3;
+      hits = ap (λ (k : PagedCache). k.hits) made.ensures.1 ∙ new.4;
     } in
     let within : c.loop-pass.number < length c.loop-pass.seats = omega (arith, ap length rest, i.count, c.loop-pass.auto.seats) in
     let next : suc c.loop-pass.number ≡ c.loop-pass.number + 1 = omega arith in

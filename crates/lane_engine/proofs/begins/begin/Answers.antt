@@ -1,5 +1,5 @@
-use Rattle.std.proofs.Common.{rules, ◌≡◌, sym, subst, arith}
-use Rattle.errand_steps.specs.Calls.{Call, free, put, read, write}
+use Rattle.std.proofs.Common.{subst, arith}
+use Rattle.errand_steps.specs.Calls.{free, put, read, write}
 use Rattle.lane_engine.specs.Callers.{FitsCall, OwnsFor}
 use Rattle.lane_engine.specs.Begins.{call_of}
 use Rattle.lane_engine.proofs.StepLemmas.{core-begins}

@@ -1,4 +1,4 @@
-use Rattle.std.proofs.Common.{suc, refl}
+use Rattle.std.proofs.Common.{suc}
 use Rattle.errand_steps.specs.Calls.{Call, free}
 use Rattle.lane_engine.proofs.FlushLemmas.{empties-all, empties-none, empties-stopped, frees-idle, frees-of}
 use Rattle.block_cache.specs.Caches.{stacks_in}

@@ -1,4 +1,3 @@
-use Rattle.std.proofs.Common.{◌≡◌}
 use Rattle.block_cache.specs.Whole.{RestsAt}
 use Rattle.lane_engine.proofs.FlushLemmas.{EmptiesSoFar}
 use Rattle.lane_engine.proofs.over_cache.empty.Given as goal

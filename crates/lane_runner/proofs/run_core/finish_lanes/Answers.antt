@@ -5,17 +5,14 @@ use Rattle.lane_runner.proofs.StopLemmas.{on-err, stopped-lane}
 use Rattle.lane_runner.proofs.run_core.finish_lanes.Goals as goal
 
 pub loop-lane-init : goal.loop-lane-init
-loop-lane-init g c = finished-none (g.G.Gate.passed c.args.gate.now) c.args.trace.now c.args.core.now c.args.lanes.now.items c.requires.stand
+loop-lane-init g c = finished-none c.requires.stand
 
 pub finish_lane-requires-clause-stand : goal.finish_lane-requires-clause-stand
 finish_lane-requires-clause-stand g c = c.loop-lane.invariant.stand
 
 pub loop-lane-preserved : goal.loop-lane-preserved
 loop-lane-preserved g c =
-    let before = c.loop-lane.invariant in
-    let same : length c.loop-lane.lanes.items ≡ length c.args.lanes.now.items = before.stand.all ∙ sym c.requires.stand.all in
-    finished-more (g.G.Gate.passed c.args.gate.now) c.args.trace.now c.loop-lane.lane c.args.core.now c.loop-lane.core c.finish_lane.new.core
-    c.args.lanes.now.items c.loop-lane.lanes.items c.finish_lane.new.lanes.items same before c.in_ok-finish_lane.ensures.ran
+    finished-more (c.loop-lane.invariant.stand.all ∙ sym c.requires.stand.all) c.loop-lane.invariant c.in_ok-finish_lane.ensures.ran
 
 pub returns-clause-ran : goal.returns-clause-ran
 returns-clause-ran g c =
@@ -27,9 +24,6 @@ returns-clause-ran g c =
 
 pub returns-in_err-finish_lane-clause-stopped : goal.returns-in_err-finish_lane-clause-stopped
 returns-in_err-finish_lane-clause-stopped g c =
-    let before = c.loop-lane.invariant in
-    let same : length c.loop-lane.lanes.items ≡ length c.args.lanes.now.items = before.stand.all ∙ sym c.requires.stand.all in
     let lt : c.loop-lane.lane < length c.args.trace.now.lanes = omega (arith, c.loop-lane-test.true, c.len-lane-end.ensures) in
     on-err c.from_residual.result _
-    (stopped-lane (g.G.Gate.passed c.args.gate.now) c.args.trace.now c.loop-lane.lane c.args.core.now c.loop-lane.core c.finish_lane.new.core
-    c.args.lanes.now.items c.loop-lane.lanes.items c.finish_lane.new.lanes.items same lt before c.in_err-finish_lane.ensures.stopped)
+    (stopped-lane (c.loop-lane.invariant.stand.all ∙ sym c.requires.stand.all) lt c.loop-lane.invariant c.in_err-finish_lane.ensures.stopped)

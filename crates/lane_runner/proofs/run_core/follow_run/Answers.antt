@@ -10,9 +10,7 @@ returns-clause-ran g c =
     let lane = c.from-lane.result in
     let lt : lane < length c.args.lanes.now.items = omega (arith, c.from-lane.ensures, c.requires.order.0, c.requires.stand.all) in
     on_ok_weaker c.run_some.result
-    (followed-one (g.G.Gate.passed c.args.gate.now) c.args.trace.now c.args.core.now c.run_some.new.core c.args.lanes.now.items c.args.run lane
-    c.lane_of.result.now c.index_mut.result.now c.run_some.new.lane c.requires.stand lt (sym c.from-lane.ensures) c.lane_of.ensures
-    c.index_mut.ensures.value)
+    (followed-one lane c.requires.stand lt (sym c.from-lane.ensures) c.lane_of.ensures c.index_mut.ensures.value)
     c.run_some.ensures.ran
 
 pub returns-clause-stopped : goal.returns-clause-stopped
@@ -20,7 +18,5 @@ returns-clause-stopped g c =
     let lane = c.from-lane.result in
     let lt : lane < length c.args.lanes.now.items = omega (arith, c.from-lane.ensures, c.requires.order.0, c.requires.stand.all) in
     on_err_weaker c.run_some.result
-    (stopped-one (g.G.Gate.passed c.args.gate.now) c.args.trace.now c.args.core.now c.run_some.new.core c.args.lanes.now.items c.args.run lane
-    c.lane_of.result.now c.index_mut.result.now c.run_some.new.lane c.requires.stand lt (sym c.from-lane.ensures) c.lane_of.ensures
-    c.index_mut.ensures.value)
+    (stopped-one lane c.requires.stand lt (sym c.from-lane.ensures) c.lane_of.ensures c.index_mut.ensures.value)
     c.run_some.ensures.stopped

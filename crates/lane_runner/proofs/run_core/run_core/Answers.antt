@@ -11,17 +11,14 @@ follow_runs-requires-clause-stand g c =
 pub returns-clause-driven : goal.returns-clause-driven
 returns-clause-driven g c =
     told-driven c.args.trace.now c.finish_lanes.new.core c.finish_lanes.new.lanes.items c.outcomes_of.result
-    (driven (g.G.Gate.passed c.args.gate.now) c.args.trace.now c.args.core.now c.follow_runs.new.core c.finish_lanes.new.core
-    c.in_ok-lanes.lanes.items c.follow_runs.new.lanes.items c.finish_lanes.new.lanes.items c.requires.trace c.requires.opened c.steps.ensures.rule
-    c.in_ok-lanes.ensures c.in_ok-follow_runs.ensures.ran c.in_ok-finish_lanes.ensures.ran)
-    c.outcomes_of.ensures
+    (driven c.requires.trace c.requires.opened c.steps.ensures.rule c.in_ok-lanes.ensures c.in_ok-follow_runs.ensures.ran
+    c.in_ok-finish_lanes.ensures.ran) c.outcomes_of.ensures
 
 pub returns-clause-passed : goal.returns-clause-passed
 returns-clause-passed g c =
     told-passed (AllPassed (g.G.Gate.passed c.args.gate.now) c.args.trace.now.lanes) c.outcomes_of.result
-    (all-passed (g.G.Gate.passed c.args.gate.now) c.args.trace.now c.args.core.now c.follow_runs.new.core c.finish_lanes.new.core
-    c.in_ok-lanes.lanes.items c.follow_runs.new.lanes.items c.finish_lanes.new.lanes.items c.requires.trace c.requires.opened c.steps.ensures.rule
-    c.in_ok-lanes.ensures c.in_ok-follow_runs.ensures.ran c.in_ok-finish_lanes.ensures.ran)
+    (all-passed c.requires.trace c.requires.opened c.steps.ensures.rule c.in_ok-lanes.ensures c.in_ok-follow_runs.ensures.ran
+    c.in_ok-finish_lanes.ensures.ran)
 
 pub returns-in_err-lanes-clause-stopped : goal.returns-in_err-lanes-clause-stopped
 returns-in_err-lanes-clause-stopped g c =
@@ -30,23 +27,16 @@ returns-in_err-lanes-clause-stopped g c =
 pub returns-in_err-follow_runs-clause-stopped : goal.returns-in_err-follow_runs-clause-stopped
 returns-in_err-follow_runs-clause-stopped g c =
     on-err c.from_residual-in_err-follow_runs.result _
-    (so-far (g.G.Gate.passed c.args.gate.now) c.args.trace.now c.args.core.now c.follow_runs.new.core c.in_ok-lanes.lanes.items
-    c.follow_runs.new.lanes.items c.requires.trace c.requires.opened c.steps.ensures.rule c.in_ok-lanes.ensures c.in_err-follow_runs.ensures.stopped)
+    (so-far c.requires.trace c.requires.opened c.steps.ensures.rule c.in_ok-lanes.ensures c.in_err-follow_runs.ensures.stopped)
 
 pub returns-in_err-finish_lanes-clause-stopped : goal.returns-in_err-finish_lanes-clause-stopped
 returns-in_err-finish_lanes-clause-stopped g c =
     on-err c.from_residual-in_err-finish_lanes.result _
-    (stopped (g.G.Gate.passed c.args.gate.now) c.args.trace.now c.args.core.now c.follow_runs.new.core c.finish_lanes.new.core c.in_ok-lanes.lanes.items
-    c.follow_runs.new.lanes.items c.finish_lanes.new.lanes.items c.requires.trace c.requires.opened c.steps.ensures.rule c.in_ok-lanes.ensures
-    c.in_ok-follow_runs.ensures.ran
+    (stopped c.requires.trace c.requires.opened c.steps.ensures.rule c.in_ok-lanes.ensures c.in_ok-follow_runs.ensures.ran
     c.in_err-finish_lanes.ensures.stopped)
 
 pub returns-clause-stopped : goal.returns-clause-stopped
 returns-clause-stopped g c =
-    let passed = g.G.Gate.passed c.args.gate.now in
     on-err c.outcomes_of.result _
-    (stopped passed c.args.trace.now c.args.core.now c.follow_runs.new.core c.finish_lanes.new.core c.in_ok-lanes.lanes.items
-    c.follow_runs.new.lanes.items c.finish_lanes.new.lanes.items c.requires.trace c.requires.opened c.steps.ensures.rule c.in_ok-lanes.ensures
-    c.in_ok-follow_runs.ensures.ran
-    (finished-so passed c.args.trace.now c.follow_runs.new.core c.finish_lanes.new.core c.follow_runs.new.lanes.items c.finish_lanes.new.lanes.items
-    c.in_ok-finish_lanes.ensures.ran))
+    (stopped c.requires.trace c.requires.opened c.steps.ensures.rule c.in_ok-lanes.ensures c.in_ok-follow_runs.ensures.ran
+    (finished-so c.in_ok-finish_lanes.ensures.ran))

@@ -1,4 +1,4 @@
-use Rattle.std.proofs.Common.{rules, ℕ, ◌∙◌, ap}
+use Rattle.std.proofs.Common.{ℕ, rules, ◌∙◌, ap}
 use Rattle.live_heap.specs.Heaps.{HeapFields}
 use Rattle.block_cache.specs.Whole.{HoldsAt}
 use Rattle.lane_runner.proofs.CacheRuns.{made-all, new-holds}

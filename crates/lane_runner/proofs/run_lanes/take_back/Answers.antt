@@ -1,4 +1,4 @@
-use Rattle.std.proofs.Common.{◌≡◌, ◌++◌, ◌∷◌, [], List, Vec, Global, ℕ, length, length-append, rules, vec_len, sym, ap, ◌∙◌, subst, arith}
+use Rattle.std.proofs.Common.{ℕ, ◌≡◌, ◌++◌, ◌∷◌, [], List, Vec, Global, length, length-append, rules, vec_len, sym, ap, ◌∙◌, subst, arith}
 use Rattle.errand_steps.specs.Begins.{IsIdle}
 use Rattle.lane_outcomes.specs.declared.outcome.Outcome.{Outcome}
 use Rattle.live_heap.specs.declared.pass.Pass.{Pass}

@@ -1,9 +1,8 @@
 use Rattle.std.proofs.Common.{subst, refl, arith}
 use Rattle.trace_text.specs.declared.trace.Version.TheVariants.{Two}
 use Rattle.trace_text.specs.Lines.{lines_of}
-use Rattle.trace_text.specs.Reading.{reading_of, reading_up_to}
-use Rattle.trace_text.specs.Stages.{HasTrace}
-use Rattle.trace_text.proofs.StageLemmas.{goes_on, stopped, ended, read_at_end, no_heap_line, no_end}
+use Rattle.trace_text.specs.Reading.{AnswersReading, reading_of, reading_up_to}
+use Rattle.trace_text.proofs.StageLemmas.{goes_on, stopped, ended}
 use Rattle.trace_text.proofs.NamedLemmas.{line_named}
 use Rattle.trace_text.proofs.reading.read_trace.Goals as goal
 
@@ -20,28 +19,14 @@ returns-in-Err-clause-reads c =
 pub loop-line-preserved : goal.loop-line-preserved
 loop-line-preserved c = record {
   reads =
-      goes_on c.in-Some.line.now (lines_of c.in-Some.after.now) (lines_of c.loop-line.rest.now) c.loop-line.number c.loop-line.stage c.in-Ok.next (reading_of c.args.text.now)
-      c.in-Some.ensures.lines c.loop-line.invariant.reads c.in-Ok.ensures;
-  named = line_named Two c.loop-line.stage c.in-Ok.next c.in-Some.line.now c.loop-line.invariant.named c.in-Ok.ensures;
+      goes_on c.in-Some.line.now (lines_of c.in-Some.after.now) (lines_of c.loop-line.rest.now) c.loop-line.number c.loop-line.stage c.read_line.new.self (reading_of c.args.text.now)
+      c.in-Some.ensures.lines c.loop-line.invariant.reads c.in_default-read_line.ensures;
+  named = line_named Two c.loop-line.stage c.read_line.new.self c.in-Some.line.now c.loop-line.invariant.named c.in_default-read_line.ensures;
   few = omega (arith, c.in-Some.ensures.shorter);
 }
 
-pub returns-in-Ended-clause-reads : goal.returns-in-Ended-clause-reads
-returns-in-Ended-clause-reads c =
-    read_at_end c.in-Ended.trace c.loop-line.number c.loop-line.stage (reading_of c.args.text.now) c.in-Ended.is
-    (ended (lines_of c.loop-line.rest.now) c.loop-line.number c.loop-line.stage (reading_of c.args.text.now) c.in_default.ensures.lines c.loop-line.invariant.reads)
-
-pub returns-in-Ended-clause-named : goal.returns-in-Ended-clause-named
-returns-in-Ended-clause-named c = subst HasTrace c.in-Ended.is c.loop-line.invariant.named
-
-pub returns-in-Before-clause-reads : goal.returns-in-Before-clause-reads
-returns-in-Before-clause-reads c =
-    rw c.fault_at-in-Before.ensures
-    (no_heap_line c.loop-line.number c.loop-line.stage (reading_of c.args.text.now) c.in-Before.is
-    (ended (lines_of c.loop-line.rest.now) c.loop-line.number c.loop-line.stage (reading_of c.args.text.now) c.in_default.ensures.lines c.loop-line.invariant.reads))
-
 pub returns-clause-reads : goal.returns-clause-reads
 returns-clause-reads c =
-    rw c.fault_at-in-Inside.ensures
-    (no_end c.in-Inside.field-0 c.loop-line.number c.loop-line.stage (reading_of c.args.text.now) c.in-Inside.is
-    (ended (lines_of c.loop-line.rest.now) c.loop-line.number c.loop-line.stage (reading_of c.args.text.now) c.in_default.ensures.lines c.loop-line.invariant.reads))
+    subst (AnswersReading c.whole_trace.result)
+    (ended (lines_of c.loop-line.rest.now) c.loop-line.number c.loop-line.stage (reading_of c.args.text.now) c.in_default.ensures.lines c.loop-line.invariant.reads)
+    c.whole_trace.ensures.reads

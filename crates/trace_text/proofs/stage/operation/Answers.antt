@@ -12,5 +12,5 @@ returns-in_err-op c = grind (arith, common_steps)
 
 pub returns : goal.returns
 returns c =
-    op_taken c.args.trace c.args.word.now (fields_of c.args.fields.now) c.in_ok-op.op c.push_op.new.self
+    op_taken c.args.trace.now c.args.word.now (fields_of c.args.fields.now) c.in_ok-op.op c.push_op.new.self
     (λ none. false≢true (c.if-is_empty.ensures.1 none)) (c.if-not-is_empty.ensures.0 refl) (sym c.in_ok-op.ensures) c.in_ok-push_op.ensures

@@ -1,4 +1,4 @@
--- Where one block serves both sizes it answers the pointer that it was given; else what the mover answers. Assumes `Logic`.
+-- Where one piece serves both sizes it answers the pointer that it was given; else what the mover answers. Assumes `Logic`.
 use Rattle.plain_words.proofs.Names.{◌≡◌, ℕ, ◌+◌, ◌-◌, ◌*◌, ◌^◌, ◌<◌, ◌≤◌, List, [], ◌∷◌, ◌++◌, sym, refl, ap, ◌∙◌, subst, w64, a_type, inst_fn, Val, vint, vptr, SProp, emp, id⊢, sem, ‵, raw, ◌⊛◌, some, later, given, learn, at_ret, ◌$◌, ◌∵◌, !, qed, by, move, keep, drop, split, split3, join, pick, fsep, fsplit, fjoin, await, use0, use1, use2, rewrite, feq_i, flt_i, stop, fld, lit, of_opd, bin, no_more, and_then, first, exec, returns, enter, alloc_all, pass_all, free_all, look_at, get, sets, is, env, agg, tables, owns, types_at, Ptr, block_ptr, ptr_val, nothing, heard, alive, Stays, stay_dropped, walk_of, Goes-dropped, fact, fact_i, WpFn, leaves}
 use types.ByLocal.{sets_last, lands_last, lands_as, through}
 use types.Kit.{any_q, Post as After, prop, regoal, feq_l}
@@ -33,13 +33,13 @@ use Rattle.core.proofs.atomic.Steps.{fm}
 use Rattle.core.proofs.alloc.Calls.{Answer, answer_val, Answer-Ok, Answer-typed}
 use Rattle.std.specs.Allocator.{array_of, block_with_items, resized_if_ok}
 use Rattle.std.proofs.raw_atomic.Walks.{proved_at}
-use Rattle.heap_geometry.specs.Need.{usable_words, need_of}
-use Rattle.heap_allocator.specs.Pieces.{piece_token, words_for, AreOfOneBlock}
+use Rattle.memory_cache.specs.Sizes.{piece_words}
+use Rattle.heap_allocator.specs.Pieces.{piece_token, words_for, AreOfOnePiece}
 use Rattle.heap_allocator.proofs.Handing.{param_of}
 use Rattle.heap_allocator.specs.contracts.allocator.HeapAllocatorAllocator.grow.{ended, clauses}
 use Rattle.heap_allocator.specs.contracts.allocator.HeapAllocatorAllocator.grow.Key.{name as #self}
-use Rattle.heap_allocator.specs.contracts.mover.are_of_one_block as sames
-use Rattle.heap_allocator.proofs.mover.are_of_one_block.Met.{met as same_met}
+use Rattle.heap_allocator.specs.contracts.mover.are_of_one_piece as sames
+use Rattle.heap_allocator.proofs.mover.are_of_one_piece.Met.{met as same_met}
 use Rattle.heap_allocator.proofs.allocator.HeapAllocatorAllocator.grow.Statement.{statement}
 use Rattle.heap_allocator.proofs.allocator.HeapAllocatorAllocator.grow.Code as code
 
@@ -60,7 +60,7 @@ grow_spec 𝓤 𝓛 𝓜 𝓡 wired X L =
     qed 𝓛 ((raw (alive 𝓛 E₀.signature κs z.0.1) ⊛ ‵ (owns (types_at ps κs) a z.0.4)) ∷ (raw (fact 𝓤 InX) ⊛ raw (fact 𝓤 Asked) ⊛ ‵ (block_with_items (piece_token at_) (param 1 X) from len old z.1)) ∷ []) ∵
     move ! (1 ∷ []) $ split3 ! $ heard ! InX (λ inX. heard ! Asked (λ asked.
     in_a_block ! from (λ (p : Ptr). block_with_items (piece_token at_) (param 1 X) p len old z.1) (fst∗ 𝓤 (never 𝓤) (sem 𝓛 (fsep (room_for (array_of (param 1 X) (old - len)) null_ptr) (piece_token at_ (array_of (param 1 X) old) null_ptr)))) (λ b o lies.
-    let s : ℕ = size (layout X) in let p : Ptr = block_ptr b o in let InPlace : Answer.Denot → Type 0 = λ r. AreOfOneBlock (old * s) (new * s) → r ≡ Ok from in let stayed : Answer.Denot = Ok p in let me : Val = vptr a.0.ref_ptr.0 a.0.ref_ptr.1 in
+    let s : ℕ = size (layout X) in let p : Ptr = block_ptr b o in let InPlace : Answer.Denot → Type 0 = λ r. AreOfOnePiece (old * s) (new * s) → r ≡ Ok from in let stayed : Answer.Denot = Ok p in let me : Val = vptr a.0.ref_ptr.0 a.0.ref_ptr.1 in
     let sized : Sized X len old new = Grows-Sized X len old new asked in
     let times : (k : ℕ) → k * s < 2 ^ 63 → word (k * capped s) ≡ word (k * s) = λ k f. ap word (times_capped k s f) in
     let fits : (k : ℕ) → k * s < 2 ^ 63 → k * capped s < 2 ^ 64 = λ k f. subst (λ (j : ℕ). j < 2 ^ 64) (sym (times_capped k s f)) (wider (k * s) f) in
@@ -73,14 +73,14 @@ grow_spec 𝓤 𝓛 𝓜 𝓡 wired X L =
     sets ! {v = vint w64 (old * s)} (is ! (bin ! (get ! refl) (size_word !) (record { fits = fits old sized.2 })) (times old sized.2)) refl (tt, record { fits = wider (old * s) sized.2 }) $
     sets ! {v = vint w64 (new * s)} (is ! (bin ! (get ! refl) (size_word !) (record { fits = fits new sized.3 })) (times new sized.3)) refl (tt, record { fits = wider (new * s) sized.3 }) $
     let k = triple_of 𝓛 sames.signature (sames.spec 𝓛 𝓜.mem 𝓡.returns) in
-    let Roomy : Bool → Type 0 = λ r. r ≡ true → words_for (new * s) ≤ usable_words (need_of (words_for (new * s))) in
+    let Roomy : Bool → Type 0 = λ r. r ≡ true → words_for (new * s) ≤ piece_words (words_for (new * s)) in
     let y : k.Ghost = ((tt, tt, tt, (old * s, (new * s, tt)), (vint w64 (old * s) ∷ [], (vint w64 (new * s) ∷ [], tt))), tt) in
     nothing ! $ flt_i ! (new * s) (2 ^ 64) (wider (new * s) sized.3) $ feq_i ! (List Val) (vint w64 (new * s) ∷ []) (vint w64 (new * s) ∷ []) refl $ fjoin ! $ fjoin ! $
     flt_i ! (old * s) (2 ^ 64) (wider (old * s) sized.2) $ feq_i ! (List Val) (vint w64 (old * s) ∷ []) (vint w64 (old * s) ∷ []) refl $ fjoin ! $ fjoin ! $
     nothing ! $ join ! $ nothing ! $ move ! (1 ∷ 0 ∷ []) $ join ! $ use1 𝓛 (raw (k.pre y)) (id⊢ 𝓤 _) $
-    calls_at ! (fm 𝓛 𝓜 𝓡) k (same_met 𝓤 𝓛 𝓜 𝓡 (code.calls-heap_allocator::mover::are_of_one_block 𝓡.env wired)) y (and_then ! (get ! refl) (and_then ! (get ! refl) (no_more !))) (λ v.
-    use1 𝓛 (later (some (λ (r : Bool). (raw (alive 𝓛 sames.signature tt tt) ⊛ ‵ (bool.own_val r (v ∷ []))) ⊛ some (λ (ls : Lasts sames.ended tt y.0.3). ‵ (lasts sames.ended tt y.0.3 ls) ⊛ (raw (fact 𝓤 (r ≡ true → AreOfOneBlock (old * s) (new * s))) ⊛ raw (fact 𝓤 (AreOfOneBlock (old * s) (new * s) → r ≡ true)) ⊛ raw (fact 𝓤 (Roomy r))))))) (id⊢ 𝓤 (k.post y v)) $
-    await ! tt $ pick ! (λ r. split ! $ split ! $ drop ! $ feq_l ! (λ e. pick ! (λ _. split ! $ drop ! $ split3 ! $ heard ! (r ≡ true → AreOfOneBlock (old * s) (new * s)) (λ yes. heard ! (AreOfOneBlock (old * s) (new * s) → r ≡ true) (λ no. heard ! (Roomy r) (λ roomy.
+    calls_at ! (fm 𝓛 𝓜 𝓡) k (same_met 𝓤 𝓛 𝓜 𝓡 (code.calls-heap_allocator::mover::are_of_one_piece 𝓡.env wired)) y (and_then ! (get ! refl) (and_then ! (get ! refl) (no_more !))) (λ v.
+    use1 𝓛 (later (some (λ (r : Bool). (raw (alive 𝓛 sames.signature tt tt) ⊛ ‵ (bool.own_val r (v ∷ []))) ⊛ some (λ (ls : Lasts sames.ended tt y.0.3). ‵ (lasts sames.ended tt y.0.3 ls) ⊛ (raw (fact 𝓤 (r ≡ true → AreOfOnePiece (old * s) (new * s))) ⊛ raw (fact 𝓤 (AreOfOnePiece (old * s) (new * s) → r ≡ true)) ⊛ raw (fact 𝓤 (Roomy r))))))) (id⊢ 𝓤 (k.post y v)) $
+    await ! tt $ pick ! (λ r. split ! $ split ! $ drop ! $ feq_l ! (λ e. pick ! (λ _. split ! $ drop ! $ split3 ! $ heard ! (r ≡ true → AreOfOnePiece (old * s) (new * s)) (λ yes. heard ! (AreOfOnePiece (old * s) (new * s) → r ≡ true) (λ no. heard ! (Roomy r) (λ roomy.
     lands_as ! (ap only e) refl (tt, tt) $ first ! $ branches ! (get ! refl) (λ holds.
     use1 𝓛 (‵ (block_with_items (piece_token at_) (param 1 X) p len new z.1)) (let one : r ≡ true = is-true r holds in stays_put 𝓛 X at_ len old new b o z.1 sized.0 sized.1 are.1.1.1.0.1 are.1.1.1.1.0.1 (yes one) (roomy one)) $
     sets_last ! (agg ! (and_then ! (lit ! tt) (and_then ! (get ! refl) (no_more !)))) refl (Answer-typed true b o) $
@@ -109,7 +109,7 @@ grow_spec 𝓤 𝓛 𝓜 𝓡 wired X L =
     lands_last ! refl typed $ exec ! 𝓣.C 𝓣.Λ Ev (after 1 (otherwise (head (after 3 fn.body)))) Then $ sets_last ! (of_opd ! (get ! refl)) refl typed $
     exec ! 𝓣.C 𝓣.Λ Ev (after 4 fn.body) (at_ret Ev Post) $ sets ! (of_opd ! (get ! refl)) refl typed $ returns ! (look_at ! 0 refl) $ free_all ! refl $
     rewrite ! 0 (λ (q : Ptr). ‵ (resized_if_ok (piece_token at_) (param 1 X) q len old new z.1 res)) (sym lies) refl $
-    use0 𝓛 (raw (fact 𝓤 (InPlace res))) (fact_i 𝓤 (InPlace res) (emp 𝓤) (λ (one : AreOfOneBlock (old * s) (new * s)). absurd (subst (λ (y : Bool). T (not y)) (no one) fails))) $ join ! $
+    use0 𝓛 (raw (fact 𝓤 (InPlace res))) (fact_i 𝓤 (InPlace res) (emp 𝓤) (λ (one : AreOfOnePiece (old * s) (new * s)). absurd (subst (λ (y : Bool). T (not y)) (no one) fails))) $ join ! $
     use0 𝓛 (‵ (Answer.own_val res (answer_val f.0 f.1.0 f.1.1 ∷ []))) (result_own 𝓛 f.0 f.1.0 f.1.1) $ rewrite ! 0 (λ (u : Val). ‵ (Answer.own_val res (u ∷ []))) (sym e') refl $
     nothing ! $ nothing ! $ fjoin ! $ nothing ! $ fjoin ! $ nothing ! $ fjoin ! $ nothing ! $ fjoin ! $ nothing ! $ fjoin ! $ keep ! (3 ∷ 0 ∷ 1 ∷ 2 ∷ []) $
     by ! (leaves 𝓛 E₀ hs c z w res (tt, (tt, (tt, (tt, (tt, tt))))) (tt, (tt, (tt, (tt, (tt, tt))))))))))))))))))))))))

@@ -14,7 +14,7 @@ use denote.Triple.Clauses.{Lasts, lasts}
 use denote.Triple.Spec.{triple_of}
 use Rattle.core.proofs.atomic.Steps.{fm}
 use Rattle.std.proofs.raw_atomic.Walks.{proved_at}
-use Rattle.heap_allocator.specs.Pieces.{words_for, piece_owns, piece_token, behind, bytes_before, room_behind, IsBlockFor}
+use Rattle.heap_allocator.specs.Pieces.{words_for, piece_owns, piece_token, behind, bytes_before, room_behind, IsPieceFor}
 use Rattle.heap_allocator.specs.Served.{IsServed}
 use Rattle.heap_allocator.specs.contracts.piece.Piece as piece
 use Rattle.heap_allocator.specs.contracts.mover.Mover.give as giving
@@ -47,7 +47,7 @@ deallocate_spec 𝓤 𝓛 𝓜 𝓡 wired =
     alloc_all ! (λ l. pass_all ! refl ((tt, tt), ((tt, tt), ((tt, record { fits = fits }), ((tt, record { fits = are.1.1.1.0.1 }), tt)))) $ let Ev : Env 𝓤 H = env fn.locals l in
     sets ! (agg ! (and_then ! (get ! refl) (and_then ! (get ! refl) (no_more !)))) refl (tt, (tt, (record { fits = fits }, tt))) $
     let x : (piece.the_row).Denot = record { memory = q; size = n; at = p; first = word; count = count; label = label; placed = (sym there, subst (λ (j : ℕ). words_for j ≤ count) same out.room, subst (λ (j : ℕ). j < 2 ^ 63) same short) } in
-    let served : IsServed p x = record { begins = refl; block = subst (λ (j : ℕ). IsBlockFor j word count label) same out.block } in
+    let served : IsServed p x = record { begins = refl; piece = subst (λ (j : ℕ). IsPieceFor j word count label) same out.piece } in
     let y : k.Ghost = ((κs, z.0.1, z.0.2, (a.0, (x, (n, tt))), (me ∷ [], (piece_val q n ∷ [], (vint w64 n ∷ [], tt)))), tt) in
     use0 𝓛 (‵ (Bare.own_val (q, (n, tt)) (piece_val q n ∷ []))) (bare_made 𝓛 q n fits) $ fjoin ! $ nothing ! $ flt_i ! n (2 ^ 64) fits $ feq_i ! (List Val) (vint w64 n ∷ []) (vint w64 n ∷ []) refl $ fjoin ! $ fjoin ! $ move ! (1 ∷ 0 ∷ []) $ fjoin ! $
     move ! (1 ∷ []) $ feq_i ! (List Val) (me ∷ []) (me ∷ []) refl $ fjoin ! $ fjoin ! $ move ! (1 ∷ 0 ∷ []) $ join ! $

@@ -5,7 +5,8 @@ use Rattle.errand_steps.specs.Calls.{put}
 use Rattle.live_heap.specs.declared.block.Block.{Block}
 use Rattle.live_heap.specs.Passes.{Owns}
 use Rattle.block_cache.specs.Caches.{cached_in}
-use Rattle.lane_engine.proofs.ThroughLemmas.{keeps-depth, same-cached}
+use Rattle.block_cache.proofs.WholeLemmas.{same-cached}
+use Rattle.lane_engine.proofs.ThroughLemmas.{keeps-depth}
 use Rattle.lane_engine.proofs.over_cache.CachedCallsCalls.put.Goals as goal
 
 pub returns-in-Err-clause-called : goal.returns-in-Err-clause-called

@@ -11,8 +11,7 @@ go_on-requires-clause-ready g c = (
   _,
   c.args.operations.now,
   c.begin_next.ensures.advanced.stands.calls,
-  step-told (g.G.Gate.passed c.args.gate.now) c.args.operations.now c.args.core.now c.begin_next.new.core c.step.new.core c.args.self.now
-      c.begin_next.new.self c.in_ok-told.told c.len-op.result _ c.begin_next.ensures.advanced
+  step-told {mid = c.begin_next.new.self} c.begin_next.ensures.advanced c.len-op.result _
       (λ e. let yes : c.is_between.result ≡ true = c.is_between.ensures.1 e in cc)
       (record {
         rule = c.in_ok-told.ensures.rule;
@@ -25,9 +24,8 @@ go_on-requires-clause-ready g c = (
 
 pub returns-clause-advanced : goal.returns-clause-advanced
 returns-clause-advanced g c =
-    onward-steps (g.G.Gate.passed c.args.gate.now) c.args.operations.now c.args.core.now c.begin_next.new.core c.step.new.core c.go_on.new.core
-    c.args.self.now c.begin_next.new.self c.go_on.new.self c.in_ok-told.told c.len-op.result _ c.begin_next.ensures.advanced
-    c.begin_next.ensures.events (λ e. let yes : c.is_between.result ≡ true = c.is_between.ensures.1 e in cc)
+    onward-steps {mid = c.begin_next.new.self} c.begin_next.ensures.advanced c.len-op.result _ c.begin_next.ensures.events
+    (λ e. let yes : c.is_between.result ≡ true = c.is_between.ensures.1 e in cc)
     (record {
       rule = c.in_ok-told.ensures.rule;
       geometry = c.in_ok-told.ensures.geometry;

@@ -4,12 +4,11 @@ use Rattle.trace_lane.proofs.LaneNext.{begun-more, next-ready, onward-next, onwa
 use Rattle.trace_lane.proofs.lane.LaneState+Grip.begin_next.Goals as goal
 
 pub returns-then-not-is_between-clause-advanced : goal.returns-then-not-is_between-clause-advanced
-returns-then-not-is_between-clause-advanced g c =
-    onward-none (g.G.Gate.passed c.args.gate.now) c.args.operations.now c.args.core.now c.args.self.now c.requires.stands
+returns-then-not-is_between-clause-advanced g c = onward-none c.requires.stands
 
 pub loop-op-init : goal.loop-op-init
 loop-op-init g c = record {
-  so = onward-none (g.G.Gate.passed c.args.gate.now) c.args.operations.now c.args.core.now c.args.self.now c.requires.stands;
+  so = onward-none c.requires.stands;
   same = refl;
   between = search rules;
   here = search rules;
@@ -28,25 +27,23 @@ start-requires-clause-ready g c = (
 
 pub returns-then-not-is_between-2-clause-events : goal.returns-then-not-is_between-2-clause-events
 returns-then-not-is_between-2-clause-events g c =
-    (onward-next (g.G.Gate.passed c.args.gate.now) c.args.operations.now c.args.core.now c.loop-op.core c.start.new.core c.args.self.now
-    c.loop-op.self c.start.new.self c.loop-op.op c.number_of.result _ c.loop-op.invariant.so c.steps.ensures.rule c.loop-op.invariant.between
+    (onward-next c.loop-op.invariant.so c.loop-op.op c.number_of.result _ c.steps.ensures.rule c.loop-op.invariant.between
     c.loop-op.invariant.here c.loop-op-test.true c.start.ensures.begun c.number_of.ensures c.pass.ensures).no_event
     ∙ c.loop-op.invariant.same
 
 pub returns-then-not-is_between-2-clause-advanced : goal.returns-then-not-is_between-2-clause-advanced
 returns-then-not-is_between-2-clause-advanced g c =
-    (onward-next (g.G.Gate.passed c.args.gate.now) c.args.operations.now c.args.core.now c.loop-op.core c.start.new.core c.args.self.now
-    c.loop-op.self c.start.new.self c.loop-op.op c.number_of.result _ c.loop-op.invariant.so c.steps.ensures.rule c.loop-op.invariant.between
-    c.loop-op.invariant.here c.loop-op-test.true c.start.ensures.begun c.number_of.ensures c.pass.ensures).so
+    (onward-next c.loop-op.invariant.so c.loop-op.op c.number_of.result _ c.steps.ensures.rule c.loop-op.invariant.between
+    c.loop-op.invariant.here c.loop-op-test.true c.start.ensures.begun c.number_of.ensures c.pass.ensures).advanced
 
 pub loop-op-preserved : goal.loop-op-preserved
 loop-op-preserved g c =
     let between : c.start.new.self.stage ≡ stage.Between = search rules in
-    let next = onward-next (g.G.Gate.passed c.args.gate.now) c.args.operations.now c.args.core.now c.loop-op.core c.start.new.core c.args.self.now
-    c.loop-op.self c.start.new.self c.loop-op.op c.number_of.result _ c.loop-op.invariant.so c.steps.ensures.rule c.loop-op.invariant.between
+    let next =
+    onward-next c.loop-op.invariant.so c.loop-op.op c.number_of.result _ c.steps.ensures.rule c.loop-op.invariant.between
     c.loop-op.invariant.here c.loop-op-test.true c.start.ensures.begun c.number_of.ensures c.pass.ensures in
     record {
-      so = next.so;
+      so = next.advanced;
       same = next.no_event ∙ c.loop-op.invariant.same;
       between = between;
       here = begun-more c.loop-op.self.outcomes.items c.start.new.self.outcomes.items c.start.new.self.stage c.loop-op.op between next.count

@@ -1,7 +1,7 @@
 use Rattle.std.proofs.Common.{◌≡◌, ◌<◌, Some, length, refl, sym, ap, ◌∙◌, subst, inl, arith, vec_capacity}
 use Rattle.std.proofs.lemmas.List.{length-set}
-use Rattle.errand_steps.specs.declared.told.Ending.TheVariants as ending
 use Rattle.errand_steps.specs.declared.reply.Reply.TheVariants as reply
+use Rattle.errand_steps.specs.declared.told.Ending.TheVariants as ending
 use Rattle.trace_text.specs.declared.trace.Op.TheVariants as op
 use Rattle.lane_outcomes.specs.declared.registers.HeldBlock.{HeldBlock}
 use Rattle.lane_outcomes.specs.declared.outcome.Outcome.TheVariants as outcome
@@ -30,8 +30,7 @@ returns-in-Given g c =
     let was = (doing.alloc-given place_of need_of ready.before regs c.args.r c.requires.ready.0 v block old.stage ready.made ready.doing
     (rw c.in-Given.is at ready.answers)).1 in
     record {
-      answered = λ need. rw c.in-Given.is (answer-goes place_of need_of old c.write_word.new.self c.write_word.result (op.Alloc c.args.r need v) (ending.Given block) mid
-          (stage.Filling 0) (fills (held_there (held_in (held_blocks place_of need_of mid) c.args.r)) v 0)
+      answered = λ need. rw c.in-Given.is (answer-goes (ending.Given block) mid (stage.Filling 0) (fills (held_there (held_in (held_blocks place_of need_of mid) c.args.r)) v 0)
           (record {
             some = c.write_word.ensures.call;
             caller = ap (λ l. l.caller) e;
@@ -67,10 +66,8 @@ returns-in-Some g c =
     let at = stage.Filling c.in-Some.next in
     let wrote = rw c.in-Wrote.is at ready.answers in
     record {
-      answered = λ need. rw c.in-Wrote.is (answer-goes place_of need_of old c.write_word-in-Some.new.self c.write_word-in-Some.result (op.Alloc c.args.r need v) ending.Wrote
-          old.registers.items at (fills (held_there (held_in regs c.args.r)) v c.in-Some.next)
-          (staged place_of need_of old c.write_word-in-Some.new.self c.write_word-in-Some.result old at _ c.write_word-in-Some.ensures.call
-          c.write_word-in-Some.ensures.lane refl refl) refl (λ spent. cc)
+      answered = λ need. rw c.in-Wrote.is (answer-goes ending.Wrote old.registers.items at (fills (held_there (held_in regs c.args.r)) v c.in-Some.next)
+          (staged old at _ c.write_word-in-Some.ensures.call c.write_word-in-Some.ensures.lane refl refl) refl (λ spent. cc)
           (inl
           (doing.alloc-on place_of need_of ready.before regs c.args.r c.requires.ready.0 v c.in-Some.next old.stage ready.made within ready.doing wrote
           found).1)
@@ -91,8 +88,7 @@ returns-in-None g c =
     let words = c.held_at-held.result.words in
     let place = c.held_at-held.result.place in
     record {
-      answered = λ need. rw c.in-Wrote.is (answer-ends place_of need_of old c.end-in-None.new.self c.end-in-None.result (op.Alloc c.args.r need v) ending.Wrote old.registers.items
-          (outcome.Given words place)
+      answered = λ need. rw c.in-Wrote.is (answer-ends old.registers.items (outcome.Given words place)
           (let e = c.end-in-None.ensures in record { none = e.none; caller = e.caller; blocks_are = ap (λ rs. rs.items) e.registers; outcomes = e.outcomes; room = e.room; between = e.stage }) refl
           (λ before made so a.
           doing.alloc-ends place_of need_of before regs c.args.r need v words place old.stage made within so a found

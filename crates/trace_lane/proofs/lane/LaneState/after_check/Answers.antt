@@ -1,6 +1,5 @@
 use Rattle.std.proofs.Common.{◌≡◌, Some, None, refl, sym, ap, ◌∙◌, inl}
 use Rattle.errand_steps.specs.declared.told.Ending.TheVariants as ending
-use Rattle.trace_text.specs.declared.trace.Op.TheVariants as op
 use Rattle.lane_outcomes.specs.declared.registers.HeldBlock.{HeldBlock}
 use Rattle.lane_outcomes.specs.declared.outcome.Outcome.TheVariants as outcome
 use Rattle.lane_outcomes.specs.Lane.{held_in}
@@ -25,10 +24,9 @@ returns-in-Some g c =
     let word = c.in-Word.word in
     let total = c.total_with-total.result in
     record {
-      answered = rw c.in-Word.is (answer-goes place_of need_of old c.read_word.new.self c.read_word.result (op.Check c.args.r) (ending.Word word) old.registers.items
+      answered = rw c.in-Word.is (answer-goes (ending.Word word) old.registers.items
           (stage.Summing c.in-Some.next total) (reads (held_there (held_in regs c.args.r)) c.in-Some.next)
-          (staged place_of need_of old c.read_word.new.self c.read_word.result old (stage.Summing c.in-Some.next total) _ c.read_word.ensures.call
-          c.read_word.ensures.lane refl refl) refl (λ spent. cc)
+          (staged old (stage.Summing c.in-Some.next total) _ c.read_word.ensures.call c.read_word.ensures.lane refl refl) refl (λ spent. cc)
           (inl
           (doing.check-on place_of need_of ready.before regs c.args.r word c.in-Some.next total old.stage ready.made ready.doing found
           c.total_with-total.ensures).1)
@@ -48,7 +46,7 @@ returns-in-None g c =
     let word = c.in-Word.word in
     let total = c.total_with-total.result in
     record {
-      answered = rw c.in-Word.is (answer-ends place_of need_of old c.end.new.self c.end.result (op.Check c.args.r) (ending.Word word) old.registers.items (outcome.Sum total)
+      answered = rw c.in-Word.is (answer-ends old.registers.items (outcome.Sum total)
           (let e = c.end.ensures in record { none = e.none; caller = e.caller; blocks_are = ap (λ rs. rs.items) e.registers; outcomes = e.outcomes; room = e.room; between = e.stage }) refl
           (λ before made so a.
           doing.check-ends place_of need_of before regs c.args.r word total old.stage made so a found c.total_with-total.ensures));

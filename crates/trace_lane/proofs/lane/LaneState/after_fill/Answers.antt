@@ -1,6 +1,5 @@
 use Rattle.std.proofs.Common.{◌≡◌, Some, None, refl, sym, ap, ◌∙◌, inl}
 use Rattle.errand_steps.specs.declared.told.Ending.TheVariants as ending
-use Rattle.trace_text.specs.declared.trace.Op.TheVariants as op
 use Rattle.lane_outcomes.specs.declared.registers.HeldBlock.{HeldBlock}
 use Rattle.lane_outcomes.specs.declared.outcome.Outcome.TheVariants as outcome
 use Rattle.lane_outcomes.specs.Lane.{held_in}
@@ -23,10 +22,9 @@ returns-in-Some g c =
     sym c.in-Some.is ∙ c.next_word.ensures ∙ ap (λ (h : HeldBlock). word_behind old.stage h.words) held_is in
     let ready = c.requires.ready in
     record {
-      answered = rw c.in-Wrote.is (answer-goes place_of need_of old c.write_word.new.self c.write_word.result (op.Fill c.args.r c.args.v) ending.Wrote old.registers.items
+      answered = rw c.in-Wrote.is (answer-goes ending.Wrote old.registers.items
           (stage.Filling c.in-Some.next) (fills (held_there (held_in regs c.args.r)) c.args.v c.in-Some.next)
-          (staged place_of need_of old c.write_word.new.self c.write_word.result old (stage.Filling c.in-Some.next) _ c.write_word.ensures.call
-          c.write_word.ensures.lane refl refl) refl (λ spent. cc)
+          (staged old (stage.Filling c.in-Some.next) _ c.write_word.ensures.call c.write_word.ensures.lane refl refl) refl (λ spent. cc)
           (inl (doing.fill-on place_of need_of ready.before regs c.args.r c.args.v c.in-Some.next old.stage ready.made ready.doing found).1)
           (λ before made so a. ((doing.fill-on place_of need_of before regs c.args.r c.args.v c.in-Some.next old.stage made so found).0, refl)));
     }
@@ -41,7 +39,7 @@ returns-in-None g c =
     let found : None ≡ word_behind old.stage (held_there (held_in regs c.args.r)).words =
     sym c.in-None.is ∙ c.next_word.ensures ∙ ap (λ (h : HeldBlock). word_behind old.stage h.words) held_is in
     record {
-      answered = rw c.in-Wrote.is (answer-ends place_of need_of old c.end.new.self c.end.result (op.Fill c.args.r c.args.v) ending.Wrote old.registers.items outcome.Filled
+      answered = rw c.in-Wrote.is (answer-ends old.registers.items outcome.Filled
           (let e = c.end.ensures in record { none = e.none; caller = e.caller; blocks_are = ap (λ rs. rs.items) e.registers; outcomes = e.outcomes; room = e.room; between = e.stage }) refl
           (λ before made so a. doing.fill-ends place_of need_of before regs c.args.r c.args.v old.stage made so a found));
     }

@@ -1,7 +1,5 @@
 use Rattle.std.proofs.Common.{Some, length, ap, ◌∙◌}
 use Rattle.std.proofs.lemmas.List.{length-set}
-use Rattle.errand_steps.specs.declared.told.Ending.TheVariants as ending
-use Rattle.trace_text.specs.declared.trace.Op.TheVariants as op
 use Rattle.lane_outcomes.specs.declared.outcome.Outcome.TheVariants as outcome
 use Rattle.trace_lane.specs.Paths.{held_blocks}
 use Rattle.trace_lane.proofs.DoingLemmas as doing
@@ -18,7 +16,7 @@ returns-in-Full g c =
     let mid = c.put_in.new.registers.items in
     let set = set-block place_of need_of old.registers.items mid c.args.r block c.put_in.ensures in
     record {
-      answered = λ shelf. rw c.in-Full.is (answer-ends place_of need_of old c.end-in-Full.new.self c.end-in-Full.result (op.Put c.args.r shelf) (ending.Full block c.in-Full.found) mid
+      answered = λ shelf. rw c.in-Full.is (answer-ends mid
           outcome.ShelfFull
           (let e = c.end-in-Full.ensures in record { none = e.none; caller = e.caller; blocks_are = ap (λ rs. rs.items) e.registers; outcomes = e.outcomes; room = e.room; between = e.stage }) (ap length c.put_in.ensures ∙ length-set old.registers.items c.args.r (Some block))
           (λ before made so a.

@@ -1,6 +1,4 @@
 use Rattle.std.proofs.Common.{◌<◌, length, refl, sym, ap, subst}
-use Rattle.errand_steps.specs.declared.told.Ending.TheVariants as ending
-use Rattle.trace_text.specs.declared.trace.Op.TheVariants as op
 use Rattle.lane_outcomes.specs.declared.registers.HeldBlock.{HeldBlock}
 use Rattle.lane_outcomes.specs.declared.outcome.Outcome.TheVariants as outcome
 use Rattle.trace_lane.specs.Paths.{held_blocks}
@@ -34,8 +32,7 @@ returns-in-Freed g c =
     let words = c.held_at-held.result.words in
     let place = c.held_at-held.result.place in
     record {
-      answered = λ need. rw c.in-Freed.is (answer-ends place_of need_of old c.end-in-Freed.new.self c.end-in-Freed.result (op.Resize c.args.r need) ending.Freed old.registers.items
-          (outcome.Resized words place)
+      answered = λ need. rw c.in-Freed.is (answer-ends old.registers.items (outcome.Resized words place)
           (let e = c.end-in-Freed.ensures in record { none = e.none; caller = e.caller; blocks_are = ap (λ rs. rs.items) e.registers; outcomes = e.outcomes; room = e.room; between = e.stage }) refl
           (λ before made so a.
           doing.resize-ends place_of need_of before regs c.args.r need words place old.stage made within so a

@@ -1,11 +1,10 @@
-use Rattle.std.proofs.Common.{ℕ, ◌+◌, ◌∷◌, ◌++◌, [], Some, length, refl, ap, ◌∙◌, inr}
+use Rattle.std.proofs.Common.{ℕ, ◌∷◌, ◌++◌, [], Some, length, refl, ap, ◌∙◌, inr}
 use Rattle.std.proofs.lemmas.List.{length-set}
 use Rattle.heap_geometry.specs.declared.need.Need.{Need}
 use Rattle.heap_geometry.specs.Need.{usable_words}
 use Rattle.errand_steps.specs.declared.told.Ending.TheVariants as ending
-use Rattle.lane_engine.specs.declared.begins.NextCall.TheVariants as next
 use Rattle.errand_steps.specs.Calls.{take}
-use Rattle.trace_text.specs.declared.trace.Op.TheVariants as op
+use Rattle.lane_engine.specs.declared.begins.NextCall.TheVariants as next
 use Rattle.lane_outcomes.specs.declared.outcome.Outcome.TheVariants as outcome
 use Rattle.trace_lane.specs.Paths.{held_blocks}
 use Rattle.trace_lane.proofs.DoingLemmas as doing
@@ -24,8 +23,7 @@ returns-in-Got g c =
     let place = c.place-place.result in
     let need = c.need-need.result in
     record {
-      answered = rw c.in-Got.is (answer-ends place_of need_of old c.end.new.self c.end.result (op.Take c.args.r c.args.shelf) (ending.Got block) mid
-          (outcome.Took (usable_words (need_of block)) (place_of block) (need_of block))
+      answered = rw c.in-Got.is (answer-ends mid (outcome.Took (usable_words (need_of block)) (place_of block) (need_of block))
           (record {
             none = c.end.ensures.none;
             caller = c.end.ensures.caller;
@@ -54,8 +52,7 @@ returns-in-Missed g c =
     let found = c.in-Missed.found in
     let was = (doing.take-missed place_of need_of ready.before regs c.args.r c.args.shelf expected found old.stage ready.made ready.doing).1 in
     record {
-      answered = rw c.in-Missed.is (answer-goes place_of need_of old old (Some (next.Take c.args.shelf)) (op.Take c.args.r c.args.shelf) (ending.Missed expected found) old.registers.items old.stage
-          (take c.args.shelf)
+      answered = rw c.in-Missed.is (answer-goes (ending.Missed expected found) old.registers.items old.stage (take c.args.shelf)
           (record { some = (next.Take c.args.shelf, refl, refl); caller = refl; blocks_are = refl; outcomes = refl; room = refl; at_is = refl }) refl (λ spent. cc)
           (inr (c.args.shelf, refl, was, was))
           (λ before made so a.

@@ -2,7 +2,6 @@ use Rattle.std.proofs.Common.{ℕ, ◌≡◌, List, [], None, length, refl, sym,
 use Rattle.std.specs.Prelude.{slice_set}
 use Rattle.std.proofs.lemmas.List.{length-set}
 use Rattle.heap_geometry.specs.declared.need.Need.{Need}
-use Rattle.trace_text.specs.declared.trace.Op.TheVariants as op
 use Rattle.trace_lane.specs.declared.stage.OperationStage.TheVariants as stage
 use Rattle.trace_lane.specs.Doing.{frees, held_there}
 use Rattle.trace_lane.specs.Paths.{held_blocks}
@@ -28,7 +27,7 @@ returns g c =
     ap (held_blocks place_of need_of) c.take_out.ensures.emptied ∙ set-held place_of need_of old.registers.items c.args.r None in
     record {
       begun =
-          begin-goes place_of need_of old _ _ (op.Free c.args.r) mid stage.Calling (calls.free c.place.result c.need.result)
+          begin-goes mid stage.Calling (calls.free c.place.result c.need.result)
           (record { some = (_, refl, refl); caller = refl; blocks_are = refl; outcomes = refl; room = refl; at_is = refl })
           (ap length c.take_out.ensures.emptied ∙ length-set old.registers.items c.args.r None)
           (subst (λ slot. OnBlock slot (λ held need. (held_blocks place_of need_of mid ≡ slice_set regs c.args.r None) × (none ≡ []))) (sym full)

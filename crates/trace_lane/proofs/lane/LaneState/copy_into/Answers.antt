@@ -1,8 +1,8 @@
 use Rattle.std.proofs.Common.{◌≡◌, ◌<◌, Some, None, length, refl, sym, ap, ◌∙◌, subst, inl, arith, vec_capacity}
 use Rattle.std.specs.Prelude.{slice_set}
 use Rattle.std.proofs.lemmas.List.{length-set, set-set}
-use Rattle.errand_steps.specs.declared.told.Ending.TheVariants as ending
 use Rattle.errand_steps.specs.declared.reply.Reply.TheVariants as reply
+use Rattle.errand_steps.specs.declared.told.Ending.TheVariants as ending
 use Rattle.trace_text.specs.declared.trace.Op.TheVariants as op
 use Rattle.lane_outcomes.specs.declared.registers.HeldBlock.{HeldBlock}
 use Rattle.lane_outcomes.specs.Lane.{held_in}
@@ -33,8 +33,7 @@ returns g c =
     let was = (doing.resize-given place_of need_of ready.before regs c.args.r c.requires.ready.0 block old.stage ready.made ready.doing ready.answers).1 in
     record {
       answered = λ need.
-          answer-goes place_of need_of old c.read_old.new.self c.read_old.result (op.Resize c.args.r need) (ending.Given block) mid
-          (stage.Copying from 0 None) (reads from 0)
+          answer-goes (ending.Given block) mid (stage.Copying from 0 None) (reads from 0)
           (record {
             some = c.read_old.ensures.call;
             caller = ap (λ l. l.caller) e;

@@ -1,6 +1,5 @@
 use Rattle.std.proofs.Common.{◌≡◌, ◌<◌, Some, None, length, refl, sym, ap, ◌∙◌, subst, inl, arith}
 use Rattle.errand_steps.specs.declared.told.Ending.TheVariants as ending
-use Rattle.trace_text.specs.declared.trace.Op.TheVariants as op
 use Rattle.lane_outcomes.specs.declared.registers.HeldBlock.{HeldBlock}
 use Rattle.lane_outcomes.specs.Lane.{held_in}
 use Rattle.trace_lane.specs.declared.stage.OperationStage.TheVariants as stage
@@ -29,10 +28,8 @@ returns-in-Some g c =
     let more = doing.behind-some i (held_there (held_in regs c.args.r)).words next found in
     record {
       answered = λ need.
-          answer-goes place_of need_of old c.read_old.new.self c.read_old.result (op.Resize c.args.r need) ending.Wrote old.registers.items
-          (stage.Copying from next None) (reads from next)
-          (staged place_of need_of old c.read_old.new.self c.read_old.result old (stage.Copying from next None) _ c.read_old.ensures.call
-          c.read_old.ensures.lane refl refl) refl (λ spent. cc)
+          answer-goes ending.Wrote old.registers.items (stage.Copying from next None) (reads from next)
+          (staged old (stage.Copying from next None) _ c.read_old.ensures.call c.read_old.ensures.lane refl refl) refl (λ spent. cc)
           (inl (doing.rises-past c.in-Copying.is more.0))
           (λ before made so a. (
             doing.resize-reads place_of need_of before regs c.args.r need i next from _
@@ -60,10 +57,8 @@ returns-in-Some-2 g c =
     let more = doing.behind-some i (held_there (held_in regs c.args.r)).words next found in
     record {
       answered = λ need.
-          answer-goes place_of need_of old c.write_new.new.self c.write_new.result (op.Resize c.args.r need) ending.Wrote old.registers.items
-          (stage.Copying from next (Some 0)) (writes (held_there (held_in regs c.args.r)) next 0)
-          (staged place_of need_of old c.write_new.new.self c.write_new.result old (stage.Copying from next (Some 0)) _ c.write_new.ensures.call
-          c.write_new.ensures.lane refl refl) refl (λ spent. cc)
+          answer-goes ending.Wrote old.registers.items (stage.Copying from next (Some 0)) (writes (held_there (held_in regs c.args.r)) next 0)
+          (staged old (stage.Copying from next (Some 0)) _ c.write_new.ensures.call c.write_new.ensures.lane refl refl) refl (λ spent. cc)
           (inl (doing.rises-over c.in-Copying.is more.0))
           (λ before made so a. (
             doing.resize-clears place_of need_of before regs c.args.r need i next from _
@@ -93,9 +88,7 @@ returns-in-None g c =
     ready.answers ready.short in
     record {
       answered = λ need.
-          answer-goes place_of need_of old c.release.new.self c.release.result (op.Resize c.args.r need) ending.Wrote old.registers.items stage.Releasing
-          (frees from)
-          (staged place_of need_of old c.release.new.self c.release.result old stage.Releasing _ c.release.ensures.call c.release.ensures.lane refl refl)
+          answer-goes ending.Wrote old.registers.items stage.Releasing (frees from) (staged old stage.Releasing _ c.release.ensures.call c.release.ensures.lane refl refl)
           refl (λ spent. cc) (inl few)
           (λ before made so a.
           let copied = doing.resize-copied place_of need_of before regs c.args.r need i from w old.stage made within c.in-Copying.is so a in (

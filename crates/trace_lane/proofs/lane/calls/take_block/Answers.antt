@@ -3,7 +3,9 @@ use Rattle.errand_steps.specs.declared.reply.Reply.TheVariants as reply
 use Rattle.errand_steps.specs.Calls.{take}
 use Rattle.sound_laws.specs.events.Made.{answered}
 use Rattle.sound_laws.proofs.events_lemmas.MadeLemmas.{leads-more}
-use Rattle.trace_lane.proofs.MadeLemmas.{leads-keep, leave-misses, misses-more}
+use Rattle.trace_lane.proofs.EachCall.{all-misses, leaves}
+use Rattle.trace_lane.proofs.HoldsLemmas.{leads-keep}
+use Rattle.trace_lane.proofs.MadeLemmas.{misses-more}
 use Rattle.trace_lane.proofs.lane.calls.take_block.Goals as goal
 
 pub returns-in-Got-clause-made : goal.returns-in-Got-clause-made
@@ -44,6 +46,6 @@ returns-in-Got-clause-got g c =
       c.calls_keep_blocks.ensures.hands c.loop.calls c.take.new.self (take c.args.shelf) (reply.Got place need) place need one (refl, refl),
       λ other had owned.
           c.calls_keep_blocks.ensures.apart c.loop.calls c.take.new.self (take c.args.shelf) (reply.Got place need) place other need had one (refl, refl)
-          (leads-keep g.C.Calls.maker.called g.C.Calls.maker.owns c.calls_keep_blocks.ensures.keeps c.args.calls.now c.loop.calls m.0 other had m.2
-          (leave-misses other c.args.shelf m.0 m.1) owned),
+          (leads-keep c.calls_keep_blocks.ensures c.args.calls.now c.loop.calls m.0 other had m.2
+          (all-misses (leaves other) c.args.shelf m.0 m.1) owned),
     )

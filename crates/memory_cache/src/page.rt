@@ -1,0 +1,193 @@
+//! A page: the words of a block, cut into pieces of one size.
+
+ghost use Rattle.std.specs.Prelude.{ℕ, ◌≡◌, ◌<◌, ◌*◌, ◌+◌, ◌^◌, true, false, IfOk, IfSome, None, length};
+ghost use Rattle.std.specs.Result.{IfErr};
+ghost use Rattle.live_heap.specs.Heaps.{HeapFields};
+ghost use Rattle.memory_cache.specs.Pages.{AllHome, IsCut, IsOutAt, IsPage, IsPageFor, Pops, Pushes, count_of, slot_at};
+ghost use Rattle.memory_cache.specs.declared.page.Slot.TheVariants.{Out};
+ghost use Rattle.memory_cache.specs.Rooms.{IsRoomOf};
+
+use crate::piece::Piece;
+use heap_geometry::need::Need;
+use live_heap::plain::Memory;
+use plain_words::PlainWords;
+use std::alloc::Global;
+use std::mem::replace;
+
+/// Stands for no page.
+pub(crate) const NONE: u32 = u32::MAX;
+/// Where a piece is: out with the caller, or home with the page, where it names the next slot whose piece is home.
+#[derive(Drop)]
+pub(crate) enum Slot {
+    Out,
+    Home(PlainWords, u16),
+}
+
+/// The words of a block, whose words are out, in pieces of one size, each with a slot; behind the last one the rest.
+/// `head`, `before` and `behind` are ways to find what is home, and bind nobody.
+#[derive(Drop)]
+pub(crate) struct Page {
+    pub(crate) place: u32,
+    pub(crate) need: Need,
+    pub(crate) size: u32,
+    pub(crate) slots: Vec<Slot>,
+    pub(crate) rest: PlainWords,
+    /// The first slot of a chain of those whose pieces are home.
+    pub(crate) head: u16,
+    /// How many pieces are home.
+    pub(crate) home: u16,
+    /// The pages before and behind it in the ring of those of its size that have pieces.
+    pub(crate) before: u32,
+    pub(crate) behind: u32,
+}
+
+impl Page {
+    /// Memory, cut into as many pieces as it has room for, all of them home. It comes back where there is no memory for
+    /// their slots.
+    pub(crate) fn cut(alloc: Global, memory: Memory, size: u32) -> Result<Page, Memory>
+        ghost h: { HeapFields }
+        requires room { IsRoomOf h memory }
+        requires size { IsPageFor size memory.block.place memory.block.need }
+        ensures page { IfOk result (λ page. IsPage h page × IsCut memory size page) }
+        ensures back { IfErr result (λ back. back ≡ memory) }
+    {
+        let place = memory.place();
+        let need = memory.need();
+        let count = memory.usable_words() / size;
+        let Ok(mut slots) = Vec::with_capacity(alloc, count as usize) else {
+            return Err(memory);
+        };
+        let mut rest = memory.into_words();
+        for number in 0..count as u16 {
+            let (piece, others) = rest.split(size as usize);
+            rest = others;
+            slots.push_reserved(Slot::Home(piece, number + 1));
+        }
+        Ok(Page {
+            place,
+            need,
+            size,
+            slots,
+            rest,
+            head: 0,
+            home: count as u16,
+            before: NONE,
+            behind: NONE,
+        })
+    }
+
+    /// Takes the first piece of the chain.
+    #[inline(always)]
+    pub(crate) fn pop(&mut self) -> Option<Piece>
+        ensures given { IfSome result (λ piece. Pops self.old piece self.new) }
+        ensures none { result ≡ None → (slot_at self.old self.old.head ≡ Out) × (self.new ≡ self.old) }
+    {
+        let number = self.head;
+        let Some(Slot::Home(_, _)) = self.slots.get(number as usize) else {
+            return None;
+        };
+        let Slot::Home(words, next) = replace(&mut self.slots[number as usize], Slot::Out) else {
+            unreachable!()
+        };
+        self.head = next;
+        self.home = self.home.saturating_sub(1);
+        Some(Piece {
+            first: self.first_of(number),
+            size: self.size,
+            words,
+        })
+    }
+
+    /// Takes a piece back that is out of this page.
+    #[inline(always)]
+    pub(crate) fn push(&mut self, piece: Piece)
+        requires out { IsOutAt self.old piece.first }
+        requires few { length self.old.slots.items < 2 ^ 16 }
+        ensures { Pushes self.old piece self.new }
+    {
+        let number = self.number_of(piece.first);
+        self.slots[number as usize] = Slot::Home(piece.words, self.head);
+        self.head = number;
+        self.home = self.home.saturating_add(1);
+    }
+
+    /// Whether the word is the first one of a piece of this page, and that piece is out.
+    #[inline(always)]
+    pub(crate) fn is_out(&self, first: usize) -> bool
+        ensures yes { result ≡ true → IsOutAt self.now first }
+        ensures no { IsOutAt self.now first → result ≡ true }
+    {
+        let start = self.first_of(0);
+        if first < start || self.size == 0 {
+            return false;
+        }
+        let number = (first - start) / self.size as usize;
+        if number * self.size as usize + start != first {
+            return false;
+        }
+        let Some(slot) = self.slots.get(number) else {
+            return false;
+        };
+        match slot {
+            Slot::Out => true,
+            Slot::Home(_, _) => false,
+        }
+    }
+
+    /// Whether each piece is home.
+    pub(crate) fn is_whole(&self) -> bool
+        ensures yes { result ≡ true → AllHome self.now }
+        ensures no { result ≡ false → (number : ℕ) × (number < count_of self.now) × (slot_at self.now number ≡ Out) }
+    {
+        for slot in &self.slots {
+            if let Slot::Out = slot {
+                return false;
+            }
+        }
+        true
+    }
+
+    /// The block's words again, where each piece is home.
+    pub(crate) fn into_memory(self) -> Memory
+        ghost h: { HeapFields }
+        requires page { IsPage h self }
+        requires home { AllHome self }
+        ensures room { IsRoomOf h result }
+        ensures block { (result.block.place ≡ self.place) × (result.block.need ≡ self.need) }
+    {
+        let Page {
+            place,
+            need,
+            size: _,
+            mut slots,
+            rest,
+            ..
+        } = self;
+        let mut words = rest;
+        while let Some(slot) = slots.pop() {
+            let Slot::Home(piece, _) = slot else {
+                unreachable!()
+            };
+            words = piece.join(words);
+        }
+        Memory::of_words(place, need, words)
+    }
+
+    /// The first word of the piece with this number.
+    #[inline(always)]
+    fn first_of(&self, number: u16) -> usize
+        ensures { result ≡ self.now.place + number * self.now.size + 1 }
+    {
+        self.place as usize + number as usize * self.size as usize + 1
+    }
+
+    /// The number of the piece whose first word this is.
+    #[inline(always)]
+    fn number_of(&self, first: usize) -> u16
+        requires out { IsOutAt self.now first }
+        requires few { length self.now.slots.items < 2 ^ 16 }
+        ensures { (first ≡ self.now.place + result * self.now.size + 1) × (result < length self.now.slots.items) × (slot_at self.now result ≡ Out) }
+    {
+        ((first - self.first_of(0)) / self.size as usize) as u16
+    }
+}
